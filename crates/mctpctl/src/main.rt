@@ -1,0 +1,4 @@
+//! `mctpctl` answers captures of MCTP packets as a simulated PLDM device would.
+#![tactic(auto)]
+
+fn main() {}
