@@ -1,13 +1,45 @@
-// A library with one function.
+//! MCTP packets (DSP0236): endpoint IDs, tags, moments, the packet's bytes both ways, and a
+//! message cut into packets.
 #![tactic(auto)]
 
-ghost use Rattle.std.specs.Prelude.{◌≡◌};
-ghost use Rattle.mctp_packet.specs.Echo.{echo_of};
+mod codec;
+mod eid;
+mod flags;
+mod keep;
+mod memory;
+mod moment;
+mod packet;
+mod reason;
+mod seq;
+mod tag;
 
-// The `ensures` clause is the contract: what `echo` returns is `echo_of` of its argument, a definition
-// in `specs/Echo.antt`, which a caller's clause can cite too.
-pub fn echo(x: usize) -> usize
-    ensures { result ≡ echo_of x }
-{
-    x
-}
+pub use codec::{read, read_for, write};
+pub use eid::Eid;
+pub use keep::Keep;
+pub use memory::Memory;
+pub use moment::Moment;
+pub use packet::{PacketRef, Route};
+pub use reason::Reason;
+pub use seq::Seq;
+pub use tag::Tag;
+
+use arrayvec::ArrayVec;
+
+/// The most packets that one message may have in this profile.
+pub const MOST_PACKETS: usize = 4;
+
+/// The most payload bytes of one packet, the header not counted: DSP0236's baseline transmission
+/// unit.
+pub const UNIT: usize = 64;
+
+/// The bytes of a packet's header (DSP0236, "MCTP packet fields").
+pub const HEADER: usize = 4;
+
+/// The most bytes of a packet, header and payload.
+pub const MOST_PACKET_BYTES: usize = 68;
+
+/// The most bytes of one message: as many as its packets carry.
+pub const MOST_MESSAGE_BYTES: usize = 256;
+
+/// The bytes of a message, at most [`MOST_MESSAGE_BYTES`].
+pub type Body = ArrayVec<u8, MOST_MESSAGE_BYTES>;

@@ -1,0 +1,22 @@
+-- Which numbers are endpoint IDs, tags, sequence numbers, keeping times and moments.
+use Rattle.std.specs.Prelude.{ℕ, ◌≤◌}
+
+-- an endpoint's own ID: neither null (0), reserved (1 to 7) nor broadcast (255)
+abbrev pub IsEid : ℕ → Type 0
+IsEid n = (8 ≤ n) × (n ≤ 254)
+
+-- three bits
+abbrev pub IsTag : ℕ → Type 0
+IsTag n = n ≤ 7
+
+-- two bits
+abbrev pub IsSeq : ℕ → Type 0
+IsSeq n = n ≤ 3
+
+-- milliseconds, up to a minute
+abbrev pub IsKeep : ℕ → Type 0
+IsKeep n = (1 ≤ n) × (n ≤ 60000)
+
+-- milliseconds
+abbrev pub IsMoment : ℕ → Type 0
+IsMoment n = n ≤ 4000000000000000
