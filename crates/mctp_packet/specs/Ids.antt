@@ -1,5 +1,6 @@
 -- Which numbers are endpoint IDs, tags, sequence numbers, keeping times and moments.
 use Rattle.std.specs.Prelude.{ℕ, ◌≤◌}
+use Rattle.mctp_packet.specs.declared.TheConstants.{LAST_MOMENT, LONGEST_KEEP}
 
 -- an endpoint's own ID: neither null (0), reserved (1 to 7) nor broadcast (255)
 abbrev pub IsEid : ℕ → Type 0
@@ -15,8 +16,8 @@ IsSeq n = n ≤ 3
 
 -- milliseconds, up to a minute
 abbrev pub IsKeep : ℕ → Type 0
-IsKeep n = (1 ≤ n) × (n ≤ 60000)
+IsKeep n = (1 ≤ n) × (n ≤ LONGEST_KEEP)
 
 -- milliseconds
 abbrev pub IsMoment : ℕ → Type 0
-IsMoment n = n ≤ 4000000000000000
+IsMoment n = n ≤ LAST_MOMENT

@@ -1,6 +1,7 @@
 ghost use Rattle.std.specs.Prelude.{◌≡◌, ℕ, ◌≤◌, ◌↔◌, IsSome, IfSome};
 ghost use Rattle.mctp_packet.specs.Ids.{IsKeep};
 
+use crate::LONGEST_KEEP;
 use std::marker::Model;
 
 /// For how many milliseconds an answer is kept and a packet may live: 1 to 60,000. This profile's
@@ -27,7 +28,7 @@ impl Keep {
         ensures value { IfSome result (λ keep. keep ≡ milliseconds) }
         ensures range { IfSome result IsKeep }
     {
-        if (1..=60_000).contains(&milliseconds) {
+        if (1..=LONGEST_KEEP).contains(&milliseconds) {
             Some(Keep { milliseconds })
         } else {
             None

@@ -25,6 +25,12 @@ pub use tag::Tag;
 
 use arrayvec::ArrayVec;
 
+/// The last moment, in milliseconds.
+pub const LAST_MOMENT: u64 = 4_000_000_000_000_000;
+
+/// The longest time for which an answer is kept, in milliseconds.
+pub const LONGEST_KEEP: u32 = 60_000;
+
 /// The most packets that one message may have in this profile.
 pub const MOST_PACKETS: usize = 4;
 

@@ -1,9 +1,10 @@
 ghost use Rattle.std.specs.Prelude.{◌≡◌, ℕ, ◌≤◌, ◌↔◌, IsSome, IfSome};
 ghost use Rattle.mctp_packet.specs.Ids.{IsMoment};
 
+use crate::LAST_MOMENT;
 use std::marker::Model;
 
-/// A moment in milliseconds on the clock that is handed in: 0 to 4,000,000,000,000,000.
+/// A moment in milliseconds on the clock that is handed in: 0 to [`LAST_MOMENT`].
 #[derive(Clone, Copy, Debug, PartialEq, Eq, PartialOrd, Ord)]
 pub struct Moment {
     milliseconds: u64,
@@ -20,20 +21,20 @@ impl Model for Moment {
 }
 
 impl Moment {
-    /// The moment after this many milliseconds, where they are at most 4,000,000,000,000,000.
+    /// The moment after this many milliseconds, where they are at most [`LAST_MOMENT`].
     pub fn new(milliseconds: u64) -> Option<Moment>
         ensures some { IsSome result ↔ IsMoment milliseconds }
         ensures value { IfSome result (λ moment. moment ≡ milliseconds) }
         ensures range { IfSome result IsMoment }
     {
-        if milliseconds <= 4_000_000_000_000_000 {
+        if milliseconds <= LAST_MOMENT {
             Some(Moment { milliseconds })
         } else {
             None
         }
     }
 
-    /// Its milliseconds, at most 4,000,000,000,000,000.
+    /// Its milliseconds, at most [`LAST_MOMENT`].
     pub fn get(self) -> u64
         ensures value { result ≡ self }
         ensures range { IsMoment self }

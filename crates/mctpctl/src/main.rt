@@ -1,4 +1,90 @@
 //! `mctpctl` answers captures of MCTP packets as a simulated PLDM device would.
 #![tactic(auto)]
 
-fn main() {}
+mod answer;
+mod capture;
+mod choose;
+mod description;
+mod description_fault;
+mod device;
+mod document;
+#[cfg(test)]
+mod example;
+mod exchange;
+#[cfg(test)]
+mod fakes;
+mod faults;
+mod input;
+mod keys;
+mod limits;
+mod lines;
+mod outcome;
+mod port;
+
+use crate::answer::answer_all;
+use crate::choose::{ChooseFault, Task, choose};
+use crate::faults::{EngineFault, fault_line, status_of};
+use crate::port::Port;
+use std::env;
+use std::io::ErrorKind;
+use std::process::ExitCode;
+
+fn main(rt: HostRuntime) -> ExitCode {
+    let status = match chosen(&rt) {
+        Ok(Task::Answer) => match run_answer(&rt) {
+            Ok(()) => 0,
+            Err(fault) => {
+                tell(&rt, &fault);
+                status_of(&fault)
+            }
+        },
+        Err(ChooseFault::Help(text)) => {
+            let _ = print!(rt; "{text}");
+            0
+        }
+        Err(ChooseFault::Refused(text)) => {
+            let _ = eprint!(rt; "{text}");
+            2
+        }
+        Err(ChooseFault::Memory) => 3,
+    };
+    ExitCode::from(status)
+}
+
+/// The task that the command line names.
+fn chosen(rt: &HostRuntime) -> Result<Task, ChooseFault> {
+    let alloc = rt.alloc();
+    let args = match env::args(rt) {
+        Ok(args) => args,
+        Err(fault) if fault.kind() == ErrorKind::OutOfMemory => return Err(ChooseFault::Memory),
+        Err(_) => {
+            let text = String::from_str(alloc, "error: an argument is not UTF-8\n");
+            return Err(text.map_or(ChooseFault::Memory, ChooseFault::Refused));
+        }
+    };
+    let Ok(args) = args.collect::<Vec<String>>(alloc) else {
+        return Err(ChooseFault::Memory);
+    };
+    let Ok(words) = args
+        .iter()
+        .map(|arg| arg.as_str())
+        .collect::<Vec<&str>>(alloc)
+    else {
+        return Err(ChooseFault::Memory);
+    };
+    choose(alloc, &words)
+}
+
+/// Answers standard input on standard output.
+fn run_answer(rt: &HostRuntime) -> Result<(), EngineFault> {
+    let mut reader = Port::new(rt.stdin());
+    let mut writer = Port::new(rt.stdout());
+    answer_all(rt.alloc(), &mut reader, &mut writer)
+}
+
+/// Tells the fault on standard error; where there is no memory for the line, none is printed.
+fn tell(rt: &HostRuntime, fault: &EngineFault) {
+    if let Ok(line) = fault_line(rt.alloc(), fault) {
+        let _ = eprintln!(rt; "mctpctl: {line}");
+    }
+}

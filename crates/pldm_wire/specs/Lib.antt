@@ -1,0 +1,9 @@
+pub mod Kinds
+pub mod Codes
+pub mod Headers
+pub mod Messages
+pub mod Requests
+pub mod Commands
+pub mod CommandReading
+pub mod Answers
+pub mod Laws

@@ -1,0 +1,10 @@
+pub mod CaptureRows
+pub mod ChoiceRows
+pub mod DecimalPlaces
+pub mod DescriptionLiterals
+pub mod DividerRows
+pub mod DocumentText
+pub mod LineSplits
+pub mod RunsOverLines
+pub mod WordSplits
+pub mod WorkedDescriptions

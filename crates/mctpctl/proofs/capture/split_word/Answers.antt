@@ -1,0 +1,15 @@
+-- The first space past the spaces in front ends the first word.
+use Rattle.std.proofs.Common.{◌<◌, ◌∷◌, unwrap_or, length, take, sym, ap, ◌∙◌, arith}
+use Rattle.std.proofs.lemmas.List.{take_rest}
+use Rattle.std.proofs.lemmas.Grind.{common_steps}
+use Rattle.mctpctl.proofs.WordSplits.{first_word}
+use Rattle.mctpctl.specs.CaptureLine.{words_of}
+use Rattle.mctpctl.proofs.capture.split_word.Goals as goal
+
+pub returns-clause-some : goal.returns-clause-some
+returns-clause-some c =
+    let text = c.trim_spaces-text.result.now in
+    let end = c.unwrap_or-end.result in
+    let some : 0 < length text = grind (arith, common_steps) in
+    let here = first_word text end some c.trim_spaces-text.ensures.trimmed (c.unwrap_or-end.ensures ∙ ap (λ o. unwrap_or o (length text)) c.first_space.ensures) in
+    sym c.trim_spaces-text.ensures.words ∙ here.words ∙ ap (λ l. take end text ∷ words_of l) (sym (take_rest text end))

@@ -1,0 +1,18 @@
+-- The text of what became of a packet.
+use Rattle.std.specs.Prelude.{ℕ, List, [], ◌∷◌, ◌++◌, codes}
+use Rattle.hex.specs.Hex.{encode_lower}
+use Rattle.mctp_packet.specs.Reasons.{name_of}
+use Rattle.mctp_packet.specs.declared.reason.Reason.{Reason}
+use Rattle.mctpctl.specs.declared.outcome.Outcome.{Outcome}
+use Rattle.mctpctl.specs.declared.outcome.Outcome.TheVariants.{Dropped, Answered}
+
+abbrev pub dropped_text : Reason → List ℕ
+dropped_text reason = codes "drop " ++ (name_of reason ++ 10 ∷ [])
+
+-- a packet's bytes as lower-case hex, on a line
+abbrev pub packet_text : List ℕ → List ℕ
+packet_text packet = encode_lower packet ++ 10 ∷ []
+
+abbrev pub outcome_text : Outcome → List ℕ
+outcome_text (Dropped reason) = dropped_text reason
+outcome_text (Answered packet) = packet_text packet.items

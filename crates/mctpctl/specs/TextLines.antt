@@ -1,0 +1,30 @@
+-- The lines of an input, and the line that divides it into a device description and a capture.
+use Rattle.std.specs.Prelude.{ℕ, ◌-◌, ◌==◌, Bool, if◌then◌else◌, List, [], ◌∷◌, ◌++◌, length, take, slice_index, codes, bytes_eq, Option, None, Some}
+use Rattle.std.specs.List.{slice_split}
+
+-- the pieces between line feeds; what follows the last line feed is a line too, and may be empty
+abbrev pub lines_of : List ℕ → List (List ℕ)
+lines_of text = slice_split (λ b. b == 10) text
+
+-- the line with one carriage return at its very end dropped
+abbrev pub without_cr : List ℕ → List ℕ
+without_cr line = if slice_index line (length line - 1) == 13 then take (length line - 1) line else line
+
+abbrev pub is_divider : List ℕ → Bool
+is_divider line = bytes_eq (without_cr line) (codes "%%")
+
+-- the lines after the first divider
+abbrev pub capture_lines : List (List ℕ) → Option (List (List ℕ))
+capture_lines [] = None
+capture_lines (line ∷ more) = if is_divider line then Some more else capture_lines more
+
+-- the bytes before the first divider line, the line feed before it among them; all bytes where no line divides
+abbrev pub description_of : List (List ℕ) → List ℕ
+description_of [] = []
+description_of (line ∷ []) = if is_divider line then [] else line
+description_of (line ∷ next ∷ more) = if is_divider line then [] else line ++ 10 ∷ description_of (next ∷ more)
+
+-- the lines of the rest of an input, if there is a rest
+abbrev pub lines_of_rest : Option (List ℕ) → List (List ℕ)
+lines_of_rest None = []
+lines_of_rest (Some text) = lines_of text

@@ -1,0 +1,197 @@
+//! The engine of `mctpctl answer`: a capture answered as the described device would.
+
+ghost use Rattle.std.specs.Prelude.{◌≡◌, ◌≢◌, ◌≤◌, ◌↔◌, Err, IfSome, IsErrOf, length, vec_len, true, false};
+ghost use Rattle.mctpctl.specs.AnswerText.{step, run_of, answer_text};
+ghost use Rattle.mctpctl.specs.LineRuns.{Writes, WritesLine, last_line, lines_written};
+ghost use Rattle.mctpctl.specs.Ports.{inner_of, has_failed};
+ghost use Rattle.mctpctl.specs.TextLines.{lines_of};
+
+use crate::capture::{CaptureFault, CaptureLine, read_capture_line};
+use crate::description::Description;
+use crate::description_fault::FileFault;
+use crate::device::Device;
+use crate::exchange::exchange;
+use crate::faults::{EngineFault, LineKind};
+use crate::input::{Input, InputFault, read_input};
+use crate::limits::{MAX_CAPTURE_LINE, MAX_DESCRIPTION, MAX_INPUT};
+use crate::lines::{divide, split_line};
+use crate::port::Port;
+use mctp_packet::Eid;
+use std::alloc::Global;
+use std::io::{Read, Write};
+
+#[cfg(test)]
+mod tests;
+
+/// Where a run stands between two lines.
+#[derive(Clone, Copy)]
+pub struct Running {
+    /// The device's state.
+    pub device: Device,
+    /// The moment of the last packet, in milliseconds.
+    pub moment: u64,
+}
+
+/// Answers one line of the capture, which has this number.
+fn answer_line<W: Write>(
+    alloc: Global,
+    own: Eid,
+    running: Running,
+    number: u64,
+    line: &[u8],
+    writer: &mut Port<W>,
+) -> Result<Running, EngineFault>
+    requires { has_failed writer.old ≡ false }
+    ensures meets { WritesLine number (step own running line.now) (W.contents (inner_of writer.old)) (W.contents (inner_of writer.new)) result }
+    ensures write { IsErrOf result EngineFault.Write ↔ (has_failed writer.new ≡ true) }
+    ensures read { result ≢ Err EngineFault.Read }
+    ensures device { result ≢ Err (EngineFault.Device FileFault.Memory) }
+{
+    let (moment, bytes) = match read_capture_line(alloc, line, running.moment) {
+        Ok(CaptureLine::Packet { moment, bytes }) => (moment, bytes),
+        Ok(CaptureLine::Skipped) => return Ok(running),
+        Err(CaptureFault::Line(kind)) => return Err(EngineFault::Line(number, kind)),
+        Err(CaptureFault::Memory) => return Err(EngineFault::Memory),
+    };
+    let mut device = running.device;
+    let outcome = exchange(own, &mut device, &bytes);
+    let Ok(text) = outcome.text(alloc) else {
+        return Err(EngineFault::Memory);
+    };
+    if writer.write_all(text.as_bytes()).is_err() {
+        return Err(EngineFault::Write);
+    }
+    Ok(Running { device, moment })
+}
+
+/// Answers the last piece of the capture, which no LF ends.
+fn answer_last<W: Write>(
+    alloc: Global,
+    own: Eid,
+    running: Running,
+    number: u64,
+    line: &[u8],
+    is_cut: bool,
+    writer: &mut Port<W>,
+) -> Result<(), EngineFault>
+    requires { has_failed writer.old ≡ false }
+    ensures text { Writes (last_line (step own) is_cut number running line.now) (W.contents (inner_of writer.old)) (W.contents (inner_of writer.new)) result }
+    ensures write { IsErrOf result EngineFault.Write ↔ (has_failed writer.new ≡ true) }
+    ensures read { result ≢ Err EngineFault.Read }
+    ensures device { result ≢ Err (EngineFault.Device FileFault.Memory) }
+{
+    if is_cut {
+        return Err(if line.len() > MAX_CAPTURE_LINE {
+            EngineFault::Line(number, LineKind::LongLine)
+        } else {
+            EngineFault::TooLarge
+        });
+    }
+    match answer_line(alloc, own, running, number, line, writer) {
+        Ok(_) => Ok(()),
+        Err(fault) => Err(fault),
+    }
+}
+
+/// Answers the lines of a capture, the first of which has the number 1.
+fn answer_lines<W: Write>(
+    alloc: Global,
+    own: Eid,
+    start: Running,
+    capture: &[u8],
+    is_cut: bool,
+    writer: &mut Port<W>,
+) -> Result<(), EngineFault>
+    requires works { has_failed writer.old ≡ false }
+    requires size { length capture.now ≤ MAX_INPUT }
+    ensures text { Writes (lines_written (step own) is_cut 1 start (lines_of capture.now)) (W.contents (inner_of writer.old)) (W.contents (inner_of writer.new)) result }
+    ensures write { IsErrOf result EngineFault.Write ↔ (has_failed writer.new ≡ true) }
+    ensures read { result ≢ Err EngineFault.Read }
+    ensures device { result ≢ Err (EngineFault.Device FileFault.Memory) }
+{
+    let mut running = start;
+    let mut rest = capture;
+    let mut number = 1;
+    while let Some((line, after)) = split_line(rest) {
+        running = match answer_line(alloc, own, running, number, line, writer) {
+            Ok(running) => running,
+            Err(fault) => return Err(fault),
+        };
+        rest = after;
+        number += 1;
+    }
+    answer_last(alloc, own, running, number, rest, is_cut, writer)
+}
+
+/// Answers an input: a device description, the line that divides, and a capture.
+fn answer_input<W: Write>(
+    alloc: Global,
+    input: &Input,
+    writer: &mut Port<W>,
+) -> Result<(), EngineFault>
+    requires works { has_failed writer.old ≡ false }
+    requires size { vec_len input.now.bytes ≤ MAX_INPUT }
+    ensures text { Writes (run_of input.now.is_cut input.now.bytes.items) (W.contents (inner_of writer.old)) (W.contents (inner_of writer.new)) result }
+    ensures write { IsErrOf result EngineFault.Write ↔ (has_failed writer.new ≡ true) }
+    ensures read { result ≢ Err EngineFault.Read }
+    ensures device { result ≢ Err (EngineFault.Device FileFault.Memory) }
+{
+    let text = input.bytes.as_slice();
+    let Some(divided) = divide(text) else {
+        return Err(if text.len() > MAX_DESCRIPTION {
+            EngineFault::TooLarge
+        } else {
+            EngineFault::NoDivider
+        });
+    };
+    if divided.description.len() > MAX_DESCRIPTION {
+        return Err(EngineFault::TooLarge);
+    }
+    let description = match Description::read(alloc, divided.description) {
+        Ok(description) => description,
+        Err(FileFault::Memory) => return Err(EngineFault::Memory),
+        Err(fault) => return Err(EngineFault::Device(fault)),
+    };
+    let start = Running {
+        device: Device {
+            tid: description.tid,
+        },
+        moment: 0,
+    };
+    match divided.capture {
+        Some(capture) => answer_lines(alloc, description.eid, start, capture, input.is_cut, writer),
+        None if input.is_cut => Err(EngineFault::TooLarge),
+        None => Ok(()),
+    }
+}
+
+/// Reads all input, answers its capture as the described device would, and writes the text of each
+/// packet's outcome: `drop NAME`, or the answer's packet in lower-case hex.
+///
+/// At `Line` and `TooLarge` the text of the lines that ended before has been written, and at
+/// `Device` and `NoDivider` nothing. `Read` is for a read port that has failed, and `Write` for a
+/// write port; what a failed writer took is not known.
+pub fn answer_all<R: Read, W: Write>(
+    alloc: Global,
+    reader: &mut Port<R>,
+    writer: &mut Port<W>,
+) -> Result<(), EngineFault>
+    requires reads { has_failed reader.old ≡ false }
+    requires writes { has_failed writer.old ≡ false }
+    ensures text { IfSome (R.remaining (inner_of reader.old))
+        (λ all. Writes (answer_text all) (W.contents (inner_of writer.old)) (W.contents (inner_of writer.new)) result) }
+    ensures read { IsErrOf result EngineFault.Read ↔ (has_failed reader.new ≡ true) }
+    ensures write { IsErrOf result EngineFault.Write ↔ (has_failed writer.new ≡ true) }
+    ensures device { result ≢ Err (EngineFault.Device FileFault.Memory) }
+{
+    let input = match read_input(alloc, reader) {
+        Ok(input) => input,
+        Err(InputFault::Read) => return Err(EngineFault::Read),
+        Err(InputFault::Memory) => return Err(EngineFault::Memory),
+    };
+    let result = answer_input(alloc, &input, writer);
+    if writer.failed() || writer.flush().is_err() {
+        return Err(EngineFault::Write);
+    }
+    result
+}

@@ -1,0 +1,304 @@
+use crate::answer::answer_all;
+use crate::description_fault::FileFault;
+use crate::example::{description, input};
+use crate::fakes::{FailsAt, OneByteWriter, PieceReader};
+use crate::faults::{EngineFault, LineKind};
+use crate::limits::{MAX_CAPTURE_LINE, MAX_DESCRIPTION};
+use crate::port::Port;
+use std::alloc::{AllocError, Global};
+use std::io;
+use std::io::Read;
+use std::process::Abort;
+use std::test::Fail;
+
+/// What a run over this input answers, and what it writes.
+fn run<R: Read + Drop>(
+    alloc: Global,
+    reader: R,
+) -> Result<(Result<(), EngineFault>, Vec<u8>), AllocError> {
+    let mut reader = Port::new(reader);
+    let mut writer = Port::new(Vec::with_capacity(alloc, 4_096)?);
+    let result = answer_all(alloc, &mut reader, &mut writer);
+    Ok((result, writer.into_inner()))
+}
+
+/// Checks what a capture of the example device gives.
+fn expect(
+    rt: &impl Abort,
+    alloc: Global,
+    capture: &str,
+    want: Result<(), EngineFault>,
+    text: &str,
+) -> Result<(), AllocError> {
+    let (result, written) = run(alloc, input(alloc, capture)?.as_bytes())?;
+    assert_eq!(rt; result, want, "{capture}");
+    assert_eq!(rt; written.as_slice(), text.as_bytes(), "{capture}");
+    Ok(())
+}
+
+#[test]
+fn answers(rt: HostRuntime) -> Result<(), Fail> {
+    let cases = [
+        ("0 010908c801800002", "010809c0010000020001\n"),
+        (
+            "0 010908c90181000105\n1 010908ca01820002\n",
+            "010809c10101000100\n010809c2010200020005\n",
+        ),
+        ("0 010908c801800502", "010809c00100050220\n"),
+        ("0 010908c901810010", "010809c10101001005\n"),
+        ("0 010908ca0182000200", "010809c20102000203\n"),
+        ("0 010908cb0183000100", "010809c30103000102\n"),
+        ("", ""),
+        ("# nothing\n\n", ""),
+    ];
+    for (capture, text) in cases {
+        expect(&rt, rt.alloc(), capture, Ok(()), text)?;
+    }
+    Ok(())
+}
+
+#[test]
+fn drops(rt: HostRuntime) -> Result<(), Fail> {
+    let mut long = String::from_str(rt.alloc(), "0 010908c8")?;
+    for _ in 0..65 {
+        long.push_str("01")?;
+    }
+    let cases = [
+        ("0", "drop Short\n"),
+        ("0 020908c801800002", "drop BadVersion\n"),
+        ("0 010b08c801800002", "drop UnknownDestination\n"),
+        ("0 010907c801800002", "drop BadSource\n"),
+        ("0 010909c801800002", "drop BadSource\n"),
+        ("0 010908c8", "drop NoPayload\n"),
+        (long.as_str(), "drop UnsupportedUnit\n"),
+        ("0 010908c001800002", "drop BadTag\n"),
+        ("0 0109088801800002", "drop UnexpectedMiddleOrEnd\n"),
+        ("0 010908c802800002", "drop NotPldm\n"),
+        ("0 010908c881800002", "drop Integrity\n"),
+        ("0 010908c80180", "drop ShortHeader\n"),
+        ("0 010908c801804002", "drop BadPldmHeader\n"),
+        ("0 010908c801000002", "drop NotRequest\n"),
+        ("0 010908c801c00002", "drop Datagram\n"),
+    ];
+    for (capture, text) in cases {
+        expect(&rt, rt.alloc(), capture, Ok(()), text)?;
+    }
+    Ok(())
+}
+
+/// The example of the repository's folder `examples/`, with that file's expected text.
+#[test]
+fn drops_and_answers(rt: HostRuntime) -> Result<(), Fail> {
+    let capture = "# Endpoint 8 asks device 9: set the terminus ID to 5, then read it.
+0 010908c90181000105
+
+# A packet for endpoint 11 is not ours.
+5 010b08c801800002
+
+# Command 5 of PLDM type 2 does not exist: it is answered with code 0x05.
+7 010908c801800205
+
+10 010908ca01820002
+";
+    let text = "010809c10101000100
+drop UnknownDestination
+010809c00100020505
+010809c2010200020005
+";
+    expect(&rt, rt.alloc(), capture, Ok(()), text)?;
+    Ok(())
+}
+
+#[test]
+fn refused_lines(rt: HostRuntime) -> Result<(), Fail> {
+    let answer = "010809c0010000020001\n";
+    let cases = [
+        ("0 01090", 1, LineKind::BadHex, ""),
+        ("0 010908c801800002\n\n0 1 2", 3, LineKind::Words, answer),
+        ("0 010908c801800002\nx", 2, LineKind::Number, answer),
+        ("5 010908c801800002\n4", 2, LineKind::BackInTime, answer),
+        ("%%", 1, LineKind::Number, ""),
+    ];
+    for (capture, line, kind, text) in cases {
+        let want = Err(EngineFault::Line(line, kind));
+        expect(&rt, rt.alloc(), capture, want, text)?;
+    }
+    Ok(())
+}
+
+#[test]
+fn refused_inputs(rt: HostRuntime) -> Result<(), Fail> {
+    let alloc = rt.alloc();
+    let (result, written) = run(alloc, description(alloc)?.as_bytes())?;
+    assert_eq!(rt; result, Err(EngineFault::NoDivider));
+    assert_eq!(rt; written.len(), 0);
+    let text = b"eid = 9\nkeep_ms = 1000\ntid = 255\n%%\n0 010908c801800002\n".as_slice();
+    let (result, written) = run(alloc, text)?;
+    assert_eq!(rt; result, Err(EngineFault::Device(FileFault::OutOfRange)));
+    assert_eq!(rt; written.len(), 0);
+    Ok(())
+}
+
+/// A byte that a reader gives without end, after some others.
+fn endless<'a>(first: &'a str, byte: u8) -> io::Chain<&'a [u8], io::Repeat> {
+    first.as_bytes().chain(io::repeat(byte))
+}
+
+#[test]
+fn endless_readers_are_stopped(rt: HostRuntime) -> Result<(), Fail> {
+    let alloc = rt.alloc();
+    let device = input(alloc, "")?;
+    let cases = [
+        ("", b'x', EngineFault::TooLarge),
+        (device.as_str(), b'\n', EngineFault::TooLarge),
+        (
+            device.as_str(),
+            b'x',
+            EngineFault::Line(1, LineKind::LongLine),
+        ),
+    ];
+    for (first, byte, fault) in cases {
+        let (result, written) = run(alloc, endless(first, byte))?;
+        assert_eq!(rt; result, Err(fault));
+        assert_eq!(rt; written.len(), 0);
+    }
+    Ok(())
+}
+
+/// The example device with a comment that makes its description this long.
+fn description_of_size(alloc: Global, size: usize) -> Result<String, AllocError> {
+    let mut text = description(alloc)?;
+    text.push('#')?;
+    for _ in text.len() + 1..size {
+        text.push('x')?;
+    }
+    text.push('\n')?;
+    Ok(text)
+}
+
+#[test]
+fn limits_of_a_description(rt: HostRuntime) -> Result<(), Fail> {
+    let alloc = rt.alloc();
+    for (size, want) in [
+        (MAX_DESCRIPTION, Ok(())),
+        (MAX_DESCRIPTION + 1, Err(EngineFault::TooLarge)),
+    ] {
+        let mut text = description_of_size(alloc, size)?;
+        assert_eq!(rt; text.len(), size);
+        text.push_str("%%\n0 010908c801800002")?;
+        let (result, written) = run(alloc, text.as_bytes())?;
+        assert_eq!(rt; result, want);
+        assert_eq!(rt; written.is_empty(), want.is_err());
+    }
+    Ok(())
+}
+
+#[test]
+fn limits_of_a_line(rt: HostRuntime) -> Result<(), Fail> {
+    let alloc = rt.alloc();
+    for (size, fault) in [
+        (MAX_CAPTURE_LINE, None),
+        (MAX_CAPTURE_LINE + 1, Some(LineKind::LongLine)),
+    ] {
+        let mut line = String::from_str(alloc, "0 010908c801800002")?;
+        for _ in line.len()..size {
+            line.push(' ')?;
+        }
+        let want = fault.map_or(Ok(()), |kind| Err(EngineFault::Line(1, kind)));
+        let text = if fault.is_some() {
+            ""
+        } else {
+            "010809c0010000020001\n"
+        };
+        expect(&rt, alloc, line.as_str(), want, text)?;
+    }
+    Ok(())
+}
+
+#[test]
+fn pieces_change_nothing(rt: HostRuntime) -> Result<(), Fail> {
+    let alloc = rt.alloc();
+    let text = input(alloc, "0 010908c90181000105\n1 010908ca01820002\n")?;
+    let mut reader = Port::new(PieceReader {
+        bytes: text.as_bytes(),
+        piece: 1,
+    });
+    let mut writer = Port::new(OneByteWriter {
+        taken: Vec::new(alloc),
+        flushes: 0,
+    });
+    assert_eq!(rt; answer_all(alloc, &mut reader, &mut writer), Ok(()));
+    let writer = writer.into_inner();
+    assert_eq!(rt;
+        writer.taken.as_slice(),
+        b"010809c10101000100\n010809c2010200020005\n".as_slice()
+    );
+    assert_eq!(rt; writer.flushes, 1);
+    Ok(())
+}
+
+/// A reader that gives 100 bytes at a call fails at each call in turn, the last of which would tell
+/// the end of input.
+#[test]
+fn a_reader_that_fails(rt: HostRuntime) -> Result<(), Fail> {
+    let alloc = rt.alloc();
+    let text = input(alloc, "0 010908c801800002")?;
+    let calls = text.len().div_ceil(100) + 1;
+    for calls_left in 0..calls {
+        let pieces = PieceReader {
+            bytes: text.as_bytes(),
+            piece: 100,
+        };
+        let (result, written) = run(
+            alloc,
+            FailsAt {
+                inner: pieces,
+                calls_left,
+            },
+        )?;
+        assert_eq!(rt; result, Err(EngineFault::Read), "at {calls_left}");
+        assert_eq!(rt; written.len(), 0);
+    }
+    let whole = PieceReader {
+        bytes: text.as_bytes(),
+        piece: 100,
+    };
+    let (result, _written) = run(
+        alloc,
+        FailsAt {
+            inner: whole,
+            calls_left: calls,
+        },
+    )?;
+    assert_eq!(rt; result, Ok(()));
+    Ok(())
+}
+
+/// A writer of one byte at a call fails at each call in turn: 21 bytes, and the flush.
+#[test]
+fn a_writer_that_fails(rt: HostRuntime) -> Result<(), Fail> {
+    let alloc = rt.alloc();
+    let text = input(alloc, "0 010908c801800002")?;
+    for calls_left in 0..23 {
+        let mut reader = Port::new(text.as_bytes());
+        let mut writer = Port::new(FailsAt {
+            inner: OneByteWriter {
+                taken: Vec::new(alloc),
+                flushes: 0,
+            },
+            calls_left,
+        });
+        let want = if calls_left < 22 {
+            Err(EngineFault::Write)
+        } else {
+            Ok(())
+        };
+        assert_eq!(rt;
+            answer_all(alloc, &mut reader, &mut writer),
+            want,
+            "at {calls_left}"
+        );
+        assert_eq!(rt; writer.failed(), calls_left < 22);
+    }
+    Ok(())
+}

@@ -1,0 +1,119 @@
+//! The command line.
+
+ghost use Rattle.std.specs.Prelude.{◌≡◌, IfOk, IfErr, Some, map, option_and_then};
+ghost use Rattle.clap.specs.Words.{app_of, kind_of, subcommand_name_of};
+ghost use Rattle.mctpctl.specs.Choice.{command as the_command, task_named, task_of, TellsKind, TellsRefusal};
+
+use clap::error::ErrorKind;
+use clap::{ArgMatches, Command};
+use std::alloc::{AllocError, Global};
+
+/// What the program is asked to do.
+#[derive(Clone, Copy, Debug, PartialEq, Eq)]
+pub enum Task {
+    /// Answer a capture of packets as the described device.
+    Answer,
+}
+
+/// Why there is no task.
+#[derive(Debug, Drop)]
+pub enum ChooseFault {
+    /// Help was asked for: this is its text, and the exit status is 0.
+    Help(String),
+    /// The line was refused: this says why, and the exit status is 2.
+    Refused(String),
+    /// No memory was left; the exit status is 3.
+    Memory,
+}
+
+/// The task that a command line names, the program's name first.
+pub fn choose(alloc: Global, words: &[&str]) -> Result<Task, ChooseFault>
+    ensures ok { IfOk result (λ task. task_of (map (λ word. word.now) words.now) ≡ Some task) }
+    ensures err { IfErr result (TellsRefusal (map (λ word. word.now) words.now)) }
+{
+    let Ok(command) = command(alloc) else {
+        return Err(ChooseFault::Memory);
+    };
+    match command.try_get_matches_from(words) {
+        Ok(matches) => match task_in(&matches) {
+            Some(task) => Ok(task),
+            None => Err(ChooseFault::Refused(String::new(alloc))),
+        },
+        Err(error) => Err(refusal(alloc, &error)),
+    }
+}
+
+/// The command line's definition for `clap`.
+fn command<'a>(alloc: Global) -> Result<Command<'a>, AllocError>
+    ensures { IfOk result (λ command. app_of command ≡ the_command) }
+{
+    let answer = Command::new(alloc, "answer").about(
+        "Answers the packets of a capture as the described device does",
+    );
+    Command::new(alloc, "mctpctl")
+        .about("A simulated PLDM device behind MCTP, on standard input and output")
+        .subcommand_required(true)
+        .subcommand(answer)
+}
+
+/// The task of the subcommand that `clap` found.
+fn task_in(matches: &ArgMatches<'_>) -> Option<Task>
+    ensures { result ≡ option_and_then task_named (subcommand_name_of matches.now) }
+{
+    named(matches.subcommand_name()?)
+}
+
+/// The task of a subcommand's name.
+fn named(name: &str) -> Option<Task>
+    ensures { result ≡ task_named name.now }
+{
+    match name {
+        "answer" => Some(Task::Answer),
+        _ => None,
+    }
+}
+
+/// What `clap`'s error comes to.
+fn refusal(alloc: Global, error: &clap::Error) -> ChooseFault
+    ensures { TellsKind (kind_of error.now) result }
+{
+    let kind = error.kind();
+    if kind == ErrorKind::OutOfMemory {
+        return ChooseFault::Memory;
+    }
+    match error.to_string(alloc) {
+        Ok(text) if kind == ErrorKind::DisplayHelp => ChooseFault::Help(text),
+        Ok(text) => ChooseFault::Refused(text),
+        Err(_) => ChooseFault::Memory,
+    }
+}
+
+#[cfg(test)]
+mod tests {
+    use super::*;
+    use std::test::Fail;
+
+    #[test]
+    fn takes_the_subcommand(rt: HostRuntime) {
+        let task = choose(rt.alloc(), &["mctpctl", "answer"]);
+        assert!(rt; matches!(task, Ok(Task::Answer)));
+    }
+
+    #[test]
+    fn tells_help_from_a_refusal(rt: HostRuntime) -> Result<(), Fail> {
+        let alloc = rt.alloc();
+        let no_word: &[&str] = &["mctpctl"];
+        for words in [no_word, &["mctpctl", "other"], &["mctpctl", "answer", "x"]] {
+            let Err(ChooseFault::Refused(text)) = choose(alloc, words) else {
+                return Err(Fail::from("not refused"));
+            };
+            assert!(rt; text.as_str().contains("Usage: mctpctl"));
+        }
+        let Err(ChooseFault::Help(text)) = choose(alloc, &["mctpctl", "--help"]) else {
+            return Err(Fail::from("no help"));
+        };
+        assert!(rt; text.as_str().contains("Usage: mctpctl <COMMAND>"));
+        assert!(rt; text.as_str().contains("answer"));
+        Ok(())
+    }
+}

@@ -1,0 +1,80 @@
+//! Readers and writers for tests.
+
+use std::io;
+use std::io::{Error, ErrorKind, Read, Write};
+
+/// Gives `bytes` in pieces of at most `piece` bytes.
+#[derive(Drop)]
+pub struct PieceReader<'a> {
+    pub bytes: &'a [u8],
+    pub piece: usize,
+}
+
+impl Read for PieceReader<'_> {
+    fn read(&mut self, buf: &mut [u8]) -> io::Result<usize> {
+        let count = self.bytes.len().min(self.piece).min(buf.len());
+        let (piece, rest) = self.bytes.split_at(count);
+        buf[..count].copy_from_slice(piece);
+        self.bytes = rest;
+        Ok(count)
+    }
+}
+
+/// Takes one byte at a call, and counts the flushes.
+#[derive(Drop)]
+pub struct OneByteWriter {
+    pub taken: Vec<u8>,
+    pub flushes: usize,
+}
+
+impl Write for OneByteWriter {
+    fn write(&mut self, buf: &[u8]) -> io::Result<usize> {
+        let Some(first) = buf.first() else {
+            return Ok(0);
+        };
+        self.taken.push(*first)?;
+        Ok(1)
+    }
+
+    fn flush(&mut self) -> io::Result<()> {
+        self.flushes = self.flushes.saturating_add(1);
+        Ok(())
+    }
+}
+
+/// Passes `calls_left` calls on to a reader or writer, and answers every later one with the error
+/// that std's own helpers try again.
+#[derive(Drop)]
+pub struct FailsAt<T> {
+    pub inner: T,
+    pub calls_left: usize,
+}
+
+impl<T> FailsAt<T> {
+    fn count(&mut self) -> io::Result<()> {
+        if self.calls_left == 0 {
+            return Err(Error::from(ErrorKind::Interrupted));
+        }
+        self.calls_left -= 1;
+        Ok(())
+    }
+}
+
+impl<T: Read> Read for FailsAt<T> {
+    fn read(&mut self, buf: &mut [u8]) -> io::Result<usize> {
+        self.count()?;
+        self.inner.read(buf)
+    }
+}
+
+impl<T: Write> Write for FailsAt<T> {
+    fn write(&mut self, buf: &[u8]) -> io::Result<usize> {
+        self.count()?;
+        self.inner.write(buf)
+    }
+
+    fn flush(&mut self) -> io::Result<()> {
+        self.count()?;
+        self.inner.flush()
+    }
+}

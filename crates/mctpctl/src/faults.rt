@@ -1,0 +1,138 @@
+//! What ends a run before its time, the text that tells it, and the program's exit status.
+
+ghost use Rattle.std.specs.Prelude.{◌≡◌, IfOk, Some, string_bytes};
+ghost use Rattle.mctpctl.specs.FaultTexts.{fault_text, name_of_line_kind};
+ghost use Rattle.mctpctl.specs.Statuses.{status_of_fault};
+
+use crate::description_fault::FileFault;
+use std::alloc::{AllocError, Global};
+use std::{error, fmt};
+use thiserror::Error;
+
+/// Why a line was refused.
+#[derive(Clone, Copy, Debug, PartialEq, Eq, Error)]
+#[error("{}", self.name())]
+pub enum LineKind {
+    /// The line is over the limit of a capture line.
+    LongLine,
+    /// The line has too many words.
+    Words,
+    /// The moment is no decimal number, or is outside its range.
+    Number,
+    /// The moment is before that of an earlier line.
+    BackInTime,
+    /// The packet has an odd number of hex digits, or a character that is none.
+    BadHex,
+}
+
+impl LineKind {
+    /// The fault's name, as it is spelled in this type.
+    pub fn name(self) -> &'static str
+        ensures { result.now ≡ name_of_line_kind self }
+    {
+        match self {
+            LineKind::LongLine => "LongLine",
+            LineKind::Words => "Words",
+            LineKind::Number => "Number",
+            LineKind::BackInTime => "BackInTime",
+            LineKind::BadHex => "BadHex",
+        }
+    }
+}
+
+/// Why a run ended before all of its input was answered.
+#[derive(Clone, Copy, Debug, PartialEq, Eq)]
+pub enum EngineFault {
+    /// The device description was refused. Its `Memory` is told as this type's own.
+    Device(FileFault),
+    /// No line of the input is `%%`.
+    NoDivider,
+    /// The line with this number, counted from 1 after the divider, was refused.
+    Line(u64, LineKind),
+    /// The description or the whole input is over its limit.
+    TooLarge,
+    /// The reader failed.
+    Read,
+    /// The writer failed.
+    Write,
+    /// No memory was left.
+    Memory,
+}
+
+impl fmt::Display for EngineFault {
+    ghost output = { λ fault. Some (fault_text fault) };
+
+    fn fmt<W: fmt::Write>(&self, f: &mut fmt::Formatter<W>) -> fmt::Result {
+        match self {
+            EngineFault::Device(fault) => write!(f, "device: {}", fault.name()),
+            EngineFault::NoDivider => write!(f, "no %% line"),
+            EngineFault::Line(number, kind) => write!(f, "line {number}: {}", kind.name()),
+            EngineFault::TooLarge => write!(f, "input too large"),
+            EngineFault::Read => write!(f, "read fault"),
+            EngineFault::Write => write!(f, "write fault"),
+            EngineFault::Memory => write!(f, "out of memory"),
+        }
+    }
+}
+
+impl error::Error for EngineFault {}
+
+/// The exit status of a run that ended in the fault: 1 where the input was refused, 3 where the run
+/// could not be done.
+pub fn status_of(fault: &EngineFault) -> u8
+    ensures { result ≡ status_of_fault fault.now }
+{
+    match fault {
+        EngineFault::Device(_)
+        | EngineFault::NoDivider
+        | EngineFault::Line(_, _)
+        | EngineFault::TooLarge => 1,
+        EngineFault::Read | EngineFault::Write | EngineFault::Memory => 3,
+    }
+}
+
+/// The text that the program prints of the fault after `mctpctl: `, with no line end.
+pub fn fault_line(alloc: Global, fault: &EngineFault) -> Result<String, AllocError>
+    ensures { IfOk result (λ text. string_bytes text ≡ fault_text fault.now) }
+{
+    fault.to_string(alloc)
+}
+
+#[cfg(test)]
+mod tests {
+    use super::*;
+    use std::test::Fail;
+
+    #[test]
+    fn tells_each_fault(rt: HostRuntime) -> Result<(), Fail> {
+        let rows = [
+            (
+                EngineFault::Device(FileFault::OutOfRange),
+                "device: OutOfRange",
+                1,
+            ),
+            (EngineFault::NoDivider, "no %% line", 1),
+            (
+                EngineFault::Line(3, LineKind::BackInTime),
+                "line 3: BackInTime",
+                1,
+            ),
+            (EngineFault::Line(1, LineKind::BadHex), "line 1: BadHex", 1),
+            (
+                EngineFault::Line(1, LineKind::LongLine),
+                "line 1: LongLine",
+                1,
+            ),
+            (EngineFault::TooLarge, "input too large", 1),
+            (EngineFault::Read, "read fault", 3),
+            (EngineFault::Write, "write fault", 3),
+            (EngineFault::Memory, "out of memory", 3),
+        ];
+        for (fault, text, status) in rows {
+            let line = fault_line(rt.alloc(), &fault)?;
+            assert_eq!(rt; line.as_str(), text);
+            assert_eq!(rt; status_of(&fault), status, "{text}");
+        }
+        Ok(())
+    }
+}

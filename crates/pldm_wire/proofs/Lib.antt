@@ -1,0 +1,4 @@
+pub mod Passing
+pub mod ReadRequests
+pub mod ReadCommands
+mod Examples
