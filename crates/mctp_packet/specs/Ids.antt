@@ -1,6 +1,6 @@
 -- Which numbers are endpoint IDs, tags, sequence numbers, keeping times and moments.
-use Rattle.std.specs.Prelude.{ℕ, ◌≤◌}
-use Rattle.mctp_packet.specs.declared.TheConstants.{LAST_MOMENT, LONGEST_KEEP}
+use Rattle.std.specs.Prelude.{ℕ, ◌≤◌, ◌<◌}
+use Rattle.mctp_packet.specs.declared.TheConstants.{LAST_MOMENT, LONGEST_KEEP, SEQUENCE_NUMBERS}
 
 -- an endpoint's own ID: neither null (0), reserved (1 to 7) nor broadcast (255)
 abbrev pub IsEid : ℕ → Type 0
@@ -12,7 +12,7 @@ IsTag n = n ≤ 7
 
 -- two bits
 abbrev pub IsSeq : ℕ → Type 0
-IsSeq n = n ≤ 3
+IsSeq n = n < SEQUENCE_NUMBERS
 
 -- milliseconds, up to a minute
 abbrev pub IsKeep : ℕ → Type 0

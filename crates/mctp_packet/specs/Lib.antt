@@ -5,3 +5,4 @@ pub mod Reasons
 pub mod Packets
 pub mod Refusals
 pub mod Reading
+pub mod Pieces

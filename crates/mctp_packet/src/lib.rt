@@ -38,6 +38,10 @@ pub const MOST_PACKETS: usize = 4;
 /// unit.
 pub const UNIT: usize = 64;
 
+/// How many packet sequence numbers there are: they are counted modulo this (DSP0236, "MCTP packet
+/// fields").
+pub const SEQUENCE_NUMBERS: u8 = 4;
+
 /// The bytes of a packet's header (DSP0236, "MCTP packet fields").
 pub const HEADER: usize = 4;
 

@@ -1,6 +1,7 @@
 ghost use Rattle.std.specs.Prelude.{◌≡◌, ℕ, ◌≤◌, ◌↔◌, IsSome, IfSome};
 ghost use Rattle.mctp_packet.specs.Ids.{IsSeq};
 
+use crate::SEQUENCE_NUMBERS;
 use std::marker::Model;
 
 /// A packet sequence number, 0 to 3 (DSP0236, "MCTP packet fields").
@@ -26,7 +27,7 @@ impl Seq {
         ensures value { IfSome result (λ seq. seq ≡ number) }
         ensures range { IfSome result IsSeq }
     {
-        if number <= 3 {
+        if number < SEQUENCE_NUMBERS {
             Some(Seq { number })
         } else {
             None

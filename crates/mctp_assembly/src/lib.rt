@@ -1,0 +1,2 @@
+//! Messages assembled from MCTP packets (DSP0236).
+#![tactic(auto)]
