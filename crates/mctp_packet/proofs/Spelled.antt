@@ -1,11 +1,11 @@
 -- Reading by place gives the packet that the bytes spell, and no other.
-use Rattle.std.proofs.Common.{◌≡◌, ◌≢◌, ℕ, zero, suc, ◌+◌, ◌*◌, ◌/◌, ◌%◌, ◌^◌, ◌<◌, ◌≤◌, Bool, true, false, not, ◌&&◌, ◌==◌, nat_lt, nat_le, List, [], ◌∷◌, length, slice_index, drop, take, Option, Some, None, Result, Ok, Err, IfOk, refl, sym, ap, ◌∙◌, arith, length-drop, ltb-false, leb-false}
+use Rattle.std.proofs.Common.{◌≡◌, ℕ, zero, suc, ◌+◌, ◌*◌, ◌/◌, ◌%◌, ◌^◌, ◌<◌, ◌≤◌, Bool, true, false, not, ◌==◌, List, [], ◌∷◌, length, slice_index, drop, Option, Some, None, Result, Ok, Err, IfOk, refl, arith, length-drop, ltb-false, leb-false}
 use Rattle.std.proofs.lemmas.Bool.Decides.{nat_tests}
-use Rattle.mctp_packet.specs.Bits.{bit, is_set}
+use Rattle.mctp_packet.specs.Bits.{bit}
 use Rattle.mctp_packet.specs.Ids.{IsEid}
-use Rattle.mctp_packet.specs.Packets.{Packet, packet, IsPacket, HasPayloadSize, IsFor, Spells, spelling, flags}
-use Rattle.mctp_packet.specs.Refusals.{first_failing, is_eid, checks, refusal, is_destination, is_source}
-use Rattle.mctp_packet.specs.Reading.{route_of, packet_of, unless, reading}
+use Rattle.mctp_packet.specs.Packets.{Packet, IsFor, Spells, flags}
+use Rattle.mctp_packet.specs.Refusals.{first_failing, checks, refusal, is_destination, is_source}
+use Rattle.mctp_packet.specs.Reading.{packet_of, unless, reading}
 use Rattle.mctp_packet.specs.declared.reason.Reason.{Reason}
 
 -- no check of the list fails

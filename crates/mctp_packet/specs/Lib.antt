@@ -6,3 +6,4 @@ pub mod Packets
 pub mod Refusals
 pub mod Reading
 pub mod Pieces
+pub mod Laws

@@ -1,9 +1,9 @@
 -- A packet, and the bytes that spell it (DSP0236, "MCTP packet fields").
-use Rattle.std.specs.Prelude.{◌≡◌, ◌≢◌, ℕ, ◌+◌, ◌*◌, ◌<◌, ◌≤◌, Bool, List, ◌∷◌, length}
+use Rattle.std.specs.Prelude.{◌≡◌, ◌≢◌, ℕ, ◌+◌, ◌*◌, ◌<◌, ◌≤◌, Bool, List, [], ◌∷◌, length}
 use Rattle.mctp_packet.specs.Bits.{bit}
 use Rattle.mctp_packet.specs.Ids.{IsEid, IsTag, IsSeq}
 use Rattle.mctp_packet.specs.declared.packet.Route.{Route}
-use Rattle.mctp_packet.specs.declared.TheConstants.{UNIT}
+use Rattle.mctp_packet.specs.declared.TheConstants.{UNIT, VERSION}
 
 pub record Packet : Type 0 where
   pub route : Route
@@ -32,13 +32,17 @@ pub record IsPacket (p : Packet) : Type 0 where
 abbrev pub flags : Packet → ℕ
 flags p = 128 * bit p.start + 64 * bit p.end + 16 * p.seq + 8 * bit p.route.owner + p.route.tag
 
--- the bytes of a packet: reserved bits and header version 1, destination, source, flags, payload
+-- the bytes of a packet: reserved bits and header version, destination, source, flags, payload
 abbrev pub spelling : ℕ → Packet → List ℕ
-spelling reserved p = (16 * reserved + 1) ∷ p.route.destination ∷ p.route.source ∷ flags p ∷ p.payload
+spelling reserved p = (16 * reserved + VERSION) ∷ p.route.destination ∷ p.route.source ∷ flags p ∷ p.payload
 
 -- a written packet has reserved bits 0
 abbrev pub written : Packet → List ℕ
 written p = spelling 0 p
+
+-- the bytes before its payload
+abbrev pub header : Packet → List ℕ
+header p = VERSION ∷ p.route.destination ∷ p.route.source ∷ flags p ∷ []
 
 -- these bytes are the packet; its reserved bits may be any
 pub record Spells (p : Packet) (bytes : List ℕ) : Type 0 where

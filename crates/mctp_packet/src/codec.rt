@@ -1,11 +1,11 @@
 ghost use Rattle.std.specs.Prelude.{◌≡◌, ℕ, ◌+◌, ◌*◌, ◌%◌, ◌≤◌, List, ◌++◌, length, drop, Option, Some, None, Ok, IfOk, IfErr, IfSome, if◌then◌else◌};
 ghost use Rattle.mctp_packet.specs.Ids.{IsEid};
-ghost use Rattle.mctp_packet.specs.Packets.{Packet, Spells, IsFor, written, flags, packet};
+ghost use Rattle.mctp_packet.specs.Packets.{Packet, Spells, IsFor, written, header};
 ghost use Rattle.mctp_packet.specs.Refusals.{refusal, is_destination, is_source};
 ghost use Rattle.mctp_packet.specs.Reading.{reading};
 
 use crate::flags::{Flags, byte_of, flags_in};
-use crate::{Eid, HEADER, MOST_PACKET_BYTES, PacketRef, Reason, Route};
+use crate::{Eid, HEADER, MOST_PACKET_BYTES, PacketRef, Reason, Route, VERSION};
 
 /// The packet that these bytes spell, or the first reason of 1 to 6 for which they spell none
 /// (DSP0236, "MCTP packet fields" and "Dropped packets").
@@ -40,7 +40,7 @@ fn read_at(own: Option<Eid>, bytes: &[u8]) -> Result<PacketRef<'_>, Reason>
     let [version, destination, source, flags, payload @ ..] = bytes else {
         return Err(Reason::Short);
     };
-    if *version & 0x0f != 1 {
+    if *version & 0x0f != VERSION {
         return Err(Reason::BadVersion);
     }
     let Some(destination) = destination_of(own_id, *destination) else {
@@ -94,19 +94,24 @@ pub fn write(packet: &PacketRef<'_>, out: &mut [u8; MOST_PACKET_BYTES]) -> usize
     ensures count { result ≡ HEADER + length packet.now.payload }
     ensures bytes { out.new ≡ written packet.now ++ drop (HEADER + length packet.now.payload) out.old }
 {
-    let route = packet.route();
     let payload = packet.payload();
     let count = HEADER + payload.len();
-    out[0] = 1;
-    out[1] = route.destination.get();
-    out[2] = route.source.get();
-    out[3] = byte_of(Flags {
+    out[..HEADER].copy_from_slice(&header_of(packet));
+    out[HEADER..count].copy_from_slice(payload);
+    count
+}
+
+/// The four bytes before a packet's payload, as they are written.
+pub(crate) fn header_of(packet: &PacketRef<'_>) -> [u8; HEADER]
+    ensures { result ≡ header packet.now }
+{
+    let route = packet.route();
+    let flags = byte_of(Flags {
         start: packet.start(),
         end: packet.end(),
         seq: packet.seq(),
         owner: route.owner,
         tag: route.tag,
     });
-    out[HEADER..count].copy_from_slice(payload);
-    count
+    [VERSION, route.destination.get(), route.source.get(), flags]
 }

@@ -6,24 +6,28 @@ mod codec;
 mod eid;
 mod flags;
 mod keep;
+pub mod laws;
 mod memory;
 mod moment;
 mod packet;
+mod pieces;
 mod reason;
 mod seq;
 mod tag;
+#[cfg(test)]
+mod tests;
 
+use arrayvec::ArrayVec;
 pub use codec::{read, read_for, write};
 pub use eid::Eid;
 pub use keep::Keep;
 pub use memory::Memory;
 pub use moment::Moment;
 pub use packet::{PacketRef, Route};
+pub use pieces::{Packets, SplitFault, split};
 pub use reason::Reason;
 pub use seq::Seq;
 pub use tag::Tag;
-
-use arrayvec::ArrayVec;
 
 /// The last moment, in milliseconds.
 pub const LAST_MOMENT: u64 = 4_000_000_000_000_000;
@@ -41,6 +45,9 @@ pub const UNIT: usize = 64;
 /// How many packet sequence numbers there are: they are counted modulo this (DSP0236, "MCTP packet
 /// fields").
 pub const SEQUENCE_NUMBERS: u8 = 4;
+
+/// The header version of a packet (DSP0236, "MCTP packet fields").
+pub const VERSION: u8 = 1;
 
 /// The bytes of a packet's header (DSP0236, "MCTP packet fields").
 pub const HEADER: usize = 4;

@@ -1,6 +1,7 @@
 -- What becomes of one packet that a device receives: a drop, or an answer and the state after it.
-use Rattle.std.specs.Prelude.{ℕ, ◌&&◌, not, Bool, true, false, if◌then◌else◌, List, Option, None, Some, Result, Ok, Err}
-use Rattle.mctp_packet.specs.Packets.{Packet, packet, written}
+use Rattle.std.specs.Prelude.{ℕ, ◌&&◌, not, Bool, false, if◌then◌else◌, List, Option, None, Some, Result, Ok, Err}
+use Rattle.mctp_packet.specs.Packets.{Packet}
+use Rattle.mctp_packet.specs.Pieces.{written_packets}
 use Rattle.mctp_packet.specs.Reading.{reading}
 use Rattle.mctp_packet.specs.declared.packet.Route.{Route}
 use Rattle.mctp_packet.specs.declared.reason.Reason.{Reason}
@@ -39,7 +40,7 @@ way_back route = record { destination = route.source; source = route.destination
 abbrev pub message_exchange : Device → Route → Result Request Reason → Outcome × Device
 message_exchange device route (Err reason) = (Dropped reason, device)
 message_exchange device route (Ok request) =
-    (Answered (record { items = written (packet (way_back route) true true 0 (reply device request)) }), next device request)
+    (Answered (written_packets (way_back route) (reply device request)), next device request)
 
 -- a request's packet has TO 1, and until there is an assembly it is a whole message
 abbrev pub packet_exchange : Device → Packet → Outcome × Device

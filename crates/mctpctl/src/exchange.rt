@@ -1,15 +1,14 @@
 //! One packet in, and what becomes of it.
 
-ghost use Rattle.std.specs.Prelude.{◌≡◌, ◌≤◌, true, false, length};
-ghost use Rattle.mctp_packet.specs.Packets.{packet, written, HasPayloadSize};
+ghost use Rattle.std.specs.Prelude.{◌≡◌, ◌<◌, ◌≤◌, length};
+ghost use Rattle.mctp_packet.specs.Pieces.{written_packets};
 ghost use Rattle.mctpctl.specs.Exchanges.{exchange, packet_exchange, reply, next, way_back};
 ghost use Rattle.mctpctl.specs.declared.outcome.Outcome.{Outcome};
 
 use crate::device::Device;
 use crate::outcome::Outcome;
-use arrayvec::ArrayVec;
 use mctp_packet::{
-    Body, Eid, MOST_PACKET_BYTES, PacketRef, Reason, Route, Seq, UNIT, read_for, write,
+    Body, Eid, MOST_MESSAGE_BYTES, PacketRef, Packets, Reason, Route, read_for, split,
 };
 use pldm_wire::{Answer, RequestRef, read_command, read_request, write_answer};
 
@@ -40,7 +39,7 @@ fn packet_exchange(device: &mut Device, packet: &PacketRef<'_>) -> Outcome
         Err(reason) => Outcome::Dropped(reason),
         Ok(request) => {
             let message = reply(device, &request);
-            Outcome::Answered(packet_back(route, &message))
+            Outcome::Answered(packets_back(route, &message))
         }
     }
 }
@@ -49,7 +48,7 @@ fn packet_exchange(device: &mut Device, packet: &PacketRef<'_>) -> Outcome
 fn reply(device: &mut Device, request: &RequestRef<'_>) -> Body
     ensures message { result.items ≡ reply device.old request.now }
     ensures state { device.new ≡ next device.old request.now }
-    ensures size { HasPayloadSize result.items }
+    ensures size { 0 < length result.items }
 {
     let answer = match read_command(request) {
         Ok(command) => device.perform(&command),
@@ -58,10 +57,11 @@ fn reply(device: &mut Device, request: &RequestRef<'_>) -> Body
     write_answer(request.id(), request.kind(), &answer)
 }
 
-/// The packet that carries a whole message back to where its request came from.
-fn packet_back(route: Route, message: &[u8]) -> ArrayVec<u8, MOST_PACKET_BYTES>
-    requires { HasPayloadSize message.now }
-    ensures { result.items ≡ written (packet (way_back route) true true 0 message.now) }
+/// The packets that carry a message back to where its request came from.
+fn packets_back(route: Route, message: &[u8]) -> Packets
+    requires some { 0 < length message.now }
+    requires few { length message.now ≤ MOST_MESSAGE_BYTES }
+    ensures { result ≡ written_packets (way_back route) message.now }
 {
     let back = Route {
         destination: route.source,
@@ -69,17 +69,5 @@ fn packet_back(route: Route, message: &[u8]) -> ArrayVec<u8, MOST_PACKET_BYTES>
         owner: false,
         tag: route.tag,
     };
-    let packet = PacketRef::new(back, true, true, first_number(), message).unwrap();
-    let mut bytes = [0; MOST_PACKET_BYTES];
-    let count = write(&packet, &mut bytes);
-    let mut packet = ArrayVec::new();
-    packet.try_extend_from_slice(&bytes[..count]).unwrap();
-    packet
-}
-
-/// The number that a message's packets begin with.
-fn first_number() -> Seq
-    ensures { result ≡ 0 }
-{
-    Seq::new(0).unwrap()
+    split(&back, message).unwrap()
 }

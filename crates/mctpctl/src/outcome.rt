@@ -1,10 +1,9 @@
 //! What becomes of one packet, and its text.
 
-ghost use Rattle.std.specs.Prelude.{◌≡◌, IfOk, string_bytes};
-ghost use Rattle.mctpctl.specs.OutcomeTexts.{outcome_text, dropped_text, packet_text};
+ghost use Rattle.std.specs.Prelude.{◌≡◌, ◌++◌, IfOk, OnOk, string_bytes};
+ghost use Rattle.mctpctl.specs.OutcomeTexts.{outcome_text, dropped_text, packet_text, packets_text};
 
-use arrayvec::ArrayVec;
-use mctp_packet::{MOST_PACKET_BYTES, Memory, Reason};
+use mctp_packet::{Memory, Packets, Reason};
 use std::alloc::Global;
 
 /// What becomes of a packet that a device receives.
@@ -12,18 +11,18 @@ use std::alloc::Global;
 pub enum Outcome {
     /// It is dropped, for this reason.
     Dropped(Reason),
-    /// It is answered with this packet.
-    Answered(ArrayVec<u8, MOST_PACKET_BYTES>),
+    /// It is answered with the packets of one message.
+    Answered(Packets),
 }
 
 impl Outcome {
-    /// Its line: `drop NAME`, or the answer's packet in lower-case hex.
+    /// Its lines: `drop NAME`, or the answer's packets in lower-case hex.
     pub fn text(&self, alloc: Global) -> Result<String, Memory>
         ensures { IfOk result (λ text. string_bytes text ≡ outcome_text self.now) }
     {
         match self {
             Outcome::Dropped(reason) => dropped_text(alloc, *reason),
-            Outcome::Answered(packet) => packet_text(alloc, packet),
+            Outcome::Answered(packets) => packets_text(alloc, packets),
         }
     }
 }
@@ -35,9 +34,23 @@ fn dropped_text(alloc: Global, reason: Reason) -> Result<String, Memory>
     Ok(format!(in alloc; "drop {name}\n")?)
 }
 
-fn packet_text(alloc: Global, packet: &[u8]) -> Result<String, Memory>
-    ensures { IfOk result (λ text. string_bytes text ≡ packet_text packet.now) }
+fn packets_text(alloc: Global, packets: &Packets) -> Result<String, Memory>
+    ensures { IfOk result (λ text. string_bytes text ≡ packets_text packets.now) }
+{
+    let mut text = String::new(alloc);
+    for i in 0..packets.len() {
+        if let Some(packet) = packets.get(i) {
+            push_packet(alloc, &mut text, packet)?;
+        }
+    }
+    Ok(text)
+}
+
+fn push_packet(alloc: Global, text: &mut String, packet: &[u8]) -> Result<(), Memory>
+    ensures { OnOk result (string_bytes text.new ≡ string_bytes text.old ++ packet_text packet.now) }
 {
     let digits = hex::encode(alloc, packet)?;
-    Ok(format!(in alloc; "{digits}\n")?)
+    text.push_str(digits.as_str())?;
+    text.push('\n')?;
+    Ok(())
 }

@@ -1,0 +1,118 @@
+ghost use Rattle.std.specs.Prelude.{◌≡◌, ◌<◌, ◌%◌, ◌↔◌, [], length, slice_get, option_map, IfOk, IsErrOf};
+ghost use Rattle.mctp_packet.specs.Packets.{written, HasPayloadSize};
+ghost use Rattle.mctp_packet.specs.Pieces.{piece, piece_count, packet_at, written_packets};
+
+use crate::codec::header_of;
+use crate::{
+    MOST_MESSAGE_BYTES, MOST_PACKET_BYTES, MOST_PACKETS, PacketRef, Route, SEQUENCE_NUMBERS, Seq,
+    UNIT,
+};
+use arrayvec::ArrayVec;
+use std::marker::Model;
+use thiserror::Error;
+
+/// Why a message was not split.
+#[derive(Clone, Copy, Debug, PartialEq, Eq, Error)]
+pub enum SplitFault {
+    /// 1: it has no bytes.
+    #[error("the message is empty")]
+    Empty,
+    /// 2: it has more than [`MOST_MESSAGE_BYTES`].
+    #[error("the message is too long")]
+    TooLong,
+}
+
+/// The packets of one message, in order: 1 to [`MOST_PACKETS`] of them. Its size is fixed.
+#[derive(Debug, Drop)]
+pub struct Packets {
+    packets: ArrayVec<ArrayVec<u8, MOST_PACKET_BYTES>, MOST_PACKETS>,
+}
+
+impl Model for Packets {
+    ghost use Rattle.std.specs.Prelude.{ℕ, ◌≤◌, List, length, map};
+    ghost use Rattle.mctp_packet.specs.declared.TheConstants.{MOST_PACKETS};
+
+    ghost Value = { List (List ℕ) };
+
+    ghost view = { λ a. map (λ packet. packet.items) a.packets.items };
+
+    ghost invariant = { λ a. (1 ≤ length a.packets.items) × (length a.packets.items ≤ MOST_PACKETS) };
+}
+
+impl Packets {
+    ghost use Rattle.std.specs.Prelude.{◌≡◌, ◌≤◌, length, slice_get, option_map};
+    ghost use Rattle.mctp_packet.specs.declared.TheConstants.{MOST_PACKETS};
+
+    /// How many packets there are, 1 to [`MOST_PACKETS`].
+    #[allow(clippy::len_without_is_empty)]
+    pub fn len(&self) -> usize
+        ensures value { result ≡ length self.now }
+        ensures some { 1 ≤ result }
+        ensures few { result ≤ MOST_PACKETS }
+    {
+        self.packets.len()
+    }
+
+    /// The bytes of packet `index`, counted from 0.
+    pub fn get(&self, index: usize) -> Option<&[u8]>
+        ensures { option_map (λ packet. packet.now) result ≡ slice_get self.now index }
+    {
+        self.packets.get(index).map(|packet| packet.as_slice())
+    }
+}
+
+/// Cuts a message into packets on this route: pieces of [`UNIT`] bytes, the last of 1 to [`UNIT`],
+/// SOM on the first, EOM on the last, and sequence numbers from 0 (DSP0236, "Packetizing a
+/// message").
+pub fn split(route: &Route, message: &[u8]) -> Result<Packets, SplitFault>
+    ensures packets { IfOk result (λ packets. packets ≡ written_packets route.now message.now) }
+    ensures empty { IsErrOf result SplitFault.Empty ↔ (message.now ≡ []) }
+    ensures too_long { IsErrOf result SplitFault.TooLong ↔ (MOST_MESSAGE_BYTES < length message.now) }
+{
+    if message.is_empty() {
+        return Err(SplitFault::Empty);
+    }
+    if message.len() > MOST_MESSAGE_BYTES {
+        return Err(SplitFault::TooLong);
+    }
+    let mut packets = ArrayVec::new();
+    for i in 0..message.len().div_ceil(UNIT) {
+        packets.push(bytes_at(*route, message, i));
+    }
+    Ok(Packets { packets })
+}
+
+/// The bytes of packet `i` of a message.
+fn bytes_at(route: Route, message: &[u8], i: usize) -> ArrayVec<u8, MOST_PACKET_BYTES>
+    requires { i < piece_count message.now }
+    ensures { result.items ≡ written (packet_at route message.now i) }
+{
+    let payload = piece_at(message, i);
+    let is_last = i + 1 == message.len().div_ceil(UNIT);
+    let packet = PacketRef::new(route, i == 0, is_last, number_at(i), payload).unwrap();
+    let mut bytes = ArrayVec::new();
+    bytes.try_extend_from_slice(&header_of(&packet)).unwrap();
+    bytes.try_extend_from_slice(payload).unwrap();
+    bytes
+}
+
+/// The sequence number of packet `i`.
+fn number_at(i: usize) -> Seq
+    ensures { result ≡ i % SEQUENCE_NUMBERS }
+{
+    Seq::new((i % SEQUENCE_NUMBERS as usize) as u8).unwrap()
+}
+
+/// Piece `i` of a message.
+fn piece_at(message: &[u8], i: usize) -> &[u8]
+    requires { i < piece_count message.now }
+    ensures value { result.now ≡ piece message.now i }
+    ensures size { HasPayloadSize result.now }
+{
+    let (_, rest) = message.split_at(UNIT * i);
+    if rest.len() <= UNIT {
+        return rest;
+    }
+    let (piece, _) = rest.split_at(UNIT);
+    piece
+}
