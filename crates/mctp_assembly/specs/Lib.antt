@@ -1,0 +1,6 @@
+pub mod Keys
+pub mod Opened
+pub mod Rows
+pub mod Steps
+pub mod Histories
+pub mod Laws

@@ -1,2 +1,12 @@
-//! Messages assembled from MCTP packets (DSP0236).
+//! Messages assembled from MCTP packets (DSP0236, "Message assembly").
 #![tactic(auto)]
+
+mod assembler;
+mod buffer;
+mod fed;
+mod key;
+pub mod laws;
+
+pub use assembler::{Assembler, MOST_ASSEMBLIES};
+pub use fed::Fed;
+pub use key::Key;

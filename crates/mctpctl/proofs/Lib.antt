@@ -5,6 +5,7 @@ pub mod DescriptionLiterals
 pub mod DividerRows
 pub mod DocumentText
 pub mod LineSplits
+pub mod LookingBack
 pub mod RunsOverLines
 pub mod WordSplits
 pub mod WorkedDescriptions

@@ -62,10 +62,39 @@ module _ {S : Type 0} (step : S → List ℕ → Result (List ℕ × S) LineKind
       e ∙ ap (after_text text) (first_line is_cut n s rest line after lines ∙ ap (λ r. line_then n r (λ u. lines_written step is_cut (n + 1) u (lines_of after))) taken) ∙ after_after text more (lines_written step is_cut (n + 1) t (lines_of after))
 
   -- a fault at a line ends the run as the input has it, or from outside
-  pub line_refused : (whole : Written) (is_cut : Bool) (n : ℕ) (s : S) (text rest line after : List ℕ) (old now new : Option (List ℕ)) (fault : EngineFault) → Appends old now text → whole ≡ after_text text (lines_written step is_cut n s (lines_of rest)) → lines_of rest ≡ line ∷ lines_of after → WritesLine {S = S} n (step s line) now new (Err fault) → Writes whole old new (Err fault)
-  line_refused whole is_cut n s text rest line after old now new fault before e lines (inl outside) = inl outside
-  line_refused whole is_cut n s text rest line after old now new fault before e lines (inr (kind, is, refused, kept)) =
+  pub line_refused : (whole : Written) (is_cut : Bool) (n : ℕ) (s : S) (text rest line after : List ℕ) (t : S) (old now new : Option (List ℕ)) (fault : EngineFault) → Appends old now text → whole ≡ after_text text (lines_written step is_cut n s (lines_of rest)) → lines_of rest ≡ line ∷ lines_of after → WritesLine n (step s line) t now new (Err fault) → Writes whole old new (Err fault)
+  line_refused whole is_cut n s text rest line after t old now new fault before e lines (inl outside) = inl outside
+  line_refused whole is_cut n s text rest line after t old now new fault before e lines (inr (kind, is, refused, kept)) =
       inr (
       stopped whole old now new text fault before kept
       (e ∙ ap (after_text text) (first_line is_cut n s rest line after lines ∙ ap (λ r. line_then n r (λ u. lines_written step is_cut (n + 1) u (lines_of after))) refused ∙ ap stops_at (sym is)))
       )
+
+-- two steps from states that stand for one another: the same text and such states again, or the same refusal
+abbrev pub SameStep : {S T : Type 0} → (S → T → Type 0) → Result (List ℕ × S) LineKind → Result (List ℕ × T) LineKind → Type 0
+SameStep Same (Ok (a, s)) (Ok (b, t)) = (a ≡ b) × Same s t
+SameStep Same (Err a) (Err b) = a ≡ b
+SameStep Same (Ok a) (Err b) = ⊥
+SameStep Same (Err a) (Ok b) = ⊥
+
+module _ {S T : Type 0} (f : S → List ℕ → Result (List ℕ × S) LineKind) (g : T → List ℕ → Result (List ℕ × T) LineKind) (Same : S → T → Type 0) (same_step : (s : S) (t : T) (line : List ℕ) → Same s t → SameStep Same (f s line) (g t line)) where
+  same_then : (n : ℕ) (a : Result (List ℕ × S) LineKind) (b : Result (List ℕ × T) LineKind) (p : S → Written) (q : T → Written) → SameStep Same a b → ((s : S) (t : T) → Same s t → p s ≡ q t) → line_then n a p ≡ line_then n b q
+  same_then n (Ok (a, s)) (Ok (b, t)) p q (text, stand) rest = ap (λ x. after_text x (p s)) text ∙ ap (after_text b) (rest s t stand)
+  same_then n (Err a) (Err b) p q kind rest = ap (λ k. stops_at (Line n k)) kind
+  same_then n (Ok a) (Err b) p q wrong rest = absurd wrong
+  same_then n (Err a) (Ok b) p q wrong rest = absurd wrong
+
+  same_last : (is_cut : Bool) (n : ℕ) (s : S) (t : T) (line : List ℕ) → Same s t → last_line f is_cut n s line ≡ last_line g is_cut n t line
+  same_last true n s t line stand = refl
+  same_last false n s t line stand = same_then n (f s line) (g t line) (λ _. ends) (λ _. ends) (same_step s t line stand) (λ _ _ _. refl)
+
+  same_from : (is_cut : Bool) (n : ℕ) (s : S) (t : T) (line : List ℕ) (more : List (List ℕ)) → Same s t → lines_from f is_cut n s line more ≡ lines_from g is_cut n t line more
+  same_from is_cut n s t line [] stand = same_last is_cut n s t line stand
+  same_from is_cut n s t line (next ∷ more) stand =
+      same_then n (f s line) (g t line) (λ u. lines_from f is_cut (n + 1) u next more) (λ u. lines_from g is_cut (n + 1) u next more) (same_step s t line stand) (λ u v later. same_from is_cut (n + 1) u v next more later)
+
+  -- two runs from states that stand for one another write the same
+  pub same_run : (is_cut : Bool) (n : ℕ) (s : S) (t : T) (lines : List (List ℕ)) → Same s t → lines_written f is_cut n s lines ≡ lines_written g is_cut n t lines
+  same_run true n s t [] stand = refl
+  same_run false n s t [] stand = refl
+  same_run is_cut n s t (line ∷ more) stand = same_from is_cut n s t line more stand

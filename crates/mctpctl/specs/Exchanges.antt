@@ -1,11 +1,13 @@
--- What becomes of one packet that a device receives: a drop, or an answer and the state after it.
-use Rattle.std.specs.Prelude.{ℕ, ◌&&◌, not, Bool, false, if◌then◌else◌, List, Option, None, Some, Result, Ok, Err}
+-- What becomes of one packet that a device receives: a drop, a wait for more packets, or an answer and the state after it.
+use Rattle.std.specs.Prelude.{ℕ, not, Bool, false, if◌then◌else◌, List, Option, None, Some, Result, Ok, Err}
 use Rattle.mctp_packet.specs.Packets.{Packet}
 use Rattle.mctp_packet.specs.Pieces.{written_packets}
 use Rattle.mctp_packet.specs.Reading.{reading}
 use Rattle.mctp_packet.specs.declared.packet.Route.{Route}
 use Rattle.mctp_packet.specs.declared.reason.Reason.{Reason}
-use Rattle.mctp_packet.specs.declared.reason.Reason.TheVariants.{BadTag, UnexpectedMiddleOrEnd}
+use Rattle.mctp_packet.specs.declared.reason.Reason.TheVariants.{BadTag}
+use Rattle.mctp_assembly.specs.declared.fed.Fed.{Fed}
+use Rattle.mctp_assembly.specs.declared.fed.Fed.TheVariants as fed
 use Rattle.pldm_wire.specs.Answers.{answer_message}
 use Rattle.pldm_wire.specs.CommandReading.{command_of}
 use Rattle.pldm_wire.specs.Requests.{Request, request_of}
@@ -15,7 +17,7 @@ use Rattle.pldm_wire.specs.declared.command.Command.{Command}
 use Rattle.mctpctl.specs.DeviceAnswers.{answer_of, state_after}
 use Rattle.mctpctl.specs.declared.device.Device.{Device}
 use Rattle.mctpctl.specs.declared.outcome.Outcome.{Outcome}
-use Rattle.mctpctl.specs.declared.outcome.Outcome.TheVariants.{Dropped, Answered}
+use Rattle.mctpctl.specs.declared.outcome.Outcome.TheVariants.{Dropped, Partial, Answered}
 
 -- a command that was read is answered by the device, a refused one with its completion code
 abbrev pub answer_to : Device → Result Command ℕ → Answer
@@ -37,22 +39,42 @@ next device request = after_command device (command_of request.kind request.rest
 abbrev pub way_back : Route → Route
 way_back route = record { destination = route.source; source = route.destination; owner = false; tag = route.tag }
 
+-- a message with a good header is answered, and any other dropped
 abbrev pub message_exchange : Device → Route → Result Request Reason → Outcome × Device
 message_exchange device route (Err reason) = (Dropped reason, device)
 message_exchange device route (Ok request) =
     (Answered (written_packets (way_back route) (reply device request)), next device request)
 
--- a request's packet has TO 1, and until there is an assembly it is a whole message
-abbrev pub packet_exchange : Device → Packet → Outcome × Device
-packet_exchange device p =
-    if not p.route.owner then (Dropped BadTag, device)
-    else if not (p.start && p.end) then (Dropped UnexpectedMiddleOrEnd, device)
-    else message_exchange device p.route (request_of p.payload)
+-- a whole message is looked at, and nothing else is
+abbrev pub fed_exchange : Device → Route → Fed → Outcome × Device
+fed_exchange device route (fed.Whole body) = message_exchange device route (request_of body.items)
+fed_exchange device route fed.Partial = (Partial, device)
+fed_exchange device route (fed.Dropped reason) = (Dropped reason, device)
 
-abbrev pub exchange_of : Device → Result Packet Reason → Outcome × Device
-exchange_of device (Err reason) = (Dropped reason, device)
-exchange_of device (Ok p) = packet_exchange device p
+-- a device, and what is known of the packets that came before
+pub record Place (M : Type 0) : Type 0 where
+  pub device : Device
+  pub packets : M
 
--- what the device of this endpoint ID makes of these bytes
-abbrev pub exchange : ℕ → Device → List ℕ → Outcome × Device
-exchange own device bytes = exchange_of device (reading (Some own) bytes)
+-- `gives` says what a packet gives after those that came before, and `with` puts it to them
+module _ {M : Type 0} (gives : M → Packet → Fed) (with : M → Packet → M) where
+  -- a request's packets have TO 1
+  abbrev pub packet_exchange : Place M → Packet → Outcome × Place M
+  packet_exchange place p =
+      if not p.route.owner
+      then (Dropped BadTag, place)
+      else (
+        (fed_exchange place.device p.route (gives place.packets p)).0,
+        record {
+          device = (fed_exchange place.device p.route (gives place.packets p)).1;
+          packets = with place.packets p;
+        },
+      )
+
+  abbrev pub exchange_of : Place M → Result Packet Reason → Outcome × Place M
+  exchange_of place (Err reason) = (Dropped reason, place)
+  exchange_of place (Ok p) = packet_exchange place p
+
+  -- what the device of this endpoint ID makes of these bytes
+  abbrev pub exchange : ℕ → Place M → List ℕ → Outcome × Place M
+  exchange own place bytes = exchange_of place (reading (Some own) bytes)

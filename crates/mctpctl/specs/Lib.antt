@@ -12,5 +12,6 @@ pub mod KeyValues
 pub mod LineRuns
 pub mod OutcomeTexts
 pub mod Ports
+pub mod Standings
 pub mod Statuses
 pub mod TextLines

@@ -56,9 +56,9 @@ Writes written old new result =
     (λ _. (written.fault ≡ None) × Appends old new written.text)
     (λ fault. IsOutside fault ⊎ ((written.fault ≡ Some fault) × Appends old new written.text))
 
--- a line that is taken has written its text; a refused one is told with its number and kind, and has written nothing
-abbrev pub WritesLine : {S : Type 0} → ℕ → Result (List ℕ × S) LineKind → Option (List ℕ) → Option (List ℕ) → Result S EngineFault → Type 0
-WritesLine {S} n stepped old new result =
+-- a line that is taken has written its text and left this state; a refused one is told with its number and kind, and has written nothing
+abbrev pub WritesLine : {S : Type 0} → ℕ → Result (List ℕ × S) LineKind → S → Option (List ℕ) → Option (List ℕ) → Result Unit EngineFault → Type 0
+WritesLine n stepped state old new result =
     MatchResult result
-    (λ state. (text : List ℕ) × (stepped ≡ Ok (text, state)) × Appends old new text)
+    (λ _. (text : List ℕ) × (stepped ≡ Ok (text, state)) × Appends old new text)
     (λ fault. IsOutside fault ⊎ ((kind : LineKind) × (fault ≡ Line n kind) × (stepped ≡ Err kind) × Keeps old new))

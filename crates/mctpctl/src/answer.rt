@@ -1,7 +1,10 @@
 //! The engine of `mctpctl answer`: a capture answered as the described device would.
 
 ghost use Rattle.std.specs.Prelude.{◌≡◌, ◌≢◌, ◌≤◌, ◌↔◌, Err, IfSome, IsErrOf, length, vec_len, true, false};
+ghost use Rattle.std.specs.FinMap as map;
+ghost use Rattle.mctp_assembly.specs.Steps.{answer, after};
 ghost use Rattle.mctpctl.specs.AnswerText.{step, run_of, answer_text};
+ghost use Rattle.mctpctl.specs.Standings.{standing_of};
 ghost use Rattle.mctpctl.specs.LineRuns.{Writes, WritesLine, last_line, lines_written};
 ghost use Rattle.mctpctl.specs.Ports.{inner_of, has_failed};
 ghost use Rattle.mctpctl.specs.TextLines.{lines_of};
@@ -10,12 +13,13 @@ use crate::capture::{CaptureFault, CaptureLine, read_capture_line};
 use crate::description::Description;
 use crate::description_fault::FileFault;
 use crate::device::Device;
-use crate::exchange::exchange;
+use crate::exchange::Terminus;
 use crate::faults::{EngineFault, LineKind};
 use crate::input::{Input, InputFault, read_input};
 use crate::limits::{MAX_CAPTURE_LINE, MAX_DESCRIPTION, MAX_INPUT};
 use crate::lines::{divide, split_line};
 use crate::port::Port;
+use mctp_assembly::{Assembler, laws};
 use mctp_packet::Eid;
 use std::alloc::Global;
 use std::io::{Read, Write};
@@ -24,10 +28,10 @@ use std::io::{Read, Write};
 mod tests;
 
 /// Where a run stands between two lines.
-#[derive(Clone, Copy)]
+#[derive(Drop)]
 pub struct Running {
-    /// The device's state.
-    pub device: Device,
+    /// The device and the messages that have begun to come.
+    pub terminus: Terminus,
     /// The moment of the last packet, in milliseconds.
     pub moment: u64,
 }
@@ -36,46 +40,49 @@ pub struct Running {
 fn answer_line<W: Write>(
     alloc: Global,
     own: Eid,
-    running: Running,
+    running: &mut Running,
     number: u64,
     line: &[u8],
     writer: &mut Port<W>,
-) -> Result<Running, EngineFault>
+) -> Result<(), EngineFault>
     requires { has_failed writer.old ≡ false }
-    ensures meets { WritesLine number (step own running line.now) (W.contents (inner_of writer.old)) (W.contents (inner_of writer.new)) result }
+    ensures meets { WritesLine number (step answer after own (standing_of running.old) line.now) (standing_of running.new)
+        (W.contents (inner_of writer.old)) (W.contents (inner_of writer.new)) result }
     ensures write { IsErrOf result EngineFault.Write ↔ (has_failed writer.new ≡ true) }
     ensures read { result ≢ Err EngineFault.Read }
     ensures device { result ≢ Err (EngineFault.Device FileFault.Memory) }
 {
     let (moment, bytes) = match read_capture_line(alloc, line, running.moment) {
         Ok(CaptureLine::Packet { moment, bytes }) => (moment, bytes),
-        Ok(CaptureLine::Skipped) => return Ok(running),
+        Ok(CaptureLine::Skipped) => return Ok(()),
         Err(CaptureFault::Line(kind)) => return Err(EngineFault::Line(number, kind)),
         Err(CaptureFault::Memory) => return Err(EngineFault::Memory),
     };
-    let mut device = running.device;
-    let outcome = exchange(own, &mut device, &bytes);
+    let Ok(outcome) = running.terminus.receive(own, &bytes) else {
+        return Err(EngineFault::Memory);
+    };
+    running.moment = moment;
     let Ok(text) = outcome.text(alloc) else {
         return Err(EngineFault::Memory);
     };
     if writer.write_all(text.as_bytes()).is_err() {
         return Err(EngineFault::Write);
     }
-    Ok(Running { device, moment })
+    Ok(())
 }
 
 /// Answers the last piece of the capture, which no LF ends.
 fn answer_last<W: Write>(
     alloc: Global,
     own: Eid,
-    running: Running,
+    mut running: Running,
     number: u64,
     line: &[u8],
     is_cut: bool,
     writer: &mut Port<W>,
 ) -> Result<(), EngineFault>
     requires { has_failed writer.old ≡ false }
-    ensures text { Writes (last_line (step own) is_cut number running line.now) (W.contents (inner_of writer.old)) (W.contents (inner_of writer.new)) result }
+    ensures text { Writes (last_line (step answer after own) is_cut number (standing_of running) line.now) (W.contents (inner_of writer.old)) (W.contents (inner_of writer.new)) result }
     ensures write { IsErrOf result EngineFault.Write ↔ (has_failed writer.new ≡ true) }
     ensures read { result ≢ Err EngineFault.Read }
     ensures device { result ≢ Err (EngineFault.Device FileFault.Memory) }
@@ -87,10 +94,7 @@ fn answer_last<W: Write>(
             EngineFault::TooLarge
         });
     }
-    match answer_line(alloc, own, running, number, line, writer) {
-        Ok(_) => Ok(()),
-        Err(fault) => Err(fault),
-    }
+    answer_line(alloc, own, &mut running, number, line, writer)
 }
 
 /// Answers the lines of a capture, the first of which has the number 1.
@@ -104,7 +108,7 @@ fn answer_lines<W: Write>(
 ) -> Result<(), EngineFault>
     requires works { has_failed writer.old ≡ false }
     requires size { length capture.now ≤ MAX_INPUT }
-    ensures text { Writes (lines_written (step own) is_cut 1 start (lines_of capture.now)) (W.contents (inner_of writer.old)) (W.contents (inner_of writer.new)) result }
+    ensures text { Writes (lines_written (step answer after own) is_cut 1 (standing_of start) (lines_of capture.now)) (W.contents (inner_of writer.old)) (W.contents (inner_of writer.new)) result }
     ensures write { IsErrOf result EngineFault.Write ↔ (has_failed writer.new ≡ true) }
     ensures read { result ≢ Err EngineFault.Read }
     ensures device { result ≢ Err (EngineFault.Device FileFault.Memory) }
@@ -113,10 +117,10 @@ fn answer_lines<W: Write>(
     let mut rest = capture;
     let mut number = 1;
     while let Some((line, after)) = split_line(rest) {
-        running = match answer_line(alloc, own, running, number, line, writer) {
-            Ok(running) => running,
+        match answer_line(alloc, own, &mut running, number, line, writer) {
+            Ok(()) => {}
             Err(fault) => return Err(fault),
-        };
+        }
         rest = after;
         number += 1;
     }
@@ -131,7 +135,7 @@ fn answer_input<W: Write>(
 ) -> Result<(), EngineFault>
     requires works { has_failed writer.old ≡ false }
     requires size { vec_len input.now.bytes ≤ MAX_INPUT }
-    ensures text { Writes (run_of input.now.is_cut input.now.bytes.items) (W.contents (inner_of writer.old)) (W.contents (inner_of writer.new)) result }
+    ensures text { Writes (run_of answer after map.empty input.now.is_cut input.now.bytes.items) (W.contents (inner_of writer.old)) (W.contents (inner_of writer.new)) result }
     ensures write { IsErrOf result EngineFault.Write ↔ (has_failed writer.new ≡ true) }
     ensures read { result ≢ Err EngineFault.Read }
     ensures device { result ≢ Err (EngineFault.Device FileFault.Memory) }
@@ -153,8 +157,11 @@ fn answer_input<W: Write>(
         Err(fault) => return Err(EngineFault::Device(fault)),
     };
     let start = Running {
-        device: Device {
-            tid: description.tid,
+        terminus: Terminus {
+            device: Device {
+                tid: description.tid,
+            },
+            assembler: Assembler::new(alloc),
         },
         moment: 0,
     };
@@ -184,6 +191,7 @@ pub fn answer_all<R: Read, W: Write>(
     ensures write { IsErrOf result EngineFault.Write ↔ (has_failed writer.new ≡ true) }
     ensures device { result ≢ Err (EngineFault.Device FileFault.Memory) }
 {
+    laws::looks_back();
     let input = match read_input(alloc, reader) {
         Ok(input) => input,
         Err(InputFault::Read) => return Err(EngineFault::Read),

@@ -1,41 +1,80 @@
 //! One packet in, and what becomes of it.
 
-ghost use Rattle.std.specs.Prelude.{◌≡◌, ◌<◌, ◌≤◌, length};
+ghost use Rattle.std.specs.Prelude.{◌≡◌, ◌<◌, ◌≤◌, IfOk, OnOk, OnErr, length};
+ghost use Rattle.mctp_assembly.specs.Steps.{answer, after};
 ghost use Rattle.mctp_packet.specs.Pieces.{written_packets};
-ghost use Rattle.mctpctl.specs.Exchanges.{exchange, packet_exchange, reply, next, way_back};
+ghost use Rattle.mctpctl.specs.Exchanges.{exchange, packet_exchange, fed_exchange, message_exchange, reply, next, way_back};
+ghost use Rattle.mctpctl.specs.Standings.{place_of};
 ghost use Rattle.mctpctl.specs.declared.outcome.Outcome.{Outcome};
+ghost use Rattle.pldm_wire.specs.Requests.{request_of};
 
 use crate::device::Device;
 use crate::outcome::Outcome;
+use mctp_assembly::{Assembler, Fed};
 use mctp_packet::{
-    Body, Eid, MOST_MESSAGE_BYTES, PacketRef, Packets, Reason, Route, read_for, split,
+    Body, Eid, MOST_MESSAGE_BYTES, Memory, PacketRef, Packets, Reason, Route, read_for, split,
 };
 use pldm_wire::{Answer, RequestRef, read_command, read_request, write_answer};
 
-/// What the device with the endpoint ID `own` makes of the packet in these bytes.
-pub fn exchange(own: Eid, device: &mut Device, bytes: &[u8]) -> Outcome
-    ensures outcome { result ≡ (exchange own device.old bytes.now).0 }
-    ensures state { device.new ≡ (exchange own device.old bytes.now).1 }
-{
-    match read_for(own, bytes) {
-        Err(reason) => Outcome::Dropped(reason),
-        Ok(packet) => packet_exchange(device, &packet),
+/// A device behind its endpoint.
+#[derive(Drop)]
+pub struct Terminus {
+    /// The device.
+    pub device: Device,
+    /// The messages that have begun to come.
+    pub assembler: Assembler,
+}
+
+impl Terminus {
+    /// Takes the packet in these bytes for the endpoint `own`, and gives what becomes of it.
+    ///
+    /// `Memory` where a growth was refused, and the terminus is then as before.
+    pub fn receive(&mut self, own: Eid, bytes: &[u8]) -> Result<Outcome, Memory>
+        ensures outcome { IfOk result (λ outcome. outcome ≡ (exchange answer after own (place_of self.old) bytes.now).0) }
+        ensures place { OnOk result (place_of self.new ≡ (exchange answer after own (place_of self.old) bytes.now).1) }
+        ensures memory { OnErr result (place_of self.new ≡ place_of self.old) }
+    {
+        match read_for(own, bytes) {
+            Err(reason) => Ok(Outcome::Dropped(reason)),
+            Ok(packet) => self.take(&packet),
+        }
+    }
+
+    /// Takes a packet that is addressed to the endpoint.
+    fn take(&mut self, packet: &PacketRef<'_>) -> Result<Outcome, Memory>
+        ensures outcome { IfOk result (λ outcome. outcome ≡ (packet_exchange answer after (place_of self.old) packet.now).0) }
+        ensures place { OnOk result (place_of self.new ≡ (packet_exchange answer after (place_of self.old) packet.now).1) }
+        ensures memory { OnErr result (place_of self.new ≡ place_of self.old) }
+    {
+        let route = packet.route();
+        if !route.owner {
+            return Ok(Outcome::Dropped(Reason::BadTag));
+        }
+        match self.assembler.feed(packet) {
+            Err(memory) => Err(memory),
+            Ok(fed) => Ok(fed_exchange(&mut self.device, route, &fed)),
+        }
     }
 }
 
-/// What the device makes of a packet that is addressed to it.
-fn packet_exchange(device: &mut Device, packet: &PacketRef<'_>) -> Outcome
-    ensures outcome { result ≡ (packet_exchange device.old packet.now).0 }
-    ensures state { device.new ≡ (packet_exchange device.old packet.now).1 }
+/// What becomes of a packet, by what it gives.
+fn fed_exchange(device: &mut Device, route: Route, fed: &Fed) -> Outcome
+    ensures outcome { result ≡ (fed_exchange device.old route fed.now).0 }
+    ensures device { device.new ≡ (fed_exchange device.old route fed.now).1 }
 {
-    let route = packet.route();
-    if !route.owner {
-        return Outcome::Dropped(Reason::BadTag);
+    match fed {
+        Fed::Whole(message) => message_exchange(device, route, message),
+        Fed::Partial => Outcome::Partial,
+        Fed::Dropped(reason) => Outcome::Dropped(*reason),
     }
-    if !(packet.start() && packet.end()) {
-        return Outcome::Dropped(Reason::UnexpectedMiddleOrEnd);
-    }
-    match read_request(packet.payload()) {
+}
+
+/// What the device makes of a whole message.
+fn message_exchange(device: &mut Device, route: Route, message: &[u8]) -> Outcome
+    ensures outcome { result ≡ (message_exchange device.old route (request_of message.now)).0 }
+    ensures device { device.new ≡ (message_exchange device.old route (request_of message.now)).1 }
+{
+    match read_request(message) {
         Err(reason) => Outcome::Dropped(reason),
         Ok(request) => {
             let message = reply(device, &request);

@@ -11,17 +11,20 @@ use std::alloc::Global;
 pub enum Outcome {
     /// It is dropped, for this reason.
     Dropped(Reason),
+    /// It begins a message of several packets, or goes on with one.
+    Partial,
     /// It is answered with the packets of one message.
     Answered(Packets),
 }
 
 impl Outcome {
-    /// Its lines: `drop NAME`, or the answer's packets in lower-case hex.
+    /// Its lines: `drop NAME`, `partial`, or the answer's packets in lower-case hex.
     pub fn text(&self, alloc: Global) -> Result<String, Memory>
         ensures { IfOk result (λ text. string_bytes text ≡ outcome_text self.now) }
     {
         match self {
             Outcome::Dropped(reason) => dropped_text(alloc, *reason),
+            Outcome::Partial => Ok(String::from_str(alloc, "partial\n")?),
             Outcome::Answered(packets) => packets_text(alloc, packets),
         }
     }

@@ -73,13 +73,40 @@ fn drops(rt: HostRuntime) -> Result<(), Fail> {
         ("0 010908c8", "drop NoPayload\n"),
         (long.as_str(), "drop UnsupportedUnit\n"),
         ("0 010908c001800002", "drop BadTag\n"),
-        ("0 0109088801800002", "drop UnexpectedMiddleOrEnd\n"),
+        ("0 0109084801800002", "drop UnexpectedMiddleOrEnd\n"),
         ("0 010908c802800002", "drop NotPldm\n"),
         ("0 010908c881800002", "drop Integrity\n"),
         ("0 010908c80180", "drop ShortHeader\n"),
         ("0 010908c801804002", "drop BadPldmHeader\n"),
         ("0 010908c801000002", "drop NotRequest\n"),
         ("0 010908c801c00002", "drop Datagram\n"),
+    ];
+    for (capture, text) in cases {
+        expect(&rt, rt.alloc(), capture, Ok(()), text)?;
+    }
+    Ok(())
+}
+
+#[test]
+fn messages_of_several_packets(rt: HostRuntime) -> Result<(), Fail> {
+    let cases = [
+        (
+            "0 010908880180\n0 010908880182\n0 010908580002",
+            "partial\npartial\n010809c0010200020001\n",
+        ),
+        (
+            "1 010908880180\n1 0109086805\n1 010908180001\n1 0109086805",
+            "partial\ndrop OutOfSequence\ndrop UnexpectedMiddleOrEnd\ndrop UnexpectedMiddleOrEnd\n",
+        ),
+        (
+            "2 010908880180\n2 010908180001\n2 0109086805",
+            "partial\npartial\n010809c00100000100\n",
+        ),
+        ("3 010908880180\n3 0109081800", "partial\ndrop WrongUnit\n"),
+        (
+            "4 0109088801\n4 0109081880\n4 0109082800\n4 0109083801\n4 0109084805",
+            "partial\npartial\npartial\npartial\ndrop TooLong\n",
+        ),
     ];
     for (capture, text) in cases {
         expect(&rt, rt.alloc(), capture, Ok(()), text)?;

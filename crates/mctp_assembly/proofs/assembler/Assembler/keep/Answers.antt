@@ -1,0 +1,50 @@
+use Rattle.std.specs.FinMap as map
+use Rattle.std.proofs.Common.{Some, None, ap, sym, ◌∙◌, is_some}
+use Rattle.std.specs.BTreeMap.{is_at}
+use Rattle.std.proofs.lemmas.Result.{on_ok_weaker, on_err_weaker}
+use Rattle.std.proofs.lemmas.Map.Steps.{set_value_same}
+use Rattle.std.proofs.lemmas.Map.Views.{All-keys-insert_entry}
+use Rattle.mctp_packet.specs.declared.TheConstants.{MOST_PACKETS}
+use Rattle.mctp_assembly.specs.Keys.{IsKey, key_cmp}
+use Rattle.mctp_assembly.specs.Steps.{answer_to, carried_on}
+use Rattle.mctp_assembly.proofs.HeldEntries.{held_at, carried_from_start, kept_in, not_alone}
+use Rattle.mctp_assembly.proofs.assembler.Assembler.keep.Goals as goal
+
+pub invariant_of-self-then-start : goal.invariant_of-self-then-start
+invariant_of-self-then-start c =
+    rw c.in_ok-insert.ensures.entries (All-keys-insert_entry key_cmp c.of-key.result c.in_ok-buffer.buffer IsKey c.self.inside.buffers.entries c.self.invariant c.of-key.ensures.range)
+
+pub returns-then-start-clause-ok : goal.returns-then-start-clause-ok
+returns-then-start-clause-ok c =
+    kept_in c.self.inside.buffers.entries c.insert.new.self.entries c.args.self.now c.of-key.result c.args.packet.now c.in_ok-buffer.buffer c.self.view_is c.of-key.ensures.value c.in_ok-insert.ensures.updates.0
+    (c.in_ok-buffer.ensures ∙ sym (carried_from_start _ c.args.packet.now (sym c.start.ensures ∙ c.if-start.true)))
+    c.requires
+
+pub append-requires-clause-partial : goal.append-requires-clause-partial
+append-requires-clause-partial c =
+    ap (λ o. answer_to MOST_PACKETS o c.args.packet.now) (held_at c.self.inside.buffers.entries c.args.self.now c.of-key.result _ (Some c.in-Some.buffer.now) c.self.view_is c.of-key.ensures.value c.in-Some.ensures.value)
+    ∙ c.requires
+
+pub unreachable-requires : goal.unreachable-requires
+unreachable-requires c =
+    not_alone c.args.packet.now (sym c.start.ensures ∙ c.if-start.false)
+    (ap (λ o. answer_to MOST_PACKETS o c.args.packet.now) (held_at c.self.inside.buffers.entries c.args.self.now c.of-key.result _ None c.self.view_is c.of-key.ensures.value c.in-None.ensures.value)
+    ∙ c.requires)
+
+pub returns-clause-ok : goal.returns-clause-ok
+returns-clause-ok c =
+    let here = c.in-Some.ensures.value in
+    let w = c.append.new.self in
+    on_ok_weaker c.append.result
+    (λ carried. kept_in c.self.inside.buffers.entries (c.get_mut.follows.lender w).entries c.args.self.now c.of-key.result c.args.packet.now w c.self.view_is c.of-key.ensures.value ((c.get_mut.follows.holds w).3 (ap is_some (sym here))).0
+    (carried ∙ ap (λ o. carried_on o c.args.packet.now) (held_at c.self.inside.buffers.entries c.args.self.now c.of-key.result _ (Some c.in-Some.buffer.now) c.self.view_is c.of-key.ensures.value here))
+    c.requires)
+    c.append.ensures.ok
+
+pub returns-clause-err : goal.returns-clause-err
+returns-clause-err c =
+    let w = c.append.new.self in
+    let es = c.self.inside.buffers.entries in
+    on_err_weaker c.append.result
+    (λ same. ap (λ fs. map.from_entries fs) ((c.get_mut.follows.holds w).0 ∙ set_value_same (is_at (key_cmp c.of-key.result)) es w (sym c.in-Some.ensures.value ∙ ap Some (sym same))) ∙ c.self.view_is)
+    c.append.ensures.err

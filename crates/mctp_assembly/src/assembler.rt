@@ -1,0 +1,120 @@
+ghost use Rattle.std.specs.FinMap as map;
+ghost use Rattle.std.specs.Prelude.{◌≡◌, ◌≤◌, IfOk, OnOk, OnErr, true, false};
+ghost use Rattle.mctp_assembly.specs.Keys.{IsKey};
+ghost use Rattle.mctp_assembly.specs.Steps.{answer, after, carried_on};
+ghost use Rattle.mctp_assembly.specs.declared.fed.Fed.TheVariants.{Partial};
+
+use crate::buffer::{Buffer, look_alone};
+use crate::{Fed, Key};
+use mctp_packet::{Memory, PacketRef};
+use std::alloc::Global;
+use std::collections::BTreeMap;
+use std::marker::Model;
+
+/// The most assemblies at a time: one for each endpoint ID that a packet can come from (247), each
+/// tag (8) and each value of the tag owner bit (2).
+pub const MOST_ASSEMBLIES: usize = 247 * 8 * 2;
+
+/// Assembles messages from packets that came to one endpoint: at most one message at a time for
+/// each [`Key`].
+#[derive(Debug, Drop)]
+pub struct Assembler {
+    alloc: Global,
+    buffers: BTreeMap<Key, Buffer>,
+}
+
+impl Model for Assembler {
+    ghost use Rattle.std.specs.FinMap as map;
+    ghost use Rattle.std.specs.Prelude.{All};
+    ghost use Rattle.std.specs.BTreeMap.{keys};
+    ghost use Rattle.mctp_assembly.specs.Keys.{IsKey, key_cmp, coded_key};
+    ghost use Rattle.mctp_assembly.specs.Opened.{Opened, coded_opened};
+
+    ghost Value = { map.FinMap key_cmp Opened };
+
+    ghost coded = { map.code coded_key coded_opened };
+
+    ghost view = { λ a. map.from_entries a.buffers.entries };
+
+    ghost invariant = { λ a. All IsKey (keys a.buffers) };
+}
+
+impl Assembler {
+    /// An assembler with no assembly.
+    pub fn new(alloc: Global) -> Assembler
+        ensures { result ≡ map.empty }
+    {
+        Assembler {
+            alloc,
+            buffers: BTreeMap::new(alloc),
+        }
+    }
+
+    /// Takes a packet, and gives what it gives after the packets of its key (DSP0236, "Message
+    /// assembly" and "Terminating message assembly/dropped packets").
+    ///
+    /// A start packet ends an assembly in progress on its key. Any other packet ends it too, but
+    /// one that gives `Partial`.
+    ///
+    /// # Errors
+    ///
+    /// `Memory` where a growth was refused, which only a packet that gives `Partial` wants; the
+    /// assembler is then as before.
+    pub fn feed(&mut self, packet: &PacketRef<'_>) -> Result<Fed, Memory>
+        ensures fed { IfOk result (λ fed. fed ≡ answer self.old packet.now) }
+        ensures ok { OnOk result (self.new ≡ after self.old packet.now) }
+        ensures memory { OnErr result (answer self.old packet.now ≡ Partial) }
+        ensures err { OnErr result (self.new ≡ self.old) }
+    {
+        let fed = self.look(packet);
+        if let Fed::Partial = fed {
+            self.keep(packet)?;
+            return Ok(Fed::Partial);
+        }
+        self.forget(Key::of(packet));
+        Ok(fed)
+    }
+
+    /// What [`Assembler::feed`] would give for this packet; nothing is changed.
+    pub fn look(&self, packet: &PacketRef<'_>) -> Fed
+        ensures { result ≡ answer self.now packet.now }
+    {
+        match self.buffers.get(&Key::of(packet)) {
+            Some(buffer) => buffer.look(packet),
+            None => look_alone(packet),
+        }
+    }
+
+    /// Keeps a packet that gives `Partial`. An `Err` changes nothing.
+    fn keep(&mut self, packet: &PacketRef<'_>) -> Result<(), Memory>
+        requires { answer self.old packet.now ≡ Partial }
+        ensures ok { OnOk result (self.new ≡ after self.old packet.now) }
+        ensures err { OnErr result (self.new ≡ self.old) }
+    {
+        let key = Key::of(packet);
+        if packet.start() {
+            let buffer = Buffer::new(self.alloc, packet)?;
+            self.buffers.insert(key, buffer)?;
+            return Ok(());
+        }
+        match self.buffers.get_mut(&key) {
+            Some(buffer) => buffer.append(packet),
+            None => unreachable!(),
+        }
+    }
+
+    /// Ends the assembly of this key, if there is one.
+    pub fn forget(&mut self, key: Key)
+        ensures { self.new ≡ map.remove self.old key }
+    {
+        self.buffers.remove(&key);
+    }
+
+    /// How many assemblies are in progress, at most [`MOST_ASSEMBLIES`].
+    pub fn pending(&self) -> usize
+        ensures value { result ≡ map.len self.now }
+        ensures few { result ≤ MOST_ASSEMBLIES }
+    {
+        self.buffers.len()
+    }
+}

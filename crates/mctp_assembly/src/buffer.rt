@@ -1,0 +1,113 @@
+ghost use Rattle.std.specs.Prelude.{◌≡◌, ◌+◌, ◌≤◌, ◌++◌, length, Some, IfOk, OnOk, OnErr, false};
+ghost use Rattle.mctp_assembly.specs.Steps.{answer_alone, answer_to, begun_by, carried_on};
+ghost use Rattle.mctp_assembly.specs.declared.fed.Fed.TheVariants.{Partial};
+
+use crate::Fed;
+use mctp_packet::{
+    Body, MOST_MESSAGE_BYTES, MOST_PACKETS, Memory, PacketRef, Reason, SEQUENCE_NUMBERS, Seq,
+};
+use std::alloc::Global;
+use std::marker::Model;
+
+/// The packets of a message that has begun and not ended.
+#[derive(Debug, Drop)]
+pub(crate) struct Buffer {
+    /// The payload length of the start packet.
+    unit: usize,
+    /// The sequence number of the last packet.
+    last: Seq,
+    /// How many packets there are.
+    count: usize,
+    /// Their payloads, joined.
+    bytes: Vec<u8>,
+}
+
+impl Model for Buffer {
+    ghost use Rattle.mctp_assembly.specs.Opened.{Opened, IsOpened, coded_opened};
+
+    ghost Value = { Opened };
+
+    ghost coded = { coded_opened };
+
+    ghost view = { λ b. record { unit = b.unit; last = b.last; count = b.count; bytes = b.bytes.items } };
+
+    ghost invariant = { λ b. IsOpened (record { unit = b.unit; last = b.last; count = b.count; bytes = b.bytes.items }) };
+}
+
+impl Buffer {
+    /// The buffer that a start packet opens.
+    pub(crate) fn new(alloc: Global, packet: &PacketRef<'_>) -> Result<Buffer, Memory>
+        ensures { IfOk result (λ buffer. buffer ≡ begun_by packet.now) }
+    {
+        let payload = packet.payload();
+        Ok(Buffer {
+            unit: payload.len(),
+            last: packet.seq(),
+            count: 1,
+            bytes: Vec::from_slice(alloc, payload)?,
+        })
+    }
+
+    /// What a packet gives after the packets here.
+    pub(crate) fn look(&self, packet: &PacketRef<'_>) -> Fed
+        ensures { result ≡ answer_to MOST_PACKETS (Some self.now) packet.now }
+    {
+        if packet.start() {
+            return look_alone(packet);
+        }
+        if packet.seq().get() != (self.last.get() + 1) % SEQUENCE_NUMBERS {
+            return Fed::Dropped(Reason::OutOfSequence);
+        }
+        if self.count == MOST_PACKETS {
+            return Fed::Dropped(Reason::TooLong);
+        }
+        let payload = packet.payload();
+        if packet.end() {
+            if payload.len() > self.unit {
+                return Fed::Dropped(Reason::WrongUnit);
+            }
+            return Fed::Whole(joined(&self.bytes, payload));
+        }
+        if payload.len() != self.unit {
+            return Fed::Dropped(Reason::WrongUnit);
+        }
+        Fed::Partial
+    }
+
+    /// Adds a middle packet of the message. An `Err` changes nothing.
+    pub(crate) fn append(&mut self, packet: &PacketRef<'_>) -> Result<(), Memory>
+        requires partial { answer_to MOST_PACKETS (Some self.old) packet.now ≡ Partial }
+        requires middle { packet.now.start ≡ false }
+        ensures ok { OnOk result (self.new ≡ carried_on (Some self.old) packet.now) }
+        ensures err { OnErr result (self.new ≡ self.old) }
+    {
+        self.bytes.extend_from_slice(packet.payload())?;
+        self.last = packet.seq();
+        self.count += 1;
+        Ok(())
+    }
+}
+
+/// What a packet gives where nothing is open on its key, and what a start packet gives in any case.
+pub(crate) fn look_alone(packet: &PacketRef<'_>) -> Fed
+    ensures { result ≡ answer_alone packet.now }
+{
+    if !packet.start() {
+        return Fed::Dropped(Reason::UnexpectedMiddleOrEnd);
+    }
+    if packet.end() {
+        return Fed::Whole(joined(&[], packet.payload()));
+    }
+    Fed::Partial
+}
+
+/// The bytes of a message: those that came before its last packet, and that one's payload.
+fn joined(before: &[u8], payload: &[u8]) -> Body
+    requires { length before.now + length payload.now ≤ MOST_MESSAGE_BYTES }
+    ensures { result ≡ record { items = before.now ++ payload.now } }
+{
+    let mut body = Body::new();
+    body.try_extend_from_slice(before).unwrap();
+    body.try_extend_from_slice(payload).unwrap();
+    body
+}

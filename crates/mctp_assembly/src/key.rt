@@ -1,0 +1,32 @@
+ghost use Rattle.std.specs.Prelude.{◌≡◌};
+ghost use Rattle.mctp_assembly.specs.Keys.{IsKey, key_of};
+
+use mctp_packet::{Eid, PacketRef, Tag};
+
+/// Whose messages are assembled one at a time: packets of one source, tag and tag owner bit
+/// (DSP0236, "Message assembly").
+#[derive(Clone, Copy, Debug, PartialEq, Eq, PartialOrd, Ord)]
+pub struct Key {
+    /// The endpoint that the packets come from.
+    pub source: Eid,
+    /// The message tag.
+    pub tag: Tag,
+    /// The tag owner bit, TO.
+    pub owner: bool,
+}
+
+impl Key {
+    /// The key of a packet.
+    pub(crate) fn of(packet: &PacketRef<'_>) -> Key
+        ensures value { result ≡ key_of packet.now }
+        ensures range { IsKey result }
+    {
+        let route = packet.route();
+        prove!(route.source.get() >= 8 && route.source.get() <= 254 && route.tag.get() <= 7);
+        Key {
+            source: route.source,
+            tag: route.tag,
+            owner: route.owner,
+        }
+    }
+}
