@@ -1,5 +1,5 @@
 -- Which task command lines that are written out name.
-use Rattle.std.proofs.Common.{◌≡◌, ℕ, List, [], ◌∷◌, codes, None, Some, refl}
+use Rattle.std.proofs.Common.{◌≡◌, [], ◌∷◌, codes, None, Some, refl}
 use Rattle.clap.proofs.OnLiterals.{clap_on_literals}
 use Rattle.clap.specs.Words.{fault_of}
 use Rattle.clap.specs.declared.error.kind.ErrorKind.TheVariants.{DisplayHelp, MissingSubcommand}

@@ -1,23 +1,19 @@
 -- The engine's run over what it holds writes the same as the run that looks back over all packets.
 use Rattle.std.specs.FinMap as map
-use Rattle.std.proofs.Common.{◌≡◌, ℕ, Bool, true, false, not, if◌then◌else◌, List, [], ◌∷◌, length, nat_lt, Option, None, Some, Result, Ok, Err, refl, sym, subst, ap, ◌∙◌, lit≤}
+use Rattle.std.proofs.Common.{◌≡◌, ℕ, Bool, true, false, not, if◌then◌else◌, List, [], length, nat_lt, Option, None, Some, Result, Ok, Err, refl, sym, subst, ap, ◌∙◌, lit≤}
 use Rattle.mctp_packet.specs.Packets.{Packet}
 use Rattle.mctp_packet.specs.Reading.{reading}
-use Rattle.mctp_packet.specs.declared.packet.Route.{Route}
 use Rattle.mctp_packet.specs.declared.reason.Reason.{Reason}
 use Rattle.mctp_packet.specs.declared.reason.Reason.TheVariants.{BadTag}
 use Rattle.mctp_packet.specs.declared.TheConstants.{MOST_PACKETS}
-use Rattle.mctp_assembly.specs.Histories.{Call, feed, since, IsLeftBy}
-use Rattle.mctp_assembly.specs.Keys.{key_of}
+use Rattle.mctp_assembly.specs.Histories.{Call, IsLeftBy}
 use Rattle.mctp_assembly.specs.Laws.{FeedLooksBack, NewLooksBack}
-use Rattle.mctp_assembly.specs.Rows as rows
 use Rattle.mctp_assembly.specs.Steps.{Held, answer, after}
-use Rattle.mctp_assembly.specs.declared.fed.Fed.{Fed}
 use Rattle.mctpctl.specs.AnswerText.{Standing, stepped, step, start_of, described_run, divided_run, run_of, looked_back, with_packet}
 use Rattle.mctpctl.specs.CaptureLine.{TimedPacket, capture_of}
 use Rattle.mctpctl.specs.Descriptions.{stated}
-use Rattle.mctpctl.specs.Exchanges.{Place, fed_exchange, packet_exchange, exchange_of, exchange}
-use Rattle.mctpctl.specs.LineRuns.{Written, stops_at, lines_written}
+use Rattle.mctpctl.specs.Exchanges.{Place, fed_exchange, exchange_of}
+use Rattle.mctpctl.specs.LineRuns.{stops_at}
 use Rattle.mctpctl.specs.OutcomeTexts.{outcome_text}
 use Rattle.mctpctl.specs.TextLines.{lines_of, capture_lines, description_of}
 use Rattle.mctpctl.specs.declared.description.Description.{Description}

@@ -1,12 +1,12 @@
 -- A run over lines, one line further: what it has written, and what the lines that are left give.
-use Rattle.std.proofs.Common.{◌≡◌, ◌⊎◌, inl, inr, ℕ, ◌+◌, ◌<◌, Bool, true, false, List, [], ◌∷◌, ◌++◌, ◌==◌, length, Option, None, Some, Result, Ok, Err, refl, sym, ap, ◌∙◌, subst, append_assoc, append-nil, arith}
+use Rattle.std.proofs.Common.{◌≡◌, inl, inr, ℕ, ◌+◌, ◌<◌, Bool, true, false, List, [], ◌∷◌, ◌++◌, ◌==◌, length, Option, Some, Result, Ok, Err, refl, sym, ap, ◌∙◌, append_assoc, append-nil, arith}
 use Rattle.std.specs.Io.KnownBytes.{Appends, Keeps}
 use Rattle.std.proofs.KnownBytes.{Appends-trans, Appends-kept}
 use Rattle.std.proofs.lemmas.List.Splits.{length-slice_split}
 use Rattle.mctpctl.specs.declared.faults.EngineFault.{EngineFault}
 use Rattle.mctpctl.specs.declared.faults.EngineFault.TheVariants.{Line}
 use Rattle.mctpctl.specs.declared.faults.LineKind.{LineKind}
-use Rattle.mctpctl.specs.LineRuns.{Written, ends, stops_at, after_text, line_then, last_line, lines_from, lines_written, Writes, WritesLine, IsOutside}
+use Rattle.mctpctl.specs.LineRuns.{Written, ends, stops_at, after_text, line_then, last_line, lines_from, lines_written, Writes, WritesLine}
 use Rattle.mctpctl.specs.TextLines.{lines_of}
 
 abbrev with_fault : Option EngineFault → List ℕ → Written

@@ -1,5 +1,5 @@
 -- What becomes of one packet that a device receives: a drop, a wait for more packets, or an answer and the state after it.
-use Rattle.std.specs.Prelude.{ℕ, not, Bool, false, if◌then◌else◌, List, Option, None, Some, Result, Ok, Err}
+use Rattle.std.specs.Prelude.{ℕ, not, false, if◌then◌else◌, List, Some, Result, Ok, Err}
 use Rattle.mctp_packet.specs.Packets.{Packet}
 use Rattle.mctp_packet.specs.Pieces.{written_packets}
 use Rattle.mctp_packet.specs.Reading.{reading}

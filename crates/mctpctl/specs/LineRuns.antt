@@ -1,5 +1,5 @@
 -- What a run over the lines of its input writes, line by line, and the fault that ends it.
-use Rattle.std.specs.Prelude.{◌≡◌, ◌⊎◌, ℕ, ◌+◌, Bool, true, false, nat_lt, if◌then◌else◌, List, [], ◌∷◌, ◌++◌, length, Option, None, Some, Result, Ok, Err, MatchResult}
+use Rattle.std.specs.Prelude.{◌≡◌, ◌⊎◌, ℕ, ◌+◌, Bool, nat_lt, if◌then◌else◌, List, [], ◌∷◌, ◌++◌, length, Option, None, Some, Result, Ok, Err, MatchResult}
 use Rattle.std.specs.Io.KnownBytes.{Appends, Keeps}
 use Rattle.mctpctl.specs.declared.faults.EngineFault.{EngineFault}
 use Rattle.mctpctl.specs.declared.faults.EngineFault.TheVariants.{Line, TooLarge, Read, Write, Memory}

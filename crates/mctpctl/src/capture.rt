@@ -1,10 +1,9 @@
 //! One line of a capture: `MS`, or `MS HEX`.
 
-ghost use Rattle.std.specs.Prelude.{◌≡◌, ◌≢◌, ◌≤◌, ◌<◌, ◌⊎◌, ◌==◌, ◌∷◌, [], ℕ, MatchResult, Ok, Err, IfOk, IfErr, IfSome, IfNone, true, length, position, slice_get, Some, None};
+ghost use Rattle.std.specs.Prelude.{◌≡◌, ◌≢◌, ◌≤◌, ◌==◌, ◌∷◌, [], ℕ, MatchResult, Ok, Err, IfOk, IfErr, IfSome, IfNone, true, position, slice_get, Some, None};
 ghost use Rattle.mctpctl.specs.CaptureLine.{capture_of, packet_in, packet_at, packet_word, timed_packet, words_of, is_digit, is_number, decimal_value, moment_of, TellsFault};
 ghost use Rattle.std.specs.List.{list_all};
 ghost use Rattle.hex.specs.Hex.{decode_of};
-ghost use Rattle.mctpctl.specs.declared.faults.LineKind.{LineKind};
 
 use crate::faults::LineKind;
 use crate::limits::{MAX_CAPTURE_LINE, MAX_DIGITS};

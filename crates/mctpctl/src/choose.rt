@@ -7,6 +7,7 @@ ghost use Rattle.mctpctl.specs.Choice.{command as the_command, task_named, task_
 use clap::error::ErrorKind;
 use clap::{ArgMatches, Command};
 use std::alloc::{AllocError, Global};
+use thiserror::Error;
 
 /// What the program is asked to do.
 #[derive(Clone, Copy, Debug, PartialEq, Eq)]
@@ -16,13 +17,16 @@ pub enum Task {
 }
 
 /// Why there is no task.
-#[derive(Debug, Drop)]
+#[derive(Debug, Drop, Error)]
 pub enum ChooseFault {
     /// Help was asked for: this is its text, and the exit status is 0.
+    #[error("{0}")]
     Help(String),
     /// The line was refused: this says why, and the exit status is 2.
+    #[error("{0}")]
     Refused(String),
     /// No memory was left; the exit status is 3.
+    #[error("out of memory")]
     Memory,
 }
 

@@ -5,7 +5,8 @@ ghost use Rattle.mctpctl.specs.FaultTexts.{fault_text, name_of_line_kind};
 ghost use Rattle.mctpctl.specs.Statuses.{status_of_fault};
 
 use crate::description_fault::FileFault;
-use std::alloc::{AllocError, Global};
+use mctp_packet::Memory;
+use std::alloc::Global;
 use std::{error, fmt};
 use thiserror::Error;
 
@@ -92,10 +93,10 @@ pub fn status_of(fault: &EngineFault) -> u8
 }
 
 /// The text that the program prints of the fault after `mctpctl: `, with no line end.
-pub fn fault_line(alloc: Global, fault: &EngineFault) -> Result<String, AllocError>
+pub fn fault_line(alloc: Global, fault: &EngineFault) -> Result<String, Memory>
     ensures { IfOk result (λ text. string_bytes text ≡ fault_text fault.now) }
 {
-    fault.to_string(alloc)
+    Ok(fault.to_string(alloc)?)
 }
 
 #[cfg(test)]

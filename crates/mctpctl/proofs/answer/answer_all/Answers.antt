@@ -1,6 +1,5 @@
 -- The bytes that were read are the front of all that the reader gives, and the flush leaves what was written.
-use Rattle.std.proofs.Common.{◌≡◌, ℕ, Bool, List, [], Option, Some, None, Result, IfSome, subst, sym}
-use Rattle.std.specs.Io.KnownBytes.{Keeps}
+use Rattle.std.proofs.Common.{ℕ, Bool, List, [], Option, Some, None, Result, IfSome}
 use Rattle.mctpctl.specs.AnswerText.{answer_text, run_of, looked_back, with_packet}
 use Rattle.mctpctl.specs.BoundedRead.{ReadUpTo}
 use Rattle.mctpctl.specs.LineRuns.{Writes}

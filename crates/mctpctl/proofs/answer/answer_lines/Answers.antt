@@ -1,11 +1,10 @@
 -- Each line extends what was written, or ends the run as its text has it.
-use Rattle.std.proofs.Common.{◌+◌, ◌++◌, ◌∙◌, ap, arith, rules}
+use Rattle.std.proofs.Common.{◌++◌, ◌∙◌, ap, arith, rules}
 use Rattle.std.proofs.KnownBytes.{Appends-trans}
 use Rattle.mctp_assembly.specs.Steps.{answer, after}
 use Rattle.mctpctl.specs.AnswerText.{step}
 use Rattle.mctpctl.specs.LineRuns.{after_text, lines_written}
 use Rattle.mctpctl.specs.Standings.{standing_of}
-use Rattle.mctpctl.specs.TextLines.{lines_of}
 use Rattle.mctpctl.proofs.RunsOverLines.{line_taken, line_refused, Writes-after}
 use Rattle.mctpctl.proofs.answer.answer_lines.Goals as goal
 

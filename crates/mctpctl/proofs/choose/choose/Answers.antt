@@ -1,5 +1,5 @@
 -- What `clap` refuses is no task, and the kind of its error tells help from the other refusals.
-use Rattle.std.proofs.Common.{◌≡◌, ◌⊎◌, ◌==◌, ℕ, true, false, inl, inr, cond, map, List, [], ◌∷◌, length, Option, None, subst, refl, arith, rules}
+use Rattle.std.proofs.Common.{◌≡◌, ◌==◌, ℕ, true, false, inl, inr, cond, map, List, [], ◌∷◌, length, Option, None, subst, refl, rules}
 use Rattle.std.proofs.lemmas.Bool.Decides.{nat_tests}
 use Rattle.clap.proofs.OnLiterals.{clap_on_literals}
 use Rattle.clap.specs.Words.{App, app_of, fault_of, is_simple_and_free, kind_of, HasKind, IsAmong, Kinds}
@@ -7,7 +7,7 @@ use Rattle.clap.specs.declared.error.Error.{Error}
 use Rattle.clap.specs.declared.error.kind.ErrorKind.{ErrorKind}
 use Rattle.clap.specs.declared.error.kind.ErrorKind.TheVariants.{DisplayHelp, OutOfMemory}
 use Rattle.mctpctl.specs.Choice.{command as the_command}
-use Rattle.mctpctl.specs.Choice.{task_of, TellsKind, TellsRefusal}
+use Rattle.mctpctl.specs.Choice.{TellsKind, TellsRefusal}
 use Rattle.mctpctl.specs.declared.choose.Task.{Task}
 use Rattle.mctpctl.specs.declared.choose.ChooseFault.{ChooseFault}
 use Rattle.mctpctl.specs.declared.choose.ChooseFault.TheVariants.{Help, Refused, Memory}
