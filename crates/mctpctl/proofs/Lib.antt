@@ -9,3 +9,4 @@ pub mod LookingBack
 pub mod RunsOverLines
 pub mod WordSplits
 pub mod WorkedDescriptions
+pub mod ExchangeRows
