@@ -1,12 +1,12 @@
 ghost use Rattle.std.specs.FinMap as map;
-ghost use Rattle.std.specs.Prelude.{◌≡◌, ◌≤◌, IfOk, OnOk, OnErr, true, false};
-ghost use Rattle.mctp_assembly.specs.Keys.{IsKey};
-ghost use Rattle.mctp_assembly.specs.Steps.{answer, after, carried_on};
+ghost use Rattle.std.specs.Prelude.{◌≡◌, ◌≤◌, length, IfOk, OnOk, OnErr, IfSome};
+ghost use Rattle.mctp_assembly.specs.Steps.{answer, after};
+ghost use Rattle.mctp_assembly.specs.declared.key.Key.{Key};
 ghost use Rattle.mctp_assembly.specs.declared.fed.Fed.TheVariants.{Partial};
 
 use crate::buffer::{Buffer, look_alone};
 use crate::{Fed, Key};
-use mctp_packet::{Memory, PacketRef};
+use mctp_packet::{MOST_MESSAGE_BYTES, Memory, PacketRef};
 use std::alloc::Global;
 use std::collections::BTreeMap;
 use std::marker::Model;
@@ -26,9 +26,9 @@ pub struct Assembler {
 impl Model for Assembler {
     ghost use Rattle.std.specs.FinMap as map;
     ghost use Rattle.std.specs.Prelude.{All};
-    ghost use Rattle.std.specs.BTreeMap.{keys};
+    ghost use Rattle.std.specs.BTreeMap.{keys, values};
     ghost use Rattle.mctp_assembly.specs.Keys.{IsKey, key_cmp, coded_key};
-    ghost use Rattle.mctp_assembly.specs.Opened.{Opened, coded_opened};
+    ghost use Rattle.mctp_assembly.specs.Opened.{Opened, IsOpened, coded_opened};
 
     ghost Value = { map.FinMap key_cmp Opened };
 
@@ -36,7 +36,7 @@ impl Model for Assembler {
 
     ghost view = { λ a. map.from_entries a.buffers.entries };
 
-    ghost invariant = { λ a. All IsKey (keys a.buffers) };
+    ghost invariant = { λ a. All IsKey (keys a.buffers) × All IsOpened (values a.buffers) };
 }
 
 impl Assembler {
@@ -110,10 +110,12 @@ impl Assembler {
         self.buffers.remove(&key);
     }
 
-    /// How many assemblies are in progress, at most [`MOST_ASSEMBLIES`].
+    /// How many assemblies are in progress: at most [`MOST_ASSEMBLIES`], each of at most
+    /// [`MOST_MESSAGE_BYTES`] bytes.
     pub fn pending(&self) -> usize
         ensures value { result ≡ map.len self.now }
         ensures few { result ≤ MOST_ASSEMBLIES }
+        ensures small { (key : Key) → IfSome (map.get self.now key) (λ o. length o.bytes ≤ MOST_MESSAGE_BYTES) }
     {
         self.buffers.len()
     }

@@ -1,4 +1,5 @@
 ghost use Rattle.std.specs.Prelude.{◌≡◌, ◌+◌, ◌≤◌, ◌++◌, length, Some, IfOk, OnOk, OnErr, false};
+ghost use Rattle.mctp_assembly.specs.Opened.{IsOpened};
 ghost use Rattle.mctp_assembly.specs.Steps.{answer_alone, answer_to, begun_by, carried_on};
 ghost use Rattle.mctp_assembly.specs.declared.fed.Fed.TheVariants.{Partial};
 
@@ -37,7 +38,8 @@ impl Model for Buffer {
 impl Buffer {
     /// The buffer that a start packet opens.
     pub(crate) fn new(alloc: Global, packet: &PacketRef<'_>) -> Result<Buffer, Memory>
-        ensures { IfOk result (λ buffer. buffer ≡ begun_by packet.now) }
+        ensures value { IfOk result (λ buffer. buffer ≡ begun_by packet.now) }
+        ensures range { IfOk result IsOpened }
     {
         let payload = packet.payload();
         Ok(Buffer {
@@ -80,6 +82,7 @@ impl Buffer {
         requires middle { packet.now.start ≡ false }
         ensures ok { OnOk result (self.new ≡ carried_on (Some self.old) packet.now) }
         ensures err { OnErr result (self.new ≡ self.old) }
+        ensures range { IsOpened self.new }
     {
         self.bytes.extend_from_slice(packet.payload())?;
         self.last = packet.seq();

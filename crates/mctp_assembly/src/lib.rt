@@ -10,3 +10,8 @@ pub mod laws;
 pub use assembler::{Assembler, MOST_ASSEMBLIES};
 pub use fed::Fed;
 pub use key::Key;
+
+#[cfg(test)]
+mod hoard;
+#[cfg(test)]
+mod tests;

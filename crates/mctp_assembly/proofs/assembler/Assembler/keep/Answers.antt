@@ -3,21 +3,33 @@ use Rattle.std.proofs.Common.{Some, None, ap, sym, ◌∙◌, is_some}
 use Rattle.std.specs.BTreeMap.{is_at}
 use Rattle.std.proofs.lemmas.Result.{on_ok_weaker, on_err_weaker}
 use Rattle.std.proofs.lemmas.Map.Steps.{set_value_same}
-use Rattle.std.proofs.lemmas.Map.Views.{All-keys-insert_entry}
+use Rattle.std.proofs.lemmas.Map.Views.{All-keys-insert_entry, All-values-insert_entry, All-values-set_value}
 use Rattle.mctp_packet.specs.declared.TheConstants.{MOST_PACKETS}
 use Rattle.mctp_assembly.specs.Keys.{IsKey, key_cmp}
+use Rattle.mctp_assembly.specs.Opened.{IsOpened}
 use Rattle.mctp_assembly.specs.Steps.{answer_to, carried_on}
 use Rattle.mctp_assembly.proofs.HeldEntries.{held_at, carried_from_start, kept_in, not_alone}
 use Rattle.mctp_assembly.proofs.assembler.Assembler.keep.Goals as goal
 
 pub invariant_of-self-then-start : goal.invariant_of-self-then-start
 invariant_of-self-then-start c =
-    rw c.in_ok-insert.ensures.entries (All-keys-insert_entry key_cmp c.of-key.result c.in_ok-buffer.buffer IsKey c.self.inside.buffers.entries c.self.invariant c.of-key.ensures.range)
+    let es = c.self.inside.buffers.entries in
+    rw c.in_ok-insert.ensures.entries (
+      All-keys-insert_entry key_cmp c.of-key.result c.in_ok-buffer.buffer IsKey es c.self.invariant.0 c.of-key.ensures.range,
+      All-values-insert_entry key_cmp c.of-key.result c.in_ok-buffer.buffer IsOpened es c.self.invariant.1 c.in_ok-buffer.ensures.range,
+    )
+
+pub invariant_of-self-2 : goal.invariant_of-self-2
+invariant_of-self-2 c =
+    let w = c.append.new.self in (
+      rw (c.get_mut.follows.holds w).1 c.self.invariant.0,
+      rw (c.get_mut.follows.holds w).0 (All-values-set_value (is_at (key_cmp c.of-key.result)) IsOpened c.self.inside.buffers.entries w c.self.invariant.1 c.append.ensures.range),
+    )
 
 pub returns-then-start-clause-ok : goal.returns-then-start-clause-ok
 returns-then-start-clause-ok c =
     kept_in c.self.inside.buffers.entries c.insert.new.self.entries c.args.self.now c.of-key.result c.args.packet.now c.in_ok-buffer.buffer c.self.view_is c.of-key.ensures.value c.in_ok-insert.ensures.updates.0
-    (c.in_ok-buffer.ensures ∙ sym (carried_from_start _ c.args.packet.now (sym c.start.ensures ∙ c.if-start.true)))
+    (c.in_ok-buffer.ensures.value ∙ sym (carried_from_start _ c.args.packet.now (sym c.start.ensures ∙ c.if-start.true)))
     c.requires
 
 pub append-requires-clause-partial : goal.append-requires-clause-partial

@@ -9,6 +9,7 @@ use Rattle.mctp_assembly.specs.declared.key.Key.{Key}
 use Rattle.mctp_assembly.proofs.Maps.{length_is}
 use Rattle.mctp_assembly.proofs.KeyOrder.{keys_total}
 use Rattle.mctp_assembly.proofs.FewKeys.{few_keys}
+use Rattle.mctp_assembly.proofs.HeldEntries.{small_held}
 use Rattle.mctp_assembly.proofs.assembler.Assembler.pending.Goals as goal
 
 pub returns-clause-value : goal.returns-clause-value
@@ -18,4 +19,7 @@ returns-clause-value c =
 pub returns-clause-few : goal.returns-clause-few
 returns-clause-few c =
     let es = c.self.inside.buffers.entries in
-    rw (c.len.ensures.len, ← length-keys_of es) (few_keys (keys_of es) c.len.ensures.ordered (recursion_from_All IsKey (keys_of es) c.self.invariant))
+    rw (c.len.ensures.len, ← length-keys_of es) (few_keys (keys_of es) c.len.ensures.ordered (recursion_from_All IsKey (keys_of es) c.self.invariant.0))
+
+pub returns-clause-small : goal.returns-clause-small
+returns-clause-small c = λ key. small_held c.self.inside.buffers.entries c.args.self.now key c.self.view_is c.self.invariant.1
