@@ -28,11 +28,13 @@ pub struct Terminus {
 impl Terminus {
     /// Takes the packet in these bytes for the endpoint `own`, and gives what becomes of it.
     ///
-    /// `Memory` where a growth was refused, and the terminus is then as before.
+    /// `Memory` where a growth was refused, which only a packet that would give `Partial` wants; the
+    /// terminus is then as before.
     pub fn receive(&mut self, own: Eid, bytes: &[u8]) -> Result<Outcome, Memory>
         ensures outcome { IfOk result (λ outcome. outcome ≡ (exchange answer after own (place_of self.old) bytes.now).0) }
         ensures place { OnOk result (place_of self.new ≡ (exchange answer after own (place_of self.old) bytes.now).1) }
-        ensures memory { OnErr result (place_of self.new ≡ place_of self.old) }
+        ensures memory { OnErr result ((exchange answer after own (place_of self.old) bytes.now).0 ≡ Outcome.Partial) }
+        ensures unchanged { OnErr result (place_of self.new ≡ place_of self.old) }
     {
         match read_for(own, bytes) {
             Err(reason) => Ok(Outcome::Dropped(reason)),
@@ -44,7 +46,8 @@ impl Terminus {
     fn take(&mut self, packet: &PacketRef<'_>) -> Result<Outcome, Memory>
         ensures outcome { IfOk result (λ outcome. outcome ≡ (packet_exchange answer after (place_of self.old) packet.now).0) }
         ensures place { OnOk result (place_of self.new ≡ (packet_exchange answer after (place_of self.old) packet.now).1) }
-        ensures memory { OnErr result (place_of self.new ≡ place_of self.old) }
+        ensures memory { OnErr result ((packet_exchange answer after (place_of self.old) packet.now).0 ≡ Outcome.Partial) }
+        ensures unchanged { OnErr result (place_of self.new ≡ place_of self.old) }
     {
         let route = packet.route();
         if !route.owner {
