@@ -28,6 +28,7 @@ impl Device {
                 Answer::SetTid
             }
             Command::GetTid => Answer::GetTid { tid: self.tid },
+            _ => Answer::Refused(Code::ERROR_UNSUPPORTED_PLDM_CMD),
         }
     }
 }

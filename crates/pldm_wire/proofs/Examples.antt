@@ -1,12 +1,26 @@
 -- The definitions computed on messages: what each of these bytes is read as, and what is written.
-use Rattle.std.proofs.Common.{◌≡◌, [], ◌∷◌, Ok, Err, refl}
-use Rattle.mctp_packet.specs.declared.reason.Reason.TheVariants.{NotPldm, Integrity, ShortHeader, BadPldmHeader, NotRequest, Datagram}
+use Rattle.std.proofs.Common.{◌≡◌, ℕ, pos, negsuc, [], ◌∷◌, Some, Ok, Err, refl}
+use Rattle.mctp_packet.specs.declared.reason.Reason.TheVariants.{NotPldm, Integrity, ShortHeader, BadPldmHeader, NotRequest, Datagram, NotResponse}
 use Rattle.pldm_wire.specs.Kinds.{of_type}
 use Rattle.pldm_wire.specs.Requests.{request, request_of}
+use Rattle.pldm_wire.specs.Responses.{response, response_of}
+use Rattle.pldm_wire.specs.Numbers.{sized}
+use Rattle.pldm_wire.specs.EffecterNumbers.{two_numbers}
+use Rattle.pldm_wire.specs.RecordParts.{part}
+use Rattle.pldm_wire.specs.Commands.{command_data, command_message}
 use Rattle.pldm_wire.specs.CommandReading.{command_of}
 use Rattle.pldm_wire.specs.Answers.{answer_message}
+use Rattle.pldm_wire.specs.AnswerReading.{success_of, answer_of}
+use Rattle.pldm_wire.specs.declared.size.Size.TheVariants.{Uint8, Sint16, Sint32}
+use Rattle.pldm_wire.specs.declared.state_fields.SetStateField.{SetStateField}
+use Rattle.pldm_wire.specs.declared.transfer_flag.TransferFlag.TheVariants.{End}
+use Rattle.pldm_wire.specs.declared.answer_fault.AnswerFault.TheVariants.{OtherCommand, Length, Value}
 use Rattle.pldm_wire.specs.declared.command.Command.TheVariants as commands
 use Rattle.pldm_wire.specs.declared.answer.Answer.TheVariants as answers
+
+-- a field of SetStateEffecterStates
+abbrev field : ℕ → ℕ → SetStateField
+field request state = record { request = request; state = state }
 
 -- headers
 
@@ -72,10 +86,6 @@ command_sixteen : command_of (of_type 0 0x10) [] ≡ Err 0x05
 unfolding command_of
 command_sixteen = refl
 
-sensor_reading : command_of (of_type 2 0x11) (9 ∷ 0 ∷ 0 ∷ []) ≡ Err 0x05
-unfolding command_of
-sensor_reading = refl
-
 get_tid_with_data : command_of (of_type 0 2) (0 ∷ []) ≡ Err 0x03
 unfolding command_of
 get_tid_with_data = refl
@@ -90,3 +100,111 @@ tid_taken = refl
 
 type_five_refused : answer_message 0 (of_type 5 2) (answers.Refused 0x20) ≡ 0x01 ∷ 0x00 ∷ 0x05 ∷ 0x02 ∷ 0x20 ∷ []
 type_five_refused = refl
+
+-- commands whose data tells its length
+
+number_too_short : command_of (of_type 2 0x31) (1 ∷ 0 ∷ 6 ∷ []) ≡ Err 0x03
+unfolding command_of
+number_too_short = refl
+
+number_of_no_size : command_of (of_type 2 0x31) (1 ∷ 0 ∷ 6 ∷ 0x28 ∷ []) ≡ Err 0x02
+unfolding command_of
+number_of_no_size = refl
+
+number_of_two_bytes_in_one : command_of (of_type 2 0x31) (1 ∷ 0 ∷ 2 ∷ 0x28 ∷ []) ≡ Err 0x03
+unfolding command_of
+number_of_two_bytes_in_one = refl
+
+number_minus_two : command_of (of_type 2 0x31) (1 ∷ 0 ∷ 3 ∷ 0xfe ∷ 0xff ∷ []) ≡ Ok (commands.SetNumericEffecterValue 1 (sized Sint16 (negsuc 1)))
+unfolding command_of
+number_minus_two = refl
+
+minus_two_written : command_message 1 (commands.SetNumericEffecterValue 1 (sized Sint16 (negsuc 1))) ≡ 0x01 ∷ 0x81 ∷ 0x02 ∷ 0x31 ∷ 0x01 ∷ 0x00 ∷ 0x03 ∷ 0xfe ∷ 0xff ∷ []
+minus_two_written = refl
+
+least_word_written : command_message 1 (commands.SetNumericEffecterValue 1 (sized Sint32 (negsuc 2147483647))) ≡ 0x01 ∷ 0x81 ∷ 0x02 ∷ 0x31 ∷ 0x01 ∷ 0x00 ∷ 0x05 ∷ 0x00 ∷ 0x00 ∷ 0x00 ∷ 0x80 ∷ []
+least_word_written = refl
+
+no_field : command_of (of_type 2 0x39) (2 ∷ 0 ∷ 0 ∷ []) ≡ Err 0x02
+unfolding command_of
+no_field = refl
+
+field_too_few : command_of (of_type 2 0x39) (2 ∷ 0 ∷ 2 ∷ 1 ∷ []) ≡ Err 0x03
+unfolding command_of
+field_too_few = refl
+
+byte_too_many : command_of (of_type 2 0x39) (2 ∷ 0 ∷ 1 ∷ 1 ∷ 2 ∷ 3 ∷ []) ≡ Err 0x03
+unfolding command_of
+byte_too_many = refl
+
+two_fields : command_of (of_type 2 0x39) (2 ∷ 0 ∷ 2 ∷ 1 ∷ 2 ∷ 1 ∷ 3 ∷ []) ≡ Ok (commands.SetStateEffecterStates 2 (field 1 2 ∷ field 1 3 ∷ []))
+unfolding command_of
+two_fields = refl
+
+two_fields_of_eight : command_of (of_type 2 0x39) (2 ∷ 0 ∷ 2 ∷ 1 ∷ 2 ∷ 0 ∷ 9 ∷ 5 ∷ 5 ∷ 5 ∷ 5 ∷ 5 ∷ 5 ∷ 5 ∷ 5 ∷ 5 ∷ 5 ∷ 5 ∷ 5 ∷ []) ≡ Ok (commands.SetStateEffecterStates 2 (field 1 2 ∷ field 0 9 ∷ []))
+unfolding command_of
+two_fields_of_eight = refl
+
+reserved_byte_ignored : command_of (of_type 2 0x21) (3 ∷ 0 ∷ 0xff ∷ 0x55 ∷ []) ≡ Ok (commands.GetStateSensorReadings 3 0xff)
+unfolding command_of
+reserved_byte_ignored = refl
+
+reserved_byte_written : command_data (commands.GetStateSensorReadings 3 0xff) ≡ 3 ∷ 0 ∷ 0xff ∷ 0 ∷ []
+reserved_byte_written = refl
+
+-- responses and the answers that they are
+
+a_request : response_of (0x01 ∷ 0x80 ∷ 0x00 ∷ 0x02 ∷ 0x00 ∷ 0x01 ∷ []) ≡ Err NotResponse
+unfolding response_of
+a_request = refl
+
+no_completion_code : response_of (0x01 ∷ 0x00 ∷ 0x00 ∷ 0x02 ∷ []) ≡ Err ShortHeader
+unfolding response_of
+no_completion_code = refl
+
+answering_datagram : response_of (0x01 ∷ 0x40 ∷ 0x00 ∷ 0x02 ∷ 0x00 ∷ 0x01 ∷ []) ≡ Err Datagram
+unfolding response_of
+answering_datagram = refl
+
+tid_response : response_of (0x01 ∷ 0x05 ∷ 0x00 ∷ 0x02 ∷ 0x00 ∷ 0x01 ∷ []) ≡ Ok (response 5 (of_type 0 2) 0 (1 ∷ []))
+unfolding response_of
+tid_response = refl
+
+of_another_command : answer_of (of_type 0 2) (of_type 0 1) 0 (1 ∷ []) ≡ Err OtherCommand
+unfolding success_of
+of_another_command = refl
+
+tid_missing : answer_of (of_type 0 2) (of_type 0 2) 0 [] ≡ Err Length
+unfolding success_of
+tid_missing = refl
+
+tid_with_more : answer_of (of_type 0 2) (of_type 0 2) 0 (1 ∷ 0xff ∷ []) ≡ Err Length
+unfolding success_of
+tid_with_more = refl
+
+refused_with_data : answer_of (of_type 0 2) (of_type 0 2) 3 (0xff ∷ []) ≡ Ok (answers.Refused 3)
+unfolding success_of
+refused_with_data = refl
+
+reading_of_no_size : answer_of (of_type 2 0x11) (of_type 2 0x11) 0 (6 ∷ 0 ∷ 0 ∷ 1 ∷ 1 ∷ 1 ∷ 0x28 ∷ []) ≡ Err Value
+unfolding success_of
+reading_of_no_size = refl
+
+reading_too_short : answer_of (of_type 2 0x11) (of_type 2 0x11) 0 (2 ∷ 0 ∷ 0 ∷ 1 ∷ 1 ∷ 1 ∷ 0x28 ∷ []) ≡ Err Length
+unfolding success_of
+reading_too_short = refl
+
+part_of_no_flag : answer_of (of_type 2 0x51) (of_type 2 0x51) 0 (0 ∷ 0 ∷ 0 ∷ 0 ∷ 0 ∷ 0 ∷ 0 ∷ 0 ∷ 3 ∷ 0 ∷ 0 ∷ []) ≡ Err Value
+unfolding success_of
+part_of_no_flag = refl
+
+part_too_long : answer_of (of_type 2 0x51) (of_type 2 0x51) 0 (0 ∷ 0 ∷ 0 ∷ 0 ∷ 0 ∷ 0 ∷ 0 ∷ 0 ∷ 5 ∷ 0xf0 ∷ 0 ∷ []) ≡ Err Value
+unfolding success_of
+part_too_long = refl
+
+last_part : answer_of (of_type 2 0x51) (of_type 2 0x51) 0 (0 ∷ 0 ∷ 0 ∷ 0 ∷ 0 ∷ 0 ∷ 0 ∷ 0 ∷ 4 ∷ 1 ∷ 0 ∷ 0 ∷ 0xf5 ∷ []) ≡ Ok (answers.GetPdr 0 0 (part End (0 ∷ []) (Some 0xf5)))
+unfolding success_of
+last_part = refl
+
+values_told : answer_message 3 (of_type 2 0x32) (answers.GetNumericEffecterValue 1 (two_numbers (sized Uint8 (pos 40)) (sized Uint8 (pos 40)))) ≡ 0x01 ∷ 0x03 ∷ 0x02 ∷ 0x32 ∷ 0x00 ∷ 0x00 ∷ 0x01 ∷ 0x28 ∷ 0x28 ∷ []
+values_told = refl

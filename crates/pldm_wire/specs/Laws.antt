@@ -1,11 +1,13 @@
 -- Laws of messages, commands and answers over the definitions alone.
-use Rattle.std.specs.Prelude.{◌≡◌, ℕ, List, Ok}
+use Rattle.std.specs.Prelude.{◌≡◌, ℕ, ◌<◌, List, Ok}
 use Rattle.pldm_wire.specs.Kinds.{TypeAndCommand}
 use Rattle.pldm_wire.specs.Messages.{IsRequest, IsResponse}
 use Rattle.pldm_wire.specs.Requests.{request, request_of}
-use Rattle.pldm_wire.specs.Commands.{CommandFields}
+use Rattle.pldm_wire.specs.Responses.{response, response_of}
+use Rattle.pldm_wire.specs.Commands.{kind_of, CommandFields, IsCommand, command_data, command_message}
 use Rattle.pldm_wire.specs.CommandReading.{command_of}
-use Rattle.pldm_wire.specs.Answers.{AnswerFields}
+use Rattle.pldm_wire.specs.Answers.{IsAnswerTo, AnswerFields, IsAnswer, code_of, answer_data, answer_message}
+use Rattle.pldm_wire.specs.AnswerReading.{answer_of, AnswersCommand}
 use Rattle.pldm_wire.specs.declared.command.Command.{Command}
 use Rattle.pldm_wire.specs.declared.answer.Answer.{Answer}
 
@@ -35,6 +37,12 @@ RequestReadBack =
     (bytes : List ℕ) (id : ℕ) (kind : TypeAndCommand) (rest : List ℕ)
     → IsRequest bytes id kind rest → request_of bytes ≡ Ok (request id kind rest)
 
+-- a response is read as itself
+abbrev pub ResponseReadBack : Type 0
+ResponseReadBack =
+    (bytes : List ℕ) (id : ℕ) (kind : TypeAndCommand) (code : ℕ) (rest : List ℕ)
+    → IsResponse bytes id kind code rest → response_of bytes ≡ Ok (response id kind code rest)
+
 -- a command whose fields stand in the bytes is read from them
 abbrev pub CommandReadBack : Type 0
 CommandReadBack =
@@ -47,8 +55,40 @@ OneCommand =
     (command other : Command) (kind : TypeAndCommand) (bytes : List ℕ)
     → CommandFields command kind bytes → CommandFields other kind bytes → command ≡ other
 
+-- the data that a command is written with has its fields
+abbrev pub CommandWritten : Type 0
+CommandWritten =
+    (command : Command) → IsCommand command → CommandFields command (kind_of command) (command_data command)
+
+-- the message that a command is written as is read back as its instance ID and the command
+abbrev pub WrittenCommandReadBack : Type 0
+WrittenCommandReadBack =
+    (id : ℕ) (command : Command) → id < 32 → IsCommand command
+    → (request_of (command_message id command) ≡ Ok (request id (kind_of command) (command_data command)))
+    × (command_of (kind_of command) (command_data command) ≡ Ok command)
+
+-- an answer whose fields stand in a response to its command is read from it
+abbrev pub AnswerReadBack : Type 0
+AnswerReadBack =
+    (command : Command) (answer : Answer) (kind : TypeAndCommand) (code : ℕ) (bytes : List ℕ)
+    → AnswersCommand command answer kind code bytes → answer_of (kind_of command) kind code bytes ≡ Ok answer
+
 -- no code and bytes have the fields of two answers of one kind
 abbrev pub OneAnswer : Type 0
 OneAnswer =
     (answer other : Answer) (kind : TypeAndCommand) (code : ℕ) (bytes : List ℕ)
     → AnswerFields answer kind code bytes → AnswerFields other kind code bytes → answer ≡ other
+
+-- the completion code and the data that an answer is written with have its fields
+abbrev pub AnswerWritten : Type 0
+AnswerWritten =
+    (answer : Answer) (kind : TypeAndCommand)
+    → IsAnswerTo kind answer → IsAnswer answer → AnswerFields answer kind (code_of answer) (answer_data answer)
+
+-- the message that an answer to a command is written as is read back as its instance ID and the
+-- answer
+abbrev pub WrittenAnswerReadBack : Type 0
+WrittenAnswerReadBack =
+    (id : ℕ) (command : Command) (answer : Answer) → id < 32 → IsAnswerTo (kind_of command) answer → IsAnswer answer
+    → (response_of (answer_message id (kind_of command) answer) ≡ Ok (response id (kind_of command) (code_of answer) (answer_data answer)))
+    × (answer_of (kind_of command) (kind_of command) (code_of answer) (answer_data answer) ≡ Ok answer)

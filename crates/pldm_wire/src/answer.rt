@@ -1,4 +1,7 @@
-use crate::Code;
+use crate::{
+    COMMANDS_BYTES, Code, EffecterStateField, EffecterValues, Number, RecordPart, SensorStateField,
+    StateFields, TIME_BYTES, TYPES_BYTES, VersionData,
+};
 
 /// An answer with its fields, one variant for each command, and the refusal of any.
 #[derive(Debug, PartialEq, Eq, Drop)]
@@ -11,5 +14,85 @@ pub enum Answer {
     GetTid {
         /// The terminus ID.
         tid: u8,
+    },
+    /// The versions of a PLDM type, in one part: the transfer flag is StartAndEnd (DSP0240,
+    /// "GetPLDMVersion command").
+    GetPldmVersion {
+        /// Which part would come next.
+        next_transfer_handle: u32,
+        /// The versions.
+        versions: VersionData,
+    },
+    /// The PLDM types that the terminus has (DSP0240, "GetPLDMTypes command").
+    GetPldmTypes {
+        /// Type t is bit t mod 8 of byte t / 8.
+        types: [u8; TYPES_BYTES],
+    },
+    /// The commands of a PLDM type (DSP0240, "GetPLDMCommands command").
+    GetPldmCommands {
+        /// Command c is bit c mod 8 of byte c / 8.
+        commands: [u8; COMMANDS_BYTES],
+    },
+    /// A numeric sensor's reading (DSP0248, "GetSensorReading command").
+    GetSensorReading {
+        /// The sensor's operational state.
+        operational: u8,
+        /// Which of its events are enabled.
+        event_enable: u8,
+        /// The state that it reports now.
+        present: u8,
+        /// The state before that one.
+        previous: u8,
+        /// The state of its latest event.
+        event: u8,
+        /// The reading with its data size.
+        reading: Number,
+    },
+    /// A state sensor's states (DSP0248, "GetStateSensorReadings command").
+    GetStateSensorReadings {
+        /// The states, a field for each sensor of a composite one.
+        fields: StateFields<SensorStateField>,
+    },
+    /// The numeric effecter was set (DSP0248, "SetNumericEffecterValue command").
+    SetNumericEffecterValue,
+    /// A numeric effecter's values (DSP0248, "GetNumericEffecterValue command").
+    GetNumericEffecterValue {
+        /// The effecter's operational state.
+        operational: u8,
+        /// The pending and the present value.
+        values: EffecterValues,
+    },
+    /// The state effecter was set (DSP0248, "SetStateEffecterStates command").
+    SetStateEffecterStates,
+    /// A state effecter's states (DSP0248, "GetStateEffecterStates command").
+    GetStateEffecterStates {
+        /// The states, a field for each effecter of a composite one.
+        fields: StateFields<EffecterStateField>,
+    },
+    /// The PDR repository (DSP0248, "GetPDRRepositoryInfo command").
+    GetPdrRepositoryInfo {
+        /// The repository's state: 0 available.
+        state: u8,
+        /// When it was last changed.
+        update_time: [u8; TIME_BYTES],
+        /// When its OEM records were last changed.
+        oem_update_time: [u8; TIME_BYTES],
+        /// How many records it has.
+        record_count: u32,
+        /// Its size in bytes.
+        repository_size: u32,
+        /// The size of its largest record in bytes.
+        largest_record: u32,
+        /// For how long a transfer may pause, as a code.
+        timeout: u8,
+    },
+    /// A part of a record (DSP0248, "GetPDR command").
+    GetPdr {
+        /// The handle of the record after this one, or 0.
+        next_record_handle: u32,
+        /// Which part comes next, or 0.
+        next_transfer_handle: u32,
+        /// The part.
+        part: RecordPart,
     },
 }

@@ -22,6 +22,48 @@ pub const SET_TID: u8 = 0x01;
 /// The command GetTID of type [`BASE`] (DSP0240, "GetTID command").
 pub const GET_TID: u8 = 0x02;
 
+/// The command GetPLDMVersion of type [`BASE`] (DSP0240, "GetPLDMVersion command").
+pub const GET_PLDM_VERSION: u8 = 0x03;
+
+/// The command GetPLDMTypes of type [`BASE`] (DSP0240, "GetPLDMTypes command").
+pub const GET_PLDM_TYPES: u8 = 0x04;
+
+/// The command GetPLDMCommands of type [`BASE`] (DSP0240, "GetPLDMCommands command").
+pub const GET_PLDM_COMMANDS: u8 = 0x05;
+
+/// The command GetSensorReading of type [`PLATFORM`] (DSP0248, "GetSensorReading command").
+pub const GET_SENSOR_READING: u8 = 0x11;
+
+/// The command GetStateSensorReadings of type [`PLATFORM`] (DSP0248, "GetStateSensorReadings
+/// command").
+pub const GET_STATE_SENSOR_READINGS: u8 = 0x21;
+
+/// The command SetNumericEffecterValue of type [`PLATFORM`] (DSP0248, "SetNumericEffecterValue
+/// command").
+pub const SET_NUMERIC_EFFECTER_VALUE: u8 = 0x31;
+
+/// The command GetNumericEffecterValue of type [`PLATFORM`] (DSP0248, "GetNumericEffecterValue
+/// command").
+pub const GET_NUMERIC_EFFECTER_VALUE: u8 = 0x32;
+
+/// The command SetStateEffecterStates of type [`PLATFORM`] (DSP0248, "SetStateEffecterStates
+/// command").
+pub const SET_STATE_EFFECTER_STATES: u8 = 0x39;
+
+/// The command GetStateEffecterStates of type [`PLATFORM`] (DSP0248, "GetStateEffecterStates
+/// command").
+pub const GET_STATE_EFFECTER_STATES: u8 = 0x3a;
+
+/// The command GetPDRRepositoryInfo of type [`PLATFORM`] (DSP0248, "GetPDRRepositoryInfo
+/// command").
+pub const GET_PDR_REPOSITORY_INFO: u8 = 0x50;
+
+/// The command GetPDR of type [`PLATFORM`] (DSP0248, "GetPDR command").
+pub const GET_PDR: u8 = 0x51;
+
+/// The transfer flag of data that comes whole in one part (DSP0240, "GetPLDMVersion command").
+pub const START_AND_END: u8 = 0x05;
+
 /// The completion code of a command that was carried out (DSP0240, "Generic PLDM completion codes").
 pub const SUCCESS: u8 = 0x00;
 

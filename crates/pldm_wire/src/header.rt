@@ -1,8 +1,8 @@
-ghost use Rattle.std.specs.Prelude.{◌≡◌, ℕ, ◌≤◌, length, None, Some, IfOk, IfErr, OnOk};
+ghost use Rattle.std.specs.Prelude.{◌≡◌, ℕ, ◌<◌, ◌≤◌, [], ◌∷◌, length, None, Some, IfOk, IfErr, OnOk};
 ghost use Rattle.pldm_wire.specs.Headers.{refusal, id_at, kind_at};
 
 use crate::{Kind, MESSAGE_TYPE, REQUEST_HEADER};
-use mctp_packet::Reason;
+use mctp_packet::{Body, Reason};
 
 /// What the first four bytes of a request or a response say.
 #[derive(Clone, Copy)]
@@ -54,4 +54,18 @@ pub(crate) fn header_in(bytes: &[u8], size: usize, rq: u8, wrong: Reason) -> Res
         id: flags & 0x1f,
         kind,
     })
+}
+
+/// A body with a message's first four bytes: message type, flags with the instance ID, PLDM type,
+/// command (DSP0240, "PLDM message fields").
+pub(crate) fn headed(flags: u8, kind: Kind) -> Body
+    ensures items { result.items ≡ MESSAGE_TYPE ∷ flags ∷ kind.pldm_type ∷ kind.command ∷ [] }
+    ensures type_range { kind.pldm_type < 64 }
+{
+    let mut body = Body::new();
+    body.push(MESSAGE_TYPE);
+    body.push(flags);
+    body.push(kind.pldm_type);
+    body.push(kind.command);
+    body
 }

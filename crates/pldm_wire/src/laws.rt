@@ -1,24 +1,35 @@
 //! Laws over the definitions alone. Nothing is computed: each function's contract is its law.
 
-ghost use Rattle.pldm_wire.specs.Laws.{CommandReadBack, OneAnswer, OneCommand, OneRequest, OneResponse, RequestOrResponse, RequestReadBack};
+ghost use Rattle.pldm_wire.specs.Laws.{AnswerReadBack, AnswerWritten, CommandReadBack, CommandWritten, OneAnswer, OneCommand, OneRequest, OneResponse, RequestOrResponse, RequestReadBack, ResponseReadBack, WrittenAnswerReadBack, WrittenCommandReadBack};
 
-/// Bytes are one request at most, one response at most, and not both; and a request is read as
-/// itself.
+/// Bytes are one request at most, one response at most, and not both; and each is read as itself.
 pub fn messages_are_told_apart()
     ensures one_request { OneRequest }
     ensures one_response { OneResponse }
     ensures not_both { RequestOrResponse }
     ensures reads_back { RequestReadBack }
+    ensures response_reads_back { ResponseReadBack }
 {}
 
 /// A command whose fields stand in the data is read from it, and no two commands of one kind have
-/// the same data.
+/// the same data. What a command is written with has its fields, and is read back as the same
+/// instance ID and command.
 pub fn commands_are_read_back()
     ensures reads_back { CommandReadBack }
     ensures one { OneCommand }
+    ensures written { CommandWritten }
+    ensures written_reads_back { WrittenCommandReadBack }
 {}
 
 /// No two answers of one kind have the same completion code and data.
 pub fn answers_are_told_apart()
     ensures one { OneAnswer }
+{}
+
+/// An answer whose fields stand in a response to its command is read from it. What an answer is
+/// written with has its fields, and is read back as the same instance ID and answer.
+pub fn answers_are_read_back()
+    ensures reads_back { AnswerReadBack }
+    ensures written { AnswerWritten }
+    ensures written_reads_back { WrittenAnswerReadBack }
 {}

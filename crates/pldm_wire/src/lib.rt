@@ -2,28 +2,64 @@
 #![tactic(auto)]
 
 mod answer;
+mod answer_fault;
+mod answer_reading;
+mod answer_writing;
 mod assigned;
+mod base;
 mod code;
 mod command;
+mod command_reading;
+mod command_writing;
+mod effecter_values;
+mod effecters;
 mod header;
 mod kind;
 pub mod laws;
-mod reading;
+mod limits;
+mod number;
+mod places;
+mod pushes;
+mod record_part;
+mod repository;
 mod request;
-mod writing;
+mod response;
+mod sensors;
+mod size;
+mod state_fields;
+mod transfer_flag;
+mod version_data;
 
 pub use answer::Answer;
+pub use answer_fault::AnswerFault;
+pub use answer_reading::read_answer;
+pub use answer_writing::write_answer;
 pub use assigned::{
     BASE, ERROR, ERROR_INVALID_DATA, ERROR_INVALID_LENGTH, ERROR_INVALID_PLDM_TYPE,
-    ERROR_NOT_READY, ERROR_UNSUPPORTED_PLDM_CMD, GET_TID, MESSAGE_TYPE, PLATFORM, REQUEST_HEADER,
-    RESPONSE_HEADER, SET_TID, SUCCESS,
+    ERROR_NOT_READY, ERROR_UNSUPPORTED_PLDM_CMD, GET_NUMERIC_EFFECTER_VALUE, GET_PDR,
+    GET_PDR_REPOSITORY_INFO, GET_PLDM_COMMANDS, GET_PLDM_TYPES, GET_PLDM_VERSION,
+    GET_SENSOR_READING, GET_STATE_EFFECTER_STATES, GET_STATE_SENSOR_READINGS, GET_TID,
+    MESSAGE_TYPE, PLATFORM, REQUEST_HEADER, RESPONSE_HEADER, SET_NUMERIC_EFFECTER_VALUE,
+    SET_STATE_EFFECTER_STATES, SET_TID, START_AND_END, SUCCESS,
 };
 pub use code::Code;
 pub use command::Command;
+pub use command_reading::read_command;
+pub use command_writing::write_command;
+pub use effecter_values::EffecterValues;
 pub use kind::Kind;
-pub use reading::read_command;
+pub use limits::{
+    ALL_FIELDS_FORM, COMMANDS_BYTES, LEAST_VERSION_BYTES, MOST_PART_BYTES, MOST_STATES,
+    MOST_VERSION_BYTES, TIME_BYTES, TYPES_BYTES, VERSION_BYTES,
+};
+pub use number::Number;
+pub use record_part::RecordPart;
 pub use request::{RequestRef, read_request};
-pub use writing::write_answer;
+pub use response::{ResponseRef, read_response};
+pub use size::Size;
+pub use state_fields::{EffecterStateField, SensorStateField, SetStateField, StateFields};
+pub use transfer_flag::TransferFlag;
+pub use version_data::VersionData;
 
 #[cfg(test)]
 mod tests;

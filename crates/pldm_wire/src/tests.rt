@@ -1,6 +1,17 @@
+//! Messages of the standards' tables, bytes by hand, read and written.
+
 use super::*;
 use mctp_packet::Reason;
+use std::process::Abort;
 use std::test::Fail;
+
+mod answers;
+mod commands;
+
+/// A number that fits its size.
+fn number(rt: &impl Abort, size: Size, value: i64) -> Number {
+    Number::new(size, value).expect(rt, "a number that fits its size")
+}
 
 #[test]
 fn bytes_that_are_no_request_have_a_reason(rt: HostRuntime) {
@@ -19,68 +30,74 @@ fn bytes_that_are_no_request_have_a_reason(rt: HostRuntime) {
 }
 
 #[test]
-fn commands_are_read(rt: HostRuntime) -> Result<(), Fail> {
+fn bytes_that_are_no_response_have_a_reason(rt: HostRuntime) {
+    let dropped = [
+        (
+            [0x01, 0x80, 0x00, 0x02, 0x00, 0x01].as_slice(),
+            Reason::NotResponse,
+        ),
+        ([0x01, 0x00, 0x00, 0x02].as_slice(), Reason::ShortHeader),
+        (
+            [0x01, 0x40, 0x00, 0x02, 0x00, 0x01].as_slice(),
+            Reason::Datagram,
+        ),
+    ];
+    for (bytes, reason) in dropped {
+        assert_eq!(rt; read_response(bytes).err(), Some(reason), "{bytes:?}");
+    }
+}
+
+#[test]
+fn values_that_no_reader_takes_are_not_made(rt: HostRuntime) {
+    let beside = [
+        (Size::Uint8, -1),
+        (Size::Uint8, 256),
+        (Size::Sint8, -129),
+        (Size::Sint8, 128),
+        (Size::Uint16, 65_536),
+        (Size::Sint16, -32_769),
+        (Size::Sint16, 32_768),
+        (Size::Uint32, 4_294_967_296),
+        (Size::Sint32, -2_147_483_649),
+        (Size::Sint32, 2_147_483_648),
+    ];
+    for (size, value) in beside {
+        assert_eq!(rt; Number::new(size, value), None, "{size:?} {value}");
+    }
+    assert_eq!(rt; StateFields::<SetStateField>::new(&[]), None);
+    assert_eq!(rt; StateFields::new(&[SetStateField::default(); 9]), None);
+    assert_eq!(rt; VersionData::new(&[]), None);
+    assert_eq!(rt; VersionData::new(&[0; 6]), None);
+    assert_eq!(rt; VersionData::new(&[0; 36]), None);
+    assert_eq!(rt; RecordPart::new(TransferFlag::Start, &[0; 240], None), None);
+    assert_eq!(rt; RecordPart::new(TransferFlag::Start, &[], Some(0)), None);
+    assert_eq!(rt; RecordPart::new(TransferFlag::End, &[], None), None);
+    let narrow = number(&rt, Size::Uint8, 1);
+    let wide = number(&rt, Size::Uint16, 1);
+    assert_eq!(rt; EffecterValues::new(narrow, wide), None);
+    assert_eq!(rt; TransferFlag::new(3), None);
+    assert_eq!(rt; Code::new(0), None);
+}
+
+#[test]
+fn a_message_has_its_parts(rt: HostRuntime) -> Result<(), Fail> {
     let request = read_request(&[0x01, 0x81, 0x00, 0x01, 0x05])?;
     assert_eq!(rt; request.id(), 1);
-    assert_eq!(rt;
-        request.kind(),
-        Kind {
-            pldm_type: 0,
-            command: 1
-        }
-    );
-    assert_eq!(rt; request.data(), [0x05].as_slice());
-    let command = read_command(&request)?;
-    assert_eq!(rt; command, Command::SetTid { tid: 5 });
-    assert_eq!(rt; command.kind(), request.kind());
-    let request = read_request(&[0x01, 0x80, 0x00, 0x02])?;
-    assert_eq!(rt; read_command(&request), Ok(Command::GetTid));
-    Ok(())
-}
-
-#[test]
-fn refused_commands_have_a_code(rt: HostRuntime) -> Result<(), Fail> {
-    let refused = [
-        ([0x01, 0x80, 0x05, 0x02].as_slice(), 0x20),
-        ([0x01, 0x81, 0x00, 0x10].as_slice(), 0x05),
-        ([0x01, 0x82, 0x00, 0x02, 0x00].as_slice(), 0x03),
-    ];
-    for (bytes, number) in refused {
-        let request = read_request(bytes)?;
-        assert_eq!(rt;
-            read_command(&request).err(),
-            Code::new(number),
-            "{bytes:?}"
-        );
-    }
-    Ok(())
-}
-
-#[test]
-fn answers_are_written(rt: HostRuntime) {
-    let get_tid = Kind {
-        pldm_type: 0,
-        command: 2,
-    };
     let set_tid = Kind {
         pldm_type: 0,
         command: 1,
     };
-    let unknown = Kind {
-        pldm_type: 5,
-        command: 2,
+    assert_eq!(rt; request.kind(), set_tid);
+    assert_eq!(rt; request.data(), [0x05].as_slice());
+    assert!(rt; read_command(&request)?.sets());
+    let response = read_response(&[0x01, 0x3f, 0x02, 0x51, 0x82, 0x07])?;
+    let get_pdr = Kind {
+        pldm_type: 2,
+        command: 0x51,
     };
-    let told = write_answer(0, get_tid, &Answer::GetTid { tid: 1 });
-    assert_eq!(rt;
-        told.as_slice(),
-        [0x01, 0x00, 0x00, 0x02, 0x00, 0x01].as_slice()
-    );
-    let taken = write_answer(1, set_tid, &Answer::SetTid);
-    assert_eq!(rt; taken.as_slice(), [0x01, 0x01, 0x00, 0x01, 0x00].as_slice());
-    let refusal = Answer::Refused(Code::ERROR_INVALID_PLDM_TYPE);
-    let refused = write_answer(0, unknown, &refusal);
-    assert_eq!(rt;
-        refused.as_slice(),
-        [0x01, 0x00, 0x05, 0x02, 0x20].as_slice()
-    );
+    assert_eq!(rt; response.id(), 31);
+    assert_eq!(rt; response.kind(), get_pdr);
+    assert_eq!(rt; response.code(), 0x82);
+    assert_eq!(rt; response.data(), [0x07].as_slice());
+    Ok(())
 }

@@ -1,0 +1,14 @@
+-- Answers are read from responses, and what they are written as is read back.
+use Rattle.pldm_wire.proofs.ReadAnswers.{only}
+use Rattle.pldm_wire.proofs.WrittenAnswers.{written}
+use Rattle.pldm_wire.proofs.ReadBack.{answer_read_back}
+use Rattle.pldm_wire.proofs.laws.answers_are_read_back.Goals as goal
+
+pub returns-clause-reads_back : goal.returns-clause-reads_back
+returns-clause-reads_back c = only
+
+pub returns-clause-written : goal.returns-clause-written
+returns-clause-written c = written
+
+pub returns-clause-written_reads_back : goal.returns-clause-written_reads_back
+returns-clause-written_reads_back c = answer_read_back

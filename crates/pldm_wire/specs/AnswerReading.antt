@@ -1,0 +1,36 @@
+-- The answer that a response is to a command, as a function by place, or why it is none: another
+-- command, or what the command's answer says of its data.
+use Rattle.std.specs.Prelude.{◌≡◌, ℕ, ◌==◌, ◌&&◌, Bool, List, Result, Ok, Err, if◌then◌else◌}
+use Rattle.pldm_wire.specs.Kinds.{TypeAndCommand}
+use Rattle.pldm_wire.specs.Commands.{kind_of}
+use Rattle.pldm_wire.specs.Answers.{AnswerFields}
+use Rattle.pldm_wire.specs.BaseAnswerReading.{base_answer_of}
+use Rattle.pldm_wire.specs.PlatformAnswerReading.{platform_answer_of}
+use Rattle.pldm_wire.specs.declared.assigned.TheConstants.{BASE, PLATFORM, SUCCESS}
+use Rattle.pldm_wire.specs.declared.command.Command.{Command}
+use Rattle.pldm_wire.specs.declared.answer.Answer.{Answer}
+use Rattle.pldm_wire.specs.declared.answer.Answer.TheVariants.{Refused}
+use Rattle.pldm_wire.specs.declared.answer_fault.AnswerFault.{AnswerFault}
+use Rattle.pldm_wire.specs.declared.answer_fault.AnswerFault.TheVariants.{OtherCommand}
+
+abbrev pub same_kind : TypeAndCommand → TypeAndCommand → Bool
+same_kind kind other = (kind.pldm_type == other.pldm_type) && (kind.command == other.command)
+
+-- the answer of a success
+unfoldable pub success_of : TypeAndCommand → List ℕ → Result Answer AnswerFault
+success_of kind bytes =
+    if kind.pldm_type == BASE then base_answer_of kind.command bytes
+    else if kind.pldm_type == PLATFORM then platform_answer_of kind.command bytes
+    else Err OtherCommand
+
+-- what reading gives for a response of a kind, a completion code and data to a command of the first
+-- kind; the data after another code than SUCCESS is ignored
+abbrev pub answer_of : TypeAndCommand → TypeAndCommand → ℕ → List ℕ → Result Answer AnswerFault
+answer_of asked kind code bytes =
+    if same_kind kind asked then (if code == SUCCESS then success_of kind bytes else Ok (Refused code))
+    else Err OtherCommand
+
+-- the response is this answer to the command
+pub record AnswersCommand (command : Command) (answer : Answer) (kind : TypeAndCommand) (code : ℕ) (bytes : List ℕ) : Type 0 where
+  pub same_command : kind ≡ kind_of command
+  pub fields : AnswerFields answer kind code bytes

@@ -1,0 +1,68 @@
+ghost use Rattle.std.specs.Prelude.{◌≡◌, ◌<◌, Ok, IfOk};
+ghost use Rattle.pldm_wire.specs.Commands.{kind_of};
+ghost use Rattle.pldm_wire.specs.AnswerReading.{AnswersCommand, answer_of, success_of};
+ghost use Rattle.pldm_wire.specs.declared.answer.Answer.{Answer as AnswerValue};
+
+use crate::base::{
+    commands_answer_in, no_data_in, tid_answer_in, types_answer_in, version_answer_in,
+};
+use crate::effecters::{effecter_states_answer_in, values_answer_in};
+use crate::repository::{part_answer_in, repository_answer_in};
+use crate::sensors::{reading_answer_in, sensor_states_answer_in};
+use crate::{Answer, AnswerFault, Code, Command, ResponseRef};
+
+/// The answer that this response is to the command: OtherCommand for another PLDM type or command;
+/// else a completion code other than 0 is a refusal, whatever follows it; else Length for fewer
+/// bytes than the answer's fixed fields, Value for a data size, a count or a flag that is none, and
+/// Length for another length than these fix (DSP0240, DSP0248; the order is this profile's own).
+pub fn read_answer(command: &Command, response: &ResponseRef<'_>) -> Result<Answer, AnswerFault>
+    ensures exact { result
+        ≡ answer_of (kind_of command.now) response.now.kind response.now.code response.now.rest }
+    ensures found { IfOk result
+        (λ a. AnswersCommand command.now a response.now.kind response.now.code response.now.rest) }
+    ensures only { (a : AnswerValue)
+        → AnswersCommand command.now a response.now.kind response.now.code response.now.rest
+        → result ≡ Ok a }
+{
+    answer_in(command, response)
+}
+
+/// As `read_answer`, by place.
+fn answer_in(command: &Command, response: &ResponseRef<'_>) -> Result<Answer, AnswerFault>
+    ensures exact { result
+        ≡ answer_of (kind_of command.now) response.now.kind response.now.code response.now.rest }
+    ensures code { response.now.code < 256 }
+{
+    let code = response.code();
+    if response.kind() != command.kind() {
+        return Err(AnswerFault::OtherCommand);
+    }
+    match Code::new(code) {
+        Some(code) => Ok(Answer::Refused(code)),
+        None => success_in(command, response.data()),
+    }
+}
+
+/// The command's answer that this data is, after SUCCESS.
+#[tactic(auto, unfolding(crate::specs::AnswerReading::success_of))]
+fn success_in(command: &Command, bytes: &[u8]) -> Result<Answer, AnswerFault>
+    ensures { result ≡ success_of (kind_of command.now) bytes.now }
+{
+    match command {
+        Command::SetTid { .. } => no_data_in(Answer::SetTid, bytes),
+        Command::GetTid => tid_answer_in(bytes),
+        Command::GetPldmVersion { .. } => version_answer_in(bytes),
+        Command::GetPldmTypes => types_answer_in(bytes),
+        Command::GetPldmCommands { .. } => commands_answer_in(bytes),
+        Command::GetSensorReading { .. } => reading_answer_in(bytes),
+        Command::GetStateSensorReadings { .. } => sensor_states_answer_in(bytes),
+        Command::SetNumericEffecterValue { .. } => {
+            no_data_in(Answer::SetNumericEffecterValue, bytes)
+        }
+        Command::GetNumericEffecterValue { .. } => values_answer_in(bytes),
+        Command::SetStateEffecterStates { .. } => no_data_in(Answer::SetStateEffecterStates, bytes),
+        Command::GetStateEffecterStates { .. } => effecter_states_answer_in(bytes),
+        Command::GetPdrRepositoryInfo => repository_answer_in(bytes),
+        Command::GetPdr { .. } => part_answer_in(bytes),
+    }
+}

@@ -1,0 +1,81 @@
+ghost use Rattle.std.specs.Prelude.{◌≡◌, ◌↔◌, IsSome, IfSome};
+ghost use Rattle.pldm_wire.specs.RecordParts.{IsPart, part};
+
+use crate::{MOST_PART_BYTES, TransferFlag};
+use arrayvec::ArrayVec;
+use std::marker::Model;
+
+/// A part of a record in a GetPDR answer: its transfer flag, at most [`MOST_PART_BYTES`] bytes, and
+/// the whole record's checksum exactly where it is the last of several parts (DSP0248, "GetPDR
+/// command").
+#[derive(Debug, PartialEq, Eq, Drop)]
+pub struct RecordPart {
+    flag: TransferFlag,
+    bytes: ArrayVec<u8, MOST_PART_BYTES>,
+    checksum: Option<u8>,
+}
+
+impl Model for RecordPart {
+    ghost use Rattle.pldm_wire.specs.RecordParts.{Part, IsPart, part};
+
+    ghost Value = { Part };
+
+    ghost view = { λ p. part p.flag p.bytes.items p.checksum };
+
+    ghost invariant = { λ p. IsPart (part p.flag p.bytes.items p.checksum) };
+
+    ghost inverse = { λ p. record { flag = p.flag; bytes = record { items = p.bytes }; checksum = p.checksum } };
+}
+
+impl RecordPart {
+    ghost use Rattle.std.specs.Prelude.{◌≡◌, ◌↔◌, IsSome, IfSome};
+    ghost use Rattle.pldm_wire.specs.RecordParts.{IsPart, part};
+
+    /// This part, where it is not too long and has a checksum exactly where its flag is
+    /// [`TransferFlag::End`].
+    pub fn new(flag: TransferFlag, bytes: &[u8], checksum: Option<u8>) -> Option<RecordPart>
+        ensures some { IsSome result ↔ IsPart (part flag bytes.now checksum) }
+        ensures part { IfSome result (λ made. made ≡ part flag bytes.now checksum) }
+    {
+        if bytes.len() > MOST_PART_BYTES || checksum.is_some() != flag.is_end() {
+            return None;
+        }
+        Some(RecordPart::of(flag, bytes, checksum))
+    }
+
+    /// This part, which is one.
+    pub(crate) fn of(flag: TransferFlag, bytes: &[u8], checksum: Option<u8>) -> RecordPart
+        requires { IsPart (part flag bytes.now checksum) }
+        ensures { result ≡ part flag bytes.now checksum }
+    {
+        let mut kept = ArrayVec::new();
+        let _ = kept.try_extend_from_slice(bytes);
+        RecordPart {
+            flag,
+            bytes: kept,
+            checksum,
+        }
+    }
+
+    /// Its transfer flag.
+    pub fn flag(&self) -> TransferFlag
+        ensures { result ≡ self.now.flag }
+    {
+        self.flag
+    }
+
+    /// Its bytes in order.
+    pub fn as_slice(&self) -> &[u8]
+        ensures value { result.now ≡ self.now.bytes }
+        ensures range { IsPart self.now }
+    {
+        self.bytes.as_slice()
+    }
+
+    /// The checksum of the whole record, where this is the last of several parts.
+    pub fn checksum(&self) -> Option<u8>
+        ensures { result ≡ self.now.checksum }
+    {
+        self.checksum
+    }
+}
