@@ -1,7 +1,9 @@
 -- What becomes of a few packets, computed from the definitions: device 9 with terminus ID 1, and what endpoint 8 sends it.
-use Rattle.std.proofs.Common.{◌≡◌, ℕ, List, [], ◌∷◌, refl}
+use Rattle.std.proofs.Common.{◌≡◌, ℕ, List, [], ◌∷◌, replicate, pos, refl}
 use Rattle.mctp_packet.specs.declared.reason.Reason.TheVariants.{BadTag, UnexpectedMiddleOrEnd, OutOfSequence, TooLong, WrongUnit, NotPldm, Integrity, ShortHeader, BadPldmHeader, NotRequest, Datagram}
 use Rattle.mctp_assembly.specs.Histories.{Call}
+use Rattle.pldm_device.specs.Devices.{Device}
+use Rattle.pldm_wire.specs.declared.size.Size.TheVariants.{Uint8}
 use Rattle.pldm_wire.specs.CommandReading.{command_of}
 use Rattle.pldm_wire.specs.Requests.{request_of}
 use Rattle.mctpctl.specs.AnswerText.{looked_back, with_packet}
@@ -15,8 +17,22 @@ outcomes_from place [] = []
 outcomes_from place (packet ∷ more) =
     (exchange looked_back with_packet 9 place packet).0 ∷ outcomes_from (exchange looked_back with_packet 9 place packet).1 more
 
+-- the example device: sensor 1 at 40, numeric effecter 1 at 10 of 0 to 100, state effecter 2 of two fields at 1 and 1
+abbrev example : Device
+example = record {
+  tid = 1;
+  base_versions = 0 ∷ 240 ∷ 240 ∷ 241 ∷ [];
+  platform_versions = 0 ∷ 242 ∷ 241 ∷ 241 ∷ [];
+  update_time = replicate 13 0;
+  oem_update_time = replicate 13 0;
+  numeric_sensors = (1, record { present = 1; previous = 1; event = 1; reading = record { size = Uint8; value = pos 40 } }) ∷ [];
+  state_sensors = [];
+  numeric_effecters = (1, record { min = pos 0; max = pos 100; value = record { size = Uint8; value = pos 10 } }) ∷ [];
+  state_effecters = (2, record { allowed = (1 ∷ 2 ∷ []) ∷ (1 ∷ 2 ∷ []) ∷ []; states = 1 ∷ 1 ∷ [] }) ∷ [];
+}
+
 abbrev outcomes : List (List ℕ) → List Outcome
-outcomes packets = outcomes_from (record { device = record { tid = 1 }; packets = [] }) packets
+outcomes packets = outcomes_from (record { device = example; packets = [] }) packets
 
 get_tid : outcomes ((1 ∷ 9 ∷ 8 ∷ 200 ∷ 1 ∷ 128 ∷ 0 ∷ 2 ∷ []) ∷ []) ≡ Answered ((1 ∷ 8 ∷ 9 ∷ 192 ∷ 1 ∷ 0 ∷ 0 ∷ 2 ∷ 0 ∷ 1 ∷ []) ∷ []) ∷ []
 unfolding request_of command_of
@@ -70,3 +86,15 @@ wrong_unit = refl
 a_fifth_packet : outcomes ((1 ∷ 9 ∷ 8 ∷ 136 ∷ 1 ∷ []) ∷ (1 ∷ 9 ∷ 8 ∷ 24 ∷ 128 ∷ []) ∷ (1 ∷ 9 ∷ 8 ∷ 40 ∷ 0 ∷ []) ∷ (1 ∷ 9 ∷ 8 ∷ 56 ∷ 1 ∷ []) ∷ (1 ∷ 9 ∷ 8 ∷ 72 ∷ 5 ∷ []) ∷ []) ≡ Partial ∷ Partial ∷ Partial ∷ Partial ∷ Dropped TooLong ∷ []
 unfolding request_of command_of
 a_fifth_packet = refl
+
+set_the_numeric_effecter : outcomes ((1 ∷ 9 ∷ 8 ∷ 201 ∷ 1 ∷ 129 ∷ 2 ∷ 49 ∷ 1 ∷ 0 ∷ 0 ∷ 40 ∷ []) ∷ (1 ∷ 9 ∷ 8 ∷ 203 ∷ 1 ∷ 131 ∷ 2 ∷ 50 ∷ 1 ∷ 0 ∷ []) ∷ []) ≡ Answered ((1 ∷ 8 ∷ 9 ∷ 193 ∷ 1 ∷ 1 ∷ 2 ∷ 49 ∷ 0 ∷ []) ∷ []) ∷ Answered ((1 ∷ 8 ∷ 9 ∷ 195 ∷ 1 ∷ 3 ∷ 2 ∷ 50 ∷ 0 ∷ 0 ∷ 1 ∷ 40 ∷ 40 ∷ []) ∷ []) ∷ []
+unfolding request_of command_of
+set_the_numeric_effecter = refl
+
+no_state_is_set_before_one_is_refused : outcomes ((1 ∷ 9 ∷ 8 ∷ 200 ∷ 1 ∷ 128 ∷ 2 ∷ 57 ∷ 2 ∷ 0 ∷ 2 ∷ 1 ∷ 2 ∷ 1 ∷ 3 ∷ []) ∷ (1 ∷ 9 ∷ 8 ∷ 201 ∷ 1 ∷ 129 ∷ 2 ∷ 58 ∷ 2 ∷ 0 ∷ []) ∷ []) ≡ Answered ((1 ∷ 8 ∷ 9 ∷ 192 ∷ 1 ∷ 0 ∷ 2 ∷ 57 ∷ 129 ∷ []) ∷ []) ∷ Answered ((1 ∷ 8 ∷ 9 ∷ 193 ∷ 1 ∷ 1 ∷ 2 ∷ 58 ∷ 0 ∷ 2 ∷ 1 ∷ 1 ∷ 1 ∷ 1 ∷ 1 ∷ 1 ∷ []) ∷ []) ∷ []
+unfolding request_of command_of
+no_state_is_set_before_one_is_refused = refl
+
+a_sensor_is_not_found_by_another_id : outcomes ((1 ∷ 9 ∷ 8 ∷ 204 ∷ 1 ∷ 132 ∷ 2 ∷ 17 ∷ 9 ∷ 0 ∷ 0 ∷ []) ∷ []) ≡ Answered ((1 ∷ 8 ∷ 9 ∷ 196 ∷ 1 ∷ 4 ∷ 2 ∷ 17 ∷ 128 ∷ []) ∷ []) ∷ []
+unfolding request_of command_of
+a_sensor_is_not_found_by_another_id = refl

@@ -1,12 +1,9 @@
 pub mod CaptureRows
 pub mod ChoiceRows
 pub mod DecimalPlaces
-pub mod DescriptionLiterals
 pub mod DividerRows
-pub mod DocumentText
 pub mod LineSplits
 pub mod LookingBack
 pub mod RunsOverLines
 pub mod WordSplits
-pub mod WorkedDescriptions
 pub mod ExchangeRows

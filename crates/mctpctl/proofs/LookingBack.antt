@@ -11,14 +11,14 @@ use Rattle.mctp_assembly.specs.Laws.{FeedLooksBack, NewLooksBack}
 use Rattle.mctp_assembly.specs.Steps.{Held, answer, after}
 use Rattle.mctpctl.specs.AnswerText.{Standing, stepped, step, start_of, described_run, divided_run, run_of, looked_back, with_packet}
 use Rattle.mctpctl.specs.CaptureLine.{TimedPacket, capture_of}
-use Rattle.mctpctl.specs.Descriptions.{stated}
+use Rattle.pldm_device.specs.Descriptions.{stated}
 use Rattle.mctpctl.specs.Exchanges.{Place, fed_exchange, exchange_of}
 use Rattle.mctpctl.specs.LineRuns.{stops_at}
 use Rattle.mctpctl.specs.OutcomeTexts.{outcome_text}
 use Rattle.mctpctl.specs.TextLines.{lines_of, capture_lines, description_of}
-use Rattle.mctpctl.specs.declared.description.Description.{Description}
-use Rattle.mctpctl.specs.declared.description_fault.FileFault.{FileFault}
-use Rattle.mctpctl.specs.declared.device.Device.{Device}
+use Rattle.pldm_device.specs.declared.description.Description.{Description}
+use Rattle.pldm_device.specs.declared.description_fault.FileFault.{FileFault}
+use Rattle.pldm_device.specs.Devices.{Device}
 use Rattle.mctpctl.specs.declared.faults.EngineFault.TheVariants.{TooLarge}
 use Rattle.mctpctl.specs.declared.faults.LineKind.{LineKind}
 use Rattle.mctpctl.specs.declared.limits.TheConstants.{MAX_DESCRIPTION}

@@ -6,13 +6,13 @@ use Rattle.mctp_assembly.specs.Keys.{key_of}
 use Rattle.mctp_assembly.specs.Rows as rows
 use Rattle.mctp_assembly.specs.declared.fed.Fed.{Fed}
 use Rattle.mctpctl.specs.CaptureLine.{TimedPacket, capture_of}
-use Rattle.mctpctl.specs.Descriptions.{stated}
+use Rattle.pldm_device.specs.Descriptions.{stated}
 use Rattle.mctpctl.specs.Exchanges.{Place, exchange}
 use Rattle.mctpctl.specs.LineRuns.{Written, stops_at, lines_written}
 use Rattle.mctpctl.specs.OutcomeTexts.{outcome_text}
 use Rattle.mctpctl.specs.TextLines.{lines_of, capture_lines, description_of}
-use Rattle.mctpctl.specs.declared.description.Description.{Description}
-use Rattle.mctpctl.specs.declared.description_fault.FileFault.{FileFault}
+use Rattle.pldm_device.specs.declared.description.Description.{Description}
+use Rattle.pldm_device.specs.declared.description_fault.FileFault.{FileFault}
 use Rattle.mctpctl.specs.declared.faults.EngineFault.TheVariants as faults
 use Rattle.mctpctl.specs.declared.faults.LineKind.{LineKind}
 use Rattle.mctpctl.specs.declared.limits.TheConstants.{MAX_INPUT, MAX_DESCRIPTION}
@@ -45,7 +45,7 @@ module _ {M : Type 0} (gives : M → Packet → Fed) (with : M → Packet → M)
     -- the described device at moment 0, before the first packet
     abbrev pub start_of : Description → Standing M
     start_of description = record {
-      place = record { device = record { tid = description.tid }; packets = nothing };
+      place = record { device = description.device; packets = nothing };
       moment = 0;
     }
 

@@ -14,18 +14,18 @@ use Rattle.pldm_wire.specs.Requests.{Request, request_of}
 use Rattle.pldm_wire.specs.declared.answer.Answer.{Answer}
 use Rattle.pldm_wire.specs.declared.answer.Answer.TheVariants.{Refused}
 use Rattle.pldm_wire.specs.declared.command.Command.{Command}
-use Rattle.mctpctl.specs.DeviceAnswers.{answer_of, state_after}
-use Rattle.mctpctl.specs.declared.device.Device.{Device}
+use Rattle.pldm_device.specs.DeviceAnswers as table
+use Rattle.pldm_device.specs.Devices.{Device}
 use Rattle.mctpctl.specs.declared.outcome.Outcome.{Outcome}
 use Rattle.mctpctl.specs.declared.outcome.Outcome.TheVariants.{Dropped, Partial, Answered}
 
 -- a command that was read is answered by the device, a refused one with its completion code
 abbrev pub answer_to : Device → Result Command ℕ → Answer
-answer_to device (Ok command) = answer_of device command
+answer_to device (Ok command) = table.answer device command
 answer_to device (Err code) = Refused code
 
 abbrev pub after_command : Device → Result Command ℕ → Device
-after_command device (Ok command) = state_after device command
+after_command device (Ok command) = table.after device command
 after_command device (Err code) = device
 
 -- the message that answers a request, and the state after it

@@ -5,7 +5,7 @@ use Rattle.mctpctl.specs.declared.faults.EngineFault.{EngineFault}
 use Rattle.mctpctl.specs.declared.faults.EngineFault.TheVariants.{Device, NoDivider, Line, TooLarge, Read, Write, Memory}
 use Rattle.mctpctl.specs.declared.faults.LineKind.{LineKind}
 use Rattle.mctpctl.specs.declared.faults.LineKind.TheVariants.{LongLine, Words, Number, BackInTime, BadHex}
-use Rattle.mctpctl.specs.FileFaults.{name_of_file_fault}
+use Rattle.pldm_device.specs.FileFaults.{name_of_file_fault}
 
 abbrev pub name_of_line_kind : LineKind → List ℕ
 name_of_line_kind LongLine = codes "LongLine"

@@ -2,13 +2,8 @@ pub mod AnswerText
 pub mod BoundedRead
 pub mod CaptureLine
 pub mod Choice
-pub mod Descriptions
-pub mod DeviceAnswers
-pub mod Documents
 pub mod Exchanges
 pub mod FaultTexts
-pub mod FileFaults
-pub mod KeyValues
 pub mod LineRuns
 pub mod OutcomeTexts
 pub mod Ports

@@ -10,9 +10,6 @@ ghost use Rattle.mctpctl.specs.Ports.{inner_of, has_failed};
 ghost use Rattle.mctpctl.specs.TextLines.{lines_of};
 
 use crate::capture::{CaptureFault, CaptureLine, read_capture_line};
-use crate::description::Description;
-use crate::description_fault::FileFault;
-use crate::device::Device;
 use crate::exchange::Terminus;
 use crate::faults::{EngineFault, LineKind};
 use crate::input::{Input, InputFault, read_input};
@@ -21,6 +18,7 @@ use crate::lines::{divide, split_line};
 use crate::port::Port;
 use mctp_assembly::{Assembler, laws};
 use mctp_packet::Eid;
+use pldm_device::{Description, FileFault};
 use std::alloc::Global;
 use std::io::{Read, Write};
 
@@ -58,7 +56,7 @@ fn answer_line<W: Write>(
         Err(CaptureFault::Line(kind)) => return Err(EngineFault::Line(number, kind)),
         Err(CaptureFault::Memory) => return Err(EngineFault::Memory),
     };
-    let Ok(outcome) = running.terminus.receive(own, &bytes) else {
+    let Ok(outcome) = running.terminus.receive(alloc, own, &bytes) else {
         return Err(EngineFault::Memory);
     };
     running.moment = moment;
@@ -156,17 +154,16 @@ fn answer_input<W: Write>(
         Err(FileFault::Memory) => return Err(EngineFault::Memory),
         Err(fault) => return Err(EngineFault::Device(fault)),
     };
+    let own = description.eid;
     let start = Running {
         terminus: Terminus {
-            device: Device {
-                tid: description.tid,
-            },
+            device: description.device,
             assembler: Assembler::new(alloc),
         },
         moment: 0,
     };
     match divided.capture {
-        Some(capture) => answer_lines(alloc, description.eid, start, capture, input.is_cut, writer),
+        Some(capture) => answer_lines(alloc, own, start, capture, input.is_cut, writer),
         None if input.is_cut => Err(EngineFault::TooLarge),
         None => Ok(()),
     }

@@ -6,21 +6,25 @@ ghost use Rattle.mctp_packet.specs.Pieces.{written_packets};
 ghost use Rattle.mctpctl.specs.Exchanges.{exchange, packet_exchange, fed_exchange, message_exchange, reply, next, way_back};
 ghost use Rattle.mctpctl.specs.Standings.{place_of};
 ghost use Rattle.mctpctl.specs.declared.outcome.Outcome.{Outcome};
+ghost use Rattle.pldm_device.specs.DeviceAnswers as table;
+ghost use Rattle.pldm_wire.specs.Answers.{IsAnswerTo};
+ghost use Rattle.pldm_wire.specs.Commands.{kind_of};
 ghost use Rattle.pldm_wire.specs.Requests.{request_of};
 
-use crate::device::Device;
 use crate::outcome::Outcome;
 use mctp_assembly::{Assembler, Fed};
 use mctp_packet::{
     Body, Eid, MOST_MESSAGE_BYTES, Memory, PacketRef, Packets, Reason, Route, read_for, split,
 };
-use pldm_wire::{Answer, RequestRef, read_command, read_request, write_answer};
+use pldm_device::{Platform, SimDevice};
+use pldm_wire::{Answer, Command, RequestRef, read_command, read_request, write_answer};
+use std::alloc::Global;
 
 /// A device behind its endpoint.
 #[derive(Drop)]
 pub struct Terminus {
     /// The device.
-    pub device: Device,
+    pub device: SimDevice,
     /// The messages that have begun to come.
     pub assembler: Assembler,
 }
@@ -30,7 +34,7 @@ impl Terminus {
     ///
     /// `Memory` where a growth was refused, which only a packet that would give `Partial` wants; the
     /// terminus is then as before.
-    pub fn receive(&mut self, own: Eid, bytes: &[u8]) -> Result<Outcome, Memory>
+    pub fn receive(&mut self, alloc: Global, own: Eid, bytes: &[u8]) -> Result<Outcome, Memory>
         ensures outcome { IfOk result (λ outcome. outcome ≡ (exchange answer after own (place_of self.old) bytes.now).0) }
         ensures place { OnOk result (place_of self.new ≡ (exchange answer after own (place_of self.old) bytes.now).1) }
         ensures memory { OnErr result ((exchange answer after own (place_of self.old) bytes.now).0 ≡ Outcome.Partial) }
@@ -38,12 +42,12 @@ impl Terminus {
     {
         match read_for(own, bytes) {
             Err(reason) => Ok(Outcome::Dropped(reason)),
-            Ok(packet) => self.take(&packet),
+            Ok(packet) => self.take(alloc, &packet),
         }
     }
 
     /// Takes a packet that is addressed to the endpoint.
-    fn take(&mut self, packet: &PacketRef<'_>) -> Result<Outcome, Memory>
+    fn take(&mut self, alloc: Global, packet: &PacketRef<'_>) -> Result<Outcome, Memory>
         ensures outcome { IfOk result (λ outcome. outcome ≡ (packet_exchange answer after (place_of self.old) packet.now).0) }
         ensures place { OnOk result (place_of self.new ≡ (packet_exchange answer after (place_of self.old) packet.now).1) }
         ensures memory { OnErr result ((packet_exchange answer after (place_of self.old) packet.now).0 ≡ Outcome.Partial) }
@@ -55,48 +59,58 @@ impl Terminus {
         }
         match self.assembler.feed(packet) {
             Err(memory) => Err(memory),
-            Ok(fed) => Ok(fed_exchange(&mut self.device, route, &fed)),
+            Ok(fed) => Ok(fed_exchange(alloc, &mut self.device, route, &fed)),
         }
     }
 }
 
 /// What becomes of a packet, by what it gives.
-fn fed_exchange(device: &mut Device, route: Route, fed: &Fed) -> Outcome
+fn fed_exchange(alloc: Global, device: &mut SimDevice, route: Route, fed: &Fed) -> Outcome
     ensures outcome { result ≡ (fed_exchange device.old route fed.now).0 }
     ensures device { device.new ≡ (fed_exchange device.old route fed.now).1 }
 {
     match fed {
-        Fed::Whole(message) => message_exchange(device, route, message),
+        Fed::Whole(message) => message_exchange(alloc, device, route, message),
         Fed::Partial => Outcome::Partial,
         Fed::Dropped(reason) => Outcome::Dropped(*reason),
     }
 }
 
 /// What the device makes of a whole message.
-fn message_exchange(device: &mut Device, route: Route, message: &[u8]) -> Outcome
+fn message_exchange(alloc: Global, device: &mut SimDevice, route: Route, message: &[u8]) -> Outcome
     ensures outcome { result ≡ (message_exchange device.old route (request_of message.now)).0 }
     ensures device { device.new ≡ (message_exchange device.old route (request_of message.now)).1 }
 {
     match read_request(message) {
         Err(reason) => Outcome::Dropped(reason),
         Ok(request) => {
-            let message = reply(device, &request);
+            let message = reply(alloc, device, &request);
             Outcome::Answered(packets_back(route, &message))
         }
     }
 }
 
 /// The message that answers a request, which is performed where it is read.
-fn reply(device: &mut Device, request: &RequestRef<'_>) -> Body
+fn reply(alloc: Global, device: &mut SimDevice, request: &RequestRef<'_>) -> Body
     ensures message { result.items ≡ reply device.old request.now }
     ensures state { device.new ≡ next device.old request.now }
     ensures size { 0 < length result.items }
 {
     let answer = match read_command(request) {
-        Ok(command) => device.perform(&command),
+        Ok(command) => performed(alloc, device, &command),
         Err(code) => Answer::Refused(code),
     };
     write_answer(request.id(), request.kind(), &answer)
+}
+
+/// The answer of the device to a command, which it performs: it is steady, so never wants memory.
+#[tactic(auto, using(pldm_device::specs::DeviceLaws::answers_the_command))]
+fn performed(alloc: Global, device: &mut SimDevice, command: &Command) -> Answer
+    ensures answer { result ≡ table.answer device.old command.now }
+    ensures state { device.new ≡ table.after device.old command.now }
+    ensures variant { IsAnswerTo (kind_of command.now) result }
+{
+    device.perform(alloc, command).unwrap()
 }
 
 /// The packets that carry a message back to where its request came from.

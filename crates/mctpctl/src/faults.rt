@@ -4,8 +4,8 @@ ghost use Rattle.std.specs.Prelude.{◌≡◌, IfOk, Some, string_bytes};
 ghost use Rattle.mctpctl.specs.FaultTexts.{fault_text, name_of_line_kind};
 ghost use Rattle.mctpctl.specs.Statuses.{status_of_fault};
 
-use crate::description_fault::FileFault;
 use mctp_packet::Memory;
+use pldm_device::FileFault;
 use std::alloc::Global;
 use std::{error, fmt};
 use thiserror::Error;

@@ -4,10 +4,6 @@
 mod answer;
 mod capture;
 mod choose;
-mod description;
-mod description_fault;
-mod device;
-mod document;
 #[cfg(test)]
 mod example;
 mod exchange;
@@ -15,7 +11,6 @@ mod exchange;
 mod fakes;
 mod faults;
 mod input;
-mod keys;
 mod limits;
 mod lines;
 mod outcome;

@@ -1,10 +1,10 @@
 use crate::answer::answer_all;
-use crate::description_fault::FileFault;
 use crate::example::{description, input};
 use crate::fakes::{FailsAt, OneByteWriter, PieceReader};
 use crate::faults::{EngineFault, LineKind};
 use crate::limits::{MAX_CAPTURE_LINE, MAX_DESCRIPTION};
 use crate::port::Port;
+use pldm_device::FileFault;
 use std::alloc::{AllocError, Global};
 use std::io;
 use std::io::Read;
@@ -51,6 +51,36 @@ fn answers(rt: HostRuntime) -> Result<(), Fail> {
         ("0 010908cb0183000100", "010809c30103000102\n"),
         ("", ""),
         ("# nothing\n\n", ""),
+    ];
+    for (capture, text) in cases {
+        expect(&rt, rt.alloc(), capture, Ok(()), text)?;
+    }
+    Ok(())
+}
+
+#[test]
+fn commands_of_the_device(rt: HostRuntime) -> Result<(), Fail> {
+    let commands = format!(in rt.alloc(); "010809c10101000500000002000200060600000300{:040}\n", 0)?;
+    let cases = [
+        ("0 010908c90181023101000028", "010809c10101023100\n"),
+        (
+            "0 010908c80180023902000201020103
+0 010908c90181023a0200
+0 010908ca0182023902000201020000000000000000000000000000
+0 010908cb0183023a0200",
+            "010809c00100023981
+010809c10101023a0002010101010101
+010809c20102023900
+010809c30103023a0002010202010101
+",
+        ),
+        ("0 010908cc01840211090000", "010809c40104021180\n"),
+        ("0 010908c801800004", "010809c001000004000500000000000000\n"),
+        ("0 010908c9018100050200000000", commands.as_str()),
+        (
+            "0 010908ca01820003000000000100",
+            "010809c20102000300000000000500f0f0f1\n",
+        ),
     ];
     for (capture, text) in cases {
         expect(&rt, rt.alloc(), capture, Ok(()), text)?;

@@ -1,0 +1,4 @@
+pub mod DocumentText
+pub mod Changed
+pub mod Counts
+pub mod Blank

@@ -1,0 +1,51 @@
+-- The device that a description states: its keys are looked at in order, and the first fault is told.
+use Rattle.std.specs.Prelude.{ℕ, List, codes, Result, Ok}
+use Rattle.mctp_packet.specs.Ids.{IsEid, IsKeep}
+use Rattle.toml.specs.Data.{Members}
+use Rattle.pldm_device.specs.Devices.{Device}
+use Rattle.pldm_device.specs.Documents.{document_of}
+use Rattle.pldm_device.specs.EffecterEntries.{numeric_effecters_in, state_effecters_in}
+use Rattle.pldm_device.specs.HexValues.{time_in, versions_in}
+use Rattle.pldm_device.specs.KeyValues.{◌>>=◌, number_at, value_at}
+use Rattle.pldm_device.specs.SensorEntries.{numeric_sensors_in, state_sensors_in}
+use Rattle.pldm_device.specs.declared.description.Description.{Description}
+use Rattle.pldm_device.specs.declared.description_fault.FileFault.{FileFault}
+
+-- the device with this terminus ID
+unfoldable pub device_of : ℕ → Members → Result Device FileFault
+device_of tid document = do
+  base_versions ← value_at (codes "version0") document >>= versions_in
+  platform_versions ← value_at (codes "version2") document >>= versions_in
+  update_time ← value_at (codes "update_time") document >>= time_in
+  oem_update_time ← value_at (codes "oem_update_time") document >>= time_in
+  numeric_sensors ← numeric_sensors_in document
+  state_sensors ← state_sensors_in numeric_sensors document
+  numeric_effecters ← numeric_effecters_in document
+  state_effecters ← state_effecters_in numeric_effecters document
+  Ok (record {
+    tid = tid;
+    base_versions = base_versions;
+    platform_versions = platform_versions;
+    update_time = update_time;
+    oem_update_time = oem_update_time;
+    numeric_sensors = numeric_sensors;
+    state_sensors = state_sensors;
+    numeric_effecters = numeric_effecters;
+    state_effecters = state_effecters;
+  })
+
+unfoldable pub description_of : Members → Result Description FileFault
+description_of document = do
+  eid ← number_at (codes "eid") 8 254 document
+  keep ← number_at (codes "keep_ms") 1 60000 document
+  tid ← number_at (codes "tid") 0 254 document
+  device ← device_of tid document
+  Ok (record { eid = eid; keep = keep; device = device })
+
+-- the description that some bytes state, or why they state none
+unfoldable pub stated : List ℕ → Result Description FileFault
+stated bytes = document_of bytes >>= description_of
+
+-- the endpoint's values are in their ranges
+abbrev pub IsInRange : Description → Type 0
+IsInRange description = IsEid description.eid × IsKeep description.keep

@@ -1,0 +1,37 @@
+-- What the simulated device answers to each command, and the state that follows.
+use Rattle.pldm_wire.specs.declared.command.Command.{Command}
+use Rattle.pldm_wire.specs.declared.command.Command.TheVariants.{SetTid, GetTid, GetPldmVersion, GetPldmTypes, GetPldmCommands, GetSensorReading, GetStateSensorReadings, SetNumericEffecterValue, GetNumericEffecterValue, SetStateEffecterStates, GetStateEffecterStates, GetPdrRepositoryInfo, GetPdr}
+use Rattle.pldm_wire.specs.declared.answer.Answer.{Answer}
+use Rattle.pldm_wire.specs.declared.answer.Answer.TheVariants as answers
+use Rattle.pldm_wire.specs.declared.assigned.TheConstants.{ERROR_UNSUPPORTED_PLDM_CMD}
+use Rattle.pldm_device.specs.ById.{with_id}
+use Rattle.pldm_device.specs.Changes.{changed_or}
+use Rattle.pldm_device.specs.Devices.{Device}
+use Rattle.pldm_device.specs.BaseAnswers.{tid_set, version_answer, types, commands_answer}
+use Rattle.pldm_device.specs.SensorAnswers.{numeric_sensor_told, state_sensor_told}
+use Rattle.pldm_device.specs.EffecterAnswers.{number_set, states_set, outcome_told, numeric_effecter_told, state_effecter_told}
+
+abbrev pub answer : Device → Command → Answer
+answer device (SetTid tid) = outcome_told answers.SetTid (tid_set tid device)
+answer device GetTid = answers.GetTid device.tid
+answer device (GetPldmVersion transfer_handle operation pldm_type) = version_answer operation pldm_type device
+answer device GetPldmTypes = answers.GetPldmTypes types
+answer device (GetPldmCommands pldm_type version) = commands_answer pldm_type
+answer device (GetSensorReading sensor rearm) = numeric_sensor_told (with_id sensor device.numeric_sensors)
+answer device (GetStateSensorReadings sensor rearm) = state_sensor_told (with_id sensor device.state_sensors)
+answer device (SetNumericEffecterValue effecter value) =
+    outcome_told answers.SetNumericEffecterValue (number_set effecter value device)
+answer device (GetNumericEffecterValue effecter) = numeric_effecter_told (with_id effecter device.numeric_effecters)
+answer device (SetStateEffecterStates effecter fields) =
+    outcome_told answers.SetStateEffecterStates (states_set effecter fields device)
+answer device (GetStateEffecterStates effecter) = state_effecter_told (with_id effecter device.state_effecters)
+answer device GetPdrRepositoryInfo = answers.Refused ERROR_UNSUPPORTED_PLDM_CMD
+answer device (GetPdr record_handle transfer_handle operation request_count change_number) =
+    answers.Refused ERROR_UNSUPPORTED_PLDM_CMD
+
+-- only the commands that set change the device, and a refused one does not
+abbrev pub after : Device → Command → Device
+after device (SetTid tid) = changed_or device (tid_set tid device)
+after device (SetNumericEffecterValue effecter value) = changed_or device (number_set effecter value device)
+after device (SetStateEffecterStates effecter fields) = changed_or device (states_set effecter fields device)
+after device _ = device

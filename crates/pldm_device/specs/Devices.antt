@@ -1,0 +1,18 @@
+-- The simulated device: its terminus ID, its sensors and its effecters, and what it tells of itself.
+use Rattle.std.specs.Prelude.{ℕ, List}
+use Rattle.pldm_wire.specs.declared.state_fields.SensorStateField.{SensorStateField}
+use Rattle.pldm_device.specs.ById.{ById}
+use Rattle.pldm_device.specs.declared.numeric_sensor.NumericSensor.{NumericSensor}
+use Rattle.pldm_device.specs.declared.numeric_effecter.NumericEffecter.{NumericEffecter}
+use Rattle.pldm_device.specs.StateEffecters.{FieldsOfStates}
+
+pub record Device : Type 0 where
+  pub tid : ℕ
+  pub base_versions : List ℕ
+  pub platform_versions : List ℕ
+  pub update_time : List ℕ
+  pub oem_update_time : List ℕ
+  pub numeric_sensors : ById NumericSensor
+  pub state_sensors : ById (List SensorStateField)
+  pub numeric_effecters : ById NumericEffecter
+  pub state_effecters : ById FieldsOfStates

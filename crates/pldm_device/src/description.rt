@@ -1,0 +1,99 @@
+//! What a device description states.
+
+ghost use Rattle.std.specs.Prelude.{IfOk, IsSome, codes};
+ghost use Rattle.pldm_device.specs.Descriptions.{IsInRange, description_of, device_of, stated};
+ghost use Rattle.pldm_device.specs.FileFaults.{IsOrMemory, IsOrMemoryWhere};
+ghost use Rattle.toml.specs.Errors.{IsBlank};
+ghost use Rattle.toml.specs.Data.{get_member};
+ghost use Rattle.toml.specs.View.{table_view};
+
+use crate::description_fault::FileFault;
+use crate::device::SimDevice;
+use crate::document::read_document;
+use crate::effecter_entries::{numeric_effecters_in, state_effecters_in};
+use crate::hex_values::{time_in, versions_in};
+use crate::keys::{number_at, value_at};
+use crate::sensor_entries::{numeric_sensors_in, state_sensors_in};
+use mctp_packet::{Eid, Keep};
+use std::alloc::Global;
+use toml::Table;
+
+/// A device, as its description states it.
+#[derive(Debug, Drop)]
+pub struct Description {
+    /// The endpoint's own ID, from the key `eid`.
+    pub eid: Eid,
+    /// For how long the endpoint keeps an answer, from the key `keep_ms`.
+    pub keep: Keep,
+    /// The device behind the endpoint, from the other keys.
+    pub device: SimDevice,
+}
+
+impl Description {
+    /// Reads a description: TOML text in UTF-8, with the keys
+    ///
+    /// - `eid` (8 to 254), `keep_ms` (1 to 60,000), `tid` (0 to 254; 0 is that of a device that was
+    ///   given none, DSP0240, "GetTID");
+    /// - `version0` and `version2`: the versions of PLDM types 0 and 2 as hex text, 4 to 32 bytes, a
+    ///   multiple of 4;
+    /// - `update_time` and `oem_update_time`: the repository's times as hex text, 13 bytes;
+    /// - the lists `numeric_sensor`, `state_sensor`, `numeric_effecter` and `state_effecter`, of at
+    ///   most 1,000 entries each; a list that is missing has none.
+    ///
+    /// Other keys are ignored. Bytes that are no such text are `Toml`. The keys are looked at in the
+    /// order above, the entries of a list in turn, and at each key `MissingKey` comes before
+    /// `WrongKind`, that before `BadHex`, and that before `OutOfRange`. `Duplicate` is for a sensor
+    /// ID of an earlier sensor, of either kind, and for an effecter ID of an earlier effecter; it
+    /// comes after an entry's keys. `Memory` is for a growth that was refused, which no text without
+    /// content needs.
+    #[tactic(auto, unfolding(crate::specs::Descriptions::stated))]
+    pub fn read(alloc: Global, bytes: &[u8]) -> Result<Description, FileFault>
+        ensures stated { IsOrMemoryWhere (¬ IsBlank bytes.now) result (stated bytes.now) }
+        ensures range { IfOk result IsInRange }
+    {
+        in_document(alloc, &read_document(alloc, bytes)?)
+    }
+}
+
+// The description that the table of a whole document states.
+#[tactic(auto, using(crate::proofs::Blank::number_is_there), unfolding(crate::specs::Descriptions::description_of))]
+fn in_document(alloc: Global, table: &Table) -> Result<Description, FileFault>
+    ensures stated { IsOrMemoryWhere (IsSome (get_member (codes "eid") (table_view table.now))) result (description_of (table_view table.now)) }
+    ensures range { IfOk result IsInRange }
+{
+    let eid = number_at(table, "eid", 8, 254)?;
+    let keep = number_at(table, "keep_ms", 1, 60_000)?;
+    let tid = number_at(table, "tid", 0, 254)?;
+    let device = device_in(alloc, table, tid as u8)?;
+    Ok(Description {
+        eid: Eid::new(eid as u8).unwrap(),
+        keep: Keep::new(keep).unwrap(),
+        device,
+    })
+}
+
+// The device with this terminus ID that the table of a whole document states.
+#[tactic(auto, unfolding(crate::specs::Descriptions::device_of))]
+fn device_in(alloc: Global, table: &Table, tid: u8) -> Result<SimDevice, FileFault>
+    ensures { IsOrMemory result (device_of tid (table_view table.now)) }
+{
+    let base_versions = versions_in(alloc, value_at(table, "version0")?)?;
+    let platform_versions = versions_in(alloc, value_at(table, "version2")?)?;
+    let update_time = time_in(alloc, value_at(table, "update_time")?)?;
+    let oem_update_time = time_in(alloc, value_at(table, "oem_update_time")?)?;
+    let numeric_sensors = numeric_sensors_in(alloc, table)?;
+    let state_sensors = state_sensors_in(alloc, table, &numeric_sensors)?;
+    let numeric_effecters = numeric_effecters_in(alloc, table)?;
+    let state_effecters = state_effecters_in(alloc, table, &numeric_effecters)?;
+    Ok(SimDevice {
+        tid,
+        base_versions,
+        platform_versions,
+        update_time,
+        oem_update_time,
+        numeric_sensors,
+        state_sensors,
+        numeric_effecters,
+        state_effecters,
+    })
+}

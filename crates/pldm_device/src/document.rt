@@ -1,0 +1,28 @@
+//! Reading a TOML document.
+
+ghost use Rattle.std.specs.Prelude.{◌≡◌, ◌⊎◌, IsErrOf};
+ghost use Rattle.pldm_device.specs.Documents.{document_of};
+ghost use Rattle.pldm_device.specs.KeyValues.{map_ok};
+ghost use Rattle.toml.specs.Errors.{IsBlank};
+ghost use Rattle.toml.specs.View.{table_view};
+
+use crate::description_fault::FileFault;
+use std::alloc::Global;
+use toml::Table;
+
+/// The document that the bytes are; `Toml` where they are none. `Memory` is for a growth that was
+/// refused, which no text without content needs.
+pub(crate) fn read_document(alloc: Global, bytes: &[u8]) -> Result<Table, FileFault>
+    ensures { (IsErrOf result FileFault.Memory × ¬ IsBlank bytes.now) ⊎ (map_ok table_view result ≡ document_of bytes.now) }
+{
+    match toml::table_from_slice(alloc, bytes) {
+        Ok(table) => Ok(table),
+        Err(error) => {
+            if error.is_memory() {
+                Err(FileFault::Memory)
+            } else {
+                Err(FileFault::Toml)
+            }
+        }
+    }
+}

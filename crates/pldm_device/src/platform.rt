@@ -1,0 +1,100 @@
+//! The platform behind a terminus: what performs its commands.
+
+use crate::ReadingFault;
+use mctp_packet::Memory;
+use pldm_wire::{Answer, Command};
+use std::alloc::Global;
+
+/// What stands behind a PLDM terminus: a device with a state, which performs commands.
+///
+/// A vendor puts a real device behind it. `State` names what the commands tell and set; no value of
+/// it is made, and it is seen in proofs only. `state` gives the state of a value, `answer` the answer
+/// that a command gets in a state, `after` the state that follows, and `sensed` the state after a
+/// sensor was given a reading, or why it wasn't given. `perform` and `set_reading` have to do what
+/// these say. Where the device's own state can't be known in advance, as that of a sensor over a bus,
+/// `State` is what the value has read of it, and a call of the value's own takes in what is new.
+///
+/// The laws, which each implementation proves of its definitions:
+///
+/// - `reads_only`: a command that doesn't set leaves the state as it is;
+/// - `refusal_changes_nothing`: so does a command that is refused;
+/// - `answers_the_command`: the answer is one to the command's kind, or a refusal.
+///
+/// After Memory the state is as before, so that the command may come again. `STEADY` says that
+/// `perform` never answers Memory.
+///
+/// # Example
+///
+/// A lamp, whose terminus ID is all that it has:
+///
+/// ```rust
+/// #[derive(Drop)]
+/// struct Lamp { tid: u8 }
+///
+/// impl Platform for Lamp {
+///     type State = u8;
+///     const STEADY: bool = true;
+///     ghost STEADY = { true };
+///     ghost state = { λ lamp. lamp.tid };
+///     ghost answer = { lamp_answer };
+///     ghost after = { λ tid command. tid };
+///     ghost sensed = { λ tid id value. Err NoSuchSensor };
+///     fn perform(&mut self, alloc: Global, command: &Command) -> Result<Answer, Memory> {
+///         Ok(match command {
+///             Command::GetTid => Answer::GetTid { tid: self.tid },
+///             _ => Answer::Refused(Code::ERROR_UNSUPPORTED_PLDM_CMD),
+///         })
+///     }
+///     fn set_reading(&mut self, id: u16, value: i64) -> Result<(), ReadingFault> {
+///         Err(ReadingFault::NoSuchSensor)
+///     }
+/// }
+/// ```
+pub trait Platform: Drop {
+    ghost use Rattle.std.specs.Prelude.{◌≡◌, ℕ, ℤ, Bool, false, Result, IfOk, IsOk, OnOk, OnErr, IsTrue};
+    ghost use Rattle.pldm_wire.specs.Commands.{kind_of, sets};
+    ghost use Rattle.pldm_wire.specs.Answers.{IsAnswerTo};
+    ghost use Rattle.pldm_wire.specs.declared.command.Command.{Command};
+    ghost use Rattle.pldm_wire.specs.declared.answer.Answer.{Answer};
+    ghost use Rattle.pldm_wire.specs.declared.answer.Answer.TheVariants as answers;
+    ghost use Rattle.pldm_device.specs.Changes.{Changes};
+    ghost use Rattle.pldm_device.specs.declared.reading_fault.ReadingFault.{ReadingFault};
+
+    /// What the commands tell and set. No value of it is made.
+    type State;
+
+    /// Whether `perform` never answers Memory.
+    const STEADY: bool;
+
+    ghost STEADY: { Bool };
+
+    // the state of a value
+    ghost state: { Self → Self.State };
+
+    // the answer to a command in a state
+    ghost answer: { Self.State → Command → Answer };
+
+    // the state that follows a command
+    ghost after: { Self.State → Command → Self.State };
+
+    // the state after a sensor was given a reading, or why it wasn't
+    ghost sensed: { Self.State → ℕ → ℤ → Result Self.State ReadingFault };
+
+    /// Performs the command and gives its answer. After Memory the state is as before.
+    fn perform(&mut self, alloc: Global, command: &Command) -> Result<Answer, Memory>
+        ensures answered { IfOk result (λ given. given ≡ answer (state self.old) command.now) }
+        ensures changed { OnOk result (state self.new ≡ after (state self.old) command.now) }
+        ensures unchanged { OnErr result (state self.new ≡ state self.old) }
+        ensures steady { IsTrue STEADY → IsOk result };
+
+    /// Gives the numeric sensor with this ID the reading `value`. The state is as before where it
+    /// answers a fault.
+    fn set_reading(&mut self, id: u16, value: i64) -> Result<(), ReadingFault>
+        ensures { Changes (sensed (state self.old) id value) (state self.old) result (state self.new) };
+
+    ghost reads_only: { (s : Self.State) (command : Command) → sets command ≡ false → after s command ≡ s };
+
+    ghost refusal_changes_nothing: { (s : Self.State) (command : Command) (code : ℕ) → answer s command ≡ answers.Refused code → after s command ≡ s };
+
+    ghost answers_the_command: { (s : Self.State) (command : Command) → IsAnswerTo (kind_of command) (answer s command) };
+}
