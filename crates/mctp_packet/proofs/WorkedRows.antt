@@ -5,7 +5,6 @@ use Rattle.mctp_packet.specs.Pieces.{written_packets}
 use Rattle.mctp_packet.specs.Reading.{reading}
 use Rattle.mctp_packet.specs.declared.reason.Reason.TheVariants.{Short, BadVersion, UnknownDestination, BadSource, NoPayload, UnsupportedUnit}
 
-
 a_request : reading (Some 9) (1 ∷ 9 ∷ 8 ∷ 200 ∷ 1 ∷ 128 ∷ 0 ∷ 2 ∷ []) ≡ Ok (packet (record { destination = 9; source = 8; owner = true; tag = 0 }) true true 0 (1 ∷ 128 ∷ 0 ∷ 2 ∷ []))
 a_request = refl
 

@@ -14,6 +14,8 @@ mod input;
 mod limits;
 mod lines;
 mod outcome;
+#[cfg(test)]
+mod platform_example;
 mod port;
 
 use crate::answer::answer_all;

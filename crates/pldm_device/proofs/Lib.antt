@@ -2,3 +2,5 @@ pub mod DocumentText
 pub mod Changed
 pub mod Counts
 pub mod Blank
+pub mod DescriptionLiterals
+pub mod WorkedDescriptions

@@ -18,3 +18,4 @@ pub mod Entries
 pub mod SensorEntries
 pub mod EffecterEntries
 pub mod Getters
+pub mod Recorders

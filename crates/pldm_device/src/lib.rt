@@ -22,6 +22,8 @@ mod refusals;
 mod sensor_entries;
 mod size_names;
 mod state_effecter;
+#[cfg(test)]
+mod tests;
 
 pub use description::Description;
 pub use description_fault::FileFault;

@@ -25,30 +25,76 @@ use std::alloc::Global;
 ///
 /// # Example
 ///
-/// A lamp, whose terminus ID is all that it has:
+/// A lamp whose terminus ID is all that its commands tell or set:
 ///
 /// ```rust
 /// #[derive(Drop)]
-/// struct Lamp { tid: u8 }
+/// struct Lamp {
+///     tid: u8,
+/// }
 ///
 /// impl Platform for Lamp {
 ///     type State = u8;
+///
 ///     const STEADY: bool = true;
+///
 ///     ghost STEADY = { true };
+///
 ///     ghost state = { λ lamp. lamp.tid };
+///
 ///     ghost answer = { lamp_answer };
-///     ghost after = { λ tid command. tid };
+///
+///     ghost after = { lamp_after };
+///
 ///     ghost sensed = { λ tid id value. Err NoSuchSensor };
-///     fn perform(&mut self, alloc: Global, command: &Command) -> Result<Answer, Memory> {
+///
+///     ghost reads_only = { lamp_reads_only };
+///
+///     ghost refusal_changes_nothing = { lamp_refusal };
+///
+///     ghost answers_the_command = { lamp_answers };
+///
+///     fn perform(&mut self, _alloc: Global, command: &Command) -> Result<Answer, Memory> {
 ///         Ok(match command {
+///             Command::SetTid { tid } => {
+///                 self.tid = *tid;
+///                 Answer::SetTid
+///             }
 ///             Command::GetTid => Answer::GetTid { tid: self.tid },
 ///             _ => Answer::Refused(Code::ERROR_UNSUPPORTED_PLDM_CMD),
 ///         })
 ///     }
-///     fn set_reading(&mut self, id: u16, value: i64) -> Result<(), ReadingFault> {
+///
+///     fn set_reading(&mut self, _id: u16, _value: i64) -> Result<(), ReadingFault> {
 ///         Err(ReadingFault::NoSuchSensor)
 ///     }
 /// }
+/// ```
+///
+/// with these definitions and laws in a file of `specs/`:
+///
+/// ```text
+/// lamp_answer : ℕ → Command → Answer
+/// lamp_answer tid (SetTid new) = answers.SetTid
+/// lamp_answer tid GetTid = answers.GetTid tid
+/// lamp_answer tid _ = answers.Refused ERROR_UNSUPPORTED_PLDM_CMD
+///
+/// lamp_after : ℕ → Command → ℕ
+/// lamp_after tid (SetTid new) = new
+/// lamp_after tid _ = tid
+///
+/// lamp_reads_only : (tid : ℕ) (command : Command) → sets command ≡ false → lamp_after tid command ≡ tid
+/// lamp_reads_only tid (SetTid new) asks = cc
+/// lamp_reads_only tid _ asks = refl
+///
+/// lamp_refusal : (tid : ℕ) (command : Command) (code : ℕ) → lamp_answer tid command ≡ answers.Refused code → lamp_after tid command ≡ tid
+/// lamp_refusal tid (SetTid new) code refused = cc
+/// lamp_refusal tid _ code refused = refl
+///
+/// lamp_answers : (tid : ℕ) (command : Command) → IsAnswerTo (kind_of command) (lamp_answer tid command)
+/// lamp_answers tid (SetTid new) = refl
+/// lamp_answers tid GetTid = refl
+/// lamp_answers tid _ = tt
 /// ```
 pub trait Platform: Drop {
     ghost use Rattle.std.specs.Prelude.{◌≡◌, ℕ, ℤ, Bool, false, Result, IfOk, IsOk, OnOk, OnErr, IsTrue};

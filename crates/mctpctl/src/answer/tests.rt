@@ -3,6 +3,7 @@ use crate::example::{description, input};
 use crate::fakes::{FailsAt, OneByteWriter, PieceReader};
 use crate::faults::{EngineFault, LineKind};
 use crate::limits::{MAX_CAPTURE_LINE, MAX_DESCRIPTION};
+use crate::platform_example;
 use crate::port::Port;
 use pldm_device::FileFault;
 use std::alloc::{AllocError, Global};
@@ -85,6 +86,14 @@ fn commands_of_the_device(rt: HostRuntime) -> Result<(), Fail> {
     for (capture, text) in cases {
         expect(&rt, rt.alloc(), capture, Ok(()), text)?;
     }
+    Ok(())
+}
+
+#[test]
+fn sensors_and_effecters_of_each_kind(rt: HostRuntime) -> Result<(), Fail> {
+    let (result, written) = run(rt.alloc(), platform_example::INPUT.as_bytes())?;
+    assert_eq!(rt; result, Ok(()));
+    assert_eq!(rt; written.as_slice(), platform_example::TEXT.as_bytes());
     Ok(())
 }
 
