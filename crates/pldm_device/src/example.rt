@@ -31,9 +31,3 @@ values = [1, 1]
 pub fn description(alloc: Global) -> Result<String, AllocError> {
     format!(in alloc; "{DEVICE}hex = \"01000000010100002201{:0580}\"\n", 0)
 }
-
-/// An input: the example device, the divider, and a capture.
-pub fn input(alloc: Global, capture: &str) -> Result<String, AllocError> {
-    let device = description(alloc)?;
-    format!(in alloc; "{device}%%\n{capture}")
-}

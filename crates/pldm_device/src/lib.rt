@@ -10,6 +10,8 @@ mod entries;
 #[cfg(test)]
 mod example;
 mod hex_values;
+#[cfg(test)]
+mod hoard;
 mod keys;
 mod limits;
 mod number_lists;

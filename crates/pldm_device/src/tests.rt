@@ -1,4 +1,5 @@
 mod faults;
+mod memory;
 mod recorder;
 
 use crate::example::description;
