@@ -71,8 +71,15 @@ fn numeric_effecters_are_set_at_each_size(rt: HostRuntime) {
         ([0x01, 0x80].as_slice(), Size::Sint8, -128),
         ([0x01, 0x7f].as_slice(), Size::Sint8, 127),
         ([0x02, 0xfe, 0xff].as_slice(), Size::Uint16, 65_534),
+        ([0x02, 0xff, 0xff].as_slice(), Size::Uint16, 65_535),
         ([0x03, 0xfe, 0xff].as_slice(), Size::Sint16, -2),
         ([0x03, 0x00, 0x80].as_slice(), Size::Sint16, -32_768),
+        ([0x03, 0xff, 0x7f].as_slice(), Size::Sint16, 32_767),
+        (
+            [0x04, 0xff, 0xff, 0xff, 0xff].as_slice(),
+            Size::Uint32,
+            4_294_967_295,
+        ),
         (
             [0x04, 0xfe, 0xff, 0xff, 0xff].as_slice(),
             Size::Uint32,
@@ -113,6 +120,18 @@ fn other_effecter_commands_are_read_and_written(rt: HostRuntime) {
         &rt,
         &[0x01, 0x83, 0x02, 0x3a, 0x02, 0x00],
         &Command::GetStateEffecterStates { effecter: 2 },
+    );
+    let one = [SetStateField {
+        request: 0,
+        state: 9,
+    }];
+    both_ways(
+        &rt,
+        &[0x01, 0x80, 0x02, 0x39, 0x02, 0x00, 0x01, 0x00, 0x09],
+        &Command::SetStateEffecterStates {
+            effecter: 2,
+            fields: sets(&rt, &one),
+        },
     );
     let two = [
         SetStateField {
