@@ -1,5 +1,5 @@
 -- The definitions computed on messages: what each of these bytes is read as, and what is written.
-use Rattle.std.proofs.Common.{◌≡◌, ℕ, pos, negsuc, [], ◌∷◌, Some, Ok, Err, refl}
+use Rattle.std.proofs.Common.{◌≡◌, ℕ, pos, negsuc, List, [], ◌∷◌, ◌++◌, replicate, Some, Ok, Err, refl}
 use Rattle.mctp_packet.specs.declared.reason.Reason.TheVariants.{NotPldm, Integrity, ShortHeader, BadPldmHeader, NotRequest, Datagram, NotResponse}
 use Rattle.pldm_wire.specs.Kinds.{of_type}
 use Rattle.pldm_wire.specs.Requests.{request, request_of}
@@ -11,6 +11,7 @@ use Rattle.pldm_wire.specs.Commands.{command_data, command_message}
 use Rattle.pldm_wire.specs.CommandReading.{command_of}
 use Rattle.pldm_wire.specs.Answers.{answer_message}
 use Rattle.pldm_wire.specs.AnswerReading.{success_of, answer_of}
+use Rattle.pldm_wire.specs.Crc.{divisor, times_divisor, crc}
 use Rattle.pldm_wire.specs.declared.size.Size.TheVariants.{Uint8, Sint16, Sint32}
 use Rattle.pldm_wire.specs.declared.state_fields.SetStateField.{SetStateField}
 use Rattle.pldm_wire.specs.declared.transfer_flag.TransferFlag.TheVariants.{End}
@@ -208,3 +209,28 @@ last_part = refl
 
 values_told : answer_message 3 (of_type 2 0x32) (answers.GetNumericEffecterValue 1 (two_numbers (sized Uint8 (pos 40)) (sized Uint8 (pos 40)))) ≡ 0x01 ∷ 0x03 ∷ 0x02 ∷ 0x32 ∷ 0x00 ∷ 0x00 ∷ 0x01 ∷ 0x28 ∷ 0x28 ∷ []
 values_told = refl
+
+-- checksums
+
+divisor_taken_once : times_divisor 1 ≡ divisor
+divisor_taken_once = refl
+
+no_bytes_checksum : crc [] ≡ 0
+unfolding crc
+no_bytes_checksum = refl
+
+digits_checksum : crc (0x31 ∷ 0x32 ∷ 0x33 ∷ 0x34 ∷ 0x35 ∷ 0x36 ∷ 0x37 ∷ 0x38 ∷ 0x39 ∷ []) ≡ 0xf4
+unfolding crc
+digits_checksum = refl
+
+-- the first bytes of a record
+abbrev header : List ℕ
+header = 0x01 ∷ 0x00 ∷ 0x00 ∷ 0x00 ∷ 0x01 ∷ 0x01 ∷ 0x00 ∷ 0x00 ∷ 0x22 ∷ 0x01 ∷ []
+
+header_checksum : crc header ≡ 0xa0
+unfolding crc
+header_checksum = refl
+
+record_checksum : crc (header ++ replicate 290 0) ≡ 0xf5
+unfolding crc
+record_checksum = refl

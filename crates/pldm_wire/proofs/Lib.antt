@@ -19,4 +19,8 @@ pub mod ReadResponses
 pub mod ReadRequests
 pub mod ReadCommands
 pub mod ReadBack
+pub mod Polynomials
+pub mod Remainders
+pub mod Checksums
+pub mod ChecksumTable
 mod Examples

@@ -1,5 +1,5 @@
--- Laws of messages, commands and answers over the definitions alone.
-use Rattle.std.specs.Prelude.{◌≡◌, ℕ, ◌<◌, List, Ok}
+-- Laws of messages, commands, answers and checksums over the definitions alone.
+use Rattle.std.specs.Prelude.{◌≡◌, ℕ, ◌<◌, List, slice_index, Ok}
 use Rattle.pldm_wire.specs.Kinds.{TypeAndCommand}
 use Rattle.pldm_wire.specs.Messages.{IsRequest, IsResponse}
 use Rattle.pldm_wire.specs.Requests.{request, request_of}
@@ -8,6 +8,7 @@ use Rattle.pldm_wire.specs.Commands.{kind_of, CommandFields, IsCommand, command_
 use Rattle.pldm_wire.specs.CommandReading.{command_of}
 use Rattle.pldm_wire.specs.Answers.{IsAnswerTo, AnswerFields, IsAnswer, code_of, answer_data, answer_message}
 use Rattle.pldm_wire.specs.AnswerReading.{answer_of, AnswersCommand}
+use Rattle.pldm_wire.specs.Crc.{IsRemainder, IsCrc, crc}
 use Rattle.pldm_wire.specs.declared.command.Command.{Command}
 use Rattle.pldm_wire.specs.declared.answer.Answer.{Answer}
 
@@ -92,3 +93,20 @@ WrittenAnswerReadBack =
     (id : ℕ) (command : Command) (answer : Answer) → id < 32 → IsAnswerTo (kind_of command) answer → IsAnswer answer
     → (response_of (answer_message id (kind_of command) answer) ≡ Ok (response id (kind_of command) (code_of answer) (answer_data answer)))
     × (answer_of (kind_of command) (kind_of command) (code_of answer) (answer_data answer) ≡ Ok answer)
+
+-- no number has two remainders
+abbrev pub OneRemainder : Type 0
+OneRemainder =
+    (number remainder other : ℕ)
+    → IsRemainder number remainder → IsRemainder number other → remainder ≡ other
+
+-- what long division leaves of bytes is their remainder
+abbrev pub CrcIsRemainder : Type 0
+CrcIsRemainder =
+    (bytes : List ℕ) → ((i : ℕ) → slice_index bytes i < 256) → IsCrc bytes (crc bytes)
+
+-- and they have no other
+abbrev pub OnlyCrc : Type 0
+OnlyCrc =
+    (bytes : List ℕ) (remainder : ℕ) → ((i : ℕ) → slice_index bytes i < 256)
+    → IsCrc bytes remainder → remainder ≡ crc bytes

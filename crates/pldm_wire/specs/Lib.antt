@@ -20,4 +20,5 @@ pub mod Answers
 pub mod BaseAnswerReading
 pub mod PlatformAnswerReading
 pub mod AnswerReading
+pub mod Crc
 pub mod Laws

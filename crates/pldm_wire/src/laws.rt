@@ -1,6 +1,6 @@
 //! Laws over the definitions alone. Nothing is computed: each function's contract is its law.
 
-ghost use Rattle.pldm_wire.specs.Laws.{AnswerReadBack, AnswerWritten, CommandReadBack, CommandWritten, OneAnswer, OneCommand, OneRequest, OneResponse, RequestOrResponse, RequestReadBack, ResponseReadBack, WrittenAnswerReadBack, WrittenCommandReadBack};
+ghost use Rattle.pldm_wire.specs.Laws.{AnswerReadBack, AnswerWritten, CommandReadBack, CommandWritten, CrcIsRemainder, OneAnswer, OneCommand, OneRemainder, OneRequest, OneResponse, OnlyCrc, RequestOrResponse, RequestReadBack, ResponseReadBack, WrittenAnswerReadBack, WrittenCommandReadBack};
 
 /// Bytes are one request at most, one response at most, and not both; and each is read as itself.
 pub fn messages_are_told_apart()
@@ -32,4 +32,12 @@ pub fn answers_are_read_back()
     ensures reads_back { AnswerReadBack }
     ensures written { AnswerWritten }
     ensures written_reads_back { WrittenAnswerReadBack }
+{}
+
+/// No number has two remainders by the divisor of checksums. What long division leaves of bytes is
+/// the remainder of their bits and eight zeros, and they have no other.
+pub fn checksums_are_remainders()
+    ensures one { OneRemainder }
+    ensures remainder { CrcIsRemainder }
+    ensures only { OnlyCrc }
 {}

@@ -1,4 +1,5 @@
-//! PLDM messages (DSP0240, DSP0248): headers, commands and answers as bytes.
+//! PLDM messages (DSP0240, DSP0248): headers, commands and answers as bytes, and the checksum of a
+//! record.
 #![tactic(auto)]
 
 mod answer;
@@ -11,6 +12,7 @@ mod code;
 mod command;
 mod command_reading;
 mod command_writing;
+mod crc;
 mod effecter_values;
 mod effecters;
 mod header;
@@ -46,6 +48,7 @@ pub use code::Code;
 pub use command::Command;
 pub use command_reading::read_command;
 pub use command_writing::write_command;
+pub use crc::crc8;
 pub use effecter_values::EffecterValues;
 pub use kind::Kind;
 pub use limits::{

@@ -6,6 +6,7 @@ use std::process::Abort;
 use std::test::Fail;
 
 mod answers;
+mod checksums;
 mod commands;
 
 /// A number that fits its size.
