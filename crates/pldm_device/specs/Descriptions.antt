@@ -7,6 +7,7 @@ use Rattle.pldm_device.specs.Documents.{document_of}
 use Rattle.pldm_device.specs.EffecterEntries.{numeric_effecters_in, state_effecters_in}
 use Rattle.pldm_device.specs.HexValues.{time_in, versions_in}
 use Rattle.pldm_device.specs.KeyValues.{◌>>=◌, number_at, value_at}
+use Rattle.pldm_device.specs.RecordEntries.{records_in}
 use Rattle.pldm_device.specs.SensorEntries.{numeric_sensors_in, state_sensors_in}
 use Rattle.pldm_device.specs.declared.description.Description.{Description}
 use Rattle.pldm_device.specs.declared.description_fault.FileFault.{FileFault}
@@ -22,6 +23,7 @@ device_of tid document = do
   state_sensors ← state_sensors_in numeric_sensors document
   numeric_effecters ← numeric_effecters_in document
   state_effecters ← state_effecters_in numeric_effecters document
+  records ← records_in document
   Ok (record {
     tid = tid;
     base_versions = base_versions;
@@ -32,6 +34,7 @@ device_of tid document = do
     state_sensors = state_sensors;
     numeric_effecters = numeric_effecters;
     state_effecters = state_effecters;
+    records = records;
   })
 
 unfoldable pub description_of : Members → Result Description FileFault

@@ -3,13 +3,13 @@ use Rattle.pldm_wire.specs.declared.command.Command.{Command}
 use Rattle.pldm_wire.specs.declared.command.Command.TheVariants.{SetTid, GetTid, GetPldmVersion, GetPldmTypes, GetPldmCommands, GetSensorReading, GetStateSensorReadings, SetNumericEffecterValue, GetNumericEffecterValue, SetStateEffecterStates, GetStateEffecterStates, GetPdrRepositoryInfo, GetPdr}
 use Rattle.pldm_wire.specs.declared.answer.Answer.{Answer}
 use Rattle.pldm_wire.specs.declared.answer.Answer.TheVariants as answers
-use Rattle.pldm_wire.specs.declared.assigned.TheConstants.{ERROR_UNSUPPORTED_PLDM_CMD}
 use Rattle.pldm_device.specs.ById.{with_id}
 use Rattle.pldm_device.specs.Changes.{changed_or}
 use Rattle.pldm_device.specs.Devices.{Device}
 use Rattle.pldm_device.specs.BaseAnswers.{tid_set, version_answer, types, commands_answer}
 use Rattle.pldm_device.specs.SensorAnswers.{numeric_sensor_told, state_sensor_told}
 use Rattle.pldm_device.specs.EffecterAnswers.{number_set, states_set, outcome_told, numeric_effecter_told, state_effecter_told}
+use Rattle.pldm_device.specs.RecordAnswers.{record_answer, repository_info}
 
 abbrev pub answer : Device → Command → Answer
 answer device (SetTid tid) = outcome_told answers.SetTid (tid_set tid device)
@@ -25,9 +25,9 @@ answer device (GetNumericEffecterValue effecter) = numeric_effecter_told (with_i
 answer device (SetStateEffecterStates effecter fields) =
     outcome_told answers.SetStateEffecterStates (states_set effecter fields device)
 answer device (GetStateEffecterStates effecter) = state_effecter_told (with_id effecter device.state_effecters)
-answer device GetPdrRepositoryInfo = answers.Refused ERROR_UNSUPPORTED_PLDM_CMD
+answer device GetPdrRepositoryInfo = repository_info device
 answer device (GetPdr record_handle transfer_handle operation request_count change_number) =
-    answers.Refused ERROR_UNSUPPORTED_PLDM_CMD
+    record_answer record_handle transfer_handle operation request_count device.records
 
 -- only the commands that set change the device, and a refused one does not
 abbrev pub after : Device → Command → Device

@@ -1,5 +1,5 @@
 -- The simulated device keeps the laws of a platform.
-use Rattle.std.specs.Prelude.{◌≡◌, ℕ, ◌==◌, nat_lt, Bool, true, false, List, Option, Some, None, Result, Ok, Err, refl, if◌then◌else◌}
+use Rattle.std.specs.Prelude.{◌≡◌, ℕ, ◌+◌, ◌==◌, nat_lt, Bool, true, false, List, Option, Some, None, Result, Ok, Err, refl, slice_get, if◌then◌else◌}
 use Rattle.pldm_wire.specs.Commands.{kind_of, sets}
 use Rattle.pldm_wire.specs.Answers.{IsAnswerTo}
 use Rattle.pldm_wire.specs.Kinds.{TypeAndCommand}
@@ -7,7 +7,7 @@ use Rattle.pldm_wire.specs.declared.command.Command.{Command}
 use Rattle.pldm_wire.specs.declared.command.Command.TheVariants.{SetTid, GetTid, GetPldmVersion, GetPldmTypes, GetPldmCommands, GetSensorReading, GetStateSensorReadings, SetNumericEffecterValue, GetNumericEffecterValue, SetStateEffecterStates, GetStateEffecterStates, GetPdrRepositoryInfo, GetPdr}
 use Rattle.pldm_wire.specs.declared.answer.Answer.{Answer}
 use Rattle.pldm_wire.specs.declared.answer.Answer.TheVariants as answers
-use Rattle.pldm_wire.specs.declared.assigned.TheConstants.{BASE, PLATFORM}
+use Rattle.pldm_wire.specs.declared.assigned.TheConstants.{BASE, PLATFORM, ERROR_INVALID_DATA}
 use Rattle.pldm_device.specs.declared.limits.TheConstants.{GET_FIRST_PART, GET_NEXT_PART, INVALID_TRANSFER_OPERATION, INVALID_DATA_TRANSFER_HANDLE, INVALID_PLDM_TYPE}
 use Rattle.pldm_device.specs.ById.{with_id}
 use Rattle.pldm_device.specs.Changes.{changed_or}
@@ -15,6 +15,8 @@ use Rattle.pldm_device.specs.Devices.{Device}
 use Rattle.pldm_device.specs.BaseAnswers.{tid_set, versions_told, versions_of, base_commands, platform_commands}
 use Rattle.pldm_device.specs.SensorAnswers.{numeric_sensor_told, state_sensor_told}
 use Rattle.pldm_device.specs.EffecterAnswers.{number_set, states_set, outcome_told, numeric_effecter_told, state_effecter_told}
+use Rattle.pldm_device.specs.Records.{handle_at, position_asked}
+use Rattle.pldm_device.specs.RecordAnswers.{offset_asked, part_told, record_told, record_at}
 use Rattle.pldm_device.specs.DeviceAnswers.{answer, after}
 
 pub reads_only : (device : Device) (command : Command) → sets command ≡ false → after device command ≡ device
@@ -79,6 +81,23 @@ commands_to pldm_type version true platform = refl
 commands_to pldm_type version false true = refl
 commands_to pldm_type version false false = tt
 
+part_to : (record_handle transfer_handle operation request_count change_number next_record_handle : ℕ) (pdr : List ℕ) (offset : Option ℕ) → IsAnswerTo (kind_of (GetPdr record_handle transfer_handle operation request_count change_number)) (part_told next_record_handle request_count pdr offset)
+part_to record_handle transfer_handle operation request_count change_number next_record_handle pdr None = tt
+part_to record_handle transfer_handle operation request_count change_number next_record_handle pdr (Some offset) = refl
+
+told_part_to : (record_handle transfer_handle operation request_count change_number next_record_handle : ℕ) (pdr : Option (List ℕ)) → IsAnswerTo (kind_of (GetPdr record_handle transfer_handle operation request_count change_number)) (record_told next_record_handle transfer_handle operation request_count pdr)
+told_part_to record_handle transfer_handle operation request_count change_number next_record_handle None = tt
+told_part_to record_handle transfer_handle operation request_count change_number next_record_handle (Some pdr) = part_to record_handle transfer_handle operation request_count change_number next_record_handle pdr (offset_asked operation transfer_handle pdr)
+
+place_to : (record_handle transfer_handle operation request_count change_number : ℕ) (records : List (List ℕ)) (place : Option ℕ) → IsAnswerTo (kind_of (GetPdr record_handle transfer_handle operation request_count change_number)) (record_at transfer_handle operation request_count records place)
+place_to record_handle transfer_handle operation request_count change_number records None = tt
+place_to record_handle transfer_handle operation request_count change_number records (Some place) = told_part_to record_handle transfer_handle operation request_count change_number (handle_at (place + 1) records) (slice_get records place)
+
+record_to : (record_handle transfer_handle operation request_count change_number : ℕ) (records : List (List ℕ)) (nothing other : Bool) → IsAnswerTo (kind_of (GetPdr record_handle transfer_handle operation request_count change_number)) (if nothing then answers.Refused ERROR_INVALID_DATA else if other then answers.Refused INVALID_TRANSFER_OPERATION else record_at transfer_handle operation request_count records (position_asked record_handle records))
+record_to record_handle transfer_handle operation request_count change_number records true other = tt
+record_to record_handle transfer_handle operation request_count change_number records false true = tt
+record_to record_handle transfer_handle operation request_count change_number records false false = place_to record_handle transfer_handle operation request_count change_number records (position_asked record_handle records)
+
 pub answers_the_command : (device : Device) (command : Command) → IsAnswerTo (kind_of command) (answer device command)
 answers_the_command device (SetTid tid) = told_to _ _ (tid_set tid device) refl
 answers_the_command device GetTid = refl
@@ -92,5 +111,6 @@ answers_the_command device (SetNumericEffecterValue effecter value) = told_to _ 
 answers_the_command device (GetNumericEffecterValue effecter) = elim (with_id effecter device.numeric_effecters) as (λ found. IsAnswerTo (kind_of (GetNumericEffecterValue effecter)) (numeric_effecter_told found)) [ None ↦ tt | Some x ↦ refl ]
 answers_the_command device (SetStateEffecterStates effecter fields) = told_to _ _ (states_set effecter fields device) refl
 answers_the_command device (GetStateEffecterStates effecter) = elim (with_id effecter device.state_effecters) as (λ found. IsAnswerTo (kind_of (GetStateEffecterStates effecter)) (state_effecter_told found)) [ None ↦ tt | Some x ↦ refl ]
-answers_the_command device GetPdrRepositoryInfo = tt
-answers_the_command device (GetPdr record_handle transfer_handle operation request_count change_number) = tt
+answers_the_command device GetPdrRepositoryInfo = refl
+answers_the_command device (GetPdr record_handle transfer_handle operation request_count change_number) =
+    record_to record_handle transfer_handle operation request_count change_number device.records (request_count == 0) (nat_lt GET_FIRST_PART operation)

@@ -1,4 +1,5 @@
--- The simulated device: its terminus ID, its sensors and its effecters, and what it tells of itself.
+-- The simulated device: its terminus ID, its sensors, its effecters and its records, and what it tells
+-- of itself.
 use Rattle.std.specs.Prelude.{ℕ, List}
 use Rattle.pldm_wire.specs.declared.state_fields.SensorStateField.{SensorStateField}
 use Rattle.pldm_device.specs.ById.{ById}
@@ -16,3 +17,4 @@ pub record Device : Type 0 where
   pub state_sensors : ById (List SensorStateField)
   pub numeric_effecters : ById NumericEffecter
   pub state_effecters : ById FieldsOfStates
+  pub records : List (List ℕ)

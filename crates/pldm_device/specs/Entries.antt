@@ -1,4 +1,4 @@
--- The lists of sensors and effecters in a description.
+-- The lists of sensors, effecters and records in a description.
 use Rattle.std.specs.Prelude.{ℕ, nat_le, Bool, ◌||◌, codes, List, Option, Some, None, Result, Ok, Err, if◌then◌else◌}
 use Rattle.toml.specs.Data.{Data, Items, no_items, item, Members, get_member}
 use Rattle.pldm_device.specs.ById.{ById, has_id, add}

@@ -1,7 +1,7 @@
 -- The faults of a device description: their numbers and names.
 use Rattle.std.specs.Prelude.{◌≡◌, ◌⊎◌, ℕ, List, codes, Result, Err}
 use Rattle.pldm_device.specs.declared.description_fault.FileFault.{FileFault}
-use Rattle.pldm_device.specs.declared.description_fault.FileFault.TheVariants.{Toml, MissingKey, WrongKind, OutOfRange, Duplicate, BadHex, Memory}
+use Rattle.pldm_device.specs.declared.description_fault.FileFault.TheVariants.{Toml, MissingKey, WrongKind, OutOfRange, Duplicate, BadHex, BadRecord, Memory}
 
 abbrev pub number_of_file_fault : FileFault → ℕ
 number_of_file_fault Toml = 1
@@ -10,6 +10,7 @@ number_of_file_fault WrongKind = 3
 number_of_file_fault OutOfRange = 4
 number_of_file_fault Duplicate = 5
 number_of_file_fault BadHex = 6
+number_of_file_fault BadRecord = 7
 number_of_file_fault Memory = 8
 
 abbrev pub name_of_file_fault : FileFault → List ℕ
@@ -19,6 +20,7 @@ name_of_file_fault WrongKind = codes "WrongKind"
 name_of_file_fault OutOfRange = codes "OutOfRange"
 name_of_file_fault Duplicate = codes "Duplicate"
 name_of_file_fault BadHex = codes "BadHex"
+name_of_file_fault BadRecord = codes "BadRecord"
 name_of_file_fault Memory = codes "Memory"
 
 -- the result is what is stated, or an allocation failed

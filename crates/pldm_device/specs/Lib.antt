@@ -2,9 +2,16 @@ pub mod ById
 pub mod Changes
 pub mod StateEffecters
 pub mod Devices
+pub mod Records
+pub mod Repositories
 pub mod BaseAnswers
 pub mod SensorAnswers
 pub mod EffecterAnswers
+pub mod RecordAnswers
+pub mod Transfers
+pub mod Fetches
+pub mod FetchLaws
+pub mod Laws
 pub mod DeviceAnswers
 pub mod DeviceLaws
 pub mod Descriptions
@@ -17,5 +24,6 @@ pub mod HexValues
 pub mod Entries
 pub mod SensorEntries
 pub mod EffecterEntries
+pub mod RecordEntries
 pub mod Getters
 pub mod Recorders

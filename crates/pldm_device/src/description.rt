@@ -13,6 +13,7 @@ use crate::document::read_document;
 use crate::effecter_entries::{numeric_effecters_in, state_effecters_in};
 use crate::hex_values::{time_in, versions_in};
 use crate::keys::{number_at, value_at};
+use crate::record_entries::records_in;
 use crate::sensor_entries::{numeric_sensors_in, state_sensors_in};
 use mctp_packet::{Eid, Keep};
 use std::alloc::Global;
@@ -37,15 +38,18 @@ impl Description {
     /// - `version0` and `version2`: the versions of PLDM types 0 and 2 as hex text, 4 to 32 bytes, a
     ///   multiple of 4;
     /// - `update_time` and `oem_update_time`: the repository's times as hex text, 13 bytes;
-    /// - the lists `numeric_sensor`, `state_sensor`, `numeric_effecter` and `state_effecter`, of at
-    ///   most 1,000 entries each; a list that is missing has none.
+    /// - the lists `numeric_sensor`, `state_sensor`, `numeric_effecter`, `state_effecter` and `pdr`
+    ///   (the records, each with the key `hex`), of at most 1,000 entries each; a list that is
+    ///   missing has none.
     ///
     /// Other keys are ignored. Bytes that are no such text are `Toml`. The keys are looked at in the
     /// order above, the entries of a list in turn, and at each key `MissingKey` comes before
-    /// `WrongKind`, that before `BadHex`, and that before `OutOfRange`. `Duplicate` is for a sensor
-    /// ID of an earlier sensor, of either kind, and for an effecter ID of an earlier effecter; it
-    /// comes after an entry's keys. `Memory` is for a growth that was refused, which no text without
-    /// content needs.
+    /// `WrongKind`, that before `BadHex`, and that before `OutOfRange` and `BadRecord`. `BadRecord`
+    /// is for bytes that are no record with a handle other than 0, header version 1 and as many
+    /// bytes after the header as it counts (DSP0248, "Common PDR format"). `Duplicate` is for a
+    /// sensor ID of an earlier sensor, of either kind, for an effecter ID of an earlier effecter and
+    /// for a record handle of an earlier record; it comes after an entry's keys. `Memory` is for a
+    /// growth that was refused, which no text without content needs.
     #[tactic(auto, unfolding(crate::specs::Descriptions::stated))]
     pub fn read(alloc: Global, bytes: &[u8]) -> Result<Description, FileFault>
         ensures stated { IsOrMemoryWhere (¬ IsBlank bytes.now) result (stated bytes.now) }
@@ -85,6 +89,7 @@ fn device_in(alloc: Global, table: &Table, tid: u8) -> Result<SimDevice, FileFau
     let state_sensors = state_sensors_in(alloc, table, &numeric_sensors)?;
     let numeric_effecters = numeric_effecters_in(alloc, table)?;
     let state_effecters = state_effecters_in(alloc, table, &numeric_effecters)?;
+    let records = records_in(alloc, table)?;
     Ok(SimDevice {
         tid,
         base_versions,
@@ -95,5 +100,6 @@ fn device_in(alloc: Global, table: &Table, tid: u8) -> Result<SimDevice, FileFau
         state_sensors,
         numeric_effecters,
         state_effecters,
+        records,
     })
 }

@@ -17,10 +17,13 @@ pub enum FileFault {
     WrongKind = 3,
     /// A value is outside its range.
     OutOfRange = 4,
-    /// An ID was given to an earlier sensor, or an earlier effecter.
+    /// An ID was given to an earlier sensor or an earlier effecter, or a record handle to an earlier
+    /// record.
     Duplicate = 5,
     /// A text is no hex: it has an odd length, or a character that is no hex digit.
     BadHex = 6,
+    /// The bytes are no platform data record.
+    BadRecord = 7,
     /// No memory was left.
     Memory = 8,
 }
@@ -44,6 +47,7 @@ impl FileFault {
             FileFault::OutOfRange => "OutOfRange",
             FileFault::Duplicate => "Duplicate",
             FileFault::BadHex => "BadHex",
+            FileFault::BadRecord => "BadRecord",
             FileFault::Memory => "Memory",
         }
     }

@@ -1,6 +1,6 @@
 //! The simulated device.
 
-ghost use Rattle.std.specs.Prelude.{◌≡◌, option_map, slice_get};
+ghost use Rattle.std.specs.Prelude.{◌≡◌, option_copied, option_map, slice_get};
 ghost use Rattle.pldm_device.specs.Getters.{AscendingIds, reading_of, shown, states_of, value_of};
 ghost use Rattle.pldm_device.specs.BaseAnswers.{base_commands, commands_answer, platform_commands, tid_set, types, version_answer};
 ghost use Rattle.pldm_device.specs.ById.{change_at, with_id};
@@ -14,6 +14,7 @@ use crate::limits::{
     NO_EVENTS, RESERVED_TID, SENSOR_ENABLED, UNASSIGNED_TID,
 };
 use crate::refusals::{code, refused};
+use crate::repository::Repository;
 use crate::{NumericEffecter, NumericSensor, ReadingFault, StateEffecter};
 use pldm_wire::{
     Answer, BASE, COMMANDS_BYTES, Code, EffecterValues, Number, PLATFORM, SensorStateField,
@@ -22,7 +23,8 @@ use pldm_wire::{
 use std::collections::BTreeMap;
 use std::marker::Model;
 
-/// A simulated device: a terminus ID, sensors and effecters by their ID, and what it tells of itself.
+/// A simulated device: a terminus ID, sensors and effecters by their ID, platform data records, and
+/// what it tells of itself.
 #[derive(Debug, Drop)]
 pub struct SimDevice {
     pub(crate) tid: u8,
@@ -34,6 +36,7 @@ pub struct SimDevice {
     pub(crate) state_sensors: BTreeMap<u16, StateFields<SensorStateField>>,
     pub(crate) numeric_effecters: BTreeMap<u16, NumericEffecter>,
     pub(crate) state_effecters: BTreeMap<u16, StateEffecter>,
+    pub(crate) records: Repository,
 }
 
 impl Model for SimDevice {
@@ -51,6 +54,7 @@ impl Model for SimDevice {
       state_sensors = d.state_sensors.entries;
       numeric_effecters = d.numeric_effecters.entries;
       state_effecters = d.state_effecters.entries;
+      records = d.records;
     } };
 }
 
@@ -91,6 +95,16 @@ impl SimDevice {
     {
         match self.state_effecters.iter().nth(position) {
             Some((id, effecter)) => Some((*id, effecter.states())),
+            None => None,
+        }
+    }
+
+    /// The bytes of the record at this position, in the order of the repository.
+    pub fn record(&self, position: usize) -> Option<&[u8]>
+        ensures { option_copied result ≡ slice_get self.now.records position }
+    {
+        match self.records.get(position) {
+            Some(record) => Some(record.as_slice()),
             None => None,
         }
     }

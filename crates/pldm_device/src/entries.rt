@@ -1,6 +1,6 @@
-//! The lists of sensors and effecters in a description.
+//! The lists of sensors, effecters and records in a description.
 
-ghost use Rattle.std.specs.Prelude.{◌≡◌, option_map};
+ghost use Rattle.std.specs.Prelude.{◌≡◌, ◌≤◌, IfOk, length, option_map};
 ghost use Rattle.pldm_device.specs.Entries.{entries_at, id_at, not_too_many};
 ghost use Rattle.pldm_device.specs.KeyValues.{map_ok};
 ghost use Rattle.toml.specs.Data.{get_member};
@@ -14,7 +14,8 @@ use toml::{Table, Value};
 /// The entries of the list at the key, none where there is no list; `OutOfRange` where they are too
 /// many.
 pub(crate) fn entries_at<'a>(table: &'a Table, key: &str) -> Result<&'a [Value], FileFault>
-    ensures { map_ok (λ items. items_view items.now) result ≡ entries_at key.now (table_view table.now) }
+    ensures value { map_ok (λ items. items_view items.now) result ≡ entries_at key.now (table_view table.now) }
+    ensures count { IfOk result (λ items. length items.now ≤ MOST_ENTRIES) }
 {
     match value_if_any(table, key) {
         Some(value) => not_too_many(array_in(value)?),
@@ -32,7 +33,8 @@ fn value_if_any<'a>(table: &'a Table, key: &str) -> Option<&'a Value>
 /// The entries; `OutOfRange` where they are too many.
 #[tactic(auto, using(crate::proofs::Counts::counted))]
 fn not_too_many(entries: &[Value]) -> Result<&[Value], FileFault>
-    ensures { map_ok (λ items. items_view items.now) result ≡ not_too_many (items_view entries.now) }
+    ensures value { map_ok (λ items. items_view items.now) result ≡ not_too_many (items_view entries.now) }
+    ensures count { IfOk result (λ items. length items.now ≤ MOST_ENTRIES) }
 {
     if entries.len() <= MOST_ENTRIES {
         Ok(entries)

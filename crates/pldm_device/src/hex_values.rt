@@ -14,7 +14,7 @@ use std::alloc::Global;
 use toml::Value;
 
 /// The bytes of a hex text; `BadHex` where it is none.
-fn bytes_in(alloc: Global, value: &Value) -> Result<Vec<u8>, FileFault>
+pub(crate) fn bytes_in(alloc: Global, value: &Value) -> Result<Vec<u8>, FileFault>
     ensures { IsOrMemory (map_ok (λ bytes. bytes.items) result) (bytes_in (view value.now)) }
 {
     let text = text_in(value)?;

@@ -7,6 +7,7 @@ ghost use Rattle.pldm_device.specs.EffecterAnswers.{outcome_told};
 ghost use Rattle.pldm_device.specs.SensorAnswers.{sensed};
 
 use crate::device::{SimDevice, commands_answer, types_answer};
+use crate::record_answers::record_answer;
 use crate::{Platform, ReadingFault};
 use mctp_packet::Memory;
 use pldm_wire::{Answer, Code, Command};
@@ -40,9 +41,20 @@ impl SimDevice {
                 self.set_states(*effecter, fields),
             ),
             Command::GetStateEffecterStates { effecter } => self.states_answer(*effecter),
-            Command::GetPdrRepositoryInfo | Command::GetPdr { .. } => {
-                Answer::Refused(Code::ERROR_UNSUPPORTED_PLDM_CMD)
-            }
+            Command::GetPdrRepositoryInfo => self.repository_info(),
+            Command::GetPdr {
+                record_handle,
+                transfer_handle,
+                operation,
+                request_count,
+                ..
+            } => record_answer(
+                &self.records,
+                *record_handle,
+                *transfer_handle,
+                *operation,
+                *request_count,
+            ),
         }
     }
 }

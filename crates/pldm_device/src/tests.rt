@@ -1,6 +1,8 @@
 mod faults;
+mod fetch;
 mod memory;
 mod recorder;
+mod records;
 
 use crate::example::description;
 use crate::{Description, FileFault, Platform, ReadingFault, SimDevice};
@@ -136,6 +138,7 @@ fn numbers_and_names_of_the_faults(rt: HostRuntime) {
         (FileFault::OutOfRange, 4, "OutOfRange"),
         (FileFault::Duplicate, 5, "Duplicate"),
         (FileFault::BadHex, 6, "BadHex"),
+        (FileFault::BadRecord, 7, "BadRecord"),
         (FileFault::Memory, 8, "Memory"),
     ];
     for (fault, number, name) in faults {

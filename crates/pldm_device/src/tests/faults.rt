@@ -30,7 +30,14 @@ value = 7
 id = 13
 allowed = [[1, 2]]
 values = [2]
+[[pdr]]
+hex = "010000000101000002000708"
+[[pdr]]
+hex = "02000000010100000000"
 "#;
+
+/// The first record of the device.
+const FIRST: &str = "\"010000000101000002000708\"";
 
 /// A text of the device, what stands in its place, and the fault.
 const CHANGES: &[(&str, &str, FileFault)] = &[
@@ -176,6 +183,23 @@ const CHANGES: &[(&str, &str, FileFault)] = &[
     ("values = [2]", "values = []", FileFault::OutOfRange),
     ("values = [2]", "values = [2, 2]", FileFault::OutOfRange),
     ("values = [2]", "values = [3]", FileFault::OutOfRange),
+    (
+        "[[pdr]]\nhex = \"010000000101000002000708\"\n[[pdr]]",
+        "[pdr]",
+        FileFault::WrongKind,
+    ),
+    ("hex =", "x =", FileFault::MissingKey),
+    (FIRST, "1", FileFault::WrongKind),
+    (FIRST, "\"01000000010100000200070\"", FileFault::BadHex),
+    (FIRST, "\"0100000001010000020007g8\"", FileFault::BadHex),
+    (FIRST, "\"\"", FileFault::BadRecord),
+    (FIRST, "\"010000000101000000\"", FileFault::BadRecord),
+    (FIRST, "\"000000000101000002000708\"", FileFault::BadRecord),
+    (FIRST, "\"010000000201000002000708\"", FileFault::BadRecord),
+    (FIRST, "\"010000000101000001000708\"", FileFault::BadRecord),
+    (FIRST, "\"010000000101000003000708\"", FileFault::BadRecord),
+    (FIRST, "\"020000000101000002000708\"", FileFault::Duplicate),
+    ("\"02000000010100000000\"", FIRST, FileFault::Duplicate),
 ];
 
 /// The text with another in the place of the first that is equal to `old`.
@@ -209,19 +233,22 @@ fn a_second_sensor_or_effecter_with_an_id(rt: HostRuntime) -> Result<(), Fail> {
 #[test]
 fn more_entries_than_a_list_may_have(rt: HostRuntime) -> Result<(), Fail> {
     let cases = [
-        (1_000, FileFault::WrongKind),
-        (1_001, FileFault::OutOfRange),
+        ("state_sensor", 1_000, FileFault::WrongKind),
+        ("state_sensor", 1_001, FileFault::OutOfRange),
+        ("pdr", 1_000, FileFault::WrongKind),
+        ("pdr", 1_001, FileFault::OutOfRange),
     ];
-    for (count, fault) in cases {
+    let text = description(rt.alloc())?;
+    let (device, _) = text.split_once("[[pdr]]").ok_or("no records")?;
+    for (key, count, fault) in cases {
         let mut list = String::new(rt.alloc());
         for _ in 0..count {
             list.push_str("0,")?;
         }
-        let keys = format!(in rt.alloc(); "eid = 9\nstate_sensor = [{list}]")?;
-        let device = description(rt.alloc())?;
-        let text = changed(rt.alloc(), &device, "eid = 9", &keys)?;
+        let keys = format!(in rt.alloc(); "eid = 9\n{key} = [{list}]")?;
+        let text = changed(rt.alloc(), device, "eid = 9", &keys)?;
         let read = Description::read(rt.alloc(), text.as_bytes());
-        assert_eq!(rt; read.err(), Some(fault), "{count} entries");
+        assert_eq!(rt; read.err(), Some(fault), "{count} entries of {key}");
     }
     Ok(())
 }

@@ -1,0 +1,11 @@
+-- The records so far and those of the rest are the records of all.
+use Rattle.std.proofs.Common.{◌≡◌, [], drop, length}
+use Rattle.toml.specs.View.{items_view}
+use Rattle.pldm_device.specs.RecordEntries.{records_after}
+use Rattle.pldm_device.proofs.record_entries.records_of.Given as goal
+
+abbrev pub invariant-loop-entry : goal.invariant-loop-entry
+invariant-loop-entry l = record {
+  all : records_after l.records (items_view (drop l.entry-index l.entries)) ≡ records_after [] (items_view l.entries);
+  so_far : length l.records ≡ l.entry-index;
+}

@@ -1,0 +1,73 @@
+-- What a fetch has come to after any list of answers, the newest first.
+use Rattle.std.specs.Prelude.{◌≡◌, ◌⊎◌, ℕ, ◌<◌, ◌≤◌, ◌+◌, true, false, List, [], ◌∷◌, ◌++◌, length, Some, IfSome, Ok, if◌then◌else◌}
+use Rattle.pldm_wire.specs.Crc.{crc}
+use Rattle.pldm_wire.specs.declared.answer.Answer.{Answer}
+use Rattle.pldm_wire.specs.declared.answer.Answer.TheVariants.{GetPdr}
+use Rattle.pldm_device.specs.Fetches.{Fetching, begun, told, after, record_of, is_last, is_going}
+use Rattle.pldm_device.specs.Records.{handle_of, data_length_of, part_of, offset_after, is_last_part, next_transfer_handle}
+use Rattle.pldm_device.specs.declared.fetch.FetchState.TheVariants.{More, Done}
+use Rattle.pldm_device.specs.declared.limits.TheConstants.{FIRST_RECORD, MOST_RECORD_BYTES, RECORD_HEADER}
+
+-- what a fetch of the record with this handle holds after these answers
+abbrev pub fetched : ℕ → List Answer → Fetching
+fetched asked [] = begun asked
+fetched asked (answer ∷ before) = after (fetched asked before) answer
+
+abbrev pub bytes_of : Answer → List ℕ
+bytes_of (GetPdr next_record_handle next_transfer_handle part) = part.bytes
+bytes_of _ = []
+
+-- the bytes of the parts among these answers, in the order in which they came
+abbrev pub joined : List Answer → List ℕ
+joined [] = []
+joined (answer ∷ before) = joined before ++ bytes_of answer
+
+-- a record counts the bytes after its header, and is not too long
+pub record IsWhole (pdr : List ℕ) : Type 0 where
+  pub header : RECORD_HEADER ≤ length pdr
+  pub small : length pdr ≤ MOST_RECORD_BYTES
+  pub counted : length pdr ≡ RECORD_HEADER + data_length_of pdr
+
+-- it has the handle that was asked for, or the first record was asked for
+abbrev pub IsAsked : ℕ → List ℕ → Type 0
+IsAsked asked pdr = (asked ≡ FIRST_RECORD) ⊎ (handle_of pdr ≡ asked)
+
+-- the answer has the last part of the record and the handle of the record after it; a checksum that came with it is the
+-- record's
+abbrev pub EndsRecord : ℕ → List ℕ → Answer → Type 0
+EndsRecord next pdr (GetPdr next_record_handle next_transfer_handle part) =
+    (next_record_handle ≡ next) × (is_last part.flag ≡ true) × IfSome part.checksum (λ checksum. checksum ≡ crc pdr)
+EndsRecord next pdr _ = ⊥
+
+-- where a fetch is done, the parts joined are a whole record, the one that was asked for, with its checksum
+abbrev pub DoneIsTheRecord : Type 0
+DoneIsTheRecord =
+    (asked next : ℕ) (before : List Answer) (answer : Answer) → told (fetched asked before) answer ≡ Ok (Done next)
+    → IsWhole (joined (answer ∷ before)) × IsAsked asked (joined (answer ∷ before))
+    × EndsRecord next (joined (answer ∷ before)) answer
+    × (record_of (fetched asked (answer ∷ before)) ≡ Some (joined (answer ∷ before)))
+
+-- the answer with the part of the record from an offset on, for a request of so many bytes
+abbrev pub part_answer : ℕ → List ℕ → ℕ → ℕ → Answer
+part_answer next pdr offset count = GetPdr next (next_transfer_handle pdr offset count) (part_of pdr offset count)
+
+-- the answer has the part from one offset to another, for a request of some bytes
+abbrev pub HasPart : ℕ → List ℕ → ℕ → ℕ → Answer → Type 0
+HasPart next pdr start end answer =
+    (count : ℕ) × (0 < count) × (answer ≡ part_answer next pdr start count) × (offset_after pdr start count ≡ end)
+
+-- these answers have the parts of the record in turn, up to an offset
+abbrev pub ArePartsUpto : ℕ → List ℕ → ℕ → List Answer → Type 0
+ArePartsUpto next pdr end [] = end ≡ 0
+ArePartsUpto next pdr end (answer ∷ before) =
+    (start : ℕ) × (start < length pdr) × HasPart next pdr start end answer × ArePartsUpto next pdr start before
+
+-- where a fetch is given the parts of the record that was asked for in turn, it goes on at each, asking for the next one
+-- where it begins, and is done at the last, with the record and the handle of the record after it
+abbrev pub PartsGiveTheRecord : Type 0
+PartsGiveTheRecord =
+    (asked next offset count : ℕ) (pdr : List ℕ) (before : List Answer)
+    → IsWhole pdr → IsAsked asked pdr → ArePartsUpto next pdr offset before → offset < length pdr → 0 < count
+    → ((fetched asked before).offset ≡ offset) × (is_going (fetched asked before).stage ≡ true)
+    × (told (fetched asked before) (part_answer next pdr offset count) ≡ (if is_last_part pdr offset count then Ok (Done next) else Ok More))
+    × (is_last_part pdr offset count ≡ true → record_of (fetched asked (part_answer next pdr offset count ∷ before)) ≡ Some pdr)

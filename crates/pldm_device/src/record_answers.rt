@@ -1,0 +1,89 @@
+//! The commands of the record repository (DSP0248).
+
+ghost use Rattle.std.specs.Prelude.{◌≡◌, ◌≤◌, Some, IfSome, length};
+ghost use Rattle.pldm_device.specs.RecordAnswers.{offset_asked, part_told, record_answer, record_told, repository_info};
+
+use crate::device::SimDevice;
+use crate::limits::{
+    GET_FIRST_PART, INVALID_DATA_TRANSFER_HANDLE, INVALID_RECORD_HANDLE,
+    INVALID_TRANSFER_OPERATION, NO_TRANSFER_TIMEOUT, REPOSITORY_AVAILABLE,
+};
+use crate::record::Record;
+use crate::refusals::refused;
+use crate::repository::Repository;
+use pldm_wire::{Answer, Code};
+
+impl SimDevice {
+    // The answer to GetPDRRepositoryInfo.
+    pub(crate) fn repository_info(&self) -> Answer
+        ensures { result ≡ repository_info self.now }
+    {
+        Answer::GetPdrRepositoryInfo {
+            state: REPOSITORY_AVAILABLE,
+            update_time: self.update_time,
+            oem_update_time: self.oem_update_time,
+            record_count: self.records.count(),
+            repository_size: self.records.size(),
+            largest_record: self.records.largest(),
+            timeout: NO_TRANSFER_TIMEOUT,
+        }
+    }
+}
+
+/// The answer to GetPDR.
+pub(crate) fn record_answer(
+    records: &Repository,
+    record_handle: u32,
+    transfer_handle: u32,
+    operation: u8,
+    request_count: u16,
+) -> Answer
+    ensures { result ≡ record_answer record_handle transfer_handle operation request_count records.now }
+{
+    if request_count == 0 {
+        return Answer::Refused(Code::ERROR_INVALID_DATA);
+    }
+    if operation > GET_FIRST_PART {
+        return refused(INVALID_TRANSFER_OPERATION);
+    }
+    let Some(position) = records.position_asked(record_handle) else {
+        return refused(INVALID_RECORD_HANDLE);
+    };
+    let Some(pdr) = records.get(position) else {
+        return refused(INVALID_RECORD_HANDLE);
+    };
+    let Some(offset) = offset_asked(operation, transfer_handle, pdr) else {
+        return refused(INVALID_DATA_TRANSFER_HANDLE);
+    };
+    part_told(records.handle_at(position + 1), request_count, pdr, offset)
+}
+
+/// The offset of the part that is asked for, where one begins there.
+fn offset_asked(operation: u8, transfer_handle: u32, pdr: &Record) -> Option<usize>
+    ensures offset { result ≡ offset_asked operation transfer_handle pdr.now }
+    ensures within { IfSome result (λ offset. offset ≤ length pdr.now) }
+{
+    if operation == GET_FIRST_PART {
+        return Some(0);
+    }
+    let offset = transfer_handle as usize;
+    if offset == 0 || offset >= pdr.as_slice().len() {
+        return None;
+    }
+    Some(offset)
+}
+
+/// The part of the record from the offset on, and where the next one begins.
+fn part_told(next_record_handle: u32, request_count: u16, pdr: &Record, offset: usize) -> Answer
+    requires { offset ≤ length pdr.now }
+    ensures { result ≡ part_told next_record_handle request_count pdr.now (Some offset) }
+{
+    let length = pdr.as_slice().len();
+    let part = pdr.part(offset, request_count);
+    let end = offset + part.as_slice().len();
+    Answer::GetPdr {
+        next_record_handle,
+        next_transfer_handle: if end < length { end as u32 } else { 0 },
+        part,
+    }
+}
