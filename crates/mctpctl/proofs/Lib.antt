@@ -1,3 +1,4 @@
+pub mod AnswerRows
 pub mod CaptureRows
 pub mod ChoiceRows
 pub mod DecimalPlaces
@@ -5,5 +6,5 @@ pub mod DividerRows
 pub mod LineSplits
 pub mod LookingBack
 pub mod RunsOverLines
+pub mod SameHeld
 pub mod WordSplits
-pub mod ExchangeRows

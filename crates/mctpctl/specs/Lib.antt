@@ -2,11 +2,10 @@ pub mod AnswerText
 pub mod BoundedRead
 pub mod CaptureLine
 pub mod Choice
-pub mod Exchanges
 pub mod FaultTexts
+pub mod HeldRuns
 pub mod LineRuns
 pub mod OutcomeTexts
 pub mod Ports
-pub mod Standings
 pub mod Statuses
 pub mod TextLines

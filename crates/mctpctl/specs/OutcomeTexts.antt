@@ -4,8 +4,8 @@ use Rattle.std.specs.List.{flat_map}
 use Rattle.hex.specs.Hex.{encode_lower}
 use Rattle.mctp_packet.specs.Reasons.{name_of}
 use Rattle.mctp_packet.specs.declared.reason.Reason.{Reason}
-use Rattle.mctpctl.specs.declared.outcome.Outcome.{Outcome}
-use Rattle.mctpctl.specs.declared.outcome.Outcome.TheVariants.{Dropped, Partial, Answered}
+use Rattle.pldm_responder.specs.declared.outcome.Outcome.{Outcome}
+use Rattle.pldm_responder.specs.declared.outcome.Outcome.TheVariants.{Dropped, Partial, Answered}
 
 abbrev pub dropped_text : Reason → List ℕ
 dropped_text reason = codes "drop " ++ (name_of reason ++ 10 ∷ [])
@@ -21,4 +21,4 @@ packets_text packets = flat_map packet_text packets
 abbrev pub outcome_text : Outcome → List ℕ
 outcome_text (Dropped reason) = dropped_text reason
 outcome_text Partial = codes "partial\n"
-outcome_text (Answered packets) = packets_text packets
+outcome_text (Answered fresh changed packets) = packets_text packets

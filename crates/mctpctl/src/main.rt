@@ -6,7 +6,6 @@ mod capture;
 mod choose;
 #[cfg(test)]
 mod example;
-mod exchange;
 #[cfg(test)]
 mod fakes;
 mod faults;

@@ -1,32 +1,21 @@
-//! What becomes of one packet, and its text.
+//! The text of what becomes of one packet.
 
 ghost use Rattle.std.specs.Prelude.{◌≡◌, ◌++◌, IfOk, OnOk, string_bytes};
 ghost use Rattle.mctpctl.specs.OutcomeTexts.{outcome_text, dropped_text, packet_text, packets_text};
 
 use mctp_packet::{Memory, Packets, Reason};
+use pldm_responder::Outcome;
 use std::alloc::Global;
 
-/// What becomes of a packet that a device receives.
-#[derive(Debug, Drop)]
-pub enum Outcome {
-    /// It is dropped, for this reason.
-    Dropped(Reason),
-    /// It begins a message of several packets, or goes on with one.
-    Partial,
-    /// It is answered with the packets of one message.
-    Answered(Packets),
-}
-
-impl Outcome {
-    /// Its lines: `drop NAME`, `partial`, or the answer's packets in lower-case hex.
-    pub fn text(&self, alloc: Global) -> Result<String, Memory>
-        ensures { IfOk result (λ text. string_bytes text ≡ outcome_text self.now) }
-    {
-        match self {
-            Outcome::Dropped(reason) => dropped_text(alloc, *reason),
-            Outcome::Partial => Ok(String::from_str(alloc, "partial\n")?),
-            Outcome::Answered(packets) => packets_text(alloc, packets),
-        }
+/// The lines of an outcome: `drop NAME`, `partial`, or the answer's packets in lower-case hex, one a
+/// line. Whether the answer is a copy's, and whether it changed the device, does not show.
+pub fn outcome_text(alloc: Global, outcome: &Outcome) -> Result<String, Memory>
+    ensures { IfOk result (λ text. string_bytes text ≡ outcome_text outcome.now) }
+{
+    match outcome {
+        Outcome::Dropped(reason) => dropped_text(alloc, *reason),
+        Outcome::Partial => Ok(String::from_str(alloc, "partial\n")?),
+        Outcome::Answered { packets, .. } => packets_text(alloc, packets),
     }
 }
 

@@ -1,3 +1,6 @@
+mod records;
+mod transfer;
+
 use crate::answer::answer_all;
 use crate::example::{description, input};
 use crate::fakes::{FailsAt, OneByteWriter, PieceReader};
@@ -145,6 +148,71 @@ fn messages_of_several_packets(rt: HostRuntime) -> Result<(), Fail> {
         (
             "4 0109088801\n4 0109081880\n4 0109082800\n4 0109083801\n4 0109084805",
             "partial\npartial\npartial\npartial\ndrop TooLong\n",
+        ),
+    ];
+    for (capture, text) in cases {
+        expect(&rt, rt.alloc(), capture, Ok(()), text)?;
+    }
+    Ok(())
+}
+
+#[test]
+fn copies(rt: HostRuntime) -> Result<(), Fail> {
+    let cases = [
+        // In the last millisecond of keeping a copy has the kept answer, and sets nothing.
+        (
+            "0 010908c90181023101000028
+500 010908ca0182023101000032
+999 010908c90181023101000028
+999 010908cb018302320100",
+            "010809c10101023100
+010809c20102023100
+010809c10101023100
+010809c3010302320000013232
+",
+        ),
+        // After it the message is fresh.
+        (
+            "0 010908c90181023101000028
+500 010908ca0182023101000032
+1000 010908c90181023101000028
+1000 010908cb018302320100",
+            "010809c10101023100
+010809c20102023100
+010809c10101023100
+010809c3010302320000012828
+",
+        ),
+        // The same message from another source is fresh.
+        (
+            "0 010908c90181023101000028
+1 01090aca0182023101000032
+2 01090ac90181023101000028
+3 010908ca018202320100",
+            "010809c10101023100
+010a09c20102023100
+010a09c10101023100
+010809c2010202320000012828
+",
+        ),
+        // A copy does not lengthen the keeping.
+        (
+            "0 010908c90181023101000028
+600 010908c90181023101000028
+700 010908ca0182023101000032
+1100 010908c90181023101000028
+1101 010908cb018302320100",
+            "010809c10101023100
+010809c10101023100
+010809c20102023100
+010809c10101023100
+010809c3010302320000012828
+",
+        ),
+        // A copy's answer has the tag of the copy.
+        (
+            "0 010908c801800002\n1 010908ca01800002",
+            "010809c0010000020001\n010809c2010000020001\n",
         ),
     ];
     for (capture, text) in cases {

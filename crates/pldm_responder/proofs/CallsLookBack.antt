@@ -1,0 +1,211 @@
+-- What a responder holds and gives is what looking back over the list of its calls says.
+use Rattle.std.proofs.Common.{◌≡◌, ℕ, Bool, true, false, not, ◌&&◌, ◌||◌, List, [], ◌∷◌, Option, Some, None, is_some, Result, Ok, Err, if◌then◌else◌, refl, sym, ap, ◌∙◌, subst, lit≤}
+use Rattle.mctp_packet.specs.Packets.{Packet}
+use Rattle.mctp_packet.specs.Reading.{reading}
+use Rattle.mctp_packet.specs.declared.reason.Reason.{Reason}
+use Rattle.mctp_packet.specs.declared.reason.Reason.TheVariants.{BadTag}
+use Rattle.mctp_packet.specs.declared.TheConstants.{MOST_PACKETS}
+use Rattle.mctp_assembly.specs.Histories as histories
+use Rattle.mctp_assembly.specs.Laws as assembly
+use Rattle.mctp_assembly.specs.Steps as steps
+use Rattle.pldm_wire.specs.Headers.{id_at}
+use Rattle.pldm_device.specs.Changes.{changed_or}
+use Rattle.pldm_responder.specs.Arrivals.{Arrival, Drop, Part, Whole, fed_arrival, packet_arrival, read_arrival, arrival, packets_back}
+use Rattle.pldm_responder.specs.Calls as calls
+use Rattle.pldm_responder.specs.Calls.{Call, Received, Sensed, with_packet, fed, looked_back, arrived, with_arrival, events, last_moment, outcome}
+use Rattle.pldm_responder.specs.Events.{Message, Event, Came, Set, Restarted, Place, busy_until, is_busy, is_of, is_copy_of, origin, is_fresh, has_fresh}
+use Rattle.pldm_responder.specs.Laws.{entry_at, IsLeftBy, ReceivedLooksBack, SensedLooksBack, NewLooksBack, SameIsLeft, KeptWhereFresh}
+use Rattle.pldm_responder.specs.Performing.{Rules, reply, next, changes, busy_reply, performed, reply_at, answered_by}
+use Rattle.pldm_responder.specs.Steps.{Held, repeats, copied_packets, open_after, served, message_outcome, entry_of, kept_after, state_after, arrival_outcome, arrival_held, received_outcome, received_held}
+use Rattle.pldm_responder.specs.declared.outcome.Outcome.TheVariants.{Answered}
+
+-- ---- an origin is a fresh message
+either_some : (b : Bool) (place : Place) (o : Option Place) → is_some (if b then Some place else o) ≡ (b || is_some o)
+either_some true place o = refl
+either_some false place o = refl
+
+origin_where_fresh : (keep : ℕ) (h : List Event) (source id : ℕ) → is_some (origin keep h source id) ≡ has_fresh keep h source id
+origin_where_fresh keep [] source id = refl
+origin_where_fresh keep (Set _ _ ∷ h) source id = origin_where_fresh keep h source id
+origin_where_fresh keep (Restarted _ ∷ h) source id = refl
+origin_where_fresh keep (Came m ∷ h) source id =
+    either_some (is_of m source id && is_fresh keep h m) (record { before = h; message = m }) (origin keep h source id)
+    ∙ ap (λ later. is_of m source id && is_fresh keep h m || later) (origin_where_fresh keep h source id)
+
+-- ---- what a packet brings
+module _ (looks : assembly.FeedLooksBack) where
+  packet_brings : (open_messages : steps.Held) (packets : List histories.Call) (moment : ℕ) (p : Packet) → histories.IsLeftBy open_messages packets → packet_arrival (steps.answer open_messages) moment p ≡ packet_arrival (looked_back packets) moment p
+  packet_brings open_messages packets moment p left =
+      ap (λ fed. if not p.route.owner then Drop BadTag else fed_arrival p.route moment fed) (looks MOST_PACKETS open_messages packets p (lit≤ tt) left).0
+
+  read_brings : (open_messages : steps.Held) (packets : List histories.Call) (moment : ℕ) (read : Result Packet Reason) → histories.IsLeftBy open_messages packets → read_arrival (steps.answer open_messages) moment read ≡ read_arrival (looked_back packets) moment read
+  read_brings open_messages packets moment (Ok p) left = packet_brings open_messages packets moment p left
+  read_brings open_messages packets moment (Err reason) left = refl
+
+  packet_opens : (owner : Bool) (open_messages : steps.Held) (packets : List histories.Call) (p : Packet) → histories.IsLeftBy open_messages packets
+      → histories.IsLeftBy (if owner then steps.after open_messages p else open_messages) (if owner then histories.feed p ∷ packets else packets)
+  packet_opens true open_messages packets p left = (looks MOST_PACKETS open_messages packets p (lit≤ tt) left).1
+  packet_opens false open_messages packets p left = left
+
+  read_opens : (open_messages : steps.Held) (packets : List histories.Call) (read : Result Packet Reason) → histories.IsLeftBy open_messages packets → histories.IsLeftBy (open_after open_messages read) (with_packet read packets)
+  read_opens open_messages packets (Ok p) left = packet_opens p.route.owner open_messages packets p left
+  read_opens open_messages packets (Err reason) left = left
+
+-- ---- what a message is answered and leaves
+module _ {S : Type 0} (device : Rules S) (own keep : ℕ) (start : S) where
+  -- what these events leave, with any open messages and last moment
+  abbrev left_by : steps.Held → ℕ → List Event → Held S
+  left_by open_messages last h = record {
+    own = own;
+    keep = keep;
+    open_messages = open_messages;
+    kept = λ source id. entry_at device keep start (origin keep h source id);
+    state = performed device keep start h;
+    serves_from = busy_until keep h;
+    last = last;
+  }
+
+  repeats_origin : (m : Message) (o : Option Place) → repeats keep m (entry_at device keep start o) ≡ is_copy_of keep m o
+  repeats_origin m None = refl
+  repeats_origin m (Some place) = refl
+
+  -- t for a copy
+  served_by : (t : Bool) (open_messages : steps.Held) (last : ℕ) (h : List Event) (m : Message) (first : List ℕ)
+      → served device (left_by open_messages last h) m (if t then Some (packets_back own m first) else None)
+      ≡ (if t then Answered false false (packets_back own m (if t then first else reply device (performed device keep start h) m.bytes))
+      else Answered true (changes device (performed device keep start h) m.bytes) (packets_back own m (if t then first else reply device (performed device keep start h) m.bytes)))
+  served_by true open_messages last h m first = refl
+  served_by false open_messages last h m first = refl
+
+  served_is : (open_messages : steps.Held) (last : ℕ) (h : List Event) (m : Message) (o : Option Place)
+      → served device (left_by open_messages last h) m (copied_packets own keep m (entry_at device keep start o))
+      ≡ (if is_copy_of keep m o then Answered false false (packets_back own m (answered_by device keep start h m o))
+      else Answered true (changes device (performed device keep start h) m.bytes) (packets_back own m (answered_by device keep start h m o)))
+  served_is open_messages last h m None = refl
+  served_is open_messages last h m (Some place) =
+      served_by (is_copy_of keep m (Some place)) open_messages last h m (reply_at device keep start place)
+
+  message_is : (open_messages : steps.Held) (last : ℕ) (h : List Event) (m : Message) → message_outcome device (left_by open_messages last h) m ≡ calls.message_outcome device own keep start h m
+  message_is open_messages last h m =
+      ap (λ o. if is_busy keep h m.moment then Answered false false (packets_back own m (busy_reply m.bytes)) else o) (served_is open_messages last h m (origin keep h m.source (id_at m.bytes)))
+
+  arrival_is : (open_messages : steps.Held) (last : ℕ) (h : List Event) (a : Arrival) → arrival_outcome device (left_by open_messages last h) a ≡ calls.arrival_outcome device own keep start h a
+  arrival_is open_messages last h (Drop reason) = refl
+  arrival_is open_messages last h Part = refl
+  arrival_is open_messages last h (Whole m) = message_is open_messages last h m
+
+  entry_where : (b : Bool) (place : Place) (o : Option Place) → entry_at device keep start (if b then Some place else o) ≡ (if b then entry_at device keep start (Some place) else entry_at device keep start o)
+  entry_where true place o = refl
+  entry_where false place o = refl
+
+  kept_is : (open_messages : steps.Held) (last : ℕ) (h : List Event) (m : Message) (source id : ℕ)
+      → kept_after device (left_by open_messages last h) m source id ≡ entry_at device keep start (origin keep (Came m ∷ h) source id)
+  kept_is open_messages last h m source id =
+      ap (λ r. if is_of m source id && (not (is_busy keep h m.moment) && not r) then Some (entry_of device (left_by open_messages last h) m) else entry_at device keep start (origin keep h source id)) (repeats_origin m (origin keep h m.source (id_at m.bytes)))
+      ∙ sym (entry_where (is_of m source id && is_fresh keep h m) (record { before = h; message = m }) (origin keep h source id))
+
+  state_is : (open_messages : steps.Held) (last : ℕ) (h : List Event) (m : Message) → state_after device (left_by open_messages last h) m ≡ performed device keep start (Came m ∷ h)
+  state_is open_messages last h m =
+      ap (λ r. if not (is_busy keep h m.moment) && not r then next device (performed device keep start h) m.bytes else performed device keep start h) (repeats_origin m (origin keep h m.source (id_at m.bytes)))
+
+  -- what is held but for the open messages and the last moment
+  record Leaves (held : Held S) (h : List Event) : Type 0 where
+    endpoint : held.own ≡ own
+    keeping : held.keep ≡ keep
+    kept : (source id : ℕ) → held.kept source id ≡ entry_at device keep start (origin keep h source id)
+    state : held.state ≡ performed device keep start h
+    serves_from : held.serves_from ≡ busy_until keep h
+
+  arrival_leaves : (open_messages : steps.Held) (last : ℕ) (h : List Event) (a : Arrival) → Leaves (arrival_held device (left_by open_messages last h) a) (with_arrival a h)
+  arrival_leaves open_messages last h (Drop reason) = record { endpoint = refl; keeping = refl; kept = λ source id. refl; state = refl; serves_from = refl }
+  arrival_leaves open_messages last h Part = record { endpoint = refl; keeping = refl; kept = λ source id. refl; state = refl; serves_from = refl }
+  arrival_leaves open_messages last h (Whole m) =
+      record { endpoint = refl; keeping = refl; kept = kept_is open_messages last h m; state = state_is open_messages last h m; serves_from = refl }
+
+  held_is : (held : Held S) (before : List Call) → IsLeftBy device own keep start held before → held ≡ left_by held.open_messages held.last (events own before)
+  held_is held before left =
+      λ i. record {
+        own = left.endpoint i;
+        keep = left.keeping i;
+        open_messages = held.open_messages;
+        kept = λ source id. left.kept source id i;
+        state = left.state i;
+        serves_from = left.serves_from i;
+        last = held.last;
+      }
+
+  with_leaves : (held : Held S) (open_messages : steps.Held) (moment : ℕ) (bytes : List ℕ) (before : List Call) → Leaves held (events own (Received moment bytes ∷ before)) → histories.IsLeftBy open_messages (fed own (Received moment bytes ∷ before))
+      → IsLeftBy device own keep start (record held { open_messages = open_messages; last = moment }) (Received moment bytes ∷ before)
+  with_leaves held open_messages moment bytes before left opens = record {
+    endpoint = left.endpoint;
+    keeping = left.keeping;
+    open_messages = opens;
+    kept = left.kept;
+    state = left.state;
+    serves_from = left.serves_from;
+    last = refl;
+  }
+
+  module _ (looks : assembly.FeedLooksBack) where
+    left_received : (open_messages : steps.Held) (last : ℕ) (before : List Call) (moment : ℕ) (bytes : List ℕ) → histories.IsLeftBy open_messages (fed own before)
+        → (received_outcome device (left_by open_messages last (events own before)) moment bytes ≡ outcome device own keep start before moment bytes)
+        × IsLeftBy device own keep start (received_held device (left_by open_messages last (events own before)) moment bytes) (Received moment bytes ∷ before)
+    left_received open_messages last before moment bytes left =
+        let brings = read_brings looks open_messages (fed own before) moment (reading (Some own) bytes) left in
+        let h = events own before in (
+          ap (arrival_outcome device (left_by open_messages last h)) brings ∙ arrival_is open_messages last h (arrived own before moment bytes),
+          with_leaves (arrival_held device (left_by open_messages last h) (arrival (steps.answer open_messages) own moment bytes)) (open_after open_messages (reading (Some own) bytes)) moment bytes before
+              (subst (λ a. Leaves (arrival_held device (left_by open_messages last h) a) (with_arrival (arrived own before moment bytes) h)) (sym brings) (arrival_leaves open_messages last h (arrived own before moment bytes)))
+              (read_opens looks open_messages (fed own before) (reading (Some own) bytes) left),
+        )
+
+module _ {S : Type 0} (device : Rules S) where
+  pub received_looks_back : assembly.FeedLooksBack → ReceivedLooksBack device
+  received_looks_back looks own keep start held before moment bytes left =
+      let same = held_is device own keep start held before left in
+      let step = left_received device own keep start looks held.open_messages held.last before moment bytes left.open_messages in (
+        ap (λ x. received_outcome device x moment bytes) same ∙ step.0,
+        subst (λ x. IsLeftBy device own keep start (received_held device x moment bytes) (Received moment bytes ∷ before)) (sym same) step.1,
+      )
+
+  pub sensed_looks_back : SensedLooksBack device
+  sensed_looks_back own keep start held before id value left = record {
+    endpoint = left.endpoint;
+    keeping = left.keeping;
+    open_messages = left.open_messages;
+    kept = left.kept;
+    state = ap (λ s. changed_or s (device.sensed s id value)) left.state;
+    serves_from = left.serves_from;
+    last = left.last;
+  }
+
+  pub new_looks_back : assembly.NewLooksBack → NewLooksBack device
+  new_looks_back looks own keep start = record {
+    endpoint = refl;
+    keeping = refl;
+    open_messages = looks MOST_PACKETS;
+    kept = λ source id. refl;
+    state = refl;
+    serves_from = refl;
+    last = refl;
+  }
+
+  pub same_is_left : SameIsLeft device
+  same_is_left own keep start new held before same left = record {
+    endpoint = same.own ∙ left.endpoint;
+    keeping = same.keep ∙ left.keeping;
+    open_messages = subst (λ x. histories.IsLeftBy x (fed own before)) (sym same.open_messages) left.open_messages;
+    kept = λ source id. same.kept source id ∙ left.kept source id;
+    state = same.state ∙ left.state;
+    serves_from = same.serves_from ∙ left.serves_from;
+    last = same.last ∙ left.last;
+  }
+
+  entry_some : (keep : ℕ) (start : S) (o : Option Place) → is_some (entry_at device keep start o) ≡ is_some o
+  entry_some keep start None = refl
+  entry_some keep start (Some place) = refl
+
+  pub kept_where_fresh : KeptWhereFresh device
+  kept_where_fresh own keep start held before left =
+      let kept : (source id : ℕ) → is_some (held.kept source id) ≡ has_fresh keep (events own before) source id = λ source id. ap is_some (left.kept source id) ∙ entry_some keep start (origin keep (events own before) source id) ∙ origin_where_fresh keep (events own before) source id in
+      (kept, λ count counts. record { pairs = counts.pairs; each = λ source id. sym (kept source id) ∙ counts.each source id; once = counts.once; all = counts.all })

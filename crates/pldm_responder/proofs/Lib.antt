@@ -1,0 +1,9 @@
+pub mod SlotLists
+pub mod FewSources
+pub mod CountedSlots
+pub mod KeyOrder
+pub mod AskedKeys
+pub mod ServedMessages
+pub mod CallsLookBack
+pub mod WorkedRows
+pub mod PairCounts

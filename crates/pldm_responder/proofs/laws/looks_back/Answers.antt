@@ -1,0 +1,14 @@
+use Rattle.pldm_responder.specs.Performing.{rules_of}
+use Rattle.pldm_responder.proofs.CallsLookBack.{received_looks_back, sensed_looks_back, new_looks_back, same_is_left, kept_where_fresh}
+use Rattle.pldm_responder.proofs.laws.looks_back.Goals as goal
+
+pub returns : goal.returns
+returns g c =
+    let device = rules_of g.P.Platform.answer g.P.Platform.after g.P.Platform.sensed in
+    record {
+      received = received_looks_back device c.looks_back.ensures.feed;
+      sensed = sensed_looks_back device;
+      new = new_looks_back device c.looks_back.ensures.new;
+      same = same_is_left device;
+      kept = kept_where_fresh device;
+    }

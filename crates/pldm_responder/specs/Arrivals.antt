@@ -1,0 +1,50 @@
+-- What one packet brings a responder, by what assembly gives for it: a drop, a part of a message, or a whole message.
+use Rattle.std.specs.Prelude.{ℕ, not, false, List, Some, Result, Ok, Err, if◌then◌else◌}
+use Rattle.mctp_packet.specs.Packets.{Packet}
+use Rattle.mctp_packet.specs.Pieces.{written_packets}
+use Rattle.mctp_packet.specs.Reading.{reading}
+use Rattle.mctp_packet.specs.declared.packet.Route.{Route}
+use Rattle.mctp_packet.specs.declared.reason.Reason.{Reason}
+use Rattle.mctp_packet.specs.declared.reason.Reason.TheVariants.{BadTag}
+use Rattle.mctp_assembly.specs.declared.fed.Fed.{Fed}
+use Rattle.mctp_assembly.specs.declared.fed.Fed.TheVariants as fed
+use Rattle.pldm_wire.specs.Requests.{Request, request_of}
+use Rattle.pldm_responder.specs.Events.{Message}
+
+pub data Arrival : Type 0 where
+  Drop : Reason → Arrival
+  Part : Arrival
+  Whole : Message → Arrival
+
+-- the message of these bytes, whose packets had this source and tag, and the last of them came at this moment
+abbrev pub message_of : ℕ → ℕ → ℕ → List ℕ → Message
+message_of source tag moment bytes = record { source = source; tag = tag; moment = moment; bytes = bytes }
+
+-- a whole message has to have a good header
+abbrev pub headed : Message → Result Request Reason → Arrival
+headed m (Ok request) = Whole m
+headed m (Err reason) = Drop reason
+
+abbrev pub fed_arrival : Route → ℕ → Fed → Arrival
+fed_arrival route moment (fed.Whole body) = headed (message_of route.source route.tag moment body.items) (request_of body.items)
+fed_arrival route moment fed.Partial = Part
+fed_arrival route moment (fed.Dropped reason) = Drop reason
+
+-- a request's packets have TO 1; `gives` says what assembly gives for a packet
+abbrev pub packet_arrival : (Packet → Fed) → ℕ → Packet → Arrival
+packet_arrival gives moment p = if not p.route.owner then Drop BadTag else fed_arrival p.route moment (gives p)
+
+abbrev pub read_arrival : (Packet → Fed) → ℕ → Result Packet Reason → Arrival
+read_arrival gives moment (Ok p) = packet_arrival gives moment p
+read_arrival gives moment (Err reason) = Drop reason
+
+-- what these bytes bring to the endpoint `own` at this moment
+abbrev pub arrival : (Packet → Fed) → ℕ → ℕ → List ℕ → Arrival
+arrival gives own moment bytes = read_arrival gives moment (reading (Some own) bytes)
+
+-- an answer goes back to the message's source, with the tag of the packets that just came and TO 0
+abbrev pub way_back : ℕ → Message → Route
+way_back own m = record { destination = m.source; source = own; owner = false; tag = m.tag }
+
+abbrev pub packets_back : ℕ → Message → List ℕ → List (List ℕ)
+packets_back own m answer = written_packets (way_back own m) answer

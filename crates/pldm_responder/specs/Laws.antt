@@ -1,0 +1,61 @@
+-- What a responder holds after any list of calls, told by looking back over the list.
+use Rattle.std.specs.Prelude.{◌≡◌, ℕ, ℤ, Bool, List, [], ◌∷◌, Option, Some, None, is_some}
+use Rattle.mctp_assembly.specs.Histories as assembly
+use Rattle.pldm_responder.specs.Events.{Place, busy_until, origin, has_fresh}
+use Rattle.pldm_responder.specs.Performing.{Rules, performed, reply_at}
+use Rattle.pldm_responder.specs.Calls.{Call, Received, Sensed, fed, events, last_moment, outcome}
+use Rattle.pldm_responder.specs.Steps.{Entry, Held, IsHeld, CountsKept, CountsPairs, held_at_first, received_outcome, received_held, sensed_held}
+
+-- the answer that is kept where this is the origin
+abbrev pub entry_at : {S : Type 0} → Rules S → ℕ → S → Option Place → Option Entry
+entry_at device keep start None = None
+entry_at device keep start (Some place) =
+    Some (record { moment = place.message.moment; bytes = place.message.bytes; answer = reply_at device keep start place })
+
+-- what is held is what the calls leave of a responder with this endpoint ID, keeping time and first state
+pub record IsLeftBy {S : Type 0} (device : Rules S) (own keep : ℕ) (start : S) (held : Held S) (calls : List Call) : Type 0 where
+  pub endpoint : held.own ≡ own
+  pub keeping : held.keep ≡ keep
+  pub open_messages : assembly.IsLeftBy held.open_messages (fed own calls)
+  pub kept : (source id : ℕ) → held.kept source id ≡ entry_at device keep start (origin keep (events own calls) source id)
+  pub state : held.state ≡ performed device keep start (events own calls)
+  pub serves_from : held.serves_from ≡ busy_until keep (events own calls)
+  pub last : held.last ≡ last_moment calls
+
+module _ {S : Type 0} (device : Rules S) where
+  -- bytes that are received give what looking back over all calls says, and leave what the longer list leaves
+  abbrev pub ReceivedLooksBack : Type 0
+  ReceivedLooksBack =
+      (own keep : ℕ) (start : S) (held : Held S) (calls : List Call) (moment : ℕ) (bytes : List ℕ)
+      → IsLeftBy device own keep start held calls
+      → (received_outcome device held moment bytes ≡ outcome device own keep start calls moment bytes)
+      × IsLeftBy device own keep start (received_held device held moment bytes) (Received moment bytes ∷ calls)
+
+  -- a reading leaves what the longer list leaves
+  abbrev pub SensedLooksBack : Type 0
+  SensedLooksBack =
+      (own keep : ℕ) (start : S) (held : Held S) (calls : List Call) (id : ℕ) (value : ℤ)
+      → IsLeftBy device own keep start held calls
+      → IsLeftBy device own keep start (sensed_held device held id value) (Sensed id value ∷ calls)
+
+  -- a new responder holds what the empty list leaves
+  abbrev pub NewLooksBack : Type 0
+  NewLooksBack = (own keep : ℕ) (start : S) → IsLeftBy device own keep start (held_at_first own keep start) []
+
+  -- what holds the same is left by the same calls
+  abbrev pub SameIsLeft : Type 0
+  SameIsLeft =
+      (own keep : ℕ) (start : S) (new held : Held S) (calls : List Call)
+      → IsHeld new held → IsLeftBy device own keep start held calls → IsLeftBy device own keep start new calls
+
+  -- an answer is kept for each source and instance ID of which a fresh message came, and for no other
+  abbrev pub KeptWhereFresh : Type 0
+  KeptWhereFresh =
+      (own keep : ℕ) (start : S) (held : Held S) (calls : List Call)
+      → IsLeftBy device own keep start held calls
+      → ((source id : ℕ) → is_some (held.kept source id) ≡ has_fresh keep (events own calls) source id)
+      × ((count : ℕ) → CountsKept held.kept count → CountsPairs (has_fresh keep (events own calls)) count)
+
+-- pairs that pass a test are counted in one way only
+abbrev pub OneCount : Type 0
+OneCount = (test : ℕ → ℕ → Bool) (m n : ℕ) → CountsPairs test m → CountsPairs test n → m ≡ n

@@ -1,0 +1,17 @@
+//! The responding end of PLDM over MCTP: packets in, each request performed once, and answers out. The
+//! instance ID tells a new request from a retry (DSP0240, "PLDM message fields").
+#![tactic(auto)]
+
+mod kept_answer;
+pub mod laws;
+mod outcome;
+mod performing;
+mod responder;
+
+pub use outcome::Outcome;
+pub use responder::{MOST_KEPT, MOST_PENDING, Responder};
+
+#[cfg(test)]
+mod hoard;
+#[cfg(test)]
+mod tests;

@@ -1,0 +1,19 @@
+use mctp_packet::{Packets, Reason};
+
+/// What becomes of bytes that were received.
+#[derive(Debug, Drop)]
+pub enum Outcome {
+    /// They are dropped, for one of the reasons 1 to 17.
+    Dropped(Reason),
+    /// They begin a message of several packets, or go on with one.
+    Partial,
+    /// They complete a request, which is answered.
+    Answered {
+        /// Whether the request was performed now. Else it is a copy and has its first answer.
+        fresh: bool,
+        /// Whether it was performed now, is of a command that sets, and was not refused.
+        changed: bool,
+        /// The packets of the answer.
+        packets: Packets,
+    },
+}

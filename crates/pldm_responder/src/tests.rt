@@ -1,0 +1,228 @@
+use super::*;
+use crate::hoard::Hoard;
+use dimmer::Dimmer;
+use mctp_packet::{Eid, Keep, Memory, Moment, Reason};
+use pldm_device::ReadingFault;
+use std::alloc::Global;
+use std::process::Abort;
+use std::test::Fail;
+
+mod dimmer;
+
+/// A light at endpoint 9 that keeps answers for a second.
+fn light(alloc: Global) -> Result<Responder<Dimmer>, Fail> {
+    let own = Eid::new(9).ok_or("no endpoint ID")?;
+    let keep = Keep::new(1000).ok_or("no keeping time")?;
+    Ok(Responder::new(alloc, own, keep, Dimmer::new(alloc)?))
+}
+
+/// What the light makes of these bytes, at a moment that is not before its last one.
+fn receive(
+    rt: &impl Abort,
+    light: &mut Responder<Dimmer>,
+    milliseconds: u64,
+    bytes: &[u8],
+) -> Result<Result<Outcome, Memory>, Fail> {
+    let now = Moment::new(milliseconds).ok_or("no moment")?;
+    let last = light.last_moment();
+    assert!(rt; last <= now);
+    Ok(light.receive(now, bytes))
+}
+
+/// Whether this is one packet of an answer, to a request that was performed now or is a copy.
+fn answers(
+    outcome: &Result<Outcome, Memory>,
+    is_fresh: bool,
+    has_changed: bool,
+    packet: &[u8],
+) -> bool {
+    match outcome {
+        Ok(
+            Outcome::Answered {
+                fresh,
+                changed,
+                packets,
+            },
+        ) => {
+            *fresh == is_fresh
+                && *changed == has_changed
+                && packets.len() == 1
+                && packets.get(0) == Some(packet)
+        }
+        _ => false,
+    }
+}
+
+const GET_TID: &[u8] = &[0x01, 0x09, 0x08, 0xc8, 0x01, 0x80, 0x00, 0x02];
+
+const TID: &[u8] = &[0x01, 0x08, 0x09, 0xc0, 0x01, 0x00, 0x00, 0x02, 0x00, 0x01];
+
+/// The same request on tag 2, and its answer.
+const GET_TID_AGAIN: &[u8] = &[0x01, 0x09, 0x08, 0xca, 0x01, 0x80, 0x00, 0x02];
+
+const TID_AGAIN: &[u8] = &[0x01, 0x08, 0x09, 0xc2, 0x01, 0x00, 0x00, 0x02, 0x00, 0x01];
+
+/// Numeric effecter 1 is set to 40.
+const SET_40: &[u8] = &[
+    0x01, 0x09, 0x08, 0xc9, 0x01, 0x81, 0x02, 0x31, 0x01, 0x00, 0x00, 0x28,
+];
+
+const SET: &[u8] = &[0x01, 0x08, 0x09, 0xc1, 0x01, 0x01, 0x02, 0x31, 0x00];
+
+/// Numeric effecter 1 is set to 50, with another instance ID.
+const SET_50: &[u8] = &[
+    0x01, 0x09, 0x08, 0xca, 0x01, 0x82, 0x02, 0x31, 0x01, 0x00, 0x00, 0x32,
+];
+
+const SET_TO_50: &[u8] = &[0x01, 0x08, 0x09, 0xc2, 0x01, 0x02, 0x02, 0x31, 0x00];
+
+/// The request for 40 from endpoint 10, and its answer.
+const SET_40_FROM_10: &[u8] = &[
+    0x01, 0x09, 0x0a, 0xc9, 0x01, 0x81, 0x02, 0x31, 0x01, 0x00, 0x00, 0x28,
+];
+
+const SET_FOR_10: &[u8] = &[0x01, 0x0a, 0x09, 0xc1, 0x01, 0x01, 0x02, 0x31, 0x00];
+
+#[test]
+fn copy_is_answered_on_the_tag_that_it_came_on(rt: HostRuntime) -> Result<(), Fail> {
+    let mut light = light(rt.alloc())?;
+    let first = receive(&rt, &mut light, 0, GET_TID)?;
+    let second = receive(&rt, &mut light, 1, GET_TID_AGAIN)?;
+    assert!(rt; answers(&first, true, false, TID), "{first:?}");
+    assert!(rt; answers(&second, false, false, TID_AGAIN), "{second:?}");
+    assert_eq!(rt; (light.kept(), light.platform().asked()), (1, 1));
+    Ok(())
+}
+
+#[test]
+fn answer_is_kept_for_the_keeping_time(rt: HostRuntime) -> Result<(), Fail> {
+    for (moment, is_fresh, level) in [(999, false, 50), (1000, true, 40)] {
+        let mut light = light(rt.alloc())?;
+        let first = receive(&rt, &mut light, 0, SET_40)?;
+        let other = receive(&rt, &mut light, 500, SET_50)?;
+        let again = receive(&rt, &mut light, moment, SET_40)?;
+        assert!(rt; answers(&first, true, true, SET), "{first:?}");
+        assert!(rt; answers(&other, true, true, SET_TO_50), "{other:?}");
+        assert!(rt;
+            answers(&again, is_fresh, is_fresh, SET),
+            "{again:?} at {moment}"
+        );
+        assert_eq!(rt; light.platform().level(), level, "at {moment}");
+        assert_eq!(rt; light.kept(), 2);
+    }
+    Ok(())
+}
+
+#[test]
+fn copy_does_not_lengthen_the_keeping(rt: HostRuntime) -> Result<(), Fail> {
+    let mut light = light(rt.alloc())?;
+    for (moment, is_fresh) in [(0, true), (600, false), (1100, true)] {
+        let outcome = receive(&rt, &mut light, moment, SET_40)?;
+        assert!(rt;
+            answers(&outcome, is_fresh, is_fresh, SET),
+            "{outcome:?} at {moment}"
+        );
+    }
+    Ok(())
+}
+
+#[test]
+fn another_source_has_its_own_answers(rt: HostRuntime) -> Result<(), Fail> {
+    let mut light = light(rt.alloc())?;
+    let first = receive(&rt, &mut light, 0, SET_40)?;
+    let other = receive(&rt, &mut light, 1, SET_40_FROM_10)?;
+    assert!(rt; answers(&first, true, true, SET), "{first:?}");
+    assert!(rt; answers(&other, true, true, SET_FOR_10), "{other:?}");
+    assert_eq!(rt; light.kept(), 2);
+    Ok(())
+}
+
+#[test]
+fn reading_and_refusals(rt: HostRuntime) -> Result<(), Fail> {
+    let mut light = light(rt.alloc())?;
+    assert_eq!(rt; light.set_reading(2, 7), Err(ReadingFault::NoSuchSensor));
+    assert_eq!(rt; light.set_reading(1, 7), Ok(()));
+    // TO 0; then a message of two packets, of which the first is Partial; then PLDM type 5
+    let dropped = receive(
+        &rt,
+        &mut light,
+        3,
+        &[0x01, 0x09, 0x08, 0xc0, 0x01, 0x80, 0x00, 0x02],
+    )?;
+    let part = receive(&rt, &mut light, 4, &[0x01, 0x09, 0x08, 0x88, 0x01, 0x80])?;
+    assert_eq!(rt; light.pending(), 1);
+    let refused = receive(&rt, &mut light, 4, &[0x01, 0x09, 0x08, 0x58, 0x05, 0x02])?;
+    assert!(rt;
+        matches!(&dropped, Ok(Outcome::Dropped(Reason::BadTag))),
+        "{dropped:?}"
+    );
+    assert!(rt; matches!(&part, Ok(Outcome::Partial)), "{part:?}");
+    let code = &[0x01, 0x08, 0x09, 0xc0, 0x01, 0x00, 0x05, 0x02, 0x20];
+    assert!(rt; answers(&refused, true, false, code), "{refused:?}");
+    assert_eq!(rt;
+        (light.pending(), light.kept(), light.last_moment().get()),
+        (0, 1, 4)
+    );
+    let platform = light.into_platform();
+    assert_eq!(rt; (platform.level(), platform.asked()), (7, 0));
+    Ok(())
+}
+
+/// By how many bytes more each run may grow than the one before.
+const STEP: usize = 16;
+
+/// More runs than the growths of one request want steps.
+const MOST_RUNS: usize = 400;
+
+/// A request that sets is received with more and more memory to be had, until nothing is refused:
+/// the room for its answer is refused first, and then the box of the light, when it is performed.
+#[test]
+fn each_growth_of_a_request_is_refused_in_turn(rt: HostRuntime) -> Result<(), Fail> {
+    let (mut rooms, mut boxes) = (0u32, 0u32);
+    let mut was_taken = false;
+    for run in 0..MOST_RUNS {
+        let mut light = light(rt.alloc())?;
+        let hoard = Hoard::take(rt.alloc(), run * STEP)?;
+        let outcome = receive(&rt, &mut light, 5, SET_40)?;
+        drop(hoard);
+        if outcome.is_ok() {
+            was_taken = true;
+            break;
+        }
+        if light.platform().asked() == 0 {
+            rooms = rooms.saturating_add(1);
+        } else {
+            boxes = boxes.saturating_add(1);
+        }
+        assert_eq!(rt; (light.kept(), light.last_moment().get()), (0, 0));
+        assert_eq!(rt; light.platform().level(), 0);
+        let again = receive(&rt, &mut light, 5, SET_40)?;
+        assert!(rt; answers(&again, true, true, SET), "{again:?}");
+        assert_eq!(rt; (light.kept(), light.last_moment().get()), (1, 5));
+    }
+    assert!(rt; was_taken, "taken at last");
+    assert!(rt; rooms > 0 && boxes > 0, "{rooms} {boxes}");
+    Ok(())
+}
+
+#[test]
+fn copies_and_drops_take_no_memory(rt: HostRuntime) -> Result<(), Fail> {
+    let mut light = light(rt.alloc())?;
+    let first = receive(&rt, &mut light, 0, GET_TID)?;
+    let hoard = Hoard::take(rt.alloc(), 0)?;
+    let copy = receive(&rt, &mut light, 1, GET_TID_AGAIN)?;
+    let fresh = receive(&rt, &mut light, 1000, GET_TID)?;
+    let dropped = receive(&rt, &mut light, 1000, &[0x01, 0x09, 0x08])?;
+    let part = receive(&rt, &mut light, 1001, &[0x01, 0x09, 0x08, 0x88, 0x01, 0x80])?;
+    drop(hoard);
+    assert!(rt; answers(&first, true, false, TID), "{first:?}");
+    assert!(rt; answers(&copy, false, false, TID_AGAIN), "{copy:?}");
+    assert!(rt; answers(&fresh, true, false, TID), "{fresh:?}");
+    assert!(rt;
+        matches!(&dropped, Ok(Outcome::Dropped(Reason::Short))),
+        "{dropped:?}"
+    );
+    assert!(rt; part.is_err(), "{part:?}");
+    assert_eq!(rt; (light.pending(), light.last_moment().get()), (0, 1000));
+    Ok(())
+}
