@@ -144,3 +144,13 @@ parts_give_the_record asked next offset count pdr before whole is parts below so
           ∙ going_recorded (held_upto asked pdr offset) next answer (told_done asked next offset count pdr whole is below some last)
           ∙ ap Some (all_of pdr offset count last),
     )
+
+-- the premises can be met: a record of a header alone, of which no part has come yet
+abbrev only_header : List ℕ
+only_header = 1 ∷ 0 ∷ 0 ∷ 0 ∷ 1 ∷ 1 ∷ 0 ∷ 0 ∷ 0 ∷ 0 ∷ []
+
+only_header_is_whole : IsWhole only_header
+only_header_is_whole = record { header = omega arith; small = omega arith; counted = refl }
+
+none_has_come : ArePartsUpto 0 only_header 0 []
+none_has_come = refl
