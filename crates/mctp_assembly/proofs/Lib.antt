@@ -8,3 +8,4 @@ pub mod StepsLookBack
 pub mod CallsLookBack
 pub mod RowsAreOne
 pub mod CopiesJoin
+mod Numbers

@@ -1,25 +1,24 @@
 ghost use Rattle.std.specs.FinMap as map;
-ghost use Rattle.std.specs.Prelude.{◌≡◌, ◌≤◌, length, IfOk, OnOk, OnErr, IfSome};
+ghost use Rattle.std.specs.Prelude.{◌≡◌, ◌≤◌, true, length, IfOk, OnOk, OnErr, IfSome};
 ghost use Rattle.mctp_assembly.specs.Steps.{answer, after};
 ghost use Rattle.mctp_assembly.specs.declared.key.Key.{Key};
 ghost use Rattle.mctp_assembly.specs.declared.fed.Fed.TheVariants.{Partial};
 
 use crate::buffer::{Buffer, look_alone};
 use crate::{Fed, Key};
-use mctp_packet::{MOST_MESSAGE_BYTES, Memory, PacketRef};
+use mctp_packet::{FIRST_EID, LAST_EID, MOST_MESSAGE_BYTES, Memory, PacketRef, TAGS};
 use std::alloc::Global;
 use std::collections::BTreeMap;
 use std::marker::Model;
 
-/// The most assemblies at a time: one for each endpoint ID that a packet can come from (247), each
-/// tag (8) and each value of the tag owner bit (2).
-pub const MOST_ASSEMBLIES: usize = 247 * 8 * 2;
+/// The most assemblies at a time: one for each endpoint ID that a packet can come from, each tag and
+/// each of the two values of the tag owner bit.
+pub const MOST_ASSEMBLIES: usize = (LAST_EID - FIRST_EID + 1) as usize * TAGS as usize * 2;
 
 /// Assembles messages from packets that came to one endpoint: at most one message at a time for
 /// each [`Key`].
 #[derive(Debug, Drop)]
 pub struct Assembler {
-    alloc: Global,
     buffers: BTreeMap<Key, Buffer>,
 }
 
@@ -45,7 +44,6 @@ impl Assembler {
         ensures { result ≡ map.empty }
     {
         Assembler {
-            alloc,
             buffers: BTreeMap::new(alloc),
         }
     }
@@ -58,12 +56,13 @@ impl Assembler {
     ///
     /// # Errors
     ///
-    /// `Memory` where a growth was refused, which only a packet that gives `Partial` wants; the
-    /// assembler is then as before.
+    /// `Memory` where a growth was refused, which only a start packet that gives `Partial` wants: it
+    /// takes the room for a whole message. The assembler is then as before.
     pub fn feed(&mut self, packet: &PacketRef<'_>) -> Result<Fed, Memory>
         ensures fed { IfOk result (λ fed. fed ≡ answer self.old packet.now) }
         ensures ok { OnOk result (self.new ≡ after self.old packet.now) }
         ensures memory { OnErr result (answer self.old packet.now ≡ Partial) }
+        ensures at_start { OnErr result (packet.now.start ≡ true) }
         ensures err { OnErr result (self.new ≡ self.old) }
     {
         let fed = self.look(packet);
@@ -89,18 +88,19 @@ impl Assembler {
     fn keep(&mut self, packet: &PacketRef<'_>) -> Result<(), Memory>
         requires { answer self.old packet.now ≡ Partial }
         ensures ok { OnOk result (self.new ≡ after self.old packet.now) }
+        ensures at_start { OnErr result (packet.now.start ≡ true) }
         ensures err { OnErr result (self.new ≡ self.old) }
     {
         let key = Key::of(packet);
         if packet.start() {
-            let buffer = Buffer::new(self.alloc, packet)?;
-            self.buffers.insert(key, buffer)?;
+            self.buffers.insert(key, Buffer::new(packet))?;
             return Ok(());
         }
         match self.buffers.get_mut(&key) {
             Some(buffer) => buffer.append(packet),
             None => unreachable!(),
         }
+        Ok(())
     }
 
     /// Ends the assembly of this key, if there is one.

@@ -5,9 +5,8 @@ ghost use Rattle.mctp_assembly.specs.declared.fed.Fed.TheVariants.{Partial};
 
 use crate::Fed;
 use mctp_packet::{
-    Body, MOST_MESSAGE_BYTES, MOST_PACKETS, Memory, PacketRef, Reason, SEQUENCE_NUMBERS, Seq,
+    Body, MOST_MESSAGE_BYTES, MOST_PACKETS, PacketRef, Reason, SEQUENCE_NUMBERS, Seq,
 };
-use std::alloc::Global;
 use std::marker::Model;
 
 /// The packets of a message that has begun and not ended.
@@ -19,8 +18,8 @@ pub(crate) struct Buffer {
     last: Seq,
     /// How many packets there are.
     count: usize,
-    /// Their payloads, joined.
-    bytes: Vec<u8>,
+    /// Their payloads, joined. There is room for a whole message from the start packet on.
+    bytes: Body,
 }
 
 impl Model for Buffer {
@@ -37,17 +36,17 @@ impl Model for Buffer {
 
 impl Buffer {
     /// The buffer that a start packet opens.
-    pub(crate) fn new(alloc: Global, packet: &PacketRef<'_>) -> Result<Buffer, Memory>
-        ensures value { IfOk result (λ buffer. buffer ≡ begun_by packet.now) }
-        ensures range { IfOk result IsOpened }
+    pub(crate) fn new(packet: &PacketRef<'_>) -> Buffer
+        ensures value { result ≡ begun_by packet.now }
+        ensures range { IsOpened result }
     {
         let payload = packet.payload();
-        Ok(Buffer {
+        Buffer {
             unit: payload.len(),
             last: packet.seq(),
             count: 1,
-            bytes: Vec::from_slice(alloc, payload)?,
-        })
+            bytes: joined(&[], payload),
+        }
     }
 
     /// What a packet gives after the packets here.
@@ -76,18 +75,16 @@ impl Buffer {
         Fed::Partial
     }
 
-    /// Adds a middle packet of the message. An `Err` changes nothing.
-    pub(crate) fn append(&mut self, packet: &PacketRef<'_>) -> Result<(), Memory>
+    /// Adds a middle packet of the message.
+    pub(crate) fn append(&mut self, packet: &PacketRef<'_>)
         requires partial { answer_to MOST_PACKETS (Some self.old) packet.now ≡ Partial }
         requires middle { packet.now.start ≡ false }
-        ensures ok { OnOk result (self.new ≡ carried_on (Some self.old) packet.now) }
-        ensures err { OnErr result (self.new ≡ self.old) }
+        ensures value { self.new ≡ carried_on (Some self.old) packet.now }
         ensures range { IsOpened self.new }
     {
-        self.bytes.extend_from_slice(packet.payload())?;
+        self.bytes.try_extend_from_slice(packet.payload()).unwrap();
         self.last = packet.seq();
         self.count += 1;
-        Ok(())
     }
 }
 

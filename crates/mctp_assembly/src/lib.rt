@@ -12,6 +12,4 @@ pub use fed::Fed;
 pub use key::Key;
 
 #[cfg(test)]
-mod hoard;
-#[cfg(test)]
 mod tests;

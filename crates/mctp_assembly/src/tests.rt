@@ -1,6 +1,6 @@
 use super::*;
-use crate::hoard::Hoard;
 use mctp_packet::{Eid, HEADER, MOST_PACKET_BYTES, Memory, PacketRef, Reason, Tag, UNIT, read_for};
+use memory_hoard::Hoard;
 use std::alloc::Global;
 use std::process::Abort;
 use std::test::Fail;
@@ -164,17 +164,12 @@ fn each_growth_is_refused_in_turn(rt: HostRuntime) -> Result<(), Fail> {
     let mut message = [5; 2 * UNIT + 1];
     message[..UNIT].fill(1);
     message[UNIT..2 * UNIT].fill(2);
-    // The start packet takes its bytes and a place in the map; the middle packet grows the bytes.
-    for (at_start, at_middle, refusals) in [
-        (0, 0, (true, true)),
-        (320, 0, (true, true)),
-        (16_384, 0, (false, true)),
-        (16_384, 16_384, (false, false)),
-    ] {
+    // The start packet takes room for a whole message, a middle packet takes none.
+    for (at_start, refused) in [(0, true), (320, true), (16_384, false)] {
         let mut assembler = Assembler::new(rt.alloc());
         let first = feed_with(&rt, rt.alloc(), &mut assembler, &begun, at_start)?;
-        let second = feed_with(&rt, rt.alloc(), &mut assembler, &middle, at_middle)?;
-        assert_eq!(rt; (first, second), refusals, "{at_start} {at_middle}");
+        let second = feed_with(&rt, rt.alloc(), &mut assembler, &middle, 0)?;
+        assert_eq!(rt; (first, second), (refused, false), "{at_start}");
         let hoard = Hoard::take(rt.alloc(), 0)?;
         let seen = assembler.look(&end);
         let fed = assembler.feed(&end)?;

@@ -1,3 +1,5 @@
 pub mod Spelled
 pub mod Joined
+pub mod ReadBack
+pub mod Numbers
 pub mod WorkedRows

@@ -1,14 +1,14 @@
 -- Which numbers are endpoint IDs, tags, sequence numbers, keeping times and moments.
 use Rattle.std.specs.Prelude.{ℕ, ◌≤◌, ◌<◌}
-use Rattle.mctp_packet.specs.declared.TheConstants.{LAST_MOMENT, LONGEST_KEEP, SEQUENCE_NUMBERS}
+use Rattle.mctp_packet.specs.declared.TheConstants.{FIRST_EID, LAST_EID, LAST_MOMENT, LONGEST_KEEP, SEQUENCE_NUMBERS, TAGS}
 
 -- an endpoint's own ID: neither null (0), reserved (1 to 7) nor broadcast (255)
 abbrev pub IsEid : ℕ → Type 0
-IsEid n = (8 ≤ n) × (n ≤ 254)
+IsEid n = (FIRST_EID ≤ n) × (n ≤ LAST_EID)
 
 -- three bits
 abbrev pub IsTag : ℕ → Type 0
-IsTag n = n ≤ 7
+IsTag n = n < TAGS
 
 -- two bits
 abbrev pub IsSeq : ℕ → Type 0

@@ -5,5 +5,7 @@ pub mod Reasons
 pub mod Packets
 pub mod Refusals
 pub mod Reading
+pub mod Passing
 pub mod Pieces
+pub mod SplitFaults
 pub mod Laws

@@ -1,7 +1,7 @@
 -- The reasons for which a packet or a message is dropped: their numbers and names.
 use Rattle.std.specs.Prelude.{ℕ, List, codes}
 use Rattle.mctp_packet.specs.declared.reason.Reason.{Reason}
-use Rattle.mctp_packet.specs.declared.reason.Reason.TheVariants.{Short, BadVersion, UnknownDestination, BadSource, NoPayload, UnsupportedUnit, BadTag, UnexpectedMiddleOrEnd, OutOfSequence, TooLong, WrongUnit, NotPldm, Integrity, ShortHeader, BadPldmHeader, NotRequest, Datagram, NotResponse, NotMine}
+use Rattle.mctp_packet.specs.declared.reason.Reason.TheVariants.{Short, BadVersion, UnknownDestination, BadSource, NoPayload, UnsupportedUnit, BadTag, UnexpectedMiddleOrEnd, OutOfSequence, TooLong, WrongUnit, NotPldm, Integrity, ShortHeader, BadPldmHeader, NotRequest, Datagram, NotResponse, NotMine, NotReady}
 
 abbrev pub number_of : Reason → ℕ
 number_of Short = 1
@@ -23,6 +23,7 @@ number_of NotRequest = 16
 number_of Datagram = 17
 number_of NotResponse = 18
 number_of NotMine = 19
+number_of NotReady = 20
 
 abbrev pub name_of : Reason → List ℕ
 name_of Short = codes "Short"
@@ -44,3 +45,4 @@ name_of NotRequest = codes "NotRequest"
 name_of Datagram = codes "Datagram"
 name_of NotResponse = codes "NotResponse"
 name_of NotMine = codes "NotMine"
+name_of NotReady = codes "NotReady"

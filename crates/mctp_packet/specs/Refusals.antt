@@ -2,14 +2,14 @@
 use Rattle.std.specs.Prelude.{ℕ, ◌%◌, Bool, not, ◌&&◌, ◌==◌, nat_lt, nat_le, List, [], ◌∷◌, length, slice_index, Option, Some, None, if◌then◌else◌}
 use Rattle.mctp_packet.specs.declared.reason.Reason.{Reason}
 use Rattle.mctp_packet.specs.declared.reason.Reason.TheVariants.{Short, BadVersion, UnknownDestination, BadSource, NoPayload, UnsupportedUnit}
-use Rattle.mctp_packet.specs.declared.TheConstants.{HEADER, MOST_PACKET_BYTES}
+use Rattle.mctp_packet.specs.declared.TheConstants.{FIRST_EID, LAST_EID, HEADER, MOST_PACKET_BYTES, VERSION}
 
 abbrev pub first_failing : List (Bool × Reason) → Option Reason
 first_failing [] = None
 first_failing ((fails, reason) ∷ checks) = if fails then Some reason else first_failing checks
 
 abbrev pub is_eid : ℕ → Bool
-is_eid n = nat_le 8 n && nat_le n 254
+is_eid n = nat_le FIRST_EID n && nat_le n LAST_EID
 
 -- an endpoint ID, and the own one where it is known
 abbrev pub is_destination : Option ℕ → ℕ → Bool
@@ -24,7 +24,7 @@ is_source (Some own) n = is_eid n && not (n == own)
 abbrev pub checks : Option ℕ → List ℕ → List (Bool × Reason)
 checks own bytes =
     (nat_lt (length bytes) HEADER, Short)
-    ∷ (not (slice_index bytes 0 % 16 == 1), BadVersion)
+    ∷ (not (slice_index bytes 0 % 16 == VERSION), BadVersion)
     ∷ (not (is_destination own (slice_index bytes 1)), UnknownDestination)
     ∷ (not (is_source own (slice_index bytes 2)), BadSource)
     ∷ (nat_le (length bytes) HEADER, NoPayload)

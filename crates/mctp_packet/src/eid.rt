@@ -1,6 +1,7 @@
 ghost use Rattle.std.specs.Prelude.{◌≡◌, ℕ, ◌≤◌, ◌↔◌, IsSome, IfSome};
 ghost use Rattle.mctp_packet.specs.Ids.{IsEid};
 
+use crate::{FIRST_EID, LAST_EID};
 use std::marker::Model;
 
 /// An endpoint ID that can be a packet's source or destination: 8 to 254.
@@ -28,7 +29,7 @@ impl Eid {
         ensures value { IfSome result (λ id. id ≡ number) }
         ensures range { IfSome result IsEid }
     {
-        if (8..=254).contains(&number) {
+        if (FIRST_EID..=LAST_EID).contains(&number) {
             Some(Eid { number })
         } else {
             None

@@ -1,6 +1,6 @@
 //! Laws over the definitions alone: each is the contract of a function that does nothing.
 
-ghost use Rattle.mctp_packet.specs.Laws.{WrittenSpells, OnePacket, OnlyReservedDiffer, SpelledIsRead, SpelledIsReadFor, ReadIsSpelled, ReadForIsSpelled, EachIsPacket, EachButTheLastIsFull, PacketsJoin, OneMessage};
+ghost use Rattle.mctp_packet.specs.Laws.{WrittenSpells, OnePacket, OnlyReservedDiffer, SpelledIsRead, SpelledIsReadFor, ReadIsSpelled, ReadForIsSpelled, EachIsPacket, EachButTheLastIsFull, PacketsJoin, OneMessage, SplitsToWritten, SplitsReadBack};
 
 /// What is written spells the packet and no other, and the reserved bits alone are free.
 pub fn bytes_spell_one_packet()
@@ -24,3 +24,11 @@ pub fn packets_join_to_the_message()
     ensures join { PacketsJoin }
     ensures one { OneMessage }
 {}
+
+/// What `split` gives are the message's packets, written, and each reads back as that packet.
+pub fn split_packets_read_back()
+    ensures written { SplitsToWritten }
+    ensures back { SplitsReadBack }
+{
+    reading_is_spelling();
+}

@@ -29,6 +29,15 @@ pub use reason::Reason;
 pub use seq::Seq;
 pub use tag::Tag;
 
+/// The first endpoint ID that is neither null nor reserved (DSP0236, "Special endpoint IDs").
+pub const FIRST_EID: u8 = 8;
+
+/// The last endpoint ID before the broadcast one (DSP0236, "Special endpoint IDs").
+pub const LAST_EID: u8 = 254;
+
+/// How many message tags there are (DSP0236, "MCTP packet fields").
+pub const TAGS: u8 = 8;
+
 /// The last moment, in milliseconds.
 pub const LAST_MOMENT: u64 = 4_000_000_000_000_000;
 
@@ -53,10 +62,10 @@ pub const VERSION: u8 = 1;
 pub const HEADER: usize = 4;
 
 /// The most bytes of a packet, header and payload.
-pub const MOST_PACKET_BYTES: usize = 68;
+pub const MOST_PACKET_BYTES: usize = HEADER + UNIT;
 
 /// The most bytes of one message: as many as its packets carry.
-pub const MOST_MESSAGE_BYTES: usize = 256;
+pub const MOST_MESSAGE_BYTES: usize = MOST_PACKETS * UNIT;
 
 /// The bytes of a message, at most [`MOST_MESSAGE_BYTES`].
 pub type Body = ArrayVec<u8, MOST_MESSAGE_BYTES>;

@@ -1,6 +1,7 @@
 ghost use Rattle.std.specs.Prelude.{◌≡◌, ◌<◌, ◌%◌, ◌↔◌, [], length, slice_get, option_map, IfOk, IsErrOf};
 ghost use Rattle.mctp_packet.specs.Packets.{written, HasPayloadSize};
 ghost use Rattle.mctp_packet.specs.Pieces.{piece, piece_count, packet_at, written_packets};
+ghost use Rattle.mctp_packet.specs.SplitFaults.{number_of_split_fault};
 
 use crate::codec::header_of;
 use crate::{
@@ -14,12 +15,21 @@ use thiserror::Error;
 /// Why a message was not split.
 #[derive(Clone, Copy, Debug, PartialEq, Eq, Error)]
 pub enum SplitFault {
-    /// 1: it has no bytes.
+    /// It has no bytes.
     #[error("the message is empty")]
-    Empty,
-    /// 2: it has more than [`MOST_MESSAGE_BYTES`].
+    Empty = 1,
+    /// It has more than [`MOST_MESSAGE_BYTES`].
     #[error("the message is too long")]
-    TooLong,
+    TooLong = 2,
+}
+
+impl SplitFault {
+    /// The fault's number in this profile's list.
+    pub fn number(self) -> u8
+        ensures { result ≡ number_of_split_fault self }
+    {
+        self as u8
+    }
 }
 
 /// The packets of one message, in order: 1 to [`MOST_PACKETS`] of them. Its size is fixed.

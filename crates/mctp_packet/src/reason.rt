@@ -42,10 +42,12 @@ pub enum Reason {
     NotResponse,
     /// 19: a response to no open request.
     NotMine,
+    /// 20: a response with the completion code ERROR_NOT_READY, which answers no request.
+    NotReady,
 }
 
 impl Reason {
-    /// Its number in this profile's list, 1 to 19.
+    /// Its number in this profile's list, 1 to 20.
     pub fn number(self) -> u8
         ensures { result ≡ number_of self }
     {
@@ -69,6 +71,7 @@ impl Reason {
             Reason::Datagram => 17,
             Reason::NotResponse => 18,
             Reason::NotMine => 19,
+            Reason::NotReady => 20,
         }
     }
 
@@ -96,6 +99,7 @@ impl Reason {
             Reason::Datagram => "Datagram",
             Reason::NotResponse => "NotResponse",
             Reason::NotMine => "NotMine",
+            Reason::NotReady => "NotReady",
         }
     }
 }

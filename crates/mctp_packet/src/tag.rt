@@ -1,6 +1,7 @@
 ghost use Rattle.std.specs.Prelude.{◌≡◌, ℕ, ◌≤◌, ◌↔◌, IsSome, IfSome};
 ghost use Rattle.mctp_packet.specs.Ids.{IsTag};
 
+use crate::TAGS;
 use std::marker::Model;
 
 /// A message tag, 0 to 7 (DSP0236, "MCTP packet fields").
@@ -26,7 +27,7 @@ impl Tag {
         ensures value { IfSome result (λ tag. tag ≡ number) }
         ensures range { IfSome result IsTag }
     {
-        if number <= 7 {
+        if number < TAGS {
             Some(Tag { number })
         } else {
             None

@@ -54,6 +54,7 @@ fn numbers_and_names_of_the_reasons(rt: HostRuntime) {
         (Reason::Datagram, 17, "Datagram"),
         (Reason::NotResponse, 18, "NotResponse"),
         (Reason::NotMine, 19, "NotMine"),
+        (Reason::NotReady, 20, "NotReady"),
     ];
     for (reason, number, name) in reasons {
         assert_eq!(rt; reason.number(), number);

@@ -21,11 +21,11 @@ pub record Holds (asked : ℕ) (bytes : List ℕ) (f : Fetching) : Type 0 where
   pub asked_is : f.asked ≡ asked
   pub bytes_are : is_going f.stage ≡ true → f.bytes ≡ bytes
 
-part_holds : (asked : ℕ) (bytes : List ℕ) (f : Fetching) (next_transfer_handle : ℕ) (part : Part) (given : Result FetchState FetchFault) → Holds asked bytes f → is_going f.stage ≡ true → Holds asked (bytes ++ part.bytes) (part_after f next_transfer_handle part given)
-part_holds asked bytes f next_transfer_handle part (Ok More) held goes =
+part_holds : (asked : ℕ) (bytes : List ℕ) (f : Fetching) (next_data_transfer_handle : ℕ) (part : Part) (given : Result FetchState FetchFault) → Holds asked bytes f → is_going f.stage ≡ true → Holds asked (bytes ++ part.bytes) (part_after f next_data_transfer_handle part given)
+part_holds asked bytes f next_data_transfer_handle part (Ok More) held goes =
     record { asked_is = held.asked_is; bytes_are = λ _. ap (λ b. b ++ part.bytes) (held.bytes_are goes) }
-part_holds asked bytes f next_transfer_handle part (Ok (Done n)) held goes = record { asked_is = held.asked_is; bytes_are = λ wrong. cc }
-part_holds asked bytes f next_transfer_handle part (Err fault) held goes = record { asked_is = held.asked_is; bytes_are = λ wrong. cc }
+part_holds asked bytes f next_data_transfer_handle part (Ok (Done n)) held goes = record { asked_is = held.asked_is; bytes_are = λ wrong. cc }
+part_holds asked bytes f next_data_transfer_handle part (Err fault) held goes = record { asked_is = held.asked_is; bytes_are = λ wrong. cc }
 
 going_holds : (asked : ℕ) (bytes : List ℕ) (f : Fetching) (answer : Answer) → Holds asked bytes f → is_going f.stage ≡ true → Holds asked (bytes ++ bytes_of answer) (going_after f answer)
 going_holds asked bytes f (Refused code) held goes = record { asked_is = held.asked_is; bytes_are = λ wrong. cc }
@@ -46,7 +46,7 @@ record Passed (short counted first same other : Bool) : Type 0 where
   long : short ≡ false
   counts : counted ≡ true
   handle : (first ≡ true) ⊎ (same ≡ true)
-  checksum : other ≡ false
+  transfer_crc : other ≡ false
 
 passed : (short counted first same other : Bool) → (if short || not counted then Some faults.Count else if not first && not same then Some faults.Handle else if other then Some faults.Crc else None) ≡ None → Passed short counted first same other
 passed true counted first same other e = cc
@@ -54,8 +54,8 @@ passed false false first same other e = cc
 passed false true false false other e = cc
 passed false true true same true e = cc
 passed false true false true true e = cc
-passed false true true same false e = record { long = refl; counts = refl; handle = inl refl; checksum = refl }
-passed false true false true false e = record { long = refl; counts = refl; handle = inr refl; checksum = refl }
+passed false true true same false e = record { long = refl; counts = refl; handle = inl refl; transfer_crc = refl }
+passed false true false true false e = record { long = refl; counts = refl; handle = inr refl; transfer_crc = refl }
 
 right_checksum : (checksum : Option ℕ) (pdr : List ℕ) → is_other_crc checksum pdr ≡ false → IfSome checksum (λ c. c ≡ crc pdr)
 right_checksum None pdr e = tt
@@ -72,10 +72,10 @@ asked_for asked pdr (inr e) = inr (eqb-true _ _ e)
 record Ended (f : Fetching) (n next : ℕ) (part : Part) : Type 0 where
   fit : fits f.bytes part ≡ true
   last : is_last part.flag ≡ true
-  no_fault : record_fault f.asked (f.bytes ++ part.bytes) part.checksum ≡ None
+  no_fault : record_fault f.asked (f.bytes ++ part.bytes) part.transfer_crc ≡ None
   follows : n ≡ next
 
-ended_by : (f : Fetching) (n next : ℕ) (part : Part) (fit last : Bool) (fault : Option FetchFault) → fits f.bytes part ≡ fit → is_last part.flag ≡ last → record_fault f.asked (f.bytes ++ part.bytes) part.checksum ≡ fault → (if fit then (if last then unless fault (Done n) else Ok More) else Err faults.Count) ≡ Ok (Done next) → Ended f n next part
+ended_by : (f : Fetching) (n next : ℕ) (part : Part) (fit last : Bool) (fault : Option FetchFault) → fits f.bytes part ≡ fit → is_last part.flag ≡ last → record_fault f.asked (f.bytes ++ part.bytes) part.transfer_crc ≡ fault → (if fit then (if last then unless fault (Done n) else Ok More) else Err faults.Count) ≡ Ok (Done next) → Ended f n next part
 ended_by f n next part true true None fits_it is_it none e = record { fit = fits_it; last = is_it; no_fault = none; follows = cc }
 ended_by f n next part true true (Some fault) fits_it is_it none e = cc
 ended_by f n next part true false fault fits_it is_it none e = cc
@@ -97,15 +97,15 @@ IsDone asked next pdr answer = IsWhole pdr × IsAsked asked pdr × EndsRecord ne
 whole_by : (asked : ℕ) (pdr : List ℕ) (checksum : Option ℕ) → length pdr ≤ MOST_RECORD_BYTES → record_fault asked pdr checksum ≡ None → IsWhole pdr × IsAsked asked pdr × IfSome checksum (λ c. c ≡ crc pdr)
 whole_by asked pdr checksum small e =
     let p = passed (nat_lt (length pdr) RECORD_HEADER) (length pdr == RECORD_HEADER + data_length_of pdr) (asked == FIRST_RECORD) (handle_of pdr == asked) (is_other_crc checksum pdr) e in
-    (record { header = ltb-false _ _ p.long; small = small; counted = eqb-true _ _ p.counts }, asked_for asked pdr p.handle, right_checksum checksum pdr p.checksum)
+    (record { header = ltb-false _ _ p.long; small = small; counted = eqb-true _ _ p.counts }, asked_for asked pdr p.handle, right_checksum checksum pdr p.transfer_crc)
 
 part_done : (asked next : ℕ) (bytes : List ℕ) (f : Fetching) (n t : ℕ) (part : Part) → f.asked ≡ asked → f.bytes ≡ bytes → part_told f n part ≡ Ok (Done next) → IsDone asked next (bytes ++ part.bytes) (GetPdr n t part)
 part_done asked next bytes f n t part asked_is bytes_are e =
     let done = ended f n next part e in
-    let none : record_fault asked (bytes ++ part.bytes) part.checksum ≡ None = cc (done.no_fault, asked_is, bytes_are) in
+    let none : record_fault asked (bytes ++ part.bytes) part.transfer_crc ≡ None = cc (done.no_fault, asked_is, bytes_are) in
     let fit : (nat_lt 0 (length part.bytes) && not (nat_lt MOST_RECORD_BYTES (length bytes + length part.bytes))) ≡ true = subst (λ b. (nat_lt 0 (length part.bytes) && not (nat_lt MOST_RECORD_BYTES (length b + length part.bytes))) ≡ true) bytes_are done.fit in
     let small : length bytes + length part.bytes ≤ MOST_RECORD_BYTES = small_by _ _ _ _ refl fit in
-    let parts = whole_by asked (bytes ++ part.bytes) part.checksum (rw (length-append bytes part.bytes) small) none in
+    let parts = whole_by asked (bytes ++ part.bytes) part.transfer_crc (rw (length-append bytes part.bytes) small) none in
     (parts.0, parts.1, (done.follows, done.last, parts.2))
 
 going_done : (asked next : ℕ) (bytes : List ℕ) (f : Fetching) (answer : Answer) → f.asked ≡ asked → f.bytes ≡ bytes → going_told f answer ≡ Ok (Done next) → IsDone asked next (bytes ++ bytes_of answer) answer

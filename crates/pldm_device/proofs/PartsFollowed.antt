@@ -6,7 +6,7 @@ use Rattle.std.proofs.lemmas.List.{append-nil, length-take, length-drop, take_al
 use Rattle.pldm_wire.specs.Crc.{crc}
 use Rattle.pldm_wire.specs.RecordParts.{Part}
 use Rattle.pldm_wire.specs.declared.limits.TheConstants.{MOST_PART_BYTES}
-use Rattle.pldm_device.specs.Records.{checksum_with, flag_of_part, is_last_part, next_transfer_handle, offset_after, part_bytes, part_of}
+use Rattle.pldm_device.specs.Records.{checksum_with, flag_of_part, is_last_part, next_data_transfer_handle, offset_after, part_bytes, part_of}
 use Rattle.pldm_device.specs.Transfers.{Followed, IsPartFrom, TellPlaces, joined, parts_asked}
 
 -- how many bytes a part has
@@ -15,11 +15,11 @@ length-part_bytes pdr offset count =
     length-take (min count MOST_PART_BYTES) (drop offset pdr) ∙ ap (λ n. min (min count MOST_PART_BYTES) n) (length-drop offset pdr)
 
 -- what no transfer handle follows is the last part
-last_from_none : (pdr : List ℕ) (offset count : ℕ) → 0 < count → 0 ≡ next_transfer_handle pdr offset count → is_last_part pdr offset count ≡ true
+last_from_none : (pdr : List ℕ) (offset count : ℕ) → 0 < count → 0 ≡ next_data_transfer_handle pdr offset count → is_last_part pdr offset count ≡ true
 last_from_none pdr offset count asks none = let bytes = length-part_bytes pdr offset count in grind (arith, nat_tests)
 
 -- what a transfer handle follows is not, and has the bytes before the next offset
-not_last_from_next : (pdr : List ℕ) (offset count next : ℕ) → 0 < next → next ≡ next_transfer_handle pdr offset count → is_last_part pdr offset count ≡ false
+not_last_from_next : (pdr : List ℕ) (offset count next : ℕ) → 0 < next → next ≡ next_data_transfer_handle pdr offset count → is_last_part pdr offset count ≡ false
 not_last_from_next pdr offset count next more is = grind (arith, nat_tests)
 
 -- the last part has all bytes from its offset on
@@ -31,13 +31,13 @@ last_bytes pdr offset count last =
     take_all (min count MOST_PART_BYTES) (drop offset pdr) short
 
 -- any other has as many as were asked for, and the rest follows
-more_bytes : (pdr : List ℕ) (offset count next : ℕ) → 0 < next → next ≡ next_transfer_handle pdr offset count → part_bytes pdr offset count ++ drop next pdr ≡ drop offset pdr
+more_bytes : (pdr : List ℕ) (offset count next : ℕ) → 0 < next → next ≡ next_data_transfer_handle pdr offset count → part_bytes pdr offset count ++ drop next pdr ≡ drop offset pdr
 more_bytes pdr offset count next more is =
     let bytes = length-part_bytes pdr offset count in
     let next_is : next ≡ offset + min count MOST_PART_BYTES = grind (arith, nat_tests) in
     rw (next_is, ← drop-drop (min count MOST_PART_BYTES) offset pdr) (take-append-drop (min count MOST_PART_BYTES) (drop offset pdr))
 
-next_within : (pdr : List ℕ) (offset count next : ℕ) → 0 < next → next ≡ next_transfer_handle pdr offset count → next < length pdr
+next_within : (pdr : List ℕ) (offset count next : ℕ) → 0 < next → next ≡ next_data_transfer_handle pdr offset count → next < length pdr
 next_within pdr offset count next more is = grind (arith, nat_tests)
 
 joined_from : (pdr : List ℕ) (offset : ℕ) (parts : List Part) → Followed pdr offset parts → joined parts ≡ drop offset pdr
@@ -67,13 +67,13 @@ places_from pdr offset [] followed = absurd followed
 places_from pdr offset (last ∷ []) followed =
     let is_last = last_from_none pdr offset followed.count followed.asks followed.next_is in
     let flag : last.flag ≡ flag_of_part (offset == 0) true = ap (λ (p : Part). p.flag) followed.part_is ∙ ap (λ (b : Bool). flag_of_part (offset == 0) b) is_last in
-    let checksum : last.checksum ≡ checksum_with (flag_of_part (offset == 0) true) pdr = ap (λ (p : Part). p.checksum) followed.part_is ∙ ap (λ (b : Bool). checksum_with (flag_of_part (offset == 0) b) pdr) is_last in
+    let checksum : last.transfer_crc ≡ checksum_with (flag_of_part (offset == 0) true) pdr = ap (λ (p : Part). p.transfer_crc) followed.part_is ∙ ap (λ (b : Bool). checksum_with (flag_of_part (offset == 0) b) pdr) is_last in
     (flag, checksum ∙ last_checksum pdr (offset == 0))
 places_from pdr offset (part ∷ following ∷ rest) followed =
     let from = followed.2 in
     let is_last = not_last_from_next pdr offset from.count followed.0 followed.1 from.next_is in
     let flag : part.flag ≡ flag_of_part (offset == 0) false = ap (λ (p : Part). p.flag) from.part_is ∙ ap (λ (b : Bool). flag_of_part (offset == 0) b) is_last in
-    let checksum : part.checksum ≡ checksum_with (flag_of_part (offset == 0) false) pdr = ap (λ (p : Part). p.checksum) from.part_is ∙ ap (λ (b : Bool). checksum_with (flag_of_part (offset == 0) b) pdr) is_last in
+    let checksum : part.transfer_crc ≡ checksum_with (flag_of_part (offset == 0) false) pdr = ap (λ (p : Part). p.transfer_crc) from.part_is ∙ ap (λ (b : Bool). checksum_with (flag_of_part (offset == 0) b) pdr) is_last in
     let later : (followed.0 == 0) ≡ false = grind (arith, nat_tests, followed.1) in
     let others = places_from pdr followed.0 (following ∷ rest) followed.3 in
     (flag, checksum ∙ other_checksum pdr (offset == 0), subst (λ (b : Bool). TellPlaces pdr b (following ∷ rest)) later others)
@@ -85,7 +85,7 @@ one_more : (pdr : List ℕ) (offset next : ℕ) (part : Part) (rest : List Part)
 one_more pdr offset next part [] more from followed = absurd followed
 one_more pdr offset next part (following ∷ rest) more from followed = (next, more, from, followed)
 
-asked_from : (pdr : List ℕ) (offset count : ℕ) (counts : List ℕ) (is_last : Bool) → is_last_part pdr offset count ≡ is_last → 0 < count → length pdr < offset + suc (length counts) → ((next : ℕ) → next ≤ length pdr → length pdr < next + length counts → Followed pdr next (parts_asked pdr next counts)) → Followed pdr offset (part_of pdr offset count ∷ (if is_last then [] else parts_asked pdr (next_transfer_handle pdr offset count) counts))
+asked_from : (pdr : List ℕ) (offset count : ℕ) (counts : List ℕ) (is_last : Bool) → is_last_part pdr offset count ≡ is_last → 0 < count → length pdr < offset + suc (length counts) → ((next : ℕ) → next ≤ length pdr → length pdr < next + length counts → Followed pdr next (parts_asked pdr next counts)) → Followed pdr offset (part_of pdr offset count ∷ (if is_last then [] else parts_asked pdr (next_data_transfer_handle pdr offset count) counts))
 asked_from pdr offset count counts true is asks enough others = record {
   count = count;
   asks = asks;
@@ -94,13 +94,13 @@ asked_from pdr offset count counts true is asks enough others = record {
 }
 asked_from pdr offset count counts false is asks enough others =
     let bytes = length-part_bytes pdr offset count in
-    let next_is : next_transfer_handle pdr offset count ≡ offset_after pdr offset count = rw is refl in
+    let next_is : next_data_transfer_handle pdr offset count ≡ offset_after pdr offset count = rw is refl in
     let before : offset_after pdr offset count < length pdr = grind (arith, nat_tests) in
     let some : 0 < length (part_bytes pdr offset count) = omega (arith, bytes, before) in
-    let more : 0 < next_transfer_handle pdr offset count = rw next_is (omega arith) in
-    one_more pdr offset (next_transfer_handle pdr offset count) (part_of pdr offset count) (parts_asked pdr (next_transfer_handle pdr offset count) counts) more
+    let more : 0 < next_data_transfer_handle pdr offset count = rw next_is (omega arith) in
+    one_more pdr offset (next_data_transfer_handle pdr offset count) (part_of pdr offset count) (parts_asked pdr (next_data_transfer_handle pdr offset count) counts) more
     (record { count = count; asks = asks; part_is = refl; next_is = refl })
-    (others (next_transfer_handle pdr offset count) (rw next_is (omega arith)) (rw next_is (omega arith)))
+    (others (next_data_transfer_handle pdr offset count) (rw next_is (omega arith)) (rw next_is (omega arith)))
 
 asked : (pdr : List ℕ) (offset : ℕ) (counts : List ℕ) → All (λ count. 0 < count) counts → offset ≤ length pdr → length pdr < offset + length counts → Followed pdr offset (parts_asked pdr offset counts)
 asked pdr offset [] asks within enough = absurd (omega arith)

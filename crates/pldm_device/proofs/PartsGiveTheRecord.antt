@@ -12,7 +12,7 @@ use Rattle.pldm_wire.specs.declared.limits.TheConstants.{MOST_PART_BYTES}
 use Rattle.pldm_device.specs.Fetches.{Fetching, told, part_told, part_after, after, fits, is_going, is_last, is_other_crc, record_fault, record_of, unless}
 use Rattle.pldm_device.proofs.DoneIsTheRecord.{going_recorded}
 use Rattle.pldm_device.specs.FetchLaws.{fetched, IsWhole, IsAsked, part_answer, HasPart, ArePartsUpto, PartsGiveTheRecord}
-use Rattle.pldm_device.specs.Records.{part_bytes, offset_after, is_last_part, flag_of_part, part_flag, part_of, checksum_with, next_transfer_handle, handle_of, data_length_of}
+use Rattle.pldm_device.specs.Records.{part_bytes, offset_after, is_last_part, flag_of_part, part_flag, part_of, checksum_with, next_data_transfer_handle, handle_of, data_length_of}
 use Rattle.pldm_device.specs.declared.fetch.FetchState.TheVariants.{More, Done}
 use Rattle.pldm_device.specs.declared.fetch.Stage.TheVariants.{Going, Finished}
 use Rattle.pldm_device.specs.declared.fetch_fault.FetchFault.TheVariants as faults
@@ -73,8 +73,8 @@ told_more asked next start count pdr whole within some more =
 
 after_more : (asked next start count : ℕ) (pdr : List ℕ) → IsWhole pdr → start < length pdr → 0 < count → is_last_part pdr start count ≡ false → after (held_upto asked pdr start) (part_answer next pdr start count) ≡ held_upto asked pdr (offset_after pdr start count)
 after_more asked next start count pdr whole within some more =
-    ap (part_after (held_upto asked pdr start) (next_transfer_handle pdr start count) (part_of pdr start count)) (told_more asked next start count pdr whole within some more)
-    ∙ ap (λ (b : List ℕ). with_bytes b (next_transfer_handle pdr start count)) (upto pdr start count)
+    ap (part_after (held_upto asked pdr start) (next_data_transfer_handle pdr start count) (part_of pdr start count)) (told_more asked next start count pdr whole within some more)
+    ∙ ap (λ (b : List ℕ). with_bytes b (next_data_transfer_handle pdr start count)) (upto pdr start count)
     ∙ ap (with_bytes (take (offset_after pdr start count) pdr)) (choose_else (is_last_part pdr start count) 0 (offset_after pdr start count) more) where
       with_bytes : List ℕ → ℕ → Fetching
       with_bytes b o = record { asked = asked; bytes = b; offset = o; stage = Going }

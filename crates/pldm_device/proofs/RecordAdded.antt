@@ -10,7 +10,7 @@ use Rattle.std.specs.BTreeMap.{is_at}
 use Rattle.std.specs.List.{position}
 use Rattle.std.specs.Ordering.{nat_cmp}
 use Rattle.pldm_device.specs.ById.{ById, with_id}
-use Rattle.pldm_device.specs.Records.{handle_of, largest_record, position_of}
+use Rattle.pldm_device.specs.Records.{handle_of, largest_record_size, position_of}
 use Rattle.pldm_device.specs.Repositories.{IsIndexed}
 use Rattle.pldm_device.specs.declared.limits.TheConstants.{MOST_ENTRIES, MOST_RECORD_BYTES}
 
@@ -22,7 +22,7 @@ position_same p xs y fails = grind (arith, common_steps, position_or_len_push p 
 position_new : {X : Type 0} (p : X → Bool) (xs : List X) (y : X) → p y ≡ true → position p xs ≡ None → position p (xs ++ y ∷ []) ≡ Some (length xs)
 position_new p xs y passes none = grind (arith, common_steps, position_or_len_push p xs y, length_push xs y, prefix_len-le-length)
 
-largest_record_push : (records : List (List ℕ)) (pdr : List ℕ) → largest_record (records ++ pdr ∷ []) ≡ max (largest_record records) (length pdr)
+largest_record_push : (records : List (List ℕ)) (pdr : List ℕ) → largest_record_size (records ++ pdr ∷ []) ≡ max (largest_record_size records) (length pdr)
 largest_record_push [] pdr = omega arith
 largest_record_push (first ∷ rest) pdr = omega (arith, largest_record_push rest pdr)
 

@@ -8,7 +8,7 @@ use Rattle.pldm_wire.specs.declared.transfer_flag.TransferFlag.TheVariants.{Star
 use Rattle.pldm_device.specs.RecordAnswers.{record_answer}
 use Rattle.pldm_device.specs.RecordEntries.{checked, with_record}
 use Rattle.pldm_device.specs.declared.description_fault.FileFault.TheVariants.{BadRecord, Duplicate}
-use Rattle.pldm_device.specs.Records.{handle_of, is_record, largest_record, next_transfer_handle, part_of, position_asked, repository_size}
+use Rattle.pldm_device.specs.Records.{handle_of, is_record, largest_record_size, next_data_transfer_handle, part_of, position_asked, repository_size}
 
 abbrev seven : List ℕ
 seven = 7 ∷ 0 ∷ 0 ∷ 0 ∷ 1 ∷ 1 ∷ 0 ∷ 0 ∷ 2 ∷ 0 ∷ 30 ∷ 40 ∷ []
@@ -31,16 +31,16 @@ another_version = refl
 a_byte_too_many : is_record (7 ∷ 0 ∷ 0 ∷ 0 ∷ 1 ∷ 1 ∷ 0 ∷ 0 ∷ 0 ∷ 0 ∷ 30 ∷ []) ≡ false
 a_byte_too_many = refl
 
-whole : (part_of seven 0 12 ≡ part StartAndEnd seven None) × (next_transfer_handle seven 0 12 ≡ 0)
+whole : (part_of seven 0 12 ≡ part StartAndEnd seven None) × (next_data_transfer_handle seven 0 12 ≡ 0)
 whole = (refl, refl)
 
-first : (part_of seven 0 2 ≡ part Start (7 ∷ 0 ∷ []) None) × (next_transfer_handle seven 0 2 ≡ 2)
+first : (part_of seven 0 2 ≡ part Start (7 ∷ 0 ∷ []) None) × (next_data_transfer_handle seven 0 2 ≡ 2)
 first = (refl, refl)
 
-middle : (part_of seven 8 2 ≡ part Middle (2 ∷ 0 ∷ []) None) × (next_transfer_handle seven 8 2 ≡ 10)
+middle : (part_of seven 8 2 ≡ part Middle (2 ∷ 0 ∷ []) None) × (next_data_transfer_handle seven 8 2 ≡ 10)
 middle = (refl, refl)
 
-last : (part_of seven 10 5 ≡ part End (30 ∷ 40 ∷ []) (Some (crc seven))) × (next_transfer_handle seven 10 5 ≡ 0)
+last : (part_of seven 10 5 ≡ part End (30 ∷ 40 ∷ []) (Some (crc seven))) × (next_data_transfer_handle seven 10 5 ≡ 0)
 last = (refl, refl)
 
 checks : (checked seven ≡ Ok seven) × (checked [] ≡ Err BadRecord)
@@ -49,7 +49,7 @@ checks = (refl, refl)
 added : (with_record (eleven ∷ []) seven ≡ Ok (eleven ∷ seven ∷ [])) × (with_record (eleven ∷ seven ∷ []) seven ≡ Err Duplicate)
 added = (refl, refl)
 
-sizes : (repository_size (seven ∷ eleven ∷ []) ≡ 22) × (largest_record (seven ∷ eleven ∷ []) ≡ 12)
+sizes : (repository_size (seven ∷ eleven ∷ []) ≡ 22) × (largest_record_size (seven ∷ eleven ∷ []) ≡ 12)
 sizes = (refl, refl)
 
 positions : (position_asked 0 (seven ∷ eleven ∷ []) ≡ Some 0) × (position_asked 11 (seven ∷ eleven ∷ []) ≡ Some 1) × (position_asked 8 (seven ∷ eleven ∷ []) ≡ None)

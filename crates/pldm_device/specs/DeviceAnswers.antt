@@ -14,7 +14,7 @@ use Rattle.pldm_device.specs.RecordAnswers.{record_answer, repository_info}
 abbrev pub answer : Device → Command → Answer
 answer device (SetTid tid) = outcome_told answers.SetTid (tid_set tid device)
 answer device GetTid = answers.GetTid device.tid
-answer device (GetPldmVersion transfer_handle operation pldm_type) = version_answer operation pldm_type device
+answer device (GetPldmVersion data_transfer_handle transfer_operation_flag pldm_type) = version_answer transfer_operation_flag pldm_type device
 answer device GetPldmTypes = answers.GetPldmTypes types
 answer device (GetPldmCommands pldm_type version) = commands_answer pldm_type
 answer device (GetSensorReading sensor rearm) = numeric_sensor_told (with_id sensor device.numeric_sensors)
@@ -26,8 +26,8 @@ answer device (SetStateEffecterStates effecter fields) =
     outcome_told answers.SetStateEffecterStates (states_set effecter fields device)
 answer device (GetStateEffecterStates effecter) = state_effecter_told (with_id effecter device.state_effecters)
 answer device GetPdrRepositoryInfo = repository_info device
-answer device (GetPdr record_handle transfer_handle operation request_count change_number) =
-    record_answer record_handle transfer_handle operation request_count device.records
+answer device (GetPdr record_handle data_transfer_handle transfer_operation_flag request_count record_change_number) =
+    record_answer record_handle data_transfer_handle transfer_operation_flag request_count device.records
 
 -- only the commands that set change the device, and a refused one does not
 abbrev pub after : Device → Command → Device

@@ -25,7 +25,7 @@ set_number number effecter =
 
 -- whether the request asks for a state
 abbrev pub asks : SetStateField → Bool
-asks field = field.request == REQUEST_SET
+asks field = field.set_request == REQUEST_SET
 
 -- each state that is asked for is one that its field can take
 abbrev pub are_allowed : List SetStateField → List (List ℕ) → Bool
@@ -40,7 +40,7 @@ states_after _ _ = []
 
 -- there is a set request other than noChange and requestSet
 abbrev pub has_other_request : List SetStateField → Bool
-has_other_request fields = list_any (λ field. nat_lt REQUEST_SET field.request) fields
+has_other_request fields = list_any (λ field. nat_lt REQUEST_SET field.set_request) fields
 
 -- why the states that are asked for can't be set, if they can't
 abbrev pub states_refusal : List SetStateField → List (List ℕ) → Option ℕ

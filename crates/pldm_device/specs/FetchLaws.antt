@@ -4,7 +4,7 @@ use Rattle.pldm_wire.specs.Crc.{crc}
 use Rattle.pldm_wire.specs.declared.answer.Answer.{Answer}
 use Rattle.pldm_wire.specs.declared.answer.Answer.TheVariants.{GetPdr}
 use Rattle.pldm_device.specs.Fetches.{Fetching, begun, told, after, record_of, is_last, is_going}
-use Rattle.pldm_device.specs.Records.{handle_of, data_length_of, part_of, offset_after, is_last_part, next_transfer_handle}
+use Rattle.pldm_device.specs.Records.{handle_of, data_length_of, part_of, offset_after, is_last_part, next_data_transfer_handle}
 use Rattle.pldm_device.specs.declared.fetch.FetchState.TheVariants.{More, Done}
 use Rattle.pldm_device.specs.declared.limits.TheConstants.{FIRST_RECORD, MOST_RECORD_BYTES, RECORD_HEADER}
 
@@ -14,7 +14,7 @@ fetched asked [] = begun asked
 fetched asked (answer ∷ before) = after (fetched asked before) answer
 
 abbrev pub bytes_of : Answer → List ℕ
-bytes_of (GetPdr next_record_handle next_transfer_handle part) = part.bytes
+bytes_of (GetPdr next_record_handle next_data_transfer_handle part) = part.bytes
 bytes_of _ = []
 
 -- the bytes of the parts among these answers, in the order in which they came
@@ -35,8 +35,8 @@ IsAsked asked pdr = (asked ≡ FIRST_RECORD) ⊎ (handle_of pdr ≡ asked)
 -- the answer has the last part of the record and the handle of the record after it; a checksum that came with it is the
 -- record's
 abbrev pub EndsRecord : ℕ → List ℕ → Answer → Type 0
-EndsRecord next pdr (GetPdr next_record_handle next_transfer_handle part) =
-    (next_record_handle ≡ next) × (is_last part.flag ≡ true) × IfSome part.checksum (λ checksum. checksum ≡ crc pdr)
+EndsRecord next pdr (GetPdr next_record_handle next_data_transfer_handle part) =
+    (next_record_handle ≡ next) × (is_last part.flag ≡ true) × IfSome part.transfer_crc (λ checksum. checksum ≡ crc pdr)
 EndsRecord next pdr _ = ⊥
 
 -- where a fetch is done, the parts joined are a whole record, the one that was asked for, with its checksum
@@ -49,7 +49,7 @@ DoneIsTheRecord =
 
 -- the answer with the part of the record from an offset on, for a request of so many bytes
 abbrev pub part_answer : ℕ → List ℕ → ℕ → ℕ → Answer
-part_answer next pdr offset count = GetPdr next (next_transfer_handle pdr offset count) (part_of pdr offset count)
+part_answer next pdr offset count = GetPdr next (next_data_transfer_handle pdr offset count) (part_of pdr offset count)
 
 -- the answer has the part from one offset to another, for a request of some bytes
 abbrev pub HasPart : ℕ → List ℕ → ℕ → ℕ → Answer → Type 0

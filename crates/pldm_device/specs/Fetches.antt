@@ -7,11 +7,11 @@ use Rattle.pldm_wire.specs.declared.answer.Answer.{Answer}
 use Rattle.pldm_wire.specs.declared.answer.Answer.TheVariants.{Refused, GetPdr}
 use Rattle.pldm_wire.specs.declared.command.Command.{Command}
 use Rattle.pldm_wire.specs.declared.command.Command.TheVariants as commands
-use Rattle.pldm_wire.specs.declared.limits.TheConstants.{MOST_PART_BYTES}
+use Rattle.pldm_wire.specs.declared.limits.TheConstants.{MOST_PART_BYTES, GET_FIRST_PART, GET_NEXT_PART}
 use Rattle.pldm_wire.specs.declared.transfer_flag.TransferFlag.{TransferFlag}
 use Rattle.pldm_wire.specs.declared.transfer_flag.TransferFlag.TheVariants.{End, StartAndEnd}
 use Rattle.pldm_device.specs.Records.{handle_of, change_number_of, data_length_of}
-use Rattle.pldm_device.specs.declared.limits.TheConstants.{CHANGE_NUMBER_END, FIRST_RECORD, GET_FIRST_PART, GET_NEXT_PART, MOST_RECORD_BYTES, RECORD_HEADER}
+use Rattle.pldm_device.specs.declared.limits.TheConstants.{CHANGE_NUMBER_END, FIRST_RECORD, MOST_RECORD_BYTES, RECORD_HEADER}
 use Rattle.pldm_device.specs.declared.fetch.FetchState.{FetchState}
 use Rattle.pldm_device.specs.declared.fetch.FetchState.TheVariants.{More, Done}
 use Rattle.pldm_device.specs.declared.fetch.Stage.{Stage}
@@ -93,13 +93,13 @@ unless (Some fault) state = Err fault
 abbrev pub part_told : Fetching → ℕ → Part → Result FetchState FetchFault
 part_told f next_record_handle part =
     if fits f.bytes part
-    then (if is_last part.flag then unless (record_fault f.asked (f.bytes ++ part.bytes) part.checksum) (Done next_record_handle) else Ok More)
+    then (if is_last part.flag then unless (record_fault f.asked (f.bytes ++ part.bytes) part.transfer_crc) (Done next_record_handle) else Ok More)
     else Err faults.Count
 
 -- what an answer gives a fetch that goes on
 abbrev pub going_told : Fetching → Answer → Result FetchState FetchFault
 going_told f (Refused code) = Err (faults.Refused code)
-going_told f (GetPdr next_record_handle next_transfer_handle part) = part_told f next_record_handle part
+going_told f (GetPdr next_record_handle next_data_transfer_handle part) = part_told f next_record_handle part
 going_told f _ = Err faults.Unexpected
 
 abbrev pub told_at : Stage → Fetching → Answer → Result FetchState FetchFault
@@ -113,8 +113,8 @@ told f answer = told_at f.stage f answer
 
 -- a fetch with this part added, the next one beginning at an offset
 abbrev pub with_part : Fetching → ℕ → Part → Stage → Fetching
-with_part f next_transfer_handle part stage =
-    record { asked = f.asked; bytes = f.bytes ++ part.bytes; offset = next_transfer_handle; stage = stage }
+with_part f next_data_transfer_handle part stage =
+    record { asked = f.asked; bytes = f.bytes ++ part.bytes; offset = next_data_transfer_handle; stage = stage }
 
 -- a fetch that failed holds no bytes
 abbrev pub failed : FetchFault → Fetching → Fetching
@@ -122,15 +122,15 @@ failed fault f = record { asked = f.asked; bytes = []; offset = f.offset; stage 
 
 -- what a fetch that goes on holds after a part that gave this
 abbrev pub part_after : Fetching → ℕ → Part → Result FetchState FetchFault → Fetching
-part_after f next_transfer_handle part (Ok More) = with_part f next_transfer_handle part Going
-part_after f next_transfer_handle part (Ok (Done next_record_handle)) = with_part f next_transfer_handle part Finished
-part_after f next_transfer_handle part (Err fault) = failed fault f
+part_after f next_data_transfer_handle part (Ok More) = with_part f next_data_transfer_handle part Going
+part_after f next_data_transfer_handle part (Ok (Done next_record_handle)) = with_part f next_data_transfer_handle part Finished
+part_after f next_data_transfer_handle part (Err fault) = failed fault f
 
 -- what a fetch that goes on holds after an answer
 abbrev pub going_after : Fetching → Answer → Fetching
 going_after f (Refused code) = failed (faults.Refused code) f
-going_after f (GetPdr next_record_handle next_transfer_handle part) =
-    part_after f next_transfer_handle part (part_told f next_record_handle part)
+going_after f (GetPdr next_record_handle next_data_transfer_handle part) =
+    part_after f next_data_transfer_handle part (part_told f next_record_handle part)
 going_after f _ = f
 
 -- what a fetch holds after an answer: one that has ended, and one that was given no answer to GetPDR, stay as they are
@@ -139,7 +139,7 @@ after f answer = if is_going f.stage then going_after f answer else f
 
 -- an answer that adds a part: it alone wants memory
 abbrev pub adds : Fetching → Answer → Bool
-adds f (GetPdr next_record_handle next_transfer_handle part) = is_going f.stage && fits f.bytes part
+adds f (GetPdr next_record_handle next_data_transfer_handle part) = is_going f.stage && fits f.bytes part
 adds f _ = false
 
 abbrev pub record_at : Stage → List ℕ → Option (List ℕ)

@@ -17,6 +17,7 @@ pub mod DeviceLaws
 pub mod Descriptions
 pub mod Documents
 pub mod FileFaults
+pub mod FaultNumbers
 pub mod KeyValues
 pub mod NumberLists
 pub mod SizeNames

@@ -55,9 +55,9 @@ abbrev pub repository_size : List (List ℕ) → ℕ
 repository_size records = sum_by length records
 
 -- the bytes of the largest record
-abbrev pub largest_record : List (List ℕ) → ℕ
-largest_record [] = 0
-largest_record (pdr ∷ records) = max (length pdr) (largest_record records)
+abbrev pub largest_record_size : List (List ℕ) → ℕ
+largest_record_size [] = 0
+largest_record_size (pdr ∷ records) = max (length pdr) (largest_record_size records)
 
 -- A part of a record, from an offset on, for a request of so many bytes.
 
@@ -91,6 +91,6 @@ part_of pdr offset count =
     let flag = part_flag pdr offset count in part flag (part_bytes pdr offset count) (checksum_with flag pdr)
 
 -- the transfer handle of the next part is its offset; there is none after the last
-abbrev pub next_transfer_handle : List ℕ → ℕ → ℕ → ℕ
-next_transfer_handle pdr offset count =
+abbrev pub next_data_transfer_handle : List ℕ → ℕ → ℕ → ℕ
+next_data_transfer_handle pdr offset count =
     if is_last_part pdr offset count then 0 else offset_after pdr offset count

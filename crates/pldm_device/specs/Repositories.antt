@@ -1,7 +1,7 @@
 -- How a repository keeps its records.
 use Rattle.std.specs.Prelude.{◌≡◌, ℕ, ◌*◌, ◌≤◌, List, length}
 use Rattle.pldm_device.specs.ById.{ById, with_id}
-use Rattle.pldm_device.specs.Records.{largest_record, position_of, repository_size}
+use Rattle.pldm_device.specs.Records.{largest_record_size, position_of, repository_size}
 use Rattle.pldm_device.specs.declared.limits.TheConstants.{MOST_ENTRIES, MOST_RECORD_BYTES}
 
 -- the positions are those of the records by their handle; the sizes are those of the records, which
@@ -9,6 +9,6 @@ use Rattle.pldm_device.specs.declared.limits.TheConstants.{MOST_ENTRIES, MOST_RE
 pub record IsIndexed (records : List (List ℕ)) (positions : ById ℕ) (size largest : ℕ) : Type 0 where
   pub by_handle : (handle : ℕ) → with_id handle positions ≡ position_of handle records
   pub size_is : size ≡ repository_size records
-  pub largest_is : largest ≡ largest_record records
+  pub largest_is : largest ≡ largest_record_size records
   pub count : length records ≤ MOST_ENTRIES
   pub small : size ≤ length records * MOST_RECORD_BYTES

@@ -3,7 +3,7 @@ use Rattle.std.specs.Prelude.{◌≡◌, ℕ, ◌<◌, Bool, false, List, [], �
 use Rattle.std.specs.List.{flat_map}
 use Rattle.pldm_wire.specs.Crc.{crc}
 use Rattle.pldm_wire.specs.RecordParts.{Part}
-use Rattle.pldm_device.specs.Records.{flag_of_part, is_last_part, next_transfer_handle, part_of}
+use Rattle.pldm_device.specs.Records.{flag_of_part, is_last_part, next_data_transfer_handle, part_of}
 
 -- the part from an offset on for a request of some bytes, at least one, and the next transfer handle
 -- that comes with it
@@ -11,7 +11,7 @@ pub record IsPartFrom (pdr : List ℕ) (offset next : ℕ) (told : Part) : Type 
   pub count : ℕ
   pub asks : 0 < count
   pub part_is : told ≡ part_of pdr offset count
-  pub next_is : next ≡ next_transfer_handle pdr offset count
+  pub next_is : next ≡ next_data_transfer_handle pdr offset count
 
 -- parts in turn, the first from the offset on: each other one begins at the next transfer handle of
 -- the one before, and the last one has none
@@ -26,7 +26,7 @@ abbrev pub parts_asked : List ℕ → ℕ → List ℕ → List Part
 parts_asked pdr offset [] = []
 parts_asked pdr offset (count ∷ counts) =
     part_of pdr offset count
-    ∷ (if is_last_part pdr offset count then [] else parts_asked pdr (next_transfer_handle pdr offset count) counts)
+    ∷ (if is_last_part pdr offset count then [] else parts_asked pdr (next_data_transfer_handle pdr offset count) counts)
 
 -- the bytes of the parts, one after another
 abbrev pub joined : List Part → List ℕ
@@ -37,6 +37,6 @@ joined parts = flat_map (λ part. part.bytes) parts
 abbrev pub TellPlaces : List ℕ → Bool → List Part → Type 0
 TellPlaces pdr is_first [] = ⊥
 TellPlaces pdr is_first (last ∷ []) =
-    (last.flag ≡ flag_of_part is_first true) × (last.checksum ≡ (if is_first then None else Some (crc pdr)))
+    (last.flag ≡ flag_of_part is_first true) × (last.transfer_crc ≡ (if is_first then None else Some (crc pdr)))
 TellPlaces pdr is_first (part ∷ following ∷ rest) =
-    (part.flag ≡ flag_of_part is_first false) × (part.checksum ≡ None) × TellPlaces pdr false (following ∷ rest)
+    (part.flag ≡ flag_of_part is_first false) × (part.transfer_crc ≡ None) × TellPlaces pdr false (following ∷ rest)

@@ -9,16 +9,16 @@ ghost use Rattle.pldm_device.specs.EffecterAnswers.{number_set, numeric_effecter
 ghost use Rattle.pldm_device.specs.SensorAnswers.{numeric_sensor_told, sense, sensed, state_sensor_told};
 
 use crate::limits::{
-    EFFECTER_ENABLED, GET_FIRST_PART, GET_NEXT_PART, INVALID_DATA_TRANSFER_HANDLE,
-    INVALID_EFFECTER_ID, INVALID_PLDM_TYPE, INVALID_SENSOR_ID, INVALID_TRANSFER_OPERATION,
-    NO_EVENTS, RESERVED_TID, SENSOR_ENABLED, UNASSIGNED_TID,
+    EFFECTER_ENABLED, INVALID_DATA_TRANSFER_HANDLE, INVALID_EFFECTER_ID, INVALID_PLDM_TYPE,
+    INVALID_SENSOR_ID, INVALID_TRANSFER_OPERATION, NO_EVENTS, RESERVED_TID, SENSOR_ENABLED,
+    UNASSIGNED_TID,
 };
 use crate::refusals::{code, refused};
 use crate::repository::Repository;
 use crate::{NumericEffecter, NumericSensor, ReadingFault, StateEffecter};
 use pldm_wire::{
-    Answer, BASE, COMMANDS_BYTES, Code, EffecterValues, Number, PLATFORM, SensorStateField,
-    SetStateField, StateFields, TIME_BYTES, TYPES_BYTES, VersionData,
+    Answer, BASE, COMMANDS_BYTES, Code, EffecterValues, GET_FIRST_PART, GET_NEXT_PART, Number,
+    PLATFORM, SensorStateField, SetStateField, StateFields, TIME_BYTES, TYPES_BYTES, VersionData,
 };
 use std::collections::BTreeMap;
 use std::marker::Model;
@@ -121,13 +121,13 @@ impl SimDevice {
     }
 
     // The answer to GetPLDMVersion.
-    pub(crate) fn version_answer(&self, operation: u8, pldm_type: u8) -> Answer
-        ensures { result ≡ version_answer operation pldm_type self.now }
+    pub(crate) fn version_answer(&self, transfer_operation_flag: u8, pldm_type: u8) -> Answer
+        ensures { result ≡ version_answer transfer_operation_flag pldm_type self.now }
     {
-        if operation > GET_FIRST_PART {
+        if transfer_operation_flag > GET_FIRST_PART {
             return refused(INVALID_TRANSFER_OPERATION);
         }
-        if operation == GET_NEXT_PART {
+        if transfer_operation_flag == GET_NEXT_PART {
             return refused(INVALID_DATA_TRANSFER_HANDLE);
         }
         let versions = match pldm_type {
@@ -136,7 +136,7 @@ impl SimDevice {
             _ => return refused(INVALID_PLDM_TYPE),
         };
         Answer::GetPldmVersion {
-            next_transfer_handle: 0,
+            next_data_transfer_handle: 0,
             versions: VersionData::new(versions.as_slice()).unwrap(),
         }
     }
@@ -148,7 +148,7 @@ impl SimDevice {
         match self.numeric_sensors.get(&sensor) {
             Some(sensor) => Answer::GetSensorReading {
                 operational: SENSOR_ENABLED,
-                event_enable: NO_EVENTS,
+                sensor_event_message_enable: NO_EVENTS,
                 present: sensor.present,
                 previous: sensor.previous,
                 event: sensor.event,

@@ -4,12 +4,11 @@ ghost use Rattle.std.specs.Prelude.{◌≡◌, ◌≢◌, true, Err, IfSome, opt
 ghost use Rattle.pldm_device.specs.Fetches.{Ends, IsSmall, adds, after, begun, failed, fits, is_last, next_request, now_of, part_after, part_told, record_fault, record_of, told};
 
 use crate::FetchFault;
-use crate::limits::{
-    CHANGE_NUMBER_END, FIRST_RECORD, GET_FIRST_PART, GET_NEXT_PART, MOST_RECORD_BYTES,
-    RECORD_HEADER,
-};
+use crate::limits::{CHANGE_NUMBER_END, FIRST_RECORD, MOST_RECORD_BYTES, RECORD_HEADER};
 use crate::record::{change_number_of, data_length_of, handle_of};
-use pldm_wire::{Answer, Command, MOST_PART_BYTES, RecordPart, TransferFlag, crc8};
+use pldm_wire::{
+    Answer, Command, GET_FIRST_PART, GET_NEXT_PART, MOST_PART_BYTES, RecordPart, TransferFlag, crc8,
+};
 use std::alloc::Global;
 use std::marker::Model;
 
@@ -42,7 +41,7 @@ pub(crate) enum Stage {
 pub struct Fetch {
     handle: u32,
     bytes: Vec<u8>,
-    next_transfer_handle: u32,
+    next_data_transfer_handle: u32,
     stage: Stage,
 }
 
@@ -51,9 +50,9 @@ impl Model for Fetch {
 
     ghost Value = { Fetching };
 
-    ghost view = { λ f. record { asked = f.handle; bytes = f.bytes.items; offset = f.next_transfer_handle; stage = f.stage } };
+    ghost view = { λ f. record { asked = f.handle; bytes = f.bytes.items; offset = f.next_data_transfer_handle; stage = f.stage } };
 
-    ghost invariant = { λ f. IsFetch (record { asked = f.handle; bytes = f.bytes.items; offset = f.next_transfer_handle; stage = f.stage }) };
+    ghost invariant = { λ f. IsFetch (record { asked = f.handle; bytes = f.bytes.items; offset = f.next_data_transfer_handle; stage = f.stage }) };
 }
 
 impl Fetch {
@@ -64,7 +63,7 @@ impl Fetch {
         Fetch {
             handle,
             bytes: Vec::new(alloc),
-            next_transfer_handle: 0,
+            next_data_transfer_handle: 0,
             stage: Stage::Going,
         }
     }
@@ -76,22 +75,22 @@ impl Fetch {
         let Stage::Going = self.stage else {
             return None;
         };
-        let operation = if self.bytes.is_empty() {
+        let transfer_operation_flag = if self.bytes.is_empty() {
             GET_FIRST_PART
         } else {
             GET_NEXT_PART
         };
-        let change_number = if self.bytes.len() < CHANGE_NUMBER_END {
+        let record_change_number = if self.bytes.len() < CHANGE_NUMBER_END {
             0
         } else {
             change_number_of(&self.bytes)
         };
         Some(Command::GetPdr {
             record_handle: self.handle,
-            transfer_handle: self.next_transfer_handle,
-            operation,
+            data_transfer_handle: self.next_data_transfer_handle,
+            transfer_operation_flag,
             request_count: MOST_PART_BYTES as u16,
-            change_number,
+            record_change_number,
         })
     }
 
@@ -117,9 +116,9 @@ impl Fetch {
             Answer::Refused(code) => self.fail(&FetchFault::Refused(*code)),
             Answer::GetPdr {
                 next_record_handle,
-                next_transfer_handle,
+                next_data_transfer_handle,
                 part,
-            } => self.take_part(*next_record_handle, *next_transfer_handle, part),
+            } => self.take_part(*next_record_handle, *next_data_transfer_handle, part),
             _ => Err(FetchFault::Unexpected),
         }
     }
@@ -128,12 +127,12 @@ impl Fetch {
     fn take_part(
         &mut self,
         next_record_handle: u32,
-        next_transfer_handle: u32,
+        next_data_transfer_handle: u32,
         part: &RecordPart,
     ) -> Result<FetchState, FetchFault>
         requires { self.old.stage ≡ Stage.Going }
         ensures told { result ≢ Err FetchFault.Memory → result ≡ part_told self.old next_record_handle part.now }
-        ensures after { result ≢ Err FetchFault.Memory → self.new ≡ part_after self.old next_transfer_handle part.now (part_told self.old next_record_handle part.now) }
+        ensures after { result ≢ Err FetchFault.Memory → self.new ≡ part_after self.old next_data_transfer_handle part.now (part_told self.old next_record_handle part.now) }
         ensures memory { result ≡ Err FetchFault.Memory → fits self.old.bytes part.now ≡ true }
         ensures unchanged { result ≡ Err FetchFault.Memory → self.new ≡ self.old }
         ensures small { IsSmall self.new }
@@ -145,13 +144,13 @@ impl Fetch {
             return Err(FetchFault::Memory);
         }
         if !is_last(part.flag()) {
-            self.next_transfer_handle = next_transfer_handle;
+            self.next_data_transfer_handle = next_data_transfer_handle;
             return Ok(FetchState::More);
         }
-        match self.record_fault(part.checksum()) {
+        match self.record_fault(part.transfer_crc()) {
             Some(fault) => self.fail(&fault),
             None => {
-                self.next_transfer_handle = next_transfer_handle;
+                self.next_data_transfer_handle = next_data_transfer_handle;
                 self.stage = Stage::Finished;
                 Ok(FetchState::Done(next_record_handle))
             }

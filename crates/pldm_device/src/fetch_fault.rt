@@ -1,5 +1,8 @@
 //! Why a fetch failed.
 
+ghost use Rattle.std.specs.Prelude.{◌≡◌};
+ghost use Rattle.pldm_device.specs.FaultNumbers.{number_of_fetch_fault};
+
 use pldm_wire::Code;
 use thiserror::Error;
 
@@ -7,23 +10,39 @@ use thiserror::Error;
 /// as it was.
 #[derive(Clone, Copy, Debug, PartialEq, Eq, Error)]
 pub enum FetchFault {
-    /// 1: the device refused the request with this completion code.
+    /// The device refused the request with this completion code.
     #[error("the device refused the request")]
     Refused(Code),
-    /// 2: a part is empty or passes the longest record, or the record's length is not the one that it
+    /// A part is empty or passes the longest record, or the record's length is not the one that it
     /// states.
     #[error("the record has the wrong length")]
     Count,
-    /// 3: the record has another handle than was asked for.
+    /// The record has another handle than was asked for.
     #[error("the record has another handle")]
     Handle,
-    /// 4: the record's checksum is not the one that came with its last part.
+    /// The record's checksum is not the one that came with its last part.
     #[error("the record has another checksum")]
     Crc,
-    /// 5: no memory was left.
+    /// No memory was left.
     #[error("out of memory")]
     Memory,
-    /// 6: it is no answer to GetPDR, or the fetch has finished.
+    /// It is no answer to GetPDR, or the fetch has finished.
     #[error("the answer was not asked for")]
     Unexpected,
+}
+
+impl FetchFault {
+    /// The fault's number in this profile's list.
+    pub fn number(self) -> u8
+        ensures { result ≡ number_of_fetch_fault self }
+    {
+        match self {
+            FetchFault::Refused(_) => 1,
+            FetchFault::Count => 2,
+            FetchFault::Handle => 3,
+            FetchFault::Crc => 4,
+            FetchFault::Memory => 5,
+            FetchFault::Unexpected => 6,
+        }
+    }
 }

@@ -13,8 +13,6 @@ mod example;
 mod fetch;
 mod fetch_fault;
 mod hex_values;
-#[cfg(test)]
-mod hoard;
 mod keys;
 pub mod laws;
 mod limits;

@@ -40,14 +40,6 @@ pub const REPOSITORY_AVAILABLE: u8 = 0;
 /// No timeout between the parts of a record (DSP0248, "GetPDRRepositoryInfo command").
 pub const NO_TRANSFER_TIMEOUT: u8 = 0;
 
-/// The transfer operation GetNextPart (DSP0240, "GetPLDMVersion command"; DSP0248, "GetPDR
-/// command").
-pub const GET_NEXT_PART: u8 = 0;
-
-/// The transfer operation GetFirstPart (DSP0240, "GetPLDMVersion command"; DSP0248, "GetPDR
-/// command").
-pub const GET_FIRST_PART: u8 = 1;
-
 /// The operational state `enabled` of a sensor (DSP0248, "sensorOperationalState").
 pub const SENSOR_ENABLED: u8 = 0;
 

@@ -23,10 +23,10 @@ impl SimDevice {
             Command::SetTid { tid } => done(Answer::SetTid, self.set_tid(*tid)),
             Command::GetTid => Answer::GetTid { tid: self.tid() },
             Command::GetPldmVersion {
-                operation,
+                transfer_operation_flag,
                 pldm_type,
                 ..
-            } => self.version_answer(*operation, *pldm_type),
+            } => self.version_answer(*transfer_operation_flag, *pldm_type),
             Command::GetPldmTypes => types_answer(),
             Command::GetPldmCommands { pldm_type, .. } => commands_answer(*pldm_type),
             Command::GetSensorReading { sensor, .. } => self.reading_answer(*sensor),
@@ -44,15 +44,15 @@ impl SimDevice {
             Command::GetPdrRepositoryInfo => self.repository_info(),
             Command::GetPdr {
                 record_handle,
-                transfer_handle,
-                operation,
+                data_transfer_handle,
+                transfer_operation_flag,
                 request_count,
                 ..
             } => record_answer(
                 &self.records,
                 *record_handle,
-                *transfer_handle,
-                *operation,
+                *data_transfer_handle,
+                *transfer_operation_flag,
                 *request_count,
             ),
         }

@@ -1,6 +1,7 @@
 //! Why a reading wasn't set.
 
 ghost use Rattle.std.specs.Prelude.{◌≡◌};
+ghost use Rattle.pldm_device.specs.FaultNumbers.{number_of_reading_fault};
 
 use thiserror::Error;
 
@@ -13,4 +14,13 @@ pub enum ReadingFault {
     /// The value is outside the range of the sensor's data size.
     #[error("out of the sensor's size")]
     OutOfSize = 2,
+}
+
+impl ReadingFault {
+    /// The fault's number in this profile's list.
+    pub fn number(self) -> u8
+        ensures { result ≡ number_of_reading_fault self }
+    {
+        self as u8
+    }
 }

@@ -1,7 +1,7 @@
 //! Platform data records (DSP0248, "Common PDR format").
 
 ghost use Rattle.std.specs.Prelude.{◌≡◌, ◌≤◌, ◌<◌, length, Some, None, if◌then◌else◌};
-ghost use Rattle.pldm_device.specs.Records.{change_number_of, data_length_of, flag_of_part, handle_of, header_version_of, is_record, next_transfer_handle, part_of};
+ghost use Rattle.pldm_device.specs.Records.{change_number_of, data_length_of, flag_of_part, handle_of, header_version_of, is_record, next_data_transfer_handle, part_of};
 
 use crate::limits::{
     CHANGE_NUMBER_END, HEADER_VERSION, MOST_RECORD_BYTES, NO_RECORD, RECORD_HEADER,

@@ -5,13 +5,13 @@ ghost use Rattle.pldm_device.specs.RecordAnswers.{offset_asked, part_told, recor
 
 use crate::device::SimDevice;
 use crate::limits::{
-    GET_FIRST_PART, INVALID_DATA_TRANSFER_HANDLE, INVALID_RECORD_HANDLE,
-    INVALID_TRANSFER_OPERATION, NO_TRANSFER_TIMEOUT, REPOSITORY_AVAILABLE,
+    INVALID_DATA_TRANSFER_HANDLE, INVALID_RECORD_HANDLE, INVALID_TRANSFER_OPERATION,
+    NO_TRANSFER_TIMEOUT, REPOSITORY_AVAILABLE,
 };
 use crate::record::Record;
 use crate::refusals::refused;
 use crate::repository::Repository;
-use pldm_wire::{Answer, Code};
+use pldm_wire::{Answer, Code, GET_FIRST_PART};
 
 impl SimDevice {
     // The answer to GetPDRRepositoryInfo.
@@ -24,7 +24,7 @@ impl SimDevice {
             oem_update_time: self.oem_update_time,
             record_count: self.records.count(),
             repository_size: self.records.size(),
-            largest_record: self.records.largest(),
+            largest_record_size: self.records.largest(),
             timeout: NO_TRANSFER_TIMEOUT,
         }
     }
@@ -34,16 +34,16 @@ impl SimDevice {
 pub(crate) fn record_answer(
     records: &Repository,
     record_handle: u32,
-    transfer_handle: u32,
-    operation: u8,
+    data_transfer_handle: u32,
+    transfer_operation_flag: u8,
     request_count: u16,
 ) -> Answer
-    ensures { result ≡ record_answer record_handle transfer_handle operation request_count records.now }
+    ensures { result ≡ record_answer record_handle data_transfer_handle transfer_operation_flag request_count records.now }
 {
     if request_count == 0 {
         return Answer::Refused(Code::ERROR_INVALID_DATA);
     }
-    if operation > GET_FIRST_PART {
+    if transfer_operation_flag > GET_FIRST_PART {
         return refused(INVALID_TRANSFER_OPERATION);
     }
     let Some(position) = records.position_asked(record_handle) else {
@@ -52,21 +52,25 @@ pub(crate) fn record_answer(
     let Some(pdr) = records.get(position) else {
         return refused(INVALID_RECORD_HANDLE);
     };
-    let Some(offset) = offset_asked(operation, transfer_handle, pdr) else {
+    let Some(offset) = offset_asked(transfer_operation_flag, data_transfer_handle, pdr) else {
         return refused(INVALID_DATA_TRANSFER_HANDLE);
     };
     part_told(records.handle_at(position + 1), request_count, pdr, offset)
 }
 
 /// The offset of the part that is asked for, where one begins there.
-fn offset_asked(operation: u8, transfer_handle: u32, pdr: &Record) -> Option<usize>
-    ensures offset { result ≡ offset_asked operation transfer_handle pdr.now }
+fn offset_asked(
+    transfer_operation_flag: u8,
+    data_transfer_handle: u32,
+    pdr: &Record,
+) -> Option<usize>
+    ensures offset { result ≡ offset_asked transfer_operation_flag data_transfer_handle pdr.now }
     ensures within { IfSome result (λ offset. offset ≤ length pdr.now) }
 {
-    if operation == GET_FIRST_PART {
+    if transfer_operation_flag == GET_FIRST_PART {
         return Some(0);
     }
-    let offset = transfer_handle as usize;
+    let offset = data_transfer_handle as usize;
     if offset == 0 || offset >= pdr.as_slice().len() {
         return None;
     }
@@ -83,7 +87,7 @@ fn part_told(next_record_handle: u32, request_count: u16, pdr: &Record, offset: 
     let end = offset + part.as_slice().len();
     Answer::GetPdr {
         next_record_handle,
-        next_transfer_handle: if end < length { end as u32 } else { 0 },
+        next_data_transfer_handle: if end < length { end as u32 } else { 0 },
         part,
     }
 }

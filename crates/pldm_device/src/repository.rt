@@ -1,7 +1,7 @@
 //! The repository of platform data records (DSP0248, "PDR Repository").
 
 ghost use Rattle.std.specs.Prelude.{◌≡◌, ◌++◌, [], ◌∷◌, ◌<◌, None, length, option_copied, slice_get, OnErr, OnOk, OnSome};
-ghost use Rattle.pldm_device.specs.Records.{handle_at, handle_of, largest_record, position_asked, position_of, repository_size};
+ghost use Rattle.pldm_device.specs.Records.{handle_at, handle_of, largest_record_size, position_asked, position_of, repository_size};
 
 use crate::limits::{FIRST_RECORD, MOST_ENTRIES, NO_RECORD};
 use crate::record::Record;
@@ -61,7 +61,7 @@ impl Repository {
 
     /// The bytes of the largest record, 0 where there is none.
     pub(crate) fn largest(&self) -> u32
-        ensures { result ≡ largest_record self.now }
+        ensures { result ≡ largest_record_size self.now }
     {
         self.largest
     }

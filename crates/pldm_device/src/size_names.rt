@@ -1,7 +1,7 @@
 //! Data sizes in a description, and numbers that fit them.
 
 ghost use Rattle.std.specs.Prelude.{◌≡◌};
-ghost use Rattle.pldm_device.specs.SizeNames.{size_in, size_named, sized_in};
+ghost use Rattle.pldm_device.specs.SizeNames.{size_in, size_of_name, sized_in};
 ghost use Rattle.toml.specs.View.{view};
 
 use crate::description_fault::FileFault;
@@ -13,26 +13,16 @@ use toml::Value;
 pub(crate) fn size_in(value: &Value) -> Result<Size, FileFault>
     ensures { result ≡ size_in (view value.now) }
 {
-    size_named(text_in(value)?)
+    size_of_name(text_in(value)?)
 }
 
-fn size_named(name: &str) -> Result<Size, FileFault>
-    ensures { result ≡ size_named name.now }
+/// The size of this name.
+fn size_of_name(name: &str) -> Result<Size, FileFault>
+    ensures { result ≡ size_of_name name.now }
 {
-    if name == "uint8" {
-        Ok(Size::Uint8)
-    } else if name == "sint8" {
-        Ok(Size::Sint8)
-    } else if name == "uint16" {
-        Ok(Size::Uint16)
-    } else if name == "sint16" {
-        Ok(Size::Sint16)
-    } else if name == "uint32" {
-        Ok(Size::Uint32)
-    } else if name == "sint32" {
-        Ok(Size::Sint32)
-    } else {
-        Err(FileFault::OutOfRange)
+    match Size::named(name) {
+        Some(size) => Ok(size),
+        None => Err(FileFault::OutOfRange),
     }
 }
 

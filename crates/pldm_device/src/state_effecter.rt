@@ -125,7 +125,7 @@ fn refusal(sets: &[SetStateField], allowed: &[AllowedStates]) -> Option<Code>
 fn has_other_request(sets: &[SetStateField]) -> bool
     ensures { result ≡ has_other_request sets.now }
 {
-    sets.iter().any(|set| set.request > REQUEST_SET)
+    sets.iter().any(|set| set.set_request > REQUEST_SET)
 }
 
 /// Whether each state that is asked for is one that its field can take.
@@ -138,7 +138,7 @@ fn are_allowed(sets: &[SetStateField], allowed: &[AllowedStates]) -> bool
         let [states, more_allowed @ ..] = allowed else {
             return true;
         };
-        if set.request == REQUEST_SET && !states.as_slice().contains(&set.state) {
+        if set.set_request == REQUEST_SET && !states.as_slice().contains(&set.state) {
             return false;
         }
         sets = more_sets;
@@ -157,7 +157,7 @@ fn states_after(sets: &[SetStateField], states: &[u8]) -> StateFields<u8>
     let mut sets = sets;
     let mut states = states;
     while let ([set, more_sets @ ..], [state, more_states @ ..]) = (sets, states) {
-        after.push(if set.request == REQUEST_SET {
+        after.push(if set.set_request == REQUEST_SET {
             set.state
         } else {
             *state

@@ -12,6 +12,4 @@ pub use outcome::Outcome;
 pub use responder::{MOST_KEPT, MOST_PENDING, Responder};
 
 #[cfg(test)]
-mod hoard;
-#[cfg(test)]
 mod tests;

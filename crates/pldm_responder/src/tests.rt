@@ -1,7 +1,7 @@
 use super::*;
-use crate::hoard::Hoard;
 use dimmer::Dimmer;
 use mctp_packet::{Eid, Keep, Memory, Moment, Reason};
+use memory_hoard::Hoard;
 use pldm_device::ReadingFault;
 use std::alloc::Global;
 use std::process::Abort;

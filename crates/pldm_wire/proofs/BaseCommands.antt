@@ -54,10 +54,10 @@ base_sound command bytes =
     (λ t. rw (eqb-true command GET_PLDM_COMMANDS t) (get_pldm_commands_sound bytes))
     (λ _. tt)))))
 
-pub get_pldm_version_read : (operation pldm_type : ℕ) (handle : List ℕ) → length handle ≡ 4
-    → get_pldm_version_of (handle ++ operation ∷ pldm_type ∷ []) ≡ Ok (GetPldmVersion (little_number 4 handle) operation pldm_type)
-get_pldm_version_read operation pldm_type handle h =
-    by_cells 4 (λ handle. get_pldm_version_of (handle ++ operation ∷ pldm_type ∷ []) ≡ Ok (GetPldmVersion (little_number 4 handle) operation pldm_type)) handle h refl
+pub get_pldm_version_read : (transfer_operation_flag pldm_type : ℕ) (handle : List ℕ) → length handle ≡ 4
+    → get_pldm_version_of (handle ++ transfer_operation_flag ∷ pldm_type ∷ []) ≡ Ok (GetPldmVersion (little_number 4 handle) transfer_operation_flag pldm_type)
+get_pldm_version_read transfer_operation_flag pldm_type handle h =
+    by_cells 4 (λ handle. get_pldm_version_of (handle ++ transfer_operation_flag ∷ pldm_type ∷ []) ≡ Ok (GetPldmVersion (little_number 4 handle) transfer_operation_flag pldm_type)) handle h refl
 
 pub get_pldm_commands_read : (pldm_type : ℕ) (version : List ℕ) → length version ≡ 4
     → get_pldm_commands_of (pldm_type ∷ version) ≡ Ok (GetPldmCommands pldm_type version)

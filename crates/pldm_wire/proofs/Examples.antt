@@ -21,7 +21,7 @@ use Rattle.pldm_wire.specs.declared.answer.Answer.TheVariants as answers
 
 -- a field of SetStateEffecterStates
 abbrev field : ℕ → ℕ → SetStateField
-field request state = record { request = request; state = state }
+field set_request state = record { set_request = set_request; state = state }
 
 -- headers
 

@@ -19,6 +19,8 @@ pub mod ReadResponses
 pub mod ReadRequests
 pub mod ReadCommands
 pub mod ReadBack
+pub mod FittingMessages
+pub mod Numbers
 pub mod Polynomials
 pub mod Remainders
 pub mod Checksums

@@ -187,17 +187,17 @@ set_numeric_effecter_value_read Sint32 id number h n =
     by_cells 2 (λ id. ValueRead Sint32 id number) id h (by_cells 4 (λ number. ValueRead Sint32 (bytes_at 0 2 id) number) number n refl)
 
 abbrev PdrRead : ℕ → List ℕ → List ℕ → List ℕ → List ℕ → Type 0
-PdrRead operation record_bytes transfer_bytes count_bytes change_bytes =
-    get_pdr_of (record_bytes ++ transfer_bytes ++ operation ∷ count_bytes ++ change_bytes)
-    ≡ Ok (GetPdr (little_number 4 record_bytes) (little_number 4 transfer_bytes) operation (little_number 2 count_bytes) (little_number 2 change_bytes))
+PdrRead transfer_operation_flag record_bytes transfer_bytes count_bytes change_bytes =
+    get_pdr_of (record_bytes ++ transfer_bytes ++ transfer_operation_flag ∷ count_bytes ++ change_bytes)
+    ≡ Ok (GetPdr (little_number 4 record_bytes) (little_number 4 transfer_bytes) transfer_operation_flag (little_number 2 count_bytes) (little_number 2 change_bytes))
 
-pub get_pdr_read : (operation : ℕ) (r t n c : List ℕ) → length r ≡ 4 → length t ≡ 4 → length n ≡ 2 → length c ≡ 2
-    → get_pdr_of (r ++ t ++ operation ∷ n ++ c) ≡ Ok (GetPdr (little_number 4 r) (little_number 4 t) operation (little_number 2 n) (little_number 2 c))
-get_pdr_read operation r t n c hr ht hn hc =
-    by_cells 4 (λ r. PdrRead operation r t n c) r hr
-    (by_cells 4 (λ t. PdrRead operation (bytes_at 0 4 r) t n c) t ht
-    (by_cells 2 (λ n. PdrRead operation (bytes_at 0 4 r) (bytes_at 0 4 t) n c) n hn
-    (by_cells 2 (λ c. PdrRead operation (bytes_at 0 4 r) (bytes_at 0 4 t) (bytes_at 0 2 n) c) c hc refl)))
+pub get_pdr_read : (transfer_operation_flag : ℕ) (r t n c : List ℕ) → length r ≡ 4 → length t ≡ 4 → length n ≡ 2 → length c ≡ 2
+    → get_pdr_of (r ++ t ++ transfer_operation_flag ∷ n ++ c) ≡ Ok (GetPdr (little_number 4 r) (little_number 4 t) transfer_operation_flag (little_number 2 n) (little_number 2 c))
+get_pdr_read transfer_operation_flag r t n c hr ht hn hc =
+    by_cells 4 (λ r. PdrRead transfer_operation_flag r t n c) r hr
+    (by_cells 4 (λ t. PdrRead transfer_operation_flag (bytes_at 0 4 r) t n c) t ht
+    (by_cells 2 (λ n. PdrRead transfer_operation_flag (bytes_at 0 4 r) (bytes_at 0 4 t) n c) n hn
+    (by_cells 2 (λ c. PdrRead transfer_operation_flag (bytes_at 0 4 r) (bytes_at 0 4 t) (bytes_at 0 2 n) c) c hc refl)))
 
 -- the same after two bytes of an ID
 states_read : (fields : List SetStateField) (a b : ℕ) (ignored : List ℕ) → IsComposite fields

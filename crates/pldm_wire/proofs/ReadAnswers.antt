@@ -54,22 +54,22 @@ unfolding success_of
 success_only (Refused refusal) kind bytes k h = absurd (omega (arith, h.0, h.1.0))
 success_only SetTid kind bytes k h = rw (k, h.1) refl
 success_only (GetTid tid) kind bytes k h = rw (k, h.1) refl
-success_only (GetPldmVersion next_transfer_handle versions) kind bytes k h =
+success_only (GetPldmVersion next_data_transfer_handle versions) kind bytes k h =
     rw (k, h.4, h.2.1) (version_read versions h.1 h.2.0 h.3)
 success_only (GetPldmTypes types) kind bytes k h = rw (k, h.2) (types_read types h.1)
 success_only (GetPldmCommands commands) kind bytes k h = rw (k, h.2) (commands_read commands h.1)
-success_only (GetSensorReading operational event_enable present previous event reading) kind bytes k h =
-    rw (k, h.3, h.2.1) (reading_read reading.size operational event_enable present previous event h.1 h.2.0)
+success_only (GetSensorReading operational sensor_event_message_enable present previous event reading) kind bytes k h =
+    rw (k, h.3, h.2.1) (reading_read reading.size operational sensor_event_message_enable present previous event h.1 h.2.0)
 success_only (GetStateSensorReadings fields) kind bytes k h = rw (k, h.2) (sensor_states_answer_read fields h.1)
 success_only SetNumericEffecterValue kind bytes k h = rw (k, h.1) refl
 success_only (GetNumericEffecterValue operational values) kind bytes k h =
     rw (k, h.6) (values_read values.pending.size values.present.size values.pending.value values.present.value operational h.1 h.2 h.3 h.4.0 h.4.1 h.5.0 h.5.1)
 success_only SetStateEffecterStates kind bytes k h = rw (k, h.1) refl
 success_only (GetStateEffecterStates fields) kind bytes k h = rw (k, h.2) (effecter_states_answer_read fields h.1)
-success_only (GetPdrRepositoryInfo state update_time oem_update_time record_count repository_size largest_record timeout) kind bytes k h =
+success_only (GetPdrRepositoryInfo state update_time oem_update_time record_count repository_size largest_record_size timeout) kind bytes k h =
     rw (k, h.9, h.6.1, h.7.1, h.8.1) (repository_read state timeout update_time oem_update_time h.1 h.2 h.3 h.4 h.5 h.6.0 h.7.0 h.8.0)
-success_only (GetPdr next_record_handle next_transfer_handle part) kind bytes k h =
-    rw (k, h.8, h.4.1, h.5.1) (part_read part.flag h.1 h.2 h.3 part.bytes part.checksum h.7 h.4.0 h.5.0 h.6.0 h.6.1)
+success_only (GetPdr next_record_handle next_data_transfer_handle part) kind bytes k h =
+    rw (k, h.8, h.4.1, h.5.1) (part_read part.flag h.1 h.2 h.3 part.bytes part.transfer_crc h.7 h.4.0 h.5.0 h.6.0 h.6.1)
 
 same_kind-true : (kind other : TypeAndCommand) → same_kind kind other ≡ true → kind ≡ other
 same_kind-true kind other t =

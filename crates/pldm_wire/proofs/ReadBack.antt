@@ -16,6 +16,7 @@ use Rattle.pldm_wire.proofs.ReadCommands as commands
 use Rattle.pldm_wire.proofs.ReadAnswers as answers
 use Rattle.pldm_wire.proofs.WrittenCommands as written_commands
 use Rattle.pldm_wire.proofs.WrittenAnswers as written_answers
+use Rattle.pldm_wire.specs.declared.assigned.TheConstants.{INSTANCE_IDS}
 
 -- each command's PLDM type has six bits
 kind_is : (c : Command) → IsKind (kind_of c)
@@ -33,7 +34,7 @@ kind_is (GetStateEffecterStates _) = omega arith
 kind_is GetPdrRepositoryInfo = omega arith
 kind_is (GetPdr _ _ _ _ _) = omega arith
 
-pub command_read_back : (id : ℕ) (c : Command) → id < 32 → IsCommand c
+pub command_read_back : (id : ℕ) (c : Command) → id < INSTANCE_IDS → IsCommand c
     → (request_of (command_message id c) ≡ Ok (request id (kind_of c) (command_data c))) × (command_of (kind_of c) (command_data c) ≡ Ok c)
 command_read_back id c id_range range = (
   requests.only (command_message id c) id (kind_of c) (command_data c)
@@ -41,7 +42,7 @@ command_read_back id c id_range range = (
   commands.only c (kind_of c) (command_data c) (written_commands.written c range),
 )
 
-pub answer_read_back : (id : ℕ) (c : Command) (a : Answer) → id < 32 → IsAnswerTo (kind_of c) a → IsAnswer a
+pub answer_read_back : (id : ℕ) (c : Command) (a : Answer) → id < INSTANCE_IDS → IsAnswerTo (kind_of c) a → IsAnswer a
     → (response_of (answer_message id (kind_of c) a) ≡ Ok (response id (kind_of c) (code_of a) (answer_data a)))
     × (answer_of (kind_of c) (kind_of c) (code_of a) (answer_data a) ≡ Ok a)
 answer_read_back id c a id_range variant range = (

@@ -28,8 +28,8 @@ pub only : (c : Command) (kind : TypeAndCommand) (bytes : List ℕ) → CommandF
 unfolding command_of
 only (SetTid tid) kind bytes h = rw (h.kind_is, h.fields) refl
 only GetTid kind bytes h = rw (h.kind_is, h.fields) refl
-only (GetPldmVersion transfer_handle operation pldm_type) kind bytes h =
-    rw (h.kind_is, h.fields.2, h.fields.1.1) (get_pldm_version_read operation pldm_type h.fields.0 h.fields.1.0)
+only (GetPldmVersion data_transfer_handle transfer_operation_flag pldm_type) kind bytes h =
+    rw (h.kind_is, h.fields.2, h.fields.1.1) (get_pldm_version_read transfer_operation_flag pldm_type h.fields.0 h.fields.1.0)
 only GetPldmTypes kind bytes h = rw (h.kind_is, h.fields) refl
 only (GetPldmCommands pldm_type version) kind bytes h =
     rw (h.kind_is, h.fields.1) (get_pldm_commands_read pldm_type version h.fields.0)
@@ -47,9 +47,9 @@ only (SetStateEffecterStates effecter fields) kind bytes h =
 only (GetStateEffecterStates effecter) kind bytes h =
     rw (h.kind_is, h.fields.1) (get_state_effecter_states_read bytes h.fields.0)
 only GetPdrRepositoryInfo kind bytes h = rw (h.kind_is, h.fields) refl
-only (GetPdr record_handle transfer_handle operation request_count change_number) kind bytes h =
+only (GetPdr record_handle data_transfer_handle transfer_operation_flag request_count record_change_number) kind bytes h =
     rw (h.kind_is, h.fields.8, h.fields.4.1, h.fields.5.1, h.fields.6.1, h.fields.7.1)
-    (get_pdr_read operation h.fields.0 h.fields.1 h.fields.2 h.fields.3 h.fields.4.0 h.fields.5.0 h.fields.6.0 h.fields.7.0)
+    (get_pdr_read transfer_operation_flag h.fields.0 h.fields.1 h.fields.2 h.fields.3 h.fields.4.0 h.fields.5.0 h.fields.6.0 h.fields.7.0)
 
 -- no bytes have the fields of two commands of one kind
 pub one : (c d : Command) (kind : TypeAndCommand) (bytes : List ℕ) → CommandFields c kind bytes → CommandFields d kind bytes → c ≡ d

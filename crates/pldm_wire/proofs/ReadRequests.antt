@@ -8,6 +8,7 @@ use Rattle.pldm_wire.specs.Headers.{checks, id_at, kind_at}
 use Rattle.pldm_wire.specs.Messages.{IsRequest, request_message}
 use Rattle.pldm_wire.specs.Requests.{request, request_refusal, unless, request_of}
 use Rattle.pldm_wire.proofs.Passing.{AllPass, all_pass, none_fails}
+use Rattle.pldm_wire.specs.declared.assigned.TheConstants.{INSTANCE_IDS}
 
 -- a list of four at least is its first four and the rest
 four_front : (bytes : List ℕ) → 4 ≤ length bytes → bytes ≡ slice_index bytes 0 ∷ slice_index bytes 1 ∷ slice_index bytes 2 ∷ slice_index bytes 3 ∷ drop 4 bytes
@@ -43,11 +44,11 @@ pub found : (bytes : List ℕ) → ((i : ℕ) → slice_index bytes i < 256) →
 unfolding request_of
 found bytes small = found_by bytes small (request_refusal bytes) refl
 
-message_passes : (reserved id : ℕ) (kind : TypeAndCommand) (rest : List ℕ) → reserved < 2 → id < 32 → kind.pldm_type < 64 → request_refusal (request_message reserved id kind rest) ≡ None
+message_passes : (reserved id : ℕ) (kind : TypeAndCommand) (rest : List ℕ) → reserved < 2 → id < INSTANCE_IDS → kind.pldm_type < 64 → request_refusal (request_message reserved id kind rest) ≡ None
 message_passes reserved id kind rest bit id_range kind_range =
     none_fails (checks 4 1 NotRequest (request_message reserved id kind rest)) (grind (arith, nat_tests), (refl, (refl, (grind (arith, nat_tests), (grind (arith, nat_tests), (grind (arith, nat_tests), (grind (arith, nat_tests), tt)))))))
 
-message_read : (reserved id : ℕ) (kind : TypeAndCommand) (rest : List ℕ) → reserved < 2 → id < 32 → kind.pldm_type < 64 → request_of (request_message reserved id kind rest) ≡ Ok (request id kind rest)
+message_read : (reserved id : ℕ) (kind : TypeAndCommand) (rest : List ℕ) → reserved < 2 → id < INSTANCE_IDS → kind.pldm_type < 64 → request_of (request_message reserved id kind rest) ≡ Ok (request id kind rest)
 unfolding request_of
 message_read reserved id kind rest bit id_range kind_range =
     rw (message_passes reserved id kind rest bit id_range kind_range)

@@ -10,6 +10,7 @@ use Rattle.pldm_wire.specs.Requests.{unless}
 use Rattle.pldm_wire.specs.Responses.{response, response_refusal, response_of, code_at}
 use Rattle.pldm_wire.proofs.Cells.{front_bytes}
 use Rattle.pldm_wire.proofs.Passing.{AllPass, all_pass, none_fails}
+use Rattle.pldm_wire.specs.declared.assigned.TheConstants.{INSTANCE_IDS}
 
 -- bytes that no check refuses are the response that is read from them
 read_is_response : (bytes : List ℕ) → ((i : ℕ) → slice_index bytes i < 256) → response_refusal bytes ≡ None → IsResponse bytes (id_at bytes) (kind_at bytes) (code_at bytes) (drop 5 bytes)
@@ -37,11 +38,11 @@ pub found : (bytes : List ℕ) → ((i : ℕ) → slice_index bytes i < 256) →
 unfolding response_of
 found bytes small = found_by bytes small (response_refusal bytes) refl
 
-message_passes : (reserved id : ℕ) (kind : TypeAndCommand) (code : ℕ) (rest : List ℕ) → reserved < 2 → id < 32 → kind.pldm_type < 64 → response_refusal (response_message reserved id kind code rest) ≡ None
+message_passes : (reserved id : ℕ) (kind : TypeAndCommand) (code : ℕ) (rest : List ℕ) → reserved < 2 → id < INSTANCE_IDS → kind.pldm_type < 64 → response_refusal (response_message reserved id kind code rest) ≡ None
 message_passes reserved id kind code rest bit id_range kind_range =
     none_fails (checks 5 0 NotResponse (response_message reserved id kind code rest)) (grind (arith, nat_tests), (refl, (refl, (grind (arith, nat_tests), (grind (arith, nat_tests), (grind (arith, nat_tests), (grind (arith, nat_tests), tt)))))))
 
-message_read : (reserved id : ℕ) (kind : TypeAndCommand) (code : ℕ) (rest : List ℕ) → reserved < 2 → id < 32 → kind.pldm_type < 64 → response_of (response_message reserved id kind code rest) ≡ Ok (response id kind code rest)
+message_read : (reserved id : ℕ) (kind : TypeAndCommand) (code : ℕ) (rest : List ℕ) → reserved < 2 → id < INSTANCE_IDS → kind.pldm_type < 64 → response_of (response_message reserved id kind code rest) ≡ Ok (response id kind code rest)
 unfolding response_of
 message_read reserved id kind code rest bit id_range kind_range =
     rw (message_passes reserved id kind code rest bit id_range kind_range)

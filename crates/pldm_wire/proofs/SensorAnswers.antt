@@ -95,9 +95,9 @@ sensor_states_sound bytes =
 -- every answer whose fields stand in the data is read
 
 abbrev ReadingRead : Size → ℕ → ℕ → ℕ → ℕ → ℕ → List ℕ → Type 0
-ReadingRead size operational event_enable present previous event number =
-    reading_answer_of (size_code size ∷ operational ∷ event_enable ∷ present ∷ previous ∷ event ∷ number)
-    ≡ Ok (GetSensorReading operational event_enable present previous event (sized size (value_of size (little_number (width size) number))))
+ReadingRead size operational sensor_event_message_enable present previous event number =
+    reading_answer_of (size_code size ∷ operational ∷ sensor_event_message_enable ∷ present ∷ previous ∷ event ∷ number)
+    ≡ Ok (GetSensorReading operational sensor_event_message_enable present previous event (sized size (value_of size (little_number (width size) number))))
 
 pub reading_read : (size : Size) (a b c d e : ℕ) (number : List ℕ) → length number ≡ width size → ReadingRead size a b c d e number
 reading_read Uint8 a b c d e number n = by_cells 1 (λ number. ReadingRead Uint8 a b c d e number) number n refl

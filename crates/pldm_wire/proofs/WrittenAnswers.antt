@@ -12,11 +12,11 @@ fields_written : (a : Answer) → IsAnswer a → HasAnswerFields a (code_of a) (
 fields_written (Refused refusal) h = (refl, h)
 fields_written SetTid h = (refl, refl)
 fields_written (GetTid tid) h = (refl, refl)
-fields_written (GetPldmVersion next_transfer_handle versions) h =
-    (refl, little_bytes 4 next_transfer_handle, stands 4 next_transfer_handle (omega (arith, h.0)), h.1, refl)
+fields_written (GetPldmVersion next_data_transfer_handle versions) h =
+    (refl, little_bytes 4 next_data_transfer_handle, stands 4 next_data_transfer_handle (omega (arith, h.0)), h.1, refl)
 fields_written (GetPldmTypes types) h = (refl, h, refl)
 fields_written (GetPldmCommands commands) h = (refl, h, refl)
-fields_written (GetSensorReading operational event_enable present previous event reading) h =
+fields_written (GetSensorReading operational sensor_event_message_enable present previous event reading) h =
     (refl, number_bytes reading, stands_sized reading h.5, refl)
 fields_written (GetStateSensorReadings fields) h = (refl, h, refl)
 fields_written SetNumericEffecterValue h = (refl, refl)
@@ -24,25 +24,25 @@ fields_written (GetNumericEffecterValue operational values) h =
     (refl, number_bytes values.pending, number_bytes values.present, h.1.0, stands_sized values.pending h.1.1, stands_sized values.present h.1.2, refl)
 fields_written SetStateEffecterStates h = (refl, refl)
 fields_written (GetStateEffecterStates fields) h = (refl, h, refl)
-fields_written (GetPdrRepositoryInfo state update_time oem_update_time record_count repository_size largest_record timeout) h = (
+fields_written (GetPdrRepositoryInfo state update_time oem_update_time record_count repository_size largest_record_size timeout) h = (
   refl,
   little_bytes 4 record_count,
   little_bytes 4 repository_size,
-  little_bytes 4 largest_record,
+  little_bytes 4 largest_record_size,
   h.1,
   h.2,
   stands 4 record_count (omega (arith, h.3)),
   stands 4 repository_size (omega (arith, h.4)),
-  stands 4 largest_record (omega (arith, h.5)),
+  stands 4 largest_record_size (omega (arith, h.5)),
   refl,
 )
-fields_written (GetPdr next_record_handle next_transfer_handle part) h = (
+fields_written (GetPdr next_record_handle next_data_transfer_handle part) h = (
   refl,
   little_bytes 4 next_record_handle,
-  little_bytes 4 next_transfer_handle,
+  little_bytes 4 next_data_transfer_handle,
   little_bytes 2 (length part.bytes),
   stands 4 next_record_handle (omega (arith, h.0)),
-  stands 4 next_transfer_handle (omega (arith, h.1)),
+  stands 4 next_data_transfer_handle (omega (arith, h.1)),
   stands 2 (length part.bytes) (omega (arith, h.2.0)),
   h.2,
   refl,

@@ -11,8 +11,8 @@ use Rattle.pldm_wire.proofs.WrittenNumbers.{stands, stands_sized}
 fields_written : (c : Command) → IsCommand c → HasFields c (command_data c)
 fields_written (SetTid tid) h = refl
 fields_written GetTid h = refl
-fields_written (GetPldmVersion transfer_handle operation pldm_type) h =
-    (little_bytes 4 transfer_handle, stands 4 transfer_handle (omega (arith, h.0)), refl)
+fields_written (GetPldmVersion data_transfer_handle transfer_operation_flag pldm_type) h =
+    (little_bytes 4 data_transfer_handle, stands 4 data_transfer_handle (omega (arith, h.0)), refl)
 fields_written GetPldmTypes h = refl
 fields_written (GetPldmCommands pldm_type version) h = (h.1, refl)
 fields_written (GetSensorReading sensor rearm) h =
@@ -26,15 +26,15 @@ fields_written (SetStateEffecterStates effecter fields) h =
     (little_bytes 2 effecter, [], stands 2 effecter (omega (arith, h.0)), h.1, rw append-nil refl, inl refl)
 fields_written (GetStateEffecterStates effecter) h = stands 2 effecter (omega (arith, h))
 fields_written GetPdrRepositoryInfo h = refl
-fields_written (GetPdr record_handle transfer_handle operation request_count change_number) h = (
+fields_written (GetPdr record_handle data_transfer_handle transfer_operation_flag request_count record_change_number) h = (
   little_bytes 4 record_handle,
-  little_bytes 4 transfer_handle,
+  little_bytes 4 data_transfer_handle,
   little_bytes 2 request_count,
-  little_bytes 2 change_number,
+  little_bytes 2 record_change_number,
   stands 4 record_handle (omega (arith, h.0)),
-  stands 4 transfer_handle (omega (arith, h.1)),
+  stands 4 data_transfer_handle (omega (arith, h.1)),
   stands 2 request_count (omega (arith, h.3)),
-  stands 2 change_number (omega (arith, h.4)),
+  stands 2 record_change_number (omega (arith, h.4)),
   refl,
 )
 

@@ -15,7 +15,7 @@ use Rattle.pldm_wire.specs.declared.command.Command.TheVariants.{SetTid, GetTid,
 abbrev pub kind_of : Command → TypeAndCommand
 kind_of (SetTid tid) = of_type BASE SET_TID
 kind_of GetTid = of_type BASE GET_TID
-kind_of (GetPldmVersion transfer_handle operation pldm_type) = of_type BASE GET_PLDM_VERSION
+kind_of (GetPldmVersion data_transfer_handle transfer_operation_flag pldm_type) = of_type BASE GET_PLDM_VERSION
 kind_of GetPldmTypes = of_type BASE GET_PLDM_TYPES
 kind_of (GetPldmCommands pldm_type version) = of_type BASE GET_PLDM_COMMANDS
 kind_of (GetSensorReading sensor rearm) = of_type PLATFORM GET_SENSOR_READING
@@ -25,7 +25,7 @@ kind_of (GetNumericEffecterValue effecter) = of_type PLATFORM GET_NUMERIC_EFFECT
 kind_of (SetStateEffecterStates effecter fields) = of_type PLATFORM SET_STATE_EFFECTER_STATES
 kind_of (GetStateEffecterStates effecter) = of_type PLATFORM GET_STATE_EFFECTER_STATES
 kind_of GetPdrRepositoryInfo = of_type PLATFORM GET_PDR_REPOSITORY_INFO
-kind_of (GetPdr record_handle transfer_handle operation request_count change_number) = of_type PLATFORM GET_PDR
+kind_of (GetPdr record_handle data_transfer_handle transfer_operation_flag request_count record_change_number) = of_type PLATFORM GET_PDR
 
 -- whether a command sets something in the terminus
 abbrev pub sets : Command → Bool
@@ -38,8 +38,8 @@ sets _ = false
 abbrev pub HasFields : Command → List ℕ → Type 0
 HasFields (SetTid tid) bytes = bytes ≡ tid ∷ []
 HasFields GetTid bytes = bytes ≡ []
-HasFields (GetPldmVersion transfer_handle operation pldm_type) bytes =
-    (handle : List ℕ) × Stands 4 transfer_handle handle × (bytes ≡ handle ++ operation ∷ pldm_type ∷ [])
+HasFields (GetPldmVersion data_transfer_handle transfer_operation_flag pldm_type) bytes =
+    (handle : List ℕ) × Stands 4 data_transfer_handle handle × (bytes ≡ handle ++ transfer_operation_flag ∷ pldm_type ∷ [])
 HasFields GetPldmTypes bytes = bytes ≡ []
 HasFields (GetPldmCommands pldm_type version) bytes =
     (length version ≡ VERSION_BYTES) × (bytes ≡ pldm_type ∷ version)
@@ -57,11 +57,11 @@ HasFields (SetStateEffecterStates effecter fields) bytes =
     × ((ignored ≡ []) ⊎ (length bytes ≡ ALL_FIELDS_FORM))
 HasFields (GetStateEffecterStates effecter) bytes = Stands 2 effecter bytes
 HasFields GetPdrRepositoryInfo bytes = bytes ≡ []
-HasFields (GetPdr record_handle transfer_handle operation request_count change_number) bytes =
+HasFields (GetPdr record_handle data_transfer_handle transfer_operation_flag request_count record_change_number) bytes =
     (record_bytes : List ℕ) × (transfer_bytes : List ℕ) × (count_bytes : List ℕ) × (change_bytes : List ℕ)
-    × Stands 4 record_handle record_bytes × Stands 4 transfer_handle transfer_bytes
-    × Stands 2 request_count count_bytes × Stands 2 change_number change_bytes
-    × (bytes ≡ record_bytes ++ transfer_bytes ++ operation ∷ count_bytes ++ change_bytes)
+    × Stands 4 record_handle record_bytes × Stands 4 data_transfer_handle transfer_bytes
+    × Stands 2 request_count count_bytes × Stands 2 record_change_number change_bytes
+    × (bytes ≡ record_bytes ++ transfer_bytes ++ transfer_operation_flag ∷ count_bytes ++ change_bytes)
 
 -- a request of this kind with these bytes of data is the command
 pub record CommandFields (command : Command) (kind : TypeAndCommand) (bytes : List ℕ) : Type 0 where
@@ -72,7 +72,7 @@ pub record CommandFields (command : Command) (kind : TypeAndCommand) (bytes : Li
 abbrev pub IsCommand : Command → Type 0
 IsCommand (SetTid tid) = IsU8 tid
 IsCommand GetTid = Unit {0}
-IsCommand (GetPldmVersion transfer_handle operation pldm_type) = IsU32 transfer_handle × IsU8 operation × IsU8 pldm_type
+IsCommand (GetPldmVersion data_transfer_handle transfer_operation_flag pldm_type) = IsU32 data_transfer_handle × IsU8 transfer_operation_flag × IsU8 pldm_type
 IsCommand GetPldmTypes = Unit {0}
 IsCommand (GetPldmCommands pldm_type version) = IsU8 pldm_type × (length version ≡ VERSION_BYTES)
 IsCommand (GetSensorReading sensor rearm) = IsU16 sensor × IsU8 rearm
@@ -82,15 +82,15 @@ IsCommand (GetNumericEffecterValue effecter) = IsU16 effecter
 IsCommand (SetStateEffecterStates effecter fields) = IsU16 effecter × IsComposite fields
 IsCommand (GetStateEffecterStates effecter) = IsU16 effecter
 IsCommand GetPdrRepositoryInfo = Unit {0}
-IsCommand (GetPdr record_handle transfer_handle operation request_count change_number) =
-    IsU32 record_handle × IsU32 transfer_handle × IsU8 operation × IsU16 request_count × IsU16 change_number
+IsCommand (GetPdr record_handle data_transfer_handle transfer_operation_flag request_count record_change_number) =
+    IsU32 record_handle × IsU32 data_transfer_handle × IsU8 transfer_operation_flag × IsU16 request_count × IsU16 record_change_number
 
 -- the data that a command is written with: reserved bytes 0, and no ignored ones
 abbrev pub command_data : Command → List ℕ
 command_data (SetTid tid) = tid ∷ []
 command_data GetTid = []
-command_data (GetPldmVersion transfer_handle operation pldm_type) =
-    little_bytes 4 transfer_handle ++ operation ∷ pldm_type ∷ []
+command_data (GetPldmVersion data_transfer_handle transfer_operation_flag pldm_type) =
+    little_bytes 4 data_transfer_handle ++ transfer_operation_flag ∷ pldm_type ∷ []
 command_data GetPldmTypes = []
 command_data (GetPldmCommands pldm_type version) = pldm_type ∷ version
 command_data (GetSensorReading sensor rearm) = little_bytes 2 sensor ++ rearm ∷ []
@@ -102,9 +102,9 @@ command_data (SetStateEffecterStates effecter fields) =
     little_bytes 2 effecter ++ length fields ∷ flat_map set_bytes fields
 command_data (GetStateEffecterStates effecter) = little_bytes 2 effecter
 command_data GetPdrRepositoryInfo = []
-command_data (GetPdr record_handle transfer_handle operation request_count change_number) =
-    little_bytes 4 record_handle ++ little_bytes 4 transfer_handle ++ operation ∷ little_bytes 2 request_count
-    ++ little_bytes 2 change_number
+command_data (GetPdr record_handle data_transfer_handle transfer_operation_flag request_count record_change_number) =
+    little_bytes 4 record_handle ++ little_bytes 4 data_transfer_handle ++ transfer_operation_flag ∷ little_bytes 2 request_count
+    ++ little_bytes 2 record_change_number
 
 -- the request that a command is written as: its reserved bit is 0
 abbrev pub command_message : ℕ → Command → List ℕ

@@ -6,7 +6,7 @@ use Rattle.mctp_packet.specs.Refusals.{first_failing}
 use Rattle.mctp_packet.specs.declared.reason.Reason.{Reason}
 use Rattle.mctp_packet.specs.declared.reason.Reason.TheVariants.{NotPldm, Integrity, ShortHeader, BadPldmHeader, Datagram}
 use Rattle.pldm_wire.specs.Kinds.{TypeAndCommand, of_type}
-use Rattle.pldm_wire.specs.declared.assigned.TheConstants.{MESSAGE_TYPE}
+use Rattle.pldm_wire.specs.declared.assigned.TheConstants.{INSTANCE_IDS, MESSAGE_TYPE}
 
 -- a header of so many bytes, whose Rq bit has to be this one, or is wrong for this reason
 abbrev pub checks : ℕ → ℕ → Reason → List ℕ → List (Bool × Reason)
@@ -25,7 +25,7 @@ refusal size rq wrong bytes = first_failing (checks size rq wrong bytes)
 
 -- the instance ID: bits 4:0 of byte 1
 abbrev pub id_at : List ℕ → ℕ
-id_at bytes = slice_index bytes 1 % 32
+id_at bytes = slice_index bytes 1 % INSTANCE_IDS
 
 -- the PLDM type, bits 5:0 of byte 2, and the command, byte 3
 abbrev pub kind_at : List ℕ → TypeAndCommand

@@ -9,6 +9,7 @@ use Rattle.pldm_wire.specs.CommandReading.{command_of}
 use Rattle.pldm_wire.specs.Answers.{IsAnswerTo, AnswerFields, IsAnswer, code_of, answer_data, answer_message}
 use Rattle.pldm_wire.specs.AnswerReading.{answer_of, AnswersCommand}
 use Rattle.pldm_wire.specs.Crc.{IsRemainder, IsCrc, crc}
+use Rattle.pldm_wire.specs.declared.assigned.TheConstants.{INSTANCE_IDS}
 use Rattle.pldm_wire.specs.declared.command.Command.{Command}
 use Rattle.pldm_wire.specs.declared.answer.Answer.{Answer}
 
@@ -64,7 +65,7 @@ CommandWritten =
 -- the message that a command is written as is read back as its instance ID and the command
 abbrev pub WrittenCommandReadBack : Type 0
 WrittenCommandReadBack =
-    (id : ℕ) (command : Command) → id < 32 → IsCommand command
+    (id : ℕ) (command : Command) → id < INSTANCE_IDS → IsCommand command
     → (request_of (command_message id command) ≡ Ok (request id (kind_of command) (command_data command)))
     × (command_of (kind_of command) (command_data command) ≡ Ok command)
 
@@ -90,7 +91,7 @@ AnswerWritten =
 -- answer
 abbrev pub WrittenAnswerReadBack : Type 0
 WrittenAnswerReadBack =
-    (id : ℕ) (command : Command) (answer : Answer) → id < 32 → IsAnswerTo (kind_of command) answer → IsAnswer answer
+    (id : ℕ) (command : Command) (answer : Answer) → id < INSTANCE_IDS → IsAnswerTo (kind_of command) answer → IsAnswer answer
     → (response_of (answer_message id (kind_of command) answer) ≡ Ok (response id (kind_of command) (code_of answer) (answer_data answer)))
     × (answer_of (kind_of command) (kind_of command) (code_of answer) (answer_data answer) ≡ Ok answer)
 

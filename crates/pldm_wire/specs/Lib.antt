@@ -6,6 +6,7 @@ pub mod Requests
 pub mod Responses
 pub mod Places
 pub mod Sizes
+pub mod SizeNames
 pub mod Numbers
 pub mod States
 pub mod EffecterNumbers
@@ -17,8 +18,10 @@ pub mod BaseCommandReading
 pub mod PlatformCommandReading
 pub mod CommandReading
 pub mod Answers
+pub mod AnswerFaults
 pub mod BaseAnswerReading
 pub mod PlatformAnswerReading
 pub mod AnswerReading
 pub mod Crc
 pub mod Laws
+pub mod MessageSizes

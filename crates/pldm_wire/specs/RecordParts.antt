@@ -8,16 +8,16 @@ use Rattle.pldm_wire.specs.declared.transfer_flag.TransferFlag.{TransferFlag}
 pub record Part : Type 0 where
   pub flag : TransferFlag
   pub bytes : List ℕ
-  pub checksum : Option ℕ
+  pub transfer_crc : Option ℕ
 
 abbrev pub part : TransferFlag → List ℕ → Option ℕ → Part
-part flag bytes checksum = record { flag = flag; bytes = bytes; checksum = checksum }
+part flag bytes transfer_crc = record { flag = flag; bytes = bytes; transfer_crc = transfer_crc }
 
 -- it is not too long, and a checksum follows exactly the last of several parts
 abbrev pub IsPart : Part → Type 0
-IsPart p = (length p.bytes ≤ MOST_PART_BYTES) × (is_some p.checksum ≡ is_end p.flag)
+IsPart p = (length p.bytes ≤ MOST_PART_BYTES) × (is_some p.transfer_crc ≡ is_end p.flag)
 
 -- the bytes of a checksum, if there is one
 abbrev pub checksum_bytes : Option ℕ → List ℕ
 checksum_bytes None = []
-checksum_bytes (Some checksum) = checksum ∷ []
+checksum_bytes (Some transfer_crc) = transfer_crc ∷ []

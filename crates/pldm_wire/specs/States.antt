@@ -16,7 +16,7 @@ is_composite fields = nat_le 1 (length fields) && nat_le (length fields) MOST_ST
 -- the bytes of each field, in order
 
 abbrev pub set_bytes : SetStateField → List ℕ
-set_bytes field = field.request ∷ field.state ∷ []
+set_bytes field = field.set_request ∷ field.state ∷ []
 
 abbrev pub sensor_bytes : SensorStateField → List ℕ
 sensor_bytes field = field.operational ∷ field.present ∷ field.previous ∷ field.event ∷ []
@@ -27,7 +27,7 @@ effecter_bytes field = field.operational ∷ field.pending ∷ field.present ∷
 -- the fields that stand in these bytes, one after another; too few bytes for a field are none
 
 abbrev pub sets_in : List ℕ → List SetStateField
-sets_in (request ∷ state ∷ bytes) = record { request = request; state = state } ∷ sets_in bytes
+sets_in (set_request ∷ state ∷ bytes) = record { set_request = set_request; state = state } ∷ sets_in bytes
 sets_in _ = []
 
 abbrev pub sensor_states_in : List ℕ → List SensorStateField

@@ -19,7 +19,7 @@ pub enum Answer {
     /// "GetPLDMVersion command").
     GetPldmVersion {
         /// Which part would come next.
-        next_transfer_handle: u32,
+        next_data_transfer_handle: u32,
         /// The versions.
         versions: VersionData,
     },
@@ -38,7 +38,7 @@ pub enum Answer {
         /// The sensor's operational state.
         operational: u8,
         /// Which of its events are enabled.
-        event_enable: u8,
+        sensor_event_message_enable: u8,
         /// The state that it reports now.
         present: u8,
         /// The state before that one.
@@ -82,7 +82,7 @@ pub enum Answer {
         /// Its size in bytes.
         repository_size: u32,
         /// The size of its largest record in bytes.
-        largest_record: u32,
+        largest_record_size: u32,
         /// For how long a transfer may pause, as a code.
         timeout: u8,
     },
@@ -91,7 +91,7 @@ pub enum Answer {
         /// The handle of the record after this one, or 0.
         next_record_handle: u32,
         /// Which part comes next, or 0.
-        next_transfer_handle: u32,
+        next_data_transfer_handle: u32,
         /// The part.
         part: RecordPart,
     },

@@ -1,3 +1,4 @@
+ghost use Rattle.pldm_wire.specs.declared.assigned.TheConstants.{INSTANCE_IDS};
 ghost use Rattle.std.specs.Prelude.{◌≡◌, ◌<◌, ◌≤◌, ◌++◌};
 ghost use Rattle.arrayvec.specs.ArrayVec.{array_vec_len};
 ghost use Rattle.pldm_wire.specs.Answers.{AnswerFields, HasCode, IsAnswer, IsAnswerTo, answer_data, answer_message, code_of};
@@ -17,7 +18,7 @@ use mctp_packet::Body;
 /// fields"). A refusal has no data and answers any command; another answer has to be the one of
 /// the kind's own command.
 pub fn write_answer(id: u8, kind: Kind, answer: &Answer) -> Body
-    requires id { id < 32 }
+    requires id { id < INSTANCE_IDS }
     requires variant { IsAnswerTo kind answer.now }
     ensures spelled { result.items ≡ answer_message id kind answer.now }
     ensures response { IsResponse result.items id kind (code_of answer.now) (answer_data answer.now) }
@@ -55,14 +56,14 @@ fn push_answer_data(body: &mut Body, answer: &Answer)
         | Answer::SetStateEffecterStates => {}
         Answer::GetTid { tid } => body.push(*tid),
         Answer::GetPldmVersion {
-            next_transfer_handle,
+            next_data_transfer_handle,
             versions,
-        } => push_version_answer(body, *next_transfer_handle, versions),
+        } => push_version_answer(body, *next_data_transfer_handle, versions),
         Answer::GetPldmTypes { types } => push_array(body, types),
         Answer::GetPldmCommands { commands } => push_array(body, commands),
         Answer::GetSensorReading {
             operational,
-            event_enable,
+            sensor_event_message_enable,
             present,
             previous,
             event,
@@ -70,7 +71,7 @@ fn push_answer_data(body: &mut Body, answer: &Answer)
         } => push_reading_answer(
             body,
             *operational,
-            *event_enable,
+            *sensor_event_message_enable,
             *present,
             *previous,
             *event,
@@ -88,7 +89,7 @@ fn push_answer_data(body: &mut Body, answer: &Answer)
             oem_update_time,
             record_count,
             repository_size,
-            largest_record,
+            largest_record_size,
             timeout,
         } => {
             push_repository_times(body, *state, update_time, oem_update_time);
@@ -96,14 +97,14 @@ fn push_answer_data(body: &mut Body, answer: &Answer)
                 body,
                 *record_count,
                 *repository_size,
-                *largest_record,
+                *largest_record_size,
                 *timeout,
             );
         }
         Answer::GetPdr {
             next_record_handle,
-            next_transfer_handle,
+            next_data_transfer_handle,
             part,
-        } => push_part_answer(body, *next_record_handle, *next_transfer_handle, part),
+        } => push_part_answer(body, *next_record_handle, *next_data_transfer_handle, part),
     }
 }

@@ -3,6 +3,9 @@
 /// The message type of PLDM over MCTP (DSP0239, "MCTP message types").
 pub const MESSAGE_TYPE: u8 = 1;
 
+/// How many instance IDs there are: they are counted modulo this (DSP0240, "PLDM message fields").
+pub const INSTANCE_IDS: u8 = 32;
+
 /// The bytes of a request before its data: message type, flags and instance ID, PLDM type,
 /// command (DSP0240, "PLDM message fields").
 pub const REQUEST_HEADER: usize = 4;

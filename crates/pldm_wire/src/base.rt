@@ -55,9 +55,9 @@ fn get_pldm_version_in(bytes: &[u8]) -> Result<Command, Code>
     ensures { result ≡ get_pldm_version_of bytes.now }
 {
     match bytes {
-        [_, _, _, _, operation, pldm_type] => Ok(Command::GetPldmVersion {
-            transfer_handle: u32_in(bytes, 0),
-            operation: *operation,
+        [_, _, _, _, transfer_operation_flag, pldm_type] => Ok(Command::GetPldmVersion {
+            data_transfer_handle: u32_in(bytes, 0),
+            transfer_operation_flag: *transfer_operation_flag,
             pldm_type: *pldm_type,
         }),
         _ => Err(Code::ERROR_INVALID_LENGTH),
@@ -90,15 +90,15 @@ fn get_pldm_commands_in(bytes: &[u8]) -> Result<Command, Code>
 /// GetPLDMVersion's data after a request's header.
 pub(crate) fn push_get_pldm_version(
     body: &mut Body,
-    transfer_handle: u32,
-    operation: u8,
+    data_transfer_handle: u32,
+    transfer_operation_flag: u8,
     pldm_type: u8,
 )
     requires { array_vec_len body.old ≤ REQUEST_HEADER }
-    ensures { body.new.items ≡ body.old.items ++ (little_bytes 4 transfer_handle ++ operation ∷ pldm_type ∷ []) }
+    ensures { body.new.items ≡ body.old.items ++ (little_bytes 4 data_transfer_handle ++ transfer_operation_flag ∷ pldm_type ∷ []) }
 {
-    push_u32(body, transfer_handle);
-    body.push(operation);
+    push_u32(body, data_transfer_handle);
+    body.push(transfer_operation_flag);
     body.push(pldm_type);
 }
 
@@ -145,7 +145,7 @@ pub(crate) fn version_answer_in(bytes: &[u8]) -> Result<Answer, AnswerFault>
     }
     match VersionData::new(versions) {
         Some(versions) => Ok(Answer::GetPldmVersion {
-            next_transfer_handle: u32_in(fixed, 0),
+            next_data_transfer_handle: u32_in(fixed, 0),
             versions,
         }),
         None => Err(AnswerFault::Length),
@@ -179,15 +179,15 @@ pub(crate) fn commands_answer_in(bytes: &[u8]) -> Result<Answer, AnswerFault>
 /// The data of GetPLDMVersion's answer after a response's header.
 pub(crate) fn push_version_answer(
     body: &mut Body,
-    next_transfer_handle: u32,
+    next_data_transfer_handle: u32,
     versions: &VersionData,
 )
     requires { array_vec_len body.old ≤ RESPONSE_HEADER }
     ensures items { body.new.items ≡ body.old.items
-        ++ (little_bytes 4 next_transfer_handle ++ START_AND_END ∷ versions.now) }
+        ++ (little_bytes 4 next_data_transfer_handle ++ START_AND_END ∷ versions.now) }
     ensures range { IsVersionData versions.now }
 {
-    push_u32(body, next_transfer_handle);
+    push_u32(body, next_data_transfer_handle);
     body.push(START_AND_END);
     push_bytes(body, versions.as_slice());
 }

@@ -22,9 +22,9 @@ pub enum Command {
     /// Asks for the versions of a PLDM type (DSP0240, "GetPLDMVersion command").
     GetPldmVersion {
         /// Which part is asked for, as the last answer told it.
-        transfer_handle: u32,
+        data_transfer_handle: u32,
         /// 0 GetNextPart, 1 GetFirstPart. Any byte is read.
-        operation: u8,
+        transfer_operation_flag: u8,
         /// The PLDM type.
         pldm_type: u8,
     },
@@ -82,13 +82,13 @@ pub enum Command {
         /// The record's handle; 0 asks for the first record.
         record_handle: u32,
         /// Which part is asked for, as the last answer told it.
-        transfer_handle: u32,
+        data_transfer_handle: u32,
         /// 0 GetNextPart, 1 GetFirstPart. Any byte is read.
-        operation: u8,
+        transfer_operation_flag: u8,
         /// The most bytes of the record that are asked for.
         request_count: u16,
         /// The record's change number, or 0 for the first part.
-        change_number: u16,
+        record_change_number: u16,
     },
 }
 

@@ -1,3 +1,4 @@
+ghost use Rattle.pldm_wire.specs.declared.assigned.TheConstants.{INSTANCE_IDS};
 ghost use Rattle.std.specs.Prelude.{◌≡◌, ◌<◌, ◌≤◌, ◌++◌};
 ghost use Rattle.arrayvec.specs.ArrayVec.{array_vec_len};
 ghost use Rattle.pldm_wire.specs.Commands.{CommandFields, IsCommand, command_data, command_message, kind_of};
@@ -15,7 +16,7 @@ use mctp_packet::Body;
 /// The request of this instance ID, 0 to 31, that carries the command: the header with its reserved
 /// bit 0, then the command's data with its reserved bytes 0 (DSP0240, "PLDM message fields").
 pub fn write_command(id: u8, command: &Command) -> Body
-    requires { id < 32 }
+    requires { id < INSTANCE_IDS }
     ensures spelled { result.items ≡ command_message id command.now }
     ensures request { IsRequest result.items id (kind_of command.now) (command_data command.now) }
     ensures fields { CommandFields command.now (kind_of command.now) (command_data command.now) }
@@ -36,10 +37,15 @@ fn push_command_data(body: &mut Body, command: &Command)
         Command::SetTid { tid } => body.push(*tid),
         Command::GetTid | Command::GetPldmTypes | Command::GetPdrRepositoryInfo => {}
         Command::GetPldmVersion {
-            transfer_handle,
-            operation,
+            data_transfer_handle,
+            transfer_operation_flag,
             pldm_type,
-        } => push_get_pldm_version(body, *transfer_handle, *operation, *pldm_type),
+        } => push_get_pldm_version(
+            body,
+            *data_transfer_handle,
+            *transfer_operation_flag,
+            *pldm_type,
+        ),
         Command::GetPldmCommands { pldm_type, version } => {
             push_get_pldm_commands(body, *pldm_type, version);
         }
@@ -59,17 +65,17 @@ fn push_command_data(body: &mut Body, command: &Command)
         }
         Command::GetPdr {
             record_handle,
-            transfer_handle,
-            operation,
+            data_transfer_handle,
+            transfer_operation_flag,
             request_count,
-            change_number,
+            record_change_number,
         } => push_get_pdr(
             body,
             *record_handle,
-            *transfer_handle,
-            *operation,
+            *data_transfer_handle,
+            *transfer_operation_flag,
             *request_count,
-            *change_number,
+            *record_change_number,
         ),
     }
 }

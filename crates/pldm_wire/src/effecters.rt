@@ -113,7 +113,7 @@ pub(crate) fn push_set_state_effecter_states(
     let fields = fields.as_slice();
     body.push(fields.len() as u8);
     for field in fields {
-        body.push(field.request);
+        body.push(field.set_request);
         body.push(field.state);
     }
 }

@@ -1,5 +1,8 @@
 //! How much the fields of a message may hold.
 
+use crate::RESPONSE_HEADER;
+use mctp_packet::MOST_MESSAGE_BYTES;
+
 /// The most fields of a composite state sensor or effecter (DSP0248, "compositeSensorCount" and
 /// "compositeEffecterCount").
 pub const MOST_STATES: usize = 8;
@@ -13,8 +16,13 @@ pub const MOST_VERSION_BYTES: usize = 32;
 /// The bytes of one version (DSP0240, "GetPLDMVersion command").
 pub const VERSION_BYTES: usize = 4;
 
-/// The most bytes of a record that one GetPDR answer carries in this profile.
-pub const MOST_PART_BYTES: usize = 239;
+/// The bytes of GetPDR's answer data that are not the record's: two handles, the transfer flag, the
+/// response count and the record's checksum (DSP0248, "GetPDR command").
+pub const PART_FIELDS: usize = 4 + 4 + 1 + 2 + 1;
+
+/// The most bytes of a record that one GetPDR answer carries in this profile: what is left of a
+/// message of the greatest length.
+pub const MOST_PART_BYTES: usize = MOST_MESSAGE_BYTES - RESPONSE_HEADER - PART_FIELDS;
 
 /// The bytes of SetStateEffecterStates' data where it has all eight fields, whatever their count
 /// (DSP0248, "SetStateEffecterStates command").
@@ -30,3 +38,11 @@ pub const COMMANDS_BYTES: usize = 32;
 
 /// The bytes of a time (DSP0240, "timestamp104").
 pub const TIME_BYTES: usize = 13;
+
+/// The transfer operation GetNextPart (DSP0240, "GetPLDMVersion command"; DSP0248, "GetPDR
+/// command").
+pub const GET_NEXT_PART: u8 = 0;
+
+/// The transfer operation GetFirstPart (DSP0240, "GetPLDMVersion command"; DSP0248, "GetPDR
+/// command").
+pub const GET_FIRST_PART: u8 = 1;

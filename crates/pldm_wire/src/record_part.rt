@@ -12,7 +12,7 @@ use std::marker::Model;
 pub struct RecordPart {
     flag: TransferFlag,
     bytes: ArrayVec<u8, MOST_PART_BYTES>,
-    checksum: Option<u8>,
+    transfer_crc: Option<u8>,
 }
 
 impl Model for RecordPart {
@@ -20,11 +20,11 @@ impl Model for RecordPart {
 
     ghost Value = { Part };
 
-    ghost view = { λ p. part p.flag p.bytes.items p.checksum };
+    ghost view = { λ p. part p.flag p.bytes.items p.transfer_crc };
 
-    ghost invariant = { λ p. IsPart (part p.flag p.bytes.items p.checksum) };
+    ghost invariant = { λ p. IsPart (part p.flag p.bytes.items p.transfer_crc) };
 
-    ghost inverse = { λ p. record { flag = p.flag; bytes = record { items = p.bytes }; checksum = p.checksum } };
+    ghost inverse = { λ p. record { flag = p.flag; bytes = record { items = p.bytes }; transfer_crc = p.transfer_crc } };
 }
 
 impl RecordPart {
@@ -33,27 +33,27 @@ impl RecordPart {
 
     /// This part, where it is not too long and has a checksum exactly where its flag is
     /// [`TransferFlag::End`].
-    pub fn new(flag: TransferFlag, bytes: &[u8], checksum: Option<u8>) -> Option<RecordPart>
-        ensures some { IsSome result ↔ IsPart (part flag bytes.now checksum) }
-        ensures part { IfSome result (λ made. made ≡ part flag bytes.now checksum) }
+    pub fn new(flag: TransferFlag, bytes: &[u8], transfer_crc: Option<u8>) -> Option<RecordPart>
+        ensures some { IsSome result ↔ IsPart (part flag bytes.now transfer_crc) }
+        ensures part { IfSome result (λ made. made ≡ part flag bytes.now transfer_crc) }
     {
-        if bytes.len() > MOST_PART_BYTES || checksum.is_some() != flag.is_end() {
+        if bytes.len() > MOST_PART_BYTES || transfer_crc.is_some() != flag.is_end() {
             return None;
         }
-        Some(RecordPart::of(flag, bytes, checksum))
+        Some(RecordPart::of(flag, bytes, transfer_crc))
     }
 
     /// This part, which is one.
-    pub(crate) fn of(flag: TransferFlag, bytes: &[u8], checksum: Option<u8>) -> RecordPart
-        requires { IsPart (part flag bytes.now checksum) }
-        ensures { result ≡ part flag bytes.now checksum }
+    pub(crate) fn of(flag: TransferFlag, bytes: &[u8], transfer_crc: Option<u8>) -> RecordPart
+        requires { IsPart (part flag bytes.now transfer_crc) }
+        ensures { result ≡ part flag bytes.now transfer_crc }
     {
         let mut kept = ArrayVec::new();
         let _ = kept.try_extend_from_slice(bytes);
         RecordPart {
             flag,
             bytes: kept,
-            checksum,
+            transfer_crc,
         }
     }
 
@@ -73,9 +73,9 @@ impl RecordPart {
     }
 
     /// The checksum of the whole record, where this is the last of several parts.
-    pub fn checksum(&self) -> Option<u8>
-        ensures { result ≡ self.now.checksum }
+    pub fn transfer_crc(&self) -> Option<u8>
+        ensures { result ≡ self.now.transfer_crc }
     {
-        self.checksum
+        self.transfer_crc
     }
 }

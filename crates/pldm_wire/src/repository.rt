@@ -35,10 +35,10 @@ pub(crate) fn get_pdr_in(bytes: &[u8]) -> Result<Command, Code>
     }
     Ok(Command::GetPdr {
         record_handle: u32_in(bytes, 0),
-        transfer_handle: u32_in(bytes, 4),
-        operation: bytes[8],
+        data_transfer_handle: u32_in(bytes, 4),
+        transfer_operation_flag: bytes[8],
         request_count: u16_in(bytes, 9),
-        change_number: u16_in(bytes, 11),
+        record_change_number: u16_in(bytes, 11),
     })
 }
 
@@ -46,21 +46,21 @@ pub(crate) fn get_pdr_in(bytes: &[u8]) -> Result<Command, Code>
 pub(crate) fn push_get_pdr(
     body: &mut Body,
     record_handle: u32,
-    transfer_handle: u32,
-    operation: u8,
+    data_transfer_handle: u32,
+    transfer_operation_flag: u8,
     request_count: u16,
-    change_number: u16,
+    record_change_number: u16,
 )
     requires { array_vec_len body.old ≤ REQUEST_HEADER }
     ensures { body.new.items ≡ body.old.items
-        ++ (little_bytes 4 record_handle ++ little_bytes 4 transfer_handle
-        ++ operation ∷ little_bytes 2 request_count ++ little_bytes 2 change_number) }
+        ++ (little_bytes 4 record_handle ++ little_bytes 4 data_transfer_handle
+        ++ transfer_operation_flag ∷ little_bytes 2 request_count ++ little_bytes 2 record_change_number) }
 {
     push_u32(body, record_handle);
-    push_u32(body, transfer_handle);
-    body.push(operation);
+    push_u32(body, data_transfer_handle);
+    body.push(transfer_operation_flag);
     push_u16(body, request_count);
-    push_u16(body, change_number);
+    push_u16(body, record_change_number);
 }
 
 /// GetPDRRepositoryInfo's answer: state, update time, OEM update time, record count, repository
@@ -77,7 +77,7 @@ pub(crate) fn repository_answer_in(bytes: &[u8]) -> Result<Answer, AnswerFault>
         oem_update_time: array_in(bytes, 14),
         record_count: u32_in(bytes, 27),
         repository_size: u32_in(bytes, 31),
-        largest_record: u32_in(bytes, 35),
+        largest_record_size: u32_in(bytes, 35),
         timeout: bytes[39],
     })
 }
@@ -104,7 +104,7 @@ pub(crate) fn part_answer_in(bytes: &[u8]) -> Result<Answer, AnswerFault>
     let (part, checksum) = rest.split_at(count);
     Ok(Answer::GetPdr {
         next_record_handle: u32_in(bytes, 0),
-        next_transfer_handle: u32_in(bytes, 4),
+        next_data_transfer_handle: u32_in(bytes, 4),
         part: RecordPart::of(flag, part, checksum.first().copied()),
     })
 }
@@ -133,17 +133,17 @@ pub(crate) fn push_repository_counts(
     body: &mut Body,
     record_count: u32,
     repository_size: u32,
-    largest_record: u32,
+    largest_record_size: u32,
     timeout: u8,
 )
     requires { array_vec_len body.old ≤ RESPONSE_HEADER + 1 + TIME_BYTES + TIME_BYTES }
     ensures { body.new.items ≡ body.old.items
         ++ (little_bytes 4 record_count ++ little_bytes 4 repository_size
-        ++ little_bytes 4 largest_record ++ timeout ∷ []) }
+        ++ little_bytes 4 largest_record_size ++ timeout ∷ []) }
 {
     push_u32(body, record_count);
     push_u32(body, repository_size);
-    push_u32(body, largest_record);
+    push_u32(body, largest_record_size);
     body.push(timeout);
 }
 
@@ -151,23 +151,23 @@ pub(crate) fn push_repository_counts(
 pub(crate) fn push_part_answer(
     body: &mut Body,
     next_record_handle: u32,
-    next_transfer_handle: u32,
+    next_data_transfer_handle: u32,
     part: &RecordPart,
 )
     requires { array_vec_len body.old ≤ RESPONSE_HEADER }
     ensures items { body.new.items ≡ body.old.items
-        ++ (little_bytes 4 next_record_handle ++ little_bytes 4 next_transfer_handle
+        ++ (little_bytes 4 next_record_handle ++ little_bytes 4 next_data_transfer_handle
         ++ flag_number part.now.flag ∷ little_bytes 2 (length part.now.bytes)
-        ++ part.now.bytes ++ checksum_bytes part.now.checksum) }
+        ++ part.now.bytes ++ checksum_bytes part.now.transfer_crc) }
     ensures range { IsPart part.now }
 {
     push_u32(body, next_record_handle);
-    push_u32(body, next_transfer_handle);
+    push_u32(body, next_data_transfer_handle);
     body.push(part.flag().number());
     let bytes = part.as_slice();
     push_u16(body, bytes.len() as u16);
     push_bytes(body, bytes);
-    push_checksum(body, part.checksum());
+    push_checksum(body, part.transfer_crc());
 }
 
 /// Adds the checksum, if there is one.

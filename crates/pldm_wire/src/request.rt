@@ -1,3 +1,4 @@
+ghost use Rattle.pldm_wire.specs.declared.assigned.TheConstants.{INSTANCE_IDS};
 ghost use Rattle.std.specs.Prelude.{◌≡◌, ℕ, List, Ok, Some, IfOk, IfErr};
 ghost use Rattle.pldm_wire.specs.Kinds.{TypeAndCommand};
 ghost use Rattle.pldm_wire.specs.Messages.{IsRequest};
@@ -18,6 +19,7 @@ pub struct RequestRef<'a> {
 }
 
 impl<'a> Model for RequestRef<'a> {
+    ghost use Rattle.pldm_wire.specs.declared.assigned.TheConstants.{INSTANCE_IDS};
     ghost use Rattle.std.specs.Prelude.{◌<◌};
     ghost use Rattle.pldm_wire.specs.Requests.{Request};
 
@@ -25,7 +27,7 @@ impl<'a> Model for RequestRef<'a> {
 
     ghost view = { λ r. record { id = r.id; kind = r.kind; rest = r.rest.now } };
 
-    ghost invariant = { λ r. (r.id < 32) × (r.kind.pldm_type < 64) };
+    ghost invariant = { λ r. (r.id < INSTANCE_IDS) × (r.kind.pldm_type < 64) };
 }
 
 impl<'a> RequestRef<'a> {
@@ -34,7 +36,7 @@ impl<'a> RequestRef<'a> {
     /// The instance ID, 0 to 31.
     pub fn id(&self) -> u8
         ensures value { result ≡ self.now.id }
-        ensures range { self.now.id < 32 }
+        ensures range { self.now.id < INSTANCE_IDS }
     {
         self.id
     }

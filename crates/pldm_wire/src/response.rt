@@ -1,3 +1,4 @@
+ghost use Rattle.pldm_wire.specs.declared.assigned.TheConstants.{INSTANCE_IDS};
 ghost use Rattle.std.specs.Prelude.{◌≡◌, ℕ, List, Ok, Some, IfOk, IfErr};
 ghost use Rattle.pldm_wire.specs.Kinds.{TypeAndCommand};
 ghost use Rattle.pldm_wire.specs.Messages.{IsResponse};
@@ -19,6 +20,7 @@ pub struct ResponseRef<'a> {
 }
 
 impl<'a> Model for ResponseRef<'a> {
+    ghost use Rattle.pldm_wire.specs.declared.assigned.TheConstants.{INSTANCE_IDS};
     ghost use Rattle.std.specs.Prelude.{◌<◌};
     ghost use Rattle.pldm_wire.specs.Responses.{Response};
 
@@ -26,7 +28,7 @@ impl<'a> Model for ResponseRef<'a> {
 
     ghost view = { λ r. record { id = r.id; kind = r.kind; code = r.code; rest = r.rest.now } };
 
-    ghost invariant = { λ r. (r.id < 32) × (r.kind.pldm_type < 64) × (r.code < 256) };
+    ghost invariant = { λ r. (r.id < INSTANCE_IDS) × (r.kind.pldm_type < 64) × (r.code < 256) };
 }
 
 impl<'a> ResponseRef<'a> {
@@ -35,7 +37,7 @@ impl<'a> ResponseRef<'a> {
     /// The instance ID, 0 to 31.
     pub fn id(&self) -> u8
         ensures value { result ≡ self.now.id }
-        ensures range { self.now.id < 32 }
+        ensures range { self.now.id < INSTANCE_IDS }
     {
         self.id
     }

@@ -71,7 +71,7 @@ pub(crate) fn reading_answer_in(bytes: &[u8]) -> Result<Answer, AnswerFault>
     let [
         code,
         operational,
-        event_enable,
+        sensor_event_message_enable,
         present,
         previous,
         event,
@@ -88,7 +88,7 @@ pub(crate) fn reading_answer_in(bytes: &[u8]) -> Result<Answer, AnswerFault>
     }
     Ok(Answer::GetSensorReading {
         operational: *operational,
-        event_enable: *event_enable,
+        sensor_event_message_enable: *sensor_event_message_enable,
         present: *present,
         previous: *previous,
         event: *event,
@@ -121,7 +121,7 @@ pub(crate) fn sensor_states_answer_in(bytes: &[u8]) -> Result<Answer, AnswerFaul
 pub(crate) fn push_reading_answer(
     body: &mut Body,
     operational: u8,
-    event_enable: u8,
+    sensor_event_message_enable: u8,
     present: u8,
     previous: u8,
     event: u8,
@@ -129,13 +129,13 @@ pub(crate) fn push_reading_answer(
 )
     requires { array_vec_len body.old ≤ RESPONSE_HEADER }
     ensures items { body.new.items ≡ body.old.items
-        ++ (size_code reading.size ∷ operational ∷ event_enable ∷ present ∷ previous ∷ event
+        ++ (size_code reading.size ∷ operational ∷ sensor_event_message_enable ∷ present ∷ previous ∷ event
         ∷ number_bytes reading) }
     ensures range { IsNumber reading }
 {
     body.push(reading.size().code());
     body.push(operational);
-    body.push(event_enable);
+    body.push(sensor_event_message_enable);
     body.push(present);
     body.push(previous);
     body.push(event);

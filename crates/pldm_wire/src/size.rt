@@ -1,5 +1,6 @@
 ghost use Rattle.std.specs.Prelude.{◌≡◌};
 ghost use Rattle.pldm_wire.specs.Sizes.{is_signed, size_code, size_of, width};
+ghost use Rattle.pldm_wire.specs.SizeNames.{size_named, size_name};
 
 /// The data size of a numeric sensor or effecter (DSP0248, "sensorDataSize" and
 /// "effecterDataSize").
@@ -20,6 +21,41 @@ pub enum Size {
 }
 
 impl Size {
+    /// The size of this name: `uint8`, `sint8`, `uint16`, `sint16`, `uint32` or `sint32`.
+    pub fn named(name: &str) -> Option<Size>
+        ensures { result ≡ size_named name.now }
+    {
+        if name == "uint8" {
+            Some(Size::Uint8)
+        } else if name == "sint8" {
+            Some(Size::Sint8)
+        } else if name == "uint16" {
+            Some(Size::Uint16)
+        } else if name == "sint16" {
+            Some(Size::Sint16)
+        } else if name == "uint32" {
+            Some(Size::Uint32)
+        } else if name == "sint32" {
+            Some(Size::Sint32)
+        } else {
+            None
+        }
+    }
+
+    /// Its name.
+    pub fn name(self) -> &'static str
+        ensures { result.now ≡ size_name self }
+    {
+        match self {
+            Size::Uint8 => "uint8",
+            Size::Sint8 => "sint8",
+            Size::Uint16 => "uint16",
+            Size::Sint16 => "sint16",
+            Size::Uint32 => "uint32",
+            Size::Sint32 => "sint32",
+        }
+    }
+
     /// The size of this number, where there is one.
     pub(crate) fn from_code(code: u8) -> Option<Size>
         ensures { result ≡ size_of code }

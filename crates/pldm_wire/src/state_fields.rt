@@ -9,7 +9,7 @@ use std::marker::Model;
 #[derive(Clone, Copy, Debug, Default, PartialEq, Eq)]
 pub struct SetStateField {
     /// The set request: 0 noChange, 1 requestSet. Any byte is read.
-    pub request: u8,
+    pub set_request: u8,
     /// The state that is requested.
     pub state: u8,
 }
@@ -92,9 +92,9 @@ impl StateFields<SetStateField> {
     {
         let mut fields = ArrayVec::new();
         let mut rest = bytes;
-        while let [request, state, tail @ ..] = rest {
+        while let [set_request, state, tail @ ..] = rest {
             fields.push(SetStateField {
-                request: *request,
+                set_request: *set_request,
                 state: *state,
             });
             rest = tail;

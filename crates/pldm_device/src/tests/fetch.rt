@@ -1,9 +1,9 @@
 //! Records fetched in parts.
 
 use super::{answer, example};
-use crate::hoard::Hoard;
 use crate::{Fetch, FetchFault, FetchState, Platform, RECORD_HEADER};
 use mctp_packet::Memory;
+use memory_hoard::Hoard;
 use pldm_wire::{Answer, Command, RecordPart, TransferFlag};
 use std::test::Fail;
 
@@ -15,13 +15,13 @@ fn record() -> [u8; 300] {
 }
 
 /// The request for the part of record 1 at this offset.
-fn request(operation: u8, offset: u32) -> Option<Command> {
+fn request(transfer_operation_flag: u8, offset: u32) -> Option<Command> {
     Some(Command::GetPdr {
         record_handle: 1,
-        transfer_handle: offset,
-        operation,
+        data_transfer_handle: offset,
+        transfer_operation_flag,
         request_count: 239,
-        change_number: 0,
+        record_change_number: 0,
     })
 }
 
@@ -29,7 +29,7 @@ fn request(operation: u8, offset: u32) -> Option<Command> {
 fn part(flag: TransferFlag, next: u32, bytes: &[u8], checksum: Option<u8>) -> Option<Answer> {
     Some(Answer::GetPdr {
         next_record_handle: 0,
-        next_transfer_handle: next,
+        next_data_transfer_handle: next,
         part: RecordPart::new(flag, bytes, checksum)?,
     })
 }

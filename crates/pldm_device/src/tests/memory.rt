@@ -1,6 +1,6 @@
 use crate::example::description;
-use crate::hoard::Hoard;
 use crate::{Description, FileFault};
+use memory_hoard::Hoard;
 use std::test::Fail;
 
 /// By how many bytes more each run may grow than the one before.

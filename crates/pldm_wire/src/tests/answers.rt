@@ -44,8 +44,8 @@ fn base_answers_are_read_and_written(rt: HostRuntime) {
 #[test]
 fn versions_and_commands_are_read_and_written(rt: HostRuntime) {
     let get_version = Command::GetPldmVersion {
-        transfer_handle: 0,
-        operation: 1,
+        data_transfer_handle: 0,
+        transfer_operation_flag: 1,
         pldm_type: 0,
     };
     both_ways(
@@ -55,7 +55,7 @@ fn versions_and_commands_are_read_and_written(rt: HostRuntime) {
         ],
         &get_version,
         &Answer::GetPldmVersion {
-            next_transfer_handle: 0x0403_0201,
+            next_data_transfer_handle: 0x0403_0201,
             versions: VersionData::new(&[0x00, 0xf0, 0xf0, 0xf1]).expect(&rt, "a version"),
         },
     );
@@ -73,7 +73,7 @@ fn versions_and_commands_are_read_and_written(rt: HostRuntime) {
         ],
         &get_version,
         &Answer::GetPldmVersion {
-            next_transfer_handle: 0,
+            next_data_transfer_handle: 0,
             versions: VersionData::new(&eight_versions).expect(&rt, "eight versions"),
         },
     );
@@ -112,7 +112,7 @@ fn sensor_answers_are_read_and_written(rt: HostRuntime) {
         &reading,
         &Answer::GetSensorReading {
             operational: 0,
-            event_enable: 0,
+            sensor_event_message_enable: 0,
             present: 1,
             previous: 1,
             event: 1,
@@ -128,7 +128,7 @@ fn sensor_answers_are_read_and_written(rt: HostRuntime) {
         &reading,
         &Answer::GetSensorReading {
             operational: 1,
-            event_enable: 2,
+            sensor_event_message_enable: 2,
             present: 3,
             previous: 4,
             event: 5,
@@ -252,7 +252,7 @@ fn the_repository_is_read_and_written(rt: HostRuntime) {
             oem_update_time: [0, 0, 0, 0, 0, 0, 0, 0, 0, 0, 0, 0, 3],
             record_count: 1,
             repository_size: 300,
-            largest_record: 301,
+            largest_record_size: 301,
             timeout: 7,
         },
     );
@@ -262,10 +262,10 @@ fn the_repository_is_read_and_written(rt: HostRuntime) {
 fn parts_of_records_are_read_and_written(rt: HostRuntime) {
     let get_pdr = Command::GetPdr {
         record_handle: 1,
-        transfer_handle: 299,
-        operation: 0,
+        data_transfer_handle: 299,
+        transfer_operation_flag: 0,
         request_count: 1,
-        change_number: 0,
+        record_change_number: 0,
     };
     let parts = [
         (
@@ -307,7 +307,7 @@ fn parts_of_records_are_read_and_written(rt: HostRuntime) {
         let _ = message.try_extend_from_slice(data);
         let answer = Answer::GetPdr {
             next_record_handle: 3,
-            next_transfer_handle: 300,
+            next_data_transfer_handle: 300,
             part: RecordPart::new(flag, bytes, checksum).expect(&rt, "a part"),
         };
         both_ways(&rt, message.as_slice(), &get_pdr, &answer);
@@ -318,14 +318,14 @@ fn parts_of_records_are_read_and_written(rt: HostRuntime) {
 fn the_longest_part_fills_a_message(rt: HostRuntime) {
     let get_pdr = Command::GetPdr {
         record_handle: 1,
-        transfer_handle: 0,
-        operation: 1,
+        data_transfer_handle: 0,
+        transfer_operation_flag: 1,
         request_count: 239,
-        change_number: 0,
+        record_change_number: 0,
     };
     let answer = Answer::GetPdr {
         next_record_handle: 0,
-        next_transfer_handle: 0,
+        next_data_transfer_handle: 0,
         part: RecordPart::new(TransferFlag::End, &[7; MOST_PART_BYTES], Some(1)).expect(
             &rt, "a part",
         ),
@@ -350,10 +350,10 @@ fn responses_that_are_no_answer_have_a_fault(rt: HostRuntime) -> Result<(), Fail
     };
     let get_pdr = Command::GetPdr {
         record_handle: 0,
-        transfer_handle: 0,
-        operation: 1,
+        data_transfer_handle: 0,
+        transfer_operation_flag: 1,
         request_count: 239,
-        change_number: 0,
+        record_change_number: 0,
     };
     let faults = [
         (

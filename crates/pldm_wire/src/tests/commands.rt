@@ -27,8 +27,8 @@ fn base_commands_are_read_and_written(rt: HostRuntime) {
         &rt,
         &[0x01, 0x82, 0x00, 0x03, 0x01, 0x02, 0x03, 0x04, 0x00, 0x3f],
         &Command::GetPldmVersion {
-            transfer_handle: 0x0403_0201,
-            operation: 0,
+            data_transfer_handle: 0x0403_0201,
+            transfer_operation_flag: 0,
             pldm_type: 0x3f,
         },
     );
@@ -122,7 +122,7 @@ fn other_effecter_commands_are_read_and_written(rt: HostRuntime) {
         &Command::GetStateEffecterStates { effecter: 2 },
     );
     let one = [SetStateField {
-        request: 0,
+        set_request: 0,
         state: 9,
     }];
     both_ways(
@@ -135,11 +135,11 @@ fn other_effecter_commands_are_read_and_written(rt: HostRuntime) {
     );
     let two = [
         SetStateField {
-            request: 1,
+            set_request: 1,
             state: 2,
         },
         SetStateField {
-            request: 1,
+            set_request: 1,
             state: 3,
         },
     ];
@@ -154,7 +154,7 @@ fn other_effecter_commands_are_read_and_written(rt: HostRuntime) {
         },
     );
     let eight = [SetStateField {
-        request: 0xff,
+        set_request: 0xff,
         state: 7,
     }; 8];
     both_ways(
@@ -185,10 +185,10 @@ fn repository_commands_are_read_and_written(rt: HostRuntime) {
         ],
         &Command::GetPdr {
             record_handle: 0x0403_0201,
-            transfer_handle: 299,
-            operation: 1,
+            data_transfer_handle: 299,
+            transfer_operation_flag: 1,
             request_count: 0xfeff,
-            change_number: 0x1234,
+            record_change_number: 0x1234,
         },
     );
 }

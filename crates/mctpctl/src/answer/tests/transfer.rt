@@ -25,10 +25,10 @@ fn record(alloc: Global) -> Result<Vec<u8>, Fail> {
 fn request(part: u32) -> Command {
     Command::GetPdr {
         record_handle: 2,
-        transfer_handle: part.saturating_mul(MOST_PART_BYTES as u32),
-        operation: u8::from(part == 0),
+        data_transfer_handle: part.saturating_mul(MOST_PART_BYTES as u32),
+        transfer_operation_flag: u8::from(part == 0),
         request_count: MOST_PART_BYTES as u16,
-        change_number: if part == 0 { 0 } else { 0x1234 },
+        record_change_number: if part == 0 { 0 } else { 0x1234 },
     }
 }
 

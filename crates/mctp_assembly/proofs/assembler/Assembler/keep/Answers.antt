@@ -1,8 +1,5 @@
-use Rattle.std.specs.FinMap as map
 use Rattle.std.proofs.Common.{Some, None, ap, sym, ◌∙◌, is_some}
 use Rattle.std.specs.BTreeMap.{is_at}
-use Rattle.std.proofs.lemmas.Result.{on_ok_weaker, on_err_weaker}
-use Rattle.std.proofs.lemmas.Map.Steps.{set_value_same}
 use Rattle.std.proofs.lemmas.Map.Views.{All-keys-insert_entry, All-values-insert_entry, All-values-set_value}
 use Rattle.mctp_packet.specs.declared.TheConstants.{MOST_PACKETS}
 use Rattle.mctp_assembly.specs.Keys.{IsKey, key_cmp}
@@ -15,8 +12,8 @@ pub invariant_of-self-then-start : goal.invariant_of-self-then-start
 invariant_of-self-then-start c =
     let es = c.self.inside.buffers.entries in
     rw c.in_ok-insert.ensures.entries (
-      All-keys-insert_entry key_cmp c.of-key.result c.in_ok-buffer.buffer IsKey es c.self.invariant.0 c.of-key.ensures.range,
-      All-values-insert_entry key_cmp c.of-key.result c.in_ok-buffer.buffer IsOpened es c.self.invariant.1 c.in_ok-buffer.ensures.range,
+      All-keys-insert_entry key_cmp c.of-key.result c.new.result IsKey es c.self.invariant.0 c.of-key.ensures.range,
+      All-values-insert_entry key_cmp c.of-key.result c.new.result IsOpened es c.self.invariant.1 c.new.ensures.range,
     )
 
 pub invariant_of-self-2 : goal.invariant_of-self-2
@@ -28,8 +25,8 @@ invariant_of-self-2 c =
 
 pub returns-then-start-clause-ok : goal.returns-then-start-clause-ok
 returns-then-start-clause-ok c =
-    kept_in c.self.inside.buffers.entries c.insert.new.self.entries c.args.self.now c.of-key.result c.args.packet.now c.in_ok-buffer.buffer c.self.view_is c.of-key.ensures.value c.in_ok-insert.ensures.updates.0
-    (c.in_ok-buffer.ensures.value ∙ sym (carried_from_start _ c.args.packet.now (sym c.start.ensures ∙ c.if-start.true)))
+    kept_in c.self.inside.buffers.entries c.insert.new.self.entries c.args.self.now c.of-key.result c.args.packet.now c.new.result c.self.view_is c.of-key.ensures.value c.in_ok-insert.ensures.updates.0
+    (c.new.ensures.value ∙ sym (carried_from_start _ c.args.packet.now (sym c.start.ensures ∙ c.if-start.true)))
     c.requires
 
 pub append-requires-clause-partial : goal.append-requires-clause-partial
@@ -47,16 +44,6 @@ pub returns-clause-ok : goal.returns-clause-ok
 returns-clause-ok c =
     let here = c.in-Some.ensures.value in
     let w = c.append.new.self in
-    on_ok_weaker c.append.result
-    (λ carried. kept_in c.self.inside.buffers.entries (c.get_mut.follows.lender w).entries c.args.self.now c.of-key.result c.args.packet.now w c.self.view_is c.of-key.ensures.value ((c.get_mut.follows.holds w).3 (ap is_some (sym here))).0
-    (carried ∙ ap (λ o. carried_on o c.args.packet.now) (held_at c.self.inside.buffers.entries c.args.self.now c.of-key.result _ (Some c.in-Some.buffer.now) c.self.view_is c.of-key.ensures.value here))
-    c.requires)
-    c.append.ensures.ok
-
-pub returns-clause-err : goal.returns-clause-err
-returns-clause-err c =
-    let w = c.append.new.self in
-    let es = c.self.inside.buffers.entries in
-    on_err_weaker c.append.result
-    (λ same. ap (λ fs. map.from_entries fs) ((c.get_mut.follows.holds w).0 ∙ set_value_same (is_at (key_cmp c.of-key.result)) es w (sym c.in-Some.ensures.value ∙ ap Some (sym same))) ∙ c.self.view_is)
-    c.append.ensures.err
+    kept_in c.self.inside.buffers.entries (c.get_mut.follows.lender w).entries c.args.self.now c.of-key.result c.args.packet.now w c.self.view_is c.of-key.ensures.value ((c.get_mut.follows.holds w).3 (ap is_some (sym here))).0
+    (c.append.ensures.value ∙ ap (λ o. carried_on o c.args.packet.now) (held_at c.self.inside.buffers.entries c.args.self.now c.of-key.result _ (Some c.in-Some.buffer.now) c.self.view_is c.of-key.ensures.value here))
+    c.requires

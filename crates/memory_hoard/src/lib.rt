@@ -1,7 +1,8 @@
-//! For tests: takes all memory that can be had, so that growths are refused.
+//! For tests alone: takes all memory that can be had, so that growths are refused.
 //!
 //! It rests on glibc's allocator, and on address space that is not backed before it is written. It
 //! does not work under `rt try`, whose sanitizer needs memory of its own: such tests run by `rt test`.
+#![tactic(auto)]
 
 use std::alloc::{AllocError, Global};
 
@@ -30,7 +31,7 @@ const SPLIT: usize = 48;
 
 /// Memory that is taken. Dropping it gives it all back.
 #[derive(Drop)]
-pub(crate) struct Hoard {
+pub struct Hoard {
     blocks: Vec<Vec<u8>>,
 }
 
@@ -40,7 +41,7 @@ impl Hoard {
     /// # Errors
     ///
     /// `AllocError` where there was no room for the list of the blocks.
-    pub(crate) fn take(alloc: Global, spare: usize) -> Result<Hoard, AllocError> {
+    pub fn take(alloc: Global, spare: usize) -> Result<Hoard, AllocError> {
         let mut blocks = Vec::with_capacity(alloc, MOST_BLOCKS)?;
         let reserve = Vec::<u8>::with_capacity(alloc, RESERVE)?;
         let mut size = LARGEST;

@@ -1,0 +1,39 @@
+-- Every constant of the source, told a second time: the standard's and this profile's own numbers.
+use Rattle.std.proofs.Common.{◌≡◌, refl}
+use Rattle.mctp_packet.specs.declared.TheConstants.{FIRST_EID, LAST_EID, TAGS, LAST_MOMENT, LONGEST_KEEP, MOST_PACKETS, UNIT, SEQUENCE_NUMBERS, VERSION, HEADER, MOST_PACKET_BYTES, MOST_MESSAGE_BYTES}
+
+first_endpoint_id : FIRST_EID ≡ 8
+first_endpoint_id = refl
+
+last_endpoint_id : LAST_EID ≡ 254
+last_endpoint_id = refl
+
+tags : TAGS ≡ 8
+tags = refl
+
+last_moment_in_milliseconds : LAST_MOMENT ≡ 4000000000000000
+last_moment_in_milliseconds = refl
+
+longest_keep_in_milliseconds : LONGEST_KEEP ≡ 60000
+longest_keep_in_milliseconds = refl
+
+packets_of_a_message : MOST_PACKETS ≡ 4
+packets_of_a_message = refl
+
+payload_bytes : UNIT ≡ 64
+payload_bytes = refl
+
+sequence_numbers : SEQUENCE_NUMBERS ≡ 4
+sequence_numbers = refl
+
+header_version : VERSION ≡ 1
+header_version = refl
+
+header_bytes : HEADER ≡ 4
+header_bytes = refl
+
+packet_bytes : MOST_PACKET_BYTES ≡ 68
+packet_bytes = refl
+
+message_bytes : MOST_MESSAGE_BYTES ≡ 256
+message_bytes = refl

@@ -1,0 +1,18 @@
+-- The numbers of the faults of a reading and of a fetch.
+use Rattle.std.specs.Prelude.{ℕ}
+use Rattle.pldm_device.specs.declared.reading_fault.ReadingFault.{ReadingFault}
+use Rattle.pldm_device.specs.declared.reading_fault.ReadingFault.TheVariants.{NoSuchSensor, OutOfSize}
+use Rattle.pldm_device.specs.declared.fetch_fault.FetchFault.{FetchFault}
+use Rattle.pldm_device.specs.declared.fetch_fault.FetchFault.TheVariants.{Refused, Count, Handle, Crc, Memory, Unexpected}
+
+abbrev pub number_of_reading_fault : ReadingFault → ℕ
+number_of_reading_fault NoSuchSensor = 1
+number_of_reading_fault OutOfSize = 2
+
+abbrev pub number_of_fetch_fault : FetchFault → ℕ
+number_of_fetch_fault (Refused code) = 1
+number_of_fetch_fault Count = 2
+number_of_fetch_fault Handle = 3
+number_of_fetch_fault Crc = 4
+number_of_fetch_fault Memory = 5
+number_of_fetch_fault Unexpected = 6
