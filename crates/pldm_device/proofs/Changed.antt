@@ -4,7 +4,7 @@ use Rattle.std.specs.Map.{lookup, set_value}
 use Rattle.pldm_wire.specs.declared.answer.Answer.{Answer}
 use Rattle.pldm_device.specs.ById.{ById, with_id, replace, replaced, change_at}
 use Rattle.pldm_device.specs.Changes.{Changes, changed_or}
-use Rattle.pldm_device.specs.EffecterAnswers.{outcome_told}
+use Rattle.pldm_device.specs.EffecterAnswers.{outcome_answered}
 
 some_is : {X : Type 0} (x y : X) → Some x ≡ Some y → x ≡ y
 some_is x y e = cc
@@ -25,9 +25,9 @@ replaced-written id things written old new (Err refusal) result found is h = (h.
 pub change_at-written : {X E : Type 0} (missing : E) (change : X → Result X E) (id : ℕ) (things written : ById X) (old new : X) (result : Result Unit E) → with_id id things ≡ Some old → written ≡ replace id new things → Changes (change old) old result new → Changes (change_at missing change id things) things result written
 change_at-written missing change id things written old new result found is h = rw found (replaced-written id things written old new (change old) result found is h)
 
-pub told-outcome : {A : Type 0} (done : Answer) (outcome : Result A ℕ) (old new : A) (result : Result Unit ℕ) → Changes outcome old result new → outcome_told done result ≡ outcome_told done outcome
-told-outcome done (Ok changed) old new result h = rw (h.0) refl
-told-outcome done (Err refusal) old new result h = rw (h.0) refl
+pub answered-outcome : {A : Type 0} (done : Answer) (outcome : Result A ℕ) (old new : A) (result : Result Unit ℕ) → Changes outcome old result new → outcome_answered done result ≡ outcome_answered done outcome
+answered-outcome done (Ok changed) old new result h = rw (h.0) refl
+answered-outcome done (Err refusal) old new result h = rw (h.0) refl
 
 pub changed-outcome : {A : Type 0} (outcome : Result A ℕ) (old new : A) (result : Result Unit ℕ) → Changes outcome old result new → new ≡ changed_or old outcome
 changed-outcome (Ok changed) old new result h = h.1

@@ -5,8 +5,8 @@ use Rattle.pldm_wire.specs.Crc.{crc}
 use Rattle.pldm_wire.specs.RecordParts.{Part}
 use Rattle.pldm_wire.specs.declared.answer.Answer.{Answer}
 use Rattle.pldm_wire.specs.declared.answer.Answer.TheVariants.{Refused, GetPdr}
-use Rattle.pldm_device.specs.Fetches.{Fetching, going_told, told_at, told, part_told, part_after, going_after, after, fits, is_going, is_last, is_other_crc, record_at, record_fault, record_of, unless}
-use Rattle.pldm_device.specs.FetchLaws.{fetched, bytes_of, joined, IsWhole, IsAsked, EndsRecord, DoneIsTheRecord}
+use Rattle.pldm_device.specs.Fetches.{Fetching, taken_while_going, taken_at, taken, part_taken, part_after, going_after, after_taking, has_room_for, is_going, is_last, is_other_crc, record_at_stage, record_fault, fetched_record, unless_fault}
+use Rattle.pldm_device.specs.FetchLaws.{fetched, bytes_of, joined_parts, IsWhole, IsAsked, EndsRecord, DoneIsTheRecord}
 use Rattle.pldm_device.specs.Records.{handle_of, data_length_of}
 use Rattle.pldm_device.specs.declared.fetch.FetchState.{FetchState}
 use Rattle.pldm_device.specs.declared.fetch.FetchState.TheVariants.{More, Done}
@@ -29,17 +29,17 @@ part_holds asked bytes f next_data_transfer_handle part (Err fault) held goes = 
 
 going_holds : (asked : ℕ) (bytes : List ℕ) (f : Fetching) (answer : Answer) → Holds asked bytes f → is_going f.stage ≡ true → Holds asked (bytes ++ bytes_of answer) (going_after f answer)
 going_holds asked bytes f (Refused code) held goes = record { asked_is = held.asked_is; bytes_are = λ wrong. cc }
-going_holds asked bytes f (GetPdr n t part) held goes = part_holds asked bytes f t part (part_told f n part) held goes
+going_holds asked bytes f (GetPdr n t part) held goes = part_holds asked bytes f t part (part_taken f n part) held goes
 going_holds asked bytes f _ held goes = record { asked_is = held.asked_is; bytes_are = λ e. held.bytes_are e ∙ sym (append-nil bytes) }
 
 after_holds : (asked : ℕ) (bytes : List ℕ) (f : Fetching) (answer : Answer) (goes : Bool) → is_going f.stage ≡ goes → Holds asked bytes f → Holds asked (bytes ++ bytes_of answer) (if goes then going_after f answer else f)
 after_holds asked bytes f answer true e held = going_holds asked bytes f answer held e
 after_holds asked bytes f answer false e held = record { asked_is = held.asked_is; bytes_are = λ wrong. cc }
 
-pub fetched_holds : (asked : ℕ) (answers : List Answer) → Holds asked (joined answers) (fetched asked answers)
+pub fetched_holds : (asked : ℕ) (answers : List Answer) → Holds asked (joined_parts answers) (fetched asked answers)
 fetched_holds asked [] = record { asked_is = refl; bytes_are = λ _. refl }
 fetched_holds asked (answer ∷ before) =
-    after_holds asked (joined before) (fetched asked before) answer (is_going (fetched asked before).stage) refl (fetched_holds asked before)
+    after_holds asked (joined_parts before) (fetched asked before) answer (is_going (fetched asked before).stage) refl (fetched_holds asked before)
 
 -- no fault: each test of the record was passed
 record Passed (short counted first same other : Bool) : Type 0 where
@@ -70,18 +70,18 @@ asked_for asked pdr (inr e) = inr (eqb-true _ _ e)
 
 -- a part that is the last one and passes
 record Ended (f : Fetching) (n next : ℕ) (part : Part) : Type 0 where
-  fit : fits f.bytes part ≡ true
+  fit : has_room_for f.bytes part ≡ true
   last : is_last part.flag ≡ true
   no_fault : record_fault f.asked (f.bytes ++ part.bytes) part.transfer_crc ≡ None
   follows : n ≡ next
 
-ended_by : (f : Fetching) (n next : ℕ) (part : Part) (fit last : Bool) (fault : Option FetchFault) → fits f.bytes part ≡ fit → is_last part.flag ≡ last → record_fault f.asked (f.bytes ++ part.bytes) part.transfer_crc ≡ fault → (if fit then (if last then unless fault (Done n) else Ok More) else Err faults.Count) ≡ Ok (Done next) → Ended f n next part
+ended_by : (f : Fetching) (n next : ℕ) (part : Part) (fit last : Bool) (fault : Option FetchFault) → has_room_for f.bytes part ≡ fit → is_last part.flag ≡ last → record_fault f.asked (f.bytes ++ part.bytes) part.transfer_crc ≡ fault → (if fit then (if last then unless_fault fault (Done n) else Ok More) else Err faults.Count) ≡ Ok (Done next) → Ended f n next part
 ended_by f n next part true true None fits_it is_it none e = record { fit = fits_it; last = is_it; no_fault = none; follows = cc }
 ended_by f n next part true true (Some fault) fits_it is_it none e = cc
 ended_by f n next part true false fault fits_it is_it none e = cc
 ended_by f n next part false last fault fits_it is_it none e = cc
 
-ended : (f : Fetching) (n next : ℕ) (part : Part) → part_told f n part ≡ Ok (Done next) → Ended f n next part
+ended : (f : Fetching) (n next : ℕ) (part : Part) → part_taken f n part ≡ Ok (Done next) → Ended f n next part
 ended f n next part e = ended_by f n next part _ _ _ refl refl refl e
 
 -- the record's length is below the limit where the part fits
@@ -99,7 +99,7 @@ whole_by asked pdr checksum small e =
     let p = passed (nat_lt (length pdr) RECORD_HEADER) (length pdr == RECORD_HEADER + data_length_of pdr) (asked == FIRST_RECORD) (handle_of pdr == asked) (is_other_crc checksum pdr) e in
     (record { header = ltb-false _ _ p.long; small = small; counted = eqb-true _ _ p.counts }, asked_for asked pdr p.handle, right_checksum checksum pdr p.transfer_crc)
 
-part_done : (asked next : ℕ) (bytes : List ℕ) (f : Fetching) (n t : ℕ) (part : Part) → f.asked ≡ asked → f.bytes ≡ bytes → part_told f n part ≡ Ok (Done next) → IsDone asked next (bytes ++ part.bytes) (GetPdr n t part)
+part_done : (asked next : ℕ) (bytes : List ℕ) (f : Fetching) (n t : ℕ) (part : Part) → f.asked ≡ asked → f.bytes ≡ bytes → part_taken f n part ≡ Ok (Done next) → IsDone asked next (bytes ++ part.bytes) (GetPdr n t part)
 part_done asked next bytes f n t part asked_is bytes_are e =
     let done = ended f n next part e in
     let none : record_fault asked (bytes ++ part.bytes) part.transfer_crc ≡ None = cc (done.no_fault, asked_is, bytes_are) in
@@ -108,22 +108,22 @@ part_done asked next bytes f n t part asked_is bytes_are e =
     let parts = whole_by asked (bytes ++ part.bytes) part.transfer_crc (rw (length-append bytes part.bytes) small) none in
     (parts.0, parts.1, (done.follows, done.last, parts.2))
 
-going_done : (asked next : ℕ) (bytes : List ℕ) (f : Fetching) (answer : Answer) → f.asked ≡ asked → f.bytes ≡ bytes → going_told f answer ≡ Ok (Done next) → IsDone asked next (bytes ++ bytes_of answer) answer
+going_done : (asked next : ℕ) (bytes : List ℕ) (f : Fetching) (answer : Answer) → f.asked ≡ asked → f.bytes ≡ bytes → taken_while_going f answer ≡ Ok (Done next) → IsDone asked next (bytes ++ bytes_of answer) answer
 going_done asked next bytes f (GetPdr n t part) asked_is bytes_are e = part_done asked next bytes f n t part asked_is bytes_are e
 going_done asked next bytes f (Refused code) asked_is bytes_are e = cc
 going_done asked next bytes f _ asked_is bytes_are e = cc
 
-part_recorded : (f : Fetching) (next t : ℕ) (part : Part) (given : Result FetchState FetchFault) → given ≡ Ok (Done next) → record_of (part_after f t part given) ≡ Some (f.bytes ++ part.bytes)
+part_recorded : (f : Fetching) (next t : ℕ) (part : Part) (given : Result FetchState FetchFault) → given ≡ Ok (Done next) → fetched_record (part_after f t part given) ≡ Some (f.bytes ++ part.bytes)
 part_recorded f next t part (Ok (Done n)) e = refl
 part_recorded f next t part (Ok More) e = cc
 part_recorded f next t part (Err fault) e = cc
 
-pub going_recorded : (f : Fetching) (next : ℕ) (answer : Answer) → going_told f answer ≡ Ok (Done next) → record_of (going_after f answer) ≡ Some (f.bytes ++ bytes_of answer)
-going_recorded f next (GetPdr n t part) e = part_recorded f next t part (part_told f n part) e
+pub going_recorded : (f : Fetching) (next : ℕ) (answer : Answer) → taken_while_going f answer ≡ Ok (Done next) → fetched_record (going_after f answer) ≡ Some (f.bytes ++ bytes_of answer)
+going_recorded f next (GetPdr n t part) e = part_recorded f next t part (part_taken f n part) e
 going_recorded f next (Refused code) e = cc
 going_recorded f next _ e = cc
 
-done_at : (asked next : ℕ) (bytes : List ℕ) (f : Fetching) (answer : Answer) (stage : Stage) → f.stage ≡ stage → Holds asked bytes f → told_at stage f answer ≡ Ok (Done next) → IsDone asked next (bytes ++ bytes_of answer) answer × (record_of (if is_going stage then going_after f answer else f) ≡ Some (bytes ++ bytes_of answer))
+done_at : (asked next : ℕ) (bytes : List ℕ) (f : Fetching) (answer : Answer) (stage : Stage) → f.stage ≡ stage → Holds asked bytes f → taken_at stage f answer ≡ Ok (Done next) → IsDone asked next (bytes ++ bytes_of answer) answer × (fetched_record (if is_going stage then going_after f answer else f) ≡ Some (bytes ++ bytes_of answer))
 done_at asked next bytes f answer Going at held e =
     let bytes_are = held.bytes_are (ap is_going at) in
     (going_done asked next bytes f answer held.asked_is bytes_are e, going_recorded f next answer e ∙ ap (λ b. Some (b ++ bytes_of answer)) bytes_are)
@@ -132,5 +132,5 @@ done_at asked next bytes f answer (Failed fault) at held e = cc
 
 pub done_is_the_record : DoneIsTheRecord
 done_is_the_record asked next before answer e =
-    let done = done_at asked next (joined before) (fetched asked before) answer (fetched asked before).stage refl (fetched_holds asked before) e in
+    let done = done_at asked next (joined_parts before) (fetched asked before) answer (fetched asked before).stage refl (fetched_holds asked before) e in
     (done.0.0, done.0.1, done.0.2, done.1)

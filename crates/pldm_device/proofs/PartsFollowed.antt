@@ -7,7 +7,7 @@ use Rattle.pldm_wire.specs.Crc.{crc}
 use Rattle.pldm_wire.specs.RecordParts.{Part}
 use Rattle.pldm_wire.specs.declared.limits.TheConstants.{MOST_PART_BYTES}
 use Rattle.pldm_device.specs.Records.{checksum_with, flag_of_part, is_last_part, next_data_transfer_handle, offset_after, part_bytes, part_of}
-use Rattle.pldm_device.specs.Transfers.{Followed, IsPartFrom, TellPlaces, joined, parts_asked}
+use Rattle.pldm_device.specs.Transfers.{Followed, IsPartFrom, TellPlaces, joined_parts, parts_asked}
 
 -- how many bytes a part has
 length-part_bytes : (pdr : List ℕ) (offset count : ℕ) → length (part_bytes pdr offset count) ≡ min (min count MOST_PART_BYTES) (length pdr - offset)
@@ -40,7 +40,7 @@ more_bytes pdr offset count next more is =
 next_within : (pdr : List ℕ) (offset count next : ℕ) → 0 < next → next ≡ next_data_transfer_handle pdr offset count → next < length pdr
 next_within pdr offset count next more is = grind (arith, nat_tests)
 
-joined_from : (pdr : List ℕ) (offset : ℕ) (parts : List Part) → Followed pdr offset parts → joined parts ≡ drop offset pdr
+joined_from : (pdr : List ℕ) (offset : ℕ) (parts : List Part) → Followed pdr offset parts → joined_parts parts ≡ drop offset pdr
 joined_from pdr offset [] followed = absurd followed
 joined_from pdr offset (last ∷ []) followed =
     let bytes : last.bytes ≡ part_bytes pdr offset followed.count = ap (λ (p : Part). p.bytes) followed.part_is in
@@ -48,10 +48,10 @@ joined_from pdr offset (last ∷ []) followed =
 joined_from pdr offset (part ∷ following ∷ rest) followed =
     let from = followed.2 in
     let bytes : part.bytes ≡ part_bytes pdr offset from.count = ap (λ (p : Part). p.bytes) from.part_is in
-    let others : joined (following ∷ rest) ≡ drop followed.0 pdr = joined_from pdr followed.0 (following ∷ rest) followed.3 in
+    let others : joined_parts (following ∷ rest) ≡ drop followed.0 pdr = joined_from pdr followed.0 (following ∷ rest) followed.3 in
     rw (bytes, others) (more_bytes pdr offset from.count followed.0 followed.1 from.next_is)
 
-pub parts_join : (pdr : List ℕ) (parts : List Part) → Followed pdr 0 parts → joined parts ≡ pdr
+pub parts_join : (pdr : List ℕ) (parts : List Part) → Followed pdr 0 parts → joined_parts parts ≡ pdr
 parts_join pdr parts followed = joined_from pdr 0 parts followed
 
 last_checksum : (pdr : List ℕ) (is_first : Bool) → checksum_with (flag_of_part is_first true) pdr ≡ (if is_first then None else Some (crc pdr))

@@ -9,7 +9,7 @@ use Rattle.pldm_wire.specs.TransferFlags.{is_end}
 use Rattle.pldm_wire.specs.declared.answer.Answer.{Answer}
 use Rattle.pldm_wire.specs.declared.answer.Answer.TheVariants.{GetPdr}
 use Rattle.pldm_wire.specs.declared.limits.TheConstants.{MOST_PART_BYTES}
-use Rattle.pldm_device.specs.Fetches.{Fetching, told, part_told, part_after, after, fits, is_going, is_last, is_other_crc, record_fault, record_of, unless}
+use Rattle.pldm_device.specs.Fetches.{Fetching, taken, part_taken, part_after, after_taking, has_room_for, is_going, is_last, is_other_crc, record_fault, fetched_record, unless_fault}
 use Rattle.pldm_device.proofs.DoneIsTheRecord.{going_recorded}
 use Rattle.pldm_device.specs.FetchLaws.{fetched, IsWhole, IsAsked, part_answer, HasPart, ArePartsUpto, PartsGiveTheRecord}
 use Rattle.pldm_device.specs.Records.{part_bytes, offset_after, is_last_part, flag_of_part, part_flag, part_of, checksum_with, next_data_transfer_handle, handle_of, data_length_of}
@@ -36,7 +36,7 @@ within_record pdr start count within = rw (length-take (min count MOST_PART_BYTE
 abbrev held_upto : ℕ → List ℕ → ℕ → Fetching
 held_upto asked pdr offset = record { asked = asked; bytes = take offset pdr; offset = offset; stage = Going }
 
-it_fits : (pdr : List ℕ) (start count : ℕ) → IsWhole pdr → start < length pdr → 0 < count → fits (take start pdr) (part_of pdr start count) ≡ true
+it_fits : (pdr : List ℕ) (start count : ℕ) → IsWhole pdr → start < length pdr → 0 < count → has_room_for (take start pdr) (part_of pdr start count) ≡ true
 it_fits pdr start count whole within some =
     let here : 0 < length (part_bytes pdr start count) = some_bytes pdr start count within some in
     let small : length (take start pdr) + length (part_bytes pdr start count) ≤ MOST_RECORD_BYTES =
@@ -66,14 +66,14 @@ choose_else false x y e = refl
 choose_else true x y e = cc
 
 -- with a part that more follow, a fetch goes on
-told_more : (asked next start count : ℕ) (pdr : List ℕ) → IsWhole pdr → start < length pdr → 0 < count → is_last_part pdr start count ≡ false → part_told (held_upto asked pdr start) next (part_of pdr start count) ≡ Ok More
-told_more asked next start count pdr whole within some more =
+taken_more : (asked next start count : ℕ) (pdr : List ℕ) → IsWhole pdr → start < length pdr → 0 < count → is_last_part pdr start count ≡ false → part_taken (held_upto asked pdr start) next (part_of pdr start count) ≡ Ok More
+taken_more asked next start count pdr whole within some more =
     let goes : is_last (part_flag pdr start count) ≡ false = ap (λ last. is_last (flag_of_part (start == 0) last)) more ∙ flag_goes_on (start == 0) in
-    choose_middle (fits (take start pdr) (part_of pdr start count)) (is_last (part_flag pdr start count)) _ _ _ (it_fits pdr start count whole within some) goes
+    choose_middle (has_room_for (take start pdr) (part_of pdr start count)) (is_last (part_flag pdr start count)) _ _ _ (it_fits pdr start count whole within some) goes
 
-after_more : (asked next start count : ℕ) (pdr : List ℕ) → IsWhole pdr → start < length pdr → 0 < count → is_last_part pdr start count ≡ false → after (held_upto asked pdr start) (part_answer next pdr start count) ≡ held_upto asked pdr (offset_after pdr start count)
+after_more : (asked next start count : ℕ) (pdr : List ℕ) → IsWhole pdr → start < length pdr → 0 < count → is_last_part pdr start count ≡ false → after_taking (held_upto asked pdr start) (part_answer next pdr start count) ≡ held_upto asked pdr (offset_after pdr start count)
 after_more asked next start count pdr whole within some more =
-    ap (part_after (held_upto asked pdr start) (next_data_transfer_handle pdr start count) (part_of pdr start count)) (told_more asked next start count pdr whole within some more)
+    ap (part_after (held_upto asked pdr start) (next_data_transfer_handle pdr start count) (part_of pdr start count)) (taken_more asked next start count pdr whole within some more)
     ∙ ap (λ (b : List ℕ). with_bytes b (next_data_transfer_handle pdr start count)) (upto pdr start count)
     ∙ ap (with_bytes (take (offset_after pdr start count) pdr)) (choose_else (is_last_part pdr start count) 0 (offset_after pdr start count) more) where
       with_bytes : List ℕ → ℕ → Fetching
@@ -84,8 +84,8 @@ fetched_upto : (asked next : ℕ) (pdr : List ℕ) → IsWhole pdr → (offset :
 fetched_upto asked next pdr whole offset [] none below = ap (held_upto asked pdr) (sym none)
 fetched_upto asked next pdr whole offset (answer ∷ before) (start, within, (count, some, is, ends), parts) below =
     let more : is_last_part pdr start count ≡ false = not_last (offset_after pdr start count) (length pdr) (subst (λ o. o < length pdr) (sym ends) below) in
-    ap (λ f. after f answer) (fetched_upto asked next pdr whole start before parts within)
-    ∙ ap (after (held_upto asked pdr start)) is
+    ap (λ f. after_taking f answer) (fetched_upto asked next pdr whole start before parts within)
+    ∙ ap (after_taking (held_upto asked pdr start)) is
     ∙ after_more asked next start count pdr whole within some more
     ∙ ap (held_upto asked pdr) ends where
       not_last : (o n : ℕ) → o < n → nat_le n o ≡ false
@@ -120,18 +120,18 @@ own_checksum false pdr = refl
 all_of : (pdr : List ℕ) (offset count : ℕ) → is_last_part pdr offset count ≡ true → take offset pdr ++ part_bytes pdr offset count ≡ pdr
 all_of pdr offset count last = upto pdr offset count ∙ take_all (offset_after pdr offset count) pdr (leb-true _ _ last)
 
-told_done : (asked next offset count : ℕ) (pdr : List ℕ) → IsWhole pdr → IsAsked asked pdr → offset < length pdr → 0 < count → is_last_part pdr offset count ≡ true → part_told (held_upto asked pdr offset) next (part_of pdr offset count) ≡ Ok (Done next)
-told_done asked next offset count pdr whole is within some last =
+taken_done : (asked next offset count : ℕ) (pdr : List ℕ) → IsWhole pdr → IsAsked asked pdr → offset < length pdr → 0 < count → is_last_part pdr offset count ≡ true → part_taken (held_upto asked pdr offset) next (part_of pdr offset count) ≡ Ok (Done next)
+taken_done asked next offset count pdr whole is within some last =
     let flag : is_last (part_flag pdr offset count) ≡ true = ap (λ l. is_last (flag_of_part (offset == 0) l)) last ∙ flag_ends (offset == 0) in
     let sum = checksum_with (part_flag pdr offset count) pdr in
     let none : record_fault asked (take offset pdr ++ part_bytes pdr offset count) sum ≡ None =
     ap (λ b. record_fault asked b sum) (all_of pdr offset count last) ∙ whole_record asked pdr sum whole is (own_checksum (is_end (part_flag pdr offset count)) pdr) in
-    choose_first (fits (take offset pdr) (part_of pdr offset count)) (is_last (part_flag pdr offset count)) _ _ _ (it_fits pdr offset count whole within some) flag
-    ∙ ap (λ fault. unless fault (Done next)) none
+    choose_first (has_room_for (take offset pdr) (part_of pdr offset count)) (is_last (part_flag pdr offset count)) _ _ _ (it_fits pdr offset count whole within some) flag
+    ∙ ap (λ fault. unless_fault fault (Done next)) none
 
-told_by : (asked next offset count : ℕ) (pdr : List ℕ) (last : Bool) → IsWhole pdr → IsAsked asked pdr → offset < length pdr → 0 < count → is_last_part pdr offset count ≡ last → part_told (held_upto asked pdr offset) next (part_of pdr offset count) ≡ (if last then Ok (Done next) else Ok More)
-told_by asked next offset count pdr true whole is within some last = told_done asked next offset count pdr whole is within some last
-told_by asked next offset count pdr false whole is within some last = told_more asked next offset count pdr whole within some last
+taken_by : (asked next offset count : ℕ) (pdr : List ℕ) (last : Bool) → IsWhole pdr → IsAsked asked pdr → offset < length pdr → 0 < count → is_last_part pdr offset count ≡ last → part_taken (held_upto asked pdr offset) next (part_of pdr offset count) ≡ (if last then Ok (Done next) else Ok More)
+taken_by asked next offset count pdr true whole is within some last = taken_done asked next offset count pdr whole is within some last
+taken_by asked next offset count pdr false whole is within some last = taken_more asked next offset count pdr whole within some last
 
 pub parts_give_the_record : PartsGiveTheRecord
 parts_give_the_record asked next offset count pdr before whole is parts below some =
@@ -139,9 +139,9 @@ parts_give_the_record asked next offset count pdr before whole is parts below so
     let answer = part_answer next pdr offset count in (
       ap (λ (f : Fetching). f.offset) same,
       ap (λ (f : Fetching). is_going f.stage) same,
-      ap (λ (f : Fetching). told f answer) same ∙ told_by asked next offset count pdr (is_last_part pdr offset count) whole is below some refl,
-      λ last. ap (λ (f : Fetching). record_of (after f answer)) same
-          ∙ going_recorded (held_upto asked pdr offset) next answer (told_done asked next offset count pdr whole is below some last)
+      ap (λ (f : Fetching). taken f answer) same ∙ taken_by asked next offset count pdr (is_last_part pdr offset count) whole is below some refl,
+      λ last. ap (λ (f : Fetching). fetched_record (after_taking f answer)) same
+          ∙ going_recorded (held_upto asked pdr offset) next answer (taken_done asked next offset count pdr whole is below some last)
           ∙ ap Some (all_of pdr offset count last),
     )
 

@@ -20,16 +20,16 @@ versions_of pldm_type device =
     else if pldm_type == PLATFORM then Some device.platform_versions
     else None
 
-abbrev pub versions_told : Option (List ℕ) → Answer
-versions_told None = Refused INVALID_PLDM_TYPE
-versions_told (Some versions) = GetPldmVersion 0 versions
+abbrev pub versions_answered : Option (List ℕ) → Answer
+versions_answered None = Refused INVALID_PLDM_TYPE
+versions_answered (Some versions) = GetPldmVersion 0 versions
 
 -- all versions stand in the first part
 abbrev pub version_answer : ℕ → ℕ → Device → Answer
 version_answer transfer_operation_flag pldm_type device =
     if nat_lt GET_FIRST_PART transfer_operation_flag then Refused INVALID_TRANSFER_OPERATION
     else if transfer_operation_flag == GET_NEXT_PART then Refused INVALID_DATA_TRANSFER_HANDLE
-    else versions_told (versions_of pldm_type device)
+    else versions_answered (versions_of pldm_type device)
 
 -- the byte at a place of a list of bits: number n is bit n mod 8 of byte n / 8
 abbrev pub byte_of_bits : List ℕ → ℕ → ℕ

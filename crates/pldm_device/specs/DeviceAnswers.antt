@@ -7,24 +7,24 @@ use Rattle.pldm_device.specs.ById.{with_id}
 use Rattle.pldm_device.specs.Changes.{changed_or}
 use Rattle.pldm_device.specs.Devices.{Device}
 use Rattle.pldm_device.specs.BaseAnswers.{tid_set, version_answer, types, commands_answer}
-use Rattle.pldm_device.specs.SensorAnswers.{numeric_sensor_told, state_sensor_told}
-use Rattle.pldm_device.specs.EffecterAnswers.{number_set, states_set, outcome_told, numeric_effecter_told, state_effecter_told}
+use Rattle.pldm_device.specs.SensorAnswers.{numeric_sensor_answered, state_sensor_answered}
+use Rattle.pldm_device.specs.EffecterAnswers.{number_set, states_set, outcome_answered, numeric_effecter_answered, state_effecter_answered}
 use Rattle.pldm_device.specs.RecordAnswers.{record_answer, repository_info}
 
 abbrev pub answer : Device → Command → Answer
-answer device (SetTid tid) = outcome_told answers.SetTid (tid_set tid device)
+answer device (SetTid tid) = outcome_answered answers.SetTid (tid_set tid device)
 answer device GetTid = answers.GetTid device.tid
 answer device (GetPldmVersion data_transfer_handle transfer_operation_flag pldm_type) = version_answer transfer_operation_flag pldm_type device
 answer device GetPldmTypes = answers.GetPldmTypes types
 answer device (GetPldmCommands pldm_type version) = commands_answer pldm_type
-answer device (GetSensorReading sensor rearm) = numeric_sensor_told (with_id sensor device.numeric_sensors)
-answer device (GetStateSensorReadings sensor rearm) = state_sensor_told (with_id sensor device.state_sensors)
+answer device (GetSensorReading sensor rearm) = numeric_sensor_answered (with_id sensor device.numeric_sensors)
+answer device (GetStateSensorReadings sensor rearm) = state_sensor_answered (with_id sensor device.state_sensors)
 answer device (SetNumericEffecterValue effecter value) =
-    outcome_told answers.SetNumericEffecterValue (number_set effecter value device)
-answer device (GetNumericEffecterValue effecter) = numeric_effecter_told (with_id effecter device.numeric_effecters)
+    outcome_answered answers.SetNumericEffecterValue (number_set effecter value device)
+answer device (GetNumericEffecterValue effecter) = numeric_effecter_answered (with_id effecter device.numeric_effecters)
 answer device (SetStateEffecterStates effecter fields) =
-    outcome_told answers.SetStateEffecterStates (states_set effecter fields device)
-answer device (GetStateEffecterStates effecter) = state_effecter_told (with_id effecter device.state_effecters)
+    outcome_answered answers.SetStateEffecterStates (states_set effecter fields device)
+answer device (GetStateEffecterStates effecter) = state_effecter_answered (with_id effecter device.state_effecters)
 answer device GetPdrRepositoryInfo = repository_info device
 answer device (GetPdr record_handle data_transfer_handle transfer_operation_flag request_count record_change_number) =
     record_answer record_handle data_transfer_handle transfer_operation_flag request_count device.records

@@ -13,11 +13,11 @@ use Rattle.pldm_wire.specs.declared.limits.TheConstants.{GET_FIRST_PART, GET_NEX
 use Rattle.pldm_device.specs.ById.{with_id}
 use Rattle.pldm_device.specs.Changes.{changed_or}
 use Rattle.pldm_device.specs.Devices.{Device}
-use Rattle.pldm_device.specs.BaseAnswers.{tid_set, versions_told, versions_of, base_commands, platform_commands}
-use Rattle.pldm_device.specs.SensorAnswers.{numeric_sensor_told, state_sensor_told}
-use Rattle.pldm_device.specs.EffecterAnswers.{number_set, states_set, outcome_told, numeric_effecter_told, state_effecter_told}
+use Rattle.pldm_device.specs.BaseAnswers.{tid_set, versions_answered, versions_of, base_commands, platform_commands}
+use Rattle.pldm_device.specs.SensorAnswers.{numeric_sensor_answered, state_sensor_answered}
+use Rattle.pldm_device.specs.EffecterAnswers.{number_set, states_set, outcome_answered, numeric_effecter_answered, state_effecter_answered}
 use Rattle.pldm_device.specs.Records.{handle_at, position_asked}
-use Rattle.pldm_device.specs.RecordAnswers.{offset_asked, part_told, record_told, record_at}
+use Rattle.pldm_device.specs.RecordAnswers.{offset_asked, part_answered, record_answered, record_answer_at}
 use Rattle.pldm_device.specs.DeviceAnswers.{answer, after}
 
 pub reads_only : (device : Device) (command : Command) → sets command ≡ false → after device command ≡ device
@@ -37,15 +37,15 @@ reads_only device (GetPdr record_handle data_transfer_handle transfer_operation_
 
 -- an outcome that is told as a refusal left the device as it was
 
-set_tid_refused : (device : Device) (outcome : Result Device ℕ) (code : ℕ) → outcome_told answers.SetTid outcome ≡ answers.Refused code → changed_or device outcome ≡ device
+set_tid_refused : (device : Device) (outcome : Result Device ℕ) (code : ℕ) → outcome_answered answers.SetTid outcome ≡ answers.Refused code → changed_or device outcome ≡ device
 set_tid_refused device (Ok changed) code e = cc
 set_tid_refused device (Err refusal) code e = refl
 
-set_number_refused : (device : Device) (outcome : Result Device ℕ) (code : ℕ) → outcome_told answers.SetNumericEffecterValue outcome ≡ answers.Refused code → changed_or device outcome ≡ device
+set_number_refused : (device : Device) (outcome : Result Device ℕ) (code : ℕ) → outcome_answered answers.SetNumericEffecterValue outcome ≡ answers.Refused code → changed_or device outcome ≡ device
 set_number_refused device (Ok changed) code e = cc
 set_number_refused device (Err refusal) code e = refl
 
-set_states_refused : (device : Device) (outcome : Result Device ℕ) (code : ℕ) → outcome_told answers.SetStateEffecterStates outcome ≡ answers.Refused code → changed_or device outcome ≡ device
+set_states_refused : (device : Device) (outcome : Result Device ℕ) (code : ℕ) → outcome_answered answers.SetStateEffecterStates outcome ≡ answers.Refused code → changed_or device outcome ≡ device
 set_states_refused device (Ok changed) code e = cc
 set_states_refused device (Err refusal) code e = refl
 
@@ -64,15 +64,15 @@ refusal_changes_nothing device (GetStateEffecterStates effecter) code refused = 
 refusal_changes_nothing device GetPdrRepositoryInfo code refused = refl
 refusal_changes_nothing device (GetPdr record_handle data_transfer_handle transfer_operation_flag request_count record_change_number) code refused = refl
 
-told_to : (kind : TypeAndCommand) (done : Answer) (outcome : Result Device ℕ) → IsAnswerTo kind done → IsAnswerTo kind (outcome_told done outcome)
+told_to : (kind : TypeAndCommand) (done : Answer) (outcome : Result Device ℕ) → IsAnswerTo kind done → IsAnswerTo kind (outcome_answered done outcome)
 told_to kind done (Ok changed) h = h
 told_to kind done (Err refusal) h = tt
 
-versions_to : (data_transfer_handle transfer_operation_flag pldm_type : ℕ) (versions : Option (List ℕ)) → IsAnswerTo (kind_of (GetPldmVersion data_transfer_handle transfer_operation_flag pldm_type)) (versions_told versions)
+versions_to : (data_transfer_handle transfer_operation_flag pldm_type : ℕ) (versions : Option (List ℕ)) → IsAnswerTo (kind_of (GetPldmVersion data_transfer_handle transfer_operation_flag pldm_type)) (versions_answered versions)
 versions_to data_transfer_handle transfer_operation_flag pldm_type None = tt
 versions_to data_transfer_handle transfer_operation_flag pldm_type (Some versions) = refl
 
-version_to : (data_transfer_handle transfer_operation_flag pldm_type : ℕ) (device : Device) (none first : Bool) → IsAnswerTo (kind_of (GetPldmVersion data_transfer_handle transfer_operation_flag pldm_type)) (if none then answers.Refused INVALID_TRANSFER_OPERATION else if first then answers.Refused INVALID_DATA_TRANSFER_HANDLE else versions_told (versions_of pldm_type device))
+version_to : (data_transfer_handle transfer_operation_flag pldm_type : ℕ) (device : Device) (none first : Bool) → IsAnswerTo (kind_of (GetPldmVersion data_transfer_handle transfer_operation_flag pldm_type)) (if none then answers.Refused INVALID_TRANSFER_OPERATION else if first then answers.Refused INVALID_DATA_TRANSFER_HANDLE else versions_answered (versions_of pldm_type device))
 version_to data_transfer_handle transfer_operation_flag pldm_type device true first = tt
 version_to data_transfer_handle transfer_operation_flag pldm_type device false true = tt
 version_to data_transfer_handle transfer_operation_flag pldm_type device false false = versions_to data_transfer_handle transfer_operation_flag pldm_type (versions_of pldm_type device)
@@ -82,19 +82,19 @@ commands_to pldm_type version true platform = refl
 commands_to pldm_type version false true = refl
 commands_to pldm_type version false false = tt
 
-part_to : (record_handle data_transfer_handle transfer_operation_flag request_count record_change_number next_record_handle : ℕ) (pdr : List ℕ) (offset : Option ℕ) → IsAnswerTo (kind_of (GetPdr record_handle data_transfer_handle transfer_operation_flag request_count record_change_number)) (part_told next_record_handle request_count pdr offset)
+part_to : (record_handle data_transfer_handle transfer_operation_flag request_count record_change_number next_record_handle : ℕ) (pdr : List ℕ) (offset : Option ℕ) → IsAnswerTo (kind_of (GetPdr record_handle data_transfer_handle transfer_operation_flag request_count record_change_number)) (part_answered next_record_handle request_count pdr offset)
 part_to record_handle data_transfer_handle transfer_operation_flag request_count record_change_number next_record_handle pdr None = tt
 part_to record_handle data_transfer_handle transfer_operation_flag request_count record_change_number next_record_handle pdr (Some offset) = refl
 
-told_part_to : (record_handle data_transfer_handle transfer_operation_flag request_count record_change_number next_record_handle : ℕ) (pdr : Option (List ℕ)) → IsAnswerTo (kind_of (GetPdr record_handle data_transfer_handle transfer_operation_flag request_count record_change_number)) (record_told next_record_handle data_transfer_handle transfer_operation_flag request_count pdr)
+told_part_to : (record_handle data_transfer_handle transfer_operation_flag request_count record_change_number next_record_handle : ℕ) (pdr : Option (List ℕ)) → IsAnswerTo (kind_of (GetPdr record_handle data_transfer_handle transfer_operation_flag request_count record_change_number)) (record_answered next_record_handle data_transfer_handle transfer_operation_flag request_count pdr)
 told_part_to record_handle data_transfer_handle transfer_operation_flag request_count record_change_number next_record_handle None = tt
 told_part_to record_handle data_transfer_handle transfer_operation_flag request_count record_change_number next_record_handle (Some pdr) = part_to record_handle data_transfer_handle transfer_operation_flag request_count record_change_number next_record_handle pdr (offset_asked transfer_operation_flag data_transfer_handle pdr)
 
-place_to : (record_handle data_transfer_handle transfer_operation_flag request_count record_change_number : ℕ) (records : List (List ℕ)) (place : Option ℕ) → IsAnswerTo (kind_of (GetPdr record_handle data_transfer_handle transfer_operation_flag request_count record_change_number)) (record_at data_transfer_handle transfer_operation_flag request_count records place)
+place_to : (record_handle data_transfer_handle transfer_operation_flag request_count record_change_number : ℕ) (records : List (List ℕ)) (place : Option ℕ) → IsAnswerTo (kind_of (GetPdr record_handle data_transfer_handle transfer_operation_flag request_count record_change_number)) (record_answer_at data_transfer_handle transfer_operation_flag request_count records place)
 place_to record_handle data_transfer_handle transfer_operation_flag request_count record_change_number records None = tt
 place_to record_handle data_transfer_handle transfer_operation_flag request_count record_change_number records (Some place) = told_part_to record_handle data_transfer_handle transfer_operation_flag request_count record_change_number (handle_at (place + 1) records) (slice_get records place)
 
-record_to : (record_handle data_transfer_handle transfer_operation_flag request_count record_change_number : ℕ) (records : List (List ℕ)) (nothing other : Bool) → IsAnswerTo (kind_of (GetPdr record_handle data_transfer_handle transfer_operation_flag request_count record_change_number)) (if nothing then answers.Refused ERROR_INVALID_DATA else if other then answers.Refused INVALID_TRANSFER_OPERATION else record_at data_transfer_handle transfer_operation_flag request_count records (position_asked record_handle records))
+record_to : (record_handle data_transfer_handle transfer_operation_flag request_count record_change_number : ℕ) (records : List (List ℕ)) (nothing other : Bool) → IsAnswerTo (kind_of (GetPdr record_handle data_transfer_handle transfer_operation_flag request_count record_change_number)) (if nothing then answers.Refused ERROR_INVALID_DATA else if other then answers.Refused INVALID_TRANSFER_OPERATION else record_answer_at data_transfer_handle transfer_operation_flag request_count records (position_asked record_handle records))
 record_to record_handle data_transfer_handle transfer_operation_flag request_count record_change_number records true other = tt
 record_to record_handle data_transfer_handle transfer_operation_flag request_count record_change_number records false true = tt
 record_to record_handle data_transfer_handle transfer_operation_flag request_count record_change_number records false false = place_to record_handle data_transfer_handle transfer_operation_flag request_count record_change_number records (position_asked record_handle records)
@@ -106,12 +106,12 @@ answers_the_command device (GetPldmVersion data_transfer_handle transfer_operati
     version_to data_transfer_handle transfer_operation_flag pldm_type device (nat_lt GET_FIRST_PART transfer_operation_flag) (transfer_operation_flag == GET_NEXT_PART)
 answers_the_command device GetPldmTypes = refl
 answers_the_command device (GetPldmCommands pldm_type version) = commands_to pldm_type version (pldm_type == BASE) (pldm_type == PLATFORM)
-answers_the_command device (GetSensorReading sensor rearm) = elim (with_id sensor device.numeric_sensors) as (λ found. IsAnswerTo (kind_of (GetSensorReading sensor rearm)) (numeric_sensor_told found)) [ None ↦ tt | Some x ↦ refl ]
-answers_the_command device (GetStateSensorReadings sensor rearm) = elim (with_id sensor device.state_sensors) as (λ found. IsAnswerTo (kind_of (GetStateSensorReadings sensor rearm)) (state_sensor_told found)) [ None ↦ tt | Some x ↦ refl ]
+answers_the_command device (GetSensorReading sensor rearm) = elim (with_id sensor device.numeric_sensors) as (λ found. IsAnswerTo (kind_of (GetSensorReading sensor rearm)) (numeric_sensor_answered found)) [ None ↦ tt | Some x ↦ refl ]
+answers_the_command device (GetStateSensorReadings sensor rearm) = elim (with_id sensor device.state_sensors) as (λ found. IsAnswerTo (kind_of (GetStateSensorReadings sensor rearm)) (state_sensor_answered found)) [ None ↦ tt | Some x ↦ refl ]
 answers_the_command device (SetNumericEffecterValue effecter value) = told_to _ _ (number_set effecter value device) refl
-answers_the_command device (GetNumericEffecterValue effecter) = elim (with_id effecter device.numeric_effecters) as (λ found. IsAnswerTo (kind_of (GetNumericEffecterValue effecter)) (numeric_effecter_told found)) [ None ↦ tt | Some x ↦ refl ]
+answers_the_command device (GetNumericEffecterValue effecter) = elim (with_id effecter device.numeric_effecters) as (λ found. IsAnswerTo (kind_of (GetNumericEffecterValue effecter)) (numeric_effecter_answered found)) [ None ↦ tt | Some x ↦ refl ]
 answers_the_command device (SetStateEffecterStates effecter fields) = told_to _ _ (states_set effecter fields device) refl
-answers_the_command device (GetStateEffecterStates effecter) = elim (with_id effecter device.state_effecters) as (λ found. IsAnswerTo (kind_of (GetStateEffecterStates effecter)) (state_effecter_told found)) [ None ↦ tt | Some x ↦ refl ]
+answers_the_command device (GetStateEffecterStates effecter) = elim (with_id effecter device.state_effecters) as (λ found. IsAnswerTo (kind_of (GetStateEffecterStates effecter)) (state_effecter_answered found)) [ None ↦ tt | Some x ↦ refl ]
 answers_the_command device GetPdrRepositoryInfo = refl
 answers_the_command device (GetPdr record_handle data_transfer_handle transfer_operation_flag request_count record_change_number) =
     record_to record_handle data_transfer_handle transfer_operation_flag request_count record_change_number device.records (request_count == 0) (nat_lt GET_FIRST_PART transfer_operation_flag)

@@ -77,14 +77,14 @@ states_set id fields device =
     (change_at INVALID_EFFECTER_ID (set_states fields) id device.state_effecters)
 
 -- the answer to a command that sets: the refusal, or that it was done
-abbrev pub outcome_told : {A : Type 0} → Answer → Result A ℕ → Answer
-outcome_told done (Ok changed) = done
-outcome_told done (Err code) = Refused code
+abbrev pub outcome_answered : {A : Type 0} → Answer → Result A ℕ → Answer
+outcome_answered done (Ok changed) = done
+outcome_answered done (Err code) = Refused code
 
-abbrev pub numeric_effecter_told : Option NumericEffecter → Answer
-numeric_effecter_told None = Refused INVALID_EFFECTER_ID
-numeric_effecter_told (Some effecter) = GetNumericEffecterValue EFFECTER_ENABLED (two_numbers effecter.value effecter.value)
+abbrev pub numeric_effecter_answered : Option NumericEffecter → Answer
+numeric_effecter_answered None = Refused INVALID_EFFECTER_ID
+numeric_effecter_answered (Some effecter) = GetNumericEffecterValue EFFECTER_ENABLED (two_numbers effecter.value effecter.value)
 
-abbrev pub state_effecter_told : Option FieldsOfStates → Answer
-state_effecter_told None = Refused INVALID_EFFECTER_ID
-state_effecter_told (Some effecter) = GetStateEffecterStates (map effecter_field effecter.states)
+abbrev pub state_effecter_answered : Option FieldsOfStates → Answer
+state_effecter_answered None = Refused INVALID_EFFECTER_ID
+state_effecter_answered (Some effecter) = GetStateEffecterStates (map effecter_field effecter.states)

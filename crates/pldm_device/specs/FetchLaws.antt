@@ -3,7 +3,7 @@ use Rattle.std.specs.Prelude.{◌≡◌, ◌⊎◌, ℕ, ◌<◌, ◌≤◌, ◌
 use Rattle.pldm_wire.specs.Crc.{crc}
 use Rattle.pldm_wire.specs.declared.answer.Answer.{Answer}
 use Rattle.pldm_wire.specs.declared.answer.Answer.TheVariants.{GetPdr}
-use Rattle.pldm_device.specs.Fetches.{Fetching, begun, told, after, record_of, is_last, is_going}
+use Rattle.pldm_device.specs.Fetches.{Fetching, begun, taken, after_taking, fetched_record, is_last, is_going}
 use Rattle.pldm_device.specs.Records.{handle_of, data_length_of, part_of, offset_after, is_last_part, next_data_transfer_handle}
 use Rattle.pldm_device.specs.declared.fetch.FetchState.TheVariants.{More, Done}
 use Rattle.pldm_device.specs.declared.limits.TheConstants.{FIRST_RECORD, MOST_RECORD_BYTES, RECORD_HEADER}
@@ -11,16 +11,16 @@ use Rattle.pldm_device.specs.declared.limits.TheConstants.{FIRST_RECORD, MOST_RE
 -- what a fetch of the record with this handle holds after these answers
 abbrev pub fetched : ℕ → List Answer → Fetching
 fetched asked [] = begun asked
-fetched asked (answer ∷ before) = after (fetched asked before) answer
+fetched asked (answer ∷ before) = after_taking (fetched asked before) answer
 
 abbrev pub bytes_of : Answer → List ℕ
 bytes_of (GetPdr next_record_handle next_data_transfer_handle part) = part.bytes
 bytes_of _ = []
 
 -- the bytes of the parts among these answers, in the order in which they came
-abbrev pub joined : List Answer → List ℕ
-joined [] = []
-joined (answer ∷ before) = joined before ++ bytes_of answer
+abbrev pub joined_parts : List Answer → List ℕ
+joined_parts [] = []
+joined_parts (answer ∷ before) = joined_parts before ++ bytes_of answer
 
 -- a record counts the bytes after its header, and is not too long
 pub record IsWhole (pdr : List ℕ) : Type 0 where
@@ -42,10 +42,10 @@ EndsRecord next pdr _ = ⊥
 -- where a fetch is done, the parts joined are a whole record, the one that was asked for, with its checksum
 abbrev pub DoneIsTheRecord : Type 0
 DoneIsTheRecord =
-    (asked next : ℕ) (before : List Answer) (answer : Answer) → told (fetched asked before) answer ≡ Ok (Done next)
-    → IsWhole (joined (answer ∷ before)) × IsAsked asked (joined (answer ∷ before))
-    × EndsRecord next (joined (answer ∷ before)) answer
-    × (record_of (fetched asked (answer ∷ before)) ≡ Some (joined (answer ∷ before)))
+    (asked next : ℕ) (before : List Answer) (answer : Answer) → taken (fetched asked before) answer ≡ Ok (Done next)
+    → IsWhole (joined_parts (answer ∷ before)) × IsAsked asked (joined_parts (answer ∷ before))
+    × EndsRecord next (joined_parts (answer ∷ before)) answer
+    × (fetched_record (fetched asked (answer ∷ before)) ≡ Some (joined_parts (answer ∷ before)))
 
 -- the answer with the part of the record from an offset on, for a request of so many bytes
 abbrev pub part_answer : ℕ → List ℕ → ℕ → ℕ → Answer
@@ -69,5 +69,5 @@ PartsGiveTheRecord =
     (asked next offset count : ℕ) (pdr : List ℕ) (before : List Answer)
     → IsWhole pdr → IsAsked asked pdr → ArePartsUpto next pdr offset before → offset < length pdr → 0 < count
     → ((fetched asked before).offset ≡ offset) × (is_going (fetched asked before).stage ≡ true)
-    × (told (fetched asked before) (part_answer next pdr offset count) ≡ (if is_last_part pdr offset count then Ok (Done next) else Ok More))
-    × (is_last_part pdr offset count ≡ true → record_of (fetched asked (part_answer next pdr offset count ∷ before)) ≡ Some pdr)
+    × (taken (fetched asked before) (part_answer next pdr offset count) ≡ (if is_last_part pdr offset count then Ok (Done next) else Ok More))
+    × (is_last_part pdr offset count ≡ true → fetched_record (fetched asked (part_answer next pdr offset count ∷ before)) ≡ Some pdr)

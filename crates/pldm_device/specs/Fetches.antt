@@ -82,34 +82,34 @@ record_fault asked pdr checksum =
     else None
 
 -- a part may be added: it isn't empty, and the record doesn't grow too long
-abbrev pub fits : List ℕ → Part → Bool
-fits bytes part = nat_lt 0 (length part.bytes) && not (nat_lt MOST_RECORD_BYTES (length bytes + length part.bytes))
+abbrev pub has_room_for : List ℕ → Part → Bool
+has_room_for bytes part = nat_lt 0 (length part.bytes) && not (nat_lt MOST_RECORD_BYTES (length bytes + length part.bytes))
 
-abbrev pub unless : Option FetchFault → FetchState → Result FetchState FetchFault
-unless None state = Ok state
-unless (Some fault) state = Err fault
+abbrev pub unless_fault : Option FetchFault → FetchState → Result FetchState FetchFault
+unless_fault None state = Ok state
+unless_fault (Some fault) state = Err fault
 
 -- what a part gives a fetch that goes on
-abbrev pub part_told : Fetching → ℕ → Part → Result FetchState FetchFault
-part_told f next_record_handle part =
-    if fits f.bytes part
-    then (if is_last part.flag then unless (record_fault f.asked (f.bytes ++ part.bytes) part.transfer_crc) (Done next_record_handle) else Ok More)
+abbrev pub part_taken : Fetching → ℕ → Part → Result FetchState FetchFault
+part_taken f next_record_handle part =
+    if has_room_for f.bytes part
+    then (if is_last part.flag then unless_fault (record_fault f.asked (f.bytes ++ part.bytes) part.transfer_crc) (Done next_record_handle) else Ok More)
     else Err faults.Count
 
 -- what an answer gives a fetch that goes on
-abbrev pub going_told : Fetching → Answer → Result FetchState FetchFault
-going_told f (Refused code) = Err (faults.Refused code)
-going_told f (GetPdr next_record_handle next_data_transfer_handle part) = part_told f next_record_handle part
-going_told f _ = Err faults.Unexpected
+abbrev pub taken_while_going : Fetching → Answer → Result FetchState FetchFault
+taken_while_going f (Refused code) = Err (faults.Refused code)
+taken_while_going f (GetPdr next_record_handle next_data_transfer_handle part) = part_taken f next_record_handle part
+taken_while_going f _ = Err faults.Unexpected
 
-abbrev pub told_at : Stage → Fetching → Answer → Result FetchState FetchFault
-told_at Going f answer = going_told f answer
-told_at Finished f answer = Err faults.Unexpected
-told_at (Failed fault) f answer = Err fault
+abbrev pub taken_at : Stage → Fetching → Answer → Result FetchState FetchFault
+taken_at Going f answer = taken_while_going f answer
+taken_at Finished f answer = Err faults.Unexpected
+taken_at (Failed fault) f answer = Err fault
 
 -- what an answer gives
-abbrev pub told : Fetching → Answer → Result FetchState FetchFault
-told f answer = told_at f.stage f answer
+abbrev pub taken : Fetching → Answer → Result FetchState FetchFault
+taken f answer = taken_at f.stage f answer
 
 -- a fetch with this part added, the next one beginning at an offset
 abbrev pub with_part : Fetching → ℕ → Part → Stage → Fetching
@@ -130,26 +130,26 @@ part_after f next_data_transfer_handle part (Err fault) = failed fault f
 abbrev pub going_after : Fetching → Answer → Fetching
 going_after f (Refused code) = failed (faults.Refused code) f
 going_after f (GetPdr next_record_handle next_data_transfer_handle part) =
-    part_after f next_data_transfer_handle part (part_told f next_record_handle part)
+    part_after f next_data_transfer_handle part (part_taken f next_record_handle part)
 going_after f _ = f
 
 -- what a fetch holds after an answer: one that has ended, and one that was given no answer to GetPDR, stay as they are
-abbrev pub after : Fetching → Answer → Fetching
-after f answer = if is_going f.stage then going_after f answer else f
+abbrev pub after_taking : Fetching → Answer → Fetching
+after_taking f answer = if is_going f.stage then going_after f answer else f
 
 -- an answer that adds a part: it alone wants memory
 abbrev pub adds : Fetching → Answer → Bool
-adds f (GetPdr next_record_handle next_data_transfer_handle part) = is_going f.stage && fits f.bytes part
+adds f (GetPdr next_record_handle next_data_transfer_handle part) = is_going f.stage && has_room_for f.bytes part
 adds f _ = false
 
-abbrev pub record_at : Stage → List ℕ → Option (List ℕ)
-record_at Going bytes = None
-record_at Finished bytes = Some bytes
-record_at (Failed fault) bytes = None
+abbrev pub record_at_stage : Stage → List ℕ → Option (List ℕ)
+record_at_stage Going bytes = None
+record_at_stage Finished bytes = Some bytes
+record_at_stage (Failed fault) bytes = None
 
 -- the record, once it is whole
-abbrev pub record_of : Fetching → Option (List ℕ)
-record_of f = record_at f.stage f.bytes
+abbrev pub fetched_record : Fetching → Option (List ℕ)
+fetched_record f = record_at_stage f.stage f.bytes
 
 abbrev pub now_of : Bor (List ℕ) → List ℕ
 now_of slice = slice.now

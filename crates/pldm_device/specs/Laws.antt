@@ -2,11 +2,11 @@
 use Rattle.std.specs.Prelude.{◌≡◌, ℕ, ◌<◌, true, List, length}
 use Rattle.std.specs.List.{All}
 use Rattle.pldm_wire.specs.RecordParts.{Part}
-use Rattle.pldm_device.specs.Transfers.{Followed, TellPlaces, joined, parts_asked}
+use Rattle.pldm_device.specs.Transfers.{Followed, TellPlaces, joined_parts, parts_asked}
 
 -- parts that are followed from the first on join to the record
 abbrev pub PartsJoin : Type 0
-PartsJoin = (pdr : List ℕ) (parts : List Part) → Followed pdr 0 parts → joined parts ≡ pdr
+PartsJoin = (pdr : List ℕ) (parts : List Part) → Followed pdr 0 parts → joined_parts parts ≡ pdr
 
 -- and tell their places
 abbrev pub PartsTellPlaces : Type 0

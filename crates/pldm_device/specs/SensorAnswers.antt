@@ -13,14 +13,14 @@ use Rattle.pldm_device.specs.declared.numeric_sensor.NumericSensor.{NumericSenso
 use Rattle.pldm_device.specs.declared.reading_fault.ReadingFault.{ReadingFault}
 use Rattle.pldm_device.specs.declared.reading_fault.ReadingFault.TheVariants.{NoSuchSensor, OutOfSize}
 
-abbrev pub numeric_sensor_told : Option NumericSensor → Answer
-numeric_sensor_told None = Refused INVALID_SENSOR_ID
-numeric_sensor_told (Some sensor) =
+abbrev pub numeric_sensor_answered : Option NumericSensor → Answer
+numeric_sensor_answered None = Refused INVALID_SENSOR_ID
+numeric_sensor_answered (Some sensor) =
     GetSensorReading SENSOR_ENABLED NO_EVENTS sensor.present sensor.previous sensor.event sensor.reading
 
-abbrev pub state_sensor_told : Option (List SensorStateField) → Answer
-state_sensor_told None = Refused INVALID_SENSOR_ID
-state_sensor_told (Some fields) = GetStateSensorReadings fields
+abbrev pub state_sensor_answered : Option (List SensorStateField) → Answer
+state_sensor_answered None = Refused INVALID_SENSOR_ID
+state_sensor_answered (Some fields) = GetStateSensorReadings fields
 
 -- the sensor with the reading, which has to fit its size
 abbrev pub sense : ℤ → NumericSensor → Result NumericSensor ReadingFault

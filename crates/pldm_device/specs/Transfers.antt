@@ -7,10 +7,10 @@ use Rattle.pldm_device.specs.Records.{flag_of_part, is_last_part, next_data_tran
 
 -- the part from an offset on for a request of some bytes, at least one, and the next transfer handle
 -- that comes with it
-pub record IsPartFrom (pdr : List ℕ) (offset next : ℕ) (told : Part) : Type 0 where
+pub record IsPartFrom (pdr : List ℕ) (offset next : ℕ) (answered : Part) : Type 0 where
   pub count : ℕ
   pub asks : 0 < count
-  pub part_is : told ≡ part_of pdr offset count
+  pub part_is : answered ≡ part_of pdr offset count
   pub next_is : next ≡ next_data_transfer_handle pdr offset count
 
 -- parts in turn, the first from the offset on: each other one begins at the next transfer handle of
@@ -29,8 +29,8 @@ parts_asked pdr offset (count ∷ counts) =
     ∷ (if is_last_part pdr offset count then [] else parts_asked pdr (next_data_transfer_handle pdr offset count) counts)
 
 -- the bytes of the parts, one after another
-abbrev pub joined : List Part → List ℕ
-joined parts = flat_map (λ part. part.bytes) parts
+abbrev pub joined_parts : List Part → List ℕ
+joined_parts parts = flat_map (λ part. part.bytes) parts
 
 -- the flags tell which part is the first and which the last, and the record's checksum comes with the
 -- last of several alone

@@ -5,8 +5,8 @@ ghost use Rattle.pldm_device.specs.Getters.{AscendingIds, reading_of, shown, sta
 ghost use Rattle.pldm_device.specs.BaseAnswers.{base_commands, commands_answer, platform_commands, tid_set, types, version_answer};
 ghost use Rattle.pldm_device.specs.ById.{change_at, with_id};
 ghost use Rattle.pldm_device.specs.Changes.{Changes};
-ghost use Rattle.pldm_device.specs.EffecterAnswers.{number_set, numeric_effecter_told, set_number, set_states, state_effecter_told, states_set};
-ghost use Rattle.pldm_device.specs.SensorAnswers.{numeric_sensor_told, sense, sensed, state_sensor_told};
+ghost use Rattle.pldm_device.specs.EffecterAnswers.{number_set, numeric_effecter_answered, set_number, set_states, state_effecter_answered, states_set};
+ghost use Rattle.pldm_device.specs.SensorAnswers.{numeric_sensor_answered, sense, sensed, state_sensor_answered};
 
 use crate::limits::{
     EFFECTER_ENABLED, INVALID_DATA_TRANSFER_HANDLE, INVALID_EFFECTER_ID, INVALID_PLDM_TYPE,
@@ -143,7 +143,7 @@ impl SimDevice {
 
     // The answer to GetSensorReading.
     pub(crate) fn reading_answer(&self, sensor: u16) -> Answer
-        ensures { result ≡ numeric_sensor_told (with_id sensor self.now.numeric_sensors) }
+        ensures { result ≡ numeric_sensor_answered (with_id sensor self.now.numeric_sensors) }
     {
         match self.numeric_sensors.get(&sensor) {
             Some(sensor) => Answer::GetSensorReading {
@@ -160,7 +160,7 @@ impl SimDevice {
 
     // The answer to GetStateSensorReadings.
     pub(crate) fn state_sensor_answer(&self, sensor: u16) -> Answer
-        ensures { result ≡ state_sensor_told (with_id sensor self.now.state_sensors) }
+        ensures { result ≡ state_sensor_answered (with_id sensor self.now.state_sensors) }
     {
         match self.state_sensors.get(&sensor) {
             Some(fields) => Answer::GetStateSensorReadings {
@@ -172,7 +172,7 @@ impl SimDevice {
 
     // The answer to GetNumericEffecterValue.
     pub(crate) fn value_answer(&self, effecter: u16) -> Answer
-        ensures { result ≡ numeric_effecter_told (with_id effecter self.now.numeric_effecters) }
+        ensures { result ≡ numeric_effecter_answered (with_id effecter self.now.numeric_effecters) }
     {
         match self.numeric_effecters.get(&effecter) {
             Some(effecter) => Answer::GetNumericEffecterValue {
@@ -185,7 +185,7 @@ impl SimDevice {
 
     // The answer to GetStateEffecterStates.
     pub(crate) fn states_answer(&self, effecter: u16) -> Answer
-        ensures { result ≡ state_effecter_told (with_id effecter self.now.state_effecters) }
+        ensures { result ≡ state_effecter_answered (with_id effecter self.now.state_effecters) }
     {
         match self.state_effecters.get(&effecter) {
             Some(effecter) => Answer::GetStateEffecterStates {

@@ -1,7 +1,7 @@
 //! A record fetched in parts: the requester's side of a transfer (DSP0248, "GetPDR command").
 
 ghost use Rattle.std.specs.Prelude.{◌≡◌, ◌≢◌, true, Err, IfSome, option_map};
-ghost use Rattle.pldm_device.specs.Fetches.{Ends, IsSmall, adds, after, begun, failed, fits, is_last, next_request, now_of, part_after, part_told, record_fault, record_of, told};
+ghost use Rattle.pldm_device.specs.Fetches.{Ends, IsSmall, adds, after_taking, begun, failed, has_room_for, is_last, next_request, now_of, part_after, part_taken, record_fault, fetched_record, taken};
 
 use crate::FetchFault;
 use crate::limits::{CHANGE_NUMBER_END, FIRST_RECORD, MOST_RECORD_BYTES, RECORD_HEADER};
@@ -101,8 +101,8 @@ impl Fetch {
     /// `Refused`, `Count`, `Handle` and `Crc` end the fetch: each later call answers the same fault.
     /// After `Memory` and `Unexpected` the fetch is as before.
     pub fn take(&mut self, answer: &Answer) -> Result<FetchState, FetchFault>
-        ensures told { result ≢ Err FetchFault.Memory → result ≡ told self.old answer.now }
-        ensures after { result ≢ Err FetchFault.Memory → self.new ≡ after self.old answer.now }
+        ensures taken { result ≢ Err FetchFault.Memory → result ≡ taken self.old answer.now }
+        ensures after_taking { result ≢ Err FetchFault.Memory → self.new ≡ after_taking self.old answer.now }
         ensures memory { result ≡ Err FetchFault.Memory → adds self.old answer.now ≡ true }
         ensures unchanged { result ≡ Err FetchFault.Memory → self.new ≡ self.old }
         ensures small { IsSmall self.new }
@@ -131,13 +131,13 @@ impl Fetch {
         part: &RecordPart,
     ) -> Result<FetchState, FetchFault>
         requires { self.old.stage ≡ Stage.Going }
-        ensures told { result ≢ Err FetchFault.Memory → result ≡ part_told self.old next_record_handle part.now }
-        ensures after { result ≢ Err FetchFault.Memory → self.new ≡ part_after self.old next_data_transfer_handle part.now (part_told self.old next_record_handle part.now) }
-        ensures memory { result ≡ Err FetchFault.Memory → fits self.old.bytes part.now ≡ true }
+        ensures taken { result ≢ Err FetchFault.Memory → result ≡ part_taken self.old next_record_handle part.now }
+        ensures after_taking { result ≢ Err FetchFault.Memory → self.new ≡ part_after self.old next_data_transfer_handle part.now (part_taken self.old next_record_handle part.now) }
+        ensures memory { result ≡ Err FetchFault.Memory → has_room_for self.old.bytes part.now ≡ true }
         ensures unchanged { result ≡ Err FetchFault.Memory → self.new ≡ self.old }
         ensures small { IsSmall self.new }
     {
-        if !self.fits(part) {
+        if !self.has_room_for(part) {
             return self.fail(&FetchFault::Count);
         }
         if self.bytes.extend_from_slice(part.as_slice()).is_err() {
@@ -158,8 +158,8 @@ impl Fetch {
     }
 
     /// Whether the part may be added: it isn't empty, and the record doesn't grow too long.
-    fn fits(&self, part: &RecordPart) -> bool
-        ensures { result ≡ fits self.now.bytes part.now }
+    fn has_room_for(&self, part: &RecordPart) -> bool
+        ensures { result ≡ has_room_for self.now.bytes part.now }
     {
         let more = part.as_slice();
         !more.is_empty() && more.len() <= MOST_RECORD_BYTES - self.bytes.len()
@@ -186,7 +186,7 @@ impl Fetch {
 
     /// The whole record, once it is there.
     pub fn record(&self) -> Option<&[u8]>
-        ensures { option_map now_of result ≡ record_of self.now }
+        ensures { option_map now_of result ≡ fetched_record self.now }
     {
         match self.stage {
             Stage::Finished => Some(self.bytes.as_slice()),

@@ -3,7 +3,7 @@
 ghost use Rattle.std.specs.Prelude.{◌≡◌, true};
 ghost use Rattle.pldm_device.specs.DeviceAnswers.{after, answer};
 ghost use Rattle.pldm_device.specs.DeviceLaws.{answers_the_command, reads_only, refusal_changes_nothing};
-ghost use Rattle.pldm_device.specs.EffecterAnswers.{outcome_told};
+ghost use Rattle.pldm_device.specs.EffecterAnswers.{outcome_answered};
 ghost use Rattle.pldm_device.specs.SensorAnswers.{sensed};
 
 use crate::device::{SimDevice, commands_answer, types_answer};
@@ -61,7 +61,7 @@ impl SimDevice {
 
 // The answer to a command that sets: that it was done, or the refusal.
 fn done(answer: Answer, outcome: Result<(), Code>) -> Answer
-    ensures { result ≡ outcome_told answer outcome }
+    ensures { result ≡ outcome_answered answer outcome }
 {
     match outcome {
         Ok(()) => answer,

@@ -1,7 +1,7 @@
 //! The commands of the record repository (DSP0248).
 
 ghost use Rattle.std.specs.Prelude.{◌≡◌, ◌≤◌, Some, IfSome, length};
-ghost use Rattle.pldm_device.specs.RecordAnswers.{offset_asked, part_told, record_answer, record_told, repository_info};
+ghost use Rattle.pldm_device.specs.RecordAnswers.{offset_asked, part_answered, record_answer, record_answered, repository_info};
 
 use crate::device::SimDevice;
 use crate::limits::{
@@ -55,7 +55,7 @@ pub(crate) fn record_answer(
     let Some(offset) = offset_asked(transfer_operation_flag, data_transfer_handle, pdr) else {
         return refused(INVALID_DATA_TRANSFER_HANDLE);
     };
-    part_told(records.handle_at(position + 1), request_count, pdr, offset)
+    part_answered(records.handle_at(position + 1), request_count, pdr, offset)
 }
 
 /// The offset of the part that is asked for, where one begins there.
@@ -78,9 +78,9 @@ fn offset_asked(
 }
 
 /// The part of the record from the offset on, and where the next one begins.
-fn part_told(next_record_handle: u32, request_count: u16, pdr: &Record, offset: usize) -> Answer
+fn part_answered(next_record_handle: u32, request_count: u16, pdr: &Record, offset: usize) -> Answer
     requires { offset ≤ length pdr.now }
-    ensures { result ≡ part_told next_record_handle request_count pdr.now (Some offset) }
+    ensures { result ≡ part_answered next_record_handle request_count pdr.now (Some offset) }
 {
     let length = pdr.as_slice().len();
     let part = pdr.part(offset, request_count);
