@@ -1,8 +1,9 @@
 -- Where a fetch is done, the parts joined are the record that was asked for.
-use Rattle.std.proofs.Common.{◌≡◌, ◌⊎◌, inl, inr, ℕ, ◌+◌, ◌≤◌, Bool, true, false, not, ◌||◌, ◌&&◌, ◌==◌, nat_lt, if◌then◌else◌, List, [], ◌∷◌, ◌++◌, length, Option, None, Some, Result, Ok, Err, IfSome, refl, sym, subst, ap, ◌∙◌, append-nil, arith, eqb-true, ltb-false}
+use Rattle.std.proofs.Common.{◌≡◌, ◌⊎◌, inl, inr, ℕ, ◌+◌, ◌≤◌, Bool, true, false, not, ◌||◌, ◌&&◌, ◌==◌, nat_lt, if◌then◌else◌, List, [], ◌∷◌, ◌++◌, length, Option, None, Some, is_some, Result, Ok, Err, IfSome, refl, sym, subst, ap, ◌∙◌, append-nil, arith, eqb-true, ltb-false}
 use Rattle.std.proofs.lemmas.List.{length-append}
 use Rattle.pldm_wire.specs.Crc.{crc}
 use Rattle.pldm_wire.specs.RecordParts.{Part}
+use Rattle.pldm_wire.specs.TransferFlags.{is_end}
 use Rattle.pldm_wire.specs.declared.answer.Answer.{Answer}
 use Rattle.pldm_wire.specs.declared.answer.Answer.TheVariants.{Refused, GetPdr}
 use Rattle.pldm_device.specs.Fetches.{Fetching, taken_while_going, taken_at, taken, part_taken, part_after, going_after, after_taking, has_room_for, is_going, is_last, is_other_crc, record_at_stage, record_fault, fetched_record, unless_fault}
@@ -64,6 +65,14 @@ right_checksum (Some c) pdr e = by_test (c == crc pdr) refl e where
   by_test true e f = eqb-true _ _ e
   by_test false e f = cc
 
+-- a checksum came exactly where the flag says so
+by_flag : (checksum : Option ℕ) (is_end : Bool) (pdr : List ℕ) → is_some checksum ≡ is_end → IfSome checksum (λ c. c ≡ crc pdr)
+    → checksum ≡ (if is_end then Some (crc pdr) else None)
+by_flag None true pdr e right = cc
+by_flag None false pdr e right = refl
+by_flag (Some c) true pdr e right = ap Some right
+by_flag (Some c) false pdr e right = cc
+
 asked_for : (asked : ℕ) (pdr : List ℕ) → ((asked == FIRST_RECORD) ≡ true) ⊎ ((handle_of pdr == asked) ≡ true) → IsAsked asked pdr
 asked_for asked pdr (inl e) = inl (eqb-true _ _ e)
 asked_for asked pdr (inr e) = inr (eqb-true _ _ e)
@@ -106,7 +115,7 @@ part_done asked next bytes f n t part asked_is bytes_are e =
     let fit : (nat_lt 0 (length part.bytes) && not (nat_lt MOST_RECORD_BYTES (length bytes + length part.bytes))) ≡ true = subst (λ b. (nat_lt 0 (length part.bytes) && not (nat_lt MOST_RECORD_BYTES (length b + length part.bytes))) ≡ true) bytes_are done.fit in
     let small : length bytes + length part.bytes ≤ MOST_RECORD_BYTES = small_by _ _ _ _ refl fit in
     let parts = whole_by asked (bytes ++ part.bytes) part.transfer_crc (rw (length-append bytes part.bytes) small) none in
-    (parts.0, parts.1, (done.follows, done.last, parts.2))
+    (parts.0, parts.1, (done.follows, done.last, parts.2, λ is_part. by_flag part.transfer_crc (is_end part.flag) (bytes ++ part.bytes) is_part.1 parts.2))
 
 going_done : (asked next : ℕ) (bytes : List ℕ) (f : Fetching) (answer : Answer) → f.asked ≡ asked → f.bytes ≡ bytes → taken_while_going f answer ≡ Ok (Done next) → IsDone asked next (bytes ++ bytes_of answer) answer
 going_done asked next bytes f (GetPdr n t part) asked_is bytes_are e = part_done asked next bytes f n t part asked_is bytes_are e

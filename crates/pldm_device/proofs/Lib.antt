@@ -9,3 +9,5 @@ pub mod Blank
 pub mod DescriptionLiterals
 pub mod WorkedDescriptions
 pub mod WorkedRecords
+pub mod FetchLooksBack
+pub mod RepositoryFetched

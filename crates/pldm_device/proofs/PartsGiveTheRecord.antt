@@ -1,22 +1,23 @@
 -- Where a fetch is given the parts of the record in turn, it is done at the last.
-use Rattle.std.proofs.Common.{◌≡◌, ◌⊎◌, inl, inr, ℕ, ◌+◌, ◌<◌, ◌≤◌, Bool, true, false, not, ◌||◌, ◌&&◌, ◌==◌, nat_lt, nat_le, min, if◌then◌else◌, List, [], ◌∷◌, ◌++◌, length, take, drop, Option, None, Some, Ok, Err, refl, sym, subst, ap, ◌∙◌, arith}
-use Rattle.std.proofs.lemmas.List.{take_min, take_all, length-take, length-drop, length-append}
+use Rattle.std.proofs.Common.{◌≡◌, ◌⊎◌, inl, inr, ℕ, ◌+◌, ◌<◌, ◌≤◌, Bool, true, false, not, ◌||◌, ◌&&◌, ◌==◌, nat_lt, nat_le, min, if◌then◌else◌, List, [], ◌∷◌, ◌++◌, length, take, drop, slice_index, Option, None, Some, Ok, Err, refl, sym, subst, ap, ◌∙◌, arith}
+use Rattle.std.proofs.lemmas.List.{take_min, take_all, get_or-take, length-take, length-drop, length-append}
 use Rattle.std.proofs.Math.Seq.{take-add}
-use Rattle.std.proofs.lemmas.Bool.{eq-eqb, leb-true}
+use Rattle.std.proofs.lemmas.Bool.{eq-eqb, leb-true, ltb-false}
 use Rattle.std.proofs.lemmas.Bool.Decides.{nat_tests}
 use Rattle.pldm_wire.specs.Crc.{crc}
 use Rattle.pldm_wire.specs.TransferFlags.{is_end}
+use Rattle.pldm_wire.specs.declared.command.Command.TheVariants as commands
 use Rattle.pldm_wire.specs.declared.answer.Answer.{Answer}
 use Rattle.pldm_wire.specs.declared.answer.Answer.TheVariants.{GetPdr}
-use Rattle.pldm_wire.specs.declared.limits.TheConstants.{MOST_PART_BYTES}
-use Rattle.pldm_device.specs.Fetches.{Fetching, taken, part_taken, part_after, after_taking, has_room_for, is_going, is_last, is_other_crc, record_fault, fetched_record, unless_fault}
+use Rattle.pldm_wire.specs.declared.limits.TheConstants.{MOST_PART_BYTES, GET_FIRST_PART, GET_NEXT_PART}
+use Rattle.pldm_device.specs.Fetches.{Fetching, taken, part_taken, part_after, after_taking, has_room_for, is_going, is_last, is_other_crc, record_fault, fetched_record, next_request, unless_fault}
 use Rattle.pldm_device.proofs.DoneIsTheRecord.{going_recorded}
-use Rattle.pldm_device.specs.FetchLaws.{fetched, IsWhole, IsAsked, part_answer, HasPart, ArePartsUpto, PartsGiveTheRecord}
-use Rattle.pldm_device.specs.Records.{part_bytes, offset_after, is_last_part, flag_of_part, part_flag, part_of, checksum_with, next_data_transfer_handle, handle_of, data_length_of}
+use Rattle.pldm_device.specs.FetchLaws.{fetched, IsWhole, IsAsked, part_answer, request_at, HasPart, ArePartsUpto, PartsGiveTheRecord}
+use Rattle.pldm_device.specs.Records.{part_bytes, offset_after, is_last_part, flag_of_part, part_flag, part_of, checksum_with, next_data_transfer_handle, handle_of, change_number_of, data_length_of}
 use Rattle.pldm_device.specs.declared.fetch.FetchState.TheVariants.{More, Done}
 use Rattle.pldm_device.specs.declared.fetch.Stage.TheVariants.{Going, Finished}
 use Rattle.pldm_device.specs.declared.fetch_fault.FetchFault.TheVariants as faults
-use Rattle.pldm_device.specs.declared.limits.TheConstants.{FIRST_RECORD, MOST_RECORD_BYTES, RECORD_HEADER}
+use Rattle.pldm_device.specs.declared.limits.TheConstants.{CHANGE_NUMBER_END, FIRST_RECORD, MOST_RECORD_BYTES, RECORD_HEADER}
 
 -- the bytes up to the part, and the part
 upto : (pdr : List ℕ) (start count : ℕ) → take start pdr ++ part_bytes pdr start count ≡ take (offset_after pdr start count) pdr
@@ -26,7 +27,7 @@ upto pdr start count =
     ap (λ k. take k (drop start pdr)) (length-take n (drop start pdr)) ∙ take_min n (drop start pdr) in
     ap (λ b. take start pdr ++ b) (sym again) ∙ sym (take-add start (length (part_bytes pdr start count)) pdr)
 
-some_bytes : (pdr : List ℕ) (start count : ℕ) → start < length pdr → 0 < count → 0 < length (part_bytes pdr start count)
+pub some_bytes : (pdr : List ℕ) (start count : ℕ) → start < length pdr → 0 < count → 0 < length (part_bytes pdr start count)
 some_bytes pdr start count within some = rw (length-take (min count MOST_PART_BYTES) (drop start pdr), length-drop start pdr) (omega arith)
 
 within_record : (pdr : List ℕ) (start count : ℕ) → start < length pdr → offset_after pdr start count ≤ length pdr
@@ -133,12 +134,29 @@ taken_by : (asked next offset count : ℕ) (pdr : List ℕ) (last : Bool) → Is
 taken_by asked next offset count pdr true whole is within some last = taken_done asked next offset count pdr whole is within some last
 taken_by asked next offset count pdr false whole is within some last = taken_more asked next offset count pdr whole within some last
 
+-- what stands before an offset of the record stands there in the record
+before_offset : (pdr : List ℕ) (offset i : ℕ) → i < offset → slice_index (take offset pdr) i ≡ slice_index pdr i
+before_offset pdr offset i h = get_or-take offset pdr i 0 h
+
+change_number_here : (pdr : List ℕ) (offset : ℕ) (none : Bool) → nat_lt offset CHANGE_NUMBER_END ≡ none
+    → (if none then 0 else change_number_of (take offset pdr)) ≡ (if none then 0 else change_number_of pdr)
+change_number_here pdr offset true t = refl
+change_number_here pdr offset false t =
+    let far : CHANGE_NUMBER_END ≤ offset = ltb-false _ _ t in
+    rw (before_offset pdr offset 6 (omega arith), before_offset pdr offset 7 (omega arith)) refl
+
+-- the request that a fetch makes that was given the parts up to an offset
+asks_here : (asked offset : ℕ) (pdr : List ℕ) → offset < length pdr → next_request (held_upto asked pdr offset) ≡ Some (request_at asked pdr offset)
+asks_here asked offset pdr below =
+    let long : length (take offset pdr) ≡ offset = rw (length-take offset pdr) (omega arith) in
+    rw long (ap (λ n. Some (commands.GetPdr asked offset (if offset == 0 then GET_FIRST_PART else GET_NEXT_PART) MOST_PART_BYTES n))
+    (change_number_here pdr offset (nat_lt offset CHANGE_NUMBER_END) refl))
+
 pub parts_give_the_record : PartsGiveTheRecord
 parts_give_the_record asked next offset count pdr before whole is parts below some =
     let same = fetched_upto asked next pdr whole offset before parts below in
     let answer = part_answer next pdr offset count in (
-      ap (λ (f : Fetching). f.offset) same,
-      ap (λ (f : Fetching). is_going f.stage) same,
+      ap (λ (f : Fetching). next_request f) same ∙ asks_here asked offset pdr below,
       ap (λ (f : Fetching). taken f answer) same ∙ taken_by asked next offset count pdr (is_last_part pdr offset count) whole is below some refl,
       λ last. ap (λ (f : Fetching). fetched_record (after_taking f answer)) same
           ∙ going_recorded (held_upto asked pdr offset) next answer (taken_done asked next offset count pdr whole is below some last)

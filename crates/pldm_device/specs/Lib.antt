@@ -11,6 +11,7 @@ pub mod RecordAnswers
 pub mod Transfers
 pub mod Fetches
 pub mod FetchLaws
+pub mod FetchHistories
 pub mod Laws
 pub mod DeviceAnswers
 pub mod DeviceLaws
