@@ -11,3 +11,4 @@ pub mod WorkedDescriptions
 pub mod WorkedRecords
 pub mod FetchLooksBack
 pub mod RepositoryFetched
+pub mod Numbers
