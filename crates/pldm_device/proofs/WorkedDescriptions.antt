@@ -113,17 +113,21 @@ unfolding description_on_literals
 two_records_of_one_handle = refl
 
 -- a whole description, with one of each list, to its whole value
-a_whole_description : stated (front ++ codes "[[numeric_sensor]]\nid = 1\nsize = 'uint8'\nstates = [1, 2, 3]\nvalue = 40\n[[state_sensor]]\nid = 3\nfields = [[0, 1, 2, 3]]\n[[numeric_effecter]]\nid = 1\nsize = 'uint8'\nmin = 0\nmax = 100\nvalue = 10\n[[state_effecter]]\nid = 2\nallowed = [[1, 2], [1, 2]]\nvalues = [1, 2]\n[[pdr]]\nhex = '01000000010100000100Ff'\n") ≡ Ok (record { eid = 9; keep = 1000; device = record {
-  tid = 1;
-  base_versions = 0x00 ∷ 0xf0 ∷ 0xf0 ∷ 0xf1 ∷ [];
-  platform_versions = 0x00 ∷ 0xf2 ∷ 0xf1 ∷ 0xf1 ∷ [];
-  update_time = replicate 13 0;
-  oem_update_time = replicate 13 0;
-  numeric_sensors = (1, record { present = 1; previous = 2; event = 3; reading = sized Uint8 (pos 40) }) ∷ [];
-  state_sensors = (3, (record { operational = 0; present = 1; previous = 2; event = 3 } ∷ [])) ∷ [];
-  numeric_effecters = (1, record { min = pos 0; max = pos 100; value = sized Uint8 (pos 10) }) ∷ [];
-  state_effecters = (2, fields_of_states ((1 ∷ 2 ∷ []) ∷ (1 ∷ 2 ∷ []) ∷ []) (1 ∷ 2 ∷ [])) ∷ [];
-  records = (1 ∷ 0 ∷ 0 ∷ 0 ∷ 1 ∷ 1 ∷ 0 ∷ 0 ∷ 1 ∷ 0 ∷ 255 ∷ []) ∷ [];
-} })
+a_whole_description : stated (front ++ codes "[[numeric_sensor]]\nid = 1\nsize = 'uint8'\nstates = [1, 2, 3]\nvalue = 40\n[[state_sensor]]\nid = 3\nfields = [[0, 1, 2, 3]]\n[[numeric_effecter]]\nid = 1\nsize = 'uint8'\nmin = 0\nmax = 100\nvalue = 10\n[[state_effecter]]\nid = 2\nallowed = [[1, 2], [1, 2]]\nvalues = [1, 2]\n[[pdr]]\nhex = '01000000010100000100Ff'\n") ≡ Ok (record {
+  eid = 9;
+  keep = 1000;
+  device = record {
+    tid = 1;
+    base_versions = 0x00 ∷ 0xf0 ∷ 0xf0 ∷ 0xf1 ∷ [];
+    platform_versions = 0x00 ∷ 0xf2 ∷ 0xf1 ∷ 0xf1 ∷ [];
+    update_time = replicate 13 0;
+    oem_update_time = replicate 13 0;
+    numeric_sensors = (1, record { present = 1; previous = 2; event = 3; reading = sized Uint8 (pos 40) }) ∷ [];
+    state_sensors = (3, (record { operational = 0; present = 1; previous = 2; event = 3 } ∷ [])) ∷ [];
+    numeric_effecters = (1, record { min = pos 0; max = pos 100; value = sized Uint8 (pos 10) }) ∷ [];
+    state_effecters = (2, fields_of_states ((1 ∷ 2 ∷ []) ∷ (1 ∷ 2 ∷ []) ∷ []) (1 ∷ 2 ∷ [])) ∷ [];
+    records = (1 ∷ 0 ∷ 0 ∷ 0 ∷ 1 ∷ 1 ∷ 0 ∷ 0 ∷ 1 ∷ 0 ∷ 255 ∷ []) ∷ [];
+  };
+})
 unfolding description_on_literals
 a_whole_description = refl

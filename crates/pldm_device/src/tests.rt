@@ -5,12 +5,11 @@ mod recorder;
 mod records;
 
 use crate::example::description;
-use crate::{Description, FileFault, Platform, ReadingFault, SimDevice};
+use crate::{Description, Platform, ReadingFault, SimDevice};
 use mctp_packet::{Eid, Keep};
-use pldm_wire::{Answer, Command, read_answer, read_command, read_request, read_response};
+use pldm_wire::{Answer, Command, read_answer, read_response};
 use recorder::{Recorder, told_tid};
 use std::alloc::Global;
-use std::process::Abort;
 use std::test::Fail;
 
 /// The device of the example.
@@ -19,33 +18,11 @@ fn example(alloc: Global) -> Result<SimDevice, Fail> {
     Ok(Description::read(alloc, text.as_bytes())?.device)
 }
 
-/// The command of a request message in hex.
-fn command(alloc: Global, request: &str) -> Result<Command, Fail> {
-    let message = hex::decode(alloc, request)?;
-    let request = read_request(message.as_slice())?;
-    Ok(read_command(&request)?)
-}
-
 /// The answer to the command that a response message in hex has.
 fn answer(alloc: Global, command: &Command, response: &str) -> Result<Answer, Fail> {
     let message = hex::decode(alloc, response)?;
     let response = read_response(message.as_slice())?;
     Ok(read_answer(command, &response)?)
-}
-
-/// Performs the requests in turn, and compares the answers.
-fn perform_all(
-    rt: &impl Abort,
-    alloc: Global,
-    device: &mut SimDevice,
-    messages: &[(&str, &str)],
-) -> Result<(), Fail> {
-    for (request, response) in messages {
-        let command = command(alloc, request)?;
-        let want = answer(alloc, &command, response)?;
-        assert_eq!(rt; device.perform(alloc, &command), Ok(want), "at {request}");
-    }
-    Ok(())
 }
 
 #[test]
@@ -62,40 +39,6 @@ fn the_example_device(rt: HostRuntime) -> Result<(), Fail> {
     assert_eq!(rt; read.device.state(0), Some((2, [1, 1].as_slice())));
     assert_eq!(rt; read.device.state(1), None);
     Ok(())
-}
-
-#[test]
-fn commands_are_performed(rt: HostRuntime) -> Result<(), Fail> {
-    let mut device = example(rt.alloc())?;
-    perform_all(
-        &rt,
-        rt.alloc(),
-        &mut device,
-        &[
-            // a numeric effecter is set
-            ("0181023101000028", "0101023100"),
-            ("018202320100", "010202320000012828"),
-            // all states or none, and the form with all fields
-            ("0180023902000201020103", "0100023981"),
-            ("0181023a0200", "0101023a0002010101010101"),
-            (
-                "0182023902000201020000000000000000000000000000",
-                "0102023900",
-            ),
-            ("0183023a0200", "0103023a0002010202010101"),
-            // no such sensor
-            ("01840211090000", "0104021180"),
-            // the types, the commands of a type and its versions
-            ("01800004", "01000004000500000000000000"),
-            (
-                "018100050200000000",
-                "01010005000000020002000606000003000000000000000000000000000000000000000000",
-            ),
-            ("01820003000000000100", "0102000300000000000500f0f0f1"),
-            // a terminus ID that no terminus has
-            ("01800001ff", "0100000102"),
-        ],
-    )
 }
 
 #[test]
@@ -127,22 +70,4 @@ fn another_platform_behind_the_same_bound(rt: HostRuntime) -> Result<(), Fail> {
     assert_eq!(rt; recorder.tids(), [7, 0].as_slice());
     assert_eq!(rt; recorder.set_reading(1, 1), Err(ReadingFault::NoSuchSensor));
     Ok(())
-}
-
-#[test]
-fn numbers_and_names_of_the_faults(rt: HostRuntime) {
-    let faults = [
-        (FileFault::Toml, 1, "Toml"),
-        (FileFault::MissingKey, 2, "MissingKey"),
-        (FileFault::WrongKind, 3, "WrongKind"),
-        (FileFault::OutOfRange, 4, "OutOfRange"),
-        (FileFault::Duplicate, 5, "Duplicate"),
-        (FileFault::BadHex, 6, "BadHex"),
-        (FileFault::BadRecord, 7, "BadRecord"),
-        (FileFault::Memory, 8, "Memory"),
-    ];
-    for (fault, number, name) in faults {
-        assert_eq!(rt; fault.number(), number);
-        assert_eq!(rt; fault.name(), name);
-    }
 }

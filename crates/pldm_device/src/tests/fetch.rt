@@ -53,6 +53,48 @@ fn the_example_record_is_fetched(rt: HostRuntime) -> Result<(), Fail> {
     Ok(())
 }
 
+/// The requests after the eighth byte have the record's change number, and parts of one byte each are
+/// taken to the last.
+#[test]
+fn a_changed_record_is_fetched_byte_by_byte(rt: HostRuntime) -> Result<(), Fail> {
+    let alloc = rt.alloc();
+    let mut record = record();
+    record[6..8].copy_from_slice(&[0x34, 0x12]);
+    let mut fetch = Fetch::new(alloc, 1);
+    for (place, byte) in (0u32..).zip(record) {
+        let Some(
+            Command::GetPdr {
+                data_transfer_handle,
+                record_change_number,
+                ..
+            },
+        ) = fetch.next()
+        else {
+            return Err(Fail::from("no request"));
+        };
+        let changed = if place < 8 { 0 } else { 0x1234 };
+        assert_eq!(rt;
+            (data_transfer_handle, record_change_number),
+            (place, changed)
+        );
+        let flag = match place {
+            0 => TransferFlag::Start,
+            299 => TransferFlag::StartAndEnd,
+            _ => TransferFlag::Middle,
+        };
+        let next = place.saturating_add(1);
+        let one = part(flag, next, &[byte], None).ok_or(Memory)?;
+        let state = if place == 299 {
+            FetchState::Done(0)
+        } else {
+            FetchState::More
+        };
+        assert_eq!(rt; fetch.take(&one), Ok(state), "at {place}");
+    }
+    assert_eq!(rt; fetch.record(), Some(record.as_slice()));
+    Ok(())
+}
+
 #[test]
 fn a_wrong_checksum_ends_a_fetch(rt: HostRuntime) -> Result<(), Fail> {
     let alloc = rt.alloc();
