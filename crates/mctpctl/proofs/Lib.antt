@@ -1,10 +1,8 @@
 pub mod AnswerRows
 pub mod CaptureRows
 pub mod ChoiceRows
-pub mod DecimalPlaces
 pub mod DividerRows
 pub mod LineSplits
 pub mod LookingBack
 pub mod RunsOverLines
 pub mod SameHeld
-pub mod WordSplits

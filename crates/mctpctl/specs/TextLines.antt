@@ -1,14 +1,11 @@
 -- The lines of an input, and the line that divides it into a device description and a capture.
-use Rattle.std.specs.Prelude.{ℕ, ◌-◌, ◌==◌, Bool, if◌then◌else◌, List, [], ◌∷◌, ◌++◌, length, take, slice_index, codes, bytes_eq, Option, None, Some}
+use Rattle.std.specs.Prelude.{ℕ, ◌==◌, Bool, if◌then◌else◌, List, [], ◌∷◌, ◌++◌, codes, bytes_eq, Option, None, Some}
 use Rattle.std.specs.List.{slice_split}
+use Rattle.line_words.specs.Lines.{without_cr}
 
 -- the pieces between line feeds; what follows the last line feed is a line too, and may be empty
 abbrev pub lines_of : List ℕ → List (List ℕ)
 lines_of text = slice_split (λ b. b == 10) text
-
--- the line with one carriage return at its very end dropped
-abbrev pub without_cr : List ℕ → List ℕ
-without_cr line = if slice_index line (length line - 1) == 13 then take (length line - 1) line else line
 
 abbrev pub is_divider : List ℕ → Bool
 is_divider line = bytes_eq (without_cr line) (codes "%%")

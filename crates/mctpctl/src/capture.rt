@@ -1,14 +1,14 @@
 //! One line of a capture: `MS`, or `MS HEX`.
 
-ghost use Rattle.std.specs.Prelude.{◌≡◌, ◌≢◌, ◌≤◌, ◌==◌, ◌∷◌, [], ℕ, MatchResult, Ok, Err, IfOk, IfErr, IfSome, IfNone, true, position, slice_get, Some, None};
-ghost use Rattle.mctpctl.specs.CaptureLine.{capture_of, packet_in, packet_at, packet_word, timed_packet, words_of, is_digit, is_number, decimal_value, moment_of, TellsFault};
-ghost use Rattle.std.specs.List.{list_all};
+ghost use Rattle.std.specs.Prelude.{◌≡◌, ◌≤◌, ℕ, MatchResult, Ok, Err, IfOk, IfErr, IfSome};
+ghost use Rattle.line_words.specs.Lines.{words_of};
+ghost use Rattle.mctpctl.specs.CaptureLine.{capture_of, packet_in, packet_at, packet_word, timed_packet, moment_of, TellsFault};
 ghost use Rattle.hex.specs.Hex.{decode_of};
 
 use crate::faults::LineKind;
-use crate::limits::{MAX_CAPTURE_LINE, MAX_DIGITS};
-use crate::lines::without_cr;
+use crate::limits::MAX_CAPTURE_LINE;
 use hex::FromHexError;
+use line_words::{first_word, read_number, split_word};
 use mctp_packet::LAST_MOMENT;
 use std::alloc::Global;
 use thiserror::Error;
@@ -50,12 +50,9 @@ pub fn read_capture_line(alloc: Global, line: &[u8], last: u64) -> Result<Captur
     if line.len() > MAX_CAPTURE_LINE {
         return Err(CaptureFault::Line(LineKind::LongLine));
     }
-    let Some((first, rest)) = split_word(without_cr(line)) else {
+    let Some((first, rest)) = first_word(line) else {
         return Ok(CaptureLine::Skipped);
     };
-    if first.first() == Some(&b'#') {
-        return Ok(CaptureLine::Skipped);
-    }
     read_packet(alloc, first, rest, last)
 }
 
@@ -101,76 +98,14 @@ fn read_hex(alloc: Global, digits: &[u8]) -> Result<Vec<u8>, CaptureFault>
     }
 }
 
-/// The first word of a text, and what follows it; `None` where there are spaces alone.
-fn split_word(text: &[u8]) -> Option<(&[u8], &[u8])>
-    ensures some { IfSome result (λ p. words_of text.now ≡ p.0.now ∷ words_of p.1.now) }
-    ensures none { IfNone result (words_of text.now ≡ []) }
-{
-    let text = trim_spaces(text);
-    if text.is_empty() {
-        return None;
-    }
-    let end = first_space(text).unwrap_or(text.len());
-    Some((&text[..end], &text[end..]))
-}
-
-/// The text without the spaces that it begins with.
-fn trim_spaces(text: &[u8]) -> &[u8]
-    ensures words { words_of result.now ≡ words_of text.now }
-    ensures trimmed { slice_get result.now 0 ≢ Some 32 }
-{
-    let mut rest = text;
-    while let [b' ', after @ ..] = rest {
-        rest = after;
-    }
-    rest
-}
-
-/// Where the first space is.
-fn first_space(text: &[u8]) -> Option<usize>
-    ensures { result ≡ position (λ b. b == 32) text.now }
-{
-    text.iter().position(|b| *b == b' ')
-}
-
-/// Whether a word is decimal digits alone: one or more, and at most `MAX_DIGITS`.
-fn is_number(word: &[u8]) -> bool
-    ensures { result ≡ is_number word.now }
-{
-    !word.is_empty() && word.len() <= MAX_DIGITS && is_digits(word)
-}
-
-/// Whether each byte is a decimal digit.
-fn is_digits(word: &[u8]) -> bool
-    ensures { result ≡ list_all is_digit word.now }
-{
-    word.iter().all(|b| b.is_ascii_digit())
-}
-
-/// The value of decimal digits.
-fn decimal_value(digits: &[u8]) -> u64
-    requires { is_number digits.now ≡ true }
-    ensures { result ≡ decimal_value digits.now }
-{
-    let mut value = 0;
-    for digit in digits {
-        value = value * 10 + u64::from(*digit - b'0');
-    }
-    value
-}
-
 /// The moment that a word spells, where it is in its range and not before the last one.
 fn read_moment(word: &[u8], last: u64) -> Result<u64, LineKind>
     ensures value { result ≡ moment_of word.now last }
     ensures range { IfOk result (λ moment. (last ≤ moment) × (moment ≤ LAST_MOMENT)) }
 {
-    if !is_number(word) {
+    let Some(moment) = read_number(word, LAST_MOMENT) else {
         return Err(LineKind::Number);
-    }
-    let moment = decimal_value(word);
-    if moment > LAST_MOMENT {
-        return Err(LineKind::Number);
-    }
+    };
     if moment < last {
         return Err(LineKind::BackInTime);
     }

@@ -8,6 +8,3 @@ pub const MAX_DESCRIPTION: usize = 1_048_576;
 
 /// The most bytes of a capture line, a CR at its end counted and its LF not.
 pub const MAX_CAPTURE_LINE: usize = 4_096;
-
-/// The most decimal digits of a number in a line.
-pub const MAX_DIGITS: usize = 16;

@@ -2,7 +2,9 @@
 
 ghost use Rattle.std.specs.Prelude.{◌≡◌, ◌≤◌, ◌+◌, ◌++◌, ◌∷◌, [], ◌==◌, None, IfSome, IfNone, IsNone, ◌↔◌, length, position, Some};
 ghost use Rattle.std.specs.Option.{option_copied};
-ghost use Rattle.mctpctl.specs.TextLines.{lines_of, without_cr, is_divider, capture_lines, description_of, lines_of_rest};
+ghost use Rattle.mctpctl.specs.TextLines.{lines_of, is_divider, capture_lines, description_of, lines_of_rest};
+
+use line_words::without_cr;
 
 /// The two parts of an input.
 #[derive(Clone, Copy, Debug)]
@@ -29,16 +31,6 @@ fn line_end(text: &[u8]) -> Option<usize>
     ensures { result ≡ position (λ b. b == 10) text.now }
 {
     text.iter().position(|b| *b == b'\n')
-}
-
-/// The line with one CR at its very end dropped.
-pub fn without_cr(line: &[u8]) -> &[u8]
-    ensures { result.now ≡ without_cr line.now }
-{
-    match line.last() {
-        Some(b'\r') => &line[..line.len() - 1],
-        _ => line,
-    }
 }
 
 /// Whether the line is `%%`, with a CR at its end or without.

@@ -1,7 +1,8 @@
 -- Past its words and its moment, the line says what its hex digits say.
 use Rattle.std.proofs.Common.{◌≡◌, Ok, rules}
 use Rattle.std.proofs.lemmas.Result.{err_from_is_err_and}
-use Rattle.mctpctl.specs.CaptureLine.{packet_word, words_of, moment_of}
+use Rattle.line_words.specs.Lines.{words_of}
+use Rattle.mctpctl.specs.CaptureLine.{packet_word, moment_of}
 use Rattle.mctpctl.proofs.capture.read_packet.Goals as goal
 
 pub returns-in_err-bytes-clause-err : goal.returns-in_err-bytes-clause-err

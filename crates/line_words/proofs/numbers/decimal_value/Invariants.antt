@@ -1,7 +1,7 @@
 -- The digits so far and those to come make the number.
 use Rattle.std.proofs.Common.{◌≡◌, ◌<◌, ◌+◌, ◌*◌, ◌^◌, length, drop}
-use Rattle.mctpctl.specs.CaptureLine.{decimal_value}
-use Rattle.mctpctl.proofs.capture.decimal_value.Given as goal
+use Rattle.line_words.specs.Numbers.{decimal_value}
+use Rattle.line_words.proofs.numbers.decimal_value.Given as goal
 
 abbrev pub invariant-loop-digit : goal.invariant-loop-digit
 invariant-loop-digit l =

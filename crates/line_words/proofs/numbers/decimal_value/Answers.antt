@@ -1,8 +1,8 @@
 -- A number has so few digits that its value fits.
-use Rattle.std.proofs.Common.{◌<◌, arith}
-use Rattle.mctpctl.specs.declared.limits.TheConstants.{MAX_DIGITS}
-use Rattle.mctpctl.proofs.DecimalPlaces.{next_digit, next_below, next_fits, number_parts}
-use Rattle.mctpctl.proofs.capture.decimal_value.Goals as goal
+use Rattle.std.proofs.Common.{◌<◌, ◌≤◌, arith}
+use Rattle.line_words.specs.declared.limits.TheConstants.{MAX_DIGITS}
+use Rattle.line_words.proofs.DecimalPlaces.{next_digit, next_below, next_fits, at_most_all, number_parts}
+use Rattle.line_words.proofs.numbers.decimal_value.Goals as goal
 
 pub overflow_mul-value : goal.overflow_mul-value
 overflow_mul-value c =
@@ -26,3 +26,9 @@ loop-digit-preserved c =
       next_digit c.args.digits.now c.loop-digit.digit-index c.loop-digit.value c.from.result _ c.loop-digit-test.true c.from.ensures c.loop-digit.invariant.0,
       next_below c.loop-digit.value c.from.result c.loop-digit.digit-index c.loop-digit.invariant.1 small,
     )
+
+pub returns-clause-range : goal.returns-clause-range
+returns-clause-range c =
+    let parts = number_parts c.args.digits.now c.requires in
+    let few : c.loop-digit.digit-index ≤ MAX_DIGITS = omega (arith, parts.few) in
+    at_most_all c.loop-digit.value c.loop-digit.digit-index c.loop-digit.invariant.1 few

@@ -5,8 +5,8 @@ use Rattle.std.proofs.Math.Nat.{pow-suc, pow-le-pow_right}
 use Rattle.std.proofs.lemmas.List.Sums.{AllPass-from_list_all}
 use Rattle.std.proofs.lemmas.Bool.{and_parts}
 use Rattle.std.proofs.lemmas.Bool.Decides.{nat_tests}
-use Rattle.mctpctl.specs.declared.limits.TheConstants.{MAX_DIGITS}
-use Rattle.mctpctl.specs.CaptureLine.{decimal_value, is_digit, is_number}
+use Rattle.line_words.specs.declared.limits.TheConstants.{MAX_DIGITS}
+use Rattle.line_words.specs.Numbers.{decimal_value, is_digit, is_number}
 
 by_ten : (value digit place rest : ℕ) → value * (place * 10) + (digit * place + rest) ≡ (value * 10 + digit) * place + rest
 by_ten value digit place rest = omega arith
@@ -27,6 +27,11 @@ next_below value digit index below small = rw (add-one, pow-suc) (omega arith)
 pub next_fits : (value index : ℕ) → value < 10 ^ index → index < MAX_DIGITS → value * 10 + 9 < 2 ^ 64
 next_fits value index below few =
     let most : 10 ^ index ≤ 10 ^ 15 = pow-le-pow_right (lit< tt) {i = index} {j = 15} (omega arith) in
+    omega arith
+
+pub at_most_all : (value index : ℕ) → value < 10 ^ index → index ≤ MAX_DIGITS → value < 10 ^ MAX_DIGITS
+at_most_all value index below few =
+    let most : 10 ^ index ≤ 10 ^ MAX_DIGITS = pow-le-pow_right (lit< tt) {i = index} {j = MAX_DIGITS} few in
     omega arith
 
 -- what makes a word a number

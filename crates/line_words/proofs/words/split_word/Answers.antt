@@ -2,9 +2,9 @@
 use Rattle.std.proofs.Common.{◌<◌, ◌∷◌, unwrap_or, length, take, sym, ap, ◌∙◌, arith}
 use Rattle.std.proofs.lemmas.List.{take_rest}
 use Rattle.std.proofs.lemmas.Grind.{common_steps}
-use Rattle.mctpctl.proofs.WordSplits.{first_word}
-use Rattle.mctpctl.specs.CaptureLine.{words_of}
-use Rattle.mctpctl.proofs.capture.split_word.Goals as goal
+use Rattle.line_words.proofs.WordSplits.{first_word}
+use Rattle.line_words.specs.Lines.{words_of}
+use Rattle.line_words.proofs.words.split_word.Goals as goal
 
 pub returns-clause-some : goal.returns-clause-some
 returns-clause-some c =

@@ -5,7 +5,7 @@ use Rattle.std.proofs.lemmas.List.Sums.{passes_at_first, fails_before_first}
 use Rattle.std.proofs.lemmas.List.Splits.{slice_split_first, slice_split_none}
 use Rattle.std.proofs.lemmas.List.{take_all}
 use Rattle.std.proofs.lemmas.Bool.Decides.{nat_tests}
-use Rattle.mctpctl.specs.CaptureLine.{words_of}
+use Rattle.line_words.specs.Lines.{words_of}
 
 -- `end` is the end of the text's first word
 pub record EndsWord (text : List ℕ) (end : ℕ) : Type 0 where

@@ -1,0 +1,4 @@
+pub mod DecimalPlaces
+pub mod LineRows
+pub mod NumberRows
+pub mod WordSplits

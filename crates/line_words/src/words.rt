@@ -1,0 +1,61 @@
+//! The words of a line.
+
+ghost use Rattle.std.specs.Prelude.{◌≡◌, ◌≢◌, ◌==◌, ◌∷◌, [], IfSome, IfNone, position, slice_get, Some};
+ghost use Rattle.line_words.specs.Lines.{said_words, without_cr, words_of};
+
+/// The line with one CR at its very end dropped.
+pub fn without_cr(line: &[u8]) -> &[u8]
+    ensures { result.now ≡ without_cr line.now }
+{
+    match line.last() {
+        Some(b'\r') => &line[..line.len() - 1],
+        _ => line,
+    }
+}
+
+/// The first word of a line, given without its LF, and what follows the word. It is `None` where the
+/// line says nothing: where it is blank, or its first character past spaces is `#`. One CR at the very
+/// end of the line is dropped.
+pub fn first_word(line: &[u8]) -> Option<(&[u8], &[u8])>
+    ensures some { IfSome result (λ p. said_words line.now ≡ p.0.now ∷ words_of p.1.now) }
+    ensures none { IfNone result (said_words line.now ≡ []) }
+{
+    let (word, rest) = split_word(without_cr(line))?;
+    if word.first() == Some(&b'#') {
+        return None;
+    }
+    Some((word, rest))
+}
+
+/// The first word of a text, and what follows it; `None` where there are spaces alone. A tab is part of
+/// a word.
+pub fn split_word(text: &[u8]) -> Option<(&[u8], &[u8])>
+    ensures some { IfSome result (λ p. words_of text.now ≡ p.0.now ∷ words_of p.1.now) }
+    ensures none { IfNone result (words_of text.now ≡ []) }
+{
+    let text = trim_spaces(text);
+    if text.is_empty() {
+        return None;
+    }
+    let end = first_space(text).unwrap_or(text.len());
+    Some((&text[..end], &text[end..]))
+}
+
+/// The text without the spaces that it begins with.
+fn trim_spaces(text: &[u8]) -> &[u8]
+    ensures words { words_of result.now ≡ words_of text.now }
+    ensures trimmed { slice_get result.now 0 ≢ Some 32 }
+{
+    let mut rest = text;
+    while let [b' ', after @ ..] = rest {
+        rest = after;
+    }
+    rest
+}
+
+/// Where the first space is.
+fn first_space(text: &[u8]) -> Option<usize>
+    ensures { result ≡ position (λ b. b == 32) text.now }
+{
+    text.iter().position(|b| *b == b' ')
+}
