@@ -1,8 +1,13 @@
 pub mod AnswerRows
+pub mod AnswersOfRuns
 pub mod CaptureRows
 pub mod ChoiceRows
+pub mod DescribedGlue
 pub mod DividerRows
+pub mod KnownInputs
+pub mod LineGlue
 pub mod LineSplits
 pub mod LookingBack
+pub mod PieceRuns
 pub mod RunsOverLines
 pub mod SameHeld

@@ -1,11 +1,16 @@
+pub mod AnswerPieces
 pub mod AnswerText
 pub mod BoundedRead
 pub mod CaptureLine
 pub mod Choice
+pub mod DescribedPieces
 pub mod FaultTexts
+pub mod HeldRefusals
 pub mod HeldRuns
+pub mod LinePieces
 pub mod LineRuns
 pub mod OutcomeTexts
+pub mod Pieces
 pub mod Ports
 pub mod Statuses
 pub mod TextLines

@@ -8,3 +8,6 @@ pub const MAX_DESCRIPTION: usize = 1_048_576;
 
 /// The most bytes of a capture line, a CR at its end counted and its LF not.
 pub const MAX_CAPTURE_LINE: usize = 4_096;
+
+/// The most bytes of the line that divides: `%%` and a CR.
+pub const LONGEST_DIVIDER: usize = 3;

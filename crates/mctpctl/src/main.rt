@@ -2,6 +2,7 @@
 #![tactic(auto)]
 
 mod answer;
+mod answer_run;
 mod capture;
 mod choose;
 #[cfg(test)]
@@ -9,13 +10,14 @@ mod example;
 #[cfg(test)]
 mod fakes;
 mod faults;
-mod input;
 mod limits;
+mod line_run;
 mod lines;
 mod outcome;
 #[cfg(test)]
 mod platform_example;
 mod port;
+mod stream;
 
 use crate::answer::answer_all;
 use crate::choose::{ChooseFault, Task, choose};

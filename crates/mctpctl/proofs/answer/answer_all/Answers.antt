@@ -1,20 +1,28 @@
--- The bytes that were read are the front of all that the reader gives, and the flush leaves what was written.
-use Rattle.std.proofs.Common.{ℕ, Bool, List, Option, Some, None, Result, IfSome}
-use Rattle.mctpctl.specs.AnswerText.{answer_text, run_of, called_run}
-use Rattle.mctpctl.specs.BoundedRead.{ReadUpTo}
-use Rattle.mctpctl.specs.LineRuns.{Writes}
-use Rattle.mctpctl.specs.declared.faults.EngineFault.{EngineFault}
-use Rattle.mctpctl.specs.declared.limits.TheConstants.{MAX_INPUT}
+-- The run is that over all that the reader gives, and the flush leaves what was written.
+use Rattle.std.proofs.Common.{◌≡◌}
+use Rattle.mctpctl.specs.AnswerPieces.{past_gives}
+use Rattle.mctpctl.specs.AnswerText.{run_of, called_run}
+use Rattle.mctpctl.specs.DescribedPieces.{description_gives, described_gives}
+use Rattle.mctpctl.specs.HeldRuns.{held_run}
+use Rattle.mctpctl.specs.Pieces.{Gives}
+use Rattle.mctpctl.proofs.AnswersOfRuns.{first_gives, read_told, text_kept, front_kept}
 use Rattle.mctpctl.proofs.LookingBack.{run_looks_back}
-use Rattle.mctpctl.proofs.RunsOverLines.{Writes-kept}
 use Rattle.mctpctl.proofs.answer.answer_all.Goals as goal
 
-told : (remaining old new : Option (List ℕ)) (bytes : List ℕ) (is_cut : Bool) (result : Result Unit EngineFault) → IfSome remaining (λ all. ReadUpTo MAX_INPUT all bytes is_cut) → Writes (run_of called_run is_cut bytes) old new result → IfSome remaining (λ all. Writes (answer_text all) old new result)
-told None old new bytes is_cut result read written = tt
-told (Some all) old new bytes is_cut result read written = rw (← read.bytes_are, ← read.cut) written
+pub returns-then-failed-clause-at_read : goal.returns-then-failed-clause-at_read
+returns-then-failed-clause-at_read g c = λ read.
+    let f : Gives = described_gives past_gives (description_gives held_run c.new-run.result.text.items c.new-run.result.kept.items) c.new-run.result.lines in
+    let is : f ≡ run_of called_run = first_gives _ _ _ c.new-run.ensures.text c.new-run.ensures.kept c.new-run.ensures.lines (run_looks_back c.looks_back.ensures.received c.looks_back.ensures.new) in
+    read_told f _ _ _ _ is (c.run_all-result.ensures.at_read read)
 
 pub returns-clause-text : goal.returns-clause-text
 returns-clause-text g c =
-    let input = c.in-Ok.input in
-    let looks = run_looks_back c.looks_back.ensures.received c.looks_back.ensures.new input.is_cut input.bytes.items in
-    told _ _ _ input.bytes.items input.is_cut _ c.in-Ok.ensures.bytes (rw (← looks) (Writes-kept _ _ _ _ _ c.answer_input-result.ensures.text c.flush.ensures.bytes))
+    let f : Gives = described_gives past_gives (description_gives held_run c.new-run.result.text.items c.new-run.result.kept.items) c.new-run.result.lines in
+    let is : f ≡ run_of called_run = first_gives _ _ _ c.new-run.ensures.text c.new-run.ensures.kept c.new-run.ensures.lines (run_looks_back c.looks_back.ensures.received c.looks_back.ensures.new) in
+    text_kept f _ _ _ _ _ is c.run_all-result.ensures.text c.flush.ensures.bytes
+
+pub returns-clause-at_memory : goal.returns-clause-at_memory
+returns-clause-at_memory g c = λ memory.
+    let f : Gives = described_gives past_gives (description_gives held_run c.new-run.result.text.items c.new-run.result.kept.items) c.new-run.result.lines in
+    let is : f ≡ run_of called_run = first_gives _ _ _ c.new-run.ensures.text c.new-run.ensures.kept c.new-run.ensures.lines (run_looks_back c.looks_back.ensures.received c.looks_back.ensures.new) in
+    front_kept f _ _ _ _ is (c.run_all-result.ensures.at_memory memory) c.flush.ensures.bytes
