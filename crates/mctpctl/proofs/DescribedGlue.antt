@@ -41,6 +41,7 @@ divider_is_short : (line : List ℕ) → is_divider line ≡ true → length lin
 divider_is_short line here = by_cr (slice_index line (length line - 1) == 13) refl where
   two : (text : List ℕ) → bytes_eq text (codes "%%") ≡ true → length text ≡ 2
   two text e = ap length ((bytes_eq-Decides text (codes "%%")).0 e)
+
   by_cr : (cr : Bool) → (slice_index line (length line - 1) == 13) ≡ cr → length line ≤ LONGEST_DIVIDER
   by_cr true e =
       let cut : without_cr line ≡ take (length line - 1) line = rw e refl in
@@ -251,11 +252,17 @@ pub described_fault : (f g h : Gives) (before line after whole out0 out1 : List 
     → Takes f whole h out0 out1 (Err fault)
 described_fault f g h before line after whole out0 out1 fault goes nothing is same (inl memory) =
     ([], same ∙ sym (append-nil out0), inl (memory, (before, line ++ 10 ∷ after, is, sym (front_text f g before [] goes nothing))))
-described_fault f g h before line after whole out0 out1 fault goes nothing is same (inr (apart, stops)) =
-    ([], same ∙ sym (append-nil out0), inr (apart, λ is_cut later.
+described_fault f g h before line after whole out0 out1 fault goes nothing is same (inr (apart, stops)) = (
+  [],
+  same ∙ sym (append-nil out0),
+  inr (
+    apart,
+    λ is_cut later.
         ap (λ bytes. f is_cut (bytes ++ later)) (is ∙ ap (λ l. before ++ l) (feed_split line after) ∙ sym (append_assoc before (line ++ 10 ∷ []) after))
         ∙ ap (f is_cut) (append_assoc (before ++ (line ++ 10 ∷ [])) after later)
-        ∙ stops_after f g before (line ++ 10 ∷ []) [] [] fault goes stops is_cut (after ++ later)))
+        ∙ stops_after f g before (line ++ 10 ∷ []) [] [] fault goes stops is_cut (after ++ later),
+  ),
+)
 
 -- the line that divides, and what the run over the capture makes of the rest of the piece
 pub described_past : (f g p h : Gives) (before line after whole out0 out1 out2 : List ℕ) (result : Result Unit EngineFault) → GoesOn f before [] g

@@ -11,3 +11,4 @@ pub mod LookingBack
 pub mod PieceRuns
 pub mod RunsOverLines
 pub mod SameHeld
+pub mod Numbers

@@ -4,6 +4,7 @@ pub mod BoundedRead
 pub mod CaptureLine
 pub mod Choice
 pub mod DescribedPieces
+pub mod FaultNumbers
 pub mod FaultTexts
 pub mod HeldRefusals
 pub mod HeldRuns

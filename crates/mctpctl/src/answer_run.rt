@@ -90,12 +90,7 @@ fn begin(alloc: Global, text: &[u8]) -> Result<Responder<SimDevice>, EngineFault
         Err(FileFault::Memory) => return Err(EngineFault::Memory),
         Err(fault) => return Err(EngineFault::Device(fault)),
     };
-    Ok(Responder::new(
-        alloc,
-        description.eid,
-        description.keep,
-        description.device,
-    ))
+    Ok(Responder::new(alloc, description.eid, description.keep, description.device))
 }
 
 impl AnswerRun {

@@ -2,6 +2,7 @@
 
 ghost use Rattle.std.specs.Prelude.{◌≡◌, IfOk, IfErr, Some, map, option_and_then};
 ghost use Rattle.clap.specs.Words.{app_of, kind_of, subcommand_name_of};
+ghost use Rattle.mctpctl.specs.FaultNumbers.{number_of_choose_fault};
 ghost use Rattle.mctpctl.specs.Choice.{command as the_command, task_named, task_of, TellsKind, TellsRefusal};
 
 use clap::error::ErrorKind;
@@ -28,6 +29,19 @@ pub enum ChooseFault {
     /// No memory was left; the exit status is 3.
     #[error("out of memory")]
     Memory,
+}
+
+impl ChooseFault {
+    /// The fault's number in this program's list.
+    pub fn number(&self) -> u8
+        ensures { result ≡ number_of_choose_fault self.now }
+    {
+        match self {
+            ChooseFault::Help(_) => 1,
+            ChooseFault::Refused(_) => 2,
+            ChooseFault::Memory => 3,
+        }
+    }
 }
 
 /// The task that a command line names, the program's name first.

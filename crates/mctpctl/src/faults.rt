@@ -1,6 +1,7 @@
 //! What ends a run before its time, the text that tells it, and the program's exit status.
 
 ghost use Rattle.std.specs.Prelude.{◌≡◌, IfOk, Some, string_bytes};
+ghost use Rattle.mctpctl.specs.FaultNumbers.{number_of_engine_fault, number_of_line_kind};
 ghost use Rattle.mctpctl.specs.FaultTexts.{fault_text, name_of_line_kind};
 ghost use Rattle.mctpctl.specs.Statuses.{status_of_fault};
 
@@ -15,18 +16,25 @@ use thiserror::Error;
 #[error("{}", self.name())]
 pub enum LineKind {
     /// The line is over the limit of a capture line.
-    LongLine,
+    LongLine = 1,
     /// The line has too many words.
-    Words,
+    Words = 2,
     /// The moment is no decimal number, or is outside its range.
-    Number,
+    Number = 3,
     /// The moment is before that of an earlier line.
-    BackInTime,
+    BackInTime = 4,
     /// The packet has an odd number of hex digits, or a character that is none.
-    BadHex,
+    BadHex = 5,
 }
 
 impl LineKind {
+    /// The fault's number in this program's list.
+    pub fn number(self) -> u8
+        ensures { result ≡ number_of_line_kind self }
+    {
+        self as u8
+    }
+
     /// The fault's name, as it is spelled in this type.
     pub fn name(self) -> &'static str
         ensures { result.now ≡ name_of_line_kind self }
@@ -77,6 +85,23 @@ impl fmt::Display for EngineFault {
 }
 
 impl error::Error for EngineFault {}
+
+impl EngineFault {
+    /// The fault's number in this program's list: 4 is kept for a requester's refused timing.
+    pub fn number(&self) -> u8
+        ensures { result ≡ number_of_engine_fault self.now }
+    {
+        match self {
+            EngineFault::Device(_) => 1,
+            EngineFault::NoDivider => 2,
+            EngineFault::Line(_, _) => 3,
+            EngineFault::TooLarge => 5,
+            EngineFault::Read => 6,
+            EngineFault::Write => 7,
+            EngineFault::Memory => 8,
+        }
+    }
+}
 
 /// The exit status of a run that ended in the fault: 1 where the input was refused, 3 where the run
 /// could not be done.

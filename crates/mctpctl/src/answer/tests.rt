@@ -5,7 +5,6 @@ use crate::answer::answer_all;
 use crate::example::{description, input};
 use crate::fakes::{FailsAt, OneByteWriter, PieceReader};
 use crate::faults::{EngineFault, LineKind};
-use crate::limits::{MAX_CAPTURE_LINE, MAX_DESCRIPTION};
 use crate::platform_example;
 use crate::port::Port;
 use pldm_device::FileFault;
@@ -315,8 +314,8 @@ fn description_of_size(alloc: Global, size: usize) -> Result<String, AllocError>
 fn limits_of_a_description(rt: HostRuntime) -> Result<(), Fail> {
     let alloc = rt.alloc();
     for (size, want) in [
-        (MAX_DESCRIPTION, Ok(())),
-        (MAX_DESCRIPTION + 1, Err(EngineFault::TooLarge)),
+        (1_048_576, Ok(())),
+        (1_048_577, Err(EngineFault::TooLarge)),
     ] {
         let mut text = description_of_size(alloc, size)?;
         assert_eq!(rt; text.len(), size);
@@ -332,8 +331,8 @@ fn limits_of_a_description(rt: HostRuntime) -> Result<(), Fail> {
 fn limits_of_a_line(rt: HostRuntime) -> Result<(), Fail> {
     let alloc = rt.alloc();
     for (size, fault) in [
-        (MAX_CAPTURE_LINE, None),
-        (MAX_CAPTURE_LINE + 1, Some(LineKind::LongLine)),
+        (4_096, None),
+        (4_097, Some(LineKind::LongLine)),
     ] {
         let mut line = String::from_str(alloc, "0 010908c801800002")?;
         for _ in line.len()..size {
