@@ -42,20 +42,44 @@ impl Write for OneByteWriter {
     }
 }
 
-/// Passes `calls_left` calls on to a reader or writer, and answers every later one with the error
-/// that std's own helpers try again.
+/// Passes calls on to a reader or writer and counts them. The one after `calls_left` others is answered
+/// with the error that std's own helpers try again; every later one is passed on again where `recovers`,
+/// and else is answered so too.
 #[derive(Drop)]
 pub struct FailsAt<T> {
     pub inner: T,
     pub calls_left: usize,
+    pub recovers: bool,
+    pub calls: usize,
 }
 
 impl<T> FailsAt<T> {
+    /// Fails at every call after these.
+    pub fn for_good(inner: T, calls_left: usize) -> FailsAt<T> {
+        FailsAt {
+            inner,
+            calls_left,
+            recovers: false,
+            calls: 0,
+        }
+    }
+
+    /// Fails at the call after these, and at no other.
+    pub fn once(inner: T, calls_left: usize) -> FailsAt<T> {
+        FailsAt {
+            inner,
+            calls_left,
+            recovers: true,
+            calls: 0,
+        }
+    }
+
     fn count(&mut self) -> io::Result<()> {
-        if self.calls_left == 0 {
+        let calls = self.calls;
+        self.calls = calls.saturating_add(1);
+        if calls == self.calls_left || calls > self.calls_left && !self.recovers {
             return Err(Error::from(ErrorKind::Interrupted));
         }
-        self.calls_left -= 1;
         Ok(())
     }
 }

@@ -14,8 +14,6 @@ mod limits;
 mod line_run;
 mod lines;
 mod outcome;
-#[cfg(test)]
-mod platform_example;
 mod port;
 mod stream;
 

@@ -5,7 +5,6 @@ use crate::answer::answer_all;
 use crate::example::{description, input};
 use crate::fakes::{FailsAt, OneByteWriter, PieceReader};
 use crate::faults::{EngineFault, LineKind};
-use crate::platform_example;
 use crate::port::Port;
 use pldm_device::FileFault;
 use std::alloc::{AllocError, Global};
@@ -88,14 +87,6 @@ fn commands_of_the_device(rt: HostRuntime) -> Result<(), Fail> {
     for (capture, text) in cases {
         expect(&rt, rt.alloc(), capture, Ok(()), text)?;
     }
-    Ok(())
-}
-
-#[test]
-fn sensors_and_effecters_of_each_kind(rt: HostRuntime) -> Result<(), Fail> {
-    let (result, written) = run(rt.alloc(), platform_example::INPUT.as_bytes())?;
-    assert_eq!(rt; result, Ok(()));
-    assert_eq!(rt; written.as_slice(), platform_example::TEXT.as_bytes());
     Ok(())
 }
 
@@ -220,29 +211,6 @@ fn copies(rt: HostRuntime) -> Result<(), Fail> {
     Ok(())
 }
 
-/// The example of the repository's folder `examples/`, with that file's expected text.
-#[test]
-fn drops_and_answers(rt: HostRuntime) -> Result<(), Fail> {
-    let capture = "# Endpoint 8 asks device 9: set the terminus ID to 5, then read it.
-0 010908c90181000105
-
-# A packet for endpoint 11 is not ours.
-5 010b08c801800002
-
-# Command 5 of PLDM type 2 does not exist: it is answered with code 0x05.
-7 010908c801800205
-
-10 010908ca01820002
-";
-    let text = "010809c10101000100
-drop UnknownDestination
-010809c00100020505
-010809c2010200020005
-";
-    expect(&rt, rt.alloc(), capture, Ok(()), text)?;
-    Ok(())
-}
-
 #[test]
 fn refused_lines(rt: HostRuntime) -> Result<(), Fail> {
     let answer = "010809c0010000020001\n";
@@ -313,10 +281,7 @@ fn description_of_size(alloc: Global, size: usize) -> Result<String, AllocError>
 #[test]
 fn limits_of_a_description(rt: HostRuntime) -> Result<(), Fail> {
     let alloc = rt.alloc();
-    for (size, want) in [
-        (1_048_576, Ok(())),
-        (1_048_577, Err(EngineFault::TooLarge)),
-    ] {
+    for (size, want) in [(1_048_576, Ok(())), (1_048_577, Err(EngineFault::TooLarge))] {
         let mut text = description_of_size(alloc, size)?;
         assert_eq!(rt; text.len(), size);
         text.push_str("%%\n0 010908c801800002")?;
@@ -330,10 +295,7 @@ fn limits_of_a_description(rt: HostRuntime) -> Result<(), Fail> {
 #[test]
 fn limits_of_a_line(rt: HostRuntime) -> Result<(), Fail> {
     let alloc = rt.alloc();
-    for (size, fault) in [
-        (4_096, None),
-        (4_097, Some(LineKind::LongLine)),
-    ] {
+    for (size, fault) in [(4_096, None), (4_097, Some(LineKind::LongLine))] {
         let mut line = String::from_str(alloc, "0 010908c801800002")?;
         for _ in line.len()..size {
             line.push(' ')?;
@@ -371,68 +333,100 @@ fn pieces_change_nothing(rt: HostRuntime) -> Result<(), Fail> {
     Ok(())
 }
 
-/// A reader that gives 100 bytes at a call fails at each call in turn, the last of which would tell
-/// the end of input.
+/// A reader that gives 100 bytes at a call fails once, at each call in turn, the last of which would
+/// tell the end of input: it is not asked again, and the lines that ended before have been answered.
 #[test]
 fn a_reader_that_fails(rt: HostRuntime) -> Result<(), Fail> {
     let alloc = rt.alloc();
-    let text = input(alloc, "0 010908c801800002")?;
+    let text = input(alloc, "0 010908c801800002\n1 010908c801800002\n")?;
     let calls = text.len().div_ceil(100) + 1;
+    let answer = b"010809c0010000020001\n";
     for calls_left in 0..calls {
         let pieces = PieceReader {
             bytes: text.as_bytes(),
             piece: 100,
         };
-        let (result, written) = run(
-            alloc,
-            FailsAt {
-                inner: pieces,
-                calls_left,
-            },
-        )?;
+        let mut reader = Port::new(FailsAt::once(pieces, calls_left));
+        let mut writer = Port::new(Vec::with_capacity(alloc, 4_096)?);
+        let result = answer_all(alloc, &mut reader, &mut writer);
         assert_eq!(rt; result, Err(EngineFault::Read), "at {calls_left}");
-        assert_eq!(rt; written.len(), 0);
+        assert_eq!(rt; reader.into_inner().calls, calls_left + 1);
+        let written = writer.into_inner();
+        let ended = text.as_bytes()[..text.len().min(calls_left * 100)].ends_with(b"02\n");
+        assert_eq!(rt; written.len(), if ended { 2 * answer.len() } else { 0 });
     }
-    let whole = PieceReader {
-        bytes: text.as_bytes(),
-        piece: 100,
-    };
-    let (result, _written) = run(
-        alloc,
-        FailsAt {
-            inner: whole,
-            calls_left: calls,
-        },
-    )?;
-    assert_eq!(rt; result, Ok(()));
     Ok(())
 }
 
-/// A writer of one byte at a call fails at each call in turn: 21 bytes, and the flush.
+/// A writer of one byte at a call fails once, at each call in turn: 21 bytes, and the flush.
 #[test]
 fn a_writer_that_fails(rt: HostRuntime) -> Result<(), Fail> {
     let alloc = rt.alloc();
     let text = input(alloc, "0 010908c801800002")?;
     for calls_left in 0..23 {
         let mut reader = Port::new(text.as_bytes());
-        let mut writer = Port::new(FailsAt {
-            inner: OneByteWriter {
-                taken: Vec::new(alloc),
-                flushes: 0,
-            },
-            calls_left,
-        });
+        let inner = OneByteWriter {
+            taken: Vec::new(alloc),
+            flushes: 0,
+        };
+        let mut writer = Port::new(FailsAt::once(inner, calls_left));
         let want = if calls_left < 22 {
             Err(EngineFault::Write)
         } else {
             Ok(())
         };
-        assert_eq!(rt;
-            answer_all(alloc, &mut reader, &mut writer),
-            want,
-            "at {calls_left}"
-        );
+        let result = answer_all(alloc, &mut reader, &mut writer);
+        assert_eq!(rt; result, want, "at {calls_left}");
         assert_eq!(rt; writer.failed(), calls_left < 22);
+        assert_eq!(rt; writer.into_inner().calls, 22.min(calls_left + 1));
+    }
+    Ok(())
+}
+
+/// A run that ends with a refused line flushes what it wrote, once.
+#[test]
+fn a_refused_line_is_flushed(rt: HostRuntime) -> Result<(), Fail> {
+    let alloc = rt.alloc();
+    let text = input(alloc, "0 010908c801800002\nx")?;
+    let mut reader = Port::new(text.as_bytes());
+    let mut writer = Port::new(OneByteWriter {
+        taken: Vec::new(alloc),
+        flushes: 0,
+    });
+    let want = Err(EngineFault::Line(2, LineKind::Number));
+    assert_eq!(rt; answer_all(alloc, &mut reader, &mut writer), want);
+    let writer = writer.into_inner();
+    assert_eq!(rt;
+        writer.taken.as_slice(),
+        b"010809c0010000020001\n".as_slice()
+    );
+    assert_eq!(rt; writer.flushes, 1);
+    Ok(())
+}
+
+/// A line of as many bytes as it may have is one packet of 2,045 bytes, which no baseline unit carries;
+/// and input of as many bytes as it may have is answered to its end.
+#[test]
+fn the_longest_line_and_the_longest_input(rt: HostRuntime) -> Result<(), Fail> {
+    let alloc = rt.alloc();
+    let mut line = String::from_str(alloc, "00000 010908c8")?;
+    for _ in 0..2_041 {
+        line.push_str("01")?;
+    }
+    assert_eq!(rt; line.len(), 4_096);
+    expect(&rt, alloc, line.as_str(), Ok(()), "drop UnsupportedUnit\n")?;
+    for (size, want) in [
+        (16_777_216, Ok(())),
+        (16_777_217, Err(EngineFault::TooLarge)),
+    ] {
+        let mut text = input(alloc, "0 010908c801800002\n")?;
+        text.reserve(size - text.len())?;
+        for at in text.len()..size {
+            text.push(if at % 1_024 == 0 { '\n' } else { ' ' })?;
+        }
+        let (result, written) = run(alloc, text.as_bytes())?;
+        assert_eq!(rt; result, want);
+        assert_eq!(rt; written.as_slice(), b"010809c0010000020001\n".as_slice());
     }
     Ok(())
 }
