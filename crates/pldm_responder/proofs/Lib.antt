@@ -1,9 +1,10 @@
-pub mod SlotLists
 pub mod FewSources
-pub mod CountedSlots
 pub mod KeyOrder
 pub mod AskedKeys
+pub mod CountedPairs
+pub mod SlotLookups
+pub mod KeptCounts
 pub mod ServedMessages
 pub mod CallsLookBack
-pub mod WorkedRows
 pub mod PairCounts
+pub mod BusyAnswers
