@@ -6,7 +6,7 @@ ghost use Rattle.mctpctl.specs.HeldRuns.{held_step, held_run};
 ghost use Rattle.mctpctl.specs.LineRuns.{Writes, WritesLine, last_line, lines_written};
 ghost use Rattle.mctpctl.specs.Ports.{inner_of, has_failed};
 ghost use Rattle.mctpctl.specs.TextLines.{lines_of};
-ghost use Rattle.pldm_responder.specs.Slots.{held_of};
+ghost use Rattle.pldm_responder.specs.Stations.{held_of};
 
 use crate::capture::{CaptureFault, CaptureLine, read_capture_line};
 use crate::faults::{EngineFault, LineKind};

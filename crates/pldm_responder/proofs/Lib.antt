@@ -8,3 +8,5 @@ pub mod ServedMessages
 pub mod CallsLookBack
 pub mod PairCounts
 pub mod BusyAnswers
+pub mod Numbers
+pub mod WorkedRows

@@ -5,7 +5,7 @@ use Rattle.mctpctl.specs.HeldRuns.{held_step}
 use Rattle.mctpctl.specs.LineRuns.{after_text, lines_written}
 use Rattle.mctpctl.proofs.RunsOverLines.{line_taken, line_refused, Writes-after}
 use Rattle.mctpctl.proofs.answer.answer_lines.Goals as goal
-use Rattle.pldm_responder.specs.Slots.{held_of}
+use Rattle.pldm_responder.specs.Stations.{held_of}
 
 pub returns-in-Err-clause-text : goal.returns-in-Err-clause-text
 returns-in-Err-clause-text g c =

@@ -5,7 +5,7 @@ use Rattle.mctpctl.specs.HeldRuns.{held_step}
 use Rattle.mctpctl.specs.LineRuns.{after_text, lines_written}
 use Rattle.mctpctl.specs.TextLines.{lines_of}
 use Rattle.mctpctl.proofs.answer.answer_lines.Given as goal
-use Rattle.pldm_responder.specs.Slots.{held_of}
+use Rattle.pldm_responder.specs.Stations.{held_of}
 
 abbrev pub invariant-loop-line : goal.invariant-loop-line
 invariant-loop-line g l = record {
