@@ -1,4 +1,4 @@
--- What a responder owes, told by looking back over the list of all its calls, the newest first.
+-- What a responder owes, read by looking back over the list of all its calls, the newest first.
 use Rattle.std.specs.Prelude.{ℕ, ℤ, true, false, List, [], ◌∷◌, Result, Ok, Err, if◌then◌else◌}
 use Rattle.mctp_packet.specs.Packets.{Packet}
 use Rattle.mctp_packet.specs.declared.reason.Reason.{Reason}

@@ -1,4 +1,4 @@
--- What a responder holds after any list of calls, told by looking back over the list.
+-- What a responder holds after any list of calls, read by looking back over the list.
 use Rattle.std.specs.Prelude.{◌≡◌, ℕ, ℤ, Bool, true, List, [], ◌∷◌, Option, Some, None, is_some, Ok}
 use Rattle.mctp_packet.specs.Packets.{packet, written}
 use Rattle.mctp_packet.specs.Pieces.{packets, written_packets}

@@ -5,7 +5,7 @@ ghost use Rattle.pldm_responder.specs.Performing.{rules_of};
 
 use pldm_device::Platform;
 
-/// What a responder holds after any list of calls, and what it gives then, is told by looking back
+/// What a responder holds after any list of calls, and what it answers then, is read by looking back
 /// over the list.
 pub fn looks_back<P: Platform>()
     ensures received { ReceivedLooksBack (rules_of P.answer P.after P.sensed) }

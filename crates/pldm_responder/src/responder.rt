@@ -15,6 +15,7 @@ ghost use Rattle.pldm_responder.specs.Performing.{rules_of};
 ghost use Rattle.pldm_responder.specs.Slots.{kept_in};
 ghost use Rattle.pldm_responder.specs.Stations.{held_of};
 ghost use Rattle.pldm_responder.specs.Steps.{arrival_commands, arrival_held, arrival_outcome, copied_packets, passed_held, received_commands, received_held, received_outcome, restarted_held, sensed_held};
+ghost use Rattle.pldm_responder.specs.declared.outcome.Outcome.TheVariants.{Answered};
 ghost use Rattle.pldm_responder.specs.Wants.{ArrivalWants, PassedWants, WantsMemory};
 
 use crate::kept_answer::KeptAnswer;
@@ -152,7 +153,7 @@ impl<P: Platform> Responder<P> {
         requires { (held_of self.now).last ≤ now }
         ensures { result ≡ nat_lt now (held_of self.now).serves_from }
     {
-        now.get() < self.serves_from
+        self.serves_from > now.get()
     }
 
     /// Takes the bytes of a packet that came at the moment `now`, which must not be before
@@ -250,19 +251,12 @@ impl<P: Platform> Responder<P> {
         };
         if now.get() < self.serves_from {
             let answer = busy_answer(&request);
-            return Ok(Outcome::Answered {
-                fresh: false,
-                changed: false,
-                packets: packets_back(self.own, source, tag, &answer),
-            });
+            let packets = packets_back(self.own, source, tag, &answer);
+            return Ok(not_performed(packets));
         }
         let id = request.id();
         if let Some(packets) = self.copied(now, source, tag, id, &message) {
-            return Ok(Outcome::Answered {
-                fresh: false,
-                changed: false,
-                packets,
-            });
+            return Ok(not_performed(packets));
         }
         self.kept.make_room(source)?;
         let Performed { answer, changed } = perform(self.alloc, &mut self.platform, &request)?;
@@ -313,6 +307,17 @@ impl<P: Platform> Responder<P> {
     {
         let _range = self.own.get();
         self.assembler.pending()
+    }
+}
+
+/// What becomes of a message that is answered and not performed.
+fn not_performed(packets: Packets) -> Outcome
+    ensures { result ≡ Answered false false packets }
+{
+    Outcome::Answered {
+        fresh: false,
+        changed: false,
+        packets,
     }
 }
 
