@@ -14,7 +14,7 @@ use Rattle.mctpctl.specs.declared.line_run.LineRun.{LineRun}
 use Rattle.mctpctl.proofs.DescribedGlue.{run_of_all}
 use Rattle.mctpctl.proofs.RunsOverLines.{Writes-kept}
 use Rattle.pldm_device.specs.Devices.{Device}
-use Rattle.pldm_responder.specs.Slots.{Station}
+use Rattle.pldm_responder.specs.Stations.{Station}
 
 -- at first the run gives the text of its input
 pub first_gives : (text kept : List ℕ) (lines : Option (LineRun (Station Device))) → text ≡ [] → kept ≡ [] → lines ≡ None

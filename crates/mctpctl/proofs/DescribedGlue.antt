@@ -21,7 +21,7 @@ use Rattle.mctpctl.proofs.LineGlue.{lines_glued, line_ended, glued_glued, glued_
 use Rattle.mctpctl.proofs.RunsOverLines.{some_line}
 use Rattle.pldm_device.specs.Descriptions.{stated}
 use Rattle.pldm_device.specs.Devices.{Device}
-use Rattle.pldm_responder.specs.Steps.{Held, held_at_first}
+use Rattle.pldm_responder.specs.Held.{Held, held_at_first}
 use Rattle.pldm_device.specs.declared.description.Description.{Description}
 use Rattle.pldm_device.specs.declared.description_fault.FileFault.{FileFault}
 

@@ -16,7 +16,8 @@ use Rattle.pldm_device.specs.declared.description.Description.{Description}
 use Rattle.pldm_device.specs.declared.description_fault.FileFault.{FileFault}
 use Rattle.pldm_responder.specs.Calls.{Call, last_moment, outcome}
 use Rattle.pldm_responder.specs.Laws.{IsLeftBy, NewLooksBack, ReceivedLooksBack}
-use Rattle.pldm_responder.specs.Steps.{Held, held_at_first, received_outcome, received_held}
+use Rattle.pldm_responder.specs.Held.{Held, held_at_first}
+use Rattle.pldm_responder.specs.Steps.{received_outcome, received_held}
 
 -- what is held is what the calls of the described device's responder leave
 abbrev IsLeft : Description → Held Device → List Call → Type 0

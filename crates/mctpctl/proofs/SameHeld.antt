@@ -1,6 +1,6 @@
 -- What a responder holds is settled by its parts, and of the kept answers by each of them.
 use Rattle.std.proofs.Common.{◌≡◌}
-use Rattle.pldm_responder.specs.Steps.{Held, IsHeld}
+use Rattle.pldm_responder.specs.Held.{Held, IsHeld}
 
 pub same_held : {S : Type 0} {new held : Held S} → IsHeld new held → new ≡ held
 same_held same =

@@ -14,7 +14,7 @@ use Rattle.pldm_device.specs.Descriptions.{stated}
 use Rattle.pldm_device.specs.Devices.{Device}
 use Rattle.pldm_device.specs.declared.description.Description.{Description}
 use Rattle.pldm_device.specs.declared.description_fault.FileFault.{FileFault}
-use Rattle.pldm_responder.specs.Slots.{Station, held_of}
+use Rattle.pldm_responder.specs.Stations.{Station, held_of}
 
 -- what the run over the capture writes of the bytes to come
 abbrev pub past_gives : LineRun (Station Device) → Gives

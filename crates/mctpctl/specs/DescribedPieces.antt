@@ -12,7 +12,7 @@ use Rattle.pldm_device.specs.Descriptions.{stated}
 use Rattle.pldm_device.specs.declared.description.Description.{Description}
 use Rattle.pldm_device.specs.declared.description_fault.FileFault.{FileFault}
 use Rattle.pldm_device.specs.Devices.{Device}
-use Rattle.pldm_responder.specs.Steps.{Held, held_at_first}
+use Rattle.pldm_responder.specs.Held.{Held, held_at_first}
 
 module _ (run : Description → Bool → List (List ℕ) → Written) where
   -- the run over the lines after the divider, if a line divides, where this is the description

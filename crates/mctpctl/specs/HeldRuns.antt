@@ -5,7 +5,8 @@ use Rattle.mctpctl.specs.LineRuns.{Written, lines_written}
 use Rattle.mctpctl.specs.declared.faults.LineKind.{LineKind}
 use Rattle.pldm_device.specs.Devices.{Device}
 use Rattle.pldm_device.specs.declared.description.Description.{Description}
-use Rattle.pldm_responder.specs.Steps.{Held, held_at_first, received_outcome, received_held}
+use Rattle.pldm_responder.specs.Held.{Held, held_at_first}
+use Rattle.pldm_responder.specs.Steps.{received_outcome, received_held}
 
 -- what one line gives
 abbrev pub held_step : Held Device → List ℕ → Result (List ℕ × Held Device) LineKind

@@ -7,8 +7,8 @@ ghost use Rattle.mctpctl.specs.HeldRefusals.{held_refuses};
 ghost use Rattle.mctpctl.specs.HeldRuns.{held_step, held_run};
 ghost use Rattle.mctpctl.specs.LinePieces.{HasNoFeed, line_gives, AddsLine};
 ghost use Rattle.mctpctl.specs.Pieces.{GoesOn, Takes, Finishes};
-ghost use Rattle.pldm_responder.specs.Slots.{held_of};
-ghost use Rattle.pldm_responder.specs.Steps.{Held};
+ghost use Rattle.pldm_responder.specs.Stations.{held_of};
+ghost use Rattle.pldm_responder.specs.Held.{Held};
 ghost use Rattle.pldm_device.specs.Devices.{Device};
 
 use crate::capture::{CaptureFault, CaptureLine, read_capture_line};

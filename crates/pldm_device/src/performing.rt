@@ -90,6 +90,13 @@ impl Platform for SimDevice {
 
     ghost answers_the_command = { answers_the_command };
 
+    // it keeps no account of them
+    ghost performed = { λ before commands after. Unit {0} };
+
+    ghost none_performed = { λ value. tt };
+
+    ghost performed_in_turn = { λ first second third before after one other. tt };
+
     fn perform(&mut self, _alloc: Global, command: &Command) -> Result<Answer, Memory> {
         Ok(self.answer_to(command))
     }

@@ -97,7 +97,7 @@ use std::alloc::Global;
 /// lamp_answers tid _ = tt
 /// ```
 pub trait Platform: Drop {
-    ghost use Rattle.std.specs.Prelude.{◌≡◌, ℕ, ℤ, Bool, false, Result, IfOk, IsOk, OnOk, OnErr, IsTrue};
+    ghost use Rattle.std.specs.Prelude.{◌≡◌, ℕ, ℤ, Bool, false, List, [], ◌∷◌, ◌++◌, Result, IfOk, IsOk, OnOk, OnErr, IsTrue};
     ghost use Rattle.pldm_wire.specs.Commands.{kind_of, sets};
     ghost use Rattle.pldm_wire.specs.Answers.{IsAnswerTo};
     ghost use Rattle.pldm_wire.specs.declared.command.Command.{Command};
@@ -126,21 +126,31 @@ pub trait Platform: Drop {
     // the state after a sensor was given a reading, or why it wasn't
     ghost sensed: { Self.State → ℕ → ℤ → Result Self.State ReadingFault };
 
+    // from one value to another these commands were performed, the newest first, and no others
+    ghost performed: { Self → List Command → Self → Type 0 };
+
     /// Performs the command and gives its answer. After Memory the state is as before.
     fn perform(&mut self, alloc: Global, command: &Command) -> Result<Answer, Memory>
         ensures answered { IfOk result (λ given. given ≡ answer (state self.old) command.now) }
         ensures changed { OnOk result (state self.new ≡ after (state self.old) command.now) }
         ensures unchanged { OnErr result (state self.new ≡ state self.old) }
+        ensures performs { OnOk result (performed self.old (command.now ∷ []) self.new) }
+        ensures performs_none { OnErr result (performed self.old [] self.new) }
         ensures steady { IsTrue STEADY → IsOk result };
 
     /// Gives the numeric sensor with this ID the reading `value`. The state is as before where it
     /// answers a fault.
     fn set_reading(&mut self, id: u16, value: i64) -> Result<(), ReadingFault>
-        ensures { Changes (sensed (state self.old) id value) (state self.old) result (state self.new) };
+        ensures changes { Changes (sensed (state self.old) id value) (state self.old) result (state self.new) }
+        ensures performs_none { performed self.old [] self.new };
 
     ghost reads_only: { (s : Self.State) (command : Command) → sets command ≡ false → after s command ≡ s };
 
     ghost refusal_changes_nothing: { (s : Self.State) (command : Command) (code : ℕ) → answer s command ≡ answers.Refused code → after s command ≡ s };
 
     ghost answers_the_command: { (s : Self.State) (command : Command) → IsAnswerTo (kind_of command) (answer s command) };
+
+    ghost none_performed: { (value : Self) → performed value [] value };
+
+    ghost performed_in_turn: { (first second third : Self) (before after : List Command) → performed first before second → performed second after third → performed first (after ++ before) third };
 }

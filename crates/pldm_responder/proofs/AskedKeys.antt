@@ -17,7 +17,7 @@ use Rattle.mctp_assembly.specs.Keys.{key_cmp, key_of}
 use Rattle.mctp_assembly.specs.Opened.{Opened}
 use Rattle.mctp_assembly.specs.Steps.{Held, answer, after, stays_open, carried_on}
 use Rattle.mctp_assembly.specs.declared.key.Key.{Key}
-use Rattle.pldm_responder.specs.Slots.{IsAsked, AreAsked}
+use Rattle.pldm_responder.specs.Stations.{IsAsked, AreAsked}
 use Rattle.pldm_responder.specs.declared.responder.TheConstants.{MOST_PENDING}
 use Rattle.pldm_responder.proofs.FewSources.{place, place_low, same_place}
 use Rattle.pldm_responder.proofs.KeyOrder.{keys_total, keys_exact}

@@ -1,22 +1,21 @@
 -- What a responder holds and gives is what looking back over the list of its calls says.
-use Rattle.std.proofs.Common.{◌≡◌, ℕ, Bool, true, false, not, ◌&&◌, ◌||◌, List, [], ◌∷◌, Option, Some, None, is_some, Result, Ok, Err, if◌then◌else◌, refl, sym, ap, ◌∙◌, subst, lit≤}
+use Rattle.std.proofs.Common.{◌≡◌, ℕ, ◌+◌, Bool, true, false, not, ◌&&◌, ◌||◌, List, [], ◌∷◌, Option, Some, None, is_some, Result, Ok, Err, if◌then◌else◌, refl, sym, ap, ◌∙◌, subst, lit≤}
 use Rattle.mctp_packet.specs.Packets.{Packet}
-use Rattle.mctp_packet.specs.Reading.{reading}
 use Rattle.mctp_packet.specs.declared.reason.Reason.{Reason}
-use Rattle.mctp_packet.specs.declared.reason.Reason.TheVariants.{BadTag}
 use Rattle.mctp_packet.specs.declared.TheConstants.{MOST_PACKETS}
 use Rattle.mctp_assembly.specs.Histories as histories
 use Rattle.mctp_assembly.specs.Laws as assembly
 use Rattle.mctp_assembly.specs.Steps as steps
 use Rattle.pldm_wire.specs.Headers.{id_at}
 use Rattle.pldm_device.specs.Changes.{changed_or}
-use Rattle.pldm_responder.specs.Arrivals.{Arrival, Drop, Part, Whole, fed_arrival, packet_arrival, read_arrival, arrival, packets_back}
+use Rattle.pldm_responder.specs.Arrivals.{Arrival, Drop, Part, Whole, fed_arrival, passed_arrival, arrival, request_packet, packets_back}
 use Rattle.pldm_responder.specs.Calls as calls
 use Rattle.pldm_responder.specs.Calls.{Call, Received, Sensed, with_packet, fed, looked_back, arrived, with_arrival, events, last_moment, outcome}
 use Rattle.pldm_responder.specs.Events.{Message, Event, Came, Set, Restarted, Place, busy_until, is_busy, is_of, is_copy_of, origin, is_fresh, has_fresh}
-use Rattle.pldm_responder.specs.Laws.{entry_at, IsLeftBy, ReceivedLooksBack, SensedLooksBack, NewLooksBack, SameIsLeft, KeptWhereFresh}
+use Rattle.pldm_responder.specs.Laws.{entry_at, IsLeftBy, ReceivedLooksBack, SensedLooksBack, RestartedLooksBack, NewLooksBack, SameIsLeft, KeptWhereFresh}
 use Rattle.pldm_responder.specs.Performing.{Rules, reply, next, changes, busy_reply, performed, reply_at, answered_by}
-use Rattle.pldm_responder.specs.Steps.{Held, repeats, copied_packets, open_after, served, message_outcome, entry_of, kept_after, state_after, arrival_outcome, arrival_held, received_outcome, received_held}
+use Rattle.pldm_responder.specs.Held.{Held}
+use Rattle.pldm_responder.specs.Steps.{repeats, copied_packets, open_after, served, message_outcome, entry_of, kept_after, state_after, arrival_outcome, arrival_held, received_outcome, received_held}
 use Rattle.pldm_responder.specs.declared.outcome.Outcome.TheVariants.{Answered}
 
 -- ---- an origin is a fresh message
@@ -34,22 +33,14 @@ origin_where_fresh keep (Came m ∷ h) source id =
 
 -- ---- what a packet brings
 module _ (looks : assembly.FeedLooksBack) where
-  packet_brings : (open_messages : steps.Held) (packets : List histories.Call) (moment : ℕ) (p : Packet) → histories.IsLeftBy open_messages packets → packet_arrival (steps.answer open_messages) moment p ≡ packet_arrival (looked_back packets) moment p
-  packet_brings open_messages packets moment p left =
-      ap (λ fed. if not p.route.owner then Drop BadTag else fed_arrival p.route moment fed) (looks MOST_PACKETS open_messages packets p (lit≤ tt) left).0
+  passed_brings : (open_messages : steps.Held) (packets : List histories.Call) (moment : ℕ) (read : Result Packet Reason) → histories.IsLeftBy open_messages packets → passed_arrival (steps.answer open_messages) moment read ≡ passed_arrival (looked_back packets) moment read
+  passed_brings open_messages packets moment (Ok p) left =
+      ap (fed_arrival p.route moment) (looks MOST_PACKETS open_messages packets p (lit≤ tt) left).0
+  passed_brings open_messages packets moment (Err reason) left = refl
 
-  read_brings : (open_messages : steps.Held) (packets : List histories.Call) (moment : ℕ) (read : Result Packet Reason) → histories.IsLeftBy open_messages packets → read_arrival (steps.answer open_messages) moment read ≡ read_arrival (looked_back packets) moment read
-  read_brings open_messages packets moment (Ok p) left = packet_brings open_messages packets moment p left
-  read_brings open_messages packets moment (Err reason) left = refl
-
-  packet_opens : (owner : Bool) (open_messages : steps.Held) (packets : List histories.Call) (p : Packet) → histories.IsLeftBy open_messages packets
-      → histories.IsLeftBy (if owner then steps.after open_messages p else open_messages) (if owner then histories.feed p ∷ packets else packets)
-  packet_opens true open_messages packets p left = (looks MOST_PACKETS open_messages packets p (lit≤ tt) left).1
-  packet_opens false open_messages packets p left = left
-
-  read_opens : (open_messages : steps.Held) (packets : List histories.Call) (read : Result Packet Reason) → histories.IsLeftBy open_messages packets → histories.IsLeftBy (open_after open_messages read) (with_packet read packets)
-  read_opens open_messages packets (Ok p) left = packet_opens p.route.owner open_messages packets p left
-  read_opens open_messages packets (Err reason) left = left
+  passed_opens : (open_messages : steps.Held) (packets : List histories.Call) (read : Result Packet Reason) → histories.IsLeftBy open_messages packets → histories.IsLeftBy (open_after open_messages read) (with_packet read packets)
+  passed_opens open_messages packets (Ok p) left = (looks MOST_PACKETS open_messages packets p (lit≤ tt) left).1
+  passed_opens open_messages packets (Err reason) left = left
 
 -- ---- what a message is answered and leaves
 module _ {S : Type 0} (device : Rules S) (own keep : ℕ) (start : S) where
@@ -85,11 +76,11 @@ module _ {S : Type 0} (device : Rules S) (own keep : ℕ) (start : S) where
   served_is open_messages last h m (Some place) =
       served_by (is_copy_of keep m (Some place)) open_messages last h m (reply_at device keep start place)
 
-  message_is : (open_messages : steps.Held) (last : ℕ) (h : List Event) (m : Message) → message_outcome device (left_by open_messages last h) m ≡ calls.message_outcome device own keep start h m
+  message_is : (open_messages : steps.Held) (last : ℕ) (h : List Event) (m : Message) → message_outcome device (left_by open_messages last h) m ≡ calls.answer_owed device own keep start h m
   message_is open_messages last h m =
       ap (λ o. if is_busy keep h m.moment then Answered false false (packets_back own m (busy_reply m.bytes)) else o) (served_is open_messages last h m (origin keep h m.source (id_at m.bytes)))
 
-  arrival_is : (open_messages : steps.Held) (last : ℕ) (h : List Event) (a : Arrival) → arrival_outcome device (left_by open_messages last h) a ≡ calls.arrival_outcome device own keep start h a
+  arrival_is : (open_messages : steps.Held) (last : ℕ) (h : List Event) (a : Arrival) → arrival_outcome device (left_by open_messages last h) a ≡ calls.outcome_owed device own keep start h a
   arrival_is open_messages last h (Drop reason) = refl
   arrival_is open_messages last h Part = refl
   arrival_is open_messages last h (Whole m) = message_is open_messages last h m
@@ -151,12 +142,12 @@ module _ {S : Type 0} (device : Rules S) (own keep : ℕ) (start : S) where
         → (received_outcome device (left_by open_messages last (events own before)) moment bytes ≡ outcome device own keep start before moment bytes)
         × IsLeftBy device own keep start (received_held device (left_by open_messages last (events own before)) moment bytes) (Received moment bytes ∷ before)
     left_received open_messages last before moment bytes left =
-        let brings = read_brings looks open_messages (fed own before) moment (reading (Some own) bytes) left in
+        let brings = passed_brings looks open_messages (fed own before) moment (request_packet own bytes) left in
         let h = events own before in (
           ap (arrival_outcome device (left_by open_messages last h)) brings ∙ arrival_is open_messages last h (arrived own before moment bytes),
-          with_leaves (arrival_held device (left_by open_messages last h) (arrival (steps.answer open_messages) own moment bytes)) (open_after open_messages (reading (Some own) bytes)) moment bytes before
+          with_leaves (arrival_held device (left_by open_messages last h) (arrival (steps.answer open_messages) own moment bytes)) (open_after open_messages (request_packet own bytes)) moment bytes before
               (subst (λ a. Leaves (arrival_held device (left_by open_messages last h) a) (with_arrival (arrived own before moment bytes) h)) (sym brings) (arrival_leaves open_messages last h (arrived own before moment bytes)))
-              (read_opens looks open_messages (fed own before) (reading (Some own) bytes) left),
+              (passed_opens looks open_messages (fed own before) (request_packet own bytes) left),
         )
 
 module _ {S : Type 0} (device : Rules S) where
@@ -177,6 +168,17 @@ module _ {S : Type 0} (device : Rules S) where
     state = ap (λ s. changed_or s (device.sensed s id value)) left.state;
     serves_from = left.serves_from;
     last = left.last;
+  }
+
+  pub restarted_looks_back : assembly.NewLooksBack → RestartedLooksBack device
+  restarted_looks_back looks own keep start held before moment left = record {
+    endpoint = left.endpoint;
+    keeping = left.keeping;
+    open_messages = looks MOST_PACKETS;
+    kept = λ source id. refl;
+    state = left.state;
+    serves_from = ap (λ k. moment + k) left.keeping;
+    last = refl;
   }
 
   pub new_looks_back : assembly.NewLooksBack → NewLooksBack device

@@ -1,9 +1,12 @@
-pub mod SlotLists
 pub mod FewSources
-pub mod CountedSlots
 pub mod KeyOrder
 pub mod AskedKeys
+pub mod CountedPairs
+pub mod SlotLookups
+pub mod KeptCounts
 pub mod ServedMessages
 pub mod CallsLookBack
-pub mod WorkedRows
 pub mod PairCounts
+pub mod BusyAnswers
+pub mod Numbers
+pub mod WorkedRows

@@ -5,7 +5,7 @@ use Rattle.std.specs.List.{list_any}
 use Rattle.std.specs.Set.{is_member}
 use Rattle.std.proofs.lemmas.Map.Made.{length-from_same_keys}
 use Rattle.pldm_responder.specs.Laws.{OneCount}
-use Rattle.pldm_responder.specs.Steps.{is_pair}
+use Rattle.pldm_responder.specs.Counts.{is_pair}
 
 pair_equiv : IsEquivalence is_pair
 pair_equiv =

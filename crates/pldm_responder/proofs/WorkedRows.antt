@@ -6,22 +6,28 @@ use Rattle.mctp_packet.specs.declared.reason.Reason.TheVariants.{Short, BadTag, 
 use Rattle.mctp_assembly.specs.Keys.{key_cmp}
 use Rattle.pldm_wire.specs.CommandReading.{command_of}
 use Rattle.pldm_wire.specs.Requests.{request_of}
+use Rattle.pldm_wire.specs.declared.command.Command.TheVariants.{GetTid}
+use Rattle.pldm_responder.specs.Arrivals.{Arrival, Whole, message_of}
 use Rattle.pldm_responder.specs.Calls.{Call, Received, Sensed, Restart, events, outcome}
 use Rattle.pldm_responder.specs.Dimmers.{dimmer_answer, dimmer_after, dimmer_sensed}
 use Rattle.pldm_responder.specs.Events.{has_fresh}
+use Rattle.pldm_responder.specs.Counts.{CountsKept}
+use Rattle.pldm_responder.specs.Held.{Held, IsHeld, held_at_first}
 use Rattle.pldm_responder.specs.Laws.{IsLeftBy}
 use Rattle.pldm_responder.specs.Performing.{Rules, rules_of, performed}
-use Rattle.pldm_responder.specs.Steps.{Held, IsHeld, CountsKept, held_at_first, sensed_held}
+use Rattle.pldm_responder.specs.Slots.{kept_in, AreKept}
+use Rattle.pldm_responder.specs.Steps.{sensed_held, restarted_held, arrival_commands}
+use Rattle.pldm_responder.specs.Wants.{KeepsNone}
 use Rattle.pldm_responder.specs.declared.outcome.Outcome.{Outcome}
 use Rattle.pldm_responder.specs.declared.outcome.Outcome.TheVariants.{Dropped, Partial, Answered}
 use Rattle.pldm_responder.proofs.CallsLookBack.{sensed_looks_back}
-use Rattle.pldm_responder.proofs.CountedSlots.{counts_kept}
+use Rattle.pldm_responder.proofs.KeptCounts.{none_are_kept}
 
 abbrev light : Rules ℤ
 light = rules_of dimmer_answer dimmer_after dimmer_sensed
 
-abbrev given : List Call → ℕ → List ℕ → Outcome
-given calls moment bytes = outcome light 9 1000 (pos 0) calls moment bytes
+abbrev outcome_of : List Call → ℕ → List ℕ → Outcome
+outcome_of calls moment bytes = outcome light 9 1000 (pos 0) calls moment bytes
 
 abbrev level : List Call → ℤ
 level calls = performed light 1000 (pos 0) (events 9 calls)
@@ -33,11 +39,11 @@ get_tid = 1 ∷ 9 ∷ 8 ∷ 200 ∷ 1 ∷ 128 ∷ 0 ∷ 2 ∷ []
 abbrev get_tid_on_2 : List ℕ
 get_tid_on_2 = 1 ∷ 9 ∷ 8 ∷ 202 ∷ 1 ∷ 128 ∷ 0 ∷ 2 ∷ []
 
-first_is_fresh : given [] 0 get_tid ≡ Answered true false ((1 ∷ 8 ∷ 9 ∷ 192 ∷ 1 ∷ 0 ∷ 0 ∷ 2 ∷ 0 ∷ 1 ∷ []) ∷ [])
+first_is_fresh : outcome_of [] 0 get_tid ≡ Answered true false ((1 ∷ 8 ∷ 9 ∷ 192 ∷ 1 ∷ 0 ∷ 0 ∷ 2 ∷ 0 ∷ 1 ∷ []) ∷ [])
 unfolding request_of command_of
 first_is_fresh = refl
 
-copy_on_its_own_tag : given (Received 0 get_tid ∷ []) 1 get_tid_on_2 ≡ Answered false false ((1 ∷ 8 ∷ 9 ∷ 194 ∷ 1 ∷ 0 ∷ 0 ∷ 2 ∷ 0 ∷ 1 ∷ []) ∷ [])
+copy_on_its_own_tag : outcome_of (Received 0 get_tid ∷ []) 1 get_tid_on_2 ≡ Answered false false ((1 ∷ 8 ∷ 9 ∷ 194 ∷ 1 ∷ 0 ∷ 0 ∷ 2 ∷ 0 ∷ 1 ∷ []) ∷ [])
 unfolding request_of command_of
 copy_on_its_own_tag = refl
 
@@ -54,7 +60,7 @@ was_set = (1 ∷ 8 ∷ 9 ∷ 193 ∷ 1 ∷ 1 ∷ 2 ∷ 49 ∷ 0 ∷ []) ∷ []
 abbrev both_set : List Call
 both_set = Received 500 set_50 ∷ Received 0 set_40 ∷ []
 
-copy_at_the_last_moment : given both_set 999 set_40 ≡ Answered false false was_set
+copy_at_the_last_moment : outcome_of both_set 999 set_40 ≡ Answered false false was_set
 unfolding request_of command_of
 copy_at_the_last_moment = refl
 
@@ -62,7 +68,7 @@ copy_changes_nothing : level (Received 999 set_40 ∷ both_set) ≡ pos 50
 unfolding request_of command_of
 copy_changes_nothing = refl
 
-fresh_after_the_last_moment : given both_set 1000 set_40 ≡ Answered true true was_set
+fresh_after_the_last_moment : outcome_of both_set 1000 set_40 ≡ Answered true true was_set
 unfolding request_of command_of
 fresh_after_the_last_moment = refl
 
@@ -70,40 +76,40 @@ fresh_one_is_performed : level (Received 1000 set_40 ∷ both_set) ≡ pos 40
 unfolding request_of command_of
 fresh_one_is_performed = refl
 
-copy_does_not_lengthen : given (Received 700 set_50 ∷ Received 600 set_40 ∷ Received 0 set_40 ∷ []) 1100 set_40 ≡ Answered true true was_set
+copy_does_not_lengthen : outcome_of (Received 700 set_50 ∷ Received 600 set_40 ∷ Received 0 set_40 ∷ []) 1100 set_40 ≡ Answered true true was_set
 unfolding request_of command_of
 copy_does_not_lengthen = refl
 
-other_bytes_are_fresh : given (Received 0 set_40 ∷ []) 1 (1 ∷ 9 ∷ 8 ∷ 201 ∷ 1 ∷ 129 ∷ 2 ∷ 49 ∷ 1 ∷ 0 ∷ 0 ∷ 41 ∷ []) ≡ Answered true true was_set
+other_bytes_are_fresh : outcome_of (Received 0 set_40 ∷ []) 1 (1 ∷ 9 ∷ 8 ∷ 201 ∷ 1 ∷ 129 ∷ 2 ∷ 49 ∷ 1 ∷ 0 ∷ 0 ∷ 41 ∷ []) ≡ Answered true true was_set
 unfolding request_of command_of
 other_bytes_are_fresh = refl
 
 -- endpoint 10 sends what endpoint 8 sent
-other_source_is_fresh : given (Received 0 set_40 ∷ []) 1 (1 ∷ 9 ∷ 10 ∷ 201 ∷ 1 ∷ 129 ∷ 2 ∷ 49 ∷ 1 ∷ 0 ∷ 0 ∷ 40 ∷ []) ≡ Answered true true ((1 ∷ 10 ∷ 9 ∷ 193 ∷ 1 ∷ 1 ∷ 2 ∷ 49 ∷ 0 ∷ []) ∷ [])
+other_source_is_fresh : outcome_of (Received 0 set_40 ∷ []) 1 (1 ∷ 9 ∷ 10 ∷ 201 ∷ 1 ∷ 129 ∷ 2 ∷ 49 ∷ 1 ∷ 0 ∷ 0 ∷ 40 ∷ []) ≡ Answered true true ((1 ∷ 10 ∷ 9 ∷ 193 ∷ 1 ∷ 1 ∷ 2 ∷ 49 ∷ 0 ∷ []) ∷ [])
 unfolding request_of command_of
 other_source_is_fresh = refl
 
 -- a refused command is answered with its code and kept too
-refusal_is_kept : given (Received 0 (1 ∷ 9 ∷ 8 ∷ 200 ∷ 1 ∷ 128 ∷ 5 ∷ 2 ∷ []) ∷ []) 1 (1 ∷ 9 ∷ 8 ∷ 200 ∷ 1 ∷ 128 ∷ 5 ∷ 2 ∷ []) ≡ Answered false false ((1 ∷ 8 ∷ 9 ∷ 192 ∷ 1 ∷ 0 ∷ 5 ∷ 2 ∷ 32 ∷ []) ∷ [])
+refusal_is_kept : outcome_of (Received 0 (1 ∷ 9 ∷ 8 ∷ 200 ∷ 1 ∷ 128 ∷ 5 ∷ 2 ∷ []) ∷ []) 1 (1 ∷ 9 ∷ 8 ∷ 200 ∷ 1 ∷ 128 ∷ 5 ∷ 2 ∷ []) ≡ Answered false false ((1 ∷ 8 ∷ 9 ∷ 192 ∷ 1 ∷ 0 ∷ 5 ∷ 2 ∷ 32 ∷ []) ∷ [])
 unfolding request_of command_of
 refusal_is_kept = refl
 
 -- a message of two packets has the moment of the last, and a packet that is dropped stays out of it
-message_of_two_packets : given (Received 2 (1 ∷ 9 ∷ 8 ∷ 80 ∷ 0 ∷ 2 ∷ []) ∷ Received 1 (1 ∷ 9 ∷ 8 ∷ 136 ∷ 1 ∷ 128 ∷ []) ∷ []) 3 (1 ∷ 9 ∷ 8 ∷ 88 ∷ 0 ∷ 2 ∷ []) ≡ Answered true false ((1 ∷ 8 ∷ 9 ∷ 192 ∷ 1 ∷ 0 ∷ 0 ∷ 2 ∷ 0 ∷ 1 ∷ []) ∷ [])
+message_of_two_packets : outcome_of (Received 2 (1 ∷ 9 ∷ 8 ∷ 80 ∷ 0 ∷ 2 ∷ []) ∷ Received 1 (1 ∷ 9 ∷ 8 ∷ 136 ∷ 1 ∷ 128 ∷ []) ∷ []) 3 (1 ∷ 9 ∷ 8 ∷ 88 ∷ 0 ∷ 2 ∷ []) ≡ Answered true false ((1 ∷ 8 ∷ 9 ∷ 192 ∷ 1 ∷ 0 ∷ 0 ∷ 2 ∷ 0 ∷ 1 ∷ []) ∷ [])
 unfolding request_of command_of
 message_of_two_packets = refl
 
-first_of_two_packets : given [] 1 (1 ∷ 9 ∷ 8 ∷ 136 ∷ 1 ∷ 128 ∷ []) ≡ Partial
+first_of_two_packets : outcome_of [] 1 (1 ∷ 9 ∷ 8 ∷ 136 ∷ 1 ∷ 128 ∷ []) ≡ Partial
 unfolding request_of command_of
 first_of_two_packets = refl
 
-too_short : given [] 0 [] ≡ Dropped Short
+too_short : outcome_of [] 0 [] ≡ Dropped Short
 too_short = refl
 
-without_the_tag_owner : given [] 0 (1 ∷ 9 ∷ 8 ∷ 192 ∷ 1 ∷ 128 ∷ 0 ∷ 2 ∷ []) ≡ Dropped BadTag
+without_the_tag_owner : outcome_of [] 0 (1 ∷ 9 ∷ 8 ∷ 192 ∷ 1 ∷ 128 ∷ 0 ∷ 2 ∷ []) ≡ Dropped BadTag
 without_the_tag_owner = refl
 
-no_request : given [] 0 (1 ∷ 9 ∷ 8 ∷ 200 ∷ 1 ∷ 0 ∷ 0 ∷ 2 ∷ []) ≡ Dropped NotRequest
+no_request : outcome_of [] 0 (1 ∷ 9 ∷ 8 ∷ 200 ∷ 1 ∷ 0 ∷ 0 ∷ 2 ∷ []) ≡ Dropped NotRequest
 unfolding request_of
 no_request = refl
 
@@ -116,11 +122,11 @@ reading_is_set = refl
 abbrev restarted : List Call
 restarted = Restart 100 ∷ Received 0 set_40 ∷ []
 
-busy_at_the_last_moment : given restarted 1099 set_40 ≡ Answered false false ((1 ∷ 8 ∷ 9 ∷ 193 ∷ 1 ∷ 1 ∷ 2 ∷ 49 ∷ 4 ∷ []) ∷ [])
+busy_at_the_last_moment : outcome_of restarted 1099 set_40 ≡ Answered false false ((1 ∷ 8 ∷ 9 ∷ 193 ∷ 1 ∷ 1 ∷ 2 ∷ 49 ∷ 4 ∷ []) ∷ [])
 unfolding request_of command_of
 busy_at_the_last_moment = refl
 
-served_again : given (Received 1099 set_40 ∷ restarted) 1100 set_40 ≡ Answered true true was_set
+served_again : outcome_of (Received 1099 set_40 ∷ restarted) 1100 set_40 ≡ Answered true true was_set
 unfolding request_of command_of
 served_again = refl
 
@@ -157,5 +163,48 @@ same_as_itself = record {
   last = refl;
 }
 
-none_is_kept : CountsKept new_light.kept 0
-none_is_kept = counts_kept 9 [] tt
+none_is_kept : AreKept [] 0
+none_is_kept = none_are_kept [] (λ source id. refl)
+
+none_is_counted : CountsKept new_light.kept 0
+none_is_counted = none_is_kept.all
+
+nothing_of_8_is_kept : KeepsNone new_light true 8
+nothing_of_8_is_kept = λ id. refl
+
+-- it restarted at 100 and serves from 1100 on
+restarted_light : Held ℤ
+restarted_light = restarted_held new_light 100
+
+restarted_one_is_left : IsLeftBy light 9 1000 (pos 0) restarted_light (Restart 100 ∷ [])
+unfolding restarted_light
+restarted_one_is_left = record {
+  endpoint = refl;
+  keeping = refl;
+  open_messages = λ key. map.get-empty key_cmp key;
+  kept = λ source id. refl;
+  state = refl;
+  serves_from = refl;
+  last = refl;
+}
+
+-- what the platform performs: the command of a fresh message, and none while the responder is busy or where the command is
+-- not known
+abbrev came_at : ℕ → List ℕ → Arrival
+came_at moment bytes = Whole (message_of 8 0 moment bytes)
+
+fresh_one_carries_a_command : arrival_commands new_light (came_at 0 (1 ∷ 128 ∷ 0 ∷ 2 ∷ [])) ≡ GetTid ∷ []
+unfolding request_of command_of
+fresh_one_carries_a_command = refl
+
+unknown_one_carries_none : arrival_commands new_light (came_at 0 (1 ∷ 128 ∷ 5 ∷ 2 ∷ [])) ≡ []
+unfolding request_of command_of
+unknown_one_carries_none = refl
+
+busy_one_carries_none : arrival_commands restarted_light (came_at 1099 (1 ∷ 128 ∷ 0 ∷ 2 ∷ [])) ≡ []
+unfolding restarted_light
+busy_one_carries_none = refl
+
+served_one_carries_a_command : arrival_commands restarted_light (came_at 1100 (1 ∷ 128 ∷ 0 ∷ 2 ∷ [])) ≡ GetTid ∷ []
+unfolding restarted_light request_of command_of
+served_one_carries_a_command = refl

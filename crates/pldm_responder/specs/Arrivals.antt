@@ -1,11 +1,10 @@
 -- What one packet brings a responder, by what assembly gives for it: a drop, a part of a message, or a whole message.
-use Rattle.std.specs.Prelude.{ℕ, not, false, List, Some, Result, Ok, Err, if◌then◌else◌}
+use Rattle.std.specs.Prelude.{ℕ, Bool, false, List, Result, Ok, Err}
 use Rattle.mctp_packet.specs.Packets.{Packet}
 use Rattle.mctp_packet.specs.Pieces.{written_packets}
-use Rattle.mctp_packet.specs.Reading.{reading}
+use Rattle.mctp_packet.specs.Passing.{passing}
 use Rattle.mctp_packet.specs.declared.packet.Route.{Route}
 use Rattle.mctp_packet.specs.declared.reason.Reason.{Reason}
-use Rattle.mctp_packet.specs.declared.reason.Reason.TheVariants.{BadTag}
 use Rattle.mctp_assembly.specs.declared.fed.Fed.{Fed}
 use Rattle.mctp_assembly.specs.declared.fed.Fed.TheVariants as fed
 use Rattle.pldm_wire.specs.Requests.{Request, request_of}
@@ -30,17 +29,22 @@ fed_arrival route moment (fed.Whole body) = headed (message_of route.source rout
 fed_arrival route moment fed.Partial = Part
 fed_arrival route moment (fed.Dropped reason) = Drop reason
 
--- a request's packets have TO 1; `gives` says what assembly gives for a packet
-abbrev pub packet_arrival : (Packet → Fed) → ℕ → Packet → Arrival
-packet_arrival gives moment p = if not p.route.owner then Drop BadTag else fed_arrival p.route moment (gives p)
+-- a request's packets have TO 1
+abbrev pub is_expected : Packet → Bool
+is_expected p = p.route.owner
 
-abbrev pub read_arrival : (Packet → Fed) → ℕ → Result Packet Reason → Arrival
-read_arrival gives moment (Ok p) = packet_arrival gives moment p
-read_arrival gives moment (Err reason) = Drop reason
+-- the packet that these bytes bring to the endpoint `own`
+abbrev pub request_packet : ℕ → List ℕ → Result Packet Reason
+request_packet own bytes = passing is_expected own bytes
+
+-- what a packet that passed brings; `gives` says what assembly gives for it
+abbrev pub passed_arrival : (Packet → Fed) → ℕ → Result Packet Reason → Arrival
+passed_arrival gives moment (Ok p) = fed_arrival p.route moment (gives p)
+passed_arrival gives moment (Err reason) = Drop reason
 
 -- what these bytes bring to the endpoint `own` at this moment
 abbrev pub arrival : (Packet → Fed) → ℕ → ℕ → List ℕ → Arrival
-arrival gives own moment bytes = read_arrival gives moment (reading (Some own) bytes)
+arrival gives own moment bytes = passed_arrival gives moment (request_packet own bytes)
 
 -- an answer goes back to the message's source, with the tag of the packets that just came and TO 0
 abbrev pub way_back : ℕ → Message → Route

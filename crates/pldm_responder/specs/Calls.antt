@@ -1,7 +1,6 @@
--- What a responder owes, told by looking back over the list of all its calls, the newest first.
-use Rattle.std.specs.Prelude.{ℕ, ℤ, true, false, List, [], ◌∷◌, Some, Result, Ok, Err, if◌then◌else◌}
+-- What a responder owes, read by looking back over the list of all its calls, the newest first.
+use Rattle.std.specs.Prelude.{ℕ, ℤ, true, false, List, [], ◌∷◌, Result, Ok, Err, if◌then◌else◌}
 use Rattle.mctp_packet.specs.Packets.{Packet}
-use Rattle.mctp_packet.specs.Reading.{reading}
 use Rattle.mctp_packet.specs.declared.reason.Reason.{Reason}
 use Rattle.mctp_assembly.specs.Histories as assembly
 use Rattle.mctp_assembly.specs.Keys.{key_of}
@@ -9,7 +8,7 @@ use Rattle.mctp_assembly.specs.Rows as rows
 use Rattle.mctp_assembly.specs.declared.fed.Fed.{Fed}
 use Rattle.pldm_responder.specs.Events.{Message, Event, Came, Set, Restarted, is_busy, is_copy}
 use Rattle.pldm_responder.specs.Performing.{Rules, changes, busy_reply, performed, answered}
-use Rattle.pldm_responder.specs.Arrivals.{Arrival, Drop, Part, Whole, arrival, packets_back}
+use Rattle.pldm_responder.specs.Arrivals.{Arrival, Drop, Part, Whole, arrival, request_packet, packets_back}
 use Rattle.pldm_responder.specs.declared.outcome.Outcome.{Outcome}
 use Rattle.pldm_responder.specs.declared.outcome.Outcome.TheVariants.{Dropped, Partial, Answered}
 
@@ -19,15 +18,15 @@ pub data Call : Type 0 where
   Sensed : (id : ℕ) → (value : ℤ) → Call
   Restart : (moment : ℕ) → Call
 
--- a packet that is read and has TO 1 comes to assembly
+-- a packet that passes comes to assembly
 abbrev pub with_packet : Result Packet Reason → List assembly.Call → List assembly.Call
-with_packet (Ok p) packets = if p.route.owner then assembly.feed p ∷ packets else packets
+with_packet (Ok p) packets = assembly.feed p ∷ packets
 with_packet (Err reason) packets = packets
 
 -- the packets that came to assembly since the last restart
 abbrev pub fed : ℕ → List Call → List assembly.Call
 fed own [] = []
-fed own (Received moment bytes ∷ calls) = with_packet (reading (Some own) bytes) (fed own calls)
+fed own (Received moment bytes ∷ calls) = with_packet (request_packet own bytes) (fed own calls)
 fed own (Sensed id value ∷ calls) = fed own calls
 fed own (Restart moment ∷ calls) = []
 
@@ -59,18 +58,19 @@ last_moment (Sensed id value ∷ calls) = last_moment calls
 last_moment (Restart moment ∷ calls) = moment
 
 module _ {S : Type 0} (device : Rules S) (own keep : ℕ) (start : S) where
-  -- the outcome of a message after these events
-  abbrev pub message_outcome : List Event → Message → Outcome
-  message_outcome events m =
+  -- the outcome that is owed to a message after these events: busy, a copy, or fresh
+  abbrev pub answer_owed : List Event → Message → Outcome
+  answer_owed events m =
       if is_busy keep events m.moment then Answered false false (packets_back own m (busy_reply m.bytes))
       else (if is_copy keep events m then Answered false false (packets_back own m (answered device keep start events m))
       else Answered true (changes device (performed device keep start events) m.bytes) (packets_back own m (answered device keep start events m)))
 
-  abbrev pub arrival_outcome : List Event → Arrival → Outcome
-  arrival_outcome events (Drop reason) = Dropped reason
-  arrival_outcome events Part = Partial
-  arrival_outcome events (Whole m) = message_outcome events m
+  -- the same, of what a packet brings
+  abbrev pub outcome_owed : List Event → Arrival → Outcome
+  outcome_owed events (Drop reason) = Dropped reason
+  outcome_owed events Part = Partial
+  outcome_owed events (Whole m) = answer_owed events m
 
   -- the outcome of bytes that are received at a moment after these calls
   abbrev pub outcome : List Call → ℕ → List ℕ → Outcome
-  outcome calls moment bytes = arrival_outcome (events own calls) (arrived own calls moment bytes)
+  outcome calls moment bytes = outcome_owed (events own calls) (arrived own calls moment bytes)

@@ -1,5 +1,6 @@
 -- A platform whose level is set by any numeric effecter and by sensor 1, with terminus ID 1: that of the tests.
-use Rattle.std.specs.Prelude.{◌≡◌, ℕ, ◌==◌, ℤ, false, Result, Ok, Err, if◌then◌else◌, refl}
+use Rattle.std.specs.Prelude.{◌≡◌, ℕ, ◌+◌, ◌-◌, ◌^◌, ◌==◌, ℤ, false, List, [], ◌++◌, length, min, Result, Ok, Err, if◌then◌else◌, refl}
+use Rattle.std.proofs.Common.{ap, sym, add-zero, arith, length-append}
 use Rattle.pldm_wire.specs.Answers.{IsAnswerTo}
 use Rattle.pldm_wire.specs.Commands.{kind_of, sets}
 use Rattle.pldm_wire.specs.declared.assigned.TheConstants.{ERROR_UNSUPPORTED_PLDM_CMD}
@@ -21,6 +22,22 @@ dimmer_after level _ = level
 
 abbrev pub dimmer_sensed : ℤ → ℕ → ℤ → Result ℤ ReadingFault
 dimmer_sensed level id value = if id == 1 then Ok value else Err NoSuchSensor
+
+-- the most that 32 bits tell
+abbrev pub MOST_COUNTED : ℕ
+MOST_COUNTED = 4294967295
+
+-- its count rises by one for each command that it performed, up to the most that it can tell
+abbrev pub DimmerCounts : ℕ → List Command → ℕ → Type 0
+DimmerCounts before commands after = min after MOST_COUNTED ≡ min (before + length commands) MOST_COUNTED
+
+pub dimmer_none : (count : ℕ) → DimmerCounts count [] count
+dimmer_none count = ap (λ n. min n MOST_COUNTED) (sym (add-zero count))
+
+pub dimmer_in_turn : (first second third : ℕ) (before after : List Command) → DimmerCounts first before second → DimmerCounts second after third
+    → DimmerCounts first (after ++ before) third
+dimmer_in_turn first second third before after one other =
+    rw length-append (omega (arith, one, other))
 
 pub dimmer_reads_only : (level : ℤ) (command : Command) → sets command ≡ false → dimmer_after level command ≡ level
 dimmer_reads_only level (SetNumericEffecterValue effecter value) asks = cc

@@ -1,10 +1,19 @@
--- What a responder holds after any list of calls, told by looking back over the list.
-use Rattle.std.specs.Prelude.{◌≡◌, ℕ, ℤ, Bool, List, [], ◌∷◌, Option, Some, None, is_some}
+-- What a responder holds after any list of calls, read by looking back over the list.
+use Rattle.std.specs.Prelude.{◌≡◌, ℕ, ℤ, Bool, true, List, [], ◌∷◌, Option, Some, None, is_some, Ok}
+use Rattle.mctp_packet.specs.Packets.{packet, written}
+use Rattle.mctp_packet.specs.Pieces.{packets, written_packets}
+use Rattle.mctp_packet.specs.declared.packet.Route.{Route}
 use Rattle.mctp_assembly.specs.Histories as assembly
+use Rattle.pldm_wire.specs.Kinds.{TypeAndCommand}
+use Rattle.pldm_wire.specs.Messages.{IsResponse}
+use Rattle.pldm_wire.specs.Requests.{Request, request_of}
+use Rattle.pldm_wire.specs.declared.assigned.TheConstants.{ERROR_NOT_READY}
 use Rattle.pldm_responder.specs.Events.{Place, busy_until, origin, has_fresh}
-use Rattle.pldm_responder.specs.Performing.{Rules, performed, reply_at}
-use Rattle.pldm_responder.specs.Calls.{Call, Received, Sensed, fed, events, last_moment, outcome}
-use Rattle.pldm_responder.specs.Steps.{Entry, Held, IsHeld, CountsKept, CountsPairs, held_at_first, received_outcome, received_held, sensed_held}
+use Rattle.pldm_responder.specs.Performing.{Rules, performed, reply_at, busy_reply}
+use Rattle.pldm_responder.specs.Calls.{Call, Received, Sensed, Restart, fed, events, last_moment, outcome}
+use Rattle.pldm_responder.specs.Held.{Entry, Held, IsHeld, held_at_first}
+use Rattle.pldm_responder.specs.Counts.{CountsKept, CountsPairs}
+use Rattle.pldm_responder.specs.Steps.{received_outcome, received_held, sensed_held, restarted_held}
 
 -- the answer that is kept where this is the origin
 abbrev pub entry_at : {S : Type 0} → Rules S → ℕ → S → Option Place → Option Entry
@@ -38,6 +47,13 @@ module _ {S : Type 0} (device : Rules S) where
       → IsLeftBy device own keep start held calls
       → IsLeftBy device own keep start (sensed_held device held id value) (Sensed id value ∷ calls)
 
+  -- a restart leaves what the longer list leaves
+  abbrev pub RestartedLooksBack : Type 0
+  RestartedLooksBack =
+      (own keep : ℕ) (start : S) (held : Held S) (calls : List Call) (moment : ℕ)
+      → IsLeftBy device own keep start held calls
+      → IsLeftBy device own keep start (restarted_held held moment) (Restart moment ∷ calls)
+
   -- a new responder holds what the empty list leaves
   abbrev pub NewLooksBack : Type 0
   NewLooksBack = (own keep : ℕ) (start : S) → IsLeftBy device own keep start (held_at_first own keep start) []
@@ -55,6 +71,17 @@ module _ {S : Type 0} (device : Rules S) where
       → IsLeftBy device own keep start held calls
       → ((source id : ℕ) → is_some (held.kept source id) ≡ has_fresh keep (events own calls) source id)
       × ((count : ℕ) → CountsKept held.kept count → CountsPairs (has_fresh keep (events own calls)) count)
+
+-- the answer to a request while the responder is busy is one packet, with SOM and EOM: a response of the request's instance
+-- ID and kind with completion code ERROR_NOT_READY and no data, and with no other code
+abbrev pub BusyAnswersAreOnePacket : Type 0
+BusyAnswersAreOnePacket =
+    (route : Route) (bytes : List ℕ) (request : Request) → request_of bytes ≡ Ok request
+    → (packets route (busy_reply bytes) ≡ packet route true true 0 (busy_reply bytes) ∷ [])
+    × (written_packets route (busy_reply bytes) ≡ written (packet route true true 0 (busy_reply bytes)) ∷ [])
+    × IsResponse (busy_reply bytes) request.id request.kind ERROR_NOT_READY []
+    × ((id : ℕ) (kind : TypeAndCommand) (code : ℕ) (rest : List ℕ)
+      → IsResponse (busy_reply bytes) id kind code rest → code ≡ ERROR_NOT_READY)
 
 -- pairs that pass a test are counted in one way only
 abbrev pub OneCount : Type 0

@@ -2,7 +2,12 @@ pub mod Events
 pub mod Performing
 pub mod Arrivals
 pub mod Calls
+pub mod Held
 pub mod Steps
+pub mod Fitting
+pub mod Wants
+pub mod Counts
 pub mod Slots
+pub mod Stations
 pub mod Laws
 pub mod Dimmers

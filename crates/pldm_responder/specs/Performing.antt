@@ -20,7 +20,8 @@ pub record Rules (S : Type 0) : Type 0 where
   pub after : S → Command → S
   pub sensed : S → ℕ → ℤ → Result S ReadingFault
 
-abbrev pub rules_of : {S : Type 0} → (S → Command → Answer) → (S → Command → S) → (S → ℕ → ℤ → Result S ReadingFault) → Rules S
+abbrev pub rules_of :
+    {S : Type 0} → (S → Command → Answer) → (S → Command → S) → (S → ℕ → ℤ → Result S ReadingFault) → Rules S
 rules_of answer after sensed = record { answer = answer; after = after; sensed = sensed }
 
 -- a command that was read is answered by the platform, a refused one with its completion code
@@ -52,6 +53,15 @@ abbrev pub changes_at : {S : Type 0} → Rules S → S → Result Request Reason
 changes_at device state (Ok request) = changes_by device state (command_of request.kind request.rest)
 changes_at device state (Err reason) = false
 
+-- the commands that a request has performed: its own where it is read, none where it is refused
+abbrev pub commands_in : Result Command ℕ → List Command
+commands_in (Ok command) = command ∷ []
+commands_in (Err code) = []
+
+abbrev pub commands_at : Result Request Reason → List Command
+commands_at (Ok request) = commands_in (command_of request.kind request.rest)
+commands_at (Err reason) = []
+
 -- the message that answers one while the responder is busy
 abbrev pub busy_reply_to : Result Request Reason → List ℕ
 busy_reply_to (Ok request) = answer_message request.id request.kind (Refused ERROR_NOT_READY)
@@ -66,6 +76,9 @@ next device state bytes = next_after device state (request_of bytes)
 
 abbrev pub changes : {S : Type 0} → Rules S → S → List ℕ → Bool
 changes device state bytes = changes_at device state (request_of bytes)
+
+abbrev pub commands_of : List ℕ → List Command
+commands_of bytes = commands_at (request_of bytes)
 
 abbrev pub busy_reply : List ℕ → List ℕ
 busy_reply bytes = busy_reply_to (request_of bytes)

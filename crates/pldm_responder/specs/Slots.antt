@@ -1,83 +1,56 @@
--- How a responder keeps its answers, one for each source and instance ID, and what contracts see of a responder.
-use Rattle.std.specs.FinMap as map
-use Rattle.std.specs.Prelude.{◌≡◌, ◌≢◌, ℕ, ◌<◌, ◌≤◌, Bool, true, ◌&&◌, ◌==◌, List, [], ◌∷◌, length, if◌then◌else◌, find, Option, None, option_map, refl}
-use Rattle.std.specs.Coded.{Coded, code_by, coded×, coded_ℕ, coded_list}
+-- How a responder keeps its answers: for each source a row with a slot for each instance ID.
+use Rattle.std.specs.Prelude.{◌≡◌, ℕ, ◌<◌, ◌≤◌, List, length, slice_index_or, Option, None, IfSome, option_and_then, refl}
+use Rattle.std.specs.BTreeMap.{is_at}
+use Rattle.std.specs.Coded.{Coded, code_by, coded×, coded_ℕ, coded_list, coded_option}
+use Rattle.std.specs.Map.{lookup}
+use Rattle.std.specs.Ordering.{nat_cmp}
 use Rattle.mctp_packet.specs.Ids.{IsEid}
 use Rattle.mctp_packet.specs.declared.TheConstants.{MOST_MESSAGE_BYTES}
-use Rattle.mctp_assembly.specs.Keys.{IsKey, key_cmp, coded_key}
-use Rattle.mctp_assembly.specs.Opened.{Opened, coded_opened}
-use Rattle.mctp_assembly.specs.declared.key.Key.{Key}
-use Rattle.pldm_responder.specs.Steps.{Entry, Held}
+use Rattle.pldm_wire.specs.declared.assigned.TheConstants.{INSTANCE_IDS}
+use Rattle.pldm_responder.specs.Counts.{CountsKept}
+use Rattle.pldm_responder.specs.Held.{Entry}
 
--- a source, an instance ID, and the answer that is kept for them
-pub record Slot : Type 0 where
-  pub source : ℕ
-  pub id : ℕ
-  pub entry : Entry
+-- a slot for each instance ID, from 0 on; an empty one holds no answer
+abbrev pub Row : Type 0
+Row = List (Option Entry)
 
--- it is stored as its parts
-abbrev pub coded_slot : Coded Slot
-coded_slot =
-    code_by (ℕ × (ℕ × (ℕ × (List ℕ × List ℕ)))) (coded× coded_ℕ (coded× coded_ℕ (coded× coded_ℕ (coded× (coded_list coded_ℕ) (coded_list coded_ℕ))))) (λ s. (s.source, (s.id, (s.entry.moment, (s.entry.bytes, s.entry.answer))))) (λ c. record { source = c.0; id = c.1.0; entry = record { moment = c.1.1.0; bytes = c.1.1.1.0; answer = c.1.1.1.1 } }) (λ _. refl)
+-- each source that has a row, and the row
+abbrev pub Rows : Type 0
+Rows = List (ℕ × Row)
 
-abbrev pub is_slot_of : ℕ → ℕ → Slot → Bool
-is_slot_of source id slot = slot.source == source && slot.id == id
+-- they are stored as their parts
+abbrev pub coded_entry : Coded Entry
+coded_entry =
+    code_by (ℕ × (List ℕ × List ℕ))
+    (coded× coded_ℕ (coded× (coded_list coded_ℕ) (coded_list coded_ℕ)))
+    (λ e. (e.moment, (e.bytes, e.answer)))
+    (λ c. record { moment = c.0; bytes = c.1.0; answer = c.1.1 })
+    (λ _. refl)
 
-abbrev pub slot_of : List Slot → ℕ → ℕ → Option Slot
-slot_of slots source id = find (is_slot_of source id) slots
+abbrev pub coded_row : Coded Row
+coded_row = coded_list (coded_option coded_entry)
+
+abbrev pub coded_rows : Coded Rows
+coded_rows = coded_list (coded× coded_ℕ coded_row)
+
+-- the answer in the slot of an instance ID
+abbrev pub in_slot : Row → ℕ → Option Entry
+in_slot row id = slice_index_or row id None
+
+abbrev pub row_of : Rows → ℕ → Option Row
+row_of rows source = lookup (is_at (nat_cmp source)) rows
 
 -- the answer that is kept for a source and an instance ID
-abbrev pub kept_in : List Slot → ℕ → ℕ → Option Entry
-kept_in slots source id = option_map (λ slot. slot.entry) (slot_of slots source id)
+abbrev pub kept_in : Rows → ℕ → ℕ → Option Entry
+kept_in rows source id = option_and_then (λ row. in_slot row id) (row_of rows source)
 
--- what contracts see of a responder
-pub record Station (S : Type 0) : Type 0 where
-  pub own : ℕ
-  pub keep : ℕ
-  pub open_messages : map.FinMap key_cmp Opened
-  pub slots : List Slot
-  pub state : S
-  pub last : ℕ
+-- an answer to an endpoint, for an instance ID
+pub record IsKept (source id : ℕ) (entry : Entry) : Type 0 where
+  pub endpoint : IsEid source
+  pub instance : id < INSTANCE_IDS
+  pub few : length entry.answer ≤ MOST_MESSAGE_BYTES
 
--- it is stored as its parts
-abbrev pub coded_station : {S : Type 0} → Coded S → Coded (Station S)
-coded_station {S} coded_state =
-    code_by (ℕ × (ℕ × (map.FinMap key_cmp Opened × (List Slot × (S × ℕ))))) (coded× coded_ℕ (coded× coded_ℕ (coded× (map.code coded_key coded_opened) (coded× (coded_list coded_slot) (coded× coded_state coded_ℕ))))) (λ s. (s.own, (s.keep, (s.open_messages, (s.slots, (s.state, s.last)))))) (λ c. record { own = c.0; keep = c.1.0; open_messages = c.1.1.0; slots = c.1.1.1.0; state = c.1.1.1.1.0; last = c.1.1.1.1.1 }) (λ _. refl)
-
--- what it holds: it has not restarted, so it serves from the first moment on
-abbrev pub held_of : {S : Type 0} → Station S → Held S
-held_of station = record {
-  own = station.own;
-  keep = station.keep;
-  open_messages = station.open_messages;
-  kept = kept_in station.slots;
-  state = station.state;
-  serves_from = 0;
-  last = station.last;
-}
-
--- a list with this slot in the place of its source's and instance ID's, or at the end
-abbrev pub put_slot : List Slot → Slot → List Slot
-put_slot [] new = new ∷ []
-put_slot (slot ∷ slots) new = if is_slot_of new.source new.id slot then new ∷ slots else slot ∷ put_slot slots new
-
--- the answer of a source other than the endpoint itself
-pub record IsSlot (own : ℕ) (slot : Slot) : Type 0 where
-  pub source : IsEid slot.source
-  pub other : slot.source ≢ own
-  pub id : slot.id < 32
-  pub answer : length slot.entry.answer ≤ MOST_MESSAGE_BYTES
-
--- at most one slot for each source and instance ID
-abbrev pub AreSlots : ℕ → List Slot → Type 0
-AreSlots own [] = Unit {0}
-AreSlots own (slot ∷ slots) = IsSlot own slot × (slot_of slots slot.source slot.id ≡ None) × AreSlots own slots
-
--- the packets of a request from another endpoint
-pub record IsAsked (own : ℕ) (key : Key) : Type 0 where
-  pub ranges : IsKey key
-  pub owner : key.owner ≡ true
-  pub other : key.source ≢ own
-
-abbrev pub AreAsked : ℕ → map.FinMap key_cmp Opened → Type 0
-AreAsked own open_messages = (key : Key) → map.contains_key open_messages key ≡ true → IsAsked own key
+-- each slot that is not empty holds such an answer, and there are this many
+pub record AreKept (rows : Rows) (count : ℕ) : Type 0 where
+  pub each : (source id : ℕ) → IfSome (kept_in rows source id) (IsKept source id)
+  pub all : CountsKept (kept_in rows) count

@@ -3,10 +3,12 @@
 #![tactic(auto)]
 
 mod kept_answer;
+mod kept_answers;
 pub mod laws;
 mod outcome;
 mod performing;
 mod responder;
+mod row;
 
 pub use outcome::Outcome;
 pub use responder::{MOST_KEPT, MOST_PENDING, Responder};

@@ -9,7 +9,8 @@ pub enum Outcome {
     Partial,
     /// They complete a request, which is answered.
     Answered {
-        /// Whether the request was performed now. Else it is a copy and has its first answer.
+        /// Whether the request was performed now. Else it is a copy and has its first answer, or the
+        /// responder was busy.
         fresh: bool,
         /// Whether it was performed now, is of a command that sets, and was not refused.
         changed: bool,

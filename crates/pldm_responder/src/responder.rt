@@ -1,35 +1,46 @@
 ghost use Rattle.std.specs.FinMap as map;
-ghost use Rattle.std.specs.Prelude.{◌≡◌, ◌≢◌, ℕ, false, ◌≤◌, ◌<◌, true, length, IfOk, IfSome, OnOk, OnErr};
+ghost use Rattle.std.specs.Prelude.{◌≡◌, ◌≢◌, ℕ, false, ◌≤◌, ◌<◌, true, Bool, [], length, nat_lt, Ok, IfOk, IfSome, OnOk, OnErr};
+ghost use Rattle.mctp_packet.specs.Passing.{passed};
 ghost use Rattle.mctp_packet.specs.Pieces.{written_packets};
 ghost use Rattle.mctp_assembly.specs.Steps.{answer};
 ghost use Rattle.mctp_assembly.specs.declared.key.Key.{Key as KeyValue};
 ghost use Rattle.pldm_device.specs.Changes.{made_of};
 ghost use Rattle.pldm_wire.specs.Requests.{request_of};
-ghost use Rattle.pldm_responder.specs.Arrivals.{headed, message_of, packet_arrival};
+ghost use Rattle.pldm_wire.specs.declared.assigned.TheConstants.{INSTANCE_IDS as ids};
+ghost use Rattle.pldm_responder.specs.Arrivals.{headed, is_expected, message_of, passed_arrival};
+ghost use Rattle.pldm_responder.specs.Counts.{CountsKept};
+ghost use Rattle.pldm_responder.specs.Fitting.{ArrivalFits, ReceivedFits};
+ghost use Rattle.pldm_responder.specs.Held.{IsHeld, held_at_first};
 ghost use Rattle.pldm_responder.specs.Performing.{rules_of};
-ghost use Rattle.pldm_responder.specs.Slots.{held_of, kept_in};
-ghost use Rattle.pldm_responder.specs.Steps.{IsHeld, CountsKept, arrival_held, arrival_outcome, arrival_wants, copied_packets, held_at_first, packet_held, received_outcome, received_held, sensed_held, wants_memory};
+ghost use Rattle.pldm_responder.specs.Slots.{kept_in};
+ghost use Rattle.pldm_responder.specs.Stations.{held_of};
+ghost use Rattle.pldm_responder.specs.Steps.{arrival_commands, arrival_held, arrival_outcome, copied_packets, passed_held, received_commands, received_held, received_outcome, restarted_held, sensed_held};
+ghost use Rattle.pldm_responder.specs.declared.outcome.Outcome.TheVariants.{Answered};
+ghost use Rattle.pldm_responder.specs.Wants.{ArrivalWants, PassedWants, WantsMemory};
 
-use crate::kept_answer::{KeptAnswer, find_kept, make_room, put};
+use crate::kept_answer::KeptAnswer;
+use crate::kept_answers::KeptAnswers;
 use crate::outcome::Outcome;
-use crate::performing::{Performed, perform};
+use crate::performing::{Performed, busy_answer, perform};
 use mctp_assembly::{Assembler, Fed, Key};
 use mctp_packet::{
-    Body, Eid, Keep, MOST_MESSAGE_BYTES, Memory, Moment, PacketRef, Packets, Reason, Route, Tag,
-    read_for, split,
+    Body, Eid, FIRST_EID, Keep, LAST_EID, MOST_MESSAGE_BYTES, Memory, Moment, PacketRef, Packets,
+    Reason, Route, TAGS, Tag, read_for, split,
 };
 use pldm_device::{Platform, ReadingFault};
-use pldm_wire::read_request;
+use pldm_wire::{INSTANCE_IDS, read_request};
 use std::alloc::Global;
 use std::marker::Model;
 
-/// The most kept answers: one for each endpoint ID other than the own (246) and each instance ID
-/// (32).
-pub const MOST_KEPT: usize = 246 * 32;
+/// The endpoints other than the own that a message can come from.
+const OTHER_ENDPOINTS: usize = (LAST_EID - FIRST_EID) as usize;
 
-/// The most messages that have begun and not ended: one for each endpoint ID other than the own
-/// (246) and each tag (8).
-pub const MOST_PENDING: usize = 246 * 8;
+/// The most kept answers: one for each endpoint ID other than the own and each instance ID.
+pub const MOST_KEPT: usize = OTHER_ENDPOINTS * INSTANCE_IDS as usize;
+
+/// The most messages that have begun and not ended: one for each endpoint ID other than the own and
+/// each tag.
+pub const MOST_PENDING: usize = OTHER_ENDPOINTS * TAGS as usize;
 
 /// The responding end at one endpoint: packets in, each request performed once by the platform, and
 /// answers out.
@@ -39,41 +50,55 @@ pub struct Responder<P: Platform> {
     own: Eid,
     keep: Keep,
     last: Moment,
+    /// The moment in milliseconds from which it serves: the last restart's and the keeping time.
+    serves_from: u64,
     assembler: Assembler,
-    kept: Vec<KeptAnswer>,
+    kept: KeptAnswers,
     platform: P,
 }
 
 impl<P: Platform> Model for Responder<P> {
-    ghost use Rattle.pldm_responder.specs.Slots.{Station, coded_station, AreSlots, AreAsked};
+    ghost use Rattle.pldm_responder.specs.Stations.{Station, coded_station, AreAsked, KeepsForOthers};
 
-    ghost Value = { Station P.State };
+    ghost Value = { Station P P.State };
 
-    ghost coded = { coded_station P.State.code };
+    ghost coded = { coded_station P.code P.State.code };
 
-    ghost view = { λ r. record { own = r.own; keep = r.keep; open_messages = r.assembler; slots = r.kept.items; state = P.state r.platform; last = r.last } };
+    ghost view = { λ r. record {
+      own = r.own;
+      keep = r.keep;
+      open_messages = r.assembler;
+      rows = r.kept;
+      platform = r.platform;
+      state = P.state r.platform;
+      serves_from = r.serves_from;
+      last = r.last;
+    } };
 
-    ghost invariant = { λ r. AreAsked r.own r.assembler × AreSlots r.own r.kept.items };
+    ghost invariant = { λ r. AreAsked r.own r.assembler × KeepsForOthers r.own r.kept };
 }
 
 impl<P: Platform> Responder<P> {
     /// The endpoint `own` with this platform behind it. It keeps each answer for `keep`, and its last
     /// moment is 0.
     pub fn new(alloc: Global, own: Eid, keep: Keep, platform: P) -> Responder<P>
-        ensures { IsHeld (held_of result) (held_at_first own keep (P.state platform)) }
+        ensures held { IsHeld (held_of result) (held_at_first own keep (P.state platform)) }
+        ensures platform { result.platform ≡ platform }
     {
         Responder {
             alloc,
             own,
             keep,
             last: Moment::new(0).unwrap(),
+            serves_from: 0,
             assembler: Assembler::new(alloc),
-            kept: Vec::new(alloc),
+            kept: KeptAnswers::new(alloc),
             platform,
         }
     }
 
-    /// The moment of the last `receive` that did not answer Memory, 0 before the first.
+    /// The moment of the last `receive` that did not answer Memory or of the last `restart`, whichever
+    /// was later, 0 before the first.
     pub fn last_moment(&self) -> Moment
         ensures { result ≡ (held_of self.now).last }
     {
@@ -82,14 +107,16 @@ impl<P: Platform> Responder<P> {
 
     /// The platform.
     pub fn platform(&self) -> &P
-        ensures { P.state result.now ≡ (held_of self.now).state }
+        ensures state { P.state result.now ≡ (held_of self.now).state }
+        ensures value { result.now ≡ self.now.platform }
     {
         &self.platform
     }
 
     /// The platform, where the responder is no longer wanted.
     pub fn into_platform(self) -> P
-        ensures { P.state result ≡ (held_of self).state }
+        ensures state { P.state result ≡ (held_of self).state }
+        ensures value { result ≡ self.platform }
     {
         let Responder { platform, .. } = self;
         platform
@@ -100,8 +127,33 @@ impl<P: Platform> Responder<P> {
     pub fn set_reading(&mut self, id: u16, value: i64) -> Result<(), ReadingFault>
         ensures answer { result ≡ made_of (λ _. tt) (P.sensed (held_of self.old).state id value) }
         ensures held { IsHeld (held_of self.new) (sensed_held (rules_of P.answer P.after P.sensed) (held_of self.old) id value) }
+        ensures performed { P.performed self.old.platform [] self.new.platform }
     {
         self.platform.set_reading(id, value)
+    }
+
+    /// Restarts at the moment `now`, which must not be before [`Responder::last_moment`]. The kept
+    /// answers and the messages that have begun are lost, and the platform is as before. For the
+    /// keeping time from then on the responder is busy: a request that it answered before the restart
+    /// may still be repeated, so none is performed.
+    pub fn restart(&mut self, now: Moment)
+        requires { (held_of self.old).last ≤ now }
+        ensures held { IsHeld (held_of self.new) (restarted_held (held_of self.old) now) }
+        ensures platform { self.new.platform ≡ self.old.platform }
+    {
+        self.assembler = Assembler::new(self.alloc);
+        self.kept = KeptAnswers::new(self.alloc);
+        self.serves_from = now.get() + u64::from(self.keep.get());
+        self.last = now;
+    }
+
+    /// Whether the responder is busy at the moment `now`, which must not be before
+    /// [`Responder::last_moment`]: it restarted less than the keeping time before.
+    pub fn busy(&self, now: Moment) -> bool
+        requires { (held_of self.now).last ≤ now }
+        ensures { result ≡ nat_lt now (held_of self.now).serves_from }
+    {
+        self.serves_from > now.get()
     }
 
     /// Takes the bytes of a packet that came at the moment `now`, which must not be before
@@ -111,20 +163,24 @@ impl<P: Platform> Responder<P> {
     /// that is whole is a copy where the latest one of its source and instance ID that was no copy has
     /// the same bytes, and came less than the keeping time before: then it gets that one's answer. Else
     /// it is performed, and its answer is kept, a refusal too (DSP0240, "PLDM message fields", the
-    /// instance ID). The answer goes back to the source, with TO 0 and the tag of the packets that
-    /// just came.
+    /// instance ID). While the responder is busy, each request is answered with ERROR_NOT_READY, and
+    /// neither performed nor kept. The answer goes back to the source, with TO 0 and the tag of the
+    /// packets that just came.
     ///
     /// # Errors
     ///
-    /// `Memory` where a growth was refused; the responder is then as before. Only a packet that
-    /// gives `Partial`, the first request of a source and an instance ID, and a request over a
-    /// platform that is not steady want memory.
+    /// `Memory` where a growth was refused; the responder is then as before. Only a start packet that
+    /// gives `Partial`, a request that is performed and whose source has no kept answer, and one that
+    /// is performed by a platform that is not steady want memory.
     pub fn receive(&mut self, now: Moment, bytes: &[u8]) -> Result<Outcome, Memory>
         requires { (held_of self.old).last ≤ now }
         ensures outcome { IfOk result (λ outcome. outcome ≡ received_outcome (rules_of P.answer P.after P.sensed) (held_of self.old) now bytes.now) }
+        ensures fits { OnOk result (ReceivedFits (rules_of P.answer P.after P.sensed) (held_of self.old) now bytes.now) }
         ensures held { OnOk result (IsHeld (held_of self.new) (received_held (rules_of P.answer P.after P.sensed) (held_of self.old) now bytes.now)) }
-        ensures memory { OnErr result (wants_memory (held_of self.old) P.STEADY now bytes.now ≡ true) }
+        ensures performed { OnOk result (P.performed self.old.platform (received_commands (held_of self.old) now bytes.now) self.new.platform) }
+        ensures memory { OnErr result (WantsMemory (held_of self.old) P.STEADY now bytes.now) }
         ensures err { OnErr result (IsHeld (held_of self.new) (held_of self.old)) }
+        ensures none_performed { OnErr result (P.performed self.old.platform [] self.new.platform) }
     {
         let outcome = match read_for(self.own, bytes) {
             Err(reason) => Outcome::Dropped(reason),
@@ -137,10 +193,13 @@ impl<P: Platform> Responder<P> {
     /// Takes a packet that is addressed to the endpoint by another one.
     fn take(&mut self, now: Moment, packet: &PacketRef<'_>) -> Result<Outcome, Memory>
         requires { packet.now.route.source ≢ self.old.own }
-        ensures outcome { IfOk result (λ outcome. outcome ≡ arrival_outcome (rules_of P.answer P.after P.sensed) (held_of self.old) (packet_arrival (answer self.old.open_messages) now packet.now)) }
-        ensures held { OnOk result (IsHeld (held_of self.new) (packet_held (rules_of P.answer P.after P.sensed) (held_of self.old) now packet.now)) }
-        ensures memory { OnErr result (arrival_wants (held_of self.old) P.STEADY (packet_arrival (answer self.old.open_messages) now packet.now) ≡ true) }
+        ensures outcome { IfOk result (λ outcome. outcome ≡ arrival_outcome (rules_of P.answer P.after P.sensed) (held_of self.old) (passed_arrival (answer self.old.open_messages) now (passed is_expected (Ok packet.now)))) }
+        ensures fits { OnOk result (ArrivalFits (rules_of P.answer P.after P.sensed) (held_of self.old) (passed_arrival (answer self.old.open_messages) now (passed is_expected (Ok packet.now)))) }
+        ensures held { OnOk result (IsHeld (held_of self.new) (passed_held (rules_of P.answer P.after P.sensed) (held_of self.old) now (passed is_expected (Ok packet.now)))) }
+        ensures performed { OnOk result (P.performed self.old.platform (arrival_commands (held_of self.old) (passed_arrival (answer self.old.open_messages) now (passed is_expected (Ok packet.now)))) self.new.platform) }
+        ensures memory { OnErr result (PassedWants (held_of self.old) P.STEADY now (passed is_expected (Ok packet.now))) }
         ensures err { OnErr result (IsHeld (held_of self.new) (held_of self.old)) }
+        ensures none_performed { OnErr result (P.performed self.old.platform [] self.new.platform) }
     {
         let route = packet.route();
         if !route.owner {
@@ -179,34 +238,35 @@ impl<P: Platform> Responder<P> {
     ) -> Result<Outcome, Memory>
         requires { source ≢ self.old.own }
         ensures outcome { IfOk result (λ outcome. outcome ≡ arrival_outcome (rules_of P.answer P.after P.sensed) (held_of self.old) (headed (message_of source tag now message.items) (request_of message.items))) }
+        ensures fits { OnOk result (ArrivalFits (rules_of P.answer P.after P.sensed) (held_of self.old) (headed (message_of source tag now message.items) (request_of message.items))) }
         ensures held { OnOk result (IsHeld (held_of self.new) (arrival_held (rules_of P.answer P.after P.sensed) (held_of self.old) (headed (message_of source tag now message.items) (request_of message.items)))) }
-        ensures memory { OnErr result (arrival_wants (held_of self.old) P.STEADY (headed (message_of source tag now message.items) (request_of message.items)) ≡ true) }
+        ensures performed { OnOk result (P.performed self.old.platform (arrival_commands (held_of self.old) (headed (message_of source tag now message.items) (request_of message.items))) self.new.platform) }
+        ensures memory { OnErr result ((start : Bool) → ArrivalWants (held_of self.old) P.STEADY start (headed (message_of source tag now message.items) (request_of message.items))) }
         ensures err { OnErr result (IsHeld (held_of self.new) (held_of self.old)) }
+        ensures none_performed { OnErr result (P.performed self.old.platform [] self.new.platform) }
     {
         let request = match read_request(&message) {
             Ok(request) => request,
             Err(reason) => return Ok(Outcome::Dropped(reason)),
         };
-        let _range = source.get();
+        if now.get() < self.serves_from {
+            let answer = busy_answer(&request);
+            let packets = packets_back(self.own, source, tag, &answer);
+            return Ok(not_performed(packets));
+        }
         let id = request.id();
         if let Some(packets) = self.copied(now, source, tag, id, &message) {
-            return Ok(Outcome::Answered {
-                fresh: false,
-                changed: false,
-                packets,
-            });
+            return Ok(not_performed(packets));
         }
-        make_room(&mut self.kept, source, id)?;
+        self.kept.make_room(source)?;
         let Performed { answer, changed } = perform(self.alloc, &mut self.platform, &request)?;
         let packets = packets_back(self.own, source, tag, &answer);
         let kept = KeptAnswer {
-            source,
-            id,
             moment: now,
             bytes: message,
             answer,
         };
-        put(&mut self.kept, kept);
+        self.kept.put(source, id, kept);
         Ok(Outcome::Answered {
             fresh: true,
             changed,
@@ -216,9 +276,10 @@ impl<P: Platform> Responder<P> {
 
     /// The packets of the kept answer, where a message of this instance ID is a copy.
     fn copied(&self, now: Moment, source: Eid, tag: Tag, id: u8, message: &[u8]) -> Option<Packets>
-        ensures { result ≡ copied_packets self.now.own self.now.keep (message_of source tag now message.now) (kept_in self.now.slots source id) }
+        requires { id < ids }
+        ensures { result ≡ copied_packets self.now.own self.now.keep (message_of source tag now message.now) (kept_in self.now.rows source id) }
     {
-        let kept = find_kept(&self.kept, source, id)?;
+        let kept = self.kept.get(source, id)?;
         if kept.is_repeated(self.keep, now, message) {
             Some(packets_back(self.own, source, tag, &kept.answer))
         } else {
@@ -234,7 +295,7 @@ impl<P: Platform> Responder<P> {
         ensures small { (source id : ℕ) → IfSome ((held_of self.now).kept source id) (λ entry. length entry.answer ≤ MOST_MESSAGE_BYTES) }
     {
         let _range = self.own.get();
-        self.kept.len()
+        self.kept.count()
     }
 
     /// How many messages have begun and not ended: at most [`MOST_PENDING`], each of at most
@@ -246,6 +307,17 @@ impl<P: Platform> Responder<P> {
     {
         let _range = self.own.get();
         self.assembler.pending()
+    }
+}
+
+/// What becomes of a message that is answered and not performed.
+fn not_performed(packets: Packets) -> Outcome
+    ensures { result ≡ Answered false false packets }
+{
+    Outcome::Answered {
+        fresh: false,
+        changed: false,
+        packets,
     }
 }
 

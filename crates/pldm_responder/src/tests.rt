@@ -2,7 +2,7 @@ use super::*;
 use dimmer::Dimmer;
 use mctp_packet::{Eid, Keep, Memory, Moment, Reason};
 use memory_hoard::Hoard;
-use pldm_device::ReadingFault;
+use pldm_device::{Description, Platform, ReadingFault, SimDevice};
 use std::alloc::Global;
 use std::process::Abort;
 use std::test::Fail;
@@ -16,17 +16,17 @@ fn light(alloc: Global) -> Result<Responder<Dimmer>, Fail> {
     Ok(Responder::new(alloc, own, keep, Dimmer::new(alloc)?))
 }
 
-/// What the light makes of these bytes, at a moment that is not before its last one.
-fn receive(
+/// What it makes of these bytes, at a moment that is not before its last one.
+fn receive<P: Platform>(
     rt: &impl Abort,
-    light: &mut Responder<Dimmer>,
+    responder: &mut Responder<P>,
     milliseconds: u64,
     bytes: &[u8],
 ) -> Result<Result<Outcome, Memory>, Fail> {
     let now = Moment::new(milliseconds).ok_or("no moment")?;
-    let last = light.last_moment();
+    let last = responder.last_moment();
     assert!(rt; last <= now);
-    Ok(light.receive(now, bytes))
+    Ok(responder.receive(now, bytes))
 }
 
 /// Whether this is one packet of an answer, to a request that was performed now or is a copy.
@@ -168,6 +168,9 @@ fn reading_and_refusals(rt: HostRuntime) -> Result<(), Fail> {
     Ok(())
 }
 
+/// How many bytes the first run may grow: too few for the slots of a source.
+const FIRST: usize = 16_000;
+
 /// By how many bytes more each run may grow than the one before.
 const STEP: usize = 16;
 
@@ -175,14 +178,14 @@ const STEP: usize = 16;
 const MOST_RUNS: usize = 400;
 
 /// A request that sets is received with more and more memory to be had, until nothing is refused:
-/// the room for its answer is refused first, and then the box of the light, when it is performed.
+/// the room for its source's answers is refused first, and then the box of the light, when it is performed.
 #[test]
 fn each_growth_of_a_request_is_refused_in_turn(rt: HostRuntime) -> Result<(), Fail> {
     let (mut rooms, mut boxes) = (0u32, 0u32);
     let mut was_taken = false;
     for run in 0..MOST_RUNS {
         let mut light = light(rt.alloc())?;
-        let hoard = Hoard::take(rt.alloc(), run * STEP)?;
+        let hoard = Hoard::take(rt.alloc(), FIRST + run * STEP)?;
         let outcome = receive(&rt, &mut light, 5, SET_40)?;
         drop(hoard);
         if outcome.is_ok() {
@@ -224,5 +227,123 @@ fn copies_and_drops_take_no_memory(rt: HostRuntime) -> Result<(), Fail> {
     );
     assert!(rt; part.is_err(), "{part:?}");
     assert_eq!(rt; (light.pending(), light.last_moment().get()), (0, 1000));
+    Ok(())
+}
+
+/// The device of the example, without records.
+const EXAMPLE: &str = r#"eid = 9
+keep_ms = 1000
+tid = 1
+version0 = "00f0f0f1"
+version2 = "00f2f1f1"
+update_time = "00000000000000000000000000"
+oem_update_time = "00000000000000000000000000"
+[[numeric_effecter]]
+id = 1
+size = "uint8"
+min = 0
+max = 100
+value = 10
+"#;
+
+/// The device of the example behind its responder.
+fn example(alloc: Global) -> Result<Responder<SimDevice>, Fail> {
+    let description = Description::read(alloc, EXAMPLE.as_bytes())?;
+    let Description { eid, keep, device } = description;
+    Ok(Responder::new(alloc, eid, keep, device))
+}
+
+#[test]
+fn restart_forgets_and_is_busy_for_the_keeping_time(rt: HostRuntime) -> Result<(), Fail> {
+    let mut device = example(rt.alloc())?;
+    let first = receive(&rt, &mut device, 0, SET_40)?;
+    let now = Moment::new(100).ok_or("no moment")?;
+    let last = device.last_moment();
+    assert!(rt; last <= now);
+    device.restart(now);
+    assert_eq!(rt; device.kept(), 0);
+    let busy = receive(&rt, &mut device, 1099, SET_40)?;
+    let again = receive(&rt, &mut device, 1100, SET_40)?;
+    let not_ready = &[0x01, 0x08, 0x09, 0xc1, 0x01, 0x01, 0x02, 0x31, 0x04];
+    assert!(rt; answers(&first, true, true, SET), "{first:?}");
+    assert!(rt; answers(&busy, false, false, not_ready), "{busy:?}");
+    assert!(rt; answers(&again, true, true, SET), "{again:?}");
+    Ok(())
+}
+
+/// A message in three packets, after an answer to its source: no packet but the first wants memory.
+#[test]
+fn only_a_start_packet_wants_memory(rt: HostRuntime) -> Result<(), Fail> {
+    let mut device = example(rt.alloc())?;
+    let known = receive(&rt, &mut device, 0, SET_40)?;
+    let start = receive(&rt, &mut device, 2, &[0x01, 0x09, 0x08, 0x88, 0x01, 0x80])?;
+    let hoard = Hoard::take(rt.alloc(), 0)?;
+    let middle = receive(&rt, &mut device, 2, &[0x01, 0x09, 0x08, 0x18, 0x00, 0x01])?;
+    let end = receive(&rt, &mut device, 2, &[0x01, 0x09, 0x08, 0x68, 0x05])?;
+    drop(hoard);
+    let set_tid = &[0x01, 0x08, 0x09, 0xc0, 0x01, 0x00, 0x00, 0x01, 0x00];
+    assert!(rt; answers(&known, true, true, SET), "{known:?}");
+    assert!(rt; matches!(&start, Ok(Outcome::Partial)), "{start:?}");
+    assert!(rt; matches!(&middle, Ok(Outcome::Partial)), "{middle:?}");
+    assert!(rt; answers(&end, true, true, set_tid), "{end:?}");
+    Ok(())
+}
+
+/// GetTID from a source with an instance ID.
+fn get_tid_from(source: u8, id: u8) -> [u8; 8] {
+    [0x01, 0x09, source, 0xc8, 0x01, 0x80 | id, 0x00, 0x02]
+}
+
+/// How many of the GetTID requests of each other source and instance ID are performed at a moment.
+fn fresh_at(
+    rt: &impl Abort,
+    light: &mut Responder<Dimmer>,
+    milliseconds: u64,
+) -> Result<u32, Fail> {
+    let mut count = 0u32;
+    for source in 8..=254u8 {
+        if source == 9 {
+            continue;
+        }
+        for id in 0..32u8 {
+            match receive(rt, light, milliseconds, &get_tid_from(source, id))? {
+                Ok(Outcome::Answered { fresh: true, .. }) => count = count.saturating_add(1),
+                Ok(Outcome::Answered { fresh: false, .. }) => {}
+                other => assert!(rt; other.is_err() && other.is_ok(), "{other:?}"),
+            }
+        }
+    }
+    Ok(count)
+}
+
+#[test]
+fn every_pair_has_a_slot(rt: HostRuntime) -> Result<(), Fail> {
+    let mut light = light(rt.alloc())?;
+    assert_eq!(rt; fresh_at(&rt, &mut light, 0)?, 7872);
+    assert_eq!(rt; light.kept(), 7872);
+    assert_eq!(rt; fresh_at(&rt, &mut light, 999)?, 0);
+    assert_eq!(rt; fresh_at(&rt, &mut light, 1000)?, 7872);
+    assert_eq!(rt; (light.kept(), light.platform().performed()), (7872, 15744));
+    Ok(())
+}
+
+/// After the first request of a source no other of its instance IDs wants memory.
+#[test]
+fn first_request_takes_the_room_of_all_instance_ids(rt: HostRuntime) -> Result<(), Fail> {
+    let mut light = light(rt.alloc())?;
+    let first = receive(&rt, &mut light, 0, &get_tid_from(8, 0))?;
+    assert!(rt; answers(&first, true, false, TID), "{first:?}");
+    let hoard = Hoard::take(rt.alloc(), 0)?;
+    let mut count = 0u32;
+    for id in 1..32u8 {
+        let outcome = receive(&rt, &mut light, 0, &get_tid_from(8, id))?;
+        if let Ok(Outcome::Answered { fresh: true, .. }) = outcome {
+            count = count.saturating_add(1);
+        }
+    }
+    let other = receive(&rt, &mut light, 0, &get_tid_from(10, 0))?;
+    drop(hoard);
+    assert!(rt; other.is_err(), "{other:?}");
+    assert_eq!(rt; (count, light.kept()), (31, 32));
     Ok(())
 }

@@ -43,11 +43,18 @@ impl Platform for Recorder {
 
     ghost sensed = { recorder_sensed };
 
+    // it keeps the terminus IDs alone
+    ghost performed = { λ before commands after. Unit {0} };
+
     ghost reads_only = { recorder_reads_only };
 
     ghost refusal_changes_nothing = { recorder_refusal };
 
     ghost answers_the_command = { recorder_answers };
+
+    ghost none_performed = { λ value. tt };
+
+    ghost performed_in_turn = { λ first second third before after one other. tt };
 
     fn perform(&mut self, _alloc: Global, command: &Command) -> Result<Answer, Memory> {
         match command {

@@ -1,7 +1,7 @@
 //! A platform that makes a box for each level that it is set to, so it may want memory.
 
 ghost use Rattle.std.specs.Prelude.{◌≡◌, false};
-ghost use Rattle.pldm_responder.specs.Dimmers.{dimmer_after, dimmer_answer, dimmer_answers, dimmer_reads_only, dimmer_refusal, dimmer_sensed};
+ghost use Rattle.pldm_responder.specs.Dimmers.{DimmerCounts, dimmer_after, dimmer_answer, dimmer_answers, dimmer_in_turn, dimmer_none, dimmer_reads_only, dimmer_refusal, dimmer_sensed};
 
 use mctp_packet::Memory;
 use pldm_device::{Platform, ReadingFault};
@@ -14,6 +14,8 @@ pub struct Dimmer {
     level: Box<i64>,
     /// How many commands it was given, those that wanted memory among them. No command tells it.
     asked: u32,
+    /// How many commands it performed.
+    performed: u32,
 }
 
 impl Dimmer {
@@ -22,6 +24,7 @@ impl Dimmer {
         Ok(Dimmer {
             level: Box::new(alloc, 0)?,
             asked: 0,
+            performed: 0,
         })
     }
 
@@ -33,6 +36,11 @@ impl Dimmer {
     /// How many commands it was given.
     pub fn asked(&self) -> u32 {
         self.asked
+    }
+
+    /// How many commands it performed.
+    pub fn performed(&self) -> u32 {
+        self.performed
     }
 }
 
@@ -51,22 +59,30 @@ impl Platform for Dimmer {
 
     ghost sensed = { dimmer_sensed };
 
+    ghost performed = { λ before commands after. DimmerCounts before.performed commands after.performed };
+
     ghost reads_only = { dimmer_reads_only };
 
     ghost refusal_changes_nothing = { dimmer_refusal };
 
     ghost answers_the_command = { dimmer_answers };
 
+    ghost none_performed = { λ value. dimmer_none value.performed };
+
+    ghost performed_in_turn = { λ first second third before after one other. dimmer_in_turn first.performed second.performed third.performed before after one other };
+
     fn perform(&mut self, alloc: Global, command: &Command) -> Result<Answer, Memory> {
         self.asked = self.asked.saturating_add(1);
-        match command {
+        let answer = match command {
             Command::SetNumericEffecterValue { value, .. } => {
                 self.level = Box::new(alloc, value.value())?;
-                Ok(Answer::SetNumericEffecterValue)
+                Answer::SetNumericEffecterValue
             }
-            Command::GetTid => Ok(Answer::GetTid { tid: 1 }),
-            _ => Ok(Answer::Refused(Code::ERROR_UNSUPPORTED_PLDM_CMD)),
-        }
+            Command::GetTid => Answer::GetTid { tid: 1 },
+            _ => Answer::Refused(Code::ERROR_UNSUPPORTED_PLDM_CMD),
+        };
+        self.performed = self.performed.saturating_add(1);
+        Ok(answer)
     }
 
     fn set_reading(&mut self, id: u16, value: i64) -> Result<(), ReadingFault> {

@@ -4,7 +4,7 @@ use Rattle.mctpctl.specs.HeldRuns.{held_run}
 use Rattle.mctpctl.specs.TextLines.{is_divider}
 use Rattle.mctpctl.proofs.DescribedGlue.{stays_described, starts_past, divider_ends}
 use Rattle.mctpctl.proofs.answer_run.AnswerRun.describe.Goals as goal
-use Rattle.pldm_responder.specs.Slots.{held_of}
+use Rattle.pldm_responder.specs.Stations.{held_of}
 
 pub returns-then-not-is_divider-clause-meets : goal.returns-then-not-is_divider-clause-meets
 returns-then-not-is_divider-clause-meets c =

@@ -3,6 +3,4 @@ use Rattle.pldm_responder.proofs.responder.Responder.new.Goals as goal
 
 pub invariant_of-result : goal.invariant_of-result
 invariant_of-result g c =
-    let empty = c.new-2.ensures in
-    let none = c.new-3.ensures.items in
-    (rw empty (none_asked c.args.own), rw none tt)
+    let empty = c.new-2.ensures in (rw empty (none_asked c.args.own), λ id. c.new-3.ensures c.args.own id)

@@ -1,26 +1,23 @@
-use Rattle.std.proofs.Common.{◌∙◌, ℕ, List, Ok, ap, sym}
+use Rattle.std.proofs.Common.{◌∙◌, ℕ, List, cond, ◌&&◌, ◌==◌, Some, Ok, ap, sym, arith}
 use Rattle.pldm_wire.specs.Requests.{request_of}
 use Rattle.pldm_responder.specs.Arrivals.{message_of}
+use Rattle.pldm_responder.specs.Held.{Entry}
 use Rattle.pldm_responder.specs.Performing.{rules_of, reply_to, next_after}
-use Rattle.pldm_responder.specs.Slots.{Slot, Station, kept_in, put_slot}
+use Rattle.pldm_responder.specs.Slots.{kept_in}
+use Rattle.pldm_responder.specs.Stations.{Station}
 use Rattle.pldm_responder.specs.Steps.{copied_packets}
-use Rattle.pldm_responder.proofs.SlotLists.{AreSlots-put_slot}
-use Rattle.pldm_responder.proofs.ServedMessages.{held_once_performed}
+use Rattle.pldm_responder.proofs.ServedMessages.{at_error, wants_once_performed, held_once_performed}
 use Rattle.pldm_responder.proofs.responder.Responder.serve.Goals as goal
 
-pub invariant_of-self-2 : goal.invariant_of-self-2
-invariant_of-self-2 g c =
-    let own = ap (λ (s : Station g.row.P-State.Denot). s.own) c.self.view_is in (
-      c.self.invariant.0,
-      rw (c.put.ensures, c.make_room.ensures.items) (
-          AreSlots-put_slot c.self.inside.own _ c.self.inside.kept.items (record {
-            source = c.get-range.ensures.range;
-            other = λ same. c.requires (same ∙ own);
-            id = rw c.id-id.ensures.value c.id-id.ensures.range;
-            answer = c.in_ok-answer.ensures.few;
-          }) c.self.invariant.1
-          ),
-    )
+pub returns-in_err-answer-clause-memory : goal.returns-in_err-answer-clause-memory
+returns-in_err-answer-clause-memory g c =
+    let before = c.args.self.now in
+    let copied = λ (bytes : List ℕ) (id : ℕ). copied_packets before.own before.keep (message_of c.args.source c.args.tag c.args.now bytes) (kept_in before.rows c.args.source id) in
+    at_error _ (wants_once_performed before (message_of c.args.source c.args.tag c.args.now c.args.message.items) c.in-Ok.request
+      (ap request_of (sym c.deref.ensures.0) ∙ sym c.in-Ok.ensures.exact)
+      (omega (arith, c.if-get-self.false, c.get.ensures.value, ap (λ (s : Station g.row.P.Denot g.row.P-State.Denot). s.serves_from) c.self.view_is))
+      (◌∙◌ {b = copied c.deref-2.result.now c.id-id.result} (◌∙◌ {b = c.copied.result} (sym c.in_default.is) c.copied.ensures) (ap (λ bytes. copied bytes c.id-id.result) c.deref-2.ensures.0 ∙ ap (copied c.args.message.items) c.id-id.ensures.value))
+      g.P.Platform.STEADY (λ steady id. cc (c.in_err-answer.ensures.steady steady)))
 
 pub returns-clause-held : goal.returns-clause-held
 returns-clause-held g c =
@@ -28,17 +25,31 @@ returns-clause-held g c =
     let request = c.in-Ok.request in
     let device = rules_of g.P.Platform.answer g.P.Platform.after g.P.Platform.sensed in
     let view = c.self.view_is in
-    let slots = ap (λ (s : Station g.row.P-State.Denot). s.slots) view in
-    let state = ap (λ (s : Station g.row.P-State.Denot). s.state) view in
-    let new : ℕ → Slot = λ id. record { source = c.args.source; id = id; entry = record { moment = c.args.now; bytes = c.args.message.items; answer = c.in_ok-answer.field-0.answer.items } } in
-    let copied = λ (bytes : List ℕ) (id : ℕ). copied_packets before.own before.keep (message_of c.args.source c.args.tag c.args.now bytes) (kept_in before.slots c.args.source id) in
-    held_once_performed device before _ (message_of c.args.source c.args.tag c.args.now c.args.message.items) request c.in_ok-answer.field-0.answer.items
+    let state = ap (λ (s : Station g.row.P.Denot g.row.P-State.Denot). s.state) view in
+    let new : Station g.row.P.Denot g.row.P-State.Denot = record {
+      own = c.self.inside.own;
+      keep = c.self.inside.keep;
+      open_messages = c.self.inside.assembler;
+      rows = c.put.new.self;
+      platform = c.perform.new.platform;
+      state = g.P.Platform.state c.perform.new.platform;
+      serves_from = c.self.inside.serves_from;
+      last = c.self.inside.last;
+    } in
+    let entry : Entry = record { moment = c.args.now; bytes = c.args.message.items; answer = c.in_ok-answer.field-0.answer.items } in
+    let copied = λ (bytes : List ℕ) (id : ℕ). copied_packets before.own before.keep (message_of c.args.source c.args.tag c.args.now bytes) (kept_in before.rows c.args.source id) in
+    held_once_performed before (message_of c.args.source c.args.tag c.args.now c.args.message.items) request
     (ap request_of (sym c.deref.ensures.0) ∙ sym c.in-Ok.ensures.exact)
+    (omega (arith, c.if-get-self.false, c.get.ensures.value, ap (λ (s : Station g.row.P.Denot g.row.P-State.Denot). s.serves_from) view))
     (◌∙◌ {b = copied c.deref-2.result.now c.id-id.result} (◌∙◌ {b = c.copied.result} (sym c.in_default.is) c.copied.ensures) (ap (λ bytes. copied bytes c.id-id.result) c.deref-2.ensures.0 ∙ ap (copied c.args.message.items) c.id-id.ensures.value))
+    device new c.in_ok-answer.field-0.answer.items
     (◌∙◌ {b = reply_to device (g.P.Platform.state c.self.inside.platform) (Ok request)} c.in_ok-answer.ensures.answer (ap (λ s. reply_to device s (Ok request)) state))
-    (c.put.ensures ∙ ap (λ kept. put_slot kept (new c.id-id.result)) (c.make_room.ensures.items ∙ slots) ∙ ap (λ id. put_slot before.slots (new id)) c.id-id.ensures.value)
+    (λ other i. c.put.ensures other i
+      ∙ ap (λ id. cond (c.args.source == other && id == i) (Some entry) (kept_in c.make_room.new.self other i)) c.id-id.ensures.value
+      ∙ ap (λ o. cond (c.args.source == other && request.id == i) (Some entry) o) (c.make_room.ensures.same other i ∙ ap (λ (s : Station g.row.P.Denot g.row.P-State.Denot). kept_in s.rows other i) view))
     (◌∙◌ {b = next_after device (g.P.Platform.state c.self.inside.platform) (Ok request)} c.in_ok-answer.ensures.state (ap (λ s. next_after device s (Ok request)) state))
-    (ap (λ (s : Station g.row.P-State.Denot). s.own) view)
-    (ap (λ (s : Station g.row.P-State.Denot). s.keep) view)
-    (ap (λ (s : Station g.row.P-State.Denot). s.open_messages) view)
-    (ap (λ (s : Station g.row.P-State.Denot). s.last) view)
+    (ap (λ (s : Station g.row.P.Denot g.row.P-State.Denot). s.own) view)
+    (ap (λ (s : Station g.row.P.Denot g.row.P-State.Denot). s.keep) view)
+    (ap (λ (s : Station g.row.P.Denot g.row.P-State.Denot). s.open_messages) view)
+    (ap (λ (s : Station g.row.P.Denot g.row.P-State.Denot). s.serves_from) view)
+    (ap (λ (s : Station g.row.P.Denot g.row.P-State.Denot). s.last) view)

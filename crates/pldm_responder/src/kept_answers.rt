@@ -1,0 +1,107 @@
+ghost use Rattle.std.specs.Prelude.{◌≡◌, ℕ, ◌≤◌, ◌<◌, ◌&&◌, ◌==◌, length, Some, None, is_some, if◌then◌else◌, IfSome, IsSome, OnOk, OnErr};
+ghost use Rattle.std.specs.Option.{option_copied};
+ghost use Rattle.mctp_packet.specs.Ids.{IsEid};
+ghost use Rattle.mctp_packet.specs.declared.TheConstants.{MOST_MESSAGE_BYTES};
+ghost use Rattle.pldm_wire.specs.declared.assigned.TheConstants.{INSTANCE_IDS};
+ghost use Rattle.pldm_responder.specs.Counts.{CountsKept};
+ghost use Rattle.pldm_responder.specs.Slots.{IsKept, kept_in, row_of};
+
+use crate::kept_answer::KeptAnswer;
+use crate::row::Row;
+use mctp_packet::{Eid, Memory};
+use std::alloc::Global;
+use std::collections::BTreeMap;
+use std::marker::Model;
+
+/// The answers that are kept, by the source of the request and its instance ID.
+#[derive(Debug, Drop)]
+pub(crate) struct KeptAnswers {
+    alloc: Global,
+    /// A row for each source of which a fresh message came.
+    rows: BTreeMap<Eid, Row>,
+    /// How many slots hold an answer.
+    count: usize,
+}
+
+impl Model for KeptAnswers {
+    ghost use Rattle.pldm_responder.specs.Slots.{Rows, coded_rows, AreKept};
+
+    ghost Value = { Rows };
+
+    ghost coded = { coded_rows };
+
+    ghost view = { λ k. k.rows.entries };
+
+    ghost invariant = { λ k. AreKept k.rows.entries k.count };
+}
+
+impl KeptAnswers {
+    /// No answers. It takes no memory.
+    pub(crate) fn new(alloc: Global) -> KeptAnswers
+        ensures { (source id : ℕ) → kept_in result source id ≡ None }
+    {
+        KeptAnswers {
+            alloc,
+            rows: BTreeMap::new(alloc),
+            count: 0,
+        }
+    }
+
+    /// The answer that is kept for a source and an instance ID.
+    pub(crate) fn get(&self, source: Eid, id: u8) -> Option<&KeptAnswer>
+        requires { id < INSTANCE_IDS }
+        ensures { option_copied result ≡ kept_in self.now source id }
+    {
+        match self.rows.get(&source) {
+            Some(row) => row.get(id),
+            None => None,
+        }
+    }
+
+    /// Whether an answer is kept for a source and an instance ID.
+    fn has(&self, source: Eid, id: u8) -> bool
+        requires { id < INSTANCE_IDS }
+        ensures { result ≡ is_some (kept_in self.now source id) }
+    {
+        self.get(source, id).is_some()
+    }
+
+    /// Takes the room for the answers to a source, where it has none yet.
+    pub(crate) fn make_room(&mut self, source: Eid) -> Result<(), Memory>
+        ensures same { (other id : ℕ) → kept_in self.new other id ≡ kept_in self.old other id }
+        ensures ok { OnOk result (IsSome (row_of self.new source)) }
+        ensures err { OnErr result (row_of self.old source ≡ None) }
+    {
+        if self.rows.contains_key(&source) {
+            return Ok(());
+        }
+        self.rows.insert(source, Row::new(self.alloc)?)?;
+        Ok(())
+    }
+
+    /// Puts an answer in the place of its source's and instance ID's. There has to be room for it.
+    pub(crate) fn put(&mut self, source: Eid, id: u8, answer: KeptAnswer)
+        requires room { IsSome (row_of self.old source) }
+        requires id { id < INSTANCE_IDS }
+        requires few { length answer.answer ≤ MOST_MESSAGE_BYTES }
+        ensures { (other i : ℕ) → kept_in self.new other i ≡ (if source == other && id == i then Some answer else kept_in self.old other i) }
+    {
+        let _range = source.get();
+        let had = self.has(source, id);
+        match self.rows.get_mut(&source) {
+            Some(row) => row.put(id, answer),
+            None => unreachable!(),
+        }
+        if !had {
+            self.count += 1;
+        }
+    }
+
+    /// How many there are.
+    pub(crate) fn count(&self) -> usize
+        ensures value { CountsKept (kept_in self.now) result }
+        ensures each { (source id : ℕ) → IfSome (kept_in self.now source id) (IsKept source id) }
+    {
+        self.count
+    }
+}
