@@ -17,7 +17,7 @@ use Rattle.pldm_device.specs.Devices.{Device}
 use Rattle.pldm_responder.specs.Stations.{Station}
 
 -- at first the run gives the text of its input
-pub first_gives : (text kept : List ℕ) (lines : Option (LineRun (Station Device))) → text ≡ [] → kept ≡ [] → lines ≡ None
+pub first_gives : (text kept : List ℕ) (lines : Option (LineRun (Station Device Device))) → text ≡ [] → kept ≡ [] → lines ≡ None
     → ((is_cut : Bool) (bytes : List ℕ) → run_of held_run is_cut bytes ≡ run_of called_run is_cut bytes)
     → described_gives past_gives (description_gives held_run text kept) lines ≡ run_of called_run
 first_gives text kept lines no_text no_kept no_lines looks =

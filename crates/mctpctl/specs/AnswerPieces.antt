@@ -17,10 +17,10 @@ use Rattle.pldm_device.specs.declared.description_fault.FileFault.{FileFault}
 use Rattle.pldm_responder.specs.Stations.{Station, held_of}
 
 -- what the run over the capture writes of the bytes to come
-abbrev pub past_gives : LineRun (Station Device) → Gives
+abbrev pub past_gives : LineRun (Station Device Device) → Gives
 past_gives run = line_gives held_step (run.ended + 1) (held_of run.task) run.kept.items
 
-abbrev pub past_count : LineRun (Station Device) → ℕ
+abbrev pub past_count : LineRun (Station Device Device) → ℕ
 past_count run = run.ended
 
 -- a run whose input is cut off at once writes nothing more
@@ -31,7 +31,7 @@ device_writes_nothing said true = refl
 device_writes_nothing (Ok description) false = refl
 device_writes_nothing (Err fault) false = refl
 
-pub nothing_where_cut : (text kept : List ℕ) (lines : Option (LineRun (Station Device)))
+pub nothing_where_cut : (text kept : List ℕ) (lines : Option (LineRun (Station Device Device)))
     → (described_gives past_gives (description_gives held_run text kept) lines true []).text ≡ []
 nothing_where_cut text kept (Some run) = refl
 nothing_where_cut text kept None = by_line (is_divider (kept ++ [])) where
