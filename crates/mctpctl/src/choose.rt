@@ -5,6 +5,7 @@ ghost use Rattle.clap.specs.Words.{app_of, kind_of, subcommand_name_of};
 ghost use Rattle.mctpctl.specs.FaultNumbers.{number_of_choose_fault};
 ghost use Rattle.mctpctl.specs.Choice.{command as the_command, task_named, task_of, TellsKind, TellsRefusal};
 
+use crate::help::{ANSWER, STATUSES};
 use clap::error::ErrorKind;
 use clap::{ArgMatches, Command};
 use std::alloc::{AllocError, Global};
@@ -65,11 +66,12 @@ pub fn choose(alloc: Global, words: &[&str]) -> Result<Task, ChooseFault>
 fn command<'a>(alloc: Global) -> Result<Command<'a>, AllocError>
     ensures { IfOk result (λ command. app_of command ≡ the_command) }
 {
-    let answer = Command::new(alloc, "answer").about(
-        "Answers the packets of a capture as the described device does",
-    );
+    let answer = Command::new(alloc, "answer")
+        .about("Answers the packets of a capture as the described device does")
+        .after_help(ANSWER);
     Command::new(alloc, "mctpctl")
         .about("A simulated PLDM device behind MCTP, on standard input and output")
+        .after_help(STATUSES)
         .subcommand_required(true)
         .subcommand(answer)
 }

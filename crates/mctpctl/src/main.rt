@@ -10,6 +10,7 @@ mod example;
 #[cfg(test)]
 mod fakes;
 mod faults;
+mod help;
 mod limits;
 mod line_run;
 mod lines;
