@@ -1,11 +1,12 @@
 -- What a few captures of the example device give, computed from the definitions: its keeping time is 1000 milliseconds.
 use Rattle.std.proofs.Common.{◌≡◌, ℕ, List, [], ◌∷◌, codes, replicate, pos, None, Some, false, refl}
 use Rattle.hex.proofs.OnLiterals.{hex_on_literals}
-use Rattle.mctpctl.specs.AnswerText.{called_run}
+use Rattle.mctpctl.specs.AnswerText.{called_run, answer_text}
 use Rattle.mctpctl.specs.CaptureLine.{capture_of}
 use Rattle.mctpctl.specs.declared.faults.EngineFault.TheVariants.{Line}
 use Rattle.mctpctl.specs.declared.faults.LineKind.TheVariants.{BackInTime}
 use Rattle.pldm_device.specs.declared.description.Description.{Description}
+use Rattle.pldm_device.proofs.DescriptionLiterals.{description_on_literals}
 use Rattle.pldm_wire.specs.CommandReading.{command_of}
 use Rattle.pldm_wire.specs.Requests.{request_of}
 use Rattle.pldm_wire.specs.declared.size.Size.TheVariants.{Uint8}
@@ -71,3 +72,8 @@ several_packets = refl
 back_in_time : called_run example false (codes "5 010908c801800002" ∷ codes "# 4" ∷ codes "4 010908c801800002" ∷ []) ≡ record { text = codes "010809c0010000020001\n"; fault = Some (Line 3 BackInTime) }
 unfolding capture_of hex_on_literals request_of command_of
 back_in_time = refl
+
+-- a whole input, from its bytes to its text
+whole_input : answer_text (codes "eid = 9\nkeep_ms = 1000\ntid = 1\nversion0 = '00f0f0f1'\nversion2 = '00f2f1f1'\nupdate_time = '00000000000000000000000000'\noem_update_time = '00000000000000000000000000'\n%%\n# a comment\n0 010908c801800002\n0 0109\n") ≡ record { text = codes "010809c0010000020001\ndrop Short\n"; fault = None }
+unfolding capture_of hex_on_literals request_of command_of description_on_literals
+whole_input = refl

@@ -12,3 +12,4 @@ pub mod WorkedRecords
 pub mod FetchLooksBack
 pub mod RepositoryFetched
 pub mod Numbers
+mod WorkedAnswers

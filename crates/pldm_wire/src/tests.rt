@@ -15,22 +15,6 @@ fn number(rt: &impl Abort, size: Size, value: i64) -> Number {
 }
 
 #[test]
-fn bytes_that_are_no_request_have_a_reason(rt: HostRuntime) {
-    let dropped = [
-        ([].as_slice(), Reason::ShortHeader),
-        ([0x02, 0x80, 0x00, 0x02].as_slice(), Reason::NotPldm),
-        ([0x81, 0x80, 0x00, 0x02].as_slice(), Reason::Integrity),
-        ([0x01, 0x80].as_slice(), Reason::ShortHeader),
-        ([0x01, 0x80, 0x40, 0x02].as_slice(), Reason::BadPldmHeader),
-        ([0x01, 0x00, 0x00, 0x02].as_slice(), Reason::NotRequest),
-        ([0x01, 0xc0, 0x00, 0x02].as_slice(), Reason::Datagram),
-    ];
-    for (bytes, reason) in dropped {
-        assert_eq!(rt; read_request(bytes).err(), Some(reason), "{bytes:?}");
-    }
-}
-
-#[test]
 fn bytes_that_are_no_response_have_a_reason(rt: HostRuntime) {
     let dropped = [
         (
@@ -78,27 +62,4 @@ fn values_that_no_reader_takes_are_not_made(rt: HostRuntime) {
     assert_eq!(rt; EffecterValues::new(narrow, wide), None);
     assert_eq!(rt; TransferFlag::new(3), None);
     assert_eq!(rt; Code::new(0), None);
-}
-
-#[test]
-fn a_message_has_its_parts(rt: HostRuntime) -> Result<(), Fail> {
-    let request = read_request(&[0x01, 0x81, 0x00, 0x01, 0x05])?;
-    assert_eq!(rt; request.id(), 1);
-    let set_tid = Kind {
-        pldm_type: 0,
-        command: 1,
-    };
-    assert_eq!(rt; request.kind(), set_tid);
-    assert_eq!(rt; request.data(), [0x05].as_slice());
-    assert!(rt; read_command(&request)?.sets());
-    let response = read_response(&[0x01, 0x3f, 0x02, 0x51, 0x82, 0x07])?;
-    let get_pdr = Kind {
-        pldm_type: 2,
-        command: 0x51,
-    };
-    assert_eq!(rt; response.id(), 31);
-    assert_eq!(rt; response.kind(), get_pdr);
-    assert_eq!(rt; response.code(), 0x82);
-    assert_eq!(rt; response.data(), [0x07].as_slice());
-    Ok(())
 }
