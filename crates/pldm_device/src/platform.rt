@@ -11,14 +11,19 @@ use std::alloc::Global;
 /// it is made, and it is seen in proofs only. `state` gives the state of a value, `answer` the answer
 /// that a command gets in a state, `after` the state that follows, and `sensed` the state after a
 /// sensor was given a reading, or why it wasn't given. `perform` and `set_reading` have to do what
-/// these say. Where the device's own state can't be known in advance, as that of a sensor over a bus,
+/// these say. `performed` relates two values by the commands that were performed from the one to the
+/// other: a device that counts or records them says so there, and any other lets it hold of all
+/// values. What is proved for every platform holds whatever it says, so code over a platform can
+/// perform no command in secret. Where the device's own state can't be known in advance, as that of a sensor over a bus,
 /// `State` is what the value has read of it, and a call of the value's own takes in what is new.
 ///
 /// The laws, which each implementation proves of its definitions:
 ///
 /// - `reads_only`: a command that doesn't set leaves the state as it is;
 /// - `refusal_changes_nothing`: so does a command that is refused;
-/// - `answers_the_command`: the answer is one to the command's kind, or a refusal.
+/// - `answers_the_command`: the answer is one to the command's kind, or a refusal;
+/// - `none_performed` and `performed_in_turn`: from a value to itself no command was performed, and
+///   commands that were performed in turn were performed together.
 ///
 /// After Memory the state is as before, so that the command may come again. `STEADY` says that
 /// `perform` never answers Memory.
@@ -48,11 +53,17 @@ use std::alloc::Global;
 ///
 ///     ghost sensed = { λ tid id value. Err NoSuchSensor };
 ///
+///     ghost performed = { λ before commands after. Unit {0} };
+///
 ///     ghost reads_only = { lamp_reads_only };
 ///
 ///     ghost refusal_changes_nothing = { lamp_refusal };
 ///
 ///     ghost answers_the_command = { lamp_answers };
+///
+///     ghost none_performed = { λ value. tt };
+///
+///     ghost performed_in_turn = { λ first second third before after one other. tt };
 ///
 ///     fn perform(&mut self, _alloc: Global, command: &Command) -> Result<Answer, Memory> {
 ///         Ok(match command {

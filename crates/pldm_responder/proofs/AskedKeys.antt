@@ -13,6 +13,7 @@ use Rattle.std.proofs.lemmas.Map.Steps.{length-le_from_distinct_below}
 use Rattle.std.proofs.lemmas.List.{length-map}
 use Rattle.mctp_packet.specs.Ids.{IsEid}
 use Rattle.mctp_packet.specs.Packets.{Packet}
+use Rattle.mctp_packet.specs.declared.TheConstants.{TAGS}
 use Rattle.mctp_assembly.specs.Keys.{key_cmp, key_of}
 use Rattle.mctp_assembly.specs.Opened.{Opened}
 use Rattle.mctp_assembly.specs.Steps.{Held, answer, after, stays_open, carried_on}
@@ -67,7 +68,7 @@ apart_by Equal h e = absurd h
 apart_by Greater h e = cc
 
 abbrev number : ℕ → Key → ℕ
-number own k = 8 * place own k.source + k.tag
+number own k = TAGS * place own k.source + k.tag
 
 same_key : (own : ℕ) (j k : Key) → IsEid own → IsAsked own j → IsAsked own k → number own j ≡ number own k → j ≡ k
 same_key own j k home one two h =

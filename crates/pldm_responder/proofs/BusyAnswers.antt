@@ -1,11 +1,10 @@
 -- The answer to a request while the responder is busy is one packet of five bytes: a response whose code is NotReady.
-use Rattle.std.proofs.Common.{◌≡◌, ℕ, ◌+◌, ◌*◌, ◌%◌, ◌<◌, true, List, [], ◌∷◌, Option, Some, None, Ok, refl, sym, ap, ◌∙◌, subst, arith}
+use Rattle.std.proofs.Common.{◌≡◌, ℕ, ◌+◌, ◌*◌, ◌<◌, true, List, [], ◌∷◌, Option, Some, None, Ok, sym, ap, ◌∙◌, subst, arith}
 use Rattle.std.specs.Prelude.{slice_index}
 use Rattle.mctp_packet.specs.Packets.{packet, written}
 use Rattle.mctp_packet.specs.Pieces.{packets, written_packets}
 use Rattle.mctp_packet.specs.declared.packet.Route.{Route}
 use Rattle.mctp_packet.specs.declared.reason.Reason.{Reason}
-use Rattle.pldm_wire.specs.Headers.{id_at, kind_at}
 use Rattle.pldm_wire.specs.Kinds.{TypeAndCommand, IsKind}
 use Rattle.pldm_wire.specs.Messages.{IsResponse}
 use Rattle.pldm_wire.specs.Requests.{Request, request_of, request_refusal, unless}

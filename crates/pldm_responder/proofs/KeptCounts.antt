@@ -99,6 +99,6 @@ module _ (rows : Rows) (each : (source id : ℕ) → IfSome (kept_in rows source
         few_pairs (λ source id. is_some (kept_in rows source id)) (λ source id. INSTANCE_IDS * place own source + id) MOST_KEPT
         (λ source id some. omega (arith, kept_pair source id some, place_low own source home (kept_pair source id some).0 (other_source source id some)))
         (λ s i t j one other. λ same.
-          let places : place own s ≡ place own t = omega (arith, kept_pair s i one, kept_pair t j other) in
-          (same_place own s t home (kept_pair s i one).0 (other_source s i one) (kept_pair t j other).0 (other_source t j other) places, omega (arith, kept_pair s i one, kept_pair t j other)))
+        let places : place own s ≡ place own t = omega (arith, kept_pair s i one, kept_pair t j other) in
+        (same_place own s t home (kept_pair s i one).0 (other_source s i one) (kept_pair t j other).0 (other_source t j other) places, omega (arith, kept_pair s i one, kept_pair t j other)))
         count counts

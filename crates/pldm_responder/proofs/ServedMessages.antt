@@ -67,7 +67,7 @@ wants_when_whole held steady moment p route items same owner whole wants =
     let expected : p.route.owner ≡ true = ap (λ (r : Route). r.owner) (sym same) ∙ owner in
     subst (λ t. PassedWants held steady moment (if t then Ok p else Err BadTag)) (sym expected)
     (subst (λ fed. ArrivalWants held steady p.start (fed_arrival p.route moment fed)) whole
-      (subst (λ (r : Route). ArrivalWants held steady p.start (headed (message_of r.source r.tag moment items) (request_of items))) same (wants p.start)))
+    (subst (λ (r : Route). ArrivalWants held steady p.start (headed (message_of r.source r.tag moment items) (request_of items))) same (wants p.start)))
 
 module _ {P S : Type 0} (station : Station P S) (m : Message) (request : Request) (read : request_of m.bytes ≡ Ok request)
     (serves : station.serves_from ≤ m.moment) (fresh : None ≡ copied_packets station.own station.keep m (kept_in station.rows m.source request.id)) where

@@ -15,7 +15,7 @@ use Rattle.pldm_responder.specs.Counts.{CountsKept}
 use Rattle.pldm_responder.specs.Held.{Held, IsHeld, held_at_first}
 use Rattle.pldm_responder.specs.Laws.{IsLeftBy}
 use Rattle.pldm_responder.specs.Performing.{Rules, rules_of, performed}
-use Rattle.pldm_responder.specs.Slots.{kept_in, AreKept}
+use Rattle.pldm_responder.specs.Slots.{AreKept}
 use Rattle.pldm_responder.specs.Steps.{sensed_held, restarted_held, arrival_commands}
 use Rattle.pldm_responder.specs.Wants.{KeepsNone}
 use Rattle.pldm_responder.specs.declared.outcome.Outcome.{Outcome}

@@ -25,7 +25,8 @@ headed m (Ok request) = Whole m
 headed m (Err reason) = Drop reason
 
 abbrev pub fed_arrival : Route → ℕ → Fed → Arrival
-fed_arrival route moment (fed.Whole body) = headed (message_of route.source route.tag moment body.items) (request_of body.items)
+fed_arrival route moment (fed.Whole body) =
+    headed (message_of route.source route.tag moment body.items) (request_of body.items)
 fed_arrival route moment fed.Partial = Part
 fed_arrival route moment (fed.Dropped reason) = Drop reason
 

@@ -62,8 +62,10 @@ module _ {S : Type 0} (device : Rules S) (own keep : ℕ) (start : S) where
   abbrev pub answer_owed : List Event → Message → Outcome
   answer_owed events m =
       if is_busy keep events m.moment then Answered false false (packets_back own m (busy_reply m.bytes))
-      else (if is_copy keep events m then Answered false false (packets_back own m (answered device keep start events m))
-      else Answered true (changes device (performed device keep start events) m.bytes) (packets_back own m (answered device keep start events m)))
+      else (if is_copy keep events m
+      then Answered false false (packets_back own m (answered device keep start events m))
+      else Answered true (changes device (performed device keep start events) m.bytes)
+      (packets_back own m (answered device keep start events m)))
 
   -- the same, of what a packet brings
   abbrev pub outcome_owed : List Event → Arrival → Outcome

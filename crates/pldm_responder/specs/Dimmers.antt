@@ -1,5 +1,5 @@
 -- A platform whose level is set by any numeric effecter and by sensor 1, with terminus ID 1: that of the tests.
-use Rattle.std.specs.Prelude.{◌≡◌, ℕ, ◌+◌, ◌-◌, ◌^◌, ◌==◌, ℤ, false, List, [], ◌++◌, length, min, Result, Ok, Err, if◌then◌else◌, refl}
+use Rattle.std.specs.Prelude.{◌≡◌, ℕ, ◌+◌, ◌==◌, ℤ, false, List, [], ◌++◌, length, min, Result, Ok, Err, if◌then◌else◌, refl}
 use Rattle.std.proofs.Common.{ap, sym, add-zero, arith, length-append}
 use Rattle.pldm_wire.specs.Answers.{IsAnswerTo}
 use Rattle.pldm_wire.specs.Commands.{kind_of, sets}
@@ -34,8 +34,9 @@ DimmerCounts before commands after = min after MOST_COUNTED ≡ min (before + le
 pub dimmer_none : (count : ℕ) → DimmerCounts count [] count
 dimmer_none count = ap (λ n. min n MOST_COUNTED) (sym (add-zero count))
 
-pub dimmer_in_turn : (first second third : ℕ) (before after : List Command) → DimmerCounts first before second → DimmerCounts second after third
-    → DimmerCounts first (after ++ before) third
+pub dimmer_in_turn :
+    (first second third : ℕ) (before after : List Command)
+    → DimmerCounts first before second → DimmerCounts second after third → DimmerCounts first (after ++ before) third
 dimmer_in_turn first second third before after one other =
     rw length-append (omega (arith, one, other))
 
@@ -43,7 +44,9 @@ pub dimmer_reads_only : (level : ℤ) (command : Command) → sets command ≡ f
 dimmer_reads_only level (SetNumericEffecterValue effecter value) asks = cc
 dimmer_reads_only level _ asks = refl
 
-pub dimmer_refusal : (level : ℤ) (command : Command) (code : ℕ) → dimmer_answer level command ≡ answers.Refused code → dimmer_after level command ≡ level
+pub dimmer_refusal :
+    (level : ℤ) (command : Command) (code : ℕ)
+    → dimmer_answer level command ≡ answers.Refused code → dimmer_after level command ≡ level
 dimmer_refusal level (SetNumericEffecterValue effecter value) code refused = cc
 dimmer_refusal level _ code refused = refl
 

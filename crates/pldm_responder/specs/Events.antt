@@ -1,6 +1,6 @@
--- What reached a responder, the newest first, and which message of it repeats which: the instance ID tells a new request from
--- a retry (DSP0240, "PLDM message fields"). A message is a copy where the latest fresh one of its source and instance ID has
--- the same bytes and came less than the keeping time before; else it is fresh.
+-- What reached a responder, the newest first, and which message of it repeats which: the instance ID tells a new
+-- request from a retry (DSP0240, "PLDM message fields"). A message is a copy where the latest fresh one of its
+-- source and instance ID has the same bytes and came less than the keeping time before; else it is fresh.
 use Rattle.std.specs.Prelude.{ℕ, ◌+◌, ℤ, List, [], ◌∷◌, Bool, false, ◌&&◌, ◌||◌, not, ◌==◌, nat_lt, bytes_eq, Option, Some, None, if◌then◌else◌}
 use Rattle.pldm_wire.specs.Headers.{id_at}
 
@@ -48,7 +48,8 @@ origin keep [] source id = None
 origin keep (Set _ _ ∷ events) source id = origin keep events source id
 origin keep (Restarted _ ∷ events) source id = None
 origin keep (Came m ∷ events) source id =
-    if is_of m source id && (not (is_busy keep events m.moment) && not (is_copy_of keep m (origin keep events m.source (id_at m.bytes))))
+    if is_of m source id
+    && (not (is_busy keep events m.moment) && not (is_copy_of keep m (origin keep events m.source (id_at m.bytes))))
     then Some (record { before = events; message = m })
     else origin keep events source id
 
@@ -64,4 +65,5 @@ abbrev pub has_fresh : ℕ → List Event → ℕ → ℕ → Bool
 has_fresh keep [] source id = false
 has_fresh keep (Set _ _ ∷ events) source id = has_fresh keep events source id
 has_fresh keep (Restarted _ ∷ events) source id = false
-has_fresh keep (Came m ∷ events) source id = is_of m source id && is_fresh keep events m || has_fresh keep events source id
+has_fresh keep (Came m ∷ events) source id =
+    is_of m source id && is_fresh keep events m || has_fresh keep events source id

@@ -9,8 +9,8 @@ pub record Entry : Type 0 where
   pub bytes : List ℕ
   pub answer : List ℕ
 
--- its endpoint ID and keeping time, what is open on each key, the kept answer of each source and instance ID, the state of
--- the platform, the moment from which it serves, and the last moment
+-- its endpoint ID and keeping time, what is open on each key, the kept answer of each source and instance ID, the state
+-- of the platform, the moment from which it serves, and the last moment
 pub record Held (S : Type 0) : Type 0 where
   pub own : ℕ
   pub keep : ℕ

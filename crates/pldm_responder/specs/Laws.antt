@@ -19,14 +19,20 @@ use Rattle.pldm_responder.specs.Steps.{received_outcome, received_held, sensed_h
 abbrev pub entry_at : {S : Type 0} → Rules S → ℕ → S → Option Place → Option Entry
 entry_at device keep start None = None
 entry_at device keep start (Some place) =
-    Some (record { moment = place.message.moment; bytes = place.message.bytes; answer = reply_at device keep start place })
+    Some (record {
+      moment = place.message.moment;
+      bytes = place.message.bytes;
+      answer = reply_at device keep start place;
+    })
 
 -- what is held is what the calls leave of a responder with this endpoint ID, keeping time and first state
-pub record IsLeftBy {S : Type 0} (device : Rules S) (own keep : ℕ) (start : S) (held : Held S) (calls : List Call) : Type 0 where
+pub record IsLeftBy {S : Type 0}
+    (device : Rules S) (own keep : ℕ) (start : S) (held : Held S) (calls : List Call) : Type 0 where
   pub endpoint : held.own ≡ own
   pub keeping : held.keep ≡ keep
   pub open_messages : assembly.IsLeftBy held.open_messages (fed own calls)
-  pub kept : (source id : ℕ) → held.kept source id ≡ entry_at device keep start (origin keep (events own calls) source id)
+  pub kept :
+      (source id : ℕ) → held.kept source id ≡ entry_at device keep start (origin keep (events own calls) source id)
   pub state : held.state ≡ performed device keep start (events own calls)
   pub serves_from : held.serves_from ≡ busy_until keep (events own calls)
   pub last : held.last ≡ last_moment calls
@@ -72,8 +78,8 @@ module _ {S : Type 0} (device : Rules S) where
       → ((source id : ℕ) → is_some (held.kept source id) ≡ has_fresh keep (events own calls) source id)
       × ((count : ℕ) → CountsKept held.kept count → CountsPairs (has_fresh keep (events own calls)) count)
 
--- the answer to a request while the responder is busy is one packet, with SOM and EOM: a response of the request's instance
--- ID and kind with completion code ERROR_NOT_READY and no data, and with no other code
+-- the answer to a request while the responder is busy is one packet, with SOM and EOM: a response of the request's
+-- instance ID and kind with completion code ERROR_NOT_READY and no data, and with no other code
 abbrev pub BusyAnswersAreOnePacket : Type 0
 BusyAnswersAreOnePacket =
     (route : Route) (bytes : List ℕ) (request : Request) → request_of bytes ≡ Ok request
@@ -81,7 +87,7 @@ BusyAnswersAreOnePacket =
     × (written_packets route (busy_reply bytes) ≡ written (packet route true true 0 (busy_reply bytes)) ∷ [])
     × IsResponse (busy_reply bytes) request.id request.kind ERROR_NOT_READY []
     × ((id : ℕ) (kind : TypeAndCommand) (code : ℕ) (rest : List ℕ)
-      → IsResponse (busy_reply bytes) id kind code rest → code ≡ ERROR_NOT_READY)
+    → IsResponse (busy_reply bytes) id kind code rest → code ≡ ERROR_NOT_READY)
 
 -- pairs that pass a test are counted in one way only
 abbrev pub OneCount : Type 0

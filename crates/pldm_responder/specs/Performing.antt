@@ -87,7 +87,8 @@ module _ {S : Type 0} (device : Rules S) (keep : ℕ) (start : S) where
   -- the platform's state: each fresh message is performed once, and each reading set, in order
   abbrev pub performed : List Event → S
   performed [] = start
-  performed (Came m ∷ events) = if is_fresh keep events m then next device (performed events) m.bytes else performed events
+  performed (Came m ∷ events) =
+      if is_fresh keep events m then next device (performed events) m.bytes else performed events
   performed (Set id value ∷ events) = changed_or (performed events) (device.sensed (performed events) id value)
   performed (Restarted _ ∷ events) = performed events
 

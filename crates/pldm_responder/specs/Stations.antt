@@ -1,6 +1,6 @@
 -- What contracts see of a responder, and what of it is held.
 use Rattle.std.specs.FinMap as map
-use Rattle.std.specs.Prelude.{◌≡◌, ◌≢◌, ℕ, true, Option, None, refl}
+use Rattle.std.specs.Prelude.{◌≡◌, ◌≢◌, ℕ, true, None, refl}
 use Rattle.std.specs.Coded.{Coded, code_by, coded×, coded_ℕ}
 use Rattle.mctp_assembly.specs.Keys.{IsKey, key_cmp, coded_key}
 use Rattle.mctp_assembly.specs.Opened.{Opened, coded_opened}
@@ -25,7 +25,7 @@ coded_station {P} {S} coded_platform coded_state =
     code_by
     (ℕ × (ℕ × (map.FinMap key_cmp Opened × (Rows × (P × (S × (ℕ × ℕ)))))))
     (coded× coded_ℕ (coded× coded_ℕ (coded× (map.code coded_key coded_opened) (coded× coded_rows
-      (coded× coded_platform (coded× coded_state (coded× coded_ℕ coded_ℕ)))))))
+    (coded× coded_platform (coded× coded_state (coded× coded_ℕ coded_ℕ)))))))
     (λ s. (s.own, (s.keep, (s.open_messages, (s.rows, (s.platform, (s.state, (s.serves_from, s.last))))))))
     (λ c. record {
       own = c.0;

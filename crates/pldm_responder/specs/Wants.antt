@@ -12,8 +12,8 @@ module _ {S : Type 0} (held : Held S) (steady : Bool) where
   abbrev pub KeepsNone : ℕ → Type 0
   KeepsNone source = (id : ℕ) → held.kept source id ≡ None
 
-  -- `start` is SOM. A start packet that gives Partial wants memory, and a fresh message of whose source no answer is kept
-  -- or, over a platform that is not steady, any fresh one
+  -- `start` is SOM. A start packet that gives Partial wants memory, and a fresh message of whose source no answer is
+  -- kept or, over a platform that is not steady, any fresh one
   abbrev pub ArrivalWants : Bool → Arrival → Type 0
   ArrivalWants start (Drop reason) = ⊥
   ArrivalWants start Part = start ≡ true

@@ -1,8 +1,9 @@
 use super::*;
 use dimmer::Dimmer;
-use mctp_packet::{Eid, Keep, Memory, Moment, Reason};
+use mctp_packet::{Eid, FIRST_EID, Keep, LAST_EID, Memory, Moment, Reason};
 use memory_hoard::Hoard;
 use pldm_device::{Description, Platform, ReadingFault, SimDevice};
+use pldm_wire::INSTANCE_IDS;
 use std::alloc::Global;
 use std::process::Abort;
 use std::test::Fail;
@@ -301,11 +302,11 @@ fn fresh_at(
     milliseconds: u64,
 ) -> Result<u32, Fail> {
     let mut count = 0u32;
-    for source in 8..=254u8 {
+    for source in FIRST_EID..=LAST_EID {
         if source == 9 {
             continue;
         }
-        for id in 0..32u8 {
+        for id in 0..INSTANCE_IDS {
             match receive(rt, light, milliseconds, &get_tid_from(source, id))? {
                 Ok(Outcome::Answered { fresh: true, .. }) => count = count.saturating_add(1),
                 Ok(Outcome::Answered { fresh: false, .. }) => {}
@@ -335,7 +336,7 @@ fn first_request_takes_the_room_of_all_instance_ids(rt: HostRuntime) -> Result<(
     assert!(rt; answers(&first, true, false, TID), "{first:?}");
     let hoard = Hoard::take(rt.alloc(), 0)?;
     let mut count = 0u32;
-    for id in 1..32u8 {
+    for id in 1..INSTANCE_IDS {
         let outcome = receive(&rt, &mut light, 0, &get_tid_from(8, id))?;
         if let Ok(Outcome::Answered { fresh: true, .. }) = outcome {
             count = count.saturating_add(1);

@@ -14,10 +14,10 @@ returns-in_err-answer-clause-memory g c =
     let before = c.args.self.now in
     let copied = λ (bytes : List ℕ) (id : ℕ). copied_packets before.own before.keep (message_of c.args.source c.args.tag c.args.now bytes) (kept_in before.rows c.args.source id) in
     at_error _ (wants_once_performed before (message_of c.args.source c.args.tag c.args.now c.args.message.items) c.in-Ok.request
-      (ap request_of (sym c.deref.ensures.0) ∙ sym c.in-Ok.ensures.exact)
-      (omega (arith, c.if-get-self.false, c.get.ensures.value, ap (λ (s : Station g.row.P.Denot g.row.P-State.Denot). s.serves_from) c.self.view_is))
-      (◌∙◌ {b = copied c.deref-2.result.now c.id-id.result} (◌∙◌ {b = c.copied.result} (sym c.in_default.is) c.copied.ensures) (ap (λ bytes. copied bytes c.id-id.result) c.deref-2.ensures.0 ∙ ap (copied c.args.message.items) c.id-id.ensures.value))
-      g.P.Platform.STEADY (λ steady id. cc (c.in_err-answer.ensures.steady steady)))
+    (ap request_of (sym c.deref.ensures.0) ∙ sym c.in-Ok.ensures.exact)
+    (omega (arith, c.if-get-self.false, c.get.ensures.value, ap (λ (s : Station g.row.P.Denot g.row.P-State.Denot). s.serves_from) c.self.view_is))
+    (◌∙◌ {b = copied c.deref-2.result.now c.id-id.result} (◌∙◌ {b = c.copied.result} (sym c.in_default.is) c.copied.ensures) (ap (λ bytes. copied bytes c.id-id.result) c.deref-2.ensures.0 ∙ ap (copied c.args.message.items) c.id-id.ensures.value))
+    g.P.Platform.STEADY (λ steady id. cc (c.in_err-answer.ensures.steady steady)))
 
 pub returns-clause-held : goal.returns-clause-held
 returns-clause-held g c =
@@ -45,8 +45,8 @@ returns-clause-held g c =
     device new c.in_ok-answer.field-0.answer.items
     (◌∙◌ {b = reply_to device (g.P.Platform.state c.self.inside.platform) (Ok request)} c.in_ok-answer.ensures.answer (ap (λ s. reply_to device s (Ok request)) state))
     (λ other i. c.put.ensures other i
-      ∙ ap (λ id. cond (c.args.source == other && id == i) (Some entry) (kept_in c.make_room.new.self other i)) c.id-id.ensures.value
-      ∙ ap (λ o. cond (c.args.source == other && request.id == i) (Some entry) o) (c.make_room.ensures.same other i ∙ ap (λ (s : Station g.row.P.Denot g.row.P-State.Denot). kept_in s.rows other i) view))
+    ∙ ap (λ id. cond (c.args.source == other && id == i) (Some entry) (kept_in c.make_room.new.self other i)) c.id-id.ensures.value
+    ∙ ap (λ o. cond (c.args.source == other && request.id == i) (Some entry) o) (c.make_room.ensures.same other i ∙ ap (λ (s : Station g.row.P.Denot g.row.P-State.Denot). kept_in s.rows other i) view))
     (◌∙◌ {b = next_after device (g.P.Platform.state c.self.inside.platform) (Ok request)} c.in_ok-answer.ensures.state (ap (λ s. next_after device s (Ok request)) state))
     (ap (λ (s : Station g.row.P.Denot g.row.P-State.Denot). s.own) view)
     (ap (λ (s : Station g.row.P.Denot g.row.P-State.Denot). s.keep) view)

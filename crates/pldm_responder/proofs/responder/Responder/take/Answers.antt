@@ -35,5 +35,5 @@ pub returns-in_err-outcome-in-Whole-clause-memory : goal.returns-in_err-outcome-
 returns-in_err-outcome-in-Whole-clause-memory g c =
     let view = ap (λ (s : Station g.row.P.Denot g.row.P-State.Denot). s.open_messages) c.self.view_is in
     at_error _ (wants_when_whole (held_of c.args.self.now) g.P.Platform.STEADY c.args.now c.args.packet.now c.route-route.result c.in-Whole.message.items
-      c.route-route.ensures (true_by _ c.if-not-route.false) (c.in-Whole.ensures ∙ ap (λ m. answer m c.args.packet.now) view)
-      c.in_err-outcome-in-Whole.ensures.memory)
+    c.route-route.ensures (true_by _ c.if-not-route.false) (c.in-Whole.ensures ∙ ap (λ m. answer m c.args.packet.now) view)
+    c.in_err-outcome-in-Whole.ensures.memory)
