@@ -1,0 +1,12 @@
+pub mod DeliveriesOwed
+pub mod FirstPerformed
+pub mod FittingReplies
+pub mod FreshOrder
+pub mod GivenReplies
+pub mod LineSplits
+pub mod LongLines
+pub mod ReadLines
+pub mod ScheduleKept
+pub mod Origins
+pub mod SizeWords
+pub mod StateWords

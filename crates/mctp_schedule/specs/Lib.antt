@@ -1,0 +1,9 @@
+pub mod CommandWords
+pub mod DeviceHalf
+pub mod FirstArrivals
+pub mod LineFaults
+pub mod LineWords
+pub mod Logs
+pub mod OncePerformed
+pub mod Schedules
+pub mod WordValues

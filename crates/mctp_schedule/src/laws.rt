@@ -1,0 +1,24 @@
+//! Laws of both ends, over the definitions alone: each function does nothing and ensures its law.
+
+ghost use Rattle.pldm_responder.specs.Performing.{rules_of};
+ghost use Rattle.mctp_schedule.specs.DeviceHalf.{DeliveryIsOwed, FreshInOrderOfFirsts, FreshWhereFirst, GivenIsTheReply, NoneOpenedSince, NotPerformedAgain, StateIsOnce, TheReplyFits};
+
+use pldm_device::Platform;
+
+/// Over a timely log a request's deliveries end before its instance ID is used again, each is fresh
+/// exactly where it is the first, and the fresh ones come in the order of first arrivals.
+pub fn fresh_deliveries_are_first()
+    ensures none_since { NoneOpenedSince }
+    ensures fresh { FreshWhereFirst }
+    ensures order { FreshInOrderOfFirsts }
+{}
+
+/// Over a timely log the responder's state is that of performing each request once, at its first
+/// arrival, and all deliveries of a request while the responder serves get its one reply.
+pub fn performs_once<P: Platform>()
+    ensures state { StateIsOnce (rules_of P.answer P.after P.sensed) }
+    ensures not_again { NotPerformedAgain (rules_of P.answer P.after P.sensed) }
+    ensures delivery { DeliveryIsOwed (rules_of P.answer P.after P.sensed) }
+    ensures given { GivenIsTheReply (rules_of P.answer P.after P.sensed) }
+    ensures fits { TheReplyFits (rules_of P.answer P.after P.sensed) }
+{}
