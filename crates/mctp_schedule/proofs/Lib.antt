@@ -5,8 +5,11 @@ pub mod FreshOrder
 pub mod GivenReplies
 pub mod LineSplits
 pub mod LongLines
+pub mod Numbers
 pub mod ReadLines
 pub mod ScheduleKept
 pub mod Origins
+pub mod ScheduleRows
 pub mod SizeWords
 pub mod StateWords
+pub mod TimelyExample
