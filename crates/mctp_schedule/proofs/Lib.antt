@@ -1,6 +1,7 @@
 pub mod DeliveriesOwed
 pub mod FirstPerformed
 pub mod FittingReplies
+pub mod FoundCommands
 pub mod FreshOrder
 pub mod GivenReplies
 pub mod LineSplits
@@ -11,5 +12,8 @@ pub mod ScheduleKept
 pub mod Origins
 pub mod ScheduleRows
 pub mod SizeWords
+pub mod SpelledCommands
+pub mod SpelledLines
+pub mod SpelledWords
 pub mod StateWords
 pub mod TimelyExample

@@ -1,7 +1,10 @@
+pub mod CommandSpelling
 pub mod CommandWords
 pub mod DeviceHalf
 pub mod FirstArrivals
+pub mod Laws
 pub mod LineFaults
+pub mod LineSpelling
 pub mod LineWords
 pub mod Logs
 pub mod OncePerformed

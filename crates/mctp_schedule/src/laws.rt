@@ -1,6 +1,7 @@
 //! Laws of both ends, over the definitions alone: each function does nothing and ensures its law.
 
 ghost use Rattle.pldm_responder.specs.Performing.{rules_of};
+ghost use Rattle.mctp_schedule.specs.Laws.{ReadAsSpelled};
 ghost use Rattle.mctp_schedule.specs.DeviceHalf.{DeliveryIsOwed, FreshInOrderOfFirsts, FreshWhereFirst, GivenIsTheReply, NoneOpenedSince, NotPerformedAgain, StateIsOnce, TheReplyFits};
 
 use pldm_device::Platform;
@@ -21,4 +22,9 @@ pub fn performs_once<P: Platform>()
     ensures delivery { DeliveryIsOwed (rules_of P.answer P.after P.sensed) }
     ensures given { GivenIsTheReply (rules_of P.answer P.after P.sensed) }
     ensures fits { TheReplyFits (rules_of P.answer P.after P.sensed) }
+{}
+
+/// A line of a schedule is read as something exactly where its words spell that.
+pub fn lines_are_read_as_spelled()
+    ensures { ReadAsSpelled }
 {}
