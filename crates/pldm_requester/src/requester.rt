@@ -1,0 +1,267 @@
+ghost use Rattle.std.specs.Prelude.{◌≡◌, ◌≢◌, ◌⊎◌, ℕ, ◌+◌, ◌%◌, ◌^◌, ◌<◌, ◌≤◌, true, None, Some, Ok, Err, option_map, IfOk, IfErr, OnOk, OnErr};
+ghost use Rattle.pldm_requester.specs.Slots.{held_of, remembered_in, put_slot};
+ghost use Rattle.pldm_requester.specs.Standings.{standing_told};
+ghost use Rattle.pldm_requester.specs.Steps.{IsHeld, accepts, again_at, begins_message, given_up_at, got_at, held_at_first, opened_held, opening_answer, passed, received_held, ticked_held};
+ghost use Rattle.pldm_requester.specs.Timings.{timing_fault};
+
+use crate::remembered::{Remembered, Standing, tick_all};
+use crate::{Due, Got, OpenFault, Opened, Status, Timing, TimingFault};
+use arrayvec::ArrayVec;
+use mctp_assembly::{Assembler, Fed, Key};
+use mctp_packet::{
+    Body, Eid, Memory, Moment, PacketRef, Packets, Reason, Route, TAGS, Tag, read_for, split,
+};
+use pldm_wire::{Command, ERROR_NOT_READY, INSTANCE_IDS, read_response, write_command};
+use std::alloc::Global;
+use std::marker::Model;
+
+/// The most requests that are open at a time: one for each tag.
+pub const MOST_OPEN: usize = 8;
+
+/// How many requests are remembered, the last ones: one for each instance ID.
+pub const MOST_REMEMBERED: usize = 32;
+
+/// The requesting end at one endpoint, for one device: commands are opened as requests, packets to be
+/// sent again are told at each tick, and answers are taken from packets.
+#[derive(Debug, Drop)]
+pub struct Requester {
+    own: Eid,
+    device: Eid,
+    timing: Timing,
+    count: u64,
+    last: Moment,
+    assembler: Assembler,
+    slots: Vec<Remembered>,
+}
+
+impl Model for Requester {
+    ghost use Rattle.pldm_requester.specs.Slots.{Station, IsStation, coded_station};
+
+    ghost Value = { Station };
+
+    ghost coded = { coded_station };
+
+    ghost view = { λ r. record { own = r.own; device = r.device; timing = r.timing; count = r.count; slots = r.slots.items; open_messages = r.assembler; last = r.last } };
+
+    ghost invariant = { λ r. IsStation (record { own = r.own; device = r.device; timing = r.timing; count = r.count; slots = r.slots.items; open_messages = r.assembler; last = r.last }) };
+}
+
+impl Requester {
+    /// A requester at the endpoint `own`, for the device at the endpoint `device`. It has no request,
+    /// and its last moment is 0.
+    ///
+    /// # Errors
+    ///
+    /// The first fault of the timing: a timeout of 0, tries that are not 1 to [`MOST_TRIES`], tries
+    /// that take longer than the keeping time, or the same endpoint ID twice.
+    ///
+    /// [`MOST_TRIES`]: crate::MOST_TRIES
+    pub fn new(
+        alloc: Global,
+        own: Eid,
+        device: Eid,
+        timing: Timing,
+    ) -> Result<Requester, TimingFault>
+        ensures held { IfOk result (λ requester. IsHeld (held_of requester) (held_at_first own device timing)) }
+        ensures ok { OnOk result (timing_fault own device timing ≡ None) }
+        ensures refused { IfErr result (λ fault. timing_fault own device timing ≡ Some fault) }
+    {
+        if let Some(fault) = timing.fault(own, device) {
+            return Err(fault);
+        }
+        Ok(Requester {
+            own,
+            device,
+            timing,
+            count: 0,
+            last: Moment::new(0).unwrap(),
+            assembler: Assembler::new(alloc),
+            slots: Vec::new(alloc),
+        })
+    }
+
+    /// The moment of the last call that answered neither Memory nor a fault of opening, 0 before the
+    /// first.
+    pub fn last_moment(&self) -> Moment
+        ensures { result ≡ (held_of self.now).last }
+    {
+        self.last
+    }
+
+    /// How many requests were opened: fewer than 2 to the 63.
+    pub fn count(&self) -> u64
+        ensures value { result ≡ (held_of self.now).count }
+        ensures range { result < 2 ^ 63 }
+    {
+        let _range = self.last.get();
+        self.count
+    }
+
+    /// The packets of a request's message, where it is among the last [`MOST_REMEMBERED`].
+    pub fn packets(&self, number: u64) -> Option<&Packets>
+        ensures { option_map (λ packets. packets.now) result ≡ option_map (λ memo. memo.packets) ((held_of self.now).remembered number) }
+    {
+        Some(&self.remembered(number)?.packets)
+    }
+
+    /// How a request stands, where it is among the last [`MOST_REMEMBERED`].
+    pub fn status(&self, number: u64) -> Option<Status<'_>>
+        ensures { option_map standing_told result ≡ option_map (λ memo. memo.course.standing) ((held_of self.now).remembered number) }
+    {
+        Some(self.remembered(number)?.status())
+    }
+
+    /// What is remembered of a request, where it is among the last ones.
+    fn remembered(&self, number: u64) -> Option<&Remembered>
+        ensures { option_copied result ≡ remembered_in self.now.count self.now.slots number }
+    {
+        if number >= self.count || self.count - number > MOST_REMEMBERED as u64 {
+            return None;
+        }
+        self.slots.get((number % MOST_REMEMBERED as u64) as usize)
+    }
+
+    /// Whether a request is among the last ones, and open.
+    fn is_open(&self, number: u64) -> bool
+        ensures { result ≡ is_open_in (held_of self.now) number }
+    {
+        match self.remembered(number) {
+            Some(request) => request.is_open(),
+            None => false,
+        }
+    }
+
+    /// Whether the last request with the next tag is open.
+    fn is_tag_in_use(&self) -> bool
+        ensures { result ≡ is_tag_in_use (held_of self.now) }
+    {
+        self.count >= u64::from(TAGS) && self.is_open(self.count - u64::from(TAGS))
+    }
+
+    /// Whether the last request with the next instance ID was opened less than twice the keeping time
+    /// ago.
+    fn is_id_in_use(&self, now: Moment) -> bool
+        ensures { result ≡ is_id_in_use (held_of self.now) now }
+    {
+        if self.count < u64::from(INSTANCE_IDS) {
+            return false;
+        }
+        match self.remembered(self.count - u64::from(INSTANCE_IDS)) {
+            Some(request) => now.get() < request.opening.get() + 2 * u64::from(self.timing.keep.get()),
+            None => false,
+        }
+    }
+
+    /// Opens a request for a command at the moment `now`, which must not be before
+    /// [`Requester::last_moment`]. Its packets are to be sent then.
+    ///
+    /// The request with number n has instance ID n modulo 32 and tag n modulo 8. What came of an
+    /// older answer on this tag is forgotten.
+    ///
+    /// # Errors
+    ///
+    /// `TagInUse` where request n - 8 is open; else `IdInUse` where request n - 32 was opened less than
+    /// twice the keeping time ago; else `Memory` where the room for the request and its answer was
+    /// refused. The requester is then as before.
+    pub fn open(&mut self, now: Moment, command: &Command) -> Result<Opened, OpenFault>
+        requires { (held_of self.old).last ≤ now }
+        ensures answer { IfOk result (λ opened. opening_answer (held_of self.old) now ≡ Ok opened) }
+        ensures fault { IfErr result (λ fault. ((fault ≡ OpenFault.Memory) × (accepts (held_of self.old) now ≡ true)) ⊎ (opening_answer (held_of self.old) now ≡ Err fault)) }
+        ensures held { OnOk result (IsHeld (held_of self.new) (opened_held (held_of self.old) now command.now)) }
+        ensures err { OnErr result (IsHeld (held_of self.new) (held_of self.old)) }
+    {
+        if self.is_tag_in_use() {
+            return Err(OpenFault::TagInUse);
+        }
+        if self.is_id_in_use(now) {
+            return Err(OpenFault::IdInUse);
+        }
+        if self.slots.len() < MOST_REMEMBERED && self.slots.reserve(1).is_err() {
+            return Err(OpenFault::Memory);
+        }
+        let number = self.count;
+        let id = (number % u64::from(INSTANCE_IDS)) as u8;
+        let tag = tag_of(number);
+        let packets = packets_of(self.own, self.device, tag, id, command);
+        put(
+            &mut self.slots,
+            number,
+            Remembered {
+                kind: command.kind(),
+                packets,
+                opening: now,
+                last_sent: now,
+                standing: Standing::Waiting,
+            },
+        );
+        self.assembler.forget(answer_key(self.device, tag));
+        self.count = number + 1;
+        self.last = now;
+        Ok(Opened { number, id, tag })
+    }
+
+    /// Tells which requests are due at the moment `now`, which must not be before
+    /// [`Requester::last_moment`].
+    ///
+    /// An open request is given up where all its tries have had their time; else it is to be sent
+    /// again where its last try has.
+    pub fn tick(&mut self, now: Moment) -> Due
+        requires { (held_of self.old).last ≤ now }
+        ensures again { result.again.items ≡ again_at (held_of self.old) now }
+        ensures given_up { result.given_up.items ≡ given_up_at (held_of self.old) now }
+        ensures held { IsHeld (held_of self.new) (ticked_held (held_of self.old) now) }
+    {
+        let due = self.due(now);
+        tick_all(&mut self.slots, self.timing, now);
+        self.last = now;
+        due
+    }
+
+    /// The requests that are due.
+    fn due(&self, now: Moment) -> Due
+        ensures again { result.again.items ≡ again_at (held_of self.now) now }
+        ensures given_up { result.given_up.items ≡ given_up_at (held_of self.now) now }
+    {
+        let mut again = ArrayVec::new();
+        let mut given_up = ArrayVec::new();
+        for number in self.count.saturating_sub(MOST_OPEN as u64)..self.count {
+            let Some(request) = self.remembered(number) else {
+                continue;
+            };
+            if request.is_given_up(self.timing, now) {
+                given_up.push(number);
+            } else if request.is_sent_again(self.timing, now) {
+                again.push(number);
+            }
+        }
+        Due { again, given_up }
+    }
+
+    /// Takes the bytes of a packet that came at the moment `now`, which must not be before
+    /// [`Requester::last_moment`], and gives what becomes of them.
+    ///
+    /// A packet that is addressed to the endpoint by the device, with TO 0 and the tag of an open
+    /// request, is assembled. A whole response with that request's instance ID, PLDM type and command
+    /// answers it, but for one with the completion code ERROR_NOT_READY (DSP0240, "Generic PLDM
+    /// completion codes").
+    ///
+    /// # Errors
+    ///
+    /// `Memory` where a growth was refused, which only a start packet that gives `Partial` wants. The
+    /// requester is then as before.
+    pub fn receive(&mut self, now: Moment, bytes: &[u8]) -> Result<Got, Memory>
+        requires { (held_of self.old).last ≤ now }
+        ensures got { IfOk result (λ got. got ≡ got_at (held_of self.old) bytes.now) }
+        ensures held { OnOk result (IsHeld (held_of self.new) (received_held (held_of self.old) now bytes.now)) }
+        ensures memory { OnErr result (got_at (held_of self.old) bytes.now ≡ Got.Partial) }
+        ensures at_start { OnErr result (begins_message (passed (held_of self.old) bytes.now) ≡ true) }
+        ensures err { OnErr result (IsHeld (held_of self.new) (held_of self.old)) }
+    {
+        let got = match read_for(self.own, bytes) {
+            Err(reason) => Got::Dropped(reason),
+            Ok(packet) => self.take(&packet)?,
+        };
+        self.last = now;
+        Ok(got)
+    }
+}
