@@ -155,17 +155,18 @@ module _ (held : Held) where
   goes_to p =
       if is_from_device held.device p then where_open is_open_in (latest_on held.count p.route.tag) else None
 
+  abbrev pub expects : Packet → Bool
+  expects p = is_some (goes_to p)
+
   abbrev pub passed : List ℕ → Result Packet Reason
-  passed bytes = passing held.own (λ p. is_some (goes_to p)) bytes
+  passed bytes = passing held.own expects bytes
 
   abbrev pub is_mine : ℕ → Response → Bool
   is_mine number response = is_mine_by number (held.remembered number) response
 
-  abbrev pub arrived : List ℕ → Arrival
-  arrived bytes = passed_arrival goes_to (λ number p. assembly.answer held.open_messages p) is_mine (passed bytes)
-
-  abbrev pub got_at : List ℕ → Got
-  got_at bytes = got_of (arrived bytes)
+  -- what a packet brings that passed, or did not
+  abbrev pub arrived_by : Result Packet Reason → Arrival
+  arrived_by passed = passed_arrival goes_to (λ number p. assembly.answer held.open_messages p) is_mine passed
 
   abbrev pub remembered_after : Arrival → ℕ → Option Memo
   remembered_after (Drop reason) number = held.remembered number
@@ -173,9 +174,15 @@ module _ (held : Held) where
   remembered_after (Answer n message) number =
       if number == n then option_map (with_course (answered message)) (held.remembered number) else held.remembered number
 
-  abbrev pub received_held : ℕ → List ℕ → Held
-  received_held moment bytes = record held {
-    remembered = remembered_after (arrived bytes);
-    open_messages = open_after held.open_messages (passed bytes);
-    last = moment;
+  -- what is held after it, but for the moment
+  abbrev pub held_by : Result Packet Reason → Held
+  held_by passed = record held {
+    remembered = remembered_after (arrived_by passed);
+    open_messages = open_after held.open_messages passed;
   }
+
+  abbrev pub got_at : List ℕ → Got
+  got_at bytes = got_of (arrived_by (passed bytes))
+
+  abbrev pub received_held : ℕ → List ℕ → Held
+  received_held moment bytes = record (held_by (passed bytes)) { last = moment }

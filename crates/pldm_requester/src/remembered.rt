@@ -1,7 +1,6 @@
 ghost use Rattle.std.specs.Prelude.{◌≡◌, map};
 ghost use Rattle.pldm_requester.specs.Courses.{ticked};
 ghost use Rattle.pldm_requester.specs.Steps.{with_course};
-ghost use Rattle.pldm_requester.specs.declared.timing.Timing.{Timing as TimingValue};
 
 use crate::{Status, Timing};
 use mctp_packet::{Body, Moment, Packets};
@@ -61,22 +60,22 @@ impl Remembered {
     }
 
     /// Whether all tries have had their time.
-    fn is_over(&self, timing: Timing, now: Moment) -> bool
-        ensures { result ≡ is_over timing now self.now.course }
+    fn is_over(&self, timing: &Timing, now: Moment) -> bool
+        ensures { result ≡ is_over timing.now now self.now.course }
     {
         self.opening.get() + timing.life() <= now.get()
     }
 
     /// Whether a tick gives it up.
-    pub(crate) fn is_given_up(&self, timing: Timing, now: Moment) -> bool
-        ensures { result ≡ is_given_up timing now self.now.course }
+    pub(crate) fn is_given_up(&self, timing: &Timing, now: Moment) -> bool
+        ensures { result ≡ is_given_up timing.now now self.now.course }
     {
         self.is_open() && self.is_over(timing, now)
     }
 
     /// Whether a tick sends it again.
-    pub(crate) fn is_sent_again(&self, timing: Timing, now: Moment) -> bool
-        ensures { result ≡ is_sent_again timing now self.now.course }
+    pub(crate) fn is_sent_again(&self, timing: &Timing, now: Moment) -> bool
+        ensures { result ≡ is_sent_again timing.now now self.now.course }
     {
         self.is_open()
             && !self.is_over(timing, now)
@@ -84,8 +83,8 @@ impl Remembered {
     }
 
     /// What a tick makes of it.
-    pub(crate) fn tick(&mut self, timing: Timing, now: Moment)
-        ensures { self.new ≡ with_course (ticked timing now) self.old }
+    pub(crate) fn tick(&mut self, timing: &Timing, now: Moment)
+        ensures { self.new ≡ with_course (ticked timing.now now) self.old }
     {
         if self.is_given_up(timing, now) {
             self.standing = Standing::GaveUp;
@@ -107,8 +106,8 @@ impl Remembered {
 }
 
 /// What a tick makes of all requests.
-pub(crate) fn tick_all(slots: &mut [Remembered], timing: Timing, now: Moment)
-    ensures { slots.new ≡ map (with_course (ticked timing now)) slots.old }
+pub(crate) fn tick_all(slots: &mut [Remembered], timing: &Timing, now: Moment)
+    ensures { slots.new ≡ map (with_course (ticked timing.now now)) slots.old }
 {
     for slot in slots.iter_mut() {
         slot.tick(timing, now);

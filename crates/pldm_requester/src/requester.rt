@@ -1,7 +1,16 @@
-ghost use Rattle.std.specs.Prelude.{◌≡◌, ◌≢◌, ◌⊎◌, ℕ, ◌+◌, ◌%◌, ◌^◌, ◌<◌, ◌≤◌, true, None, Some, Ok, Err, option_map, IfOk, IfErr, OnOk, OnErr};
+ghost use Rattle.std.specs.Prelude.{◌≡◌, ◌⊎◌, ◌+◌, ◌%◌, ◌^◌, ◌<◌, ◌≤◌, true, None, Some, Ok, Err, option_map, vec_len, vec_capacity, IfOk, IfErr, OnOk, OnErr};
+ghost use Rattle.std.specs.Option.{option_copied};
+ghost use Rattle.mctp_packet.specs.Ids.{IsTag};
+ghost use Rattle.mctp_packet.specs.Passing.{where_expected};
+ghost use Rattle.mctp_packet.specs.Pieces.{written_packets};
+ghost use Rattle.pldm_wire.specs.Commands.{command_message};
+ghost use Rattle.pldm_wire.specs.Responses.{response_of};
+ghost use Rattle.pldm_requester.specs.Arrivals.{got_of, is_response_to, response_arrival};
+ghost use Rattle.pldm_requester.specs.Calls.{answer_key};
+ghost use Rattle.pldm_requester.specs.Numbering.{tag_of};
 ghost use Rattle.pldm_requester.specs.Slots.{held_of, remembered_in, put_slot};
 ghost use Rattle.pldm_requester.specs.Standings.{standing_told};
-ghost use Rattle.pldm_requester.specs.Steps.{IsHeld, accepts, again_at, begins_message, given_up_at, got_at, held_at_first, opened_held, opening_answer, passed, received_held, ticked_held};
+ghost use Rattle.pldm_requester.specs.Steps.{IsHeld, accepts, again_at, arrived_by, begins_message, expects, given_up_at, goes_to, got_at, held_at_first, held_by, is_id_in_use, is_mine, is_open_in, is_tag_in_use, opened_held, opening_answer, passed, received_held, remembered_after, ticked_held};
 ghost use Rattle.pldm_requester.specs.Timings.{timing_fault};
 
 use crate::remembered::{Remembered, Standing, tick_all};
@@ -11,7 +20,9 @@ use mctp_assembly::{Assembler, Fed, Key};
 use mctp_packet::{
     Body, Eid, Memory, Moment, PacketRef, Packets, Reason, Route, TAGS, Tag, read_for, split,
 };
-use pldm_wire::{Command, ERROR_NOT_READY, INSTANCE_IDS, read_response, write_command};
+use pldm_wire::{
+    Command, ERROR_NOT_READY, INSTANCE_IDS, Kind, ResponseRef, read_response, write_command,
+};
 use std::alloc::Global;
 use std::marker::Model;
 
@@ -212,7 +223,7 @@ impl Requester {
         ensures held { IsHeld (held_of self.new) (ticked_held (held_of self.old) now) }
     {
         let due = self.due(now);
-        tick_all(&mut self.slots, self.timing, now);
+        tick_all(&mut self.slots, &self.timing, now);
         self.last = now;
         due
     }
@@ -228,9 +239,9 @@ impl Requester {
             let Some(request) = self.remembered(number) else {
                 continue;
             };
-            if request.is_given_up(self.timing, now) {
+            if request.is_given_up(&self.timing, now) {
                 given_up.push(number);
-            } else if request.is_sent_again(self.timing, now) {
+            } else if request.is_sent_again(&self.timing, now) {
                 again.push(number);
             }
         }
@@ -263,5 +274,125 @@ impl Requester {
         };
         self.last = now;
         Ok(got)
+    }
+
+    /// Takes a packet that is addressed to the endpoint by another one.
+    fn take(&mut self, packet: &PacketRef<'_>) -> Result<Got, Memory>
+        ensures got { IfOk result (λ got. got ≡ got_of (arrived_by (held_of self.old) (where_expected (expects (held_of self.old)) (Ok packet.now)))) }
+        ensures held { OnOk result (IsHeld (held_of self.new) (held_by (held_of self.old) (where_expected (expects (held_of self.old)) (Ok packet.now)))) }
+        ensures memory { OnErr result (got_of (arrived_by (held_of self.old) (where_expected (expects (held_of self.old)) (Ok packet.now))) ≡ Got.Partial) }
+        ensures at_start { OnErr result (begins_message (where_expected (expects (held_of self.old)) (Ok packet.now)) ≡ true) }
+        ensures err { OnErr result (IsHeld (held_of self.new) (held_of self.old)) }
+    {
+        let Some(number) = self.goes_to(packet) else {
+            return Ok(Got::Dropped(Reason::BadTag));
+        };
+        match self.assembler.feed(packet)? {
+            Fed::Whole(message) => Ok(self.answer(number, message)),
+            Fed::Partial => Ok(Got::Partial),
+            Fed::Dropped(reason) => Ok(Got::Dropped(reason)),
+        }
+    }
+
+    /// The request that a packet comes to: the latest on its tag, where that is open.
+    fn goes_to(&self, packet: &PacketRef<'_>) -> Option<u64>
+        ensures { result ≡ goes_to (held_of self.now) packet.now }
+    {
+        let route = packet.route();
+        let tag = u64::from(route.tag.get());
+        if route.owner || route.source != self.device || self.count <= tag {
+            return None;
+        }
+        let last = self.count - 1;
+        let number = last - (last - tag) % u64::from(TAGS);
+        if self.is_open(number) {
+            Some(number)
+        } else {
+            None
+        }
+    }
+
+    /// Takes a whole message that came to an open request.
+    fn answer(&mut self, number: u64, message: Body) -> Got
+        ensures got { result ≡ got_of (response_arrival (is_mine (held_of self.old)) number message.items (response_of message.items)) }
+        ensures held { IsHeld (held_of self.new) (record (held_of self.old) { remembered = remembered_after (held_of self.old) (response_arrival (is_mine (held_of self.old)) number message.items (response_of message.items)) }) }
+    {
+        let response = match read_response(&message) {
+            Ok(response) => response,
+            Err(reason) => return Got::Dropped(reason),
+        };
+        let is_mine = match self.remembered(number) {
+            Some(request) => is_answer(number, request.kind, &response),
+            None => false,
+        };
+        if !is_mine {
+            return Got::Dropped(Reason::NotMine);
+        }
+        if response.code() == ERROR_NOT_READY {
+            return Got::Dropped(Reason::NotReady);
+        }
+        let place = (number % MOST_REMEMBERED as u64) as usize;
+        let slot = &mut self.slots[place];
+        slot.standing = Standing::Answered(message);
+        Got::Answered(number)
+    }
+}
+
+/// Whether a response has the instance ID, the PLDM type and the command of a request.
+fn is_answer(number: u64, kind: Kind, response: &ResponseRef<'_>) -> bool
+    ensures { result ≡ is_response_to number kind response.now }
+{
+    let id = number % u64::from(INSTANCE_IDS);
+    let answered = response.kind();
+    u64::from(response.id()) == id
+        && answered.pldm_type == kind.pldm_type
+        && answered.command == kind.command
+}
+
+/// The tag of a request.
+fn tag_of(number: u64) -> Tag
+    ensures value { result ≡ tag_of number }
+    ensures range { IsTag result }
+{
+    Tag::new((number % u64::from(TAGS)) as u8).unwrap()
+}
+
+/// The packets of a command's request: its message is one packet.
+fn packets_of(own: Eid, device: Eid, tag: Tag, id: u8, command: &Command) -> Packets
+    requires { id < INSTANCE_IDS }
+    ensures { result ≡ written_packets (record { destination = device; source = own; owner = true; tag = tag }) (command_message id command.now) }
+{
+    pldm_wire::laws::messages_fit();
+    let route = Route {
+        destination: device,
+        source: own,
+        owner: true,
+        tag,
+    };
+    let message = write_command(id, command);
+    split(&route, &message).unwrap()
+}
+
+/// Puts a request in the slot of its number, or at the end, where there has to be room.
+fn put(slots: &mut Vec<Remembered>, number: u64, request: Remembered)
+    requires room { number < MOST_REMEMBERED → vec_len slots.old < vec_capacity slots.old }
+    requires slot { MOST_REMEMBERED ≤ number → vec_len slots.old ≡ MOST_REMEMBERED }
+    ensures { slots.new.items ≡ put_slot number slots.old.items request }
+{
+    if number < MOST_REMEMBERED as u64 {
+        slots.push(request).unwrap();
+    } else {
+        slots[(number % MOST_REMEMBERED as u64) as usize] = request;
+    }
+}
+
+/// Whose messages the answers on a tag are.
+fn answer_key(device: Eid, tag: Tag) -> Key
+    ensures { result ≡ answer_key device tag }
+{
+    Key {
+        source: device,
+        tag,
+        owner: false,
     }
 }

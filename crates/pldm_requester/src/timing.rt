@@ -49,16 +49,16 @@ impl Timing {
     ghost use Rattle.pldm_requester.specs.Timings.{timing_fault};
 
     /// After how many milliseconds from its opening a request is given up.
-    pub(crate) fn life(self) -> u64
-        ensures value { result ≡ self.tries * self.timeout }
+    pub(crate) fn life(&self) -> u64
+        ensures value { result ≡ self.now.tries * self.now.timeout }
         ensures range { result < 2 ^ 40 }
     {
         u64::from(self.tries) * u64::from(self.timeout)
     }
 
     /// The first fault of this timing between two endpoints.
-    pub(crate) fn fault(self, own: Eid, device: Eid) -> Option<TimingFault>
-        ensures { result ≡ timing_fault own device self }
+    pub(crate) fn fault(&self, own: Eid, device: Eid) -> Option<TimingFault>
+        ensures { result ≡ timing_fault own device self.now }
     {
         if self.timeout == 0 {
             return Some(TimingFault::Timeout);
