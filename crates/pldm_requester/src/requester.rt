@@ -1,5 +1,7 @@
-ghost use Rattle.std.specs.Prelude.{◌≡◌, ◌⊎◌, ◌+◌, ◌%◌, ◌^◌, ◌<◌, ◌≤◌, true, None, Some, Ok, Err, option_map, vec_len, vec_capacity, IfOk, IfErr, OnOk, OnErr};
+ghost use Rattle.std.specs.Prelude.{◌≡◌, ◌⊎◌, ◌+◌, ◌%◌, ◌^◌, ◌<◌, ◌≤◌, true, [], ◌∷◌, ◌++◌, if◌then◌else◌, None, Some, Ok, Err, option_map, vec_len, vec_capacity, IfOk, IfErr, OnOk, OnErr};
+ghost use Rattle.std.specs.Bool.{OnFalse};
 ghost use Rattle.std.specs.Option.{option_copied};
+ghost use Rattle.arrayvec.specs.ArrayVec.{array_vec_len};
 ghost use Rattle.mctp_packet.specs.Ids.{IsTag};
 ghost use Rattle.mctp_packet.specs.Passing.{where_expected};
 ghost use Rattle.mctp_packet.specs.Pieces.{written_packets};
@@ -7,10 +9,11 @@ ghost use Rattle.pldm_wire.specs.Commands.{command_message};
 ghost use Rattle.pldm_wire.specs.Responses.{response_of};
 ghost use Rattle.pldm_requester.specs.Arrivals.{got_of, is_response_to, response_arrival};
 ghost use Rattle.pldm_requester.specs.Calls.{answer_key};
-ghost use Rattle.pldm_requester.specs.Numbering.{tag_of};
-ghost use Rattle.pldm_requester.specs.Slots.{held_of, remembered_in, put_slot};
+ghost use Rattle.pldm_requester.specs.Courses.{is_given_up, is_sent_again};
+ghost use Rattle.pldm_requester.specs.Numbering.{id_of, tag_of};
+ghost use Rattle.pldm_requester.specs.Slots.{held_of, most_opened, remembered_in, put_slot};
 ghost use Rattle.pldm_requester.specs.Standings.{standing_told};
-ghost use Rattle.pldm_requester.specs.Steps.{IsHeld, accepts, again_at, arrived_by, begins_message, expects, given_up_at, goes_to, got_at, held_at_first, held_by, is_id_in_use, is_mine, is_open_in, is_tag_in_use, opened_held, opening_answer, passed, received_held, remembered_after, ticked_held};
+ghost use Rattle.pldm_requester.specs.Steps.{IsHeld, accepts, again_at, arrived_by, begins_message, expects, given_up_at, goes_to, got_at, held_at_first, held_by, is_id_in_use, is_mine, is_open_in, is_tag_in_use, opened_held, opening_answer, passed, passes, received_held, remembered_after, ticked_held};
 ghost use Rattle.pldm_requester.specs.Timings.{timing_fault};
 
 use crate::remembered::{Remembered, Standing, tick_all};
@@ -152,7 +155,8 @@ impl Requester {
     /// Whether the last request with the next instance ID was opened less than twice the keeping time
     /// ago.
     fn is_id_in_use(&self, now: Moment) -> bool
-        ensures { result ≡ is_id_in_use (held_of self.now) now }
+        ensures value { result ≡ is_id_in_use (held_of self.now) now }
+        ensures paced { OnFalse result (self.now.count < most_opened now) }
     {
         if self.count < u64::from(INSTANCE_IDS) {
             return false;
@@ -187,11 +191,11 @@ impl Requester {
         if self.is_id_in_use(now) {
             return Err(OpenFault::IdInUse);
         }
-        if self.slots.len() < MOST_REMEMBERED && self.slots.reserve(1).is_err() {
+        if make_room(&mut self.slots).is_err() {
             return Err(OpenFault::Memory);
         }
         let number = self.count;
-        let id = (number % u64::from(INSTANCE_IDS)) as u8;
+        let id = id_of(number);
         let tag = tag_of(number);
         let packets = packets_of(self.own, self.device, tag, id, command);
         put(
@@ -236,16 +240,30 @@ impl Requester {
         let mut again = ArrayVec::new();
         let mut given_up = ArrayVec::new();
         for number in self.count.saturating_sub(MOST_OPEN as u64)..self.count {
-            let Some(request) = self.remembered(number) else {
-                continue;
-            };
-            if request.is_given_up(&self.timing, now) {
-                given_up.push(number);
-            } else if request.is_sent_again(&self.timing, now) {
-                again.push(number);
-            }
+            list(&mut given_up, number, self.gives_up(number, now));
+            list(&mut again, number, self.sends_again(number, now));
         }
         Due { again, given_up }
+    }
+
+    /// Whether a tick gives up a request.
+    fn gives_up(&self, number: u64, now: Moment) -> bool
+        ensures { result ≡ passes (is_given_up self.now.timing now) ((held_of self.now).remembered number) }
+    {
+        match self.remembered(number) {
+            Some(request) => request.is_given_up(&self.timing, now),
+            None => false,
+        }
+    }
+
+    /// Whether a tick sends a request again.
+    fn sends_again(&self, number: u64, now: Moment) -> bool
+        ensures { result ≡ passes (is_sent_again self.now.timing now) ((held_of self.now).remembered number) }
+    {
+        match self.remembered(number) {
+            Some(request) => request.is_sent_again(&self.timing, now),
+            None => false,
+        }
     }
 
     /// Takes the bytes of a packet that came at the moment `now`, which must not be before
@@ -268,16 +286,27 @@ impl Requester {
         ensures at_start { OnErr result (begins_message (passed (held_of self.old) bytes.now) ≡ true) }
         ensures err { OnErr result (IsHeld (held_of self.new) (held_of self.old)) }
     {
-        let got = match read_for(self.own, bytes) {
-            Err(reason) => Got::Dropped(reason),
-            Ok(packet) => self.take(&packet)?,
-        };
+        let got = self.take(bytes)?;
         self.last = now;
         Ok(got)
     }
 
+    /// Takes the bytes of a packet, whatever the moment.
+    fn take(&mut self, bytes: &[u8]) -> Result<Got, Memory>
+        ensures got { IfOk result (λ got. got ≡ got_at (held_of self.old) bytes.now) }
+        ensures held { OnOk result (IsHeld (held_of self.new) (held_by (held_of self.old) (passed (held_of self.old) bytes.now))) }
+        ensures memory { OnErr result (got_at (held_of self.old) bytes.now ≡ Got.Partial) }
+        ensures at_start { OnErr result (begins_message (passed (held_of self.old) bytes.now) ≡ true) }
+        ensures err { OnErr result (IsHeld (held_of self.new) (held_of self.old)) }
+    {
+        match read_for(self.own, bytes) {
+            Ok(packet) => self.take_packet(&packet),
+            Err(reason) => Ok(Got::Dropped(reason)),
+        }
+    }
+
     /// Takes a packet that is addressed to the endpoint by another one.
-    fn take(&mut self, packet: &PacketRef<'_>) -> Result<Got, Memory>
+    fn take_packet(&mut self, packet: &PacketRef<'_>) -> Result<Got, Memory>
         ensures got { IfOk result (λ got. got ≡ got_of (arrived_by (held_of self.old) (where_expected (expects (held_of self.old)) (Ok packet.now)))) }
         ensures held { OnOk result (IsHeld (held_of self.new) (held_by (held_of self.old) (where_expected (expects (held_of self.old)) (Ok packet.now)))) }
         ensures memory { OnErr result (got_of (arrived_by (held_of self.old) (where_expected (expects (held_of self.old)) (Ok packet.now))) ≡ Got.Partial) }
@@ -321,11 +350,7 @@ impl Requester {
             Ok(response) => response,
             Err(reason) => return Got::Dropped(reason),
         };
-        let is_mine = match self.remembered(number) {
-            Some(request) => is_answer(number, request.kind, &response),
-            None => false,
-        };
-        if !is_mine {
+        if !self.is_mine(number, &response) {
             return Got::Dropped(Reason::NotMine);
         }
         if response.code() == ERROR_NOT_READY {
@@ -336,17 +361,34 @@ impl Requester {
         slot.standing = Standing::Answered(message);
         Got::Answered(number)
     }
+
+    /// Whether a response has the instance ID, the PLDM type and the command of a request.
+    fn is_mine(&self, number: u64, response: &ResponseRef<'_>) -> bool
+        ensures { result ≡ is_mine (held_of self.now) number response.now }
+    {
+        match self.remembered(number) {
+            Some(request) => is_answer(number, request.kind, response),
+            None => false,
+        }
+    }
 }
 
 /// Whether a response has the instance ID, the PLDM type and the command of a request.
 fn is_answer(number: u64, kind: Kind, response: &ResponseRef<'_>) -> bool
     ensures { result ≡ is_response_to number kind response.now }
 {
-    let id = number % u64::from(INSTANCE_IDS);
     let answered = response.kind();
-    u64::from(response.id()) == id
+    response.id() == id_of(number)
         && answered.pldm_type == kind.pldm_type
         && answered.command == kind.command
+}
+
+/// The instance ID of a request.
+fn id_of(number: u64) -> u8
+    ensures value { result ≡ id_of number }
+    ensures range { result < INSTANCE_IDS }
+{
+    (number % u64::from(INSTANCE_IDS)) as u8
 }
 
 /// The tag of a request.
@@ -371,6 +413,29 @@ fn packets_of(own: Eid, device: Eid, tag: Tag, id: u8, command: &Command) -> Pac
     };
     let message = write_command(id, command);
     split(&route, &message).unwrap()
+}
+
+/// Takes the room for one more request and its answer, where there are not all slots yet.
+fn make_room(slots: &mut Vec<Remembered>) -> Result<(), Memory>
+    ensures items { slots.new.items ≡ slots.old.items }
+    ensures ok { OnOk result (vec_len slots.old < MOST_REMEMBERED → vec_len slots.new < vec_capacity slots.new) }
+    ensures err { OnErr result (vec_len slots.old < MOST_REMEMBERED) }
+{
+    if slots.len() < MOST_REMEMBERED {
+        slots.reserve(1)?;
+    }
+    Ok(())
+}
+
+/// Adds a number to a list, where it is due.
+fn list(numbers: &mut ArrayVec<u64, MOST_OPEN>, number: u64, is_due: bool)
+    requires { array_vec_len numbers.old < MOST_OPEN }
+    ensures items { numbers.new.items ≡ numbers.old.items ++ (if is_due then number ∷ [] else []) }
+    ensures few { array_vec_len numbers.new ≤ array_vec_len numbers.old + 1 }
+{
+    if is_due {
+        numbers.push(number);
+    }
 }
 
 /// Puts a request in the slot of its number, or at the end, where there has to be room.

@@ -1,0 +1,5 @@
+pub mod SlotLists
+pub mod SlotSteps
+pub mod KeyOrder
+pub mod OpenRequests
+pub mod TagSearch
