@@ -79,9 +79,9 @@ filter_recent test count shut =
     let all : count ≡ (count - 8) + (count - (count - 8)) = omega arith in
     let none : 0 + (count - 8) ≡ count - 8 = omega arith in
     sym (
-        ap (λ k. filter test (range_with_len 0 k)) all
-        ∙ filter_past test 0 (count - 8) (count - (count - 8)) (λ k l. shut k (omega arith))
-        ∙ ap (λ k. filter test (range_with_len k (count - (count - 8)))) none)
+    ap (λ k. filter test (range_with_len 0 k)) all
+    ∙ filter_past test 0 (count - 8) (count - (count - 8)) (λ k l. shut k (omega arith))
+    ∙ ap (λ k. filter test (range_with_len k (count - (count - 8)))) none)
 
 numbers_is : (own device : ℕ) (a : Requests) (test : Course → Bool) → ((course : Course) → test course ≡ true → is_open course ≡ true) → Recent a
     → filter (λ n. passes test (memo_at own device a n)) (recent_numbers a.count) ≡ numbers_of test a
@@ -294,14 +294,14 @@ module _ (own device : ℕ) (timing : Timing) where
             let here = put_here (fed_by own device timing now read).each n (record { command = ((fed_by own device timing now read).each n).command; course = answered message ((fed_by own device timing now read).each n).course; fed = ((fed_by own device timing now read).each n).fed }) k same in
             cond-true (k == n) _ _ (eq-eqb k n same)
             ∙ memo_changed now (answered_by own device timing (fed_by own device timing now read) (Answer n message)) (answered message) k (sym (came_count own device timing now read))
-                (sym (ap (λ (r : Request). r.command) here ∙ came_command own device timing now read n ∙ ap (λ i. (now.each i).command) (sym same)))
-                (sym (ap (λ (r : Request). r.course) here ∙ ap (answered message) (came_course own device timing now read n ∙ ap (λ i. (now.each i).course) (sym same))))
+            (sym (ap (λ (r : Request). r.command) here ∙ came_command own device timing now read n ∙ ap (λ i. (now.each i).command) (sym same)))
+            (sym (ap (λ (r : Request). r.course) here ∙ ap (answered message) (came_course own device timing now read n ∙ ap (λ i. (now.each i).course) (sym same))))
         go (inr other) =
             let there = put_other (fed_by own device timing now read).each n (record { command = ((fed_by own device timing now read).each n).command; course = answered message ((fed_by own device timing now read).each n).course; fed = ((fed_by own device timing now read).each n).fed }) k other in
             cond-false (k == n) _ _ (ne_eqb k n other)
             ∙ memo_same now (answered_by own device timing (fed_by own device timing now read) (Answer n message)) k (sym (came_count own device timing now read))
-                (sym (ap (λ (r : Request). r.command) there ∙ came_command own device timing now read k))
-                (sym (ap (λ (r : Request). r.course) there ∙ came_course own device timing now read k))
+            (sym (ap (λ (r : Request). r.command) there ∙ came_command own device timing now read k))
+            (sym (ap (λ (r : Request). r.course) there ∙ came_course own device timing now read k))
 
     opens_is : (read : Result Packet Reason) → histories.IsLeftBy (open_after open_messages read) (with_packet own device timing read (assembled own device timing before))
     opens_is (Err reason) = left
@@ -384,14 +384,14 @@ receive_looks_back looks own device timing held before moment bytes left =
     let same = held_is own device timing held before left in
     let read = calls.passed own device timing a bytes in
     let goes : (p : Packet) → read ≡ Ok p → (p.route.tag < 8) × ((n : ℕ) × (calls.goes_to own device timing a p ≡ Some n)) =
-        λ p e. (read_tag own bytes p (expected (λ q. is_some (calls.goes_to own device timing a q)) (reading (Some own) bytes) p e).1, goes_where own device timing a bytes p e) in
+    λ p e. (read_tag own bytes p (expected (λ q. is_some (calls.goes_to own device timing a q)) (reading (Some own) bytes) p e).1, goes_where own device timing a bytes p e) in
     let passed = passed_is own device timing held.open_messages held.last a f (reading (Some own) bytes) (read_tag own bytes) in
     let h0 = left_by own device timing held.open_messages held.last a in (
       ap (λ h. got_at h bytes) same ∙ ap (λ r. got_of (arrived_by h0 r)) passed ∙ ap got_of (arrived_is own device timing looks held.open_messages held.last before left.open_messages read goes),
       subst (λ h. IsLeftBy own device timing (received_held h moment bytes) (Receive moment bytes ∷ before)) (sym same)
           (leaves_calls own device timing (received_held h0 moment bytes) (Receive moment bytes ∷ before)
-              (subst (λ r. Leaves own device timing (record (held_by h0 r) { last = moment }) (came_by own device timing a read) (with_packet own device timing read (assembled own device timing before)) moment) (sym passed)
-                  (came_leaves own device timing looks held.open_messages held.last before left.open_messages read moment goes))),
+          (subst (λ r. Leaves own device timing (record (held_by h0 r) { last = moment }) (came_by own device timing a read) (with_packet own device timing read (assembled own device timing before)) moment) (sym passed)
+          (came_leaves own device timing looks held.open_messages held.last before left.open_messages read moment goes))),
     )
 
 pub new_looks_back : assembly.NewLooksBack → NewLooksBack

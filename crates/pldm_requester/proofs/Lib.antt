@@ -1,3 +1,4 @@
+pub mod Numbers
 pub mod SlotLists
 pub mod SlotSteps
 pub mod KeyOrder

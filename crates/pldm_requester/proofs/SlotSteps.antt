@@ -105,7 +105,7 @@ pub memo_is : (station : Station) (now id tag : ℕ) (command : Command) (kind :
     → (let memo : Memo = record { kind = kind; packets = packets; course = begun now } in memo ≡ new_memo (held_of station) now command)
 memo_is station now id tag command kind packets e f h g =
     let sent = f ∙ ap (λ n. written_packets (record { destination = station.device; source = station.own; owner = true; tag = tag }) (command_message n command)) h
-        ∙ ap (λ t. written_packets (record { destination = station.device; source = station.own; owner = true; tag = t }) (command_message (id_of station.count) command)) g in
+    ∙ ap (λ t. written_packets (record { destination = station.device; source = station.own; owner = true; tag = t }) (command_message (id_of station.count) command)) g in
     λ i. record { kind = e i; packets = sent i; course = begun now }
 
 -- ---- the numbers that pass a test

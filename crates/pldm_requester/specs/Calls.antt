@@ -1,5 +1,5 @@
--- What a requester owes, told by looking back over the list of all its calls, the newest first. All requests are told by
--- their numbers, however long ago they were opened.
+-- What a requester owes, told by looking back over the list of all its calls, the newest first. All requests are told
+-- by their numbers, however long ago they were opened.
 use Rattle.std.specs.Prelude.{ℕ, zero, suc, ◌+◌, ◌-◌, ◌*◌, true, false, Bool, ◌&&◌, not, ◌==◌, nat_lt, nat_le, List, [], ◌∷◌, filter, Option, Some, None, is_some, Result, Ok, Err, if◌then◌else◌}
 use Rattle.std.specs.List.{range_with_len}
 use Rattle.mctp_packet.specs.Packets.{Packet}
@@ -132,7 +132,8 @@ module _ (own device : ℕ) (timing : Timing) where
   answered_by a (Drop reason) = a
   answered_by a Part = a
   answered_by a (Answer n message) =
-      with_request a n (record { command = (a.each n).command; course = answered message (a.each n).course; fed = (a.each n).fed })
+      with_request a n
+      (record { command = (a.each n).command; course = answered message (a.each n).course; fed = (a.each n).fed })
 
   abbrev pub received : Requests → List ℕ → Requests
   received a bytes = answered_by (fed_by a (passed a bytes)) (arrived a bytes)
@@ -177,7 +178,8 @@ module _ (own device : ℕ) (timing : Timing) where
   -- what an open at a moment answers after these calls
   abbrev pub open_owed : List Call → ℕ → Result Opened OpenFault
   open_owed calls moment =
-      open_answer (is_tag_in_use (requests calls)) (is_id_in_use timing.keep (requests calls) moment) (requests calls).count
+      open_answer (is_tag_in_use (requests calls)) (is_id_in_use timing.keep (requests calls) moment)
+      (requests calls).count
 
   -- which requests a tick at a moment sends again, and which it gives up
   abbrev pub again_owed : List Call → ℕ → List ℕ

@@ -1,5 +1,5 @@
--- The course of one request: it is open from its opening until it is answered or given up (DSP0240, "Timing specification" for
--- retries; the numbers are this profile's own).
+-- The course of one request: it is open from its opening until it is answered or given up, and is sent again meanwhile.
+-- The times are this profile's own.
 use Rattle.std.specs.Prelude.{ℕ, ◌+◌, ◌*◌, List, Bool, true, false, ◌&&◌, not, nat_le, if◌then◌else◌}
 use Rattle.pldm_requester.specs.declared.timing.Timing.{Timing}
 

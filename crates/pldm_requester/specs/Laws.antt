@@ -1,4 +1,4 @@
--- What a requester holds after any list of calls, told by looking back over the list, and which requests are open then.
+-- What a requester holds after any list of calls, told by looking back over the list, and which requests are open.
 use Rattle.std.specs.Prelude.{◌≡◌, ℕ, ◌+◌, ◌*◌, ◌<◌, ◌≤◌, Bool, true, false, List, [], ◌∷◌, length, Option, Some, None, if◌then◌else◌}
 use Rattle.mctp_assembly.specs.Histories as assembly
 use Rattle.pldm_wire.specs.Commands.{kind_of}
@@ -32,7 +32,7 @@ pub record IsLeftBy (own device : ℕ) (timing : Timing) (held : Held) (calls : 
   pub open_messages : assembly.IsLeftBy held.open_messages (assembled own device timing calls)
   pub last : held.last ≡ last_moment own device timing calls
 
--- an open answers what looking back over all calls says; it is accepted exactly where it says so, and then leaves what the
+-- an open answers what looking back over all calls says; it is accepted exactly where that says so, and leaves what the
 -- longer list leaves
 abbrev pub OpenLooksBack : Type 0
 OpenLooksBack =
@@ -109,7 +109,8 @@ FoundOnItsTag =
     → open_on (is_open_at (requests own device timing calls)) (requests own device timing calls).count (tag_of number)
     ≡ (if is_open_at (requests own device timing calls) number then Some number else None)
 
--- what came to an open request are the packets of its tag that came to assembly since the tag was forgotten, at its opening
+-- what came to an open request are the packets of its tag that came to assembly since its opening, when the tag was
+-- forgotten
 abbrev pub FedSinceItsOpening : Type 0
 FedSinceItsOpening =
     (own device : ℕ) (timing : Timing) (calls : List Call) (number : ℕ)
@@ -122,7 +123,8 @@ abbrev pub BeginsWithNone : Type 0
 BeginsWithNone =
     (own device : ℕ) (timing : Timing) (calls : List Call) (moment : ℕ) (command : Command)
     → accepts timing.keep (requests own device timing calls) moment ≡ true
-    → assembly.since (answer_key device (tag_of (requests own device timing calls).count)) (assembled own device timing (Open moment command ∷ calls))
+    → assembly.since (answer_key device (tag_of (requests own device timing calls).count))
+    (assembled own device timing (Open moment command ∷ calls))
     ≡ []
 
 -- ---- moments, which never go back

@@ -1,5 +1,5 @@
--- Requests are numbered from 0, in the order in which they are opened. The number gives a request its instance ID (DSP0240,
--- "PLDM message fields") and its tag (DSP0236, "MCTP packet fields"), so its message and its packets.
+-- Requests are numbered from 0, in the order in which they are opened. The number gives a request its instance ID
+-- (DSP0240, "PLDM message fields") and its tag (DSP0236, "MCTP packet fields"), so its message and its packets.
 use Rattle.std.specs.Prelude.{ℕ, ◌%◌, true, List}
 use Rattle.mctp_packet.specs.Pieces.{written_packets}
 use Rattle.mctp_packet.specs.declared.packet.Route.{Route}

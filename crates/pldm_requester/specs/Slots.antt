@@ -29,12 +29,31 @@ stored_back (Answered message) = refl
 
 abbrev pub coded_standing : Coded Standing
 coded_standing =
-    code_by (Option (Option (List ℕ))) (coded_option (coded_option (coded_list coded_ℕ))) stored standing_in stored_back
+    code_by (Option (Option (List ℕ))) (coded_option (coded_option (coded_list coded_ℕ)))
+    stored standing_in stored_back
 
 -- what is remembered of a request is stored as its parts
 abbrev pub coded_memo : Coded Memo
 coded_memo =
-    code_by (ℕ × (ℕ × (List (List ℕ) × (ℕ × (ℕ × Standing))))) (coded× coded_ℕ (coded× coded_ℕ (coded× (coded_list (coded_list coded_ℕ)) (coded× coded_ℕ (coded× coded_ℕ coded_standing))))) (λ m. (m.kind.pldm_type, (m.kind.command, (m.packets, (m.course.opening, (m.course.last_sent, m.course.standing)))))) (λ c. record { kind = of_type c.0 c.1.0; packets = c.1.1.0; course = record { opening = c.1.1.1.0; last_sent = c.1.1.1.1.0; standing = c.1.1.1.1.1 } }) (λ _. refl)
+    code_by (ℕ × (ℕ × (List (List ℕ) × (ℕ × (ℕ × Standing)))))
+    (coded× coded_ℕ (coded× coded_ℕ (coded× (coded_list (coded_list coded_ℕ))
+    (coded× coded_ℕ (coded× coded_ℕ coded_standing)))))
+    (λ m. (
+      m.kind.pldm_type,
+      (
+        m.kind.command,
+        (
+          m.packets,
+          (m.course.opening, (m.course.last_sent, m.course.standing)),
+        ),
+      ),
+    ))
+    (λ c. record {
+      kind = of_type c.0 c.1.0;
+      packets = c.1.1.0;
+      course = record { opening = c.1.1.1.0; last_sent = c.1.1.1.1.0; standing = c.1.1.1.1.1 };
+    })
+    (λ _. refl)
 
 -- what contracts see of a requester: the slot of each instance ID has the last request with it
 pub record Station : Type 0 where
@@ -49,9 +68,23 @@ pub record Station : Type 0 where
 -- it is stored as its parts
 abbrev pub coded_station : Coded Station
 coded_station =
-    code_by (ℕ × (ℕ × (Timing × (ℕ × (List Memo × (map.FinMap key_cmp Opened × ℕ)))))) (coded× coded_ℕ (coded× coded_ℕ (coded× coded_timing (coded× coded_ℕ (coded× (coded_list coded_memo) (coded× (map.code coded_key coded_opened) coded_ℕ)))))) (λ s. (s.own, (s.device, (s.timing, (s.count, (s.slots, (s.open_messages, s.last))))))) (λ c. record { own = c.0; device = c.1.0; timing = c.1.1.0; count = c.1.1.1.0; slots = c.1.1.1.1.0; open_messages = c.1.1.1.1.1.0; last = c.1.1.1.1.1.1 }) (λ _. refl)
+    code_by (ℕ × (ℕ × (Timing × (ℕ × (List Memo × (map.FinMap key_cmp Opened × ℕ))))))
+    (coded× coded_ℕ (coded× coded_ℕ (coded× coded_timing (coded× coded_ℕ (coded× (coded_list coded_memo)
+    (coded× (map.code coded_key coded_opened) coded_ℕ))))))
+    (λ s. (s.own, (s.device, (s.timing, (s.count, (s.slots, (s.open_messages, s.last)))))))
+    (λ c. record {
+      own = c.0;
+      device = c.1.0;
+      timing = c.1.1.0;
+      count = c.1.1.1.0;
+      slots = c.1.1.1.1.0;
+      open_messages = c.1.1.1.1.1.0;
+      last = c.1.1.1.1.1.1;
+    })
+    (λ _. refl)
 
--- what is remembered of the request with this number: it is among the last ones, and stands in the slot of its instance ID
+-- what is remembered of the request with this number, where it is among the last ones: it stands in the slot of its
+-- instance ID
 abbrev pub remembered_in : ℕ → List Memo → ℕ → Option Memo
 remembered_in count slots number =
     if is_recent count number then slice_get slots (number % MOST_REMEMBERED) else None
@@ -77,8 +110,8 @@ pub record AreSlots (count : ℕ) (slots : List Memo) : Type 0 where
   pub some : count ≤ MOST_REMEMBERED → length slots ≡ count
   pub all : MOST_REMEMBERED ≤ count → length slots ≡ MOST_REMEMBERED
 
--- a request is opened twice the keeping time, so two milliseconds, after the one before it with its instance ID, or later:
--- so no more requests than this are opened up to a moment
+-- a request is opened twice the keeping time, so two milliseconds, after the one before it with its instance ID, or
+-- later: so no more requests than this are opened up to a moment
 abbrev pub most_opened : ℕ → ℕ
 most_opened moment = 16 * moment + 32
 

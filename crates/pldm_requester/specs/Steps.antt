@@ -29,8 +29,8 @@ pub record Memo : Type 0 where
   pub packets : List (List ℕ)
   pub course : Course
 
--- its own endpoint ID and the device's, its timing, how many requests were opened, what is remembered of each, what is open on
--- each key, and the last moment
+-- its own endpoint ID and the device's, its timing, how many requests were opened, what is remembered of each, what is
+-- open on each key, and the last moment
 pub record Held : Type 0 where
   pub own : ℕ
   pub device : ℕ
@@ -108,7 +108,8 @@ module _ (held : Held) where
   abbrev pub is_id_in_use : ℕ → Bool
   is_id_in_use moment =
       nat_le INSTANCE_IDS held.count
-      && passes (λ course. nat_lt moment (course.opening + 2 * held.timing.keep)) (held.remembered (held.count - INSTANCE_IDS))
+      && passes (λ course. nat_lt moment (course.opening + 2 * held.timing.keep))
+      (held.remembered (held.count - INSTANCE_IDS))
 
   abbrev pub accepts : ℕ → Bool
   accepts moment = not is_tag_in_use && not (is_id_in_use moment)
@@ -172,7 +173,8 @@ module _ (held : Held) where
   remembered_after (Drop reason) number = held.remembered number
   remembered_after Part number = held.remembered number
   remembered_after (Answer n message) number =
-      if number == n then option_map (with_course (answered message)) (held.remembered number) else held.remembered number
+      if number == n then option_map (with_course (answered message)) (held.remembered number)
+      else held.remembered number
 
   -- what is held after it, but for the moment
   abbrev pub held_by : Result Packet Reason → Held

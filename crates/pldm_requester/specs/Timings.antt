@@ -22,4 +22,7 @@ number_of_timing_fault SameEid = 4
 -- a timing is stored as its parts
 abbrev pub coded_timing : Coded Timing
 coded_timing =
-    code_by (ℕ × (ℕ × ℕ)) (coded× coded_ℕ (coded× coded_ℕ coded_ℕ)) (λ t. (t.keep, (t.timeout, t.tries))) (λ c. record { keep = c.0; timeout = c.1.0; tries = c.1.1 }) (λ _. refl)
+    code_by (ℕ × (ℕ × ℕ)) (coded× coded_ℕ (coded× coded_ℕ coded_ℕ))
+    (λ t. (t.keep, (t.timeout, t.tries)))
+    (λ c. record { keep = c.0; timeout = c.1.0; tries = c.1.1 })
+    (λ _. refl)

@@ -1,4 +1,4 @@
-ghost use Rattle.std.specs.Prelude.{◌≡◌, ◌⊎◌, ◌+◌, ◌%◌, ◌^◌, ◌<◌, ◌≤◌, true, [], ◌∷◌, ◌++◌, if◌then◌else◌, None, Some, Ok, Err, option_map, vec_len, vec_capacity, IfOk, IfErr, OnOk, OnErr};
+ghost use Rattle.std.specs.Prelude.{◌≡◌, ◌⊎◌, ◌+◌, ◌%◌, ◌^◌, ◌<◌, ◌≤◌, true, [], ◌∷◌, ◌++◌, if◌then◌else◌, None, Some, Ok, Err, option_map, vec_len, vec_capacity, IfOk, IfErr, IsErrOf, OnOk, OnErr};
 ghost use Rattle.std.specs.Bool.{OnFalse};
 ghost use Rattle.std.specs.Option.{option_copied};
 ghost use Rattle.arrayvec.specs.ArrayVec.{array_vec_len};
@@ -162,7 +162,10 @@ impl Requester {
             return false;
         }
         match self.remembered(self.count - u64::from(INSTANCE_IDS)) {
-            Some(request) => now.get() < request.opening.get() + 2 * u64::from(self.timing.keep.get()),
+            Some(request) => {
+                let free = request.opening.get() + 2 * u64::from(self.timing.keep.get());
+                now.get() < free
+            }
             None => false,
         }
     }
@@ -177,11 +180,13 @@ impl Requester {
     ///
     /// `TagInUse` where request n - 8 is open; else `IdInUse` where request n - 32 was opened less than
     /// twice the keeping time ago; else `Memory` where the room for the request and its answer was
-    /// refused. The requester is then as before.
+    /// refused, which only the first [`MOST_REMEMBERED`] requests want. The requester is then as
+    /// before.
     pub fn open(&mut self, now: Moment, command: &Command) -> Result<Opened, OpenFault>
         requires { (held_of self.old).last ≤ now }
         ensures answer { IfOk result (λ opened. opening_answer (held_of self.old) now ≡ Ok opened) }
         ensures fault { IfErr result (λ fault. ((fault ≡ OpenFault.Memory) × (accepts (held_of self.old) now ≡ true)) ⊎ (opening_answer (held_of self.old) now ≡ Err fault)) }
+        ensures room { IsErrOf result OpenFault.Memory → (held_of self.old).count < MOST_REMEMBERED }
         ensures held { OnOk result (IsHeld (held_of self.new) (opened_held (held_of self.old) now command.now)) }
         ensures err { OnErr result (IsHeld (held_of self.new) (held_of self.old)) }
     {

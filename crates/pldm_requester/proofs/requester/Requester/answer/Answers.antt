@@ -16,8 +16,8 @@ returns-clause-held c =
     let after = λ (s : Station). record (held_of s) { remembered = remembered_after (held_of s) (response_arrival (is_mine (held_of s)) c.args.number c.args.message.items (response_of c.args.message.items)) } in
     subst (λ (s : Station). IsHeld (held_of (record station { slots = slice_set station.slots (c.args.number % 32) (with_course (answered c.args.message.items) memo) })) (after s)) c.self.view_is
     (answered_held station c.args.number c.args.message.items c.in-Ok.response memo c.index_mut-slot.result.now
-        (ap response_of (sym c.deref.ensures.0) ∙ sym c.in-Ok.ensures.exact)
-        (subst (λ (s : Station). is_mine (held_of s) c.args.number c.in-Ok.response ≡ true) (sym c.self.view_is) (sym c.if-not-is_mine.ensures))
-        (λ same. c.if-code-eq-ERROR_NOT_READY.false (c.code.ensures.value ∙ same))
-        c.slot.view_is
-        c.index_mut-slot.ensures.value)
+    (ap response_of (sym c.deref.ensures.0) ∙ sym c.in-Ok.ensures.exact)
+    (subst (λ (s : Station). is_mine (held_of s) c.args.number c.in-Ok.response ≡ true) (sym c.self.view_is) (sym c.if-not-is_mine.ensures))
+    (λ same. c.if-code-eq-ERROR_NOT_READY.false (c.code.ensures.value ∙ same))
+    c.slot.view_is
+    c.index_mut-slot.ensures.value)

@@ -24,5 +24,5 @@ returns-clause-held c =
     let new = memo_is station c.args.now c.id_of-id.result c.tag_of-tag.result c.args.command.now c.kind.result c.packets_of-packets.result c.kind.ensures c.packets_of-packets.ensures c.id_of-id.ensures.value tag in
     subst (λ (s : Station). IsHeld (held_of (record station { count = station.count + 1; slots = c.put.new.slots.items; open_messages = c.forget.new.self; last = c.args.now })) (opened_held (held_of s) c.args.now c.args.command.now)) c.self.view_is
     (opened_is_held station c.args.now c.args.command.now c.put.new.slots.items c.forget.new.self c.self.invariant.slots
-        (c.put.ensures ∙ ap (λ xs. put_slot station.count xs memo) c.make_room.ensures.items ∙ ap (put_slot station.count station.slots) new)
-        (c.forget.ensures ∙ ap (map.remove station.open_messages) (c.answer_key.ensures ∙ ap (answer_key station.device) tag)))
+    (c.put.ensures ∙ ap (λ xs. put_slot station.count xs memo) c.make_room.ensures.items ∙ ap (put_slot station.count station.slots) new)
+    (c.forget.ensures ∙ ap (map.remove station.open_messages) (c.answer_key.ensures ∙ ap (answer_key station.device) tag)))
