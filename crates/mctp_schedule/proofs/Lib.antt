@@ -4,6 +4,7 @@ pub mod FittingReplies
 pub mod FoundCommands
 pub mod FreshOrder
 pub mod GivenReplies
+pub mod JoinedLogs
 pub mod LineSplits
 pub mod LongLines
 pub mod Numbers
@@ -17,3 +18,5 @@ pub mod SpelledLines
 pub mod SpelledWords
 pub mod StateWords
 pub mod TimelyExample
+pub mod TimelyLogs
+pub mod TimelyTests

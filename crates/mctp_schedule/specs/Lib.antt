@@ -10,3 +10,4 @@ pub mod Logs
 pub mod OncePerformed
 pub mod Schedules
 pub mod WordValues
+pub mod Worlds

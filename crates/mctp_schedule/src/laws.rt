@@ -1,7 +1,8 @@
 //! Laws of both ends, over the definitions alone: each function does nothing and ensures its law.
 
 ghost use Rattle.pldm_responder.specs.Performing.{rules_of};
-ghost use Rattle.mctp_schedule.specs.Laws.{ReadAsSpelled};
+ghost use Rattle.mctp_schedule.specs.Laws.{LogIsTimely, ReadAsSpelled, TimelyIsTested};
+ghost use Rattle.mctp_schedule.specs.Worlds.{Setting};
 ghost use Rattle.mctp_schedule.specs.DeviceHalf.{DeliveryIsOwed, FreshInOrderOfFirsts, FreshWhereFirst, GivenIsTheReply, NoneOpenedSince, NotPerformedAgain, StateIsOnce, TheReplyFits};
 
 use pldm_device::Platform;
@@ -28,3 +29,13 @@ pub fn performs_once<P: Platform>()
 pub fn lines_are_read_as_spelled()
     ensures { ReadAsSpelled }
 {}
+
+/// Over a timely schedule the log of what happened on the link is timely, so the laws of
+/// [`fresh_deliveries_are_first`] and [`performs_once`] hold of it; and the test of a timely schedule
+/// tells just that.
+pub fn logs_are_timely<P: Platform>()
+    ensures log { (setting : Setting P.State) → LogIsTimely setting }
+    ensures tested { (setting : Setting P.State) → TimelyIsTested setting }
+{
+    pldm_requester::laws::instance_ids_are_apart();
+}
