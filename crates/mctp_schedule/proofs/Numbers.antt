@@ -1,0 +1,18 @@
+-- Every constant of the source, told a second time.
+use Rattle.std.proofs.Common.{◌≡◌, refl}
+use Rattle.mctp_schedule.specs.declared.limits.TheConstants.{GREATEST_BYTE, GREATEST_ID, GREATEST_HANDLE, LONGEST_TIMEOUT, MOST_WORDS}
+
+greatest_byte : GREATEST_BYTE ≡ 255
+greatest_byte = refl
+
+greatest_id : GREATEST_ID ≡ 65535
+greatest_id = refl
+
+greatest_handle : GREATEST_HANDLE ≡ 4294967295
+greatest_handle = refl
+
+longest_timeout_in_milliseconds : LONGEST_TIMEOUT ≡ 60000
+longest_timeout_in_milliseconds = refl
+
+words_of_a_line : MOST_WORDS ≡ 14
+words_of_a_line = refl

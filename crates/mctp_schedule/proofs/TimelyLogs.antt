@@ -1,0 +1,227 @@
+-- Over a timely schedule the log of the link is timely.
+use Rattle.std.proofs.Common.{◌≡◌, ◌≢◌, ℕ, ◌+◌, ◌<◌, ◌≤◌, List, [], ◌∷◌, Option, Some, None, Bool, true, false, refl, sym, ap, ◌∙◌, subst, ⊎_elim, arith, eq-eqb}
+use Rattle.std.specs.Prelude.{ℤ, ◌==◌, find, if◌then◌else◌}
+use Rattle.std.proofs.lemmas.Bool.{cond-true}
+use Rattle.pldm_wire.specs.Headers.{id_at}
+use Rattle.pldm_wire.specs.declared.command.Command.{Command}
+use Rattle.pldm_requester.specs.Calls.{Call, Open, Tick, Receive, Request, Requests, accepts, last_moment, new_request, opened, requests}
+use Rattle.pldm_requester.specs.Laws.{IdsApart, IsInOrder, moment_of}
+use Rattle.pldm_requester.specs.Numbering.{id_of, message_of}
+use Rattle.mctp_schedule.specs.Laws.{LogIsTimely}
+use Rattle.mctp_schedule.specs.Logs.{Asked, Happening, Opened, Delivered, Sensed, WentDown, Apart, ComesLate, InOrder, InTime, asked_at, count_of, last_of}
+use Rattle.mctp_schedule.specs.Worlds.{IsTimely, IsTimelyAction, NeverWentBack, Setting, World, asked_by, busy_packet, done, handed, log_opened, reply_packet, requests_of, source_of, time_now, timing_from, timing_of, with_call, world}
+use Rattle.mctp_schedule.specs.declared.step.RequesterLine.{RequesterLine}
+use Rattle.mctp_schedule.specs.declared.step.Step.{Step}
+use Rattle.mctp_schedule.specs.declared.step.Action.{Action}
+use Rattle.mctp_schedule.specs.declared.step.Action.TheVariants as actions
+use Rattle.mctp_schedule.proofs.FirstPerformed.{request_opened}
+use Rattle.mctp_schedule.proofs.JoinedLogs.{Grows, call_grows, call_last}
+
+-- a request's message has the instance ID of its number
+id_of_message : (number : ℕ) (command : Command) → id_at (message_of number command) ≡ id_of number
+id_of_message number command = omega arith
+
+module _ {S : Type 0} (setting : Setting S) where
+  keep_of : (o : Option RequesterLine) → (timing_from setting.keep o).keep ≡ setting.keep
+  keep_of None = refl
+  keep_of (Some line) = refl
+
+  keep_is : (e : ℕ) → (timing_of setting e).keep ≡ setting.keep
+  keep_is e = keep_of (find _ setting.requesters)
+
+  -- a request of the log is the one of its number at its requester
+  pub record Matches (w : World) (r : Asked) : Type 0 where
+    pub within : r.own < (requests_of setting w r.source).count
+    pub opening : ((requests_of setting w r.source).each r.own).course.opening ≡ r.opening
+    pub id : id_at r.message ≡ id_of r.own
+
+  pub record Joined (w : World) (now : ℕ) : Type 0 where
+    pub order : InOrder w.log
+    pub last : last_of w.log ≤ now
+    pub calls : (e : ℕ) → IsInOrder e setting.eid (timing_of setting e) (w.calls e)
+    pub called : (e : ℕ) → last_moment e setting.eid (timing_of setting e) (w.calls e) ≤ now
+    pub matches : (k : ℕ) (r : Asked) → asked_at w.log k ≡ Some r → Matches w r
+    pub apart : Apart setting.keep w.log
+    pub in_time : InTime setting.keep w.log
+
+  joined_later : (w : World) (now moment : ℕ) → Joined w now → now ≤ moment → Joined w moment
+  joined_later w now moment j later = record {
+    order = j.order;
+    last = let x = j.last in omega arith;
+    calls = j.calls;
+    called = λ e. let x = j.called e in omega arith;
+    matches = j.matches;
+    apart = j.apart;
+    in_time = j.in_time;
+  }
+
+  -- one more call of a requester
+  calls_grow : (calls : ℕ → List Call) (e : ℕ) (call : Call) (d : ℕ) → Grows (requests d setting.eid (timing_of setting d) (calls d)) (requests d setting.eid (timing_of setting d) (with_call calls e call d))
+  calls_grow calls e call d = go (d == e)
+    where
+      go : (b : Bool) → Grows (requests d setting.eid (timing_of setting d) (calls d)) (requests d setting.eid (timing_of setting d) (if b then call ∷ calls d else calls d))
+      go true = call_grows d setting.eid (timing_of setting d) (requests d setting.eid (timing_of setting d) (calls d)) call
+      go false = record { count = omega arith; each = λ n within. refl }
+
+  still_matches : (w : World) (e : ℕ) (call : Call) (log : List Happening) (r : Asked) → Matches w r → Matches (record { calls = with_call w.calls e call; log = log }) r
+  still_matches w e call log r m =
+      let grown = calls_grow w.calls e call r.source in
+      record {
+        within = let x = grown.count in let y = m.within in omega arith;
+        opening = grown.each r.own m.within ∙ m.opening;
+        id = m.id;
+      }
+
+  calls_in_order : (w : World) (now moment e : ℕ) (call : Call) → Joined w now → now ≤ moment → moment_of call ≡ moment → ((d : ℕ) → IsInOrder d setting.eid (timing_of setting d) (call ∷ w.calls d)) → ((d : ℕ) → last_moment d setting.eid (timing_of setting d) (call ∷ w.calls d) ≤ moment) → (d : ℕ) → IsInOrder d setting.eid (timing_of setting d) (with_call w.calls e call d) × (last_moment d setting.eid (timing_of setting d) (with_call w.calls e call d) ≤ moment)
+  calls_in_order w now moment e call j later at ordered last d = go (d == e)
+    where
+      go : (b : Bool) → IsInOrder d setting.eid (timing_of setting d) (if b then call ∷ w.calls d else w.calls d) × (last_moment d setting.eid (timing_of setting d) (if b then call ∷ w.calls d else w.calls d) ≤ moment)
+      go true = (ordered d, last d)
+      go false = (j.calls d, let x = j.called d in omega arith)
+
+  -- a tick, or bytes that are received, leave the log
+  joined_call : (w : World) (now moment e : ℕ) (call : Call) → Joined w now → now ≤ moment → ((d : ℕ) → IsInOrder d setting.eid (timing_of setting d) (call ∷ w.calls d)) → ((d : ℕ) → last_moment d setting.eid (timing_of setting d) (call ∷ w.calls d) ≤ moment) → moment_of call ≡ moment → Joined (record { calls = with_call w.calls e call; log = w.log }) moment
+  joined_call w now moment e call j later ordered last at =
+      let both = calls_in_order w now moment e call j later at ordered last in
+      record {
+        order = j.order;
+        last = let x = j.last in omega arith;
+        calls = λ d. (both d).0;
+        called = λ d. (both d).1;
+        matches = λ k r is. still_matches w e call w.log r (j.matches k r is);
+        apart = j.apart;
+        in_time = j.in_time;
+      }
+
+  joined_receive : (w : World) (now moment e : ℕ) (bytes : List ℕ) → Joined w now → now ≤ moment → Joined (record { calls = with_call w.calls e (Receive moment bytes); log = w.log }) moment
+  joined_receive w now moment e bytes j later =
+      joined_call w now moment e (Receive moment bytes) j later (λ d. (let x = j.called d in omega arith, j.calls d)) (λ d. omega arith) refl
+
+  joined_tick : (w : World) (now moment e : ℕ) → Joined w now → now ≤ moment → Joined (record { calls = with_call w.calls e (Tick moment); log = w.log }) moment
+  joined_tick w now moment e j later =
+      joined_call w now moment e (Tick moment) j later (λ d. (let x = j.called d in omega arith, j.calls d)) (λ d. omega arith) refl
+
+  joined_handed : (w : World) (now moment e : ℕ) (packet : Option (List ℕ)) → Joined w now → now ≤ moment → Joined (handed setting w moment e packet) moment
+  joined_handed w now moment e None j later = joined_later w now moment j later
+  joined_handed w now moment e (Some bytes) j later = joined_receive w now moment e bytes j later
+
+  joined_delivered : (w : World) (now moment k : ℕ) → Joined w now → now ≤ moment → ((r : Asked) → asked_at w.log k ≡ Some r → moment < r.opening + setting.keep) → Joined (record { calls = w.calls; log = Delivered moment k ∷ w.log }) moment
+  joined_delivered w now moment k j later soon = record {
+    order = (let x = j.last in omega arith, j.order);
+    last = omega arith;
+    calls = j.calls;
+    called = λ e. let x = j.called e in omega arith;
+    matches = λ n r is. let m = j.matches n r is in record { within = m.within; opening = m.opening; id = m.id };
+    apart = j.apart;
+    in_time = (soon, j.in_time);
+  }
+
+  joined_sensed : (w : World) (now moment id : ℕ) (value : ℤ) → Joined w now → now ≤ moment → Joined (record { calls = w.calls; log = Sensed moment id value ∷ w.log }) moment
+  joined_sensed w now moment id value j later = record {
+    order = (let x = j.last in omega arith, j.order);
+    last = omega arith;
+    calls = j.calls;
+    called = λ e. let x = j.called e in omega arith;
+    matches = λ n r is. let m = j.matches n r is in record { within = m.within; opening = m.opening; id = m.id };
+    apart = j.apart;
+    in_time = j.in_time;
+  }
+
+  joined_down : (w : World) (now moment : ℕ) → Joined w now → now ≤ moment → Joined (record { calls = w.calls; log = WentDown moment ∷ w.log }) moment
+  joined_down w now moment j later = record {
+    order = (let x = j.last in omega arith, j.order);
+    last = omega arith;
+    calls = j.calls;
+    called = λ e. let x = j.called e in omega arith;
+    matches = λ n r is. let m = j.matches n r is in record { within = m.within; opening = m.opening; id = m.id };
+    apart = j.apart;
+    in_time = j.in_time;
+  }
+
+  -- an open
+  opened_here : (w : World) (moment e : ℕ) (command : Command) → accepts (timing_of setting e).keep (requests_of setting w e) moment ≡ true → requests e setting.eid (timing_of setting e) (Open moment command ∷ w.calls e) ≡ opened (requests_of setting w e) moment command
+  opened_here w moment e command accepted = cond-true (accepts (timing_of setting e).keep (requests_of setting w e) moment) _ _ accepted
+
+  new_opening : (a : Requests) (moment : ℕ) (command : Command) → ((opened a moment command).each a.count).course.opening ≡ moment
+  new_opening a moment command = ap (λ (r : Request). r.course.opening) (cond-true (a.count == a.count) (new_request moment command) (a.each a.count) (eq-eqb a.count a.count refl))
+
+  new_matches : (w : World) (moment e : ℕ) (command : Command) (log : List Happening) → accepts (timing_of setting e).keep (requests_of setting w e) moment ≡ true → Matches (record { calls = with_call w.calls e (Open moment command); log = log }) (asked_by setting w moment e command)
+  new_matches w moment e command log accepted =
+      let a = requests_of setting w e in
+      let here : requests e setting.eid (timing_of setting e) (with_call w.calls e (Open moment command) e) ≡ opened a moment command = ap (requests e setting.eid (timing_of setting e)) (cond-true (e == e) (Open moment command ∷ w.calls e) (w.calls e) (eq-eqb e e refl)) ∙ opened_here w moment e command accepted in
+      record {
+        within = subst (λ (b : Requests). a.count < b.count) (sym here) (omega arith);
+        opening = ap (λ (b : Requests). (b.each a.count).course.opening) here ∙ new_opening a moment command;
+        id = id_of_message a.count command;
+      }
+
+  comes_late : IdsApart → (w : World) (now moment e : ℕ) (command : Command) → Joined w now → now ≤ moment → accepts (timing_of setting e).keep (requests_of setting w e) moment ≡ true → ComesLate setting.keep (asked_by setting w moment e command) w.log
+  comes_late apart_ids w now moment e command j later accepted k q is s i =
+      let a = requests_of setting w e in
+      let call = Open moment command in
+      let m = j.matches k q is in
+      let own_at : (q.own < (requests_of setting w e).count) × (((requests_of setting w e).each q.own).course.opening ≡ q.opening) = subst (λ d. (q.own < (requests_of setting w d).count) × (((requests_of setting w d).each q.own).course.opening ≡ q.opening)) s (m.within, m.opening) in
+      let here = opened_here w moment e command accepted in
+      let grown = call_grows e setting.eid (timing_of setting e) a call in
+      let was : ((requests e setting.eid (timing_of setting e) (call ∷ w.calls e)).each q.own).course.opening ≡ q.opening = grown.each q.own own_at.0 ∙ own_at.1 in
+      let new : ((requests e setting.eid (timing_of setting e) (call ∷ w.calls e)).each a.count).course.opening ≡ moment = ap (λ (b : Requests). (b.each a.count).course.opening) here ∙ new_opening a moment command in
+      let counted : a.count < (requests e setting.eid (timing_of setting e) (call ∷ w.calls e)).count = subst (λ (b : Requests). a.count < b.count) (sym here) (omega arith) in
+      let before = j.called e in
+      let ordered : IsInOrder e setting.eid (timing_of setting e) (call ∷ w.calls e) = (omega arith, j.calls e) in
+      let far = apart_ids e setting.eid (timing_of setting e) (call ∷ w.calls e) q.own a.count ordered own_at.0 counted (sym m.id ∙ i ∙ id_of_message a.count command) in
+      let same_keep = keep_is e in
+      omega (arith, far, was, new, same_keep)
+
+  joined_open : IdsApart → (w : World) (now moment e : ℕ) (command : Command) → Joined w now → now ≤ moment → Joined (record { calls = with_call w.calls e (Open moment command); log = log_opened setting w moment e command }) moment
+  joined_open apart_ids w now moment e command j later = go (accepts (timing_of setting e).keep (requests_of setting w e) moment) refl
+    where
+      ordered : (d : ℕ) → IsInOrder d setting.eid (timing_of setting d) (Open moment command ∷ w.calls d)
+      ordered d = (let x = j.called d in omega arith, j.calls d)
+
+      last : (d : ℕ) → last_moment d setting.eid (timing_of setting d) (Open moment command ∷ w.calls d) ≤ moment
+      last d = call_last d setting.eid (timing_of setting d) (w.calls d) (Open moment command) (let x = j.called d in omega arith)
+
+      go : (b : Bool) → accepts (timing_of setting e).keep (requests_of setting w e) moment ≡ b → Joined (record { calls = with_call w.calls e (Open moment command); log = if b then Opened (asked_by setting w moment e command) ∷ w.log else w.log }) moment
+      go false refused = joined_call w now moment e (Open moment command) j later ordered last refl
+      go true accepted =
+          let both = calls_in_order w now moment e (Open moment command) j later refl ordered last in
+          let log = Opened (asked_by setting w moment e command) ∷ w.log in
+          record {
+            order = (let x = j.last in omega arith, j.order);
+            last = omega arith;
+            calls = λ d. (both d).0;
+            called = λ d. (both d).1;
+            matches = λ k r is. ⊎_elim
+                (λ (x : (k ≡ count_of w.log) × (asked_by setting w moment e command ≡ r)). subst (Matches (record { calls = with_call w.calls e (Open moment command); log = log })) x.1 (new_matches w moment e command log accepted))
+                (λ (x : (k ≢ count_of w.log) × (asked_at w.log k ≡ Some r)). still_matches w e (Open moment command) log r (j.matches k r x.1))
+                (request_opened (asked_by setting w moment e command) w.log k r is);
+            apart = (comes_late apart_ids w now moment e command j later accepted, j.apart);
+            in_time = j.in_time;
+          }
+
+  joined_step : IdsApart → (w : World) (now moment : ℕ) (action : Action) → Joined w now → now ≤ moment → IsTimelyAction setting w moment action → Joined (done setting w moment action) moment
+  joined_step ids w now moment (actions.Open e command) j later timely = joined_open ids w now moment e command j later
+  joined_step ids w now moment (actions.Tick e) j later timely = joined_tick w now moment e j later
+  joined_step ids w now moment (actions.Request k) j later timely = joined_delivered w now moment k j later timely
+  joined_step ids w now moment (actions.Reply k packet) j later timely = joined_handed w now moment (source_of (asked_at w.log k)) (reply_packet setting w k packet) j later
+  joined_step ids w now moment (actions.Sense id value) j later timely = joined_sensed w now moment id value j later
+  joined_step ids w now moment actions.Restart j later timely = joined_down w now moment j later
+  joined_step ids w now moment (actions.Busy k) j later timely = joined_handed w now moment (source_of (asked_at w.log k)) (busy_packet setting w k) j later
+
+  joined : IdsApart → (steps : List Step) → NeverWentBack steps → IsTimely setting steps → Joined (world setting steps) (time_now steps)
+  joined ids [] ordered timely = record {
+    order = tt;
+    last = omega arith;
+    calls = λ e. tt;
+    called = λ e. omega arith;
+    matches = λ k r is. absurd (cc);
+    apart = tt;
+    in_time = tt;
+  }
+  joined ids (step ∷ past) ordered timely =
+      joined_step ids (world setting past) (time_now past) step.moment step.action (joined ids past ordered.1 timely.1) ordered.0 timely.0
+
+  pub log_is_timely : IdsApart → LogIsTimely setting
+  log_is_timely ids steps ordered timely =
+      let j = joined ids steps ordered timely in
+      record { order = j.order; apart = j.apart; in_time = j.in_time }

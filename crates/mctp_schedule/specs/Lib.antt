@@ -1,0 +1,13 @@
+pub mod CommandSpelling
+pub mod CommandWords
+pub mod DeviceHalf
+pub mod FirstArrivals
+pub mod Laws
+pub mod LineFaults
+pub mod LineSpelling
+pub mod LineWords
+pub mod Logs
+pub mod OncePerformed
+pub mod Schedules
+pub mod WordValues
+pub mod Worlds

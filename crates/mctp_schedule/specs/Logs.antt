@@ -1,0 +1,99 @@
+-- What happened on the link between requesters and a device, the newest first, and what of it reached the responder.
+use Rattle.std.specs.Prelude.{◌≡◌, ℕ, suc, ◌+◌, ◌*◌, ◌%◌, ◌<◌, ◌≤◌, ℤ, List, [], ◌∷◌, ◌==◌, Option, Some, None, if◌then◌else◌}
+use Rattle.mctp_packet.specs.declared.TheConstants.{TAGS}
+use Rattle.pldm_wire.specs.Headers.{id_at}
+use Rattle.pldm_responder.specs.Events.{Message, Event, Came, Set, Restarted}
+
+-- a request that was opened: the endpoint that asks, its number among that one's requests from 0 on, the moment at which it
+-- was opened, and its message
+pub record Asked : Type 0 where
+  pub source : ℕ
+  pub own : ℕ
+  pub opening : ℕ
+  pub message : List ℕ
+
+-- a request was opened; the packet of the request of this number was delivered to the device; a sensor got a reading; the
+-- device's end restarted
+pub data Happening : Type 0 where
+  Opened : Asked → Happening
+  Delivered : (moment : ℕ) → (number : ℕ) → Happening
+  Sensed : (moment : ℕ) → (id : ℕ) → (value : ℤ) → Happening
+  WentDown : (moment : ℕ) → Happening
+
+abbrev pub moment_of : Happening → ℕ
+moment_of (Opened r) = r.opening
+moment_of (Delivered moment k) = moment
+moment_of (Sensed moment id value) = moment
+moment_of (WentDown moment) = moment
+
+-- the moment of the newest, 0 where nothing happened
+abbrev pub last_of : List Happening → ℕ
+last_of [] = 0
+last_of (newest ∷ past) = moment_of newest
+
+-- how many requests were opened
+abbrev pub count_of : List Happening → ℕ
+count_of [] = 0
+count_of (Opened r ∷ past) = suc (count_of past)
+count_of (Delivered _ _ ∷ past) = count_of past
+count_of (Sensed _ _ _ ∷ past) = count_of past
+count_of (WentDown _ ∷ past) = count_of past
+
+-- the request of this number, counted from 0 over all requesters
+abbrev pub asked_at : List Happening → ℕ → Option Asked
+asked_at [] k = None
+asked_at (Opened r ∷ past) k = if k == count_of past then Some r else asked_at past k
+asked_at (Delivered _ _ ∷ past) k = asked_at past k
+asked_at (Sensed _ _ _ ∷ past) k = asked_at past k
+asked_at (WentDown _ ∷ past) k = asked_at past k
+
+-- the message of a request as it comes to the device at a moment: its packet has the requester's own number as its tag
+abbrev pub message_at : ℕ → Asked → Message
+message_at moment r = record { source = r.source; tag = r.own % TAGS; moment = moment; bytes = r.message }
+
+-- a request that was never opened brings nothing
+abbrev pub told_of : ℕ → Option Asked → List Event → List Event
+told_of moment None events = events
+told_of moment (Some r) events = Came (message_at moment r) ∷ events
+
+-- what reached the responder
+abbrev pub told : List Happening → List Event
+told [] = []
+told (Opened r ∷ past) = told past
+told (Delivered moment k ∷ past) = told_of moment (asked_at past k) (told past)
+told (Sensed moment id value ∷ past) = Set id value ∷ told past
+told (WentDown moment ∷ past) = Restarted moment ∷ told past
+
+-- moments never go back
+abbrev pub InOrder : List Happening → Type 0
+InOrder [] = Unit {0}
+InOrder (newest ∷ past) = (last_of past ≤ moment_of newest) × InOrder past
+
+-- the other requests of r's source and instance ID were opened at least twice the keeping time before r
+abbrev pub ComesLate : ℕ → Asked → List Happening → Type 0
+ComesLate keep r past =
+    (k : ℕ) (q : Asked) → asked_at past k ≡ Some q → q.source ≡ r.source → id_at q.message ≡ id_at r.message
+    → q.opening + 2 * keep ≤ r.opening
+
+-- a source uses an instance ID again after twice the keeping time, no sooner
+abbrev pub Apart : ℕ → List Happening → Type 0
+Apart keep [] = Unit {0}
+Apart keep (Opened r ∷ past) = ComesLate keep r past × Apart keep past
+Apart keep (Delivered _ _ ∷ past) = Apart keep past
+Apart keep (Sensed _ _ _ ∷ past) = Apart keep past
+Apart keep (WentDown _ ∷ past) = Apart keep past
+
+-- each request is delivered less than the keeping time after it was opened
+abbrev pub InTime : ℕ → List Happening → Type 0
+InTime keep [] = Unit {0}
+InTime keep (Opened _ ∷ past) = InTime keep past
+InTime keep (Sensed _ _ _ ∷ past) = InTime keep past
+InTime keep (WentDown _ ∷ past) = InTime keep past
+InTime keep (Delivered moment k ∷ past) =
+    ((r : Asked) → asked_at past k ≡ Some r → moment < r.opening + keep) × InTime keep past
+
+-- all three
+pub record IsTimelyLog (keep : ℕ) (log : List Happening) : Type 0 where
+  pub order : InOrder log
+  pub apart : Apart keep log
+  pub in_time : InTime keep log

@@ -1,0 +1,105 @@
+-- The device's state and its replies where each request that arrived is performed once, at its first arrival.
+use Rattle.std.specs.Prelude.{◌≡◌, ℕ, ◌<◌, ◌≤◌, true, false, not, List, [], ◌∷◌, length, Bool, ◌&&◌, ◌==◌, Option, Some, None, Ok, if◌then◌else◌}
+use Rattle.mctp_packet.specs.declared.TheConstants.{MOST_MESSAGE_BYTES}
+use Rattle.pldm_wire.specs.Requests as requests
+use Rattle.pldm_device.specs.Changes.{changed_or}
+use Rattle.pldm_responder.specs.Events.{is_busy, is_fresh}
+use Rattle.pldm_responder.specs.Performing.{Rules, reply, next, changes, busy_reply, performed, answered}
+use Rattle.pldm_responder.specs.Arrivals.{packets_back}
+use Rattle.pldm_responder.specs.declared.outcome.Outcome.{Outcome}
+use Rattle.pldm_responder.specs.declared.outcome.Outcome.TheVariants.{Answered}
+use Rattle.mctp_schedule.specs.Logs.{Asked, Happening, Opened, Delivered, Sensed, WentDown, asked_at, message_at, told}
+use Rattle.mctp_schedule.specs.FirstArrivals.{arrives, first, is_first}
+
+-- the bytes of a request's message
+abbrev pub bytes_of : Option Asked → List ℕ
+bytes_of None = []
+bytes_of (Some r) = r.message
+
+-- the device can read these bytes as a request
+abbrev pub IsReadable : List ℕ → Type 0
+IsReadable message = (request : requests.Request) × (requests.request_of message ≡ Ok request)
+
+-- each request that was opened can be read
+abbrev pub AreRequests : List Happening → Type 0
+AreRequests [] = Unit {0}
+AreRequests (Opened r ∷ past) = IsReadable r.message × AreRequests past
+AreRequests (Delivered _ _ ∷ past) = AreRequests past
+AreRequests (Sensed _ _ _ ∷ past) = AreRequests past
+AreRequests (WentDown _ ∷ past) = AreRequests past
+
+-- packets can carry this message
+pub record FitsPackets (message : List ℕ) : Type 0 where
+  pub some : 0 < length message
+  pub few : length message ≤ MOST_MESSAGE_BYTES
+
+module _ {S : Type 0} (device : Rules S) (keep : ℕ) (start : S) where
+  -- the device's state: each request that arrived is performed once, at its first arrival, and each reading set, in order
+  abbrev pub once : List Happening → S
+  once [] = start
+  once (Opened _ ∷ past) = once past
+  once (Sensed _ id value ∷ past) = changed_or (once past) (device.sensed (once past) id value)
+  once (WentDown _ ∷ past) = once past
+  once (Delivered moment k ∷ past) =
+      if is_first keep past moment k then next device (once past) (bytes_of (asked_at past k)) else once past
+
+  abbrev pub reply_from : List ℕ → Option (List Happening) → List ℕ
+  reply_from bytes None = []
+  reply_from bytes (Some past) = reply device (once past) bytes
+
+  -- the one reply of request k: what performing it at its first arrival answers
+  abbrev pub the_reply : List Happening → ℕ → List ℕ
+  the_reply log k = reply_from (bytes_of (asked_at log k)) (first keep log k)
+
+  -- each reply that the device made fits packets: those to fresh deliveries, in the states that it was in
+  abbrev pub RepliesFit : List Happening → Type 0
+  RepliesFit [] = Unit {0}
+  RepliesFit (Opened _ ∷ past) = RepliesFit past
+  RepliesFit (Sensed _ _ _ ∷ past) = RepliesFit past
+  RepliesFit (WentDown _ ∷ past) = RepliesFit past
+  RepliesFit (Delivered moment k ∷ past) =
+      ((r : Asked) → asked_at past k ≡ Some r → is_fresh keep (told past) (message_at moment r) ≡ true
+      → FitsPackets (reply device (performed device keep start (told past)) r.message))
+      × RepliesFit past
+
+  abbrev pub answered_to : ℕ → List Happening → Option Asked → List ℕ
+  answered_to moment past None = []
+  answered_to moment past (Some r) = answered device keep start (told past) (message_at moment r)
+
+  -- the latest reply that the responder gave to request k, busy answers aside
+  abbrev pub given : List Happening → ℕ → Option (List ℕ)
+  given [] k = None
+  given (Opened _ ∷ past) k = given past k
+  given (Sensed _ _ _ ∷ past) k = given past k
+  given (WentDown _ ∷ past) k = given past k
+  given (Delivered moment j ∷ past) k =
+      if j == k && arrives (asked_at past k) (is_busy keep (told past) moment)
+      then Some (answered_to moment past (asked_at past k))
+      else given past k
+
+  abbrev pub reply_at_first : List Happening → ℕ → Option (List Happening) → Option (List ℕ)
+  reply_at_first log k None = None
+  reply_at_first log k (Some place) = Some (the_reply log k)
+
+  -- the one reply of request k, where it has arrived
+  abbrev pub given_once : List Happening → ℕ → Option (List ℕ)
+  given_once log k = reply_at_first log k (first keep log k)
+
+  -- what the responder at the endpoint `own` owes to a delivery of request k, which is r, at this moment: a busy answer of
+  -- code 4 after a restart, else the one reply, told as fresh at its first arrival and as a copy later
+  abbrev pub delivery_owed : ℕ → List Happening → ℕ → ℕ → Asked → Outcome
+  delivery_owed own past moment k r =
+      if is_busy keep (told past) moment
+      then Answered false false (packets_back own (message_at moment r) (busy_reply r.message))
+      else if is_first keep past moment k
+      then Answered true (changes device (once past) r.message) (packets_back own (message_at moment r) (the_reply (Delivered moment k ∷ past) k))
+      else Answered false false (packets_back own (message_at moment r) (the_reply (Delivered moment k ∷ past) k))
+
+-- a busy answer was given to request k
+abbrev pub was_busy : ℕ → List Happening → ℕ → Bool
+was_busy keep [] k = false
+was_busy keep (Opened _ ∷ past) k = was_busy keep past k
+was_busy keep (Sensed _ _ _ ∷ past) k = was_busy keep past k
+was_busy keep (WentDown _ ∷ past) k = was_busy keep past k
+was_busy keep (Delivered moment j ∷ past) k =
+    if j == k && arrives (asked_at past k) (not (is_busy keep (told past) moment)) then true else was_busy keep past k

@@ -1,0 +1,41 @@
+//! Laws of both ends, over the definitions alone: each function does nothing and ensures its law.
+
+ghost use Rattle.pldm_responder.specs.Performing.{rules_of};
+ghost use Rattle.mctp_schedule.specs.Laws.{LogIsTimely, ReadAsSpelled, TimelyIsTested};
+ghost use Rattle.mctp_schedule.specs.Worlds.{Setting};
+ghost use Rattle.mctp_schedule.specs.DeviceHalf.{DeliveryIsOwed, FreshInOrderOfFirsts, FreshWhereFirst, GivenIsTheReply, NoneOpenedSince, NotPerformedAgain, StateIsOnce, TheReplyFits};
+
+use pldm_device::Platform;
+
+/// Over a timely log a request's deliveries end before its instance ID is used again, each is fresh
+/// exactly where it is the first, and the fresh ones come in the order of first arrivals.
+pub fn fresh_deliveries_are_first()
+    ensures none_since { NoneOpenedSince }
+    ensures fresh { FreshWhereFirst }
+    ensures order { FreshInOrderOfFirsts }
+{}
+
+/// Over a timely log the responder's state is that of performing each request once, at its first
+/// arrival, and all deliveries of a request while the responder serves get its one reply.
+pub fn performs_once<P: Platform>()
+    ensures state { StateIsOnce (rules_of P.answer P.after P.sensed) }
+    ensures not_again { NotPerformedAgain (rules_of P.answer P.after P.sensed) }
+    ensures delivery { DeliveryIsOwed (rules_of P.answer P.after P.sensed) }
+    ensures given { GivenIsTheReply (rules_of P.answer P.after P.sensed) }
+    ensures fits { TheReplyFits (rules_of P.answer P.after P.sensed) }
+{}
+
+/// A line of a schedule is read as something exactly where its words spell that.
+pub fn lines_are_read_as_spelled()
+    ensures { ReadAsSpelled }
+{}
+
+/// Over a timely schedule the log of what happened on the link is timely, so the laws of
+/// [`fresh_deliveries_are_first`] and [`performs_once`] hold of it; and the test of a timely schedule
+/// tells just that.
+pub fn logs_are_timely<P: Platform>()
+    ensures log { (setting : Setting P.State) → LogIsTimely setting }
+    ensures tested { (setting : Setting P.State) → TimelyIsTested setting }
+{
+    pldm_requester::laws::instance_ids_are_apart();
+}

@@ -1,0 +1,417 @@
+-- What a requester holds and answers is what looking back over the list of its calls says.
+use Rattle.std.specs.FinMap as map
+use Rattle.std.proofs.Common.{◌≡◌, ◌⊎◌, ℕ, zero, suc, ◌+◌, ◌-◌, ◌*◌, ◌%◌, ◌<◌, ◌≤◌, Bool, true, false, cond, List, [], ◌∷◌, ◌++◌, length, Option, Some, None, Result, Ok, Err, refl, sym, ap, ◌∙◌, subst, inl, inr, ⊎_elim, arith, lit≤, eq-eqb}
+use Rattle.std.specs.Prelude.{◌&&◌, ◌==◌, not, nat_lt, nat_le, filter, option_map, is_some, if◌then◌else◌}
+use Rattle.std.specs.List.{range_with_len}
+use Rattle.std.proofs.lemmas.Bool.{and_left, and_right, and_from, cases_Bool, cases_eq, cases_lt, cond-true, cond-false, ne_eqb, leb-true, le-ltb}
+use Rattle.std.proofs.lemmas.List.FromFn.{length-range_with_len}
+use Rattle.std.proofs.lemmas.List.Sums.{length-filter, count_by-le-length}
+use Rattle.mctp_packet.specs.Packets.{Packet}
+use Rattle.mctp_packet.specs.Passing.{passing, where_expected}
+use Rattle.mctp_packet.specs.Reading.{reading, packet_of, unless}
+use Rattle.mctp_packet.specs.Refusals.{refusal}
+use Rattle.mctp_packet.specs.declared.reason.Reason.{Reason}
+use Rattle.mctp_packet.specs.declared.reason.Reason.TheVariants.{BadTag, NotMine, NotReady}
+use Rattle.mctp_packet.specs.declared.TheConstants.{MOST_PACKETS}
+use Rattle.mctp_assembly.specs.Histories as histories
+use Rattle.mctp_assembly.specs.Laws as assembly
+use Rattle.mctp_assembly.specs.Rows as rows
+use Rattle.mctp_assembly.specs.Steps as assembling
+use Rattle.mctp_assembly.specs.Keys.{key_of}
+use Rattle.mctp_assembly.specs.declared.fed.Fed.{Fed}
+use Rattle.mctp_assembly.specs.declared.fed.Fed.TheVariants as feds
+use Rattle.pldm_wire.specs.Commands.{kind_of}
+use Rattle.pldm_wire.specs.Responses.{Response, response_of}
+use Rattle.pldm_wire.specs.declared.command.Command.{Command}
+use Rattle.pldm_requester.specs.Arrivals.{Arrival, Drop, Part, Answer, got_of, is_response_to, response_arrival, fed_arrival, packet_arrival, passed_arrival}
+use Rattle.pldm_requester.specs.Calls as calls
+use Rattle.pldm_requester.specs.Calls.{Call, Open, Tick, Receive, Request, Requests, new_request, put, opened, with_request, is_open_at, open_answer, open_on, answer_key, is_from_device, numbers_of, ticked_request, fed_by, answered_by, requests, last_moment, with_packet, assembled}
+use Rattle.pldm_requester.specs.Courses.{Course, is_open, begun, is_given_up, is_sent_again, ticked, answered}
+use Rattle.pldm_requester.specs.Laws.{memo_of, memo_at, IsLeftBy, OpenLooksBack, TickLooksBack, ReceiveLooksBack, NewLooksBack, SameIsLeft, FewAreOpen}
+use Rattle.pldm_requester.specs.Numbering.{tag_of, packets_of}
+use Rattle.pldm_requester.specs.Steps as steps
+use Rattle.pldm_requester.specs.Steps.{Memo, Held, IsHeld, is_recent, passes, with_course, latest_on, where_open, recent_numbers, is_mine_by, open_after, opened_held, opening_answer, again_at, given_up_at, ticked_held, arrived_by, remembered_after, got_at, held_by, received_held}
+use Rattle.pldm_requester.specs.declared.timing.Timing.{Timing}
+use Rattle.pldm_requester.proofs.SlotLists.{recent_parts, recent_from}
+use Rattle.pldm_requester.proofs.OpenRequests.{put_here, put_other, put_keeps, Recent, within, recent, given_up_open, sent_again_open, came_course, came_command, came_count, came_by, came_by_count, answered_count}
+use Rattle.pldm_requester.proofs.TagSearch.{latest_is}
+use Rattle.pldm_requester.proofs.FedPackets.{expected, ComesTo, comes_to, goes_where, fed_since}
+
+-- ---- what is remembered
+module _ (own device : ℕ) (a : Requests) where
+  memo_there : (n : ℕ) → is_recent a.count n ≡ true → memo_at own device a n ≡ Some (memo_of own device a n)
+  memo_there n e = cond-true (is_recent a.count n) _ _ e
+
+  -- a test that only open requests pass is told by what is remembered
+  passes_is : (test : Course → Bool) → ((course : Course) → test course ≡ true → is_open course ≡ true) → Recent a → (n : ℕ) → passes test (memo_at own device a n) ≡ test (a.each n).course
+  passes_is test opens f n = go (is_recent a.count n) refl
+    where
+      shut : is_recent a.count n ≡ false → (test (a.each n).course ≡ true) ⊎ (test (a.each n).course ≡ false) → false ≡ test (a.each n).course
+      shut old (inl e) =
+          let b = within a n f (opens (a.each n).course e) in
+          let wrong : true ≡ false = sym (recent_from a.count n b.0 (omega (arith, b.1))) ∙ old in
+          absurd (cc)
+      shut old (inr e) = sym e
+
+      go : (b : Bool) → is_recent a.count n ≡ b → passes test (cond b (Some (memo_of own device a n)) None) ≡ test (a.each n).course
+      go true r = refl
+      go false r = shut r (cases_Bool (test (a.each n).course))
+
+  open_in_is : Recent a → (n : ℕ) → passes is_open (memo_at own device a n) ≡ is_open_at a n
+  open_in_is f n = passes_is is_open (λ course e. e) f n
+
+-- ---- the numbers that pass
+filter_past : (test : ℕ → Bool) (start n m : ℕ) → ((k : ℕ) → k < start + n → test k ≡ false) → filter test (range_with_len start (n + m)) ≡ filter test (range_with_len (start + n) m)
+filter_past test start zero m shut =
+    let none : 0 + m ≡ m = omega arith in
+    let here : start ≡ start + 0 = omega arith in
+    ap (λ k. filter test (range_with_len start k)) none ∙ ap (λ k. filter test (range_with_len k m)) here
+filter_past test start (suc n) m shut =
+    let more : suc n + m ≡ suc (n + m) = omega arith in
+    let next : start + 1 + n ≡ start + suc n = omega arith in
+    ap (λ k. filter test (range_with_len start k)) more
+    ∙ cond-false (test start) (start ∷ filter test (range_with_len (start + 1) (n + m))) (filter test (range_with_len (start + 1) (n + m))) (shut start (omega arith))
+    ∙ filter_past test (start + 1) n m (λ k l. shut k (omega arith))
+    ∙ ap (λ k. filter test (range_with_len k m)) next
+
+filter_recent : (test : ℕ → Bool) (count : ℕ) → ((n : ℕ) → n + 8 < count → test n ≡ false) → filter test (recent_numbers count) ≡ filter test (range_with_len 0 count)
+filter_recent test count shut =
+    let all : count ≡ (count - 8) + (count - (count - 8)) = omega arith in
+    let none : 0 + (count - 8) ≡ count - 8 = omega arith in
+    sym (
+    ap (λ k. filter test (range_with_len 0 k)) all
+    ∙ filter_past test 0 (count - 8) (count - (count - 8)) (λ k l. shut k (omega arith))
+    ∙ ap (λ k. filter test (range_with_len k (count - (count - 8)))) none)
+
+numbers_is : (own device : ℕ) (a : Requests) (test : Course → Bool) → ((course : Course) → test course ≡ true → is_open course ≡ true) → Recent a
+    → filter (λ n. passes test (memo_at own device a n)) (recent_numbers a.count) ≡ numbers_of test a
+numbers_is own device a test opens f =
+    (λ i. filter (λ n. passes_is own device a test opens f n i) (recent_numbers a.count))
+    ∙ filter_recent (λ n. test (a.each n).course) a.count (λ n l. shut n (f.closed n l) (cases_Bool (test (a.each n).course)))
+  where
+    shut : (n : ℕ) → is_open_at a n ≡ false → (test (a.each n).course ≡ true) ⊎ (test (a.each n).course ≡ false) → test (a.each n).course ≡ false
+    shut n closed (inl e) = let wrong : true ≡ false = sym (opens (a.each n).course e) ∙ closed in absurd (cc)
+    shut n closed (inr e) = e
+
+pub few_are_open : FewAreOpen
+few_are_open own device timing before =
+    let a = requests own device timing before in
+    let f = recent own device timing before in
+    let same = filter_recent (λ n. is_open (a.each n).course) a.count f.closed in
+    let all = length-filter (λ n. is_open (a.each n).course) (recent_numbers a.count) in
+    let some = count_by-le-length (λ n. is_open (a.each n).course) (recent_numbers a.count) in
+    let long = length-range_with_len (a.count - 8) (a.count - (a.count - 8)) in
+    subst (λ xs. length xs ≤ 8) same (omega (arith, all, some, long))
+
+-- ---- what these requests leave, with any open messages and last moment
+module _ (own device : ℕ) (timing : Timing) where
+  abbrev left_by : assembling.Held → ℕ → Requests → Held
+  left_by open_messages last a = record {
+    own = own;
+    device = device;
+    timing = timing;
+    count = a.count;
+    remembered = memo_at own device a;
+    open_messages = open_messages;
+    last = last;
+  }
+
+  held_is : (held : Held) (before : List Call) → IsLeftBy own device timing held before → held ≡ left_by held.open_messages held.last (requests own device timing before)
+  held_is held before left =
+      λ i. record {
+        own = left.endpoint i;
+        device = left.peer i;
+        timing = left.times i;
+        count = left.count i;
+        remembered = λ n. left.remembered n i;
+        open_messages = held.open_messages;
+        last = held.last;
+      }
+
+  record Leaves (held : Held) (a : Requests) (packets : List histories.Call) (moment : ℕ) : Type 0 where
+    endpoint : held.own ≡ own
+    peer : held.device ≡ device
+    times : held.timing ≡ timing
+    count : held.count ≡ a.count
+    remembered : (n : ℕ) → held.remembered n ≡ memo_at own device a n
+    open_messages : histories.IsLeftBy held.open_messages packets
+    last : held.last ≡ moment
+
+  leaves_calls : (held : Held) (before : List Call) → Leaves held (requests own device timing before) (assembled own device timing before) (last_moment own device timing before) → IsLeftBy own device timing held before
+  leaves_calls held before l = record {
+    endpoint = l.endpoint;
+    peer = l.peer;
+    times = l.times;
+    count = l.count;
+    remembered = l.remembered;
+    open_messages = l.open_messages;
+    last = l.last;
+  }
+
+  -- ---- an open
+  tag_is : (open_messages : assembling.Held) (last : ℕ) (a : Requests) → Recent a → steps.is_tag_in_use (left_by open_messages last a) ≡ calls.is_tag_in_use a
+  tag_is open_messages last a f = ap (λ b. nat_le 8 a.count && b) (open_in_is own device a f (a.count - 8))
+
+  id_is : (open_messages : assembling.Held) (last : ℕ) (a : Requests) (moment : ℕ) → steps.is_id_in_use (left_by open_messages last a) moment ≡ calls.is_id_in_use timing.keep a moment
+  id_is open_messages last a moment = go (nat_le 32 a.count) refl
+    where
+      go : (b : Bool) → nat_le 32 a.count ≡ b
+          → (b && passes (λ course. nat_lt moment (course.opening + 2 * timing.keep)) (memo_at own device a (a.count - 32))) ≡ (b && nat_lt moment ((a.each (a.count - 32)).course.opening + 2 * timing.keep))
+      go true e =
+          let many = leb-true 32 a.count e in
+          ap (passes (λ course. nat_lt moment (course.opening + 2 * timing.keep))) (memo_there own device a (a.count - 32) (recent_from a.count (a.count - 32) (omega arith) (omega arith)))
+      go false e = refl
+
+  answer_is : (open_messages : assembling.Held) (last : ℕ) (a : Requests) (moment : ℕ) → Recent a
+      → opening_answer (left_by open_messages last a) moment ≡ open_answer (calls.is_tag_in_use a) (calls.is_id_in_use timing.keep a moment) a.count
+  answer_is open_messages last a moment f = λ i. open_answer (tag_is open_messages last a f i) (id_is open_messages last a moment i) a.count
+
+  accepts_is : (open_messages : assembling.Held) (last : ℕ) (a : Requests) (moment : ℕ) → Recent a → steps.accepts (left_by open_messages last a) moment ≡ calls.accepts timing.keep a moment
+  accepts_is open_messages last a moment f = λ i. not (tag_is open_messages last a f i) && not (id_is open_messages last a moment i)
+
+  memo_opened : (a : Requests) (moment : ℕ) (command : Command) (n : ℕ) (new : Memo) → new ≡ memo_of own device (opened a moment command) a.count
+      → cond (n == a.count) (Some new) (cond (is_recent (a.count + 1) n) (memo_at own device a n) None) ≡ memo_at own device (opened a moment command) n
+  memo_opened a moment command n new is = go (cases_eq n a.count) (is_recent (suc a.count) n) refl
+    where
+      one : a.count + 1 ≡ suc a.count
+      one = omega arith
+
+      go : (n ≡ a.count) ⊎ (n ≡ a.count → ⊥) → (t : Bool) → is_recent (suc a.count) n ≡ t
+          → cond (n == a.count) (Some new) (cond (is_recent (a.count + 1) n) (memo_at own device a n) None) ≡ cond t (Some (memo_of own device (opened a moment command) n)) None
+      go (inl same) true r =
+          cond-true (n == a.count) _ _ (eq-eqb n a.count same) ∙ ap Some (is ∙ ap (memo_of own device (opened a moment command)) (sym same))
+      go (inl same) false r =
+          let here : is_recent (suc a.count) n ≡ true = recent_from (suc a.count) n (omega arith) (omega arith) in absurd (cc)
+      go (inr other) true r =
+          let p = recent_parts (suc a.count) n r in
+          cond-false (n == a.count) _ _ (ne_eqb n a.count other)
+          ∙ ap (λ k. cond (is_recent k n) (memo_at own device a n) None) one
+          ∙ cond-true (is_recent (suc a.count) n) _ _ r
+          ∙ memo_there own device a n (recent_from a.count n (omega (arith, p.0, other)) (omega (arith, p.1)))
+          ∙ ap (λ (x : Request). Some (record { kind = kind_of x.command; packets = packets_of own device n x.command; course = x.course })) (sym (put_other a.each a.count (new_request moment command) n other))
+      go (inr other) false r =
+          cond-false (n == a.count) _ _ (ne_eqb n a.count other)
+          ∙ ap (λ k. cond (is_recent k n) (memo_at own device a n) None) one
+          ∙ cond-false (is_recent (suc a.count) n) _ _ r
+
+  opened_leaves : (looks : assembly.ForgetLooksBack) (open_messages : assembling.Held) (last : ℕ) (a : Requests) (packets : List histories.Call) (moment : ℕ) (command : Command) → histories.IsLeftBy open_messages packets
+      → Leaves (opened_held (left_by open_messages last a) moment command) (opened a moment command) (histories.forget (answer_key device (tag_of a.count)) ∷ packets) moment
+  opened_leaves looks open_messages last a packets moment command left = record {
+    endpoint = refl;
+    peer = refl;
+    times = refl;
+    count = omega arith;
+    remembered = λ n. memo_opened a moment command n _ (ap (λ (x : Request). record { kind = kind_of x.command; packets = packets_of own device a.count x.command; course = x.course }) (sym (put_here a.each a.count (new_request moment command) a.count refl)));
+    open_messages = looks MOST_PACKETS open_messages packets (answer_key device (tag_of a.count)) left;
+    last = refl;
+  }
+
+  -- ---- a tick
+  abbrev memo_from : ℕ → Command → Course → ℕ → Option Memo
+  memo_from count command course n =
+      if is_recent count n then Some (record { kind = kind_of command; packets = packets_of own device n command; course = course }) else None
+
+  map_from : (count : ℕ) (command : Command) (course : Course) (change : Course → Course) (n : ℕ) → option_map (with_course change) (memo_from count command course n) ≡ memo_from count command (change course) n
+  map_from count command course change n = go (is_recent count n)
+    where
+      go : (b : Bool) → option_map (with_course change) (if b then Some (record { kind = kind_of command; packets = packets_of own device n command; course = course }) else None)
+          ≡ (if b then Some (record { kind = kind_of command; packets = packets_of own device n command; course = change course }) else None)
+      go true = refl
+      go false = refl
+
+  memo_same : (a b : Requests) (n : ℕ) → a.count ≡ b.count → (a.each n).command ≡ (b.each n).command → (a.each n).course ≡ (b.each n).course → memo_at own device a n ≡ memo_at own device b n
+  memo_same a b n count command course = λ i. memo_from (count i) (command i) (course i) n
+
+  memo_changed : (a b : Requests) (change : Course → Course) (n : ℕ) → a.count ≡ b.count → (a.each n).command ≡ (b.each n).command → change (a.each n).course ≡ (b.each n).course
+      → option_map (with_course change) (memo_at own device a n) ≡ memo_at own device b n
+  memo_changed a b change n count command course =
+      map_from a.count (a.each n).command (a.each n).course change n ∙ (λ i. memo_from (count i) (command i) (course i) n)
+
+  tick_leaves : (open_messages : assembling.Held) (last : ℕ) (a : Requests) (packets : List histories.Call) (moment : ℕ) → histories.IsLeftBy open_messages packets
+      → Leaves (ticked_held (left_by open_messages last a) moment) (record { count = a.count; each = λ n. ticked_request own device timing moment (a.each n) }) packets moment
+  tick_leaves open_messages last a packets moment left = record {
+    endpoint = refl;
+    peer = refl;
+    times = refl;
+    count = refl;
+    remembered = λ n. memo_changed a (record { count = a.count; each = λ k. ticked_request own device timing moment (a.each k) }) (ticked timing moment) n refl refl refl;
+    open_messages = left;
+    last = refl;
+  }
+
+  -- ---- a packet
+  goes_is : (open_messages : assembling.Held) (last : ℕ) (a : Requests) → Recent a → (p : Packet) → p.route.tag < 8 → steps.goes_to (left_by open_messages last a) p ≡ calls.goes_to own device timing a p
+  goes_is open_messages last a f p small =
+      ap (λ o. if is_from_device device p then o else None) ((λ i. where_open (λ n. open_in_is own device a f n i) (latest_on a.count p.route.tag)) ∙ latest_is (is_open_at a) a.count f.closed p.route.tag small)
+
+  passed_is : (open_messages : assembling.Held) (last : ℕ) (a : Requests) → Recent a → (read : Result Packet Reason) → ((p : Packet) → read ≡ Ok p → p.route.tag < 8)
+      → where_expected (steps.expects (left_by open_messages last a)) read ≡ where_expected (λ p. is_some (calls.goes_to own device timing a p)) read
+  passed_is open_messages last a f (Err reason) small = refl
+  passed_is open_messages last a f (Ok p) small = ap (λ o. if is_some o then Ok p else Err BadTag) (goes_is open_messages last a f p (small p refl))
+
+  response_same : (mine other : ℕ → Response → Bool) (n : ℕ) (message : List ℕ) (read : Result Response Reason) → ((response : Response) → mine n response ≡ other n response) → response_arrival mine n message read ≡ response_arrival other n message read
+  response_same mine other n message (Err reason) same = refl
+  response_same mine other n message (Ok response) same = ap (λ b. if not b then Drop NotMine else (if response.code == 4 then Drop NotReady else Answer n message)) (same response)
+
+  fed_same : (mine other : ℕ → Response → Bool) (n : ℕ) (fed : Fed) → ((response : Response) → mine n response ≡ other n response) → fed_arrival mine n fed ≡ fed_arrival other n fed
+  fed_same mine other n (feds.Whole body) same = response_same mine other n body.items (response_of body.items) same
+  fed_same mine other n feds.Partial same = refl
+  fed_same mine other n (feds.Dropped reason) same = refl
+
+  module _ (looks : assembly.FeedLooksBack) (open_messages : assembling.Held) (last : ℕ) (before : List Call) (left : histories.IsLeftBy open_messages (assembled own device timing before)) where
+    abbrev now : Requests
+    now = requests own device timing before
+
+    abbrev Goes : Packet → Type 0
+    Goes p = (p.route.tag < 8) × ((n : ℕ) × (calls.goes_to own device timing now p ≡ Some n))
+
+    arrived_is : (read : Result Packet Reason) → ((p : Packet) → read ≡ Ok p → Goes p)
+        → arrived_by (left_by open_messages last now) read ≡ passed_arrival (calls.goes_to own device timing now) (calls.gives own device timing now) (calls.is_mine own device timing now) read
+    arrived_is (Err reason) goes = refl
+    arrived_is (Ok p) goes =
+        let at = goes p refl in
+        let n = at.1.0 in
+        let comes = comes_to own device timing now p n at.1.1 in
+        let near = within now n (recent own device timing before) comes.is_open in
+        let memo = memo_there own device now n (recent_from now.count n near.0 (omega (arith, near.1))) in
+        let gives = (looks MOST_PACKETS open_messages (assembled own device timing before) p (lit≤ tt) left).0 ∙ ap (λ packets. rows.next packets p) (ap (λ key. histories.since key (assembled own device timing before)) comes.key ∙ fed_since own device timing before n comes.is_open) in
+        ap (λ o. packet_arrival (steps.goes_to (left_by open_messages last now)) (λ number q. assembling.answer open_messages q) (steps.is_mine (left_by open_messages last now)) o p) (goes_is open_messages last now (recent own device timing before) p at.0 ∙ at.1.1)
+        ∙ ap (fed_arrival (steps.is_mine (left_by open_messages last now)) n) gives
+        ∙ fed_same (steps.is_mine (left_by open_messages last now)) (calls.is_mine own device timing now) n (calls.gives own device timing now n p) (λ response. ap (λ o. is_mine_by n o response) memo)
+        ∙ sym (ap (λ o. packet_arrival (calls.goes_to own device timing now) (calls.gives own device timing now) (calls.is_mine own device timing now) o p) at.1.1)
+
+    remembered_is : (read : Result Packet Reason) (arrival : Arrival) (k : ℕ)
+        → remembered_after (left_by open_messages last now) arrival k ≡ memo_at own device (answered_by own device timing (fed_by own device timing now read) arrival) k
+    remembered_is read (Drop reason) k = memo_same now (fed_by own device timing now read) k (sym (came_count own device timing now read)) (sym (came_command own device timing now read k)) (sym (came_course own device timing now read k))
+    remembered_is read Part k = memo_same now (fed_by own device timing now read) k (sym (came_count own device timing now read)) (sym (came_command own device timing now read k)) (sym (came_course own device timing now read k))
+    remembered_is read (Answer n message) k = go (cases_eq k n)
+      where
+        after : Requests
+        after = answered_by own device timing (fed_by own device timing now read) (Answer n message)
+
+        go : (k ≡ n) ⊎ (k ≡ n → ⊥) → cond (k == n) (option_map (with_course (answered message)) (memo_at own device now k)) (memo_at own device now k) ≡ memo_at own device (answered_by own device timing (fed_by own device timing now read) (Answer n message)) k
+        go (inl same) =
+            let here = put_here (fed_by own device timing now read).each n (record { command = ((fed_by own device timing now read).each n).command; course = answered message ((fed_by own device timing now read).each n).course; fed = ((fed_by own device timing now read).each n).fed }) k same in
+            cond-true (k == n) _ _ (eq-eqb k n same)
+            ∙ memo_changed now (answered_by own device timing (fed_by own device timing now read) (Answer n message)) (answered message) k (sym (came_count own device timing now read))
+            (sym (ap (λ (r : Request). r.command) here ∙ came_command own device timing now read n ∙ ap (λ i. (now.each i).command) (sym same)))
+            (sym (ap (λ (r : Request). r.course) here ∙ ap (answered message) (came_course own device timing now read n ∙ ap (λ i. (now.each i).course) (sym same))))
+        go (inr other) =
+            let there = put_other (fed_by own device timing now read).each n (record { command = ((fed_by own device timing now read).each n).command; course = answered message ((fed_by own device timing now read).each n).course; fed = ((fed_by own device timing now read).each n).fed }) k other in
+            cond-false (k == n) _ _ (ne_eqb k n other)
+            ∙ memo_same now (answered_by own device timing (fed_by own device timing now read) (Answer n message)) k (sym (came_count own device timing now read))
+            (sym (ap (λ (r : Request). r.command) there ∙ came_command own device timing now read k))
+            (sym (ap (λ (r : Request). r.course) there ∙ came_course own device timing now read k))
+
+    opens_is : (read : Result Packet Reason) → histories.IsLeftBy (open_after open_messages read) (with_packet own device timing read (assembled own device timing before))
+    opens_is (Err reason) = left
+    opens_is (Ok p) = (looks MOST_PACKETS open_messages (assembled own device timing before) p (lit≤ tt) left).1
+
+    came_leaves : (read : Result Packet Reason) (moment : ℕ) → ((p : Packet) → read ≡ Ok p → Goes p)
+        → Leaves (record (held_by (left_by open_messages last now) read) { last = moment }) (came_by own device timing now read) (with_packet own device timing read (assembled own device timing before)) moment
+    came_leaves read moment goes = record {
+      endpoint = refl;
+      peer = refl;
+      times = refl;
+      count = sym (came_by_count own device timing now read);
+      remembered = λ k. ap (λ arrival. remembered_after (left_by open_messages last now) arrival k) (arrived_is read goes)
+          ∙ remembered_is read (passed_arrival (calls.goes_to own device timing now) (calls.gives own device timing now) (calls.is_mine own device timing now) read) k;
+      open_messages = opens_is read;
+      last = refl;
+    }
+
+  calls_leave : (held : Held) (before : List Call) → IsLeftBy own device timing held before → Leaves held (requests own device timing before) (assembled own device timing before) (last_moment own device timing before)
+  calls_leave held before left = record {
+    endpoint = left.endpoint;
+    peer = left.peer;
+    times = left.times;
+    count = left.count;
+    remembered = left.remembered;
+    open_messages = left.open_messages;
+    last = left.last;
+  }
+
+  -- an open that is accepted, or not
+  module _ (held : Held) (before : List Call) (moment : ℕ) (command : Command) where
+    abbrev requests_by : Bool → Requests
+    requests_by b = cond b (opened (requests own device timing before) moment command) (requests own device timing before)
+
+    abbrev packets_by : Bool → List histories.Call
+    packets_by b = cond b (histories.forget (answer_key device (tag_of (requests own device timing before).count)) ∷ assembled own device timing before) (assembled own device timing before)
+
+    abbrev last_by : Bool → ℕ
+    last_by b = cond b moment (last_moment own device timing before)
+
+    open_leaves : (b : Bool) → calls.accepts timing.keep (requests own device timing before) moment ≡ b → Leaves held (requests_by b) (packets_by b) (last_by b) → IsLeftBy own device timing held (Open moment command ∷ before)
+    open_leaves b is l = leaves_calls held (Open moment command ∷ before) (subst (λ t. Leaves held (requests_by t) (packets_by t) (last_by t)) (sym is) l)
+
+pub open_looks_back : assembly.ForgetLooksBack → OpenLooksBack
+open_looks_back looks own device timing held before moment command left =
+    let a = requests own device timing before in
+    let f = recent own device timing before in
+    let same = held_is own device timing held before left in
+    let accepted = ap (λ h. steps.accepts h moment) same ∙ accepts_is own device timing held.open_messages held.last a moment f in (
+      ap (λ h. opening_answer h moment) same ∙ answer_is own device timing held.open_messages held.last a moment f,
+      accepted,
+      λ ok. subst (λ h. IsLeftBy own device timing (opened_held h moment command) (Open moment command ∷ before)) (sym same)
+          (open_leaves own device timing (opened_held (left_by own device timing held.open_messages held.last a) moment command) before moment command true (sym accepted ∙ ok) (opened_leaves own device timing looks held.open_messages held.last a (assembled own device timing before) moment command left.open_messages)),
+      λ refused. open_leaves own device timing held before moment command false (sym accepted ∙ refused) (calls_leave own device timing held before left),
+    )
+
+pub tick_looks_back : TickLooksBack
+tick_looks_back own device timing held before moment left =
+    let a = requests own device timing before in
+    let f = recent own device timing before in
+    let same = held_is own device timing held before left in (
+      ap (λ h. again_at h moment) same ∙ numbers_is own device a (is_sent_again timing moment) (sent_again_open timing moment) f,
+      ap (λ h. given_up_at h moment) same ∙ numbers_is own device a (is_given_up timing moment) (given_up_open timing moment) f,
+      subst (λ h. IsLeftBy own device timing (ticked_held h moment) (Tick moment ∷ before)) (sym same)
+          (leaves_calls own device timing (ticked_held (left_by own device timing held.open_messages held.last a) moment) (Tick moment ∷ before) (tick_leaves own device timing held.open_messages held.last a (assembled own device timing before) moment left.open_messages)),
+    )
+
+-- a packet that is read has a tag
+tag_by : (o : Option Reason) (q p : Packet) → q.route.tag < 8 → unless o q ≡ Ok p → p.route.tag < 8
+tag_by None q p small e = let same : q ≡ p = cc in subst (λ (x : Packet). x.route.tag < 8) same small
+tag_by (Some reason) q p small e = absurd (cc)
+
+read_tag : (own : ℕ) (bytes : List ℕ) (p : Packet) → reading (Some own) bytes ≡ Ok p → p.route.tag < 8
+read_tag own bytes p e = tag_by (refusal (Some own) bytes) (packet_of bytes) p (omega arith) e
+
+pub receive_looks_back : assembly.FeedLooksBack → ReceiveLooksBack
+receive_looks_back looks own device timing held before moment bytes left =
+    let a = requests own device timing before in
+    let f = recent own device timing before in
+    let same = held_is own device timing held before left in
+    let read = calls.passed own device timing a bytes in
+    let goes : (p : Packet) → read ≡ Ok p → (p.route.tag < 8) × ((n : ℕ) × (calls.goes_to own device timing a p ≡ Some n)) =
+    λ p e. (read_tag own bytes p (expected (λ q. is_some (calls.goes_to own device timing a q)) (reading (Some own) bytes) p e).1, goes_where own device timing a bytes p e) in
+    let passed = passed_is own device timing held.open_messages held.last a f (reading (Some own) bytes) (read_tag own bytes) in
+    let h0 = left_by own device timing held.open_messages held.last a in (
+      ap (λ h. got_at h bytes) same ∙ ap (λ r. got_of (arrived_by h0 r)) passed ∙ ap got_of (arrived_is own device timing looks held.open_messages held.last before left.open_messages read goes),
+      subst (λ h. IsLeftBy own device timing (received_held h moment bytes) (Receive moment bytes ∷ before)) (sym same)
+          (leaves_calls own device timing (received_held h0 moment bytes) (Receive moment bytes ∷ before)
+          (subst (λ r. Leaves own device timing (record (held_by h0 r) { last = moment }) (came_by own device timing a read) (with_packet own device timing read (assembled own device timing before)) moment) (sym passed)
+          (came_leaves own device timing looks held.open_messages held.last before left.open_messages read moment goes))),
+    )
+
+pub new_looks_back : assembly.NewLooksBack → NewLooksBack
+new_looks_back looks own device timing = record {
+  endpoint = refl;
+  peer = refl;
+  times = refl;
+  count = refl;
+  remembered = λ n. sym (cond-false (is_recent 0 n) _ _ (and_left (nat_lt n 0) _ (le-ltb n 0 (omega arith))));
+  open_messages = looks MOST_PACKETS;
+  last = refl;
+}
+
+pub same_is_left : SameIsLeft
+same_is_left own device timing new held before same left = record {
+  endpoint = same.own ∙ left.endpoint;
+  peer = same.device ∙ left.peer;
+  times = same.timing ∙ left.times;
+  count = same.count ∙ left.count;
+  remembered = λ n. same.remembered n ∙ left.remembered n;
+  open_messages = subst (λ x. histories.IsLeftBy x (assembled own device timing before)) (sym same.open_messages) left.open_messages;
+  last = same.last ∙ left.last;
+}

@@ -1,0 +1,124 @@
+-- What a requester holds once a slot was written: a request was answered, or one more was opened.
+use Rattle.std.specs.FinMap as map
+use Rattle.std.proofs.Common.{◌≡◌, ◌⊎◌, ℕ, ◌+◌, ◌-◌, ◌*◌, ◌%◌, ◌<◌, ◌≤◌, Bool, true, false, cond, not, List, [], ◌∷◌, ◌++◌, length, Option, Some, None, Result, Ok, Err, refl, sym, ap, ◌∙◌, subst, inl, inr, arith, eq-eqb, eqb-true}
+use Rattle.std.specs.Prelude.{◌&&◌, ◌==◌, filter, option_map, slice_get, slice_set, slice_index_or, IfSome}
+use Rattle.std.specs.List.{range_with_len}
+use Rattle.std.proofs.lemmas.Bool.{cond-true, cond-false, not-true, cases_eq, ne_eqb}
+use Rattle.std.proofs.lemmas.List.{map-id}
+use Rattle.std.proofs.lemmas.List.FromFn.{filter_of_map_range_with_len_more}
+use Rattle.std.proofs.lemmas.Option.{cond_some, slice_get_within, get_or_from_slice_get}
+use Rattle.mctp_packet.specs.declared.reason.Reason.{Reason}
+use Rattle.mctp_packet.specs.declared.reason.Reason.TheVariants.{NotMine, NotReady}
+use Rattle.mctp_packet.specs.Pieces.{written_packets}
+use Rattle.mctp_assembly.specs.Steps as assembly
+use Rattle.pldm_wire.specs.Commands.{kind_of, command_message}
+use Rattle.pldm_wire.specs.Kinds.{TypeAndCommand}
+use Rattle.pldm_wire.specs.Responses.{Response, response_of}
+use Rattle.pldm_wire.specs.declared.command.Command.{Command}
+use Rattle.pldm_requester.specs.Arrivals.{Arrival, Drop, Part, Answer, response_arrival}
+use Rattle.pldm_requester.specs.Calls.{answer_key}
+use Rattle.pldm_requester.specs.Courses.{begun, answered}
+use Rattle.pldm_requester.specs.Numbering.{id_of, tag_of}
+use Rattle.pldm_requester.specs.Steps.{Memo, Held, IsHeld, is_recent, is_mine, is_mine_by, with_course, remembered_after, opened_held, new_memo}
+use Rattle.pldm_requester.specs.Slots.{Station, held_of, remembered_in, put_slot, AreSlots, IsPaced, IsStation, most_opened}
+use Rattle.pldm_requester.proofs.SlotLists.{recent_parts, remembered_parts, remembered_in-set, remembered_in-put, AreSlots-put}
+
+-- ---- a response of its own that says nothing of NotReady answers its request
+pub is_answer : (mine : ℕ → Response → Bool) (number : ℕ) (message : List ℕ) (read : Result Response Reason) (response : Response) → read ≡ Ok response → mine number response ≡ true → (response.code ≡ 4 → ⊥)
+    → response_arrival mine number message read ≡ Answer number message
+is_answer mine number message read response e is other =
+    ap (response_arrival mine number message) e
+    ∙ ap (λ b. cond (not b) (Drop NotMine) (cond (response.code == 4) (Drop NotReady) (Answer number message))) is
+    ∙ cond-false (response.code == 4) _ _ (ne_eqb response.code 4 other)
+
+memo_of_mine : (number : ℕ) (o : Option Memo) (response : Response) → is_mine_by number o response ≡ true → (memo : Memo) × (o ≡ Some memo)
+memo_of_mine number None response h = cc
+memo_of_mine number (Some memo) response h = (memo, refl)
+
+either_map : (b : Bool) (f : Memo → Memo) (memo : Memo) (o : Option Memo) → (b ≡ true → o ≡ Some memo) → cond b (Some (f memo)) o ≡ cond b (option_map f o) o
+either_map true f memo o h = ap (option_map f) (sym (h refl))
+either_map false f memo o h = refl
+
+pub answered_held : (station : Station) (number : ℕ) (message : List ℕ) (response : Response) (memo seen : Memo)
+    → response_of message ≡ Ok response → is_mine (held_of station) number response ≡ true → (response.code ≡ 4 → ⊥)
+    → memo ≡ seen → seen ≡ slice_index_or station.slots (number % 32) seen
+    → IsHeld (held_of (record station { slots = slice_set station.slots (number % 32) (with_course (answered message) memo) }))
+    (record (held_of station) { remembered = remembered_after (held_of station) (response_arrival (is_mine (held_of station)) number message (response_of message)) })
+answered_held station number message response memo seen read mine other same at = record {
+  own = refl;
+  device = refl;
+  timing = refl;
+  count = refl;
+  remembered = λ k.
+      remembered_in-set station.count number k station.slots (with_course (answered message) memo) parts.0 within
+      ∙ either_map (k == number) (with_course (answered message)) memo (remembered_in station.count station.slots k) (λ same. ap (remembered_in station.count station.slots) (eqb-true k number same) ∙ found.1 ∙ ap Some is)
+      ∙ ap (λ a. remembered_after (held_of station) a k) (sym (is_answer (is_mine (held_of station)) number message (response_of message) response read mine other));
+  open_messages = refl;
+  last = refl;
+}
+  where
+    found : (m : Memo) × (remembered_in station.count station.slots number ≡ Some m)
+    found = memo_of_mine number (remembered_in station.count station.slots number) response mine
+
+    parts : (is_recent station.count number ≡ true) × (slice_get station.slots (number % 32) ≡ Some found.0)
+    parts = remembered_parts station.count station.slots number found.0 found.1
+
+    within : number % 32 < length station.slots
+    within = slice_get_within station.slots (number % 32) found.0 parts.1
+
+    is : found.0 ≡ memo
+    is = sym (get_or_from_slice_get station.slots (number % 32) found.0 seen parts.1) ∙ sym at ∙ sym same
+
+-- ---- one more request
+paced_by : (b r : Bool) (count n now : ℕ) (memo : Memo) (o : Option Memo) → (b ≡ true → n ≡ count) → memo.course.opening ≡ now → count < most_opened now → IsPaced n o
+    → IsPaced n (cond b (Some memo) (cond r o None))
+paced_by true r count n now memo o same at few paced = let here = same refl in omega arith
+paced_by false true count n now memo o same at few paced = paced
+paced_by false false count n now memo o same at few paced = tt
+
+pub opened_station : (station : Station) (now : ℕ) (memo : Memo) (open_messages : assembly.Held) → IsStation station → memo.course.opening ≡ now → station.count < most_opened now
+    → IsStation (record station { count = station.count + 1; slots = put_slot station.count station.slots memo; open_messages = open_messages; last = now })
+opened_station station now memo open_messages is at few = record {
+  slots = AreSlots-put station.count station.slots memo is.slots;
+  few = omega arith;
+  paced = λ n. subst (IsPaced n) (sym (remembered_in-put station.count n station.slots memo is.slots))
+      (paced_by (n == station.count) (is_recent (station.count + 1) n) station.count n now memo (remembered_in station.count station.slots n) (eqb-true n station.count) at few (is.paced n));
+}
+
+pub opened_is_held : (station : Station) (now : ℕ) (command : Command) (slots : List Memo) (open_messages : assembly.Held) → AreSlots station.count station.slots
+    → slots ≡ put_slot station.count station.slots (new_memo (held_of station) now command)
+    → open_messages ≡ map.remove station.open_messages (answer_key station.device (tag_of station.count))
+    → IsHeld (held_of (record station { count = station.count + 1; slots = slots; open_messages = open_messages; last = now })) (opened_held (held_of station) now command)
+opened_is_held station now command slots open_messages are put forgot = record {
+  own = refl;
+  device = refl;
+  timing = refl;
+  count = refl;
+  remembered = λ n. ap (λ xs. remembered_in (station.count + 1) xs n) put ∙ remembered_in-put station.count n station.slots (new_memo (held_of station) now command) are;
+  open_messages = forgot;
+  last = refl;
+}
+
+pub memo_is : (station : Station) (now id tag : ℕ) (command : Command) (kind : TypeAndCommand) (packets : List (List ℕ)) → kind ≡ kind_of command
+    → packets ≡ written_packets (record { destination = station.device; source = station.own; owner = true; tag = tag }) (command_message id command)
+    → id ≡ id_of station.count → tag ≡ tag_of station.count
+    → (let memo : Memo = record { kind = kind; packets = packets; course = begun now } in memo ≡ new_memo (held_of station) now command)
+memo_is station now id tag command kind packets e f h g =
+    let sent = f ∙ ap (λ n. written_packets (record { destination = station.device; source = station.own; owner = true; tag = tag }) (command_message n command)) h
+    ∙ ap (λ t. written_packets (record { destination = station.device; source = station.own; owner = true; tag = t }) (command_message (id_of station.count) command)) g in
+    λ i. record { kind = e i; packets = sent i; course = begun now }
+
+-- ---- the numbers that pass a test
+pub filter_more : (test : ℕ → Bool) (a n j : ℕ) → a + n ≡ j → filter test (range_with_len a (n + 1)) ≡ filter test (range_with_len a n) ++ cond (test j) (j ∷ []) []
+filter_more test a n j e =
+    ap (filter test) (sym (map-id (range_with_len a (n + 1))))
+    ∙ filter_of_map_range_with_len_more test (λ x. x) a n j e
+    ∙ ap (λ xs. filter test xs ++ cond (test j) (j ∷ []) []) (map-id (range_with_len a n))
+
+-- one more number is looked at
+pub listed_more : (test : ℕ → Bool) (a n : ℕ) (listed new : List ℕ) (due : Bool) → a ≤ n → listed ≡ filter test (range_with_len a (n - a)) → due ≡ test n → new ≡ listed ++ cond due (n ∷ []) []
+    → new ≡ filter test (range_with_len a (n + 1 - a))
+listed_more test a n listed new due le before is after =
+    let next : n - a + 1 ≡ n + 1 - a = omega arith in
+    after ∙ ap (λ xs. xs ++ cond due (n ∷ []) []) before ∙ ap (λ b. filter test (range_with_len a (n - a)) ++ cond b (n ∷ []) []) is
+    ∙ sym (filter_more test a (n - a) n (omega arith)) ∙ ap (λ k. filter test (range_with_len a k)) next

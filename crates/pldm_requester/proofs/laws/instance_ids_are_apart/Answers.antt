@@ -1,0 +1,8 @@
+use Rattle.pldm_requester.proofs.Moments.{opened_before, ids_apart}
+use Rattle.pldm_requester.proofs.laws.instance_ids_are_apart.Goals as goal
+
+pub returns-clause-before : goal.returns-clause-before
+returns-clause-before c = opened_before
+
+pub returns-clause-apart : goal.returns-clause-apart
+returns-clause-apart c = ids_apart

@@ -1,0 +1,28 @@
+use Rattle.std.specs.FinMap as map
+use Rattle.std.proofs.Common.{◌∙◌, ◌+◌, ◌<◌, ap, sym, subst, refl, arith}
+use Rattle.pldm_requester.specs.Courses.{begun}
+use Rattle.pldm_requester.specs.Calls.{answer_key}
+use Rattle.pldm_requester.specs.Slots.{Station, held_of, put_slot, most_opened}
+use Rattle.pldm_requester.specs.Steps.{Memo, IsHeld, opened_held}
+use Rattle.pldm_requester.proofs.SlotSteps.{opened_station, opened_is_held, memo_is}
+use Rattle.pldm_requester.proofs.requester.Requester.open.Goals as goal
+
+pub invariant_of-self-2 : goal.invariant_of-self-2
+invariant_of-self-2 c =
+    let station : Station = record { own = c.self.inside.own; device = c.self.inside.device; timing = c.self.inside.timing; count = c.self.inside.count; slots = c.self.inside.slots.items; open_messages = c.self.inside.assembler; last = c.self.inside.last } in
+    let memo : Memo = record { kind = c.kind.result; packets = c.packets_of-packets.result; course = begun c.args.now } in
+    let count = ap (λ (s : Station). s.count) c.self.view_is in
+    let paced = c.if-is_id_in_use.ensures.paced in
+    let few : station.count < most_opened c.args.now = omega (arith, paced, count) in
+    rw (c.put.ensures, c.make_room.ensures.items) (opened_station station c.args.now memo c.forget.new.self c.self.invariant refl few)
+
+pub returns-clause-held : goal.returns-clause-held
+returns-clause-held c =
+    let station : Station = record { own = c.self.inside.own; device = c.self.inside.device; timing = c.self.inside.timing; count = c.self.inside.count; slots = c.self.inside.slots.items; open_messages = c.self.inside.assembler; last = c.self.inside.last } in
+    let memo : Memo = record { kind = c.kind.result; packets = c.packets_of-packets.result; course = begun c.args.now } in
+    let tag = c.tag_of-tag.ensures.value in
+    let new = memo_is station c.args.now c.id_of-id.result c.tag_of-tag.result c.args.command.now c.kind.result c.packets_of-packets.result c.kind.ensures c.packets_of-packets.ensures c.id_of-id.ensures.value tag in
+    subst (λ (s : Station). IsHeld (held_of (record station { count = station.count + 1; slots = c.put.new.slots.items; open_messages = c.forget.new.self; last = c.args.now })) (opened_held (held_of s) c.args.now c.args.command.now)) c.self.view_is
+    (opened_is_held station c.args.now c.args.command.now c.put.new.slots.items c.forget.new.self c.self.invariant.slots
+    (c.put.ensures ∙ ap (λ xs. put_slot station.count xs memo) c.make_room.ensures.items ∙ ap (put_slot station.count station.slots) new)
+    (c.forget.ensures ∙ ap (map.remove station.open_messages) (c.answer_key.ensures ∙ ap (answer_key station.device) tag)))

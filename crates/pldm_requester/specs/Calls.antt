@@ -1,0 +1,193 @@
+-- What a requester owes, told by looking back over the list of all its calls, the newest first. All requests are told
+-- by their numbers, however long ago they were opened.
+use Rattle.std.specs.Prelude.{ℕ, zero, suc, ◌+◌, ◌-◌, ◌*◌, true, false, Bool, ◌&&◌, not, ◌==◌, nat_lt, nat_le, List, [], ◌∷◌, filter, Option, Some, None, is_some, Result, Ok, Err, if◌then◌else◌}
+use Rattle.std.specs.List.{range_with_len}
+use Rattle.mctp_packet.specs.Packets.{Packet}
+use Rattle.mctp_packet.specs.Passing.{passing}
+use Rattle.mctp_packet.specs.declared.reason.Reason.{Reason}
+use Rattle.mctp_packet.specs.declared.TheConstants.{TAGS}
+use Rattle.mctp_assembly.specs.Histories as assembly
+use Rattle.mctp_assembly.specs.Rows.{next}
+use Rattle.mctp_assembly.specs.declared.fed.Fed.{Fed}
+use Rattle.mctp_assembly.specs.declared.key.Key.{Key}
+use Rattle.pldm_wire.specs.Commands.{kind_of}
+use Rattle.pldm_wire.specs.Responses.{Response}
+use Rattle.pldm_wire.specs.declared.assigned.TheConstants.{INSTANCE_IDS}
+use Rattle.pldm_wire.specs.declared.command.Command.{Command}
+use Rattle.pldm_wire.specs.declared.command.Command.TheVariants.{GetTid}
+use Rattle.pldm_requester.specs.Numbering.{tag_of, opened_as}
+use Rattle.pldm_requester.specs.Courses.{Standing, GaveUp, Course, is_open, begun, is_given_up, is_sent_again, ticked, answered}
+use Rattle.pldm_requester.specs.Arrivals.{Arrival, Drop, Part, Answer, got_of, is_response_to, passed_arrival}
+use Rattle.pldm_requester.specs.declared.got.Got.{Got}
+use Rattle.pldm_requester.specs.declared.opened.Opened.{Opened}
+use Rattle.pldm_requester.specs.declared.opened.OpenFault.{OpenFault}
+use Rattle.pldm_requester.specs.declared.opened.OpenFault.TheVariants.{TagInUse, IdInUse}
+use Rattle.pldm_requester.specs.declared.timing.Timing.{Timing}
+
+-- each with its moment: a command to be opened as a request, a tick, and bytes that were received
+pub data Call : Type 0 where
+  Open : (moment : ℕ) → (command : Command) → Call
+  Tick : (moment : ℕ) → Call
+  Receive : (moment : ℕ) → (bytes : List ℕ) → Call
+
+-- an accepted open, its course, and the packets that came to it since, the newest first
+pub record Request : Type 0 where
+  pub command : Command
+  pub course : Course
+  pub fed : List Packet
+
+-- how many requests were opened, and each by its number, 0 for the first
+pub record Requests : Type 0 where
+  pub count : ℕ
+  pub each : ℕ → Request
+
+-- what stands at a number that is not given yet
+abbrev pub no_request : Request
+no_request =
+    record { command = GetTid; course = record { opening = 0; last_sent = 0; standing = GaveUp }; fed = [] }
+
+abbrev pub none_yet : Requests
+none_yet = record { count = 0; each = λ n. no_request }
+
+abbrev pub new_request : ℕ → Command → Request
+new_request moment command = record { command = command; course = begun moment; fed = [] }
+
+-- another request in the place of the one with this number
+abbrev pub put : (ℕ → Request) → ℕ → Request → ℕ → Request
+put each number request n = if n == number then request else each n
+
+abbrev pub opened : Requests → ℕ → Command → Requests
+opened a moment command = record { count = suc a.count; each = put a.each a.count (new_request moment command) }
+
+abbrev pub with_request : Requests → ℕ → Request → Requests
+with_request a number request = record { count = a.count; each = put a.each number request }
+
+abbrev pub is_open_at : Requests → ℕ → Bool
+is_open_at a n = is_open (a.each n).course
+
+-- the last request with the new one's tag is still open
+abbrev pub is_tag_in_use : Requests → Bool
+is_tag_in_use a = nat_le TAGS a.count && is_open_at a (a.count - TAGS)
+
+-- the last request with the new one's instance ID was opened less than twice the keeping time ago
+abbrev pub is_id_in_use : ℕ → Requests → ℕ → Bool
+is_id_in_use keep a moment =
+    nat_le INSTANCE_IDS a.count && nat_lt moment ((a.each (a.count - INSTANCE_IDS)).course.opening + 2 * keep)
+
+abbrev pub accepts : ℕ → Requests → ℕ → Bool
+accepts keep a moment = not (is_tag_in_use a) && not (is_id_in_use keep a moment)
+
+-- what an open answers, by whether its tag and its instance ID are in use
+abbrev pub open_answer : Bool → Bool → ℕ → Result Opened OpenFault
+open_answer tag_in_use id_in_use number =
+    if tag_in_use then Err TagInUse else (if id_in_use then Err IdInUse else Ok (opened_as number))
+
+-- the request that is open on a tag, among the first so many, by a test of what is open
+abbrev pub open_on : (ℕ → Bool) → ℕ → ℕ → Option ℕ
+open_on is_open zero tag = None
+open_on is_open (suc n) tag = if tag_of n == tag && is_open n then Some n else open_on is_open n tag
+
+-- whose messages the answers on a tag are: the device's, with TO 0
+abbrev pub answer_key : ℕ → ℕ → Key
+answer_key device tag = record { source = device; tag = tag; owner = false }
+
+-- a packet that may be a part of an answer
+abbrev pub is_from_device : ℕ → Packet → Bool
+is_from_device device p = not p.route.owner && p.route.source == device
+
+-- the numbers of the requests that pass a test, in their order
+abbrev pub numbers_of : (Course → Bool) → Requests → List ℕ
+numbers_of test a = filter (λ n. test (a.each n).course) (range_with_len 0 a.count)
+
+module _ (own device : ℕ) (timing : Timing) where
+  -- the request that a packet comes to: the one that is open on its tag
+  abbrev pub goes_to : Requests → Packet → Option ℕ
+  goes_to a p = if is_from_device device p then open_on (is_open_at a) a.count p.route.tag else None
+
+  -- the packet that bytes are, where it passes the checks: its tag is expected where it comes to a request
+  abbrev pub passed : Requests → List ℕ → Result Packet Reason
+  passed a bytes = passing own (λ p. is_some (goes_to a p)) bytes
+
+  abbrev pub gives : Requests → ℕ → Packet → Fed
+  gives a n p = next (a.each n).fed p
+
+  abbrev pub is_mine : Requests → ℕ → Response → Bool
+  is_mine a n response = is_response_to n (kind_of (a.each n).command) response
+
+  -- what bytes bring
+  abbrev pub arrived : Requests → List ℕ → Arrival
+  arrived a bytes = passed_arrival (goes_to a) (gives a) (is_mine a) (passed a bytes)
+
+  -- a packet that comes to a request is the last of those that did
+  abbrev pub fed_to : Requests → Packet → Option ℕ → Requests
+  fed_to a p None = a
+  fed_to a p (Some n) =
+      with_request a n (record { command = (a.each n).command; course = (a.each n).course; fed = p ∷ (a.each n).fed })
+
+  abbrev pub fed_by : Requests → Result Packet Reason → Requests
+  fed_by a (Err reason) = a
+  fed_by a (Ok p) = fed_to a p (goes_to a p)
+
+  abbrev pub answered_by : Requests → Arrival → Requests
+  answered_by a (Drop reason) = a
+  answered_by a Part = a
+  answered_by a (Answer n message) =
+      with_request a n
+      (record { command = (a.each n).command; course = answered message (a.each n).course; fed = (a.each n).fed })
+
+  abbrev pub received : Requests → List ℕ → Requests
+  received a bytes = answered_by (fed_by a (passed a bytes)) (arrived a bytes)
+
+  abbrev pub ticked_request : ℕ → Request → Request
+  ticked_request moment request =
+      record { command = request.command; course = ticked timing moment request.course; fed = request.fed }
+
+  abbrev pub after_call : Requests → Call → Requests
+  after_call a (Open moment command) = if accepts timing.keep a moment then opened a moment command else a
+  after_call a (Tick moment) = record { count = a.count; each = λ n. ticked_request moment (a.each n) }
+  after_call a (Receive moment bytes) = received a bytes
+
+  -- the requests after these calls
+  abbrev pub requests : List Call → Requests
+  requests [] = none_yet
+  requests (call ∷ calls) = after_call (requests calls) call
+
+  -- the moment of the last call, but for a refused open; 0 where there was none
+  abbrev pub last_moment : List Call → ℕ
+  last_moment [] = 0
+  last_moment (Open moment command ∷ calls) =
+      if accepts timing.keep (requests calls) moment then moment else last_moment calls
+  last_moment (Tick moment ∷ calls) = moment
+  last_moment (Receive moment bytes ∷ calls) = moment
+
+  -- a packet that passed the checks comes to assembly
+  abbrev pub with_packet : Result Packet Reason → List assembly.Call → List assembly.Call
+  with_packet (Ok p) packets = assembly.feed p ∷ packets
+  with_packet (Err reason) packets = packets
+
+  -- what came to assembly: the packets that passed, and at each accepted open its tag is forgotten
+  abbrev pub assembled : List Call → List assembly.Call
+  assembled [] = []
+  assembled (Open moment command ∷ calls) =
+      if accepts timing.keep (requests calls) moment
+      then assembly.forget (answer_key device (tag_of (requests calls).count)) ∷ assembled calls
+      else assembled calls
+  assembled (Tick moment ∷ calls) = assembled calls
+  assembled (Receive moment bytes ∷ calls) = with_packet (passed (requests calls) bytes) (assembled calls)
+
+  -- what an open at a moment answers after these calls
+  abbrev pub open_owed : List Call → ℕ → Result Opened OpenFault
+  open_owed calls moment =
+      open_answer (is_tag_in_use (requests calls)) (is_id_in_use timing.keep (requests calls) moment)
+      (requests calls).count
+
+  -- which requests a tick at a moment sends again, and which it gives up
+  abbrev pub again_owed : List Call → ℕ → List ℕ
+  again_owed calls moment = numbers_of (is_sent_again timing moment) (requests calls)
+
+  abbrev pub given_up_owed : List Call → ℕ → List ℕ
+  given_up_owed calls moment = numbers_of (is_given_up timing moment) (requests calls)
+
+  -- what bytes that are received give after these calls
+  abbrev pub got_owed : List Call → List ℕ → Got
+  got_owed calls bytes = got_of (arrived (requests calls) bytes)

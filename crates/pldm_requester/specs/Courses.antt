@@ -1,0 +1,55 @@
+-- The course of one request: it is open from its opening until it is answered or given up, and is sent again meanwhile.
+-- The times are this profile's own.
+use Rattle.std.specs.Prelude.{ℕ, ◌+◌, ◌*◌, List, Bool, true, false, ◌&&◌, not, nat_le, if◌then◌else◌}
+use Rattle.pldm_requester.specs.declared.timing.Timing.{Timing}
+
+-- open, answered by this message, or given up
+pub data Standing : Type 0 where
+  Waiting : Standing
+  Answered : List ℕ → Standing
+  GaveUp : Standing
+
+pub record Course : Type 0 where
+  pub opening : ℕ
+  pub last_sent : ℕ
+  pub standing : Standing
+
+abbrev pub is_waiting : Standing → Bool
+is_waiting Waiting = true
+is_waiting (Answered message) = false
+is_waiting GaveUp = false
+
+abbrev pub is_open : Course → Bool
+is_open course = is_waiting course.standing
+
+abbrev pub begun : ℕ → Course
+begun moment = record { opening = moment; last_sent = moment; standing = Waiting }
+
+-- all tries have had their time
+abbrev pub is_over : Timing → ℕ → Course → Bool
+is_over timing moment course = nat_le (course.opening + timing.tries * timing.timeout) moment
+
+-- an open request is given up once all its tries have had their time
+abbrev pub is_given_up : Timing → ℕ → Course → Bool
+is_given_up timing moment course = is_open course && is_over timing moment course
+
+-- else it is sent again once its last try has had its time
+abbrev pub is_sent_again : Timing → ℕ → Course → Bool
+is_sent_again timing moment course =
+    is_open course && not (is_over timing moment course) && nat_le (course.last_sent + timing.timeout) moment
+
+abbrev pub given_up : Course → Course
+given_up course = record { opening = course.opening; last_sent = course.last_sent; standing = GaveUp }
+
+abbrev pub sent_again : ℕ → Course → Course
+sent_again moment course = record { opening = course.opening; last_sent = moment; standing = course.standing }
+
+abbrev pub answered : List ℕ → Course → Course
+answered message course =
+    record { opening = course.opening; last_sent = course.last_sent; standing = Answered message }
+
+-- what a tick makes of it
+abbrev pub ticked : Timing → ℕ → Course → Course
+ticked timing moment course =
+    if is_given_up timing moment course then given_up course
+    else (if is_sent_again timing moment course then sent_again moment course else course)

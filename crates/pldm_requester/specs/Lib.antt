@@ -1,0 +1,10 @@
+pub mod Numbering
+pub mod Timings
+pub mod OpenFaults
+pub mod Courses
+pub mod Standings
+pub mod Arrivals
+pub mod Calls
+pub mod Steps
+pub mod Slots
+pub mod Laws

@@ -1,0 +1,125 @@
+-- How a requester keeps the last requests: each in the slot of its instance ID; and what contracts see of a requester.
+use Rattle.std.specs.FinMap as map
+use Rattle.std.specs.Prelude.{◌≡◌, ℕ, ◌+◌, ◌*◌, ◌%◌, ◌<◌, ◌≤◌, List, [], ◌∷◌, ◌++◌, length, nat_lt, slice_set, if◌then◌else◌, Option, Some, None, slice_get, IfSome, refl}
+use Rattle.std.specs.Coded.{Coded, code_by, coded×, coded_ℕ, coded_list, coded_option}
+use Rattle.mctp_assembly.specs.Keys.{key_cmp, coded_key}
+use Rattle.mctp_assembly.specs.Opened.{Opened, coded_opened}
+use Rattle.pldm_wire.specs.Kinds.{of_type}
+use Rattle.pldm_requester.specs.Courses.{Standing, Waiting, Answered, GaveUp, Course}
+use Rattle.pldm_requester.specs.Steps.{Memo, Held, is_recent}
+use Rattle.pldm_requester.specs.Timings.{coded_timing}
+use Rattle.pldm_requester.specs.declared.requester.TheConstants.{MOST_REMEMBERED}
+use Rattle.pldm_requester.specs.declared.timing.Timing.{Timing}
+
+-- a standing is stored as the answer, if any, where the request is no longer open
+abbrev pub stored : Standing → Option (Option (List ℕ))
+stored Waiting = None
+stored GaveUp = Some None
+stored (Answered message) = Some (Some message)
+
+abbrev pub standing_in : Option (Option (List ℕ)) → Standing
+standing_in None = Waiting
+standing_in (Some None) = GaveUp
+standing_in (Some (Some message)) = Answered message
+
+abbrev pub stored_back : (standing : Standing) → standing_in (stored standing) ≡ standing
+stored_back Waiting = refl
+stored_back GaveUp = refl
+stored_back (Answered message) = refl
+
+abbrev pub coded_standing : Coded Standing
+coded_standing =
+    code_by (Option (Option (List ℕ))) (coded_option (coded_option (coded_list coded_ℕ)))
+    stored standing_in stored_back
+
+-- what is remembered of a request is stored as its parts
+abbrev pub coded_memo : Coded Memo
+coded_memo =
+    code_by (ℕ × (ℕ × (List (List ℕ) × (ℕ × (ℕ × Standing)))))
+    (coded× coded_ℕ (coded× coded_ℕ (coded× (coded_list (coded_list coded_ℕ))
+    (coded× coded_ℕ (coded× coded_ℕ coded_standing)))))
+    (λ m. (
+      m.kind.pldm_type,
+      (
+        m.kind.command,
+        (
+          m.packets,
+          (m.course.opening, (m.course.last_sent, m.course.standing)),
+        ),
+      ),
+    ))
+    (λ c. record {
+      kind = of_type c.0 c.1.0;
+      packets = c.1.1.0;
+      course = record { opening = c.1.1.1.0; last_sent = c.1.1.1.1.0; standing = c.1.1.1.1.1 };
+    })
+    (λ _. refl)
+
+-- what contracts see of a requester: the slot of each instance ID has the last request with it
+pub record Station : Type 0 where
+  pub own : ℕ
+  pub device : ℕ
+  pub timing : Timing
+  pub count : ℕ
+  pub slots : List Memo
+  pub open_messages : map.FinMap key_cmp Opened
+  pub last : ℕ
+
+-- it is stored as its parts
+abbrev pub coded_station : Coded Station
+coded_station =
+    code_by (ℕ × (ℕ × (Timing × (ℕ × (List Memo × (map.FinMap key_cmp Opened × ℕ))))))
+    (coded× coded_ℕ (coded× coded_ℕ (coded× coded_timing (coded× coded_ℕ (coded× (coded_list coded_memo)
+    (coded× (map.code coded_key coded_opened) coded_ℕ))))))
+    (λ s. (s.own, (s.device, (s.timing, (s.count, (s.slots, (s.open_messages, s.last)))))))
+    (λ c. record {
+      own = c.0;
+      device = c.1.0;
+      timing = c.1.1.0;
+      count = c.1.1.1.0;
+      slots = c.1.1.1.1.0;
+      open_messages = c.1.1.1.1.1.0;
+      last = c.1.1.1.1.1.1;
+    })
+    (λ _. refl)
+
+-- what is remembered of the request with this number, where it is among the last ones: it stands in the slot of its
+-- instance ID
+abbrev pub remembered_in : ℕ → List Memo → ℕ → Option Memo
+remembered_in count slots number =
+    if is_recent count number then slice_get slots (number % MOST_REMEMBERED) else None
+
+abbrev pub held_of : Station → Held
+held_of station = record {
+  own = station.own;
+  device = station.device;
+  timing = station.timing;
+  count = station.count;
+  remembered = remembered_in station.count station.slots;
+  open_messages = station.open_messages;
+  last = station.last;
+}
+
+-- the list with a new request in the slot of its number, or at the end, where no request had that slot yet
+abbrev pub put_slot : ℕ → List Memo → Memo → List Memo
+put_slot number slots memo =
+    if nat_lt number MOST_REMEMBERED then slots ++ memo ∷ [] else slice_set slots (number % MOST_REMEMBERED) memo
+
+-- a slot for each of the last requests
+pub record AreSlots (count : ℕ) (slots : List Memo) : Type 0 where
+  pub some : count ≤ MOST_REMEMBERED → length slots ≡ count
+  pub all : MOST_REMEMBERED ≤ count → length slots ≡ MOST_REMEMBERED
+
+-- a request is opened twice the keeping time, so two milliseconds, after the one before it with its instance ID, or
+-- later: so no more requests than this are opened up to a moment
+abbrev pub most_opened : ℕ → ℕ
+most_opened moment = 16 * moment + 32
+
+abbrev pub IsPaced : ℕ → Option Memo → Type 0
+IsPaced number memo = IfSome memo (λ memo. number < most_opened memo.course.opening)
+
+-- the requests are so far apart
+pub record IsStation (station : Station) : Type 0 where
+  pub slots : AreSlots station.count station.slots
+  pub few : station.count ≤ most_opened station.last
+  pub paced : (number : ℕ) → IsPaced number (remembered_in station.count station.slots number)

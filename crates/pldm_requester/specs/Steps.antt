@@ -1,0 +1,190 @@
+-- One call of a requester over what it holds.
+use Rattle.std.specs.FinMap as map
+use Rattle.std.specs.Prelude.{◌≡◌, ℕ, ◌+◌, ◌-◌, ◌*◌, ◌%◌, Bool, false, ◌&&◌, not, ◌==◌, nat_lt, nat_le, List, filter, Option, Some, None, is_some, option_map, Result, Ok, Err, if◌then◌else◌}
+use Rattle.std.specs.List.{range_with_len}
+use Rattle.mctp_packet.specs.Packets.{Packet}
+use Rattle.mctp_packet.specs.Passing.{passing}
+use Rattle.mctp_packet.specs.declared.reason.Reason.{Reason}
+use Rattle.mctp_packet.specs.declared.TheConstants.{TAGS}
+use Rattle.mctp_assembly.specs.Steps as assembly
+use Rattle.mctp_assembly.specs.declared.fed.Fed.{Fed}
+use Rattle.pldm_wire.specs.Commands.{kind_of}
+use Rattle.pldm_wire.specs.Kinds.{TypeAndCommand}
+use Rattle.pldm_wire.specs.Responses.{Response}
+use Rattle.pldm_wire.specs.declared.assigned.TheConstants.{INSTANCE_IDS}
+use Rattle.pldm_wire.specs.declared.command.Command.{Command}
+use Rattle.pldm_requester.specs.Numbering.{tag_of, packets_of}
+use Rattle.pldm_requester.specs.Courses.{Course, is_open, begun, is_given_up, is_sent_again, ticked, answered}
+use Rattle.pldm_requester.specs.Arrivals.{Arrival, Drop, Part, Answer, got_of, is_response_to, passed_arrival}
+use Rattle.pldm_requester.specs.Calls.{answer_key, is_from_device, open_answer}
+use Rattle.pldm_requester.specs.declared.got.Got.{Got}
+use Rattle.pldm_requester.specs.declared.opened.Opened.{Opened}
+use Rattle.pldm_requester.specs.declared.opened.OpenFault.{OpenFault}
+use Rattle.pldm_requester.specs.declared.timing.Timing.{Timing}
+use Rattle.pldm_requester.specs.declared.requester.TheConstants.{MOST_OPEN, MOST_REMEMBERED}
+
+-- what is remembered of a request: which command it is of, its packets and its course
+pub record Memo : Type 0 where
+  pub kind : TypeAndCommand
+  pub packets : List (List ℕ)
+  pub course : Course
+
+-- its own endpoint ID and the device's, its timing, how many requests were opened, what is remembered of each, what is
+-- open on each key, and the last moment
+pub record Held : Type 0 where
+  pub own : ℕ
+  pub device : ℕ
+  pub timing : Timing
+  pub count : ℕ
+  pub remembered : ℕ → Option Memo
+  pub open_messages : assembly.Held
+  pub last : ℕ
+
+-- the same is held
+pub record IsHeld (new held : Held) : Type 0 where
+  pub own : new.own ≡ held.own
+  pub device : new.device ≡ held.device
+  pub timing : new.timing ≡ held.timing
+  pub count : new.count ≡ held.count
+  pub remembered : (number : ℕ) → new.remembered number ≡ held.remembered number
+  pub open_messages : new.open_messages ≡ held.open_messages
+  pub last : new.last ≡ held.last
+
+-- what a new one holds
+abbrev pub held_at_first : ℕ → ℕ → Timing → Held
+held_at_first own device timing = record {
+  own = own;
+  device = device;
+  timing = timing;
+  count = 0;
+  remembered = λ number. None;
+  open_messages = map.empty;
+  last = 0;
+}
+
+-- the last so many numbers below a count
+abbrev pub is_recent : ℕ → ℕ → Bool
+is_recent count number = nat_lt number count && nat_le count (number + MOST_REMEMBERED)
+
+abbrev pub passes : (Course → Bool) → Option Memo → Bool
+passes test None = false
+passes test (Some memo) = test memo.course
+
+abbrev pub with_course : (Course → Course) → Memo → Memo
+with_course change memo = record { kind = memo.kind; packets = memo.packets; course = change memo.course }
+
+-- the last number below a count that has a tag
+abbrev pub latest_on : ℕ → ℕ → Option ℕ
+latest_on count tag = if nat_lt tag count then Some (count - 1 - (count - 1 - tag) % TAGS) else None
+
+abbrev pub where_open : (ℕ → Bool) → Option ℕ → Option ℕ
+where_open is_open None = None
+where_open is_open (Some number) = if is_open number then Some number else None
+
+-- the last numbers below a count: no older one is open
+abbrev pub recent_numbers : ℕ → List ℕ
+recent_numbers count = range_with_len (count - MOST_OPEN) (count - (count - MOST_OPEN))
+
+abbrev pub is_mine_by : ℕ → Option Memo → Response → Bool
+is_mine_by number None response = false
+is_mine_by number (Some memo) response = is_response_to number memo.kind response
+
+abbrev pub open_after : assembly.Held → Result Packet Reason → assembly.Held
+open_after open_messages (Err reason) = open_messages
+open_after open_messages (Ok p) = assembly.after open_messages p
+
+-- SOM is set
+abbrev pub begins_message : Result Packet Reason → Bool
+begins_message (Err reason) = false
+begins_message (Ok p) = p.start
+
+module _ (held : Held) where
+  abbrev pub is_open_in : ℕ → Bool
+  is_open_in number = passes is_open (held.remembered number)
+
+  abbrev pub is_tag_in_use : Bool
+  is_tag_in_use = nat_le TAGS held.count && is_open_in (held.count - TAGS)
+
+  abbrev pub is_id_in_use : ℕ → Bool
+  is_id_in_use moment =
+      nat_le INSTANCE_IDS held.count
+      && passes (λ course. nat_lt moment (course.opening + 2 * held.timing.keep))
+      (held.remembered (held.count - INSTANCE_IDS))
+
+  abbrev pub accepts : ℕ → Bool
+  accepts moment = not is_tag_in_use && not (is_id_in_use moment)
+
+  -- what an open at a moment answers, where there is memory
+  abbrev pub opening_answer : ℕ → Result Opened OpenFault
+  opening_answer moment = open_answer is_tag_in_use (is_id_in_use moment) held.count
+
+  abbrev pub new_memo : ℕ → Command → Memo
+  new_memo moment command = record {
+    kind = kind_of command;
+    packets = packets_of held.own held.device held.count command;
+    course = begun moment;
+  }
+
+  -- what is held after an accepted open: of the last requests one more is remembered
+  abbrev pub opened_held : ℕ → Command → Held
+  opened_held moment command = record held {
+    count = held.count + 1;
+    remembered = λ number.
+        if number == held.count then Some (new_memo moment command)
+        else (if is_recent (held.count + 1) number then held.remembered number else None);
+    open_messages = map.remove held.open_messages (answer_key held.device (tag_of held.count));
+    last = moment;
+  }
+
+  -- which requests a tick sends again, and which it gives up
+  abbrev pub again_at : ℕ → List ℕ
+  again_at moment =
+      filter (λ number. passes (is_sent_again held.timing moment) (held.remembered number)) (recent_numbers held.count)
+
+  abbrev pub given_up_at : ℕ → List ℕ
+  given_up_at moment =
+      filter (λ number. passes (is_given_up held.timing moment) (held.remembered number)) (recent_numbers held.count)
+
+  abbrev pub ticked_held : ℕ → Held
+  ticked_held moment = record held {
+    remembered = λ number. option_map (with_course (ticked held.timing moment)) (held.remembered number);
+    last = moment;
+  }
+
+  -- the request that a packet comes to: the latest on its tag, where that is open
+  abbrev pub goes_to : Packet → Option ℕ
+  goes_to p =
+      if is_from_device held.device p then where_open is_open_in (latest_on held.count p.route.tag) else None
+
+  abbrev pub expects : Packet → Bool
+  expects p = is_some (goes_to p)
+
+  abbrev pub passed : List ℕ → Result Packet Reason
+  passed bytes = passing held.own expects bytes
+
+  abbrev pub is_mine : ℕ → Response → Bool
+  is_mine number response = is_mine_by number (held.remembered number) response
+
+  -- what a packet brings that passed, or did not
+  abbrev pub arrived_by : Result Packet Reason → Arrival
+  arrived_by passed = passed_arrival goes_to (λ number p. assembly.answer held.open_messages p) is_mine passed
+
+  abbrev pub remembered_after : Arrival → ℕ → Option Memo
+  remembered_after (Drop reason) number = held.remembered number
+  remembered_after Part number = held.remembered number
+  remembered_after (Answer n message) number =
+      if number == n then option_map (with_course (answered message)) (held.remembered number)
+      else held.remembered number
+
+  -- what is held after it, but for the moment
+  abbrev pub held_by : Result Packet Reason → Held
+  held_by passed = record held {
+    remembered = remembered_after (arrived_by passed);
+    open_messages = open_after held.open_messages passed;
+  }
+
+  abbrev pub got_at : List ℕ → Got
+  got_at bytes = got_of (arrived_by (passed bytes))
+
+  abbrev pub received_held : ℕ → List ℕ → Held
+  received_held moment bytes = record (held_by (passed bytes)) { last = moment }

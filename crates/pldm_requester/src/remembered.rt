@@ -1,0 +1,115 @@
+ghost use Rattle.std.specs.Prelude.{◌≡◌, map};
+ghost use Rattle.pldm_requester.specs.Courses.{ticked};
+ghost use Rattle.pldm_requester.specs.Steps.{with_course};
+
+use crate::{Status, Timing};
+use mctp_packet::{Body, Moment, Packets};
+use pldm_wire::Kind;
+use std::marker::Model;
+
+/// How a request stands.
+#[derive(Debug, Drop)]
+pub(crate) enum Standing {
+    /// It is open.
+    Waiting,
+    /// It was answered, by this message.
+    Answered(Body),
+    /// It was given up.
+    GaveUp,
+}
+
+/// What is remembered of a request. There is room for its answer from the opening on.
+#[derive(Debug, Drop)]
+pub(crate) struct Remembered {
+    /// Which command it asks for.
+    pub(crate) kind: Kind,
+    /// The packets of its message.
+    pub(crate) packets: Packets,
+    /// When it was opened.
+    pub(crate) opening: Moment,
+    /// When it was last sent: its opening, or the last tick that sent it again.
+    pub(crate) last_sent: Moment,
+    /// How it stands.
+    pub(crate) standing: Standing,
+}
+
+impl Model for Remembered {
+    ghost use Rattle.pldm_requester.specs.Steps.{Memo};
+    ghost use Rattle.pldm_requester.specs.Slots.{coded_memo};
+
+    ghost Value = { Memo };
+
+    ghost coded = { coded_memo };
+
+    ghost use Rattle.pldm_requester.specs.Standings.{standing_of};
+
+    ghost view = { λ r. record { kind = r.kind; packets = r.packets; course = record { opening = r.opening; last_sent = r.last_sent; standing = standing_of r.standing } } };
+}
+
+impl Remembered {
+    ghost use Rattle.std.specs.Prelude.{◌≡◌};
+    ghost use Rattle.pldm_requester.specs.Courses.{is_open, is_over, is_given_up, is_sent_again, ticked};
+    ghost use Rattle.pldm_requester.specs.Steps.{with_course};
+    ghost use Rattle.pldm_requester.specs.Standings.{standing_told};
+
+    /// Whether it is open.
+    pub(crate) fn is_open(&self) -> bool
+        ensures { result ≡ is_open self.now.course }
+    {
+        matches!(self.standing, Standing::Waiting)
+    }
+
+    /// Whether all tries have had their time.
+    fn is_over(&self, timing: &Timing, now: Moment) -> bool
+        ensures { result ≡ is_over timing.now now self.now.course }
+    {
+        self.opening.get() + timing.life() <= now.get()
+    }
+
+    /// Whether a tick gives it up.
+    pub(crate) fn is_given_up(&self, timing: &Timing, now: Moment) -> bool
+        ensures { result ≡ is_given_up timing.now now self.now.course }
+    {
+        self.is_open() && self.is_over(timing, now)
+    }
+
+    /// Whether a tick sends it again.
+    pub(crate) fn is_sent_again(&self, timing: &Timing, now: Moment) -> bool
+        ensures { result ≡ is_sent_again timing.now now self.now.course }
+    {
+        self.is_open()
+            && !self.is_over(timing, now)
+            && self.last_sent.get() + u64::from(timing.timeout) <= now.get()
+    }
+
+    /// What a tick makes of it.
+    pub(crate) fn tick(&mut self, timing: &Timing, now: Moment)
+        ensures { self.new ≡ with_course (ticked timing.now now) self.old }
+    {
+        if self.is_given_up(timing, now) {
+            self.standing = Standing::GaveUp;
+        } else if self.is_sent_again(timing, now) {
+            self.last_sent = now;
+        }
+    }
+
+    /// How it stands, as callers see it.
+    pub(crate) fn status(&self) -> Status<'_>
+        ensures { standing_told result ≡ self.now.course.standing }
+    {
+        match &self.standing {
+            Standing::Waiting => Status::Open,
+            Standing::Answered(message) => Status::Answered(message),
+            Standing::GaveUp => Status::GaveUp,
+        }
+    }
+}
+
+/// What a tick makes of all requests.
+pub(crate) fn tick_all(slots: &mut [Remembered], timing: &Timing, now: Moment)
+    ensures { slots.new ≡ map (with_course (ticked timing.now now)) slots.old }
+{
+    for slot in slots.iter_mut() {
+        slot.tick(timing, now);
+    }
+}

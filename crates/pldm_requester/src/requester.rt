@@ -1,0 +1,468 @@
+ghost use Rattle.std.specs.Prelude.{◌≡◌, ◌⊎◌, ◌+◌, ◌%◌, ◌^◌, ◌<◌, ◌≤◌, true, [], ◌∷◌, ◌++◌, if◌then◌else◌, None, Some, Ok, Err, option_map, vec_len, vec_capacity, IfOk, IfErr, IsErrOf, OnOk, OnErr};
+ghost use Rattle.std.specs.Bool.{OnFalse};
+ghost use Rattle.std.specs.Option.{option_copied};
+ghost use Rattle.arrayvec.specs.ArrayVec.{array_vec_len};
+ghost use Rattle.mctp_packet.specs.Ids.{IsTag};
+ghost use Rattle.mctp_packet.specs.Passing.{where_expected};
+ghost use Rattle.mctp_packet.specs.Pieces.{written_packets};
+ghost use Rattle.pldm_wire.specs.Commands.{command_message};
+ghost use Rattle.pldm_wire.specs.Responses.{response_of};
+ghost use Rattle.pldm_requester.specs.Arrivals.{got_of, is_response_to, response_arrival};
+ghost use Rattle.pldm_requester.specs.Calls.{answer_key};
+ghost use Rattle.pldm_requester.specs.Courses.{is_given_up, is_sent_again};
+ghost use Rattle.pldm_requester.specs.Numbering.{id_of, tag_of};
+ghost use Rattle.pldm_requester.specs.Slots.{held_of, most_opened, remembered_in, put_slot};
+ghost use Rattle.pldm_requester.specs.Standings.{standing_told};
+ghost use Rattle.pldm_requester.specs.Steps.{IsHeld, accepts, again_at, arrived_by, begins_message, expects, given_up_at, goes_to, got_at, held_at_first, held_by, is_id_in_use, is_mine, is_open_in, is_tag_in_use, opened_held, opening_answer, passed, passes, received_held, remembered_after, ticked_held};
+ghost use Rattle.pldm_requester.specs.Timings.{timing_fault};
+
+use crate::remembered::{Remembered, Standing, tick_all};
+use crate::{Due, Got, OpenFault, Opened, Status, Timing, TimingFault};
+use arrayvec::ArrayVec;
+use mctp_assembly::{Assembler, Fed, Key};
+use mctp_packet::{
+    Body, Eid, Memory, Moment, PacketRef, Packets, Reason, Route, TAGS, Tag, read_for, split,
+};
+use pldm_wire::{
+    Command, ERROR_NOT_READY, INSTANCE_IDS, Kind, ResponseRef, read_response, write_command,
+};
+use std::alloc::Global;
+use std::marker::Model;
+
+/// The most requests that are open at a time: one for each tag.
+pub const MOST_OPEN: usize = 8;
+
+/// How many requests are remembered, the last ones: one for each instance ID.
+pub const MOST_REMEMBERED: usize = 32;
+
+/// The requesting end at one endpoint, for one device: commands are opened as requests, packets to be
+/// sent again are told at each tick, and answers are taken from packets.
+#[derive(Debug, Drop)]
+pub struct Requester {
+    own: Eid,
+    device: Eid,
+    timing: Timing,
+    count: u64,
+    last: Moment,
+    assembler: Assembler,
+    slots: Vec<Remembered>,
+}
+
+impl Model for Requester {
+    ghost use Rattle.pldm_requester.specs.Slots.{Station, IsStation, coded_station};
+
+    ghost Value = { Station };
+
+    ghost coded = { coded_station };
+
+    ghost view = { λ r. record { own = r.own; device = r.device; timing = r.timing; count = r.count; slots = r.slots.items; open_messages = r.assembler; last = r.last } };
+
+    ghost invariant = { λ r. IsStation (record { own = r.own; device = r.device; timing = r.timing; count = r.count; slots = r.slots.items; open_messages = r.assembler; last = r.last }) };
+}
+
+impl Requester {
+    /// A requester at the endpoint `own`, for the device at the endpoint `device`. It has no request,
+    /// and its last moment is 0.
+    ///
+    /// # Errors
+    ///
+    /// The first fault of the timing: a timeout of 0, tries that are not 1 to [`MOST_TRIES`], tries
+    /// that take longer than the keeping time, or the same endpoint ID twice.
+    ///
+    /// [`MOST_TRIES`]: crate::MOST_TRIES
+    pub fn new(
+        alloc: Global,
+        own: Eid,
+        device: Eid,
+        timing: Timing,
+    ) -> Result<Requester, TimingFault>
+        ensures held { IfOk result (λ requester. IsHeld (held_of requester) (held_at_first own device timing)) }
+        ensures ok { OnOk result (timing_fault own device timing ≡ None) }
+        ensures refused { IfErr result (λ fault. timing_fault own device timing ≡ Some fault) }
+    {
+        if let Some(fault) = timing.fault(own, device) {
+            return Err(fault);
+        }
+        Ok(Requester {
+            own,
+            device,
+            timing,
+            count: 0,
+            last: Moment::new(0).unwrap(),
+            assembler: Assembler::new(alloc),
+            slots: Vec::new(alloc),
+        })
+    }
+
+    /// The moment of the last call that answered neither Memory nor a fault of opening, 0 before the
+    /// first.
+    pub fn last_moment(&self) -> Moment
+        ensures { result ≡ (held_of self.now).last }
+    {
+        self.last
+    }
+
+    /// How many requests were opened: fewer than 2 to the 63.
+    pub fn count(&self) -> u64
+        ensures value { result ≡ (held_of self.now).count }
+        ensures range { result < 2 ^ 63 }
+    {
+        let _range = self.last.get();
+        self.count
+    }
+
+    /// The packets of a request's message, where it is among the last [`MOST_REMEMBERED`].
+    pub fn packets(&self, number: u64) -> Option<&Packets>
+        ensures { option_map (λ packets. packets.now) result ≡ option_map (λ memo. memo.packets) ((held_of self.now).remembered number) }
+    {
+        Some(&self.remembered(number)?.packets)
+    }
+
+    /// How a request stands, where it is among the last [`MOST_REMEMBERED`].
+    pub fn status(&self, number: u64) -> Option<Status<'_>>
+        ensures { option_map standing_told result ≡ option_map (λ memo. memo.course.standing) ((held_of self.now).remembered number) }
+    {
+        Some(self.remembered(number)?.status())
+    }
+
+    /// What is remembered of a request, where it is among the last ones.
+    fn remembered(&self, number: u64) -> Option<&Remembered>
+        ensures { option_copied result ≡ remembered_in self.now.count self.now.slots number }
+    {
+        if number >= self.count || self.count - number > MOST_REMEMBERED as u64 {
+            return None;
+        }
+        self.slots.get((number % MOST_REMEMBERED as u64) as usize)
+    }
+
+    /// Whether a request is among the last ones, and open.
+    fn is_open(&self, number: u64) -> bool
+        ensures { result ≡ is_open_in (held_of self.now) number }
+    {
+        match self.remembered(number) {
+            Some(request) => request.is_open(),
+            None => false,
+        }
+    }
+
+    /// Whether the last request with the next tag is open.
+    fn is_tag_in_use(&self) -> bool
+        ensures { result ≡ is_tag_in_use (held_of self.now) }
+    {
+        self.count >= u64::from(TAGS) && self.is_open(self.count - u64::from(TAGS))
+    }
+
+    /// Whether the last request with the next instance ID was opened less than twice the keeping time
+    /// ago.
+    fn is_id_in_use(&self, now: Moment) -> bool
+        ensures value { result ≡ is_id_in_use (held_of self.now) now }
+        ensures paced { OnFalse result (self.now.count < most_opened now) }
+    {
+        if self.count < u64::from(INSTANCE_IDS) {
+            return false;
+        }
+        match self.remembered(self.count - u64::from(INSTANCE_IDS)) {
+            Some(request) => {
+                let free = request.opening.get() + 2 * u64::from(self.timing.keep.get());
+                now.get() < free
+            }
+            None => false,
+        }
+    }
+
+    /// Opens a request for a command at the moment `now`, which must not be before
+    /// [`Requester::last_moment`]. Its packets are to be sent then.
+    ///
+    /// The request with number n has instance ID n modulo 32 and tag n modulo 8. What came of an
+    /// older answer on this tag is forgotten.
+    ///
+    /// # Errors
+    ///
+    /// `TagInUse` where request n - 8 is open; else `IdInUse` where request n - 32 was opened less than
+    /// twice the keeping time ago; else `Memory` where the room for the request and its answer was
+    /// refused, which only the first [`MOST_REMEMBERED`] requests want. The requester is then as
+    /// before.
+    pub fn open(&mut self, now: Moment, command: &Command) -> Result<Opened, OpenFault>
+        requires { (held_of self.old).last ≤ now }
+        ensures answer { IfOk result (λ opened. opening_answer (held_of self.old) now ≡ Ok opened) }
+        ensures fault { IfErr result (λ fault. ((fault ≡ OpenFault.Memory) × (accepts (held_of self.old) now ≡ true)) ⊎ (opening_answer (held_of self.old) now ≡ Err fault)) }
+        ensures room { IsErrOf result OpenFault.Memory → (held_of self.old).count < MOST_REMEMBERED }
+        ensures held { OnOk result (IsHeld (held_of self.new) (opened_held (held_of self.old) now command.now)) }
+        ensures err { OnErr result (IsHeld (held_of self.new) (held_of self.old)) }
+    {
+        if self.is_tag_in_use() {
+            return Err(OpenFault::TagInUse);
+        }
+        if self.is_id_in_use(now) {
+            return Err(OpenFault::IdInUse);
+        }
+        if make_room(&mut self.slots).is_err() {
+            return Err(OpenFault::Memory);
+        }
+        let number = self.count;
+        let id = id_of(number);
+        let tag = tag_of(number);
+        let packets = packets_of(self.own, self.device, tag, id, command);
+        put(
+            &mut self.slots,
+            number,
+            Remembered {
+                kind: command.kind(),
+                packets,
+                opening: now,
+                last_sent: now,
+                standing: Standing::Waiting,
+            },
+        );
+        self.assembler.forget(answer_key(self.device, tag));
+        self.count = number + 1;
+        self.last = now;
+        Ok(Opened { number, id, tag })
+    }
+
+    /// Tells which requests are due at the moment `now`, which must not be before
+    /// [`Requester::last_moment`].
+    ///
+    /// An open request is given up where all its tries have had their time; else it is to be sent
+    /// again where its last try has.
+    pub fn tick(&mut self, now: Moment) -> Due
+        requires { (held_of self.old).last ≤ now }
+        ensures again { result.again.items ≡ again_at (held_of self.old) now }
+        ensures given_up { result.given_up.items ≡ given_up_at (held_of self.old) now }
+        ensures held { IsHeld (held_of self.new) (ticked_held (held_of self.old) now) }
+    {
+        let due = self.due(now);
+        tick_all(&mut self.slots, &self.timing, now);
+        self.last = now;
+        due
+    }
+
+    /// The requests that are due.
+    fn due(&self, now: Moment) -> Due
+        ensures again { result.again.items ≡ again_at (held_of self.now) now }
+        ensures given_up { result.given_up.items ≡ given_up_at (held_of self.now) now }
+    {
+        let mut again = ArrayVec::new();
+        let mut given_up = ArrayVec::new();
+        for number in self.count.saturating_sub(MOST_OPEN as u64)..self.count {
+            list(&mut given_up, number, self.gives_up(number, now));
+            list(&mut again, number, self.sends_again(number, now));
+        }
+        Due { again, given_up }
+    }
+
+    /// Whether a tick gives up a request.
+    fn gives_up(&self, number: u64, now: Moment) -> bool
+        ensures { result ≡ passes (is_given_up self.now.timing now) ((held_of self.now).remembered number) }
+    {
+        match self.remembered(number) {
+            Some(request) => request.is_given_up(&self.timing, now),
+            None => false,
+        }
+    }
+
+    /// Whether a tick sends a request again.
+    fn sends_again(&self, number: u64, now: Moment) -> bool
+        ensures { result ≡ passes (is_sent_again self.now.timing now) ((held_of self.now).remembered number) }
+    {
+        match self.remembered(number) {
+            Some(request) => request.is_sent_again(&self.timing, now),
+            None => false,
+        }
+    }
+
+    /// Takes the bytes of a packet that came at the moment `now`, which must not be before
+    /// [`Requester::last_moment`], and gives what becomes of them.
+    ///
+    /// A packet that is addressed to the endpoint by the device, with TO 0 and the tag of an open
+    /// request, is assembled. A whole response with that request's instance ID, PLDM type and command
+    /// answers it, but for one with the completion code ERROR_NOT_READY (DSP0240, "Generic PLDM
+    /// completion codes").
+    ///
+    /// # Errors
+    ///
+    /// `Memory` where a growth was refused, which only a start packet that gives `Partial` wants. The
+    /// requester is then as before.
+    pub fn receive(&mut self, now: Moment, bytes: &[u8]) -> Result<Got, Memory>
+        requires { (held_of self.old).last ≤ now }
+        ensures got { IfOk result (λ got. got ≡ got_at (held_of self.old) bytes.now) }
+        ensures held { OnOk result (IsHeld (held_of self.new) (received_held (held_of self.old) now bytes.now)) }
+        ensures memory { OnErr result (got_at (held_of self.old) bytes.now ≡ Got.Partial) }
+        ensures at_start { OnErr result (begins_message (passed (held_of self.old) bytes.now) ≡ true) }
+        ensures err { OnErr result (IsHeld (held_of self.new) (held_of self.old)) }
+    {
+        let got = self.take(bytes)?;
+        self.last = now;
+        Ok(got)
+    }
+
+    /// Takes the bytes of a packet, whatever the moment.
+    fn take(&mut self, bytes: &[u8]) -> Result<Got, Memory>
+        ensures got { IfOk result (λ got. got ≡ got_at (held_of self.old) bytes.now) }
+        ensures held { OnOk result (IsHeld (held_of self.new) (held_by (held_of self.old) (passed (held_of self.old) bytes.now))) }
+        ensures memory { OnErr result (got_at (held_of self.old) bytes.now ≡ Got.Partial) }
+        ensures at_start { OnErr result (begins_message (passed (held_of self.old) bytes.now) ≡ true) }
+        ensures err { OnErr result (IsHeld (held_of self.new) (held_of self.old)) }
+    {
+        match read_for(self.own, bytes) {
+            Ok(packet) => self.take_packet(&packet),
+            Err(reason) => Ok(Got::Dropped(reason)),
+        }
+    }
+
+    /// Takes a packet that is addressed to the endpoint by another one.
+    fn take_packet(&mut self, packet: &PacketRef<'_>) -> Result<Got, Memory>
+        ensures got { IfOk result (λ got. got ≡ got_of (arrived_by (held_of self.old) (where_expected (expects (held_of self.old)) (Ok packet.now)))) }
+        ensures held { OnOk result (IsHeld (held_of self.new) (held_by (held_of self.old) (where_expected (expects (held_of self.old)) (Ok packet.now)))) }
+        ensures memory { OnErr result (got_of (arrived_by (held_of self.old) (where_expected (expects (held_of self.old)) (Ok packet.now))) ≡ Got.Partial) }
+        ensures at_start { OnErr result (begins_message (where_expected (expects (held_of self.old)) (Ok packet.now)) ≡ true) }
+        ensures err { OnErr result (IsHeld (held_of self.new) (held_of self.old)) }
+    {
+        let Some(number) = self.goes_to(packet) else {
+            return Ok(Got::Dropped(Reason::BadTag));
+        };
+        match self.assembler.feed(packet)? {
+            Fed::Whole(message) => Ok(self.answer(number, message)),
+            Fed::Partial => Ok(Got::Partial),
+            Fed::Dropped(reason) => Ok(Got::Dropped(reason)),
+        }
+    }
+
+    /// The request that a packet comes to: the latest on its tag, where that is open.
+    fn goes_to(&self, packet: &PacketRef<'_>) -> Option<u64>
+        ensures { result ≡ goes_to (held_of self.now) packet.now }
+    {
+        let route = packet.route();
+        let tag = u64::from(route.tag.get());
+        if route.owner || route.source != self.device || self.count <= tag {
+            return None;
+        }
+        let last = self.count - 1;
+        let number = last - (last - tag) % u64::from(TAGS);
+        if self.is_open(number) {
+            Some(number)
+        } else {
+            None
+        }
+    }
+
+    /// Takes a whole message that came to an open request.
+    fn answer(&mut self, number: u64, message: Body) -> Got
+        ensures got { result ≡ got_of (response_arrival (is_mine (held_of self.old)) number message.items (response_of message.items)) }
+        ensures held { IsHeld (held_of self.new) (record (held_of self.old) { remembered = remembered_after (held_of self.old) (response_arrival (is_mine (held_of self.old)) number message.items (response_of message.items)) }) }
+    {
+        let response = match read_response(&message) {
+            Ok(response) => response,
+            Err(reason) => return Got::Dropped(reason),
+        };
+        if !self.is_mine(number, &response) {
+            return Got::Dropped(Reason::NotMine);
+        }
+        if response.code() == ERROR_NOT_READY {
+            return Got::Dropped(Reason::NotReady);
+        }
+        let place = (number % MOST_REMEMBERED as u64) as usize;
+        let slot = &mut self.slots[place];
+        slot.standing = Standing::Answered(message);
+        Got::Answered(number)
+    }
+
+    /// Whether a response has the instance ID, the PLDM type and the command of a request.
+    fn is_mine(&self, number: u64, response: &ResponseRef<'_>) -> bool
+        ensures { result ≡ is_mine (held_of self.now) number response.now }
+    {
+        match self.remembered(number) {
+            Some(request) => is_answer(number, request.kind, response),
+            None => false,
+        }
+    }
+}
+
+/// Whether a response has the instance ID, the PLDM type and the command of a request.
+fn is_answer(number: u64, kind: Kind, response: &ResponseRef<'_>) -> bool
+    ensures { result ≡ is_response_to number kind response.now }
+{
+    let answered = response.kind();
+    response.id() == id_of(number)
+        && answered.pldm_type == kind.pldm_type
+        && answered.command == kind.command
+}
+
+/// The instance ID of a request.
+fn id_of(number: u64) -> u8
+    ensures value { result ≡ id_of number }
+    ensures range { result < INSTANCE_IDS }
+{
+    (number % u64::from(INSTANCE_IDS)) as u8
+}
+
+/// The tag of a request.
+fn tag_of(number: u64) -> Tag
+    ensures value { result ≡ tag_of number }
+    ensures range { IsTag result }
+{
+    Tag::new((number % u64::from(TAGS)) as u8).unwrap()
+}
+
+/// The packets of a command's request: its message is one packet.
+fn packets_of(own: Eid, device: Eid, tag: Tag, id: u8, command: &Command) -> Packets
+    requires { id < INSTANCE_IDS }
+    ensures { result ≡ written_packets (record { destination = device; source = own; owner = true; tag = tag }) (command_message id command.now) }
+{
+    pldm_wire::laws::messages_fit();
+    let route = Route {
+        destination: device,
+        source: own,
+        owner: true,
+        tag,
+    };
+    let message = write_command(id, command);
+    split(&route, &message).unwrap()
+}
+
+/// Takes the room for one more request and its answer, where there are not all slots yet.
+fn make_room(slots: &mut Vec<Remembered>) -> Result<(), Memory>
+    ensures items { slots.new.items ≡ slots.old.items }
+    ensures ok { OnOk result (vec_len slots.old < MOST_REMEMBERED → vec_len slots.new < vec_capacity slots.new) }
+    ensures err { OnErr result (vec_len slots.old < MOST_REMEMBERED) }
+{
+    if slots.len() < MOST_REMEMBERED {
+        slots.reserve(1)?;
+    }
+    Ok(())
+}
+
+/// Adds a number to a list, where it is due.
+fn list(numbers: &mut ArrayVec<u64, MOST_OPEN>, number: u64, is_due: bool)
+    requires { array_vec_len numbers.old < MOST_OPEN }
+    ensures items { numbers.new.items ≡ numbers.old.items ++ (if is_due then number ∷ [] else []) }
+    ensures few { array_vec_len numbers.new ≤ array_vec_len numbers.old + 1 }
+{
+    if is_due {
+        numbers.push(number);
+    }
+}
+
+/// Puts a request in the slot of its number, or at the end, where there has to be room.
+fn put(slots: &mut Vec<Remembered>, number: u64, request: Remembered)
+    requires room { number < MOST_REMEMBERED → vec_len slots.old < vec_capacity slots.old }
+    requires slot { MOST_REMEMBERED ≤ number → vec_len slots.old ≡ MOST_REMEMBERED }
+    ensures { slots.new.items ≡ put_slot number slots.old.items request }
+{
+    if number < MOST_REMEMBERED as u64 {
+        slots.push(request).unwrap();
+    } else {
+        slots[(number % MOST_REMEMBERED as u64) as usize] = request;
+    }
+}
+
+/// Whose messages the answers on a tag are.
+fn answer_key(device: Eid, tag: Tag) -> Key
+    ensures { result ≡ answer_key device tag }
+{
+    Key {
+        source: device,
+        tag,
+        owner: false,
+    }
+}
