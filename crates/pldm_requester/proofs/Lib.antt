@@ -2,6 +2,7 @@ pub mod Numbers
 pub mod SlotLists
 pub mod SlotSteps
 pub mod KeyOrder
+pub mod WorkedRows
 pub mod OpenRequests
 pub mod TagSearch
 pub mod FedPackets

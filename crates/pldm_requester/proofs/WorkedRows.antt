@@ -1,0 +1,191 @@
+-- Requester 8 and its device 9, with a keeping time of 1000, a timeout of 200 and 3 tries: what a few calls give, computed
+-- from the definitions. And the premises can be met.
+use Rattle.std.specs.FinMap as map
+use Rattle.std.proofs.Common.{◌≡◌, ℕ, ◌<◌, true, false, List, [], ◌∷◌, Some, None, Ok, Err, refl, sym, arith, lit≤}
+use Rattle.std.specs.Prelude.{nat_lt}
+use Rattle.std.proofs.lemmas.Bool.{and_left, cond-false, le-ltb}
+use Rattle.mctp_packet.specs.declared.reason.Reason.TheVariants.{BadTag, NotResponse, NotMine, NotReady}
+use Rattle.mctp_assembly.specs.Keys.{key_cmp}
+use Rattle.pldm_wire.specs.Responses.{response_of}
+use Rattle.pldm_wire.specs.declared.command.Command.TheVariants.{GetTid}
+use Rattle.pldm_requester.specs.Calls.{Call, Open, Tick, Receive, Requests, is_tag_in_use, is_id_in_use, is_open_at, open_answer, open_on, requests, open_owed, again_owed, given_up_owed, got_owed}
+use Rattle.pldm_requester.specs.Courses.{Answered}
+use Rattle.pldm_requester.specs.Laws.{IsLeftBy, IsInOrder}
+use Rattle.pldm_requester.specs.Numbering.{packets_of}
+use Rattle.pldm_requester.specs.Slots.{AreSlots}
+use Rattle.pldm_requester.specs.Steps.{Held, IsHeld, held_at_first, is_recent, ticked_held}
+use Rattle.pldm_requester.specs.Timings.{timing_fault}
+use Rattle.pldm_requester.specs.declared.got.Got.TheVariants as got
+use Rattle.pldm_requester.specs.declared.opened.OpenFault.TheVariants.{TagInUse, IdInUse}
+use Rattle.pldm_requester.specs.declared.timing.Timing.{Timing}
+use Rattle.pldm_requester.specs.declared.timing.TimingFault.TheVariants.{Timeout, Tries, TooLate, SameEid}
+use Rattle.pldm_requester.proofs.CallsLookBack.{tick_looks_back}
+
+abbrev with_times : ℕ → ℕ → Timing
+with_times timeout tries = record { keep = 1000; timeout = timeout; tries = tries }
+
+abbrev timing : Timing
+timing = with_times 200 3
+
+-- ---- timings
+no_timeout : timing_fault 8 9 (with_times 0 9) ≡ Some Timeout
+no_timeout = refl
+
+no_tries : timing_fault 8 9 (with_times 200 0) ≡ Some Tries
+no_tries = refl
+
+too_many_tries : timing_fault 8 9 (with_times 200 9) ≡ Some Tries
+too_many_tries = refl
+
+tries_longer_than_the_keeping_time : timing_fault 8 9 (with_times 334 3) ≡ Some TooLate
+tries_longer_than_the_keeping_time = refl
+
+tries_as_long_as_the_keeping_time : timing_fault 8 9 (with_times 250 4) ≡ None
+tries_as_long_as_the_keeping_time = refl
+
+own_endpoint : timing_fault 9 9 timing ≡ Some SameEid
+own_endpoint = refl
+
+-- ---- opens
+abbrev one : List Call
+one = Open 0 GetTid ∷ []
+
+its_packet : packets_of 8 9 0 GetTid ≡ (1 ∷ 9 ∷ 8 ∷ 200 ∷ 1 ∷ 128 ∷ 0 ∷ 2 ∷ []) ∷ []
+its_packet = refl
+
+eight_open : open_owed 8 9 timing (Open 0 GetTid ∷ Open 0 GetTid ∷ Open 0 GetTid ∷ Open 0 GetTid ∷ Open 0 GetTid ∷ Open 0 GetTid ∷ Open 0 GetTid ∷ one) 0 ≡ Err TagInUse
+eight_open = refl
+
+-- 32 requests that were opened at 0, and answered
+abbrev all_answered : Requests
+all_answered = record {
+  count = 32;
+  each = λ n. record { command = GetTid; course = record { opening = 0; last_sent = 0; standing = Answered [] }; fed = [] };
+}
+
+before_twice_the_keeping_time : open_answer (is_tag_in_use all_answered) (is_id_in_use 1000 all_answered 1999) 32 ≡ Err IdInUse
+before_twice_the_keeping_time = refl
+
+at_twice_the_keeping_time : open_answer (is_tag_in_use all_answered) (is_id_in_use 1000 all_answered 2000) 32 ≡ Ok (record { number = 32; id = 0; tag = 0 })
+at_twice_the_keeping_time = refl
+
+-- ---- ticks
+before_the_timeout : again_owed 8 9 timing one 199 ≡ []
+before_the_timeout = refl
+
+at_the_timeout : again_owed 8 9 timing one 200 ≡ 0 ∷ []
+at_the_timeout = refl
+
+again_at_the_next_timeout : again_owed 8 9 timing (Tick 399 ∷ Tick 200 ∷ one) 400 ≡ 0 ∷ []
+again_at_the_next_timeout = refl
+
+not_before_the_next_timeout : again_owed 8 9 timing (Tick 200 ∷ one) 399 ≡ []
+not_before_the_next_timeout = refl
+
+not_given_up_before_all_tries : given_up_owed 8 9 timing (Tick 400 ∷ Tick 200 ∷ one) 599 ≡ []
+not_given_up_before_all_tries = refl
+
+given_up_after_all_tries : given_up_owed 8 9 timing (Tick 400 ∷ Tick 200 ∷ one) 600 ≡ 0 ∷ []
+given_up_after_all_tries = refl
+
+what_is_given_up_is_not_sent_again : again_owed 8 9 timing one 650 ≡ []
+what_is_given_up_is_not_sent_again = refl
+
+-- ---- answers
+abbrev tid : List ℕ
+tid = 1 ∷ 8 ∷ 9 ∷ 192 ∷ 1 ∷ 0 ∷ 0 ∷ 2 ∷ 0 ∷ 1 ∷ []
+
+another_tag : got_owed 8 9 timing one (1 ∷ 8 ∷ 9 ∷ 193 ∷ 1 ∷ 0 ∷ 0 ∷ 2 ∷ 0 ∷ 1 ∷ []) ≡ got.Dropped BadTag
+another_tag = refl
+
+with_the_tag_owner : got_owed 8 9 timing one (1 ∷ 8 ∷ 9 ∷ 200 ∷ 1 ∷ 0 ∷ 0 ∷ 2 ∷ 0 ∷ 1 ∷ []) ≡ got.Dropped BadTag
+with_the_tag_owner = refl
+
+from_another_endpoint : got_owed 8 9 timing one (1 ∷ 8 ∷ 10 ∷ 192 ∷ 1 ∷ 0 ∷ 0 ∷ 2 ∷ 0 ∷ 1 ∷ []) ≡ got.Dropped BadTag
+from_another_endpoint = refl
+
+a_request : got_owed 8 9 timing one (1 ∷ 8 ∷ 9 ∷ 192 ∷ 1 ∷ 128 ∷ 0 ∷ 2 ∷ 0 ∷ 1 ∷ []) ≡ got.Dropped NotResponse
+unfolding response_of
+a_request = refl
+
+another_instance_id : got_owed 8 9 timing one (1 ∷ 8 ∷ 9 ∷ 192 ∷ 1 ∷ 1 ∷ 0 ∷ 2 ∷ 0 ∷ 1 ∷ []) ≡ got.Dropped NotMine
+unfolding response_of
+another_instance_id = refl
+
+another_type : got_owed 8 9 timing one (1 ∷ 8 ∷ 9 ∷ 192 ∷ 1 ∷ 0 ∷ 2 ∷ 2 ∷ 0 ∷ 1 ∷ []) ≡ got.Dropped NotMine
+unfolding response_of
+another_type = refl
+
+another_command : got_owed 8 9 timing one (1 ∷ 8 ∷ 9 ∷ 192 ∷ 1 ∷ 0 ∷ 0 ∷ 3 ∷ 0 ∷ 1 ∷ []) ≡ got.Dropped NotMine
+unfolding response_of
+another_command = refl
+
+not_mine_before_not_ready : got_owed 8 9 timing one (1 ∷ 8 ∷ 9 ∷ 192 ∷ 1 ∷ 1 ∷ 0 ∷ 2 ∷ 4 ∷ []) ≡ got.Dropped NotMine
+unfolding response_of
+not_mine_before_not_ready = refl
+
+not_ready : got_owed 8 9 timing one (1 ∷ 8 ∷ 9 ∷ 192 ∷ 1 ∷ 0 ∷ 0 ∷ 2 ∷ 4 ∷ []) ≡ got.Dropped NotReady
+unfolding response_of
+not_ready = refl
+
+its_own : got_owed 8 9 timing one tid ≡ got.Answered 0
+unfolding response_of
+its_own = refl
+
+-- a refused command answers too
+a_refusal : got_owed 8 9 timing one (1 ∷ 8 ∷ 9 ∷ 192 ∷ 1 ∷ 0 ∷ 0 ∷ 2 ∷ 5 ∷ []) ≡ got.Answered 0
+unfolding response_of
+a_refusal = refl
+
+only_once : got_owed 8 9 timing (Receive 0 tid ∷ one) tid ≡ got.Dropped BadTag
+unfolding response_of
+only_once = refl
+
+how_it_stands : ((requests 8 9 timing (Receive 0 tid ∷ one)).each 0).course.standing ≡ Answered (1 ∷ 0 ∷ 0 ∷ 2 ∷ 0 ∷ 1 ∷ [])
+unfolding response_of
+how_it_stands = refl
+
+-- ---- the last 32
+thirty_third : is_recent 33 0 ≡ false
+thirty_third = refl
+
+the_one_after : is_recent 33 1 ≡ true
+the_one_after = refl
+
+-- ---- the premises can be met
+abbrev new_requester : Held
+new_requester = held_at_first 8 9 timing
+
+new_one_is_left : IsLeftBy 8 9 timing new_requester []
+new_one_is_left = record {
+  endpoint = refl;
+  peer = refl;
+  times = refl;
+  count = refl;
+  remembered = λ n. sym (cond-false (is_recent 0 n) _ _ (and_left (nat_lt n 0) _ (le-ltb n 0 (omega arith))));
+  open_messages = λ key. map.get-empty key_cmp key;
+  last = refl;
+}
+
+one_with_a_tick_is_left : IsLeftBy 8 9 timing (ticked_held new_requester 5) (Tick 5 ∷ [])
+one_with_a_tick_is_left = (tick_looks_back 8 9 timing new_requester [] 5 new_one_is_left).2
+
+same_as_itself : IsHeld new_requester new_requester
+same_as_itself = record {
+  own = refl;
+  device = refl;
+  timing = refl;
+  count = refl;
+  remembered = λ n. refl;
+  open_messages = refl;
+  last = refl;
+}
+
+moments_in_order : IsInOrder 8 9 timing (Receive 250 tid ∷ Tick 200 ∷ Open 0 GetTid ∷ one)
+moments_in_order = (lit≤ tt, (lit≤ tt, (lit≤ tt, (lit≤ tt, tt))))
+
+second_has_its_own_tag : open_on (is_open_at (requests 8 9 timing (Open 0 GetTid ∷ one))) 2 1 ≡ Some 1
+second_has_its_own_tag = refl
+
+no_slots_yet : AreSlots 0 []
+no_slots_yet = record { some = λ few. refl; all = λ many. absurd (omega arith) }
