@@ -7,7 +7,7 @@ use Rattle.std.proofs.lemmas.Bool.{and_left, and_right, and_from, cases_Bool, ca
 use Rattle.std.proofs.lemmas.List.FromFn.{length-range_with_len}
 use Rattle.std.proofs.lemmas.List.Sums.{length-filter, count_by-le-length}
 use Rattle.mctp_packet.specs.Packets.{Packet}
-use Rattle.mctp_packet.specs.Passing.{passing, where_expected}
+use Rattle.mctp_packet.specs.Passing.{passed as where_expected}
 use Rattle.mctp_packet.specs.Reading.{reading, packet_of, unless}
 use Rattle.mctp_packet.specs.Refusals.{refusal}
 use Rattle.mctp_packet.specs.declared.reason.Reason.{Reason}

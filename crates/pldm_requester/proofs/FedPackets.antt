@@ -4,7 +4,7 @@ use Rattle.std.specs.Prelude.{◌&&◌, ◌==◌, not, is_some}
 use Rattle.std.specs.Ordering.{eq_by_cmp}
 use Rattle.std.proofs.lemmas.Bool.{and_parts, not-true, cases_Bool, cases_eq, cond-true, cond-false, cond_both}
 use Rattle.mctp_packet.specs.Packets.{Packet}
-use Rattle.mctp_packet.specs.Passing.{where_expected}
+use Rattle.mctp_packet.specs.Passing.{passed as where_expected}
 use Rattle.mctp_packet.specs.Reading.{reading}
 use Rattle.mctp_packet.specs.declared.reason.Reason.{Reason}
 use Rattle.mctp_packet.specs.declared.reason.Reason.TheVariants.{BadTag}

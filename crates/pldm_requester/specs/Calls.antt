@@ -106,7 +106,7 @@ module _ (own device : ℕ) (timing : Timing) where
 
   -- the packet that bytes are, where it passes the checks: its tag is expected where it comes to a request
   abbrev pub passed : Requests → List ℕ → Result Packet Reason
-  passed a bytes = passing own (λ p. is_some (goes_to a p)) bytes
+  passed a bytes = passing (λ p. is_some (goes_to a p)) own bytes
 
   abbrev pub gives : Requests → ℕ → Packet → Fed
   gives a n p = next (a.each n).fed p

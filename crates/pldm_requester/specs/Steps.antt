@@ -160,7 +160,7 @@ module _ (held : Held) where
   expects p = is_some (goes_to p)
 
   abbrev pub passed : List ℕ → Result Packet Reason
-  passed bytes = passing held.own expects bytes
+  passed bytes = passing expects held.own bytes
 
   abbrev pub is_mine : ℕ → Response → Bool
   is_mine number response = is_mine_by number (held.remembered number) response
