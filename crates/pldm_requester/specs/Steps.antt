@@ -7,7 +7,6 @@ use Rattle.mctp_packet.specs.Passing.{passing}
 use Rattle.mctp_packet.specs.declared.reason.Reason.{Reason}
 use Rattle.mctp_packet.specs.declared.TheConstants.{TAGS}
 use Rattle.mctp_assembly.specs.Steps as assembly
-use Rattle.mctp_assembly.specs.declared.fed.Fed.{Fed}
 use Rattle.pldm_wire.specs.Commands.{kind_of}
 use Rattle.pldm_wire.specs.Kinds.{TypeAndCommand}
 use Rattle.pldm_wire.specs.Responses.{Response}
