@@ -1,13 +1,12 @@
 -- What a requester holds and answers is what looking back over the list of its calls says.
-use Rattle.std.specs.FinMap as map
-use Rattle.std.proofs.Common.{◌≡◌, ◌⊎◌, ℕ, zero, suc, ◌+◌, ◌-◌, ◌*◌, ◌%◌, ◌<◌, ◌≤◌, Bool, true, false, cond, List, [], ◌∷◌, ◌++◌, length, Option, Some, None, Result, Ok, Err, refl, sym, ap, ◌∙◌, subst, inl, inr, ⊎_elim, arith, lit≤, eq-eqb}
+use Rattle.std.proofs.Common.{◌≡◌, ◌⊎◌, ℕ, zero, suc, ◌+◌, ◌-◌, ◌*◌, ◌<◌, ◌≤◌, Bool, true, false, cond, List, ◌∷◌, length, Option, Some, None, Result, Ok, Err, refl, sym, ap, ◌∙◌, subst, inl, inr, arith, lit≤, eq-eqb}
 use Rattle.std.specs.Prelude.{◌&&◌, ◌==◌, not, nat_lt, nat_le, filter, option_map, is_some, if◌then◌else◌}
 use Rattle.std.specs.List.{range_with_len}
-use Rattle.std.proofs.lemmas.Bool.{and_left, and_right, and_from, cases_Bool, cases_eq, cases_lt, cond-true, cond-false, ne_eqb, leb-true, le-ltb}
+use Rattle.std.proofs.lemmas.Bool.{and_left, cases_Bool, cases_eq, cond-true, cond-false, ne_eqb, leb-true, le-ltb}
 use Rattle.std.proofs.lemmas.List.FromFn.{length-range_with_len}
 use Rattle.std.proofs.lemmas.List.Sums.{length-filter, count_by-le-length}
 use Rattle.mctp_packet.specs.Packets.{Packet}
-use Rattle.mctp_packet.specs.Passing.{passing, where_expected}
+use Rattle.mctp_packet.specs.Passing.{passed as where_expected}
 use Rattle.mctp_packet.specs.Reading.{reading, packet_of, unless}
 use Rattle.mctp_packet.specs.Refusals.{refusal}
 use Rattle.mctp_packet.specs.declared.reason.Reason.{Reason}
@@ -17,25 +16,24 @@ use Rattle.mctp_assembly.specs.Histories as histories
 use Rattle.mctp_assembly.specs.Laws as assembly
 use Rattle.mctp_assembly.specs.Rows as rows
 use Rattle.mctp_assembly.specs.Steps as assembling
-use Rattle.mctp_assembly.specs.Keys.{key_of}
 use Rattle.mctp_assembly.specs.declared.fed.Fed.{Fed}
 use Rattle.mctp_assembly.specs.declared.fed.Fed.TheVariants as feds
 use Rattle.pldm_wire.specs.Commands.{kind_of}
 use Rattle.pldm_wire.specs.Responses.{Response, response_of}
 use Rattle.pldm_wire.specs.declared.command.Command.{Command}
-use Rattle.pldm_requester.specs.Arrivals.{Arrival, Drop, Part, Answer, got_of, is_response_to, response_arrival, fed_arrival, packet_arrival, passed_arrival}
+use Rattle.pldm_requester.specs.Arrivals.{Arrival, Drop, Part, Answer, got_of, response_arrival, fed_arrival, packet_arrival, passed_arrival}
 use Rattle.pldm_requester.specs.Calls as calls
 use Rattle.pldm_requester.specs.Calls.{Call, Open, Tick, Receive, Request, Requests, new_request, put, opened, with_request, is_open_at, open_answer, open_on, answer_key, is_from_device, numbers_of, ticked_request, fed_by, answered_by, requests, last_moment, with_packet, assembled}
-use Rattle.pldm_requester.specs.Courses.{Course, is_open, begun, is_given_up, is_sent_again, ticked, answered}
+use Rattle.pldm_requester.specs.Courses.{Course, is_open, is_given_up, is_sent_again, ticked, answered}
 use Rattle.pldm_requester.specs.Laws.{memo_of, memo_at, IsLeftBy, OpenLooksBack, TickLooksBack, ReceiveLooksBack, NewLooksBack, SameIsLeft, FewAreOpen}
 use Rattle.pldm_requester.specs.Numbering.{tag_of, packets_of}
 use Rattle.pldm_requester.specs.Steps as steps
 use Rattle.pldm_requester.specs.Steps.{Memo, Held, IsHeld, is_recent, passes, with_course, latest_on, where_open, recent_numbers, is_mine_by, open_after, opened_held, opening_answer, again_at, given_up_at, ticked_held, arrived_by, remembered_after, got_at, held_by, received_held}
 use Rattle.pldm_requester.specs.declared.timing.Timing.{Timing}
 use Rattle.pldm_requester.proofs.SlotLists.{recent_parts, recent_from}
-use Rattle.pldm_requester.proofs.OpenRequests.{put_here, put_other, put_keeps, Recent, within, recent, given_up_open, sent_again_open, came_course, came_command, came_count, came_by, came_by_count, answered_count}
+use Rattle.pldm_requester.proofs.OpenRequests.{put_here, put_other, Recent, within, recent, given_up_open, sent_again_open, came_course, came_command, came_count, came_by, came_by_count}
 use Rattle.pldm_requester.proofs.TagSearch.{latest_is}
-use Rattle.pldm_requester.proofs.FedPackets.{expected, ComesTo, comes_to, goes_where, fed_since}
+use Rattle.pldm_requester.proofs.FedPackets.{expected, comes_to, goes_where, fed_since}
 
 -- ---- what is remembered
 module _ (own device : ℕ) (a : Requests) where

@@ -1,10 +1,10 @@
 -- What came to an open request are the packets of its tag that came to assembly since its opening.
-use Rattle.std.proofs.Common.{◌≡◌, ◌⊎◌, ℕ, suc, ◌+◌, ◌-◌, ◌%◌, ◌<◌, ◌≤◌, Bool, true, false, cond, List, [], ◌∷◌, Option, Some, None, Result, Ok, Err, refl, sym, ap, ◌∙◌, subst, inl, inr, ⊎_elim, arith, eqb-true}
-use Rattle.std.specs.Prelude.{◌&&◌, ◌==◌, not, is_some}
+use Rattle.std.proofs.Common.{◌≡◌, ◌⊎◌, ℕ, ◌+◌, ◌<◌, ◌≤◌, Bool, true, false, cond, List, [], ◌∷◌, Option, Some, None, Result, Ok, Err, refl, sym, ap, ◌∙◌, inl, inr, arith, eqb-true}
+use Rattle.std.specs.Prelude.{◌==◌, not, is_some}
 use Rattle.std.specs.Ordering.{eq_by_cmp}
-use Rattle.std.proofs.lemmas.Bool.{and_parts, not-true, cases_Bool, cases_eq, cond-true, cond-false, cond_both}
+use Rattle.std.proofs.lemmas.Bool.{and_parts, not-true, cases_Bool, cases_eq, cond-true, cond-false}
 use Rattle.mctp_packet.specs.Packets.{Packet}
-use Rattle.mctp_packet.specs.Passing.{where_expected}
+use Rattle.mctp_packet.specs.Passing.{passed as where_expected}
 use Rattle.mctp_packet.specs.Reading.{reading}
 use Rattle.mctp_packet.specs.declared.reason.Reason.{Reason}
 use Rattle.mctp_packet.specs.declared.reason.Reason.TheVariants.{BadTag}
@@ -13,13 +13,13 @@ use Rattle.mctp_assembly.specs.Keys.{key_cmp, key_of}
 use Rattle.mctp_assembly.specs.declared.key.Key.{Key}
 use Rattle.pldm_wire.specs.declared.command.Command.{Command}
 use Rattle.pldm_requester.specs.Arrivals.{passed_arrival}
-use Rattle.pldm_requester.specs.Calls.{Call, Open, Tick, Receive, Request, Requests, new_request, put, opened, with_request, is_open_at, accepts, open_on, answer_key, is_from_device, goes_to, passed, gives, is_mine, fed_to, fed_by, after_call, requests, with_packet, assembled}
-use Rattle.pldm_requester.specs.Courses.{Course, is_open}
+use Rattle.pldm_requester.specs.Calls.{Call, Open, Tick, Receive, Request, Requests, new_request, put, opened, is_open_at, accepts, open_on, answer_key, is_from_device, goes_to, passed, gives, is_mine, fed_to, fed_by, after_call, requests, with_packet, assembled}
+use Rattle.pldm_requester.specs.Courses.{is_open}
 use Rattle.pldm_requester.specs.Laws.{FedSinceItsOpening, BeginsWithNone}
 use Rattle.pldm_requester.specs.Numbering.{tag_of}
 use Rattle.pldm_requester.specs.declared.timing.Timing.{Timing}
 use Rattle.pldm_requester.proofs.KeyOrder.{same_key, other_key}
-use Rattle.pldm_requester.proofs.OpenRequests.{put_here, put_other, shut_stays, Recent, within, recent, recent_opened, accepted_tag, answered_fed, came_by, came_by_shut, fed_course}
+use Rattle.pldm_requester.proofs.OpenRequests.{put_here, put_other, shut_stays, Recent, within, recent, recent_opened, accepted_tag, answered_fed, came_by, came_by_shut}
 use Rattle.pldm_requester.proofs.TagSearch.{open_on_some}
 
 -- ---- a packet that passed

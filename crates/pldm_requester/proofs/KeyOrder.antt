@@ -1,8 +1,7 @@
 -- The keys of the answers on two tags are the same where the tags are.
-use Rattle.std.proofs.Common.{◌≡◌, ◌⊎◌, ℕ, ◌<◌, Bool, true, false, cond, refl, ap, ◌∙◌, inl, inr, eq-eqb, arith}
+use Rattle.std.proofs.Common.{◌≡◌, ◌⊎◌, ℕ, true, false, cond, refl, ap, ◌∙◌, inl, inr, eq-eqb, arith}
 use Rattle.std.specs.Prelude.{◌==◌, nat_lt}
 use Rattle.std.specs.Ordering.{eq_by_cmp, is_eq, nat_cmp, ordering_then, bool_cmp}
-use Rattle.std.specs.declared.cmp.Ordering.{Ordering}
 use Rattle.std.specs.declared.cmp.Ordering.TheVariants.{Less, Equal, Greater}
 use Rattle.std.proofs.lemmas.Bool.{cond-true, cond-false, cases_Bool, le-ltb, ne_eqb}
 use Rattle.mctp_assembly.specs.Keys.{key_cmp}

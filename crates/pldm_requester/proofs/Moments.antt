@@ -1,10 +1,9 @@
 -- Where moments never go back, requests with one instance ID are opened twice the keeping time apart, or more.
-use Rattle.std.proofs.Common.{◌≡◌, ◌⊎◌, ℕ, zero, suc, ◌+◌, ◌-◌, ◌*◌, ◌/◌, ◌%◌, ◌<◌, ◌≤◌, Bool, true, false, cond, List, [], ◌∷◌, refl, sym, ap, ◌∙◌, subst, inl, inr, ⊎_elim, arith}
-use Rattle.std.specs.Prelude.{◌&&◌, nat_lt, nat_le}
-use Rattle.std.proofs.lemmas.Bool.{and_cases, cases_eq, leb-false, ltb-false, cond-true}
+use Rattle.std.proofs.Common.{◌≡◌, ℕ, zero, suc, ◌+◌, ◌-◌, ◌*◌, ◌/◌, ◌<◌, ◌≤◌, Bool, true, false, cond, List, [], ◌∷◌, refl, sym, ap, subst, ⊎_elim, arith}
+use Rattle.std.specs.Prelude.{nat_lt, nat_le}
+use Rattle.std.proofs.lemmas.Bool.{and_cases, cases_eq, leb-false, ltb-false}
 use Rattle.pldm_wire.specs.declared.command.Command.{Command}
-use Rattle.pldm_requester.specs.Calls.{Call, Open, Tick, Receive, Request, Requests, none_yet, new_request, put, opened, is_id_in_use, accepts, passed, after_call, requests, last_moment}
-use Rattle.pldm_requester.specs.Courses.{Course}
+use Rattle.pldm_requester.specs.Calls.{Call, Open, Tick, Receive, Request, Requests, new_request, opened, is_id_in_use, accepts, passed, after_call, requests, last_moment}
 use Rattle.pldm_requester.specs.Laws.{IsInOrder, OpenedBefore, IdsApart}
 use Rattle.pldm_requester.specs.declared.timing.Timing.{Timing}
 use Rattle.pldm_requester.proofs.OpenRequests.{put_here, put_other, ticked_opening, accepted_id, came_by_count, came_by_opening}

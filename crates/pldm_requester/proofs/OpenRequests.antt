@@ -1,13 +1,13 @@
 -- Which requests are open: none that is not opened yet, and of the others the last eight alone.
-use Rattle.std.proofs.Common.{◌≡◌, ◌⊎◌, ℕ, suc, ◌+◌, ◌-◌, ◌*◌, ◌%◌, ◌<◌, ◌≤◌, Bool, true, false, cond, List, [], ◌∷◌, Option, Some, None, Result, Ok, Err, refl, sym, ap, ◌∙◌, subst, inl, inr, ⊎_elim, arith, eq-eqb}
-use Rattle.std.specs.Prelude.{◌&&◌, ◌==◌, not, nat_lt, nat_le}
+use Rattle.std.proofs.Common.{◌≡◌, ◌⊎◌, ℕ, ◌+◌, ◌-◌, ◌<◌, ◌≤◌, true, false, cond, List, [], ◌∷◌, Option, Some, None, Result, Ok, Err, refl, sym, ap, ◌∙◌, subst, inl, inr, ⊎_elim, arith, eq-eqb}
+use Rattle.std.specs.Prelude.{◌&&◌, ◌==◌, not, nat_le}
 use Rattle.std.proofs.lemmas.Bool.{and_left, and_parts, and_cases, not-true, cases_lt, cases_eq, cond-true, cond-false, cond_both, leb-false, ne_eqb}
 use Rattle.mctp_packet.specs.Packets.{Packet}
 use Rattle.mctp_packet.specs.declared.reason.Reason.{Reason}
 use Rattle.pldm_wire.specs.declared.command.Command.{Command}
 use Rattle.pldm_requester.specs.Arrivals.{Arrival, Drop, Part, Answer, passed_arrival}
-use Rattle.pldm_requester.specs.Calls.{Call, Open, Tick, Receive, Request, Requests, none_yet, new_request, put, opened, with_request, is_open_at, is_tag_in_use, is_id_in_use, accepts, goes_to, passed, gives, is_mine, arrived, fed_to, fed_by, answered_by, received, ticked_request, after_call, requests}
-use Rattle.pldm_requester.specs.Courses.{Course, is_open, is_over, is_given_up, is_sent_again, given_up, sent_again, ticked, answered}
+use Rattle.pldm_requester.specs.Calls.{Call, Open, Tick, Receive, Request, Requests, none_yet, new_request, put, opened, is_open_at, is_tag_in_use, is_id_in_use, accepts, goes_to, passed, gives, is_mine, fed_to, fed_by, answered_by, received, after_call, requests}
+use Rattle.pldm_requester.specs.Courses.{Course, is_open, is_over, is_given_up, is_sent_again, given_up, sent_again, ticked}
 use Rattle.pldm_requester.specs.Laws.{OpenAreRecent, OpenAreOpened, OneOnEachTag}
 use Rattle.pldm_requester.specs.declared.timing.Timing.{Timing}
 

@@ -1,11 +1,10 @@
 -- What is remembered of each request, once a slot was written.
-use Rattle.std.proofs.Common.{◌≡◌, ◌⊎◌, ℕ, zero, suc, ◌+◌, ◌-◌, ◌*◌, ◌%◌, ◌<◌, ◌≤◌, Bool, true, false, cond, List, [], ◌∷◌, ◌++◌, length, Option, Some, None, refl, sym, ap, ◌∙◌, subst, inl, inr, ⊎_elim, arith, length-append, eq-eqb, get_or}
-use Rattle.std.specs.Prelude.{◌&&◌, ◌==◌, nat_lt, nat_le, slice_get, slice_set, IfSome}
+use Rattle.std.proofs.Common.{◌≡◌, ◌⊎◌, ℕ, zero, suc, ◌+◌, ◌%◌, ◌<◌, ◌≤◌, Bool, true, false, cond, List, [], ◌∷◌, ◌++◌, length, Some, None, refl, sym, ap, ◌∙◌, inl, inr, arith, length-append, eq-eqb}
+use Rattle.std.specs.Prelude.{◌==◌, nat_lt, nat_le, slice_get, slice_set}
 use Rattle.std.proofs.Math.ListN.{length-set}
-use Rattle.std.proofs.lemmas.Bool.{and_parts, and_from, and_cases, cases_Bool, cases_eq, cond-true, cond-false, ne_eqb, ltb-true, ltb-false, leb-true, leb-false, lt-ltb, le-leb, le-ltb, lt-leb}
-use Rattle.std.proofs.lemmas.Option.{cond_some, slice_get_within, get_or_from_slice_get}
+use Rattle.std.proofs.lemmas.Bool.{and_parts, and_from, cases_eq, cond-true, cond-false, ne_eqb, ltb-true, ltb-false, leb-true, lt-ltb, le-leb}
 use Rattle.pldm_requester.specs.Steps.{Memo, is_recent}
-use Rattle.pldm_requester.specs.Slots.{remembered_in, put_slot, AreSlots, IsPaced, most_opened}
+use Rattle.pldm_requester.specs.Slots.{remembered_in, put_slot, AreSlots}
 
 -- ---- a list with a write or one more
 pub slice_get-set_at : {X : Type 0} (xs : List X) (i : ℕ) (x : X) → i < length xs → slice_get (slice_set xs i x) i ≡ Some x

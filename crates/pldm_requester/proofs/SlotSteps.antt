@@ -1,12 +1,12 @@
 -- What a requester holds once a slot was written: a request was answered, or one more was opened.
 use Rattle.std.specs.FinMap as map
-use Rattle.std.proofs.Common.{◌≡◌, ◌⊎◌, ℕ, ◌+◌, ◌-◌, ◌*◌, ◌%◌, ◌<◌, ◌≤◌, Bool, true, false, cond, not, List, [], ◌∷◌, ◌++◌, length, Option, Some, None, Result, Ok, Err, refl, sym, ap, ◌∙◌, subst, inl, inr, arith, eq-eqb, eqb-true}
-use Rattle.std.specs.Prelude.{◌&&◌, ◌==◌, filter, option_map, slice_get, slice_set, slice_index_or, IfSome}
+use Rattle.std.proofs.Common.{◌≡◌, ℕ, ◌+◌, ◌-◌, ◌%◌, ◌<◌, ◌≤◌, Bool, true, false, cond, not, List, [], ◌∷◌, ◌++◌, length, Option, Some, None, Result, Ok, refl, sym, ap, ◌∙◌, subst, arith, eqb-true}
+use Rattle.std.specs.Prelude.{◌==◌, filter, option_map, slice_get, slice_set, slice_index_or}
 use Rattle.std.specs.List.{range_with_len}
-use Rattle.std.proofs.lemmas.Bool.{cond-true, cond-false, not-true, cases_eq, ne_eqb}
+use Rattle.std.proofs.lemmas.Bool.{cond-false, ne_eqb}
 use Rattle.std.proofs.lemmas.List.{map-id}
 use Rattle.std.proofs.lemmas.List.FromFn.{filter_of_map_range_with_len_more}
-use Rattle.std.proofs.lemmas.Option.{cond_some, slice_get_within, get_or_from_slice_get}
+use Rattle.std.proofs.lemmas.Option.{slice_get_within, get_or_from_slice_get}
 use Rattle.mctp_packet.specs.declared.reason.Reason.{Reason}
 use Rattle.mctp_packet.specs.declared.reason.Reason.TheVariants.{NotMine, NotReady}
 use Rattle.mctp_packet.specs.Pieces.{written_packets}
@@ -15,13 +15,13 @@ use Rattle.pldm_wire.specs.Commands.{kind_of, command_message}
 use Rattle.pldm_wire.specs.Kinds.{TypeAndCommand}
 use Rattle.pldm_wire.specs.Responses.{Response, response_of}
 use Rattle.pldm_wire.specs.declared.command.Command.{Command}
-use Rattle.pldm_requester.specs.Arrivals.{Arrival, Drop, Part, Answer, response_arrival}
+use Rattle.pldm_requester.specs.Arrivals.{Drop, Answer, response_arrival}
 use Rattle.pldm_requester.specs.Calls.{answer_key}
 use Rattle.pldm_requester.specs.Courses.{begun, answered}
 use Rattle.pldm_requester.specs.Numbering.{id_of, tag_of}
-use Rattle.pldm_requester.specs.Steps.{Memo, Held, IsHeld, is_recent, is_mine, is_mine_by, with_course, remembered_after, opened_held, new_memo}
+use Rattle.pldm_requester.specs.Steps.{Memo, IsHeld, is_recent, is_mine, is_mine_by, with_course, remembered_after, opened_held, new_memo}
 use Rattle.pldm_requester.specs.Slots.{Station, held_of, remembered_in, put_slot, AreSlots, IsPaced, IsStation, most_opened}
-use Rattle.pldm_requester.proofs.SlotLists.{recent_parts, remembered_parts, remembered_in-set, remembered_in-put, AreSlots-put}
+use Rattle.pldm_requester.proofs.SlotLists.{remembered_parts, remembered_in-set, remembered_in-put, AreSlots-put}
 
 -- ---- a response of its own that says nothing of NotReady answers its request
 pub is_answer : (mine : ℕ → Response → Bool) (number : ℕ) (message : List ℕ) (read : Result Response Reason) (response : Response) → read ≡ Ok response → mine number response ≡ true → (response.code ≡ 4 → ⊥)

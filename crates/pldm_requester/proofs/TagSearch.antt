@@ -1,13 +1,11 @@
 -- The search for the request that is open on a tag.
-use Rattle.std.proofs.Common.{◌≡◌, ◌⊎◌, ℕ, zero, suc, ◌+◌, ◌-◌, ◌%◌, ◌<◌, ◌≤◌, Bool, true, false, cond, Option, Some, None, refl, sym, ap, ◌∙◌, subst, inl, inr, ⊎_elim, arith, eq-eqb, eqb-true}
-use Rattle.std.specs.Prelude.{◌&&◌, ◌==◌, not, nat_lt, is_some}
-use Rattle.std.proofs.lemmas.Bool.{and_left, and_right, and_parts, not-true, cases_eq, cond-true, cond-false, ne_eqb, ltb-true, ltb-false}
-use Rattle.mctp_packet.specs.Packets.{Packet}
-use Rattle.pldm_requester.specs.Calls.{Requests, is_open_at, open_on, is_from_device, goes_to, requests}
+use Rattle.std.proofs.Common.{◌≡◌, ◌⊎◌, ℕ, zero, suc, ◌+◌, ◌-◌, ◌%◌, ◌<◌, ◌≤◌, Bool, true, false, cond, Some, None, refl, sym, ap, ◌∙◌, inl, inr, arith, eq-eqb, eqb-true}
+use Rattle.std.specs.Prelude.{◌&&◌, ◌==◌, nat_lt}
+use Rattle.std.proofs.lemmas.Bool.{and_left, and_right, and_parts, cases_eq, cond-false, ne_eqb, ltb-true, ltb-false}
+use Rattle.pldm_requester.specs.Calls.{is_open_at, open_on, requests}
 use Rattle.pldm_requester.specs.Laws.{FoundOnItsTag}
 use Rattle.pldm_requester.specs.Numbering.{tag_of}
 use Rattle.pldm_requester.specs.Steps.{latest_on, where_open}
-use Rattle.pldm_requester.specs.declared.timing.Timing.{Timing}
 use Rattle.pldm_requester.proofs.OpenRequests.{recent}
 
 -- ---- where only the last eight can be open

@@ -1,6 +1,6 @@
 -- What a requester owes, told by looking back over the list of all its calls, the newest first. All requests are told
 -- by their numbers, however long ago they were opened.
-use Rattle.std.specs.Prelude.{ℕ, zero, suc, ◌+◌, ◌-◌, ◌*◌, true, false, Bool, ◌&&◌, not, ◌==◌, nat_lt, nat_le, List, [], ◌∷◌, filter, Option, Some, None, is_some, Result, Ok, Err, if◌then◌else◌}
+use Rattle.std.specs.Prelude.{ℕ, zero, suc, ◌+◌, ◌-◌, ◌*◌, false, Bool, ◌&&◌, not, ◌==◌, nat_lt, nat_le, List, [], ◌∷◌, filter, Option, Some, None, is_some, Result, Ok, Err, if◌then◌else◌}
 use Rattle.std.specs.List.{range_with_len}
 use Rattle.mctp_packet.specs.Packets.{Packet}
 use Rattle.mctp_packet.specs.Passing.{passing}
@@ -16,7 +16,7 @@ use Rattle.pldm_wire.specs.declared.assigned.TheConstants.{INSTANCE_IDS}
 use Rattle.pldm_wire.specs.declared.command.Command.{Command}
 use Rattle.pldm_wire.specs.declared.command.Command.TheVariants.{GetTid}
 use Rattle.pldm_requester.specs.Numbering.{tag_of, opened_as}
-use Rattle.pldm_requester.specs.Courses.{Standing, GaveUp, Course, is_open, begun, is_given_up, is_sent_again, ticked, answered}
+use Rattle.pldm_requester.specs.Courses.{GaveUp, Course, is_open, begun, is_given_up, is_sent_again, ticked, answered}
 use Rattle.pldm_requester.specs.Arrivals.{Arrival, Drop, Part, Answer, got_of, is_response_to, passed_arrival}
 use Rattle.pldm_requester.specs.declared.got.Got.{Got}
 use Rattle.pldm_requester.specs.declared.opened.Opened.{Opened}
@@ -106,7 +106,7 @@ module _ (own device : ℕ) (timing : Timing) where
 
   -- the packet that bytes are, where it passes the checks: its tag is expected where it comes to a request
   abbrev pub passed : Requests → List ℕ → Result Packet Reason
-  passed a bytes = passing own (λ p. is_some (goes_to a p)) bytes
+  passed a bytes = passing (λ p. is_some (goes_to a p)) own bytes
 
   abbrev pub gives : Requests → ℕ → Packet → Fed
   gives a n p = next (a.each n).fed p

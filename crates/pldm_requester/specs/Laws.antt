@@ -1,5 +1,5 @@
 -- What a requester holds after any list of calls, told by looking back over the list, and which requests are open.
-use Rattle.std.specs.Prelude.{◌≡◌, ℕ, ◌+◌, ◌*◌, ◌<◌, ◌≤◌, Bool, true, false, List, [], ◌∷◌, length, Option, Some, None, if◌then◌else◌}
+use Rattle.std.specs.Prelude.{◌≡◌, ℕ, ◌+◌, ◌*◌, ◌<◌, ◌≤◌, true, false, List, [], ◌∷◌, length, Option, Some, None, if◌then◌else◌}
 use Rattle.mctp_assembly.specs.Histories as assembly
 use Rattle.pldm_wire.specs.Commands.{kind_of}
 use Rattle.pldm_wire.specs.declared.command.Command.{Command}
@@ -9,7 +9,7 @@ use Rattle.pldm_requester.specs.Calls.{Call, Open, Tick, Receive, Requests, acce
 use Rattle.pldm_requester.specs.Steps as steps
 use Rattle.pldm_requester.specs.Steps.{Memo, Held, IsHeld, held_at_first, is_recent, opening_answer, opened_held, again_at, given_up_at, ticked_held, got_at, received_held}
 use Rattle.pldm_requester.specs.declared.timing.Timing.{Timing}
-use Rattle.pldm_requester.specs.declared.requester.TheConstants.{MOST_OPEN, MOST_REMEMBERED}
+use Rattle.pldm_requester.specs.declared.requester.TheConstants.{MOST_OPEN}
 
 -- what is remembered of a request: of the last ones all, of older ones nothing
 abbrev pub memo_of : ℕ → ℕ → Requests → ℕ → Memo

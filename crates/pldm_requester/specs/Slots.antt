@@ -5,7 +5,7 @@ use Rattle.std.specs.Coded.{Coded, code_by, coded×, coded_ℕ, coded_list, code
 use Rattle.mctp_assembly.specs.Keys.{key_cmp, coded_key}
 use Rattle.mctp_assembly.specs.Opened.{Opened, coded_opened}
 use Rattle.pldm_wire.specs.Kinds.{of_type}
-use Rattle.pldm_requester.specs.Courses.{Standing, Waiting, Answered, GaveUp, Course}
+use Rattle.pldm_requester.specs.Courses.{Standing, Waiting, Answered, GaveUp}
 use Rattle.pldm_requester.specs.Steps.{Memo, Held, is_recent}
 use Rattle.pldm_requester.specs.Timings.{coded_timing}
 use Rattle.pldm_requester.specs.declared.requester.TheConstants.{MOST_REMEMBERED}

@@ -7,7 +7,6 @@ use Rattle.mctp_packet.specs.Passing.{passing}
 use Rattle.mctp_packet.specs.declared.reason.Reason.{Reason}
 use Rattle.mctp_packet.specs.declared.TheConstants.{TAGS}
 use Rattle.mctp_assembly.specs.Steps as assembly
-use Rattle.mctp_assembly.specs.declared.fed.Fed.{Fed}
 use Rattle.pldm_wire.specs.Commands.{kind_of}
 use Rattle.pldm_wire.specs.Kinds.{TypeAndCommand}
 use Rattle.pldm_wire.specs.Responses.{Response}
@@ -160,7 +159,7 @@ module _ (held : Held) where
   expects p = is_some (goes_to p)
 
   abbrev pub passed : List ℕ → Result Packet Reason
-  passed bytes = passing held.own expects bytes
+  passed bytes = passing expects held.own bytes
 
   abbrev pub is_mine : ℕ → Response → Bool
   is_mine number response = is_mine_by number (held.remembered number) response

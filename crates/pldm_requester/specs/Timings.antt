@@ -1,5 +1,5 @@
 -- Which timings a requester takes, and the fault of any other: the first of these checks that fails.
-use Rattle.std.specs.Prelude.{◌≡◌, ℕ, ◌*◌, ◌≤◌, ◌&&◌, ◌==◌, not, nat_lt, nat_le, Option, Some, None, if◌then◌else◌, refl}
+use Rattle.std.specs.Prelude.{ℕ, ◌*◌, ◌&&◌, ◌==◌, not, nat_lt, nat_le, Option, Some, None, if◌then◌else◌, refl}
 use Rattle.std.specs.Coded.{Coded, code_by, coded×, coded_ℕ}
 use Rattle.pldm_requester.specs.declared.timing.Timing.{Timing}
 use Rattle.pldm_requester.specs.declared.timing.TimingFault.{TimingFault}

@@ -3,7 +3,7 @@ ghost use Rattle.std.specs.Bool.{OnFalse};
 ghost use Rattle.std.specs.Option.{option_copied};
 ghost use Rattle.arrayvec.specs.ArrayVec.{array_vec_len};
 ghost use Rattle.mctp_packet.specs.Ids.{IsTag};
-ghost use Rattle.mctp_packet.specs.Passing.{where_expected};
+ghost use Rattle.mctp_packet.specs.Passing.{passed as where_expected};
 ghost use Rattle.mctp_packet.specs.Pieces.{written_packets};
 ghost use Rattle.pldm_wire.specs.Commands.{command_message};
 ghost use Rattle.pldm_wire.specs.Responses.{response_of};

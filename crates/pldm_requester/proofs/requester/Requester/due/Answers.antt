@@ -1,4 +1,4 @@
-use Rattle.std.proofs.Common.{ℕ, ◌-◌, ◌≤◌, ap, arith}
+use Rattle.std.proofs.Common.{◌-◌, ◌≤◌, ap, arith}
 use Rattle.pldm_requester.specs.Courses.{is_given_up, is_sent_again}
 use Rattle.pldm_requester.specs.Slots.{Station, held_of}
 use Rattle.pldm_requester.specs.Steps.{passes}
