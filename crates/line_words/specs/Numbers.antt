@@ -32,4 +32,5 @@ number_of most word = up_to most (decimal_of word)
 abbrev pub value_of : List ℕ → Option ℤ
 value_of [] = None
 value_of (sign ∷ digits) =
-    if sign == 45 then option_map (λ number. neg_ℤ (pos number)) (decimal_of digits) else option_map pos (decimal_of (sign ∷ digits))
+    if sign == 45 then option_map (λ number. neg_ℤ (pos number)) (decimal_of digits)
+    else option_map pos (decimal_of (sign ∷ digits))

@@ -20,3 +20,4 @@ pub mod StateWords
 pub mod TimelyExample
 pub mod TimelyLogs
 pub mod TimelyTests
+pub mod WorldRows

@@ -73,5 +73,7 @@ SpellsCommand (SetStateEffecterStates effecter fields) words =
 SpellsCommand (GetStateEffecterStates effecter) words = IdAfter (codes "getstate") effecter words
 SpellsCommand GetPdrRepositoryInfo words = words ≡ codes "pdrinfo" ∷ []
 SpellsCommand (GetPdr record_handle transfer_handle flag count change) words =
-    (handle : Word) × (transfer : Word) × (part : Word) × (most : Word) × (words ≡ codes "getpdr" ∷ handle ∷ transfer ∷ part ∷ most ∷ [])
-    × SpellsHandle record_handle handle × SpellsHandle transfer_handle transfer × SpellsPart flag part × SpellsId count most × (change ≡ 0)
+    (handle : Word) × (transfer : Word) × (part : Word) × (most : Word)
+    × (words ≡ codes "getpdr" ∷ handle ∷ transfer ∷ part ∷ most ∷ [])
+    × SpellsHandle record_handle handle × SpellsHandle transfer_handle transfer × SpellsPart flag part
+    × SpellsId count most × (change ≡ 0)

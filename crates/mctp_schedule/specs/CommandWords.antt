@@ -1,5 +1,5 @@
--- The command that words say, by its name and the words after it. A wrong word or count of words is told before a wrong
--- number.
+-- The command that words say, by its name and the words after it. A wrong word or count of words is told before
+-- a wrong number.
 use Rattle.std.specs.Prelude.{ℕ, bytes_eq, Bool, codes, ℤ, List, [], ◌∷◌, Option, Some, None, Result, Ok, Err, if◌then◌else◌}
 use Rattle.pldm_wire.specs.Numbers.{SizedNumber, sized}
 use Rattle.pldm_wire.specs.Sizes.{fits}
@@ -56,7 +56,8 @@ sized_in size value = if fits size value then Ok (sized size value) else Err Num
 
 abbrev pub setnum_of : List (List ℕ) → Result Command LineFaultKind
 setnum_of (id ∷ size ∷ value ∷ []) =
-    size_in size >>= λ size. number_up_to GREATEST_ID id >>= λ id. any_value value >>= λ value. sized_in size value >>= λ number. Ok (SetNumericEffecterValue id number)
+    size_in size >>= λ size. number_up_to GREATEST_ID id >>= λ id. any_value value >>= λ value.
+    sized_in size value >>= λ number. Ok (SetNumericEffecterValue id number)
 setnum_of _ = Err Words
 
 -- `-` leaves a field as it is, a number asks for that state
@@ -71,20 +72,27 @@ states_in (word ∷ words) = state_in word >>= λ field. states_in words >>= λ 
 
 abbrev pub setstate_of : List (List ℕ) → Result Command LineFaultKind
 setstate_of (id ∷ states) =
-    if is_composite states then (number_up_to GREATEST_ID id >>= λ id. states_in states >>= λ fields. Ok (SetStateEffecterStates id fields))
+    if is_composite states
+    then (number_up_to GREATEST_ID id >>= λ id. states_in states >>= λ fields. Ok (SetStateEffecterStates id fields))
     else Err Words
 setstate_of [] = Err Words
 
 -- which part of a record is asked for is a fixed word
 abbrev pub part_in : List ℕ → Result ℕ LineFaultKind
-part_in word = if is word (codes "first") then Ok GET_FIRST_PART else if is word (codes "next") then Ok GET_NEXT_PART else Err Words
+part_in word =
+    if is word (codes "first") then Ok GET_FIRST_PART
+    else if is word (codes "next") then Ok GET_NEXT_PART
+    else Err Words
 
 abbrev pub getpdr_of : List (List ℕ) → Result Command LineFaultKind
 getpdr_of (handle ∷ transfer ∷ part ∷ count ∷ []) =
-    part_in part >>= λ part. number_up_to GREATEST_HANDLE handle >>= λ handle. number_up_to GREATEST_HANDLE transfer >>= λ transfer. number_up_to GREATEST_ID count >>= λ count. Ok (GetPdr handle transfer part count 0)
+    part_in part >>= λ part. number_up_to GREATEST_HANDLE handle >>= λ handle.
+    number_up_to GREATEST_HANDLE transfer >>= λ transfer. number_up_to GREATEST_ID count >>= λ count.
+    Ok (GetPdr handle transfer part count 0)
 getpdr_of _ = Err Words
 
--- the command of this name, with the words after it: those with more than a number, with an ID, with a byte, and with none
+-- the command of this name, with the words after it: those with more than a number, with an ID, with a byte, and
+-- with none
 
 abbrev pub field_command_named : List ℕ → List (List ℕ) → Result Command LineFaultKind
 field_command_named name words =
@@ -105,7 +113,8 @@ abbrev pub byte_command_named : List ℕ → List (List ℕ) → Result Command 
 byte_command_named name words =
     if is name (codes "settid") then with_byte SetTid words
     else if is name (codes "getversion") then with_byte (GetPldmVersion 0 GET_FIRST_PART) words
-    else if is name (codes "getcommands") then with_byte (λ pldm_type. GetPldmCommands pldm_type (0 ∷ 0 ∷ 0 ∷ 0 ∷ [])) words
+    else if is name (codes "getcommands")
+    then with_byte (λ pldm_type. GetPldmCommands pldm_type (0 ∷ 0 ∷ 0 ∷ 0 ∷ [])) words
     else id_command_named name words
 
 abbrev pub command_named : List ℕ → List (List ℕ) → Result Command LineFaultKind

@@ -1,5 +1,5 @@
--- The device's half of the link: over a timely log each request that arrives is performed once, and all its deliveries get its
--- one reply.
+-- The device's half of the link: over a timely log each request that arrives is performed once, and all its
+-- deliveries get its one reply.
 use Rattle.std.specs.Prelude.{◌≡◌, ◌≢◌, ℕ, ◌+◌, ◌*◌, ◌<◌, ◌≤◌, false, not, List, ◌∷◌, Some}
 use Rattle.pldm_wire.specs.Headers.{id_at}
 use Rattle.pldm_responder.specs.Calls.{message_outcome}
@@ -9,8 +9,8 @@ use Rattle.mctp_schedule.specs.Logs.{Asked, Happening, Delivered, IsTimelyLog, a
 use Rattle.mctp_schedule.specs.FirstArrivals.{IsOrderOfFirsts, first, is_first, order}
 use Rattle.mctp_schedule.specs.OncePerformed.{FitsPackets, RepliesFit, delivery_owed, given, given_once, once, the_reply}
 
--- a request's deliveries come before its instance ID is used again: at any of them the other requests of its source and
--- instance ID were opened at least twice the keeping time before it
+-- a request's deliveries come before its instance ID is used again: at any of them the other requests of its source
+-- and instance ID were opened at least twice the keeping time before it
 abbrev pub NoneOpenedSince : Type 0
 NoneOpenedSince =
     (keep : ℕ) (past : List Happening) (moment k j : ℕ) (r q : Asked)
@@ -23,8 +23,8 @@ abbrev pub FreshInOrderOfFirsts : Type 0
 FreshInOrderOfFirsts =
     (keep : ℕ) (log : List Happening) → IsTimelyLog keep log → IsOrderOfFirsts keep log (order keep log)
 
--- while the responder serves, a delivery is fresh exactly where it is the request's first arrival, else a copy; at a copy
--- what is kept for the source and instance ID is this request's own first message, and its time is not over
+-- while the responder serves, a delivery is fresh exactly where it is the request's first arrival, else a copy; at a
+-- copy what is kept for the source and instance ID is this request's own first message, and its time is not over
 abbrev pub FreshWhereFirst : Type 0
 FreshWhereFirst =
     (keep : ℕ) (past : List Happening) (moment k : ℕ) (r : Asked)
@@ -32,7 +32,8 @@ FreshWhereFirst =
     → (is_fresh keep (told past) (message_at moment r) ≡ is_first keep past moment k)
     × (is_copy keep (told past) (message_at moment r) ≡ not (is_first keep past moment k))
     × ((place : List Happening) → first keep past k ≡ Some place → (p : Place)
-    × (origin keep (told past) r.source (id_at r.message) ≡ Some p) × (p.message.bytes ≡ r.message) × (moment < p.message.moment + keep))
+    × (origin keep (told past) r.source (id_at r.message) ≡ Some p) × (p.message.bytes ≡ r.message)
+    × (moment < p.message.moment + keep))
 
 module _ {S : Type 0} (device : Rules S) where
   -- the responder's state is that of performing once each request that arrived
@@ -46,7 +47,8 @@ module _ {S : Type 0} (device : Rules S) where
   DeliveryIsOwed =
       (own keep : ℕ) (start : S) (past : List Happening) (moment k : ℕ) (r : Asked)
       → IsTimelyLog keep (Delivered moment k ∷ past) → asked_at past k ≡ Some r
-      → message_outcome device own keep start (told past) (message_at moment r) ≡ delivery_owed device keep start own past moment k r
+      → message_outcome device own keep start (told past) (message_at moment r)
+      ≡ delivery_owed device keep start own past moment k r
 
   -- a request that was performed is not performed again, whatever restarts came since
   abbrev pub NotPerformedAgain : Type 0

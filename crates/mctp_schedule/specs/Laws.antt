@@ -14,7 +14,8 @@ ReadAsSpelled = (words : List (List ℕ)) (line : Line) → (line_of words ≡ O
 -- over a timely schedule the log of the link is timely: what the device's half rests on
 abbrev pub LogIsTimely : {S : Type 0} → Setting S → Type 0
 LogIsTimely setting =
-    (steps : List Step) → NeverWentBack steps → IsTimely setting steps → IsTimelyLog setting.keep (world setting steps).log
+    (steps : List Step) → NeverWentBack steps → IsTimely setting steps
+    → IsTimelyLog setting.keep (world setting steps).log
 
 -- the test of a timely schedule tells just that
 abbrev pub TimelyIsTested : {S : Type 0} → Setting S → Type 0

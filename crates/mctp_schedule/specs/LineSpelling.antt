@@ -20,13 +20,15 @@ SpellsAny number word = decimal_of word ≡ Some number
 -- the words spell the action
 abbrev pub SpellsAction : Action → List Word → Type 0
 SpellsAction (Open requester command) words =
-    (eid : Word) × (rest : List Word) × (words ≡ codes "open" ∷ eid ∷ rest) × SpellsEid requester eid × SpellsCommand command rest
+    (eid : Word) × (rest : List Word) × (words ≡ codes "open" ∷ eid ∷ rest)
+    × SpellsEid requester eid × SpellsCommand command rest
 SpellsAction (Tick requester) words = (eid : Word) × (words ≡ codes "tick" ∷ eid ∷ []) × SpellsEid requester eid
 SpellsAction (Request number) words = (k : Word) × (words ≡ codes "req" ∷ k ∷ []) × SpellsAny number k
 SpellsAction (Reply number packet) words =
     (k : Word) × (j : Word) × (words ≡ codes "rep" ∷ k ∷ j ∷ []) × SpellsAny number k × SpellsByte packet j
 SpellsAction (Sense sensor value) words =
-    (id : Word) × (reading : Word) × (words ≡ codes "sense" ∷ id ∷ reading ∷ []) × SpellsId sensor id × (value_of reading ≡ Some value)
+    (id : Word) × (reading : Word) × (words ≡ codes "sense" ∷ id ∷ reading ∷ [])
+    × SpellsId sensor id × (value_of reading ≡ Some value)
 SpellsAction Restart words = words ≡ codes "restart" ∷ []
 SpellsAction (Busy number) words = (k : Word) × (words ≡ codes "busy" ∷ k ∷ []) × SpellsAny number k
 

@@ -14,7 +14,9 @@ use Rattle.mctp_schedule.specs.declared.step.Action.TheVariants.{Open, Tick, Req
 abbrev pub requester_of : List (List ℕ) → Result Line LineFaultKind
 requester_of (eid ∷ timeout ∷ limit ∷ tries ∷ count ∷ []) =
     if is timeout (codes "timeout") && is tries (codes "tries")
-    then (eid_in eid >>= λ eid. number_up_to LONGEST_TIMEOUT limit >>= λ limit. number_up_to GREATEST_BYTE count >>= λ count. Ok (lines.Requester (record { eid = eid; timeout = limit; tries = count })))
+    then (eid_in eid >>= λ eid. number_up_to LONGEST_TIMEOUT limit >>= λ limit.
+    number_up_to GREATEST_BYTE count >>= λ count.
+    Ok (lines.Requester (record { eid = eid; timeout = limit; tries = count })))
     else Err Words
 requester_of _ = Err Words
 
@@ -31,7 +33,8 @@ open_of [] = Err Words
 open_of (eid ∷ words) = command_of words >>= λ command. eid_in eid >>= λ eid. Ok (Open eid command)
 
 abbrev pub reply_of : List (List ℕ) → Result Action LineFaultKind
-reply_of (number ∷ packet ∷ []) = any_number number >>= λ number. number_up_to GREATEST_BYTE packet >>= λ packet. Ok (Reply number packet)
+reply_of (number ∷ packet ∷ []) =
+    any_number number >>= λ number. number_up_to GREATEST_BYTE packet >>= λ packet. Ok (Reply number packet)
 reply_of _ = Err Words
 
 abbrev pub sense_of : List (List ℕ) → Result Action LineFaultKind
@@ -56,7 +59,9 @@ action_named name words =
 
 -- `at MS` and an action, by the words after the first
 abbrev pub step_of : List (List ℕ) → Result Line LineFaultKind
-step_of (moment ∷ name ∷ words) = action_named name words >>= λ action. moment_in moment >>= λ moment. Ok (lines.Step (record { moment = moment; action = action }))
+step_of (moment ∷ name ∷ words) =
+    action_named name words >>= λ action. moment_in moment >>= λ moment.
+    Ok (lines.Step (record { moment = moment; action = action }))
 step_of _ = Err Words
 
 -- what the line says; a line without words says nothing

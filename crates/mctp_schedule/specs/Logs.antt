@@ -4,16 +4,16 @@ use Rattle.mctp_packet.specs.declared.TheConstants.{TAGS}
 use Rattle.pldm_wire.specs.Headers.{id_at}
 use Rattle.pldm_responder.specs.Events.{Message, Event, Came, Set, Restarted}
 
--- a request that was opened: the endpoint that asks, its number among that one's requests from 0 on, the moment at which it
--- was opened, and its message
+-- a request that was opened: the endpoint that asks, its number among that one's requests from 0 on, the moment at
+-- which it was opened, and its message
 pub record Asked : Type 0 where
   pub source : ℕ
   pub own : ℕ
   pub opening : ℕ
   pub message : List ℕ
 
--- a request was opened; the packet of the request of this number was delivered to the device; a sensor got a reading; the
--- device's end restarted
+-- a request was opened; the packet of the request of this number was delivered to the device; a sensor got a
+-- reading; the device's end restarted
 pub data Happening : Type 0 where
   Opened : Asked → Happening
   Delivered : (moment : ℕ) → (number : ℕ) → Happening

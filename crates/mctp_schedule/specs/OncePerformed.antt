@@ -34,7 +34,8 @@ pub record FitsPackets (message : List ℕ) : Type 0 where
   pub few : length message ≤ MOST_MESSAGE_BYTES
 
 module _ {S : Type 0} (device : Rules S) (keep : ℕ) (start : S) where
-  -- the device's state: each request that arrived is performed once, at its first arrival, and each reading set, in order
+  -- the device's state: each request that arrived is performed once, at its first arrival, and each reading set, in
+  -- order
   abbrev pub once : List Happening → S
   once [] = start
   once (Opened _ ∷ past) = once past
@@ -85,14 +86,15 @@ module _ {S : Type 0} (device : Rules S) (keep : ℕ) (start : S) where
   abbrev pub given_once : List Happening → ℕ → Option (List ℕ)
   given_once log k = reply_at_first log k (first keep log k)
 
-  -- what the responder at the endpoint `own` owes to a delivery of request k, which is r, at this moment: a busy answer of
-  -- code 4 after a restart, else the one reply, told as fresh at its first arrival and as a copy later
+  -- what the responder at the endpoint `own` owes to a delivery of request k, which is r, at this moment: a busy
+  -- answer of code 4 after a restart, else the one reply, told as fresh at its first arrival and as a copy later
   abbrev pub delivery_owed : ℕ → List Happening → ℕ → ℕ → Asked → Outcome
   delivery_owed own past moment k r =
       if is_busy keep (told past) moment
       then Answered false false (packets_back own (message_at moment r) (busy_reply r.message))
       else if is_first keep past moment k
-      then Answered true (changes device (once past) r.message) (packets_back own (message_at moment r) (the_reply (Delivered moment k ∷ past) k))
+      then Answered true (changes device (once past) r.message)
+      (packets_back own (message_at moment r) (the_reply (Delivered moment k ∷ past) k))
       else Answered false false (packets_back own (message_at moment r) (the_reply (Delivered moment k ∷ past) k))
 
 -- a busy answer was given to request k

@@ -45,7 +45,8 @@ is_known requesters _ = true
 abbrev pub with_step : Spelled → Step → Result Spelled LineFaultKind
 with_step before step =
     if nat_lt step.moment (last_moment before.steps) then Err BackInTime
-    else if is_known before.requesters step.action then Ok (record { requesters = before.requesters; steps = before.steps ++ step ∷ [] })
+    else if is_known before.requesters step.action
+    then Ok (record { requesters = before.requesters; steps = before.steps ++ step ∷ [] })
     else Err NoSuchRequester
 
 abbrev pub with_requester : Spelled → RequesterLine → Result Spelled LineFaultKind
@@ -91,13 +92,15 @@ abbrev pub lines_of : List ℕ → List (List ℕ)
 lines_of text = slice_split (λ b. b == 10) text
 
 -- line n and the lines after it, each after those before: what they spell, or the number and kind of the first fault
-abbrev pub spelled_then : ℕ → Result Spelled LineFaultKind → (Spelled → Result Spelled LineFault) → Result Spelled LineFault
+abbrev pub spelled_then
+    : ℕ → Result Spelled LineFaultKind → (Spelled → Result Spelled LineFault) → Result Spelled LineFault
 spelled_then n (Ok spelled) rest = rest spelled
 spelled_then n (Err kind) rest = Err (record { line = n; kind = kind })
 
 abbrev pub spelled_from : ℕ → Spelled → List (List ℕ) → Result Spelled LineFault
 spelled_from n before [] = Ok before
-spelled_from n before (line ∷ more) = spelled_then n (after_line before line) (λ spelled. spelled_from (n + 1) spelled more)
+spelled_from n before (line ∷ more) =
+    spelled_then n (after_line before line) (λ spelled. spelled_from (n + 1) spelled more)
 
 -- the schedule of a text; its lines are counted from 1
 unfoldable pub schedule_of : List ℕ → Result Spelled LineFault

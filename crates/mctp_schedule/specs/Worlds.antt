@@ -1,5 +1,5 @@
--- Both ends over a schedule, the newest step first: what each requester is called with, and what happens on the link. A reply
--- that a step delivers is a packet of what the device gave.
+-- Both ends over a schedule, the newest step first: what each requester is called with, and what happens on the link.
+-- A reply that a step delivers is a packet of what the device gave.
 use Rattle.std.specs.Prelude.{◌≡◌, ℕ, ◌+◌, ◌<◌, ◌≤◌, ◌==◌, ◌&&◌, ◌||◌, not, nat_lt, nat_le, is_some, Bool, true, false, List, [], ◌∷◌, find, slice_get, Option, Some, None, if◌then◌else◌}
 use Rattle.mctp_packet.specs.declared.TheConstants.{TAGS}
 use Rattle.pldm_wire.specs.declared.command.Command.{Command}
@@ -22,8 +22,8 @@ pub record World : Type 0 where
   pub calls : ℕ → List requester.Call
   pub log : List Happening
 
--- what both ends are made of: the device's rules, its first state and its endpoint ID, the keeping time of both ends, and the
--- requesters of the schedule
+-- what both ends are made of: the device's rules, its first state and its endpoint ID, the keeping time of both ends,
+-- and the requesters of the schedule
 pub record Setting (S : Type 0) : Type 0 where
   pub device : Rules S
   pub start : S
@@ -59,12 +59,15 @@ module _ {S : Type 0} (setting : Setting S) where
   -- the request that an accepted open makes
   abbrev pub asked_by : World → ℕ → ℕ → Command → Asked
   asked_by world moment e command =
-      record { source = e; own = (requests_of world e).count; opening = moment; message = message_of (requests_of world e).count command }
+      let own = (requests_of world e).count in
+      record { source = e; own = own; opening = moment; message = message_of own command }
 
   -- an open happens on the link where the requester accepts it
   abbrev pub log_opened : World → ℕ → ℕ → Command → List Happening
   log_opened world moment e command =
-      if accepts (timing_of setting e).keep (requests_of world e) moment then Opened (asked_by world moment e command) ∷ world.log else world.log
+      if accepts (timing_of setting e).keep (requests_of world e) moment
+      then Opened (asked_by world moment e command) ∷ world.log
+      else world.log
 
   abbrev pub packet_of : Option Asked → Option (List ℕ) → ℕ → Option (List ℕ)
   packet_of None message j = None
@@ -94,7 +97,8 @@ module _ {S : Type 0} (setting : Setting S) where
   -- what a step makes of the world
   abbrev pub done : World → ℕ → Action → World
   done world moment (Open e command) =
-      record { calls = with_call world.calls e (requester.Open moment command); log = log_opened world moment e command }
+      let opens = requester.Open moment command in
+      record { calls = with_call world.calls e opens; log = log_opened world moment e command }
   done world moment (Tick e) = record { calls = with_call world.calls e (requester.Tick moment); log = world.log }
   done world moment (Request k) = record { calls = world.calls; log = Delivered moment k ∷ world.log }
   done world moment (Reply k j) = handed world moment (source_of (asked_at world.log k)) (reply_packet world k j)
@@ -115,7 +119,8 @@ module _ {S : Type 0} (setting : Setting S) where
   TagIsOwn world k =
       (r : Asked) → asked_at world.log k ≡ Some r → (requests_of world r.source).count ≤ r.own + TAGS
 
-  -- a request comes less than the keeping time after it was opened, and a packet of an answer while its tag was not used again
+  -- a request comes less than the keeping time after it was opened, and a packet of an answer while its tag was not
+  -- used again
   abbrev pub IsTimelyAction : World → ℕ → Action → Type 0
   IsTimelyAction world moment (Request k) =
       (r : Asked) → asked_at world.log k ≡ Some r → moment < r.opening + setting.keep

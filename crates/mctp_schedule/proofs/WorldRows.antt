@@ -1,0 +1,143 @@
+-- Both ends over schedules that are written out, computed: endpoint 8 asks a light at endpoint 9, which keeps answers for a
+-- second. The newest step stands first.
+use Rattle.std.proofs.Common.{◌≡◌, ℕ, ℤ, pos, List, [], ◌∷◌, None, true, false, refl, arith}
+use Rattle.pldm_wire.specs.CommandReading.{command_of}
+use Rattle.pldm_wire.specs.Numbers.{sized}
+use Rattle.pldm_wire.specs.Requests.{request_of}
+use Rattle.pldm_wire.specs.Responses.{response_of}
+use Rattle.pldm_wire.specs.declared.size.Size.TheVariants.{Uint8}
+use Rattle.pldm_wire.specs.declared.command.Command.TheVariants.{SetNumericEffecterValue}
+use Rattle.pldm_responder.specs.Dimmers.{dimmer_answer, dimmer_after, dimmer_sensed}
+use Rattle.pldm_responder.specs.Performing.{rules_of}
+use Rattle.pldm_requester.specs.Courses.{Standing, Waiting, Answered, GaveUp}
+use Rattle.mctp_schedule.specs.FirstArrivals.{order}
+use Rattle.mctp_schedule.specs.Logs.{count_of}
+use Rattle.mctp_schedule.specs.OncePerformed.{once}
+use Rattle.mctp_schedule.specs.Worlds.{IsTimely, NeverWentBack, Setting, busy_packet, is_timely, reply_packet, requests_of, world}
+use Rattle.mctp_schedule.specs.declared.step.Action.{Action}
+use Rattle.mctp_schedule.specs.declared.step.Action.TheVariants.{Open, Tick, Request, Reply, Restart, Busy}
+use Rattle.mctp_schedule.specs.declared.step.Step.{Step}
+use Rattle.mctp_schedule.proofs.TimelyTests.{timely_is_tested}
+
+abbrev at : ℕ → Action → Step
+at moment action = record { moment = moment; action = action }
+
+abbrev setting : Setting ℤ
+setting = record {
+  device = rules_of dimmer_answer dimmer_after dimmer_sensed;
+  start = pos 10;
+  eid = 9;
+  keep = 1000;
+  requesters = record { eid = 8; timeout = 200; tries = 5 } ∷ [];
+}
+
+abbrev set_40 : Action
+set_40 = Open 8 (SetNumericEffecterValue 1 (sized Uint8 (pos 40)))
+
+abbrev standing : List Step → Standing
+standing steps = ((requests_of setting (world setting steps) 8).each 0).course.standing
+
+abbrev performed_in : List Step → List ℕ
+performed_in steps = order 1000 (world setting steps).log
+
+abbrev level : List Step → ℤ
+level steps = once (setting.device) 1000 (pos 10) (world setting steps).log
+
+-- a request is sent again, and its answer comes
+abbrev a_retry : List Step
+a_retry = at 210 (Reply 0 0) ∷ at 200 (Request 0) ∷ at 200 (Tick 8) ∷ at 0 (Request 0) ∷ at 0 set_40 ∷ []
+
+retry_is_answered : standing a_retry ≡ Answered (1 ∷ 0 ∷ 2 ∷ 49 ∷ 0 ∷ [])
+unfolding request_of command_of response_of
+retry_is_answered = refl
+
+retry_is_performed_once : performed_in a_retry ≡ 0 ∷ []
+unfolding request_of command_of response_of
+retry_is_performed_once = refl
+
+retry_sets : level a_retry ≡ pos 40
+unfolding request_of command_of response_of
+retry_sets = refl
+
+retry_is_timely : is_timely setting a_retry ≡ true
+unfolding request_of command_of response_of
+retry_is_timely = refl
+
+-- a copy a second after the opening is performed again
+abbrev late_copy : List Step
+late_copy = at 1000 (Request 0) ∷ at 0 (Request 0) ∷ at 0 set_40 ∷ []
+
+late_copy_is_performed : performed_in late_copy ≡ 0 ∷ 0 ∷ []
+unfolding request_of command_of response_of
+late_copy_is_performed = refl
+
+late_copy_is_not_timely : is_timely setting late_copy ≡ false
+unfolding request_of command_of response_of
+late_copy_is_not_timely = refl
+
+-- a restart after a request was performed: its copy gets the busy answer, which its requester does not take; the latest reply
+-- still comes
+abbrev after_restart : List Step
+after_restart =
+    at 210 (Busy 0) ∷ at 200 (Request 0) ∷ at 200 (Tick 8) ∷ at 100 Restart ∷ at 0 (Request 0) ∷ at 0 set_40 ∷ []
+
+busy_answer_is_not_taken : standing after_restart ≡ Waiting
+unfolding request_of command_of response_of
+busy_answer_is_not_taken = refl
+
+reply_after_it_is_taken : standing (at 220 (Reply 0 0) ∷ after_restart) ≡ Answered (1 ∷ 0 ∷ 2 ∷ 49 ∷ 0 ∷ [])
+unfolding request_of command_of response_of
+reply_after_it_is_taken = refl
+
+not_performed_again : performed_in (at 220 (Reply 0 0) ∷ after_restart) ≡ 0 ∷ []
+unfolding request_of command_of response_of
+not_performed_again = refl
+
+restart_is_timely : is_timely setting (at 220 (Reply 0 0) ∷ after_restart) ≡ true
+unfolding request_of command_of response_of
+restart_is_timely = refl
+
+-- a restart before: no busy answer was given at 500; the request is performed at 1000
+abbrev busy_first : List Step
+busy_first = at 999 (Request 0) ∷ at 500 (Request 0) ∷ at 500 (Busy 0) ∷ at 500 set_40 ∷ at 0 Restart ∷ []
+
+nothing_given_yet : busy_packet setting (world setting (at 500 set_40 ∷ at 0 Restart ∷ [])) 0 ≡ None
+unfolding request_of command_of response_of
+nothing_given_yet = refl
+
+none_performed : performed_in busy_first ≡ []
+unfolding request_of command_of response_of
+none_performed = refl
+
+no_reply_yet : reply_packet setting (world setting busy_first) 0 0 ≡ None
+unfolding request_of command_of response_of
+no_reply_yet = refl
+
+performed_later : performed_in (at 1010 (Reply 0 0) ∷ at 1000 (Request 0) ∷ busy_first) ≡ 0 ∷ []
+unfolding request_of command_of response_of
+performed_later = refl
+
+answered_later : standing (at 1010 (Reply 0 0) ∷ at 1000 (Request 0) ∷ busy_first) ≡ Answered (1 ∷ 0 ∷ 2 ∷ 49 ∷ 0 ∷ [])
+unfolding request_of command_of response_of
+answered_later = refl
+
+-- given up after five tries of 200 milliseconds
+given_up : standing (at 1000 (Tick 8) ∷ at 0 set_40 ∷ []) ≡ GaveUp
+given_up = refl
+
+-- an open that is refused opens nothing: no ninth request while the first is open
+nine_opens : count_of (world setting (at 0 set_40 ∷ at 0 set_40 ∷ at 0 set_40 ∷ at 0 set_40 ∷ at 0 set_40 ∷ at 0 set_40 ∷ at 0 set_40 ∷ at 0 set_40 ∷ at 0 set_40 ∷ [])).log ≡ 8
+nine_opens = refl
+
+-- ---- the premises of the laws can be met
+retry_never_goes_back : NeverWentBack a_retry
+retry_never_goes_back = (omega arith, (omega arith, (omega arith, (omega arith, (omega arith, tt)))))
+
+retry_comes_in_time : IsTimely setting a_retry
+retry_comes_in_time = (timely_is_tested setting a_retry).0 retry_is_timely
+
+restart_never_goes_back : NeverWentBack after_restart
+restart_never_goes_back = (omega arith, (omega arith, (omega arith, (omega arith, (omega arith, (omega arith, tt))))))
+
+restart_comes_in_time : IsTimely setting (at 220 (Reply 0 0) ∷ after_restart)
+restart_comes_in_time = (timely_is_tested setting (at 220 (Reply 0 0) ∷ after_restart)).0 restart_is_timely
