@@ -4,7 +4,7 @@ use Rattle.std.specs.Prelude.{not, ◌&&◌, bytes_eq, nat_lt, if◌then◌else�
 use Rattle.std.proofs.lemmas.Bool.{and_left, and_parts, not_from_true, ltb-true, cond-true, cond-false}
 use Rattle.std.proofs.lemmas.Slice.Eq.{bytes_eq-Decides}
 use Rattle.pldm_responder.specs.Arrivals.{packets_back}
-use Rattle.pldm_responder.specs.Calls.{message_outcome}
+use Rattle.pldm_responder.specs.Calls.{answer_owed}
 use Rattle.pldm_responder.specs.Events.{is_busy, is_copy}
 use Rattle.pldm_responder.specs.Performing.{Rules, changes, performed}
 use Rattle.pldm_responder.specs.declared.outcome.Outcome.{Outcome}
@@ -87,7 +87,7 @@ module _ {S : Type 0} (device : Rules S) where
   pub delivery_is_owed : DeliveryIsOwed device
   delivery_is_owed own keep start past moment k r timely e = go (is_busy keep (told past) moment) refl
     where
-      go : (b : Bool) → is_busy keep (told past) moment ≡ b → message_outcome device own keep start (told past) (message_at moment r) ≡ delivery_owed device keep start own past moment k r
+      go : (b : Bool) → is_busy keep (told past) moment ≡ b → answer_owed device own keep start (told past) (message_at moment r) ≡ delivery_owed device keep start own past moment k r
       go true busy = cond-true (is_busy keep (told past) moment) _ _ busy ∙ sym (cond-true (is_busy keep (told past) moment) _ _ busy)
       go false idle =
           let x = entry device keep start past moment k r timely.order timely.apart timely.in_time e idle in

@@ -2,7 +2,7 @@
 -- deliveries get its one reply.
 use Rattle.std.specs.Prelude.{◌≡◌, ◌≢◌, ℕ, ◌+◌, ◌*◌, ◌<◌, ◌≤◌, false, not, List, ◌∷◌, Some}
 use Rattle.pldm_wire.specs.Headers.{id_at}
-use Rattle.pldm_responder.specs.Calls.{message_outcome}
+use Rattle.pldm_responder.specs.Calls.{answer_owed}
 use Rattle.pldm_responder.specs.Events.{Place, is_busy, is_copy, is_fresh, origin}
 use Rattle.pldm_responder.specs.Performing.{Rules, performed}
 use Rattle.mctp_schedule.specs.Logs.{Asked, Happening, Delivered, IsTimelyLog, asked_at, message_at, told}
@@ -47,7 +47,7 @@ module _ {S : Type 0} (device : Rules S) where
   DeliveryIsOwed =
       (own keep : ℕ) (start : S) (past : List Happening) (moment k : ℕ) (r : Asked)
       → IsTimelyLog keep (Delivered moment k ∷ past) → asked_at past k ≡ Some r
-      → message_outcome device own keep start (told past) (message_at moment r)
+      → answer_owed device own keep start (told past) (message_at moment r)
       ≡ delivery_owed device keep start own past moment k r
 
   -- a request that was performed is not performed again, whatever restarts came since

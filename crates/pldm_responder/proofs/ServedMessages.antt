@@ -3,7 +3,7 @@ use Rattle.std.proofs.Common.{◌≡◌, ℕ, ◌≤◌, ◌<◌, Bool, true, fa
 use Rattle.std.specs.Prelude.{◌+◌, bytes_eq}
 use borrow.Author.Tests.{ltb-true}
 use Rattle.mctp_packet.specs.Packets.{Packet}
-use Rattle.mctp_packet.specs.Passing.{where_expected}
+use Rattle.mctp_packet.specs.Passing.{passed}
 use Rattle.mctp_packet.specs.declared.packet.Route.{Route}
 use Rattle.mctp_packet.specs.declared.reason.Reason.{Reason}
 use Rattle.mctp_packet.specs.declared.reason.Reason.TheVariants.{BadTag}
@@ -62,7 +62,7 @@ where_both false b x y h = refl
 pub wants_when_whole : {S : Type 0} (held : Held S) (steady : Bool) (moment : ℕ) (p : Packet) (route : Route) (items : List ℕ)
     → route ≡ p.route → route.owner ≡ true → Whole (record { items = items }) ≡ answer held.open_messages p
     → ((start : Bool) → ArrivalWants held steady start (headed (message_of route.source route.tag moment items) (request_of items)))
-    → PassedWants held steady moment (where_expected is_expected (Ok p))
+    → PassedWants held steady moment (passed is_expected (Ok p))
 wants_when_whole held steady moment p route items same owner whole wants =
     let expected : p.route.owner ≡ true = ap (λ (r : Route). r.owner) (sym same) ∙ owner in
     subst (λ t. PassedWants held steady moment (if t then Ok p else Err BadTag)) (sym expected)

@@ -36,7 +36,7 @@ is_expected p = p.route.owner
 
 -- the packet that these bytes bring to the endpoint `own`
 abbrev pub request_packet : ℕ → List ℕ → Result Packet Reason
-request_packet own bytes = passing own is_expected bytes
+request_packet own bytes = passing is_expected own bytes
 
 -- what a packet that passed brings; `gives` says what assembly gives for it
 abbrev pub passed_arrival : (Packet → Fed) → ℕ → Result Packet Reason → Arrival

@@ -1,6 +1,6 @@
 ghost use Rattle.std.specs.FinMap as map;
 ghost use Rattle.std.specs.Prelude.{◌≡◌, ◌≢◌, ℕ, false, ◌≤◌, ◌<◌, true, Bool, [], length, nat_lt, Ok, IfOk, IfSome, OnOk, OnErr};
-ghost use Rattle.mctp_packet.specs.Passing.{where_expected};
+ghost use Rattle.mctp_packet.specs.Passing.{passed};
 ghost use Rattle.mctp_packet.specs.Pieces.{written_packets};
 ghost use Rattle.mctp_assembly.specs.Steps.{answer};
 ghost use Rattle.mctp_assembly.specs.declared.key.Key.{Key as KeyValue};
@@ -193,11 +193,11 @@ impl<P: Platform> Responder<P> {
     /// Takes a packet that is addressed to the endpoint by another one.
     fn take(&mut self, now: Moment, packet: &PacketRef<'_>) -> Result<Outcome, Memory>
         requires { packet.now.route.source ≢ self.old.own }
-        ensures outcome { IfOk result (λ outcome. outcome ≡ arrival_outcome (rules_of P.answer P.after P.sensed) (held_of self.old) (passed_arrival (answer self.old.open_messages) now (where_expected is_expected (Ok packet.now)))) }
-        ensures fits { OnOk result (ArrivalFits (rules_of P.answer P.after P.sensed) (held_of self.old) (passed_arrival (answer self.old.open_messages) now (where_expected is_expected (Ok packet.now)))) }
-        ensures held { OnOk result (IsHeld (held_of self.new) (passed_held (rules_of P.answer P.after P.sensed) (held_of self.old) now (where_expected is_expected (Ok packet.now)))) }
-        ensures performed { OnOk result (P.performed self.old.platform (arrival_commands (held_of self.old) (passed_arrival (answer self.old.open_messages) now (where_expected is_expected (Ok packet.now)))) self.new.platform) }
-        ensures memory { OnErr result (PassedWants (held_of self.old) P.STEADY now (where_expected is_expected (Ok packet.now))) }
+        ensures outcome { IfOk result (λ outcome. outcome ≡ arrival_outcome (rules_of P.answer P.after P.sensed) (held_of self.old) (passed_arrival (answer self.old.open_messages) now (passed is_expected (Ok packet.now)))) }
+        ensures fits { OnOk result (ArrivalFits (rules_of P.answer P.after P.sensed) (held_of self.old) (passed_arrival (answer self.old.open_messages) now (passed is_expected (Ok packet.now)))) }
+        ensures held { OnOk result (IsHeld (held_of self.new) (passed_held (rules_of P.answer P.after P.sensed) (held_of self.old) now (passed is_expected (Ok packet.now)))) }
+        ensures performed { OnOk result (P.performed self.old.platform (arrival_commands (held_of self.old) (passed_arrival (answer self.old.open_messages) now (passed is_expected (Ok packet.now)))) self.new.platform) }
+        ensures memory { OnErr result (PassedWants (held_of self.old) P.STEADY now (passed is_expected (Ok packet.now))) }
         ensures err { OnErr result (IsHeld (held_of self.new) (held_of self.old)) }
         ensures none_performed { OnErr result (P.performed self.old.platform [] self.new.platform) }
     {
