@@ -47,7 +47,7 @@ pldm_types = refl
 
 commands : (answer device (GetPldmCommands 0 []) ≡ answers.GetPldmCommands (0x3e ∷ replicate 31 0))
     × (answer device (GetPldmCommands 2 []) ≡ answers.GetPldmCommands
-      (0 ∷ 0 ∷ 2 ∷ 0 ∷ 2 ∷ 0 ∷ 6 ∷ 6 ∷ 0 ∷ 0 ∷ 3 ∷ replicate 21 0))
+    (0 ∷ 0 ∷ 2 ∷ 0 ∷ 2 ∷ 0 ∷ 6 ∷ 6 ∷ 0 ∷ 0 ∷ 3 ∷ replicate 21 0))
     × (answer device (GetPldmCommands 1 []) ≡ answers.Refused 0x83)
 unfolding base_commands platform_commands
 commands = (refl, refl, refl)
@@ -57,7 +57,7 @@ numeric_sensor : (answer device (GetSensorReading 1 255) ≡ answers.GetSensorRe
 numeric_sensor = (refl, refl)
 
 state_sensor : (answer device (GetStateSensorReadings 3 0)
-      ≡ answers.GetStateSensorReadings (record { operational = 0; present = 1; previous = 2; event = 3 } ∷ []))
+    ≡ answers.GetStateSensorReadings (record { operational = 0; present = 1; previous = 2; event = 3 } ∷ []))
     × (answer device (GetStateSensorReadings 1 0) ≡ answers.Refused 0x80)
 state_sensor = (refl, refl)
 
@@ -72,7 +72,7 @@ numeric_effecter_refused : (answer device (SetNumericEffecterValue 1 (sized Uint
 numeric_effecter_refused = (refl, refl, refl, refl)
 
 numeric_effecter_read : (answer device (GetNumericEffecterValue 1)
-      ≡ answers.GetNumericEffecterValue 1 (two_numbers (sized Uint8 (pos 10)) (sized Uint8 (pos 10))))
+    ≡ answers.GetNumericEffecterValue 1 (two_numbers (sized Uint8 (pos 10)) (sized Uint8 (pos 10))))
     × (answer device (GetNumericEffecterValue 2) ≡ answers.Refused 0x80)
 numeric_effecter_read = (refl, refl)
 
@@ -89,7 +89,7 @@ state_effecter_refused : (answer device (SetStateEffecterStates 2 (set_state 1 2
 state_effecter_refused = (refl, refl, refl)
 
 state_effecter_read : (answer device (GetStateEffecterStates 2) ≡ answers.GetStateEffecterStates
-      (record { operational = 1; pending = 1; present = 1 } ∷ record { operational = 1; pending = 1; present = 1 } ∷ []))
+    (record { operational = 1; pending = 1; present = 1 } ∷ record { operational = 1; pending = 1; present = 1 } ∷ []))
     × (answer device (GetStateEffecterStates 3) ≡ answers.Refused 0x80)
 state_effecter_read = (refl, refl)
 
