@@ -1,6 +1,7 @@
 -- Which numbers are endpoint IDs, tags, sequence numbers, keeping times and moments.
 use Rattle.std.specs.Prelude.{ℕ, ◌≤◌, ◌<◌}
-use Rattle.mctp_packet.specs.declared.TheConstants.{FIRST_EID, LAST_EID, LAST_MOMENT, LONGEST_KEEP, SEQUENCE_NUMBERS, TAGS}
+use Rattle.mctp_packet.specs.declared.TheConstants.{FIRST_EID, LAST_EID, LAST_MOMENT}
+use Rattle.mctp_packet.specs.declared.TheConstants.{LONGEST_KEEP, SEQUENCE_NUMBERS, TAGS}
 
 -- an endpoint's own ID: neither null (0), reserved (1 to 7) nor broadcast (255)
 abbrev pub IsEid : ℕ → Type 0

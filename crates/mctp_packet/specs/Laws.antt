@@ -1,5 +1,6 @@
 -- Laws over the definitions alone.
-use Rattle.std.specs.Prelude.{◌≡◌, ◌≢◌, ℕ, ◌+◌, ◌%◌, ◌<◌, List, length, map, slice_get, slice_index, drop, Some, None, Ok}
+use Rattle.std.specs.Prelude.{◌≡◌, ◌≢◌, ℕ, ◌+◌, ◌%◌, ◌<◌, List, length, map}
+use Rattle.std.specs.Prelude.{slice_get, slice_index, drop, Some, None, Ok}
 use Rattle.std.specs.List.{flat_map}
 use Rattle.mctp_packet.specs.Ids.{IsEid, IsTag}
 use Rattle.mctp_packet.specs.Packets.{Packet, IsPacket, Spells, IsFor, written}
@@ -59,11 +60,13 @@ EachButTheLastIsFull =
 
 -- the joined payloads of a message's packets are the message
 abbrev pub PacketsJoin : Type 0
-PacketsJoin = (route : Route) (message : List ℕ) → flat_map (λ (p : Packet). p.payload) (packets route message) ≡ message
+PacketsJoin =
+    (route : Route) (message : List ℕ) → flat_map (λ (p : Packet). p.payload) (packets route message) ≡ message
 
 -- what `split` gives are the packets of the message, written
 abbrev pub SplitsToWritten : Type 0
-SplitsToWritten = (route : Route) (message : List ℕ) → written_packets route message ≡ map written (packets route message)
+SplitsToWritten =
+    (route : Route) (message : List ℕ) → written_packets route message ≡ map written (packets route message)
 
 -- each of them reads back as that packet of the message, also at the endpoint that it goes to
 abbrev pub SplitsReadBack : Type 0

@@ -1,4 +1,5 @@
--- The packets that an end of the link takes: their bytes pass the checks of reading, and their tag is one that it expects.
+-- The packets that an end of the link takes: their bytes pass the checks of reading, and their tag is one
+-- that it expects.
 use Rattle.std.specs.Prelude.{ℕ, Bool, List, Some, Result, Ok, Err, if◌then◌else◌}
 use Rattle.mctp_packet.specs.Packets.{Packet}
 use Rattle.mctp_packet.specs.Reading.{reading}

@@ -17,7 +17,8 @@ route_of bytes = record {
 
 abbrev pub packet_of : List ℕ → Packet
 packet_of bytes =
-    packet (route_of bytes) (is_set (slice_index bytes 3) 7) (is_set (slice_index bytes 3) 6) (slice_index bytes 3 / 16 % 4) (drop HEADER bytes)
+    packet (route_of bytes) (is_set (slice_index bytes 3) 7) (is_set (slice_index bytes 3) 6)
+    (slice_index bytes 3 / 16 % 4) (drop HEADER bytes)
 
 abbrev pub unless : Option Reason → Packet → Result Packet Reason
 unless None p = Ok p

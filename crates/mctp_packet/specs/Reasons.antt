@@ -1,7 +1,12 @@
 -- The reasons for which a packet or a message is dropped: their numbers and names.
 use Rattle.std.specs.Prelude.{ℕ, List, codes}
 use Rattle.mctp_packet.specs.declared.reason.Reason.{Reason}
-use Rattle.mctp_packet.specs.declared.reason.Reason.TheVariants.{Short, BadVersion, UnknownDestination, BadSource, NoPayload, UnsupportedUnit, BadTag, UnexpectedMiddleOrEnd, OutOfSequence, TooLong, WrongUnit, NotPldm, Integrity, ShortHeader, BadPldmHeader, NotRequest, Datagram, NotResponse, NotMine, NotReady}
+use Rattle.mctp_packet.specs.declared.reason.Reason.TheVariants.{Short, BadVersion, UnknownDestination}
+use Rattle.mctp_packet.specs.declared.reason.Reason.TheVariants.{BadSource, NoPayload, UnsupportedUnit}
+use Rattle.mctp_packet.specs.declared.reason.Reason.TheVariants.{BadTag, UnexpectedMiddleOrEnd, OutOfSequence}
+use Rattle.mctp_packet.specs.declared.reason.Reason.TheVariants.{TooLong, WrongUnit, NotPldm, Integrity}
+use Rattle.mctp_packet.specs.declared.reason.Reason.TheVariants.{ShortHeader, BadPldmHeader, NotRequest}
+use Rattle.mctp_packet.specs.declared.reason.Reason.TheVariants.{Datagram, NotResponse, NotMine, NotReady}
 
 abbrev pub number_of : Reason → ℕ
 number_of Short = 1

@@ -1,7 +1,9 @@
 -- Which reason refuses a packet's bytes: the first check that fails, in the order of this list.
-use Rattle.std.specs.Prelude.{ℕ, ◌%◌, Bool, not, ◌&&◌, ◌==◌, nat_lt, nat_le, List, [], ◌∷◌, length, slice_index, Option, Some, None, if◌then◌else◌}
+use Rattle.std.specs.Prelude.{ℕ, ◌%◌, Bool, not, ◌&&◌, ◌==◌, nat_lt, nat_le, List, []}
+use Rattle.std.specs.Prelude.{◌∷◌, length, slice_index, Option, Some, None, if◌then◌else◌}
 use Rattle.mctp_packet.specs.declared.reason.Reason.{Reason}
-use Rattle.mctp_packet.specs.declared.reason.Reason.TheVariants.{Short, BadVersion, UnknownDestination, BadSource, NoPayload, UnsupportedUnit}
+use Rattle.mctp_packet.specs.declared.reason.Reason.TheVariants.{Short, BadVersion, UnknownDestination}
+use Rattle.mctp_packet.specs.declared.reason.Reason.TheVariants.{BadSource, NoPayload, UnsupportedUnit}
 use Rattle.mctp_packet.specs.declared.TheConstants.{FIRST_EID, LAST_EID, HEADER, MOST_PACKET_BYTES, VERSION}
 
 abbrev pub first_failing : List (Bool × Reason) → Option Reason
