@@ -1,4 +1,5 @@
--- Whose message a packet carries: one is assembled at a time for each source, tag and tag owner (DSP0236, "Message assembly").
+-- Whose message a packet carries: one is assembled at a time for each source, tag and
+-- tag owner (DSP0236, "Message assembly").
 use Rattle.std.specs.Prelude.{ℕ, Bool, refl}
 use Rattle.std.specs.Ordering.{nat_cmp, bool_cmp, ordering_then}
 use Rattle.std.specs.declared.cmp.Ordering.{Ordering}
@@ -20,4 +21,5 @@ key_cmp a b = ordering_then (nat_cmp a.source b.source) (ordering_then (nat_cmp 
 -- a key is stored as its parts
 abbrev pub coded_key : Coded Key
 coded_key =
-    code_by (ℕ × (ℕ × Bool)) (coded× coded_ℕ (coded× coded_ℕ coded_bool)) (λ k. (k.source, (k.tag, k.owner))) (λ c. record { source = c.0; tag = c.1.0; owner = c.1.1 }) (λ _. refl)
+    code_by (ℕ × (ℕ × Bool)) (coded× coded_ℕ (coded× coded_ℕ coded_bool)) (λ k. (k.source, (k.tag, k.owner)))
+    (λ c. record { source = c.0; tag = c.1.0; owner = c.1.1 }) (λ _. refl)
