@@ -31,6 +31,7 @@ answer_of asked kind code bytes =
     else Err OtherCommand
 
 -- the response is this answer to the command
-pub record AnswersCommand (command : Command) (answer : Answer) (kind : TypeAndCommand) (code : ℕ) (bytes : List ℕ) : Type 0 where
+pub record AnswersCommand (command : Command) (answer : Answer) (kind : TypeAndCommand) (code : ℕ)
+    (bytes : List ℕ) : Type 0 where
   pub same_command : kind ≡ kind_of command
   pub fields : AnswerFields answer kind code bytes

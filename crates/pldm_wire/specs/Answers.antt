@@ -13,10 +13,19 @@ use Rattle.pldm_wire.specs.EffecterNumbers.{IsPair}
 use Rattle.pldm_wire.specs.Versions.{IsVersionData}
 use Rattle.pldm_wire.specs.TransferFlags.{flag_number}
 use Rattle.pldm_wire.specs.RecordParts.{IsPart, checksum_bytes}
-use Rattle.pldm_wire.specs.declared.assigned.TheConstants.{BASE, PLATFORM, SET_TID, GET_TID, GET_PLDM_VERSION, GET_PLDM_TYPES, GET_PLDM_COMMANDS, GET_SENSOR_READING, GET_STATE_SENSOR_READINGS, SET_NUMERIC_EFFECTER_VALUE, GET_NUMERIC_EFFECTER_VALUE, SET_STATE_EFFECTER_STATES, GET_STATE_EFFECTER_STATES, GET_PDR_REPOSITORY_INFO, GET_PDR, START_AND_END, SUCCESS}
+use Rattle.pldm_wire.specs.declared.assigned.TheConstants.{BASE, PLATFORM, SET_TID, GET_TID, GET_PLDM_VERSION}
+use Rattle.pldm_wire.specs.declared.assigned.TheConstants.{GET_PLDM_TYPES, GET_PLDM_COMMANDS, GET_SENSOR_READING}
+use Rattle.pldm_wire.specs.declared.assigned.TheConstants.{GET_STATE_SENSOR_READINGS, SET_NUMERIC_EFFECTER_VALUE}
+use Rattle.pldm_wire.specs.declared.assigned.TheConstants.{GET_NUMERIC_EFFECTER_VALUE, SET_STATE_EFFECTER_STATES}
+use Rattle.pldm_wire.specs.declared.assigned.TheConstants.{GET_STATE_EFFECTER_STATES, GET_PDR_REPOSITORY_INFO}
+use Rattle.pldm_wire.specs.declared.assigned.TheConstants.{GET_PDR, START_AND_END, SUCCESS}
 use Rattle.pldm_wire.specs.declared.limits.TheConstants.{TYPES_BYTES, COMMANDS_BYTES, TIME_BYTES}
 use Rattle.pldm_wire.specs.declared.answer.Answer.{Answer}
-use Rattle.pldm_wire.specs.declared.answer.Answer.TheVariants.{Refused, SetTid, GetTid, GetPldmVersion, GetPldmTypes, GetPldmCommands, GetSensorReading, GetStateSensorReadings, SetNumericEffecterValue, GetNumericEffecterValue, SetStateEffecterStates, GetStateEffecterStates, GetPdrRepositoryInfo, GetPdr}
+use Rattle.pldm_wire.specs.declared.answer.Answer.TheVariants.{Refused, SetTid, GetTid, GetPldmVersion}
+use Rattle.pldm_wire.specs.declared.answer.Answer.TheVariants.{GetPldmTypes, GetPldmCommands, GetSensorReading}
+use Rattle.pldm_wire.specs.declared.answer.Answer.TheVariants.{GetStateSensorReadings, SetNumericEffecterValue}
+use Rattle.pldm_wire.specs.declared.answer.Answer.TheVariants.{GetNumericEffecterValue, SetStateEffecterStates}
+use Rattle.pldm_wire.specs.declared.answer.Answer.TheVariants.{GetStateEffecterStates, GetPdrRepositoryInfo, GetPdr}
 
 -- the one command that the answer is to; a refusal is to any
 abbrev pub answered_kind : Answer → Option TypeAndCommand
@@ -26,13 +35,14 @@ answered_kind (GetTid tid) = Some (of_type BASE GET_TID)
 answered_kind (GetPldmVersion next_data_transfer_handle versions) = Some (of_type BASE GET_PLDM_VERSION)
 answered_kind (GetPldmTypes types) = Some (of_type BASE GET_PLDM_TYPES)
 answered_kind (GetPldmCommands commands) = Some (of_type BASE GET_PLDM_COMMANDS)
-answered_kind (GetSensorReading operational sensor_event_message_enable present previous event reading) = Some (of_type PLATFORM GET_SENSOR_READING)
+answered_kind (GetSensorReading operational sensor_event_message_enable present previous event reading) =
+    Some (of_type PLATFORM GET_SENSOR_READING)
 answered_kind (GetStateSensorReadings fields) = Some (of_type PLATFORM GET_STATE_SENSOR_READINGS)
 answered_kind SetNumericEffecterValue = Some (of_type PLATFORM SET_NUMERIC_EFFECTER_VALUE)
 answered_kind (GetNumericEffecterValue operational values) = Some (of_type PLATFORM GET_NUMERIC_EFFECTER_VALUE)
 answered_kind SetStateEffecterStates = Some (of_type PLATFORM SET_STATE_EFFECTER_STATES)
 answered_kind (GetStateEffecterStates fields) = Some (of_type PLATFORM GET_STATE_EFFECTER_STATES)
-answered_kind (GetPdrRepositoryInfo state update_time oem_update_time record_count repository_size largest_record_size timeout) = Some (of_type PLATFORM GET_PDR_REPOSITORY_INFO)
+answered_kind (GetPdrRepositoryInfo _ _ _ _ _ _ _) = Some (of_type PLATFORM GET_PDR_REPOSITORY_INFO)
 answered_kind (GetPdr next_record_handle next_data_transfer_handle part) = Some (of_type PLATFORM GET_PDR)
 
 abbrev pub IsAnswerTo : TypeAndCommand → Answer → Type 0
@@ -63,16 +73,19 @@ HasAnswerFields (GetNumericEffecterValue operational values) code bytes =
 HasAnswerFields SetStateEffecterStates code bytes = (code ≡ SUCCESS) × (bytes ≡ [])
 HasAnswerFields (GetStateEffecterStates fields) code bytes =
     (code ≡ SUCCESS) × IsComposite fields × (bytes ≡ length fields ∷ flat_map effecter_bytes fields)
-HasAnswerFields (GetPdrRepositoryInfo state update_time oem_update_time record_count repository_size largest_record_size timeout) code bytes =
+HasAnswerFields (GetPdrRepositoryInfo state update_time oem_update_time record_count repository_size
+    largest_record_size timeout) code bytes =
     (code ≡ SUCCESS) × (count_bytes : List ℕ) × (size_bytes : List ℕ) × (largest_bytes : List ℕ)
     × (length update_time ≡ TIME_BYTES) × (length oem_update_time ≡ TIME_BYTES)
-    × Stands 4 record_count count_bytes × Stands 4 repository_size size_bytes × Stands 4 largest_record_size largest_bytes
+    × Stands 4 record_count count_bytes × Stands 4 repository_size size_bytes
+    × Stands 4 largest_record_size largest_bytes
     × (bytes ≡ state ∷ update_time ++ oem_update_time ++ count_bytes ++ size_bytes ++ largest_bytes ++ timeout ∷ [])
 HasAnswerFields (GetPdr next_record_handle next_data_transfer_handle part) code bytes =
     (code ≡ SUCCESS) × (record_bytes : List ℕ) × (transfer_bytes : List ℕ) × (count_bytes : List ℕ)
     × Stands 4 next_record_handle record_bytes × Stands 4 next_data_transfer_handle transfer_bytes
     × Stands 2 (length part.bytes) count_bytes × IsPart part
-    × (bytes ≡ record_bytes ++ transfer_bytes ++ flag_number part.flag ∷ count_bytes ++ part.bytes ++ checksum_bytes part.transfer_crc)
+    × (bytes ≡ record_bytes ++ transfer_bytes ++ flag_number part.flag ∷ count_bytes ++ part.bytes
+    ++ checksum_bytes part.transfer_crc)
 
 -- a response of this kind with this completion code and these bytes of data is the answer
 pub record AnswerFields (answer : Answer) (kind : TypeAndCommand) (code : ℕ) (bytes : List ℕ) : Type 0 where
@@ -99,7 +112,8 @@ IsAnswer SetNumericEffecterValue = Unit {0}
 IsAnswer (GetNumericEffecterValue operational values) = IsU8 operational × IsPair values
 IsAnswer SetStateEffecterStates = Unit {0}
 IsAnswer (GetStateEffecterStates fields) = IsComposite fields
-IsAnswer (GetPdrRepositoryInfo state update_time oem_update_time record_count repository_size largest_record_size timeout) =
+IsAnswer (GetPdrRepositoryInfo state update_time oem_update_time record_count repository_size
+    largest_record_size timeout) =
     IsU8 state × (length update_time ≡ TIME_BYTES) × (length oem_update_time ≡ TIME_BYTES)
     × IsU32 record_count × IsU32 repository_size × IsU32 largest_record_size × IsU8 timeout
 IsAnswer (GetPdr next_record_handle next_data_transfer_handle part) =
@@ -120,14 +134,16 @@ answer_data (GetPldmVersion next_data_transfer_handle versions) =
 answer_data (GetPldmTypes types) = types
 answer_data (GetPldmCommands commands) = commands
 answer_data (GetSensorReading operational sensor_event_message_enable present previous event reading) =
-    size_code reading.size ∷ operational ∷ sensor_event_message_enable ∷ present ∷ previous ∷ event ∷ number_bytes reading
+    size_code reading.size ∷ operational ∷ sensor_event_message_enable ∷ present ∷ previous ∷ event
+    ∷ number_bytes reading
 answer_data (GetStateSensorReadings fields) = length fields ∷ flat_map sensor_bytes fields
 answer_data SetNumericEffecterValue = []
 answer_data (GetNumericEffecterValue operational values) =
     size_code values.pending.size ∷ operational ∷ number_bytes values.pending ++ number_bytes values.present
 answer_data SetStateEffecterStates = []
 answer_data (GetStateEffecterStates fields) = length fields ∷ flat_map effecter_bytes fields
-answer_data (GetPdrRepositoryInfo state update_time oem_update_time record_count repository_size largest_record_size timeout) =
+answer_data (GetPdrRepositoryInfo state update_time oem_update_time record_count repository_size
+    largest_record_size timeout) =
     state ∷ update_time ++ oem_update_time ++ little_bytes 4 record_count ++ little_bytes 4 repository_size
     ++ little_bytes 4 largest_record_size ++ timeout ∷ []
 answer_data (GetPdr next_record_handle next_data_transfer_handle part) =

@@ -3,10 +3,12 @@
 use Rattle.std.specs.Prelude.{ℕ, ◌==◌, nat_lt, List, length, slice_index, drop, Result, Ok, Err, if◌then◌else◌}
 use Rattle.pldm_wire.specs.Places.{u32_at, bytes_at}
 use Rattle.pldm_wire.specs.Versions.{is_version_data}
-use Rattle.pldm_wire.specs.declared.assigned.TheConstants.{SET_TID, GET_TID, GET_PLDM_VERSION, GET_PLDM_TYPES, GET_PLDM_COMMANDS, START_AND_END}
+use Rattle.pldm_wire.specs.declared.assigned.TheConstants.{SET_TID, GET_TID, GET_PLDM_VERSION}
+use Rattle.pldm_wire.specs.declared.assigned.TheConstants.{GET_PLDM_TYPES, GET_PLDM_COMMANDS, START_AND_END}
 use Rattle.pldm_wire.specs.declared.limits.TheConstants.{TYPES_BYTES, COMMANDS_BYTES}
 use Rattle.pldm_wire.specs.declared.answer.Answer.{Answer}
-use Rattle.pldm_wire.specs.declared.answer.Answer.TheVariants.{SetTid, GetTid, GetPldmVersion, GetPldmTypes, GetPldmCommands}
+use Rattle.pldm_wire.specs.declared.answer.Answer.TheVariants.{SetTid, GetTid, GetPldmVersion}
+use Rattle.pldm_wire.specs.declared.answer.Answer.TheVariants.{GetPldmTypes, GetPldmCommands}
 use Rattle.pldm_wire.specs.declared.answer_fault.AnswerFault.{AnswerFault}
 use Rattle.pldm_wire.specs.declared.answer_fault.AnswerFault.TheVariants.{OtherCommand, Length, Value}
 

@@ -2,9 +2,12 @@
 -- the command's is refused (DSP0240).
 use Rattle.std.specs.Prelude.{ℕ, ◌==◌, List, length, slice_index, Result, Ok, Err, if◌then◌else◌}
 use Rattle.pldm_wire.specs.Places.{u32_at, bytes_at}
-use Rattle.pldm_wire.specs.declared.assigned.TheConstants.{SET_TID, GET_TID, GET_PLDM_VERSION, GET_PLDM_TYPES, GET_PLDM_COMMANDS, ERROR_INVALID_LENGTH, ERROR_UNSUPPORTED_PLDM_CMD}
+use Rattle.pldm_wire.specs.declared.assigned.TheConstants.{SET_TID, GET_TID, GET_PLDM_VERSION}
+use Rattle.pldm_wire.specs.declared.assigned.TheConstants.{GET_PLDM_TYPES, GET_PLDM_COMMANDS}
+use Rattle.pldm_wire.specs.declared.assigned.TheConstants.{ERROR_INVALID_LENGTH, ERROR_UNSUPPORTED_PLDM_CMD}
 use Rattle.pldm_wire.specs.declared.command.Command.{Command}
-use Rattle.pldm_wire.specs.declared.command.Command.TheVariants.{SetTid, GetTid, GetPldmVersion, GetPldmTypes, GetPldmCommands}
+use Rattle.pldm_wire.specs.declared.command.Command.TheVariants.{SetTid, GetTid, GetPldmVersion}
+use Rattle.pldm_wire.specs.declared.command.Command.TheVariants.{GetPldmTypes, GetPldmCommands}
 
 abbrev pub set_tid_of : List ℕ → Result Command ℕ
 set_tid_of bytes = if length bytes == 1 then Ok (SetTid (slice_index bytes 0)) else Err ERROR_INVALID_LENGTH

@@ -7,10 +7,18 @@ use Rattle.pldm_wire.specs.Messages.{request_message}
 use Rattle.pldm_wire.specs.Sizes.{size_code}
 use Rattle.pldm_wire.specs.Numbers.{IsU8, IsU16, IsU32, IsNumber, Stands, StandsSized, number_bytes}
 use Rattle.pldm_wire.specs.States.{IsComposite, set_bytes}
-use Rattle.pldm_wire.specs.declared.assigned.TheConstants.{BASE, PLATFORM, SET_TID, GET_TID, GET_PLDM_VERSION, GET_PLDM_TYPES, GET_PLDM_COMMANDS, GET_SENSOR_READING, GET_STATE_SENSOR_READINGS, SET_NUMERIC_EFFECTER_VALUE, GET_NUMERIC_EFFECTER_VALUE, SET_STATE_EFFECTER_STATES, GET_STATE_EFFECTER_STATES, GET_PDR_REPOSITORY_INFO, GET_PDR}
+use Rattle.pldm_wire.specs.declared.assigned.TheConstants.{BASE, PLATFORM, SET_TID, GET_TID, GET_PLDM_VERSION}
+use Rattle.pldm_wire.specs.declared.assigned.TheConstants.{GET_PLDM_TYPES, GET_PLDM_COMMANDS, GET_SENSOR_READING}
+use Rattle.pldm_wire.specs.declared.assigned.TheConstants.{GET_STATE_SENSOR_READINGS, SET_NUMERIC_EFFECTER_VALUE}
+use Rattle.pldm_wire.specs.declared.assigned.TheConstants.{GET_NUMERIC_EFFECTER_VALUE, SET_STATE_EFFECTER_STATES}
+use Rattle.pldm_wire.specs.declared.assigned.TheConstants.{GET_STATE_EFFECTER_STATES, GET_PDR_REPOSITORY_INFO, GET_PDR}
 use Rattle.pldm_wire.specs.declared.limits.TheConstants.{VERSION_BYTES, ALL_FIELDS_FORM}
 use Rattle.pldm_wire.specs.declared.command.Command.{Command}
-use Rattle.pldm_wire.specs.declared.command.Command.TheVariants.{SetTid, GetTid, GetPldmVersion, GetPldmTypes, GetPldmCommands, GetSensorReading, GetStateSensorReadings, SetNumericEffecterValue, GetNumericEffecterValue, SetStateEffecterStates, GetStateEffecterStates, GetPdrRepositoryInfo, GetPdr}
+use Rattle.pldm_wire.specs.declared.command.Command.TheVariants.{SetTid, GetTid, GetPldmVersion}
+use Rattle.pldm_wire.specs.declared.command.Command.TheVariants.{GetPldmTypes, GetPldmCommands, GetSensorReading}
+use Rattle.pldm_wire.specs.declared.command.Command.TheVariants.{GetStateSensorReadings, SetNumericEffecterValue}
+use Rattle.pldm_wire.specs.declared.command.Command.TheVariants.{GetNumericEffecterValue, SetStateEffecterStates}
+use Rattle.pldm_wire.specs.declared.command.Command.TheVariants.{GetStateEffecterStates, GetPdrRepositoryInfo, GetPdr}
 
 abbrev pub kind_of : Command → TypeAndCommand
 kind_of (SetTid tid) = of_type BASE SET_TID
@@ -25,7 +33,8 @@ kind_of (GetNumericEffecterValue effecter) = of_type PLATFORM GET_NUMERIC_EFFECT
 kind_of (SetStateEffecterStates effecter fields) = of_type PLATFORM SET_STATE_EFFECTER_STATES
 kind_of (GetStateEffecterStates effecter) = of_type PLATFORM GET_STATE_EFFECTER_STATES
 kind_of GetPdrRepositoryInfo = of_type PLATFORM GET_PDR_REPOSITORY_INFO
-kind_of (GetPdr record_handle data_transfer_handle transfer_operation_flag request_count record_change_number) = of_type PLATFORM GET_PDR
+kind_of (GetPdr record_handle data_transfer_handle transfer_operation_flag request_count record_change_number) =
+    of_type PLATFORM GET_PDR
 
 -- whether a command sets something in the terminus
 abbrev pub sets : Command → Bool
@@ -39,7 +48,8 @@ abbrev pub HasFields : Command → List ℕ → Type 0
 HasFields (SetTid tid) bytes = bytes ≡ tid ∷ []
 HasFields GetTid bytes = bytes ≡ []
 HasFields (GetPldmVersion data_transfer_handle transfer_operation_flag pldm_type) bytes =
-    (handle : List ℕ) × Stands 4 data_transfer_handle handle × (bytes ≡ handle ++ transfer_operation_flag ∷ pldm_type ∷ [])
+    (handle : List ℕ) × Stands 4 data_transfer_handle handle
+    × (bytes ≡ handle ++ transfer_operation_flag ∷ pldm_type ∷ [])
 HasFields GetPldmTypes bytes = bytes ≡ []
 HasFields (GetPldmCommands pldm_type version) bytes =
     (length version ≡ VERSION_BYTES) × (bytes ≡ pldm_type ∷ version)
@@ -72,7 +82,8 @@ pub record CommandFields (command : Command) (kind : TypeAndCommand) (bytes : Li
 abbrev pub IsCommand : Command → Type 0
 IsCommand (SetTid tid) = IsU8 tid
 IsCommand GetTid = Unit {0}
-IsCommand (GetPldmVersion data_transfer_handle transfer_operation_flag pldm_type) = IsU32 data_transfer_handle × IsU8 transfer_operation_flag × IsU8 pldm_type
+IsCommand (GetPldmVersion data_transfer_handle transfer_operation_flag pldm_type) =
+    IsU32 data_transfer_handle × IsU8 transfer_operation_flag × IsU8 pldm_type
 IsCommand GetPldmTypes = Unit {0}
 IsCommand (GetPldmCommands pldm_type version) = IsU8 pldm_type × (length version ≡ VERSION_BYTES)
 IsCommand (GetSensorReading sensor rearm) = IsU16 sensor × IsU8 rearm
@@ -83,7 +94,8 @@ IsCommand (SetStateEffecterStates effecter fields) = IsU16 effecter × IsComposi
 IsCommand (GetStateEffecterStates effecter) = IsU16 effecter
 IsCommand GetPdrRepositoryInfo = Unit {0}
 IsCommand (GetPdr record_handle data_transfer_handle transfer_operation_flag request_count record_change_number) =
-    IsU32 record_handle × IsU32 data_transfer_handle × IsU8 transfer_operation_flag × IsU16 request_count × IsU16 record_change_number
+    IsU32 record_handle × IsU32 data_transfer_handle × IsU8 transfer_operation_flag × IsU16 request_count
+    × IsU16 record_change_number
 
 -- the data that a command is written with: reserved bytes 0, and no ignored ones
 abbrev pub command_data : Command → List ℕ
@@ -103,8 +115,8 @@ command_data (SetStateEffecterStates effecter fields) =
 command_data (GetStateEffecterStates effecter) = little_bytes 2 effecter
 command_data GetPdrRepositoryInfo = []
 command_data (GetPdr record_handle data_transfer_handle transfer_operation_flag request_count record_change_number) =
-    little_bytes 4 record_handle ++ little_bytes 4 data_transfer_handle ++ transfer_operation_flag ∷ little_bytes 2 request_count
-    ++ little_bytes 2 record_change_number
+    little_bytes 4 record_handle ++ little_bytes 4 data_transfer_handle ++ transfer_operation_flag
+    ∷ little_bytes 2 request_count ++ little_bytes 2 record_change_number
 
 -- the request that a command is written as: its reserved bit is 0
 abbrev pub command_message : ℕ → Command → List ℕ

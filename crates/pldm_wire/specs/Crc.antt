@@ -1,7 +1,8 @@
 -- The checksum of a record, CRC-8 with the polynomial x^8 + x^2 + x + 1: a remainder of polynomials
 -- over two values. Such a polynomial is a number whose bits are its coefficients, bit k that of x^k.
 -- So the sum of two is their bit_xor, as is the difference, and times x^k is * 2 ^ k.
-use Rattle.std.specs.Prelude.{◌≡◌, ℕ, ◌+◌, ◌*◌, ◌^◌, ◌<◌, nat_lt, if◌then◌else◌, List, [], ◌∷◌, ◌++◌, map, replicate, bit_xor}
+use Rattle.std.specs.Prelude.{◌≡◌, ℕ, ◌+◌, ◌*◌, ◌^◌, ◌<◌, nat_lt, if◌then◌else◌}
+use Rattle.std.specs.Prelude.{List, [], ◌∷◌, ◌++◌, map, replicate, bit_xor}
 use Rattle.std.specs.Int.{bit_at}
 use Rattle.std.specs.List.{fold, flat_map}
 

@@ -4,7 +4,8 @@ use Rattle.std.specs.Prelude.{ℕ, ◌/◌, ◌%◌, Bool, not, ◌==◌, nat_lt
 use Rattle.mctp_packet.specs.Bits.{is_set}
 use Rattle.mctp_packet.specs.Refusals.{first_failing}
 use Rattle.mctp_packet.specs.declared.reason.Reason.{Reason}
-use Rattle.mctp_packet.specs.declared.reason.Reason.TheVariants.{NotPldm, Integrity, ShortHeader, BadPldmHeader, Datagram}
+use Rattle.mctp_packet.specs.declared.reason.Reason.TheVariants.{NotPldm, Integrity, ShortHeader}
+use Rattle.mctp_packet.specs.declared.reason.Reason.TheVariants.{BadPldmHeader, Datagram}
 use Rattle.pldm_wire.specs.Kinds.{TypeAndCommand, of_type}
 use Rattle.pldm_wire.specs.declared.assigned.TheConstants.{INSTANCE_IDS, MESSAGE_TYPE}
 

@@ -23,7 +23,8 @@ OneRequest =
 -- no bytes are two responses
 abbrev pub OneResponse : Type 0
 OneResponse =
-    (bytes : List ℕ) (id other_id : ℕ) (kind other_kind : TypeAndCommand) (code other_code : ℕ) (rest other_rest : List ℕ)
+    (bytes : List ℕ) (id other_id : ℕ) (kind other_kind : TypeAndCommand) (code other_code : ℕ)
+    (rest other_rest : List ℕ)
     → IsResponse bytes id kind code rest → IsResponse bytes other_id other_kind other_code other_rest
     → (id ≡ other_id) × (kind ≡ other_kind) × (code ≡ other_code) × (rest ≡ other_rest)
 
@@ -91,8 +92,10 @@ AnswerWritten =
 -- answer
 abbrev pub WrittenAnswerReadBack : Type 0
 WrittenAnswerReadBack =
-    (id : ℕ) (command : Command) (answer : Answer) → id < INSTANCE_IDS → IsAnswerTo (kind_of command) answer → IsAnswer answer
-    → (response_of (answer_message id (kind_of command) answer) ≡ Ok (response id (kind_of command) (code_of answer) (answer_data answer)))
+    (id : ℕ) (command : Command) (answer : Answer)
+    → id < INSTANCE_IDS → IsAnswerTo (kind_of command) answer → IsAnswer answer
+    → (response_of (answer_message id (kind_of command) answer)
+    ≡ Ok (response id (kind_of command) (code_of answer) (answer_data answer)))
     × (answer_of (kind_of command) (kind_of command) (code_of answer) (answer_data answer) ≡ Ok answer)
 
 -- no number has two remainders

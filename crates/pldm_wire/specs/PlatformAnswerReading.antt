@@ -1,6 +1,7 @@
 -- The answers of platform monitoring and control as data is read, by place (DSP0248): fewer bytes
 -- than the fixed fields, then a field with a wrong value, then a wrong length of the whole.
-use Rattle.std.specs.Prelude.{ℕ, ◌+◌, ◌*◌, ◌==◌, nat_lt, Bool, ◌||◌, List, length, slice_index, slice_get, take, drop, Option, Some, None, Result, Ok, Err, if◌then◌else◌}
+use Rattle.std.specs.Prelude.{ℕ, ◌+◌, ◌*◌, ◌==◌, nat_lt, Bool, ◌||◌, List, length, slice_index}
+use Rattle.std.specs.Prelude.{slice_get, take, drop, Option, Some, None, Result, Ok, Err, if◌then◌else◌}
 use Rattle.pldm_wire.specs.Places.{u16_at, u32_at, bytes_at}
 use Rattle.pldm_wire.specs.Sizes.{size_of, width}
 use Rattle.pldm_wire.specs.Numbers.{number_at}
@@ -11,10 +12,16 @@ use Rattle.pldm_wire.specs.RecordParts.{part}
 use Rattle.pldm_wire.specs.BaseAnswerReading.{no_data_of}
 use Rattle.pldm_wire.specs.declared.size.Size.{Size}
 use Rattle.pldm_wire.specs.declared.transfer_flag.TransferFlag.{TransferFlag}
-use Rattle.pldm_wire.specs.declared.assigned.TheConstants.{GET_SENSOR_READING, GET_STATE_SENSOR_READINGS, SET_NUMERIC_EFFECTER_VALUE, GET_NUMERIC_EFFECTER_VALUE, SET_STATE_EFFECTER_STATES, GET_STATE_EFFECTER_STATES, GET_PDR_REPOSITORY_INFO, GET_PDR}
+use Rattle.pldm_wire.specs.declared.assigned.TheConstants.{GET_SENSOR_READING, GET_STATE_SENSOR_READINGS}
+use Rattle.pldm_wire.specs.declared.assigned.TheConstants.{SET_NUMERIC_EFFECTER_VALUE, GET_NUMERIC_EFFECTER_VALUE}
+use Rattle.pldm_wire.specs.declared.assigned.TheConstants.{SET_STATE_EFFECTER_STATES, GET_STATE_EFFECTER_STATES}
+use Rattle.pldm_wire.specs.declared.assigned.TheConstants.{GET_PDR_REPOSITORY_INFO, GET_PDR}
 use Rattle.pldm_wire.specs.declared.limits.TheConstants.{MOST_STATES, MOST_PART_BYTES, TIME_BYTES}
 use Rattle.pldm_wire.specs.declared.answer.Answer.{Answer}
-use Rattle.pldm_wire.specs.declared.answer.Answer.TheVariants.{GetSensorReading, GetStateSensorReadings, SetNumericEffecterValue, GetNumericEffecterValue, SetStateEffecterStates, GetStateEffecterStates, GetPdrRepositoryInfo, GetPdr}
+use Rattle.pldm_wire.specs.declared.answer.Answer.TheVariants.{GetSensorReading, GetStateSensorReadings}
+use Rattle.pldm_wire.specs.declared.answer.Answer.TheVariants.{SetNumericEffecterValue, GetNumericEffecterValue}
+use Rattle.pldm_wire.specs.declared.answer.Answer.TheVariants.{SetStateEffecterStates, GetStateEffecterStates}
+use Rattle.pldm_wire.specs.declared.answer.Answer.TheVariants.{GetPdrRepositoryInfo, GetPdr}
 use Rattle.pldm_wire.specs.declared.answer_fault.AnswerFault.{AnswerFault}
 use Rattle.pldm_wire.specs.declared.answer_fault.AnswerFault.TheVariants.{OtherCommand, Length, Value}
 
@@ -23,7 +30,8 @@ abbrev pub reading_of : Option Size → List ℕ → Result Answer AnswerFault
 reading_of None bytes = Err Value
 reading_of (Some size) bytes =
     if length bytes == 6 + width size then
-    Ok (GetSensorReading (slice_index bytes 1) (slice_index bytes 2) (slice_index bytes 3) (slice_index bytes 4) (slice_index bytes 5) (number_at size 6 bytes))
+    Ok (GetSensorReading (slice_index bytes 1) (slice_index bytes 2) (slice_index bytes 3)
+    (slice_index bytes 4) (slice_index bytes 5) (number_at size 6 bytes))
     else Err Length
 
 abbrev pub reading_answer_of : List ℕ → Result Answer AnswerFault
@@ -39,7 +47,8 @@ abbrev pub sensor_states_answer_of : List ℕ → Result Answer AnswerFault
 sensor_states_answer_of bytes =
     if nat_lt (length bytes) 1 then Err Length
     else if is_no_count (slice_index bytes 0) then Err Value
-    else if length bytes == 1 + 4 * slice_index bytes 0 then Ok (GetStateSensorReadings (sensor_states_in (drop 1 bytes)))
+    else if length bytes == 1 + 4 * slice_index bytes 0 then
+    Ok (GetStateSensorReadings (sensor_states_in (drop 1 bytes)))
     else Err Length
 
 -- two bytes before the numbers: data size and operational state
@@ -47,7 +56,8 @@ abbrev pub values_of : Option Size → List ℕ → Result Answer AnswerFault
 values_of None bytes = Err Value
 values_of (Some size) bytes =
     if length bytes == 2 + 2 * width size then
-    Ok (GetNumericEffecterValue (slice_index bytes 1) (two_numbers (number_at size 2 bytes) (number_at size (2 + width size) bytes)))
+    Ok (GetNumericEffecterValue (slice_index bytes 1)
+    (two_numbers (number_at size 2 bytes) (number_at size (2 + width size) bytes)))
     else Err Length
 
 abbrev pub values_answer_of : List ℕ → Result Answer AnswerFault
@@ -59,14 +69,16 @@ abbrev pub effecter_states_answer_of : List ℕ → Result Answer AnswerFault
 effecter_states_answer_of bytes =
     if nat_lt (length bytes) 1 then Err Length
     else if is_no_count (slice_index bytes 0) then Err Value
-    else if length bytes == 1 + 3 * slice_index bytes 0 then Ok (GetStateEffecterStates (effecter_states_in (drop 1 bytes)))
+    else if length bytes == 1 + 3 * slice_index bytes 0 then
+    Ok (GetStateEffecterStates (effecter_states_in (drop 1 bytes)))
     else Err Length
 
 -- the state, two times of 13 bytes, three numbers of four, and the timeout
 abbrev pub repository_answer_of : List ℕ → Result Answer AnswerFault
 repository_answer_of bytes =
     if length bytes == 40 then
-    Ok (GetPdrRepositoryInfo (slice_index bytes 0) (bytes_at 1 TIME_BYTES bytes) (bytes_at 14 TIME_BYTES bytes) (u32_at 27 bytes) (u32_at 31 bytes) (u32_at 35 bytes) (slice_index bytes 39))
+    Ok (GetPdrRepositoryInfo (slice_index bytes 0) (bytes_at 1 TIME_BYTES bytes) (bytes_at 14 TIME_BYTES bytes)
+    (u32_at 27 bytes) (u32_at 31 bytes) (u32_at 35 bytes) (slice_index bytes 39))
     else Err Length
 
 -- the bytes of the checksum that follows a part with the flag
@@ -79,7 +91,8 @@ part_of None bytes = Err Value
 part_of (Some flag) bytes =
     if nat_lt MOST_PART_BYTES (u16_at 9 bytes) then Err Value
     else if length bytes == 11 + u16_at 9 bytes + checksum_length flag then
-    Ok (GetPdr (u32_at 0 bytes) (u32_at 4 bytes) (part flag (take (u16_at 9 bytes) (drop 11 bytes)) (slice_get (drop (u16_at 9 bytes) (drop 11 bytes)) 0)))
+    Ok (GetPdr (u32_at 0 bytes) (u32_at 4 bytes)
+    (part flag (take (u16_at 9 bytes) (drop 11 bytes)) (slice_get (drop (u16_at 9 bytes) (drop 11 bytes)) 0)))
     else Err Length
 
 abbrev pub part_answer_of : List ℕ → Result Answer AnswerFault

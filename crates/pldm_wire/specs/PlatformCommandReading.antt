@@ -1,16 +1,24 @@
 -- The commands of platform monitoring and control as data is read, by place (DSP0248). Another
 -- length than the command's is refused; where the length depends on a data size or a count, that
 -- has to be one first.
-use Rattle.std.specs.Prelude.{ℕ, ◌+◌, ◌*◌, ◌==◌, nat_lt, ◌||◌, List, length, slice_index, take, drop, Option, Some, None, Result, Ok, Err, if◌then◌else◌}
+use Rattle.std.specs.Prelude.{ℕ, ◌+◌, ◌*◌, ◌==◌, nat_lt, ◌||◌, List, length, slice_index}
+use Rattle.std.specs.Prelude.{take, drop, Option, Some, None, Result, Ok, Err, if◌then◌else◌}
 use Rattle.pldm_wire.specs.Places.{u16_at, u32_at}
 use Rattle.pldm_wire.specs.Sizes.{size_of, width}
 use Rattle.pldm_wire.specs.Numbers.{number_at}
 use Rattle.pldm_wire.specs.States.{sets_in}
 use Rattle.pldm_wire.specs.declared.size.Size.{Size}
-use Rattle.pldm_wire.specs.declared.assigned.TheConstants.{GET_SENSOR_READING, GET_STATE_SENSOR_READINGS, SET_NUMERIC_EFFECTER_VALUE, GET_NUMERIC_EFFECTER_VALUE, SET_STATE_EFFECTER_STATES, GET_STATE_EFFECTER_STATES, GET_PDR_REPOSITORY_INFO, GET_PDR, ERROR_INVALID_DATA, ERROR_INVALID_LENGTH, ERROR_UNSUPPORTED_PLDM_CMD}
+use Rattle.pldm_wire.specs.declared.assigned.TheConstants.{GET_SENSOR_READING, GET_STATE_SENSOR_READINGS}
+use Rattle.pldm_wire.specs.declared.assigned.TheConstants.{SET_NUMERIC_EFFECTER_VALUE, GET_NUMERIC_EFFECTER_VALUE}
+use Rattle.pldm_wire.specs.declared.assigned.TheConstants.{SET_STATE_EFFECTER_STATES, GET_STATE_EFFECTER_STATES}
+use Rattle.pldm_wire.specs.declared.assigned.TheConstants.{GET_PDR_REPOSITORY_INFO, GET_PDR, ERROR_INVALID_DATA}
+use Rattle.pldm_wire.specs.declared.assigned.TheConstants.{ERROR_INVALID_LENGTH, ERROR_UNSUPPORTED_PLDM_CMD}
 use Rattle.pldm_wire.specs.declared.limits.TheConstants.{MOST_STATES, ALL_FIELDS_FORM}
 use Rattle.pldm_wire.specs.declared.command.Command.{Command}
-use Rattle.pldm_wire.specs.declared.command.Command.TheVariants.{GetSensorReading, GetStateSensorReadings, SetNumericEffecterValue, GetNumericEffecterValue, SetStateEffecterStates, GetStateEffecterStates, GetPdrRepositoryInfo, GetPdr}
+use Rattle.pldm_wire.specs.declared.command.Command.TheVariants.{GetSensorReading, GetStateSensorReadings}
+use Rattle.pldm_wire.specs.declared.command.Command.TheVariants.{SetNumericEffecterValue, GetNumericEffecterValue}
+use Rattle.pldm_wire.specs.declared.command.Command.TheVariants.{SetStateEffecterStates, GetStateEffecterStates}
+use Rattle.pldm_wire.specs.declared.command.Command.TheVariants.{GetPdrRepositoryInfo, GetPdr}
 
 -- the sensor of two bytes, and rearm
 abbrev pub get_sensor_reading_of : List ℕ → Result Command ℕ

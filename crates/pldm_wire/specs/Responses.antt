@@ -28,4 +28,5 @@ code_at bytes = slice_index bytes REQUEST_HEADER
 -- what reading gives
 unfoldable pub response_of : List ℕ → Result Response Reason
 response_of bytes =
-    unless (response_refusal bytes) (response (id_at bytes) (kind_at bytes) (code_at bytes) (drop RESPONSE_HEADER bytes))
+    unless (response_refusal bytes)
+    (response (id_at bytes) (kind_at bytes) (code_at bytes) (drop RESPONSE_HEADER bytes))

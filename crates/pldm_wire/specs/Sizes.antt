@@ -1,6 +1,7 @@
 -- The data sizes of numeric sensors and effecters (DSP0248, "sensorDataSize" and
 -- "effecterDataSize").
-use Rattle.std.specs.Prelude.{ℕ, ◌==◌, ℤ, pos, negsuc, ◌≤ℤ◌, int_le, Bool, true, false, ◌&&◌, Option, Some, None, if◌then◌else◌}
+use Rattle.std.specs.Prelude.{ℕ, ◌==◌, ℤ, pos, negsuc, ◌≤ℤ◌, int_le, Bool, true}
+use Rattle.std.specs.Prelude.{false, ◌&&◌, Option, Some, None, if◌then◌else◌}
 use Rattle.pldm_wire.specs.declared.size.Size.{Size}
 use Rattle.pldm_wire.specs.declared.size.Size.TheVariants.{Uint8, Sint8, Uint16, Sint16, Uint32, Sint32}
 
