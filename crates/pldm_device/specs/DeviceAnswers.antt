@@ -14,7 +14,8 @@ use Rattle.pldm_device.specs.RecordAnswers.{record_answer, repository_info}
 abbrev pub answer : Device → Command → Answer
 answer device (SetTid tid) = outcome_answered answers.SetTid (tid_set tid device)
 answer device GetTid = answers.GetTid device.tid
-answer device (GetPldmVersion data_transfer_handle transfer_operation_flag pldm_type) = version_answer transfer_operation_flag pldm_type device
+answer device (GetPldmVersion data_transfer_handle transfer_operation_flag pldm_type) =
+    version_answer transfer_operation_flag pldm_type device
 answer device GetPldmTypes = answers.GetPldmTypes types
 answer device (GetPldmCommands pldm_type version) = commands_answer pldm_type
 answer device (GetSensorReading sensor rearm) = numeric_sensor_answered (with_id sensor device.numeric_sensors)

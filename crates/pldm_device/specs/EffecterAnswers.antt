@@ -35,7 +35,8 @@ are_allowed _ _ = true
 
 -- the states that are asked for, and where none is, the one that the field has
 abbrev pub states_after : List SetStateField → List ℕ → List ℕ
-states_after (field ∷ fields) (state ∷ states) = (if asks field then field.state else state) ∷ states_after fields states
+states_after (field ∷ fields) (state ∷ states) =
+    (if asks field then field.state else state) ∷ states_after fields states
 states_after _ _ = []
 
 -- there is a set request other than noChange and requestSet
@@ -57,7 +58,8 @@ done_unless (Some refusal) done = Err refusal
 abbrev pub set_states : List SetStateField → FieldsOfStates → Result FieldsOfStates ℕ
 set_states fields effecter =
     if length fields == length effecter.states
-    then done_unless (states_refusal fields effecter.allowed) (record effecter { states = states_after fields effecter.states })
+    then done_unless (states_refusal fields effecter.allowed)
+    (record effecter { states = states_after fields effecter.states })
     else Err ERROR_INVALID_DATA
 
 -- the field of an effecter in this state: no other one is pending
@@ -83,7 +85,8 @@ outcome_answered done (Err code) = Refused code
 
 abbrev pub numeric_effecter_answered : Option NumericEffecter → Answer
 numeric_effecter_answered None = Refused INVALID_EFFECTER_ID
-numeric_effecter_answered (Some effecter) = GetNumericEffecterValue EFFECTER_ENABLED (two_numbers effecter.value effecter.value)
+numeric_effecter_answered (Some effecter) =
+    GetNumericEffecterValue EFFECTER_ENABLED (two_numbers effecter.value effecter.value)
 
 abbrev pub state_effecter_answered : Option FieldsOfStates → Answer
 state_effecter_answered None = Refused INVALID_EFFECTER_ID

@@ -78,7 +78,8 @@ abbrev pub state_effecter_of : Data → Result (ℕ × FieldsOfStates) FileFault
 state_effecter_of value = table_in value >>= state_effecter_in
 
 -- no ID is that of a numeric effecter
-abbrev pub state_effecters_after : ById NumericEffecter → ById FieldsOfStates → Items → Result (ById FieldsOfStates) FileFault
+abbrev pub state_effecters_after :
+    ById NumericEffecter → ById FieldsOfStates → Items → Result (ById FieldsOfStates) FileFault
 state_effecters_after numeric before entries = things_after state_effecter_of (λ id. has_id id numeric) before entries
 
 abbrev pub state_effecters_in : ById NumericEffecter → Members → Result (ById FieldsOfStates) FileFault

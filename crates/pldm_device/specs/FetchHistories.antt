@@ -24,7 +24,8 @@ last_handle (_ ∷ before) = last_handle before
 -- what an answer gives where no earlier one ended the fetch: it is judged by the parts joined so far
 abbrev pub judged : ℕ → List Answer → Answer → Result FetchState FetchFault
 judged asked before answer =
-    taken_while_going (record { asked = asked; bytes = joined_parts before; offset = last_handle before; stage = Going }) answer
+    taken_while_going
+    (record { asked = asked; bytes = joined_parts before; offset = last_handle before; stage = Going }) answer
 
 -- a part ends the fetch where it is the last, or refused
 abbrev pub ending_of_part : Result FetchState FetchFault → Option (Result FetchState FetchFault)
@@ -48,7 +49,8 @@ ended asked [] = None
 ended asked (answer ∷ before) = earlier (ended asked before) (ending answer (judged asked before answer))
 
 -- what an answer gives, by how the fetch ended before it: after a fault that fault, after the record Unexpected
-abbrev pub owed_after : Option (Result FetchState FetchFault) → Result FetchState FetchFault → Result FetchState FetchFault
+abbrev pub owed_after :
+    Option (Result FetchState FetchFault) → Result FetchState FetchFault → Result FetchState FetchFault
 owed_after None given = given
 owed_after (Some (Ok state)) given = Err faults.Unexpected
 owed_after (Some (Err fault)) given = Err fault
@@ -56,8 +58,8 @@ owed_after (Some (Err fault)) given = Err fault
 abbrev pub owed : ℕ → List Answer → Answer → Result FetchState FetchFault
 owed asked before answer = owed_after (ended asked before) (judged asked before answer)
 
--- the request for the part after these: for the first part where none came, else for the one that the last part tells; and
--- from the eighth byte on with the record's change number
+-- the request for the part after these: for the first part where none came, else for the one that the last part tells;
+-- and from the eighth byte on with the record's change number
 abbrev pub request_after : ℕ → List Answer → Command
 request_after asked before =
     commands.GetPdr asked (last_handle before)

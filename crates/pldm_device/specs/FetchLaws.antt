@@ -68,21 +68,24 @@ ArePartsUpto next pdr end [] = end ≡ 0
 ArePartsUpto next pdr end (answer ∷ before) =
     (start : ℕ) × (start < length pdr) × HasPart next pdr start end answer × ArePartsUpto next pdr start before
 
--- the request for the part of the record from an offset on: it has the record's change number where the bytes before have it
+-- the request for the part of the record from an offset on: it has the record's change number where the bytes before
+-- have it
 abbrev pub request_at : ℕ → List ℕ → ℕ → Command
 request_at asked pdr offset =
     commands.GetPdr asked offset (if offset == 0 then GET_FIRST_PART else GET_NEXT_PART) MOST_PART_BYTES
     (if nat_lt offset CHANGE_NUMBER_END then 0 else change_number_of pdr)
 
--- where a fetch is given the parts of the record that was asked for in turn, it goes on at each, asking for the next one
--- where it begins, and is done at the last, with the record and the handle of the record after it
+-- where a fetch is given the parts of the record that was asked for in turn, it goes on at each, asking for the next
+-- one where it begins, and is done at the last, with the record and the handle of the record after it
 abbrev pub PartsGiveTheRecord : Type 0
 PartsGiveTheRecord =
     (asked next offset count : ℕ) (pdr : List ℕ) (before : List Answer)
     → IsWhole pdr → IsAsked asked pdr → ArePartsUpto next pdr offset before → offset < length pdr → 0 < count
     → (next_request (fetched asked before) ≡ Some (request_at asked pdr offset))
-    × (taken (fetched asked before) (part_answer next pdr offset count) ≡ (if is_last_part pdr offset count then Ok (Done next) else Ok More))
-    × (is_last_part pdr offset count ≡ true → fetched_record (fetched asked (part_answer next pdr offset count ∷ before)) ≡ Some pdr)
+    × (taken (fetched asked before) (part_answer next pdr offset count)
+    ≡ (if is_last_part pdr offset count then Ok (Done next) else Ok More))
+    × (is_last_part pdr offset count ≡ true
+    → fetched_record (fetched asked (part_answer next pdr offset count ∷ before)) ≡ Some pdr)
 
 -- the answers of a repository to the requests of a fetch: one more where the fetch still asks
 abbrev pub with_answer : List (List ℕ) → List Answer → Option Command → List Answer
@@ -95,7 +98,8 @@ with_answer records before (Some _) = before
 abbrev pub answered_rounds : List (List ℕ) → ℕ → ℕ → List Answer
 answered_rounds records asked zero = []
 answered_rounds records asked (suc rounds) =
-    with_answer records (answered_rounds records asked rounds) (next_request (fetched asked (answered_rounds records asked rounds)))
+    with_answer records (answered_rounds records asked rounds)
+    (next_request (fetched asked (answered_rounds records asked rounds)))
 
 -- followed over a repository, a fetch ends with the record that was asked for, after no more rounds than it has bytes
 abbrev pub RepositoryIsFetched : Type 0

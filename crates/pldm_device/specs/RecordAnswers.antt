@@ -28,7 +28,8 @@ part_answered next_record_handle request_count pdr (Some offset) =
     GetPdr next_record_handle (next_data_transfer_handle pdr offset request_count) (part_of pdr offset request_count)
 
 abbrev pub record_answered : ℕ → ℕ → ℕ → ℕ → Option (List ℕ) → Answer
-record_answered next_record_handle data_transfer_handle transfer_operation_flag request_count None = Refused INVALID_RECORD_HANDLE
+record_answered next_record_handle data_transfer_handle transfer_operation_flag request_count None =
+    Refused INVALID_RECORD_HANDLE
 record_answered next_record_handle data_transfer_handle transfer_operation_flag request_count (Some pdr) =
     part_answered next_record_handle request_count pdr (offset_asked transfer_operation_flag data_transfer_handle pdr)
 
@@ -36,11 +37,13 @@ record_answered next_record_handle data_transfer_handle transfer_operation_flag 
 abbrev pub record_answer_at : ℕ → ℕ → ℕ → List (List ℕ) → Option ℕ → Answer
 record_answer_at data_transfer_handle transfer_operation_flag request_count records None = Refused INVALID_RECORD_HANDLE
 record_answer_at data_transfer_handle transfer_operation_flag request_count records (Some place) =
-    record_answered (handle_at (place + 1) records) data_transfer_handle transfer_operation_flag request_count (slice_get records place)
+    record_answered (handle_at (place + 1) records) data_transfer_handle transfer_operation_flag request_count
+    (slice_get records place)
 
 -- the answer to GetPDR; the change number isn't looked at
 abbrev pub record_answer : ℕ → ℕ → ℕ → ℕ → List (List ℕ) → Answer
 record_answer record_handle data_transfer_handle transfer_operation_flag request_count records =
     if request_count == 0 then Refused ERROR_INVALID_DATA
     else if nat_lt GET_FIRST_PART transfer_operation_flag then Refused INVALID_TRANSFER_OPERATION
-    else record_answer_at data_transfer_handle transfer_operation_flag request_count records (position_asked record_handle records)
+    else record_answer_at data_transfer_handle transfer_operation_flag request_count records
+    (position_asked record_handle records)

@@ -64,7 +64,8 @@ abbrev pub state_sensor_of : Data → Result (ℕ × List SensorStateField) File
 state_sensor_of value = table_in value >>= state_sensor_in
 
 -- no ID is that of a numeric sensor
-abbrev pub state_sensors_after : ById NumericSensor → ById (List SensorStateField) → Items → Result (ById (List SensorStateField)) FileFault
+abbrev pub state_sensors_after :
+    ById NumericSensor → ById (List SensorStateField) → Items → Result (ById (List SensorStateField)) FileFault
 state_sensors_after numeric before entries = things_after state_sensor_of (λ id. has_id id numeric) before entries
 
 abbrev pub state_sensors_in : ById NumericSensor → Members → Result (ById (List SensorStateField)) FileFault
