@@ -8,7 +8,8 @@ use Rattle.pldm_device.specs.Changes.{changed_or}
 use Rattle.pldm_device.specs.Devices.{Device}
 use Rattle.pldm_device.specs.BaseAnswers.{tid_set, version_answer, types, commands_answer}
 use Rattle.pldm_device.specs.SensorAnswers.{numeric_sensor_answered, state_sensor_answered}
-use Rattle.pldm_device.specs.EffecterAnswers.{number_set, states_set, outcome_answered, numeric_effecter_answered, state_effecter_answered}
+use Rattle.pldm_device.specs.EffecterAnswers.{number_set, states_set, outcome_answered}
+use Rattle.pldm_device.specs.EffecterAnswers.{numeric_effecter_answered, state_effecter_answered}
 use Rattle.pldm_device.specs.RecordAnswers.{record_answer, repository_info}
 
 abbrev pub answer : Device → Command → Answer

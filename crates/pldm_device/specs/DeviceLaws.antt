@@ -1,5 +1,6 @@
 -- The simulated device keeps the laws of a platform.
-use Rattle.std.specs.Prelude.{◌≡◌, ℕ, ◌+◌, ◌==◌, nat_lt, Bool, true, false, List, Option, Some, None, Result, Ok, Err, refl, slice_get, if◌then◌else◌}
+use Rattle.std.specs.Prelude.{◌≡◌, ℕ, ◌+◌, ◌==◌, nat_lt, Bool, true, false, List}
+use Rattle.std.specs.Prelude.{Option, Some, None, Result, Ok, Err, refl, slice_get, if◌then◌else◌}
 use Rattle.pldm_wire.specs.Commands.{kind_of, sets}
 use Rattle.pldm_wire.specs.Answers.{IsAnswerTo}
 use Rattle.pldm_wire.specs.Kinds.{TypeAndCommand}
@@ -8,14 +9,16 @@ use Rattle.pldm_wire.specs.declared.command.Command.TheVariants.{SetTid, GetTid,
 use Rattle.pldm_wire.specs.declared.answer.Answer.{Answer}
 use Rattle.pldm_wire.specs.declared.answer.Answer.TheVariants as answers
 use Rattle.pldm_wire.specs.declared.assigned.TheConstants.{BASE, PLATFORM, ERROR_INVALID_DATA}
-use Rattle.pldm_device.specs.declared.limits.TheConstants.{INVALID_TRANSFER_OPERATION, INVALID_DATA_TRANSFER_HANDLE, INVALID_PLDM_TYPE}
+use Rattle.pldm_device.specs.declared.limits.TheConstants.{INVALID_TRANSFER_OPERATION}
+use Rattle.pldm_device.specs.declared.limits.TheConstants.{INVALID_DATA_TRANSFER_HANDLE, INVALID_PLDM_TYPE}
 use Rattle.pldm_wire.specs.declared.limits.TheConstants.{GET_FIRST_PART, GET_NEXT_PART}
 use Rattle.pldm_device.specs.ById.{with_id}
 use Rattle.pldm_device.specs.Changes.{changed_or}
 use Rattle.pldm_device.specs.Devices.{Device}
 use Rattle.pldm_device.specs.BaseAnswers.{tid_set, versions_answered, versions_of, base_commands, platform_commands}
 use Rattle.pldm_device.specs.SensorAnswers.{numeric_sensor_answered, state_sensor_answered}
-use Rattle.pldm_device.specs.EffecterAnswers.{number_set, states_set, outcome_answered, numeric_effecter_answered, state_effecter_answered}
+use Rattle.pldm_device.specs.EffecterAnswers.{number_set, states_set, outcome_answered}
+use Rattle.pldm_device.specs.EffecterAnswers.{numeric_effecter_answered, state_effecter_answered}
 use Rattle.pldm_device.specs.Records.{handle_at, position_asked}
 use Rattle.pldm_device.specs.RecordAnswers.{offset_asked, part_answered, record_answered, record_answer_at}
 use Rattle.pldm_device.specs.DeviceAnswers.{answer, after}

@@ -1,5 +1,6 @@
 -- The commands of effecters (DSP0248): what they set, and what they tell.
-use Rattle.std.specs.Prelude.{ℕ, ◌==◌, nat_lt, int_lt, Bool, true, not, ◌&&◌, ◌||◌, List, [], ◌∷◌, length, map, Option, Some, None, Result, Ok, Err, if◌then◌else◌}
+use Rattle.std.specs.Prelude.{ℕ, ◌==◌, nat_lt, int_lt, Bool, true, not, ◌&&◌, ◌||◌}
+use Rattle.std.specs.Prelude.{List, [], ◌∷◌, length, map, Option, Some, None, Result, Ok, Err, if◌then◌else◌}
 use Rattle.std.specs.List.{list_any}
 use Rattle.pldm_wire.specs.Numbers.{SizedNumber}
 use Rattle.pldm_wire.specs.EffecterNumbers.{two_numbers}
@@ -12,7 +13,8 @@ use Rattle.pldm_wire.specs.declared.answer.Answer.TheVariants.{Refused, GetNumer
 use Rattle.pldm_device.specs.ById.{change_at}
 use Rattle.pldm_device.specs.Changes.{made_of}
 use Rattle.pldm_device.specs.Devices.{Device}
-use Rattle.pldm_device.specs.declared.limits.TheConstants.{EFFECTER_ENABLED, REQUEST_SET, INVALID_EFFECTER_ID, INVALID_STATE_VALUE}
+use Rattle.pldm_device.specs.declared.limits.TheConstants.{EFFECTER_ENABLED, REQUEST_SET}
+use Rattle.pldm_device.specs.declared.limits.TheConstants.{INVALID_EFFECTER_ID, INVALID_STATE_VALUE}
 use Rattle.pldm_device.specs.declared.numeric_effecter.NumericEffecter.{NumericEffecter}
 use Rattle.pldm_device.specs.StateEffecters.{FieldsOfStates}
 

@@ -1,11 +1,13 @@
 -- What a fetch has come to after the answers that it was given, the newest first, told by looking back over them.
-use Rattle.std.specs.Prelude.{◌≡◌, ℕ, ◌==◌, nat_lt, List, [], ◌∷◌, length, Option, Some, None, is_some, Result, Ok, Err, if◌then◌else◌}
+use Rattle.std.specs.Prelude.{◌≡◌, ℕ, ◌==◌, nat_lt, List, [], ◌∷◌, length}
+use Rattle.std.specs.Prelude.{Option, Some, None, is_some, Result, Ok, Err, if◌then◌else◌}
 use Rattle.pldm_wire.specs.declared.answer.Answer.{Answer}
 use Rattle.pldm_wire.specs.declared.answer.Answer.TheVariants.{Refused, GetPdr}
 use Rattle.pldm_wire.specs.declared.command.Command.{Command}
 use Rattle.pldm_wire.specs.declared.command.Command.TheVariants as commands
 use Rattle.pldm_wire.specs.declared.limits.TheConstants.{MOST_PART_BYTES, GET_FIRST_PART, GET_NEXT_PART}
-use Rattle.pldm_device.specs.Fetches.{Fetching, begun, taken, taken_while_going, after_taking, next_request, fetched_record}
+use Rattle.pldm_device.specs.Fetches.{Fetching, begun, taken, taken_while_going}
+use Rattle.pldm_device.specs.Fetches.{after_taking, next_request, fetched_record}
 use Rattle.pldm_device.specs.FetchLaws.{joined_parts}
 use Rattle.pldm_device.specs.Records.{change_number_of}
 use Rattle.pldm_device.specs.declared.fetch.FetchState.{FetchState}

@@ -1,5 +1,6 @@
 -- What a fetch has come to after any list of answers, the newest first.
-use Rattle.std.specs.Prelude.{◌≡◌, ◌⊎◌, ℕ, zero, suc, ◌<◌, ◌≤◌, ◌+◌, ◌==◌, nat_lt, true, false, List, [], ◌∷◌, ◌++◌, length, slice_get, Option, None, Some, IfSome, Ok, if◌then◌else◌}
+use Rattle.std.specs.Prelude.{◌≡◌, ◌⊎◌, ℕ, zero, suc, ◌<◌, ◌≤◌, ◌+◌, ◌==◌, nat_lt, true, false}
+use Rattle.std.specs.Prelude.{List, [], ◌∷◌, ◌++◌, length, slice_get, Option, None, Some, IfSome, Ok, if◌then◌else◌}
 use Rattle.pldm_wire.specs.Crc.{crc}
 use Rattle.pldm_wire.specs.RecordParts.{IsPart}
 use Rattle.pldm_wire.specs.declared.answer.Answer.{Answer}
@@ -8,10 +9,12 @@ use Rattle.pldm_wire.specs.declared.command.Command.{Command}
 use Rattle.pldm_wire.specs.declared.command.Command.TheVariants as commands
 use Rattle.pldm_wire.specs.declared.limits.TheConstants.{MOST_PART_BYTES, GET_FIRST_PART, GET_NEXT_PART}
 use Rattle.pldm_device.specs.Fetches.{Fetching, begun, taken, after_taking, fetched_record, is_last, next_request}
-use Rattle.pldm_device.specs.Records.{handle_of, change_number_of, data_length_of, checksum_with, position_asked, part_of, offset_after, is_last_part, next_data_transfer_handle}
+use Rattle.pldm_device.specs.Records.{handle_of, change_number_of, data_length_of, checksum_with, position_asked}
+use Rattle.pldm_device.specs.Records.{part_of, offset_after, is_last_part, next_data_transfer_handle}
 use Rattle.pldm_device.specs.RecordAnswers.{record_answer}
 use Rattle.pldm_device.specs.declared.fetch.FetchState.TheVariants.{More, Done}
-use Rattle.pldm_device.specs.declared.limits.TheConstants.{CHANGE_NUMBER_END, FIRST_RECORD, MOST_RECORD_BYTES, RECORD_HEADER}
+use Rattle.pldm_device.specs.declared.limits.TheConstants.{CHANGE_NUMBER_END, FIRST_RECORD}
+use Rattle.pldm_device.specs.declared.limits.TheConstants.{MOST_RECORD_BYTES, RECORD_HEADER}
 
 -- what a fetch of the record with this handle holds after these answers
 abbrev pub fetched : ℕ → List Answer → Fetching

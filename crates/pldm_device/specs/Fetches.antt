@@ -1,6 +1,7 @@
 -- A record fetched in parts (DSP0248, "GetPDR command"): what is asked for next, and what each answer gives.
 use Rattle.std.specs.Borrow.{Bor}
-use Rattle.std.specs.Prelude.{ℕ, ◌+◌, ◌≤◌, ◌==◌, ◌&&◌, ◌||◌, not, nat_lt, Bool, true, false, List, [], ◌∷◌, ◌++◌, length, Option, Some, None, Result, Ok, Err, if◌then◌else◌}
+use Rattle.std.specs.Prelude.{ℕ, ◌+◌, ◌≤◌, ◌==◌, ◌&&◌, ◌||◌, not, nat_lt, Bool, true, false}
+use Rattle.std.specs.Prelude.{List, [], ◌∷◌, ◌++◌, length, Option, Some, None, Result, Ok, Err, if◌then◌else◌}
 use Rattle.pldm_wire.specs.Crc.{crc}
 use Rattle.pldm_wire.specs.RecordParts.{Part}
 use Rattle.pldm_wire.specs.declared.answer.Answer.{Answer}
@@ -11,7 +12,8 @@ use Rattle.pldm_wire.specs.declared.limits.TheConstants.{MOST_PART_BYTES, GET_FI
 use Rattle.pldm_wire.specs.declared.transfer_flag.TransferFlag.{TransferFlag}
 use Rattle.pldm_wire.specs.declared.transfer_flag.TransferFlag.TheVariants.{End, StartAndEnd}
 use Rattle.pldm_device.specs.Records.{handle_of, change_number_of, data_length_of}
-use Rattle.pldm_device.specs.declared.limits.TheConstants.{CHANGE_NUMBER_END, FIRST_RECORD, MOST_RECORD_BYTES, RECORD_HEADER}
+use Rattle.pldm_device.specs.declared.limits.TheConstants.{CHANGE_NUMBER_END, FIRST_RECORD}
+use Rattle.pldm_device.specs.declared.limits.TheConstants.{MOST_RECORD_BYTES, RECORD_HEADER}
 use Rattle.pldm_device.specs.declared.fetch.FetchState.{FetchState}
 use Rattle.pldm_device.specs.declared.fetch.FetchState.TheVariants.{More, Done}
 use Rattle.pldm_device.specs.declared.fetch.Stage.{Stage}

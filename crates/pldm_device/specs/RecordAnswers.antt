@@ -1,10 +1,12 @@
 -- The commands of the PDR repository (DSP0248).
-use Rattle.std.specs.Prelude.{ℕ, ◌+◌, ◌==◌, nat_le, nat_lt, List, length, slice_get, ◌||◌, Option, Some, None, if◌then◌else◌}
+use Rattle.std.specs.Prelude.{ℕ, ◌+◌, ◌==◌, nat_le, nat_lt, List, length, slice_get, ◌||◌}
+use Rattle.std.specs.Prelude.{Option, Some, None, if◌then◌else◌}
 use Rattle.pldm_wire.specs.declared.answer.Answer.{Answer}
 use Rattle.pldm_wire.specs.declared.answer.Answer.TheVariants.{Refused, GetPdr, GetPdrRepositoryInfo}
 use Rattle.pldm_wire.specs.declared.assigned.TheConstants.{ERROR_INVALID_DATA}
 use Rattle.pldm_device.specs.Devices.{Device}
-use Rattle.pldm_device.specs.Records.{handle_at, largest_record_size, next_data_transfer_handle, part_of, position_asked, repository_size}
+use Rattle.pldm_device.specs.Records.{handle_at, largest_record_size, next_data_transfer_handle}
+use Rattle.pldm_device.specs.Records.{part_of, position_asked, repository_size}
 use Rattle.pldm_device.specs.declared.limits.TheConstants.{INVALID_DATA_TRANSFER_HANDLE, INVALID_RECORD_HANDLE, INVALID_TRANSFER_OPERATION, NO_TRANSFER_TIMEOUT, REPOSITORY_AVAILABLE}
 use Rattle.pldm_wire.specs.declared.limits.TheConstants.{GET_FIRST_PART}
 
