@@ -64,15 +64,15 @@ are_in (state ∷ states) (list ∷ lists) = list_any (λ other. other == state)
 are_in _ _ = true
 
 -- a state for each list
-abbrev pub states_of : List (List ℕ) → List ℕ → Result (List ℕ) FileFault
-states_of allowed states =
+abbrev pub states_among : List (List ℕ) → List ℕ → Result (List ℕ) FileFault
+states_among allowed states =
     if (length states == length allowed) && are_in states allowed then composite_of states else Err OutOfRange
 
 abbrev pub state_effecter_in : Members → Result (ℕ × FieldsOfStates) FileFault
 state_effecter_in entry = do
   id ← id_at entry
   allowed ← value_at (codes "allowed") entry >>= allowed_in
-  states ← value_at (codes "values") entry >>= few_numbers MOST_BYTE >>= states_of allowed
+  states ← value_at (codes "values") entry >>= few_numbers MOST_BYTE >>= states_among allowed
   Ok (id, record { allowed = allowed; states = states })
 
 abbrev pub state_effecter_of : Data → Result (ℕ × FieldsOfStates) FileFault

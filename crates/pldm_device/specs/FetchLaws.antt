@@ -26,9 +26,9 @@ bytes_of (GetPdr next_record_handle next_data_transfer_handle part) = part.bytes
 bytes_of _ = []
 
 -- the bytes of the parts among these answers, in the order in which they came
-abbrev pub joined_parts : List Answer → List ℕ
-joined_parts [] = []
-joined_parts (answer ∷ before) = joined_parts before ++ bytes_of answer
+abbrev pub bytes_of_answers : List Answer → List ℕ
+bytes_of_answers [] = []
+bytes_of_answers (answer ∷ before) = bytes_of_answers before ++ bytes_of answer
 
 -- a record counts the bytes after its header, and is not too long
 pub record IsWhole (pdr : List ℕ) : Type 0 where
@@ -52,9 +52,9 @@ EndsRecord next pdr _ = ⊥
 abbrev pub DoneIsTheRecord : Type 0
 DoneIsTheRecord =
     (asked next : ℕ) (before : List Answer) (answer : Answer) → taken (fetched asked before) answer ≡ Ok (Done next)
-    → IsWhole (joined_parts (answer ∷ before)) × IsAsked asked (joined_parts (answer ∷ before))
-    × EndsRecord next (joined_parts (answer ∷ before)) answer
-    × (fetched_record (fetched asked (answer ∷ before)) ≡ Some (joined_parts (answer ∷ before)))
+    → IsWhole (bytes_of_answers (answer ∷ before)) × IsAsked asked (bytes_of_answers (answer ∷ before))
+    × EndsRecord next (bytes_of_answers (answer ∷ before)) answer
+    × (fetched_record (fetched asked (answer ∷ before)) ≡ Some (bytes_of_answers (answer ∷ before)))
 
 -- the answer with the part of the record from an offset on, for a request of so many bytes
 abbrev pub part_answer : ℕ → List ℕ → ℕ → ℕ → Answer

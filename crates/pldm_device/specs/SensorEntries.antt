@@ -17,14 +17,14 @@ abbrev pub three_of : List ℕ → Result (ℕ × ℕ × ℕ) FileFault
 three_of (present ∷ previous ∷ event ∷ []) = Ok (present, previous, event)
 three_of _ = Err OutOfRange
 
-abbrev pub states_in : Data → Result (ℕ × ℕ × ℕ) FileFault
-states_in value = few_numbers MOST_SENSOR_STATE value >>= three_of
+abbrev pub three_states_in : Data → Result (ℕ × ℕ × ℕ) FileFault
+three_states_in value = few_numbers MOST_SENSOR_STATE value >>= three_of
 
 abbrev pub numeric_sensor_in : Members → Result (ℕ × NumericSensor) FileFault
 numeric_sensor_in entry = do
   id ← id_at entry
   size ← value_at (codes "size") entry >>= size_in
-  states ← value_at (codes "states") entry >>= states_in
+  states ← value_at (codes "states") entry >>= three_states_in
   reading ← value_at (codes "value") entry >>= sized_in size
   Ok (id, record { present = states.0; previous = states.1; event = states.2; reading = reading })
 
