@@ -66,7 +66,8 @@ abbrev pub request_after : ℕ → List Answer → Command
 request_after asked before =
     commands.GetPdr asked (last_handle before)
     (if length (bytes_of_answers before) == 0 then GET_FIRST_PART else GET_NEXT_PART) MOST_PART_BYTES
-    (if nat_lt (length (bytes_of_answers before)) CHANGE_NUMBER_END then 0 else change_number_of (bytes_of_answers before))
+    (if nat_lt (length (bytes_of_answers before)) CHANGE_NUMBER_END then 0
+    else change_number_of (bytes_of_answers before))
 
 -- it is made while nothing has ended the fetch
 abbrev pub asks_after : ℕ → List Answer → Option Command
