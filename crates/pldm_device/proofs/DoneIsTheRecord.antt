@@ -7,7 +7,7 @@ use Rattle.pldm_wire.specs.TransferFlags.{is_end}
 use Rattle.pldm_wire.specs.declared.answer.Answer.{Answer}
 use Rattle.pldm_wire.specs.declared.answer.Answer.TheVariants.{Refused, GetPdr}
 use Rattle.pldm_device.specs.Fetches.{Fetching, taken_while_going, taken_at, taken, part_taken, part_after, going_after, after_taking, has_room_for, is_going, is_last, is_other_crc, record_at_stage, record_fault, fetched_record, unless_fault}
-use Rattle.pldm_device.specs.FetchLaws.{fetched, bytes_of, joined_parts, IsWhole, IsAsked, EndsRecord, DoneIsTheRecord}
+use Rattle.pldm_device.specs.FetchLaws.{fetched, bytes_of, bytes_of_answers, IsWhole, IsAsked, EndsRecord, DoneIsTheRecord}
 use Rattle.pldm_device.specs.Records.{handle_of, data_length_of}
 use Rattle.pldm_device.specs.declared.fetch.FetchState.{FetchState}
 use Rattle.pldm_device.specs.declared.fetch.FetchState.TheVariants.{More, Done}
@@ -37,10 +37,10 @@ after_holds : (asked : ℕ) (bytes : List ℕ) (f : Fetching) (answer : Answer) 
 after_holds asked bytes f answer true e held = going_holds asked bytes f answer held e
 after_holds asked bytes f answer false e held = record { asked_is = held.asked_is; bytes_are = λ wrong. cc }
 
-pub fetched_holds : (asked : ℕ) (answers : List Answer) → Holds asked (joined_parts answers) (fetched asked answers)
+pub fetched_holds : (asked : ℕ) (answers : List Answer) → Holds asked (bytes_of_answers answers) (fetched asked answers)
 fetched_holds asked [] = record { asked_is = refl; bytes_are = λ _. refl }
 fetched_holds asked (answer ∷ before) =
-    after_holds asked (joined_parts before) (fetched asked before) answer (is_going (fetched asked before).stage) refl (fetched_holds asked before)
+    after_holds asked (bytes_of_answers before) (fetched asked before) answer (is_going (fetched asked before).stage) refl (fetched_holds asked before)
 
 -- no fault: each test of the record was passed
 record Passed (short counted first same other : Bool) : Type 0 where
@@ -141,5 +141,5 @@ done_at asked next bytes f answer (Failed fault) at held e = cc
 
 pub done_is_the_record : DoneIsTheRecord
 done_is_the_record asked next before answer e =
-    let done = done_at asked next (joined_parts before) (fetched asked before) answer (fetched asked before).stage refl (fetched_holds asked before) e in
+    let done = done_at asked next (bytes_of_answers before) (fetched asked before) answer (fetched asked before).stage refl (fetched_holds asked before) e in
     (done.0.0, done.0.1, done.0.2, done.1)

@@ -4,7 +4,7 @@ use Rattle.pldm_wire.specs.RecordParts.{Part}
 use Rattle.pldm_wire.specs.declared.answer.Answer.{Answer}
 use Rattle.pldm_wire.specs.declared.answer.Answer.TheVariants.{Refused, GetPdr}
 use Rattle.pldm_device.specs.Fetches.{Fetching, taken, taken_at, taken_while_going, part_taken, part_after, after_taking, going_after, is_going, next_request, request_for, fetched_record, record_at_stage}
-use Rattle.pldm_device.specs.FetchLaws.{joined_parts}
+use Rattle.pldm_device.specs.FetchLaws.{bytes_of_answers}
 use Rattle.pldm_device.specs.FetchHistories.{last_handle, judged, ending, ending_of_part, ended, earlier, owed, owed_after, record_after, done_with, IsLeft, IsLeftBy, TakingLooksBack, AskingLooksBack}
 use Rattle.pldm_device.specs.declared.fetch.FetchState.{FetchState}
 use Rattle.pldm_device.specs.declared.fetch.FetchState.TheVariants.{More, Done}
@@ -15,7 +15,7 @@ use Rattle.pldm_device.specs.declared.fetch_fault.FetchFault.TheVariants as faul
 
 -- a fetch that goes on after these answers
 abbrev going : ℕ → List Answer → Fetching
-going asked answers = record { asked = asked; bytes = joined_parts answers; offset = last_handle answers; stage = Going }
+going asked answers = record { asked = asked; bytes = bytes_of_answers answers; offset = last_handle answers; stage = Going }
 
 -- what is owed and left, by how the fetch had ended and what the answer gives
 abbrev Follows : ℕ → List Answer → Answer → Fetching → Option (Result FetchState FetchFault) → Type 0
@@ -25,7 +25,7 @@ Follows asked before answer f end =
 
 -- the record after one more answer, where nothing had ended the fetch
 record_here : (asked : ℕ) (before : List Answer) (answer : Answer) → ended asked before ≡ None
-    → record_after asked (answer ∷ before) ≡ done_with (ending answer (judged asked before answer)) (joined_parts (answer ∷ before))
+    → record_after asked (answer ∷ before) ≡ done_with (ending answer (judged asked before answer)) (bytes_of_answers (answer ∷ before))
 record_here asked before answer none = rw none refl
 
 -- and where something had
@@ -35,7 +35,7 @@ record_stays asked before answer end some = rw some refl
 
 -- a part
 part_left : (asked : ℕ) (before : List Answer) (n t : ℕ) (part : Part) (given : Result FetchState FetchFault)
-    → record_after asked (GetPdr n t part ∷ before) ≡ done_with (ending_of_part given) (joined_parts before ++ part.bytes)
+    → record_after asked (GetPdr n t part ∷ before) ≡ done_with (ending_of_part given) (bytes_of_answers before ++ part.bytes)
     → IsLeft asked (GetPdr n t part ∷ before) (ending_of_part given) (part_after (going asked before) t part given)
 part_left asked before n t part (Ok More) e = refl
 part_left asked before n t part (Ok (Done next)) e = (refl, e)
@@ -45,7 +45,7 @@ while_going : (asked : ℕ) (before : List Answer) (answer : Answer) → ended a
 while_going asked before (Refused code) none = (refl, (refl, record_here asked before (Refused code) none))
 while_going asked before (GetPdr n t part) none =
     (refl, part_left asked before n t part (part_taken (going asked before) n part) (record_here asked before (GetPdr n t part) none))
-while_going asked before _ none = (refl, ap (λ (b : List ℕ). record { asked = asked; bytes = b; offset = last_handle before; stage = Going }) (sym (append-nil (joined_parts before))))
+while_going asked before _ none = (refl, ap (λ (b : List ℕ). record { asked = asked; bytes = b; offset = last_handle before; stage = Going }) (sym (append-nil (bytes_of_answers before))))
 
 finished : (asked : ℕ) (before : List Answer) (answer : Answer) (state : FetchState) (f : Fetching) (stage : Stage) → f.stage ≡ stage → stage ≡ Finished
     → record_after asked (answer ∷ before) ≡ Some f.bytes → Follows asked before answer f (Some (Ok state))

@@ -1,11 +1,13 @@
 -- The commands of PLDM messaging control and discovery (DSP0240).
-use Rattle.std.specs.Prelude.{ℕ, ◌+◌, ◌/◌, ◌%◌, ◌^◌, ◌==◌, ◌||◌, nat_lt, zero, suc, sum, map, List, [], ◌∷◌, Option, Some, None, Result, Ok, Err, if◌then◌else◌}
+use Rattle.std.specs.Prelude.{ℕ, ◌+◌, ◌/◌, ◌%◌, ◌^◌, ◌==◌, ◌||◌, nat_lt, zero, suc, sum, map}
+use Rattle.std.specs.Prelude.{List, [], ◌∷◌, Option, Some, None, Result, Ok, Err, if◌then◌else◌}
 use Rattle.pldm_wire.specs.declared.assigned.TheConstants.{BASE, PLATFORM, SET_TID, GET_TID, GET_PLDM_VERSION, GET_PLDM_TYPES, GET_PLDM_COMMANDS, GET_SENSOR_READING, GET_STATE_SENSOR_READINGS, SET_NUMERIC_EFFECTER_VALUE, GET_NUMERIC_EFFECTER_VALUE, SET_STATE_EFFECTER_STATES, GET_STATE_EFFECTER_STATES, GET_PDR_REPOSITORY_INFO, GET_PDR, ERROR_INVALID_DATA}
 use Rattle.pldm_wire.specs.declared.limits.TheConstants.{TYPES_BYTES, COMMANDS_BYTES, GET_NEXT_PART, GET_FIRST_PART}
 use Rattle.pldm_wire.specs.declared.answer.Answer.{Answer}
 use Rattle.pldm_wire.specs.declared.answer.Answer.TheVariants.{Refused, GetPldmVersion, GetPldmCommands}
 use Rattle.pldm_device.specs.Devices.{Device}
-use Rattle.pldm_device.specs.declared.limits.TheConstants.{UNASSIGNED_TID, RESERVED_TID, INVALID_DATA_TRANSFER_HANDLE, INVALID_TRANSFER_OPERATION, INVALID_PLDM_TYPE}
+use Rattle.pldm_device.specs.declared.limits.TheConstants.{UNASSIGNED_TID, RESERVED_TID, INVALID_DATA_TRANSFER_HANDLE}
+use Rattle.pldm_device.specs.declared.limits.TheConstants.{INVALID_TRANSFER_OPERATION, INVALID_PLDM_TYPE}
 
 -- the device with the terminus ID, or the refusal of an ID that no terminus has
 abbrev pub tid_set : ℕ → Device → Result Device ℕ
@@ -49,8 +51,9 @@ base_commands =
 
 unfoldable pub platform_commands : List ℕ
 platform_commands =
-    bytes_of_bits (GET_SENSOR_READING ∷ GET_STATE_SENSOR_READINGS ∷ SET_NUMERIC_EFFECTER_VALUE ∷ GET_NUMERIC_EFFECTER_VALUE
-    ∷ SET_STATE_EFFECTER_STATES ∷ GET_STATE_EFFECTER_STATES ∷ GET_PDR_REPOSITORY_INFO ∷ GET_PDR ∷ []) 0 COMMANDS_BYTES
+    bytes_of_bits (GET_SENSOR_READING ∷ GET_STATE_SENSOR_READINGS ∷ SET_NUMERIC_EFFECTER_VALUE
+    ∷ GET_NUMERIC_EFFECTER_VALUE ∷ SET_STATE_EFFECTER_STATES ∷ GET_STATE_EFFECTER_STATES
+    ∷ GET_PDR_REPOSITORY_INFO ∷ GET_PDR ∷ []) 0 COMMANDS_BYTES
 
 -- the commands of a PLDM type, whatever its version
 abbrev pub commands_answer : ℕ → Answer

@@ -8,13 +8,15 @@ use Rattle.pldm_device.specs.Changes.{changed_or}
 use Rattle.pldm_device.specs.Devices.{Device}
 use Rattle.pldm_device.specs.BaseAnswers.{tid_set, version_answer, types, commands_answer}
 use Rattle.pldm_device.specs.SensorAnswers.{numeric_sensor_answered, state_sensor_answered}
-use Rattle.pldm_device.specs.EffecterAnswers.{number_set, states_set, outcome_answered, numeric_effecter_answered, state_effecter_answered}
+use Rattle.pldm_device.specs.EffecterAnswers.{number_set, states_set, outcome_answered}
+use Rattle.pldm_device.specs.EffecterAnswers.{numeric_effecter_answered, state_effecter_answered}
 use Rattle.pldm_device.specs.RecordAnswers.{record_answer, repository_info}
 
 abbrev pub answer : Device → Command → Answer
 answer device (SetTid tid) = outcome_answered answers.SetTid (tid_set tid device)
 answer device GetTid = answers.GetTid device.tid
-answer device (GetPldmVersion data_transfer_handle transfer_operation_flag pldm_type) = version_answer transfer_operation_flag pldm_type device
+answer device (GetPldmVersion data_transfer_handle transfer_operation_flag pldm_type) =
+    version_answer transfer_operation_flag pldm_type device
 answer device GetPldmTypes = answers.GetPldmTypes types
 answer device (GetPldmCommands pldm_type version) = commands_answer pldm_type
 answer device (GetSensorReading sensor rearm) = numeric_sensor_answered (with_id sensor device.numeric_sensors)

@@ -1,5 +1,6 @@
 -- The commands of effecters (DSP0248): what they set, and what they tell.
-use Rattle.std.specs.Prelude.{ℕ, ◌==◌, nat_lt, int_lt, Bool, true, not, ◌&&◌, ◌||◌, List, [], ◌∷◌, length, map, Option, Some, None, Result, Ok, Err, if◌then◌else◌}
+use Rattle.std.specs.Prelude.{ℕ, ◌==◌, nat_lt, int_lt, Bool, true, not, ◌&&◌, ◌||◌}
+use Rattle.std.specs.Prelude.{List, [], ◌∷◌, length, map, Option, Some, None, Result, Ok, Err, if◌then◌else◌}
 use Rattle.std.specs.List.{list_any}
 use Rattle.pldm_wire.specs.Numbers.{SizedNumber}
 use Rattle.pldm_wire.specs.EffecterNumbers.{two_numbers}
@@ -12,7 +13,8 @@ use Rattle.pldm_wire.specs.declared.answer.Answer.TheVariants.{Refused, GetNumer
 use Rattle.pldm_device.specs.ById.{change_at}
 use Rattle.pldm_device.specs.Changes.{made_of}
 use Rattle.pldm_device.specs.Devices.{Device}
-use Rattle.pldm_device.specs.declared.limits.TheConstants.{EFFECTER_ENABLED, REQUEST_SET, INVALID_EFFECTER_ID, INVALID_STATE_VALUE}
+use Rattle.pldm_device.specs.declared.limits.TheConstants.{EFFECTER_ENABLED, REQUEST_SET}
+use Rattle.pldm_device.specs.declared.limits.TheConstants.{INVALID_EFFECTER_ID, INVALID_STATE_VALUE}
 use Rattle.pldm_device.specs.declared.numeric_effecter.NumericEffecter.{NumericEffecter}
 use Rattle.pldm_device.specs.StateEffecters.{FieldsOfStates}
 
@@ -35,7 +37,8 @@ are_allowed _ _ = true
 
 -- the states that are asked for, and where none is, the one that the field has
 abbrev pub states_after : List SetStateField → List ℕ → List ℕ
-states_after (field ∷ fields) (state ∷ states) = (if asks field then field.state else state) ∷ states_after fields states
+states_after (field ∷ fields) (state ∷ states) =
+    (if asks field then field.state else state) ∷ states_after fields states
 states_after _ _ = []
 
 -- there is a set request other than noChange and requestSet
@@ -57,7 +60,8 @@ done_unless (Some refusal) done = Err refusal
 abbrev pub set_states : List SetStateField → FieldsOfStates → Result FieldsOfStates ℕ
 set_states fields effecter =
     if length fields == length effecter.states
-    then done_unless (states_refusal fields effecter.allowed) (record effecter { states = states_after fields effecter.states })
+    then done_unless (states_refusal fields effecter.allowed)
+    (record effecter { states = states_after fields effecter.states })
     else Err ERROR_INVALID_DATA
 
 -- the field of an effecter in this state: no other one is pending
@@ -83,7 +87,8 @@ outcome_answered done (Err code) = Refused code
 
 abbrev pub numeric_effecter_answered : Option NumericEffecter → Answer
 numeric_effecter_answered None = Refused INVALID_EFFECTER_ID
-numeric_effecter_answered (Some effecter) = GetNumericEffecterValue EFFECTER_ENABLED (two_numbers effecter.value effecter.value)
+numeric_effecter_answered (Some effecter) =
+    GetNumericEffecterValue EFFECTER_ENABLED (two_numbers effecter.value effecter.value)
 
 abbrev pub state_effecter_answered : Option FieldsOfStates → Answer
 state_effecter_answered None = Refused INVALID_EFFECTER_ID

@@ -1,5 +1,6 @@
 -- The effecters of a description.
-use Rattle.std.specs.Prelude.{ℕ, ◌==◌, ℤ, int_le, Bool, true, false, ◌&&◌, codes, List, [], ◌∷◌, ◌++◌, length, Result, Ok, Err, if◌then◌else◌}
+use Rattle.std.specs.Prelude.{ℕ, ◌==◌, ℤ, int_le, Bool, true, false, ◌&&◌, codes}
+use Rattle.std.specs.Prelude.{List, [], ◌∷◌, ◌++◌, length, Result, Ok, Err, if◌then◌else◌}
 use Rattle.std.specs.List.{list_any}
 use Rattle.toml.specs.Data.{Data, Items, no_items, item, Members}
 use Rattle.pldm_wire.specs.Numbers.{SizedNumber}
@@ -63,22 +64,23 @@ are_in (state ∷ states) (list ∷ lists) = list_any (λ other. other == state)
 are_in _ _ = true
 
 -- a state for each list
-abbrev pub states_of : List (List ℕ) → List ℕ → Result (List ℕ) FileFault
-states_of allowed states =
+abbrev pub states_among : List (List ℕ) → List ℕ → Result (List ℕ) FileFault
+states_among allowed states =
     if (length states == length allowed) && are_in states allowed then composite_of states else Err OutOfRange
 
 abbrev pub state_effecter_in : Members → Result (ℕ × FieldsOfStates) FileFault
 state_effecter_in entry = do
   id ← id_at entry
   allowed ← value_at (codes "allowed") entry >>= allowed_in
-  states ← value_at (codes "values") entry >>= few_numbers MOST_BYTE >>= states_of allowed
+  states ← value_at (codes "values") entry >>= few_numbers MOST_BYTE >>= states_among allowed
   Ok (id, record { allowed = allowed; states = states })
 
 abbrev pub state_effecter_of : Data → Result (ℕ × FieldsOfStates) FileFault
 state_effecter_of value = table_in value >>= state_effecter_in
 
 -- no ID is that of a numeric effecter
-abbrev pub state_effecters_after : ById NumericEffecter → ById FieldsOfStates → Items → Result (ById FieldsOfStates) FileFault
+abbrev pub state_effecters_after :
+    ById NumericEffecter → ById FieldsOfStates → Items → Result (ById FieldsOfStates) FileFault
 state_effecters_after numeric before entries = things_after state_effecter_of (λ id. has_id id numeric) before entries
 
 abbrev pub state_effecters_in : ById NumericEffecter → Members → Result (ById FieldsOfStates) FileFault

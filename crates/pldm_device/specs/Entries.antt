@@ -23,7 +23,8 @@ abbrev pub id_at : Members → Result ℕ FileFault
 id_at entry = number_at (codes "id") 0 MOST_ID entry
 
 -- the things before, and those of the entries after them in turn: each with an ID that no earlier one has
-abbrev pub things_after : {X : Type 0} → (Data → Result (ℕ × X) FileFault) → (ℕ → Bool) → ById X → Items → Result (ById X) FileFault
+abbrev pub things_after :
+    {X : Type 0} → (Data → Result (ℕ × X) FileFault) → (ℕ → Bool) → ById X → Items → Result (ById X) FileFault
 things_after read is_taken before no_items = Ok before
 things_after read is_taken before (item entry rest) =
     read entry >>= λ thing.

@@ -3,7 +3,8 @@ use Rattle.std.specs.Prelude.{ℕ}
 use Rattle.pldm_device.specs.declared.reading_fault.ReadingFault.{ReadingFault}
 use Rattle.pldm_device.specs.declared.reading_fault.ReadingFault.TheVariants.{NoSuchSensor, OutOfSize}
 use Rattle.pldm_device.specs.declared.fetch_fault.FetchFault.{FetchFault}
-use Rattle.pldm_device.specs.declared.fetch_fault.FetchFault.TheVariants.{Refused, Count, Handle, Crc, Memory, Unexpected}
+use Rattle.pldm_device.specs.declared.fetch_fault.FetchFault.TheVariants.{Refused, Count, Handle}
+use Rattle.pldm_device.specs.declared.fetch_fault.FetchFault.TheVariants.{Crc, Memory, Unexpected}
 
 abbrev pub number_of_reading_fault : ReadingFault → ℕ
 number_of_reading_fault NoSuchSensor = 1

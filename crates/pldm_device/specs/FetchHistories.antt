@@ -1,12 +1,14 @@
 -- What a fetch has come to after the answers that it was given, the newest first, told by looking back over them.
-use Rattle.std.specs.Prelude.{◌≡◌, ℕ, ◌==◌, nat_lt, List, [], ◌∷◌, length, Option, Some, None, is_some, Result, Ok, Err, if◌then◌else◌}
+use Rattle.std.specs.Prelude.{◌≡◌, ℕ, ◌==◌, nat_lt, List, [], ◌∷◌, length}
+use Rattle.std.specs.Prelude.{Option, Some, None, is_some, Result, Ok, Err, if◌then◌else◌}
 use Rattle.pldm_wire.specs.declared.answer.Answer.{Answer}
 use Rattle.pldm_wire.specs.declared.answer.Answer.TheVariants.{Refused, GetPdr}
 use Rattle.pldm_wire.specs.declared.command.Command.{Command}
 use Rattle.pldm_wire.specs.declared.command.Command.TheVariants as commands
 use Rattle.pldm_wire.specs.declared.limits.TheConstants.{MOST_PART_BYTES, GET_FIRST_PART, GET_NEXT_PART}
-use Rattle.pldm_device.specs.Fetches.{Fetching, begun, taken, taken_while_going, after_taking, next_request, fetched_record}
-use Rattle.pldm_device.specs.FetchLaws.{joined_parts}
+use Rattle.pldm_device.specs.Fetches.{Fetching, begun, taken, taken_while_going}
+use Rattle.pldm_device.specs.Fetches.{after_taking, next_request, fetched_record}
+use Rattle.pldm_device.specs.FetchLaws.{bytes_of_answers}
 use Rattle.pldm_device.specs.Records.{change_number_of}
 use Rattle.pldm_device.specs.declared.fetch.FetchState.{FetchState}
 use Rattle.pldm_device.specs.declared.fetch.FetchState.TheVariants.{More, Done}
@@ -24,7 +26,8 @@ last_handle (_ ∷ before) = last_handle before
 -- what an answer gives where no earlier one ended the fetch: it is judged by the parts joined so far
 abbrev pub judged : ℕ → List Answer → Answer → Result FetchState FetchFault
 judged asked before answer =
-    taken_while_going (record { asked = asked; bytes = joined_parts before; offset = last_handle before; stage = Going }) answer
+    taken_while_going
+    (record { asked = asked; bytes = bytes_of_answers before; offset = last_handle before; stage = Going }) answer
 
 -- a part ends the fetch where it is the last, or refused
 abbrev pub ending_of_part : Result FetchState FetchFault → Option (Result FetchState FetchFault)
@@ -48,7 +51,8 @@ ended asked [] = None
 ended asked (answer ∷ before) = earlier (ended asked before) (ending answer (judged asked before answer))
 
 -- what an answer gives, by how the fetch ended before it: after a fault that fault, after the record Unexpected
-abbrev pub owed_after : Option (Result FetchState FetchFault) → Result FetchState FetchFault → Result FetchState FetchFault
+abbrev pub owed_after :
+    Option (Result FetchState FetchFault) → Result FetchState FetchFault → Result FetchState FetchFault
 owed_after None given = given
 owed_after (Some (Ok state)) given = Err faults.Unexpected
 owed_after (Some (Err fault)) given = Err fault
@@ -56,13 +60,14 @@ owed_after (Some (Err fault)) given = Err fault
 abbrev pub owed : ℕ → List Answer → Answer → Result FetchState FetchFault
 owed asked before answer = owed_after (ended asked before) (judged asked before answer)
 
--- the request for the part after these: for the first part where none came, else for the one that the last part tells; and
--- from the eighth byte on with the record's change number
+-- the request for the part after these: for the first part where none came, else for the one that the last part tells;
+-- and from the eighth byte on with the record's change number
 abbrev pub request_after : ℕ → List Answer → Command
 request_after asked before =
     commands.GetPdr asked (last_handle before)
-    (if length (joined_parts before) == 0 then GET_FIRST_PART else GET_NEXT_PART) MOST_PART_BYTES
-    (if nat_lt (length (joined_parts before)) CHANGE_NUMBER_END then 0 else change_number_of (joined_parts before))
+    (if length (bytes_of_answers before) == 0 then GET_FIRST_PART else GET_NEXT_PART) MOST_PART_BYTES
+    (if nat_lt (length (bytes_of_answers before)) CHANGE_NUMBER_END then 0
+    else change_number_of (bytes_of_answers before))
 
 -- it is made while nothing has ended the fetch
 abbrev pub asks_after : ℕ → List Answer → Option Command
@@ -78,12 +83,12 @@ abbrev pub record_after : ℕ → List Answer → Option (List ℕ)
 record_after asked [] = None
 record_after asked (answer ∷ before) =
     if is_some (ended asked before) then record_after asked before
-    else done_with (ending answer (judged asked before answer)) (joined_parts (answer ∷ before))
+    else done_with (ending answer (judged asked before answer)) (bytes_of_answers (answer ∷ before))
 
 -- what is held, by how the fetch ended: the parts joined, the record, or the fault alone
 abbrev pub IsLeft : ℕ → List Answer → Option (Result FetchState FetchFault) → Fetching → Type 0
 IsLeft asked answers None f =
-    f ≡ record { asked = asked; bytes = joined_parts answers; offset = last_handle answers; stage = Going }
+    f ≡ record { asked = asked; bytes = bytes_of_answers answers; offset = last_handle answers; stage = Going }
 IsLeft asked answers (Some (Ok state)) f = (f.stage ≡ Finished) × (record_after asked answers ≡ Some f.bytes)
 IsLeft asked answers (Some (Err fault)) f = (f.stage ≡ Failed fault) × (record_after asked answers ≡ None)
 

@@ -1,6 +1,7 @@
 -- A record fetched in parts (DSP0248, "GetPDR command"): what is asked for next, and what each answer gives.
 use Rattle.std.specs.Borrow.{Bor}
-use Rattle.std.specs.Prelude.{ℕ, ◌+◌, ◌≤◌, ◌==◌, ◌&&◌, ◌||◌, not, nat_lt, Bool, true, false, List, [], ◌∷◌, ◌++◌, length, Option, Some, None, Result, Ok, Err, if◌then◌else◌}
+use Rattle.std.specs.Prelude.{ℕ, ◌+◌, ◌≤◌, ◌==◌, ◌&&◌, ◌||◌, not, nat_lt, Bool, true, false}
+use Rattle.std.specs.Prelude.{List, [], ◌∷◌, ◌++◌, length, Option, Some, None, Result, Ok, Err, if◌then◌else◌}
 use Rattle.pldm_wire.specs.Crc.{crc}
 use Rattle.pldm_wire.specs.RecordParts.{Part}
 use Rattle.pldm_wire.specs.declared.answer.Answer.{Answer}
@@ -11,7 +12,8 @@ use Rattle.pldm_wire.specs.declared.limits.TheConstants.{MOST_PART_BYTES, GET_FI
 use Rattle.pldm_wire.specs.declared.transfer_flag.TransferFlag.{TransferFlag}
 use Rattle.pldm_wire.specs.declared.transfer_flag.TransferFlag.TheVariants.{End, StartAndEnd}
 use Rattle.pldm_device.specs.Records.{handle_of, change_number_of, data_length_of}
-use Rattle.pldm_device.specs.declared.limits.TheConstants.{CHANGE_NUMBER_END, FIRST_RECORD, MOST_RECORD_BYTES, RECORD_HEADER}
+use Rattle.pldm_device.specs.declared.limits.TheConstants.{CHANGE_NUMBER_END, FIRST_RECORD}
+use Rattle.pldm_device.specs.declared.limits.TheConstants.{MOST_RECORD_BYTES, RECORD_HEADER}
 use Rattle.pldm_device.specs.declared.fetch.FetchState.{FetchState}
 use Rattle.pldm_device.specs.declared.fetch.FetchState.TheVariants.{More, Done}
 use Rattle.pldm_device.specs.declared.fetch.Stage.{Stage}
@@ -76,14 +78,16 @@ is_other_crc (Some checksum) pdr = not (checksum == crc pdr)
 -- why these bytes are not the record that was asked for, if they aren't
 abbrev pub record_fault : ℕ → List ℕ → Option ℕ → Option FetchFault
 record_fault asked pdr checksum =
-    if nat_lt (length pdr) RECORD_HEADER || not (length pdr == RECORD_HEADER + data_length_of pdr) then Some faults.Count
+    if nat_lt (length pdr) RECORD_HEADER || not (length pdr == RECORD_HEADER + data_length_of pdr)
+    then Some faults.Count
     else if not (asked == FIRST_RECORD) && not (handle_of pdr == asked) then Some faults.Handle
     else if is_other_crc checksum pdr then Some faults.Crc
     else None
 
 -- a part may be added: it isn't empty, and the record doesn't grow too long
 abbrev pub has_room_for : List ℕ → Part → Bool
-has_room_for bytes part = nat_lt 0 (length part.bytes) && not (nat_lt MOST_RECORD_BYTES (length bytes + length part.bytes))
+has_room_for bytes part =
+    nat_lt 0 (length part.bytes) && not (nat_lt MOST_RECORD_BYTES (length bytes + length part.bytes))
 
 abbrev pub unless_fault : Option FetchFault → FetchState → Result FetchState FetchFault
 unless_fault None state = Ok state
@@ -93,7 +97,9 @@ unless_fault (Some fault) state = Err fault
 abbrev pub part_taken : Fetching → ℕ → Part → Result FetchState FetchFault
 part_taken f next_record_handle part =
     if has_room_for f.bytes part
-    then (if is_last part.flag then unless_fault (record_fault f.asked (f.bytes ++ part.bytes) part.transfer_crc) (Done next_record_handle) else Ok More)
+    then (if is_last part.flag
+    then unless_fault (record_fault f.asked (f.bytes ++ part.bytes) part.transfer_crc) (Done next_record_handle)
+    else Ok More)
     else Err faults.Count
 
 -- what an answer gives a fetch that goes on
@@ -123,7 +129,8 @@ failed fault f = record { asked = f.asked; bytes = []; offset = f.offset; stage 
 -- what a fetch that goes on holds after a part that gave this
 abbrev pub part_after : Fetching → ℕ → Part → Result FetchState FetchFault → Fetching
 part_after f next_data_transfer_handle part (Ok More) = with_part f next_data_transfer_handle part Going
-part_after f next_data_transfer_handle part (Ok (Done next_record_handle)) = with_part f next_data_transfer_handle part Finished
+part_after f next_data_transfer_handle part (Ok (Done next_record_handle)) =
+    with_part f next_data_transfer_handle part Finished
 part_after f next_data_transfer_handle part (Err fault) = failed fault f
 
 -- what a fetch that goes on holds after an answer

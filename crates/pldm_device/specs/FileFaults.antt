@@ -1,7 +1,8 @@
 -- The faults of a device description: their numbers and names.
 use Rattle.std.specs.Prelude.{◌≡◌, ◌⊎◌, ℕ, List, codes, Result, Err}
 use Rattle.pldm_device.specs.declared.description_fault.FileFault.{FileFault}
-use Rattle.pldm_device.specs.declared.description_fault.FileFault.TheVariants.{Toml, MissingKey, WrongKind, OutOfRange, Duplicate, BadHex, BadRecord, Memory}
+use Rattle.pldm_device.specs.declared.description_fault.FileFault.TheVariants.{Toml, MissingKey, WrongKind, OutOfRange}
+use Rattle.pldm_device.specs.declared.description_fault.FileFault.TheVariants.{Duplicate, BadHex, BadRecord, Memory}
 
 abbrev pub number_of_file_fault : FileFault → ℕ
 number_of_file_fault Toml = 1

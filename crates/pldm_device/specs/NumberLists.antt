@@ -1,5 +1,6 @@
 -- Lists of numbers in a description: of another type than numbers before out of range.
-use Rattle.std.specs.Prelude.{ℕ, ◌+◌, nat_le, Bool, true, ◌&&◌, List, [], ◌∷◌, ◌++◌, Result, Ok, Err, is_some, is_ok, if◌then◌else◌}
+use Rattle.std.specs.Prelude.{ℕ, ◌+◌, nat_le, Bool, true, ◌&&◌, List, [], ◌∷◌, ◌++◌}
+use Rattle.std.specs.Prelude.{Result, Ok, Err, is_some, is_ok, if◌then◌else◌}
 use Rattle.toml.specs.Data.{Data, as_integer, Items, no_items, item}
 use Rattle.pldm_wire.specs.declared.limits.TheConstants.{MOST_STATES}
 use Rattle.pldm_device.specs.declared.description_fault.FileFault.{FileFault}

@@ -1,10 +1,12 @@
 -- The commands of the PDR repository (DSP0248).
-use Rattle.std.specs.Prelude.{ℕ, ◌+◌, ◌==◌, nat_le, nat_lt, List, length, slice_get, ◌||◌, Option, Some, None, if◌then◌else◌}
+use Rattle.std.specs.Prelude.{ℕ, ◌+◌, ◌==◌, nat_le, nat_lt, List, length, slice_get, ◌||◌}
+use Rattle.std.specs.Prelude.{Option, Some, None, if◌then◌else◌}
 use Rattle.pldm_wire.specs.declared.answer.Answer.{Answer}
 use Rattle.pldm_wire.specs.declared.answer.Answer.TheVariants.{Refused, GetPdr, GetPdrRepositoryInfo}
 use Rattle.pldm_wire.specs.declared.assigned.TheConstants.{ERROR_INVALID_DATA}
 use Rattle.pldm_device.specs.Devices.{Device}
-use Rattle.pldm_device.specs.Records.{handle_at, largest_record_size, next_data_transfer_handle, part_of, position_asked, repository_size}
+use Rattle.pldm_device.specs.Records.{handle_at, largest_record_size, next_data_transfer_handle}
+use Rattle.pldm_device.specs.Records.{part_of, position_asked, repository_size}
 use Rattle.pldm_device.specs.declared.limits.TheConstants.{INVALID_DATA_TRANSFER_HANDLE, INVALID_RECORD_HANDLE, INVALID_TRANSFER_OPERATION, NO_TRANSFER_TIMEOUT, REPOSITORY_AVAILABLE}
 use Rattle.pldm_wire.specs.declared.limits.TheConstants.{GET_FIRST_PART}
 
@@ -28,7 +30,8 @@ part_answered next_record_handle request_count pdr (Some offset) =
     GetPdr next_record_handle (next_data_transfer_handle pdr offset request_count) (part_of pdr offset request_count)
 
 abbrev pub record_answered : ℕ → ℕ → ℕ → ℕ → Option (List ℕ) → Answer
-record_answered next_record_handle data_transfer_handle transfer_operation_flag request_count None = Refused INVALID_RECORD_HANDLE
+record_answered next_record_handle data_transfer_handle transfer_operation_flag request_count None =
+    Refused INVALID_RECORD_HANDLE
 record_answered next_record_handle data_transfer_handle transfer_operation_flag request_count (Some pdr) =
     part_answered next_record_handle request_count pdr (offset_asked transfer_operation_flag data_transfer_handle pdr)
 
@@ -36,11 +39,13 @@ record_answered next_record_handle data_transfer_handle transfer_operation_flag 
 abbrev pub record_answer_at : ℕ → ℕ → ℕ → List (List ℕ) → Option ℕ → Answer
 record_answer_at data_transfer_handle transfer_operation_flag request_count records None = Refused INVALID_RECORD_HANDLE
 record_answer_at data_transfer_handle transfer_operation_flag request_count records (Some place) =
-    record_answered (handle_at (place + 1) records) data_transfer_handle transfer_operation_flag request_count (slice_get records place)
+    record_answered (handle_at (place + 1) records) data_transfer_handle transfer_operation_flag request_count
+    (slice_get records place)
 
 -- the answer to GetPDR; the change number isn't looked at
 abbrev pub record_answer : ℕ → ℕ → ℕ → ℕ → List (List ℕ) → Answer
 record_answer record_handle data_transfer_handle transfer_operation_flag request_count records =
     if request_count == 0 then Refused ERROR_INVALID_DATA
     else if nat_lt GET_FIRST_PART transfer_operation_flag then Refused INVALID_TRANSFER_OPERATION
-    else record_answer_at data_transfer_handle transfer_operation_flag request_count records (position_asked record_handle records)
+    else record_answer_at data_transfer_handle transfer_operation_flag request_count records
+    (position_asked record_handle records)

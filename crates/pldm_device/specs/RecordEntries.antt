@@ -26,7 +26,8 @@ with_record before pdr =
 -- the records before, and those of the entries after them in turn
 abbrev pub records_after : List (List ℕ) → Items → Result (List (List ℕ)) FileFault
 records_after before no_items = Ok before
-records_after before (item entry rest) = record_of entry >>= with_record before >>= λ records. records_after records rest
+records_after before (item entry rest) =
+    record_of entry >>= with_record before >>= λ records. records_after records rest
 
 abbrev pub records_in : Members → Result (List (List ℕ)) FileFault
 records_in document = entries_at (codes "pdr") document >>= records_after []

@@ -22,11 +22,14 @@ recorder_after tids _ = tids
 abbrev pub recorder_sensed : List ℕ → ℕ → ℤ → Result (List ℕ) ReadingFault
 recorder_sensed tids id value = Err NoSuchSensor
 
-pub recorder_reads_only : (tids : List ℕ) (command : Command) → sets command ≡ false → recorder_after tids command ≡ tids
+pub recorder_reads_only :
+    (tids : List ℕ) (command : Command) → sets command ≡ false → recorder_after tids command ≡ tids
 recorder_reads_only tids (SetTid tid) asks = cc
 recorder_reads_only tids _ asks = refl
 
-pub recorder_refusal : (tids : List ℕ) (command : Command) (code : ℕ) → recorder_answer tids command ≡ answers.Refused code → recorder_after tids command ≡ tids
+pub recorder_refusal :
+    (tids : List ℕ) (command : Command) (code : ℕ)
+    → recorder_answer tids command ≡ answers.Refused code → recorder_after tids command ≡ tids
 recorder_refusal tids (SetTid tid) code refused = cc
 recorder_refusal tids _ code refused = refl
 

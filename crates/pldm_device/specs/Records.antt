@@ -1,6 +1,7 @@
 -- The records of a PDR repository, and the parts in which GetPDR tells one (DSP0248, "PDR
 -- Repository", "Common PDR format" and "GetPDR command").
-use Rattle.std.specs.Prelude.{ℕ, ◌+◌, ◌==◌, nat_le, min, max, Bool, true, false, ◌&&◌, not, List, [], ◌∷◌, length, take, drop, slice_get, slice_index, Option, Some, None, if◌then◌else◌}
+use Rattle.std.specs.Prelude.{ℕ, ◌+◌, ◌==◌, nat_le, min, max, Bool, true, false, ◌&&◌, not, List, [], ◌∷◌}
+use Rattle.std.specs.Prelude.{length, take, drop, slice_get, slice_index, Option, Some, None, if◌then◌else◌}
 use Rattle.std.specs.List.{position, sum_by}
 use Rattle.pldm_wire.specs.Crc.{crc}
 use Rattle.pldm_wire.specs.Places.{u16_at, u32_at}
@@ -9,7 +10,8 @@ use Rattle.pldm_wire.specs.TransferFlags.{is_end}
 use Rattle.pldm_wire.specs.declared.limits.TheConstants.{MOST_PART_BYTES}
 use Rattle.pldm_wire.specs.declared.transfer_flag.TransferFlag.{TransferFlag}
 use Rattle.pldm_wire.specs.declared.transfer_flag.TransferFlag.TheVariants.{Start, Middle, End, StartAndEnd}
-use Rattle.pldm_device.specs.declared.limits.TheConstants.{FIRST_RECORD, HEADER_VERSION, MOST_RECORD_BYTES, NO_RECORD, RECORD_HEADER}
+use Rattle.pldm_device.specs.declared.limits.TheConstants.{FIRST_RECORD, HEADER_VERSION}
+use Rattle.pldm_device.specs.declared.limits.TheConstants.{MOST_RECORD_BYTES, NO_RECORD, RECORD_HEADER}
 
 -- A record begins with its handle, the version of its header, its type, its change number, and how
 -- many bytes of data follow these ten.

@@ -17,14 +17,14 @@ abbrev pub three_of : List ℕ → Result (ℕ × ℕ × ℕ) FileFault
 three_of (present ∷ previous ∷ event ∷ []) = Ok (present, previous, event)
 three_of _ = Err OutOfRange
 
-abbrev pub states_in : Data → Result (ℕ × ℕ × ℕ) FileFault
-states_in value = few_numbers MOST_SENSOR_STATE value >>= three_of
+abbrev pub three_states_in : Data → Result (ℕ × ℕ × ℕ) FileFault
+three_states_in value = few_numbers MOST_SENSOR_STATE value >>= three_of
 
 abbrev pub numeric_sensor_in : Members → Result (ℕ × NumericSensor) FileFault
 numeric_sensor_in entry = do
   id ← id_at entry
   size ← value_at (codes "size") entry >>= size_in
-  states ← value_at (codes "states") entry >>= states_in
+  states ← value_at (codes "states") entry >>= three_states_in
   reading ← value_at (codes "value") entry >>= sized_in size
   Ok (id, record { present = states.0; previous = states.1; event = states.2; reading = reading })
 
@@ -64,7 +64,8 @@ abbrev pub state_sensor_of : Data → Result (ℕ × List SensorStateField) File
 state_sensor_of value = table_in value >>= state_sensor_in
 
 -- no ID is that of a numeric sensor
-abbrev pub state_sensors_after : ById NumericSensor → ById (List SensorStateField) → Items → Result (ById (List SensorStateField)) FileFault
+abbrev pub state_sensors_after :
+    ById NumericSensor → ById (List SensorStateField) → Items → Result (ById (List SensorStateField)) FileFault
 state_sensors_after numeric before entries = things_after state_sensor_of (λ id. has_id id numeric) before entries
 
 abbrev pub state_sensors_in : ById NumericSensor → Members → Result (ById (List SensorStateField)) FileFault

@@ -26,7 +26,8 @@ abbrev pub parts_asked : List ℕ → ℕ → List ℕ → List Part
 parts_asked pdr offset [] = []
 parts_asked pdr offset (count ∷ counts) =
     part_of pdr offset count
-    ∷ (if is_last_part pdr offset count then [] else parts_asked pdr (next_data_transfer_handle pdr offset count) counts)
+    ∷ (if is_last_part pdr offset count then []
+    else parts_asked pdr (next_data_transfer_handle pdr offset count) counts)
 
 -- the bytes of the parts, one after another
 abbrev pub joined_parts : List Part → List ℕ

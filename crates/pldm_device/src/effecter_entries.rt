@@ -1,7 +1,7 @@
 //! The effecters of a description.
 
 ghost use Rattle.std.specs.Prelude.{◌≡◌, ◌≤◌, [], length};
-ghost use Rattle.pldm_device.specs.EffecterEntries.{allowed_after, allowed_in, are_in, not_above, not_below, number_from, numeric_effecter_in, numeric_effecter_of, numeric_effecters_after, numeric_effecters_in, state_effecter_in, state_effecter_of, state_effecters_after, state_effecters_in, states_in, states_of};
+ghost use Rattle.pldm_device.specs.EffecterEntries.{allowed_after, allowed_in, are_in, not_above, not_below, number_from, numeric_effecter_in, numeric_effecter_of, numeric_effecters_after, numeric_effecters_in, state_effecter_in, state_effecter_of, state_effecters_after, state_effecters_in, states_in, states_among};
 ghost use Rattle.pldm_device.specs.FileFaults.{IsOrMemory};
 ghost use Rattle.pldm_device.specs.KeyValues.{map_ok};
 ghost use Rattle.pldm_device.specs.NumberLists.{numbers_after, numbers_upto};
@@ -139,7 +139,7 @@ fn state_effecter_in(alloc: Global, entry: &Table) -> Result<(u16, StateEffecter
     let id = id_at(entry)?;
     let allowed = allowed_in(alloc, value_at(entry, "allowed")?)?;
     let states = few_numbers(value_at(entry, "values")?, MOST_BYTE)?;
-    let states = states_of(allowed.as_slice(), states.as_slice())?;
+    let states = states_among(allowed.as_slice(), states.as_slice())?;
     Ok((id, StateEffecter::new(allowed, states)))
 }
 
@@ -203,9 +203,9 @@ fn numbers_of(alloc: Global, items: &[Value]) -> Result<Vec<u8>, FileFault>
 }
 
 /// The state of each field, which is one that the field can take.
-fn states_of(allowed: &[AllowedStates], states: &[u8]) -> Result<StateFields<u8>, FileFault>
+fn states_among(allowed: &[AllowedStates], states: &[u8]) -> Result<StateFields<u8>, FileFault>
     requires { length states.now ≤ MOST_STATES }
-    ensures { result ≡ states_of allowed.now states.now }
+    ensures { result ≡ states_among allowed.now states.now }
 {
     if states.len() != allowed.len() || !are_in(states, allowed) {
         return Err(FileFault::OutOfRange);

@@ -3,7 +3,7 @@
 ghost use Rattle.std.specs.Prelude.{◌≡◌, ◌≤◌, [], length};
 ghost use Rattle.pldm_device.specs.FileFaults.{IsOrMemory};
 ghost use Rattle.pldm_device.specs.KeyValues.{map_ok};
-ghost use Rattle.pldm_device.specs.SensorEntries.{field_in, fields_after, fields_in, numeric_sensor_in, numeric_sensor_of, numeric_sensors_after, numeric_sensors_in, state_sensor_in, state_sensor_of, state_sensors_after, state_sensors_in, states_in};
+ghost use Rattle.pldm_device.specs.SensorEntries.{field_in, fields_after, fields_in, numeric_sensor_in, numeric_sensor_of, numeric_sensors_after, numeric_sensors_in, state_sensor_in, state_sensor_of, state_sensors_after, state_sensors_in, three_states_in};
 ghost use Rattle.toml.specs.View.{items_view, table_view, view};
 
 use crate::NumericSensor;
@@ -60,7 +60,7 @@ fn numeric_sensor_in(entry: &Table) -> Result<(u16, NumericSensor), FileFault>
 {
     let id = id_at(entry)?;
     let size = size_in(value_at(entry, "size")?)?;
-    let (present, previous, event) = states_in(value_at(entry, "states")?)?;
+    let (present, previous, event) = three_states_in(value_at(entry, "states")?)?;
     let reading = sized_in(size, value_at(entry, "value")?)?;
     let sensor = NumericSensor {
         present,
@@ -72,8 +72,8 @@ fn numeric_sensor_in(entry: &Table) -> Result<(u16, NumericSensor), FileFault>
 }
 
 /// The present, the previous and the event state of a numeric sensor.
-fn states_in(value: &Value) -> Result<(u8, u8, u8), FileFault>
-    ensures { result ≡ states_in (view value.now) }
+fn three_states_in(value: &Value) -> Result<(u8, u8, u8), FileFault>
+    ensures { result ≡ three_states_in (view value.now) }
 {
     let states = few_numbers(value, MOST_SENSOR_STATE)?;
     match states.as_slice() {
