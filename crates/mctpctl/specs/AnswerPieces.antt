@@ -1,5 +1,6 @@
 -- The run of `answer` in pieces, past the line that divides and before it.
-use Rattle.std.specs.Prelude.{◌≡◌, ℕ, ◌+◌, nat_lt, Bool, true, false, if◌then◌else◌, List, [], ◌∷◌, ◌++◌, length, Option, None, Some, Result, Ok, Err, refl}
+use Rattle.std.specs.Prelude.{◌≡◌, ℕ, ◌+◌, nat_lt, Bool, true, false, if◌then◌else◌}
+use Rattle.std.specs.Prelude.{List, [], ◌∷◌, ◌++◌, length, Option, None, Some, Result, Ok, Err, refl}
 use Rattle.mctpctl.specs.AnswerText.{described_run}
 use Rattle.mctpctl.specs.DescribedPieces.{run_described, description_gives, described_gives}
 use Rattle.mctpctl.specs.HeldRuns.{held_step, held_run}
@@ -36,6 +37,7 @@ pub nothing_where_cut : (text kept : List ℕ) (lines : Option (LineRun (Station
 nothing_where_cut text kept (Some run) = refl
 nothing_where_cut text kept None = by_line (is_divider (kept ++ [])) where
   by_line : (here : Bool)
-      → (run_described held_run true (text ++ (if here then [] else kept ++ [])) (if here then Some [] else None)).text ≡ []
+      → (run_described held_run true (text ++ (if here then [] else kept ++ [])) (if here then Some [] else None)).text
+      ≡ []
   by_line true = device_writes_nothing (stated (text ++ [])) (nat_lt MAX_DESCRIPTION (length (text ++ [])))
   by_line false = refl

@@ -1,5 +1,6 @@
 -- What `mctpctl answer` writes of an input: a device description, the line that divides, and a capture.
-use Rattle.std.specs.Prelude.{ℕ, nat_lt, Bool, if◌then◌else◌, List, [], ◌∷◌, length, take, Option, None, Some, Result, Ok, Err}
+use Rattle.std.specs.Prelude.{ℕ, nat_lt, Bool, if◌then◌else◌, List, [], ◌∷◌, length, take}
+use Rattle.std.specs.Prelude.{Option, None, Some, Result, Ok, Err}
 use Rattle.mctpctl.specs.CaptureLine.{TimedPacket, capture_of}
 use Rattle.mctpctl.specs.LineRuns.{Written, stops_at, lines_written}
 use Rattle.mctpctl.specs.OutcomeTexts.{outcome_text}
@@ -17,8 +18,8 @@ use Rattle.pldm_responder.specs.Calls.{Call, Received, last_moment, outcome}
 use Rattle.pldm_responder.specs.Performing.{Rules, rules_of}
 use Rattle.pldm_responder.specs.declared.outcome.Outcome.{Outcome}
 
--- of what is known of the packets that came before, `last` is the moment of the last one, `gives` says what becomes of bytes
--- that come at a moment, and `with` puts them to it
+-- of what is known of the packets that came before, `last` is the moment of the last one, `gives` says what becomes of
+-- bytes that come at a moment, and `with` puts them to it
 module _ {M : Type 0} (last : M → ℕ) (gives : M → ℕ → List ℕ → Outcome) (with : M → ℕ → List ℕ → M) where
   -- a packet gives the text of its outcome, and a line that is skipped nothing
   abbrev pub stepped : M → Result (Option TimedPacket) LineKind → Result (List ℕ × M) LineKind
@@ -39,7 +40,8 @@ module _ (run : Description → Bool → List (List ℕ) → Written) where
 
   -- the run over the lines after the divider, if a line divides
   abbrev pub divided_run : Bool → List ℕ → Option (List (List ℕ)) → Written
-  divided_run is_cut text None = stops_at (if nat_lt MAX_DESCRIPTION (length text) then faults.TooLarge else faults.NoDivider)
+  divided_run is_cut text None =
+      stops_at (if nat_lt MAX_DESCRIPTION (length text) then faults.TooLarge else faults.NoDivider)
   divided_run is_cut text (Some lines) =
       if nat_lt MAX_DESCRIPTION (length (description_of (lines_of text)))
       then stops_at faults.TooLarge

@@ -50,7 +50,8 @@ capture_of_words (first ∷ more) last = timed_packet (packet_word more) (moment
 
 -- what the line says after a line with the moment `last`
 unfoldable pub capture_of : List ℕ → ℕ → Result (Option TimedPacket) LineKind
-capture_of line last = if nat_lt MAX_CAPTURE_LINE (length line) then Err LongLine else capture_of_words (said_words line) last
+capture_of line last =
+    if nat_lt MAX_CAPTURE_LINE (length line) then Err LongLine else capture_of_words (said_words line) last
 
 -- what was read of a line
 abbrev pub packet_in : CaptureLine → Option TimedPacket

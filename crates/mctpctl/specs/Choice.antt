@@ -1,5 +1,6 @@
 -- Which task a command line names, by the definition of `clap`.
-use Rattle.std.specs.Prelude.{◌≡◌, ◌≢◌, ◌==◌, ℕ, Bool, true, if◌then◌else◌, List, [], ◌∷◌, length, codes, bytes_eq, Option, None, Some, option_and_then}
+use Rattle.std.specs.Prelude.{◌≡◌, ◌≢◌, ◌==◌, ℕ, Bool, true, if◌then◌else◌}
+use Rattle.std.specs.Prelude.{List, [], ◌∷◌, length, codes, bytes_eq, Option, None, Some, option_and_then}
 use Rattle.clap.specs.Words.{App, new_app, with_subcommand, fault_of, subcommand_of, IsAmong}
 use Rattle.clap.specs.declared.error.kind.ErrorKind.{ErrorKind}
 use Rattle.clap.specs.declared.error.kind.ErrorKind.TheVariants.{DisplayHelp, OutOfMemory}
@@ -24,9 +25,11 @@ task_named name = if bytes_eq name (codes "answer") then Some Answer else None
 
 -- the task of a line that is taken
 abbrev pub task_of : List (List ℕ) → Option Task
-task_of words = if takes_line words then option_and_then (λ found. task_named found.0) (subcommand_of command words) else None
+task_of words =
+    if takes_line words then option_and_then (λ found. task_named found.0) (subcommand_of command words) else None
 
--- what a refusal says of the line: that it names no task, and whether help was asked for; memory may be wanting at any line
+-- what a refusal says of the line: that it names no task, and whether help was asked for; memory may be wanting at any
+-- line
 abbrev pub TellsRefusal : List (List ℕ) → ChooseFault → Type 0
 TellsRefusal words (Help text) = (task_of words ≡ None) × IsAmong DisplayHelp (fault_of command words)
 TellsRefusal words (Refused text) = (task_of words ≡ None) × (fault_of command words ≢ DisplayHelp ∷ [])

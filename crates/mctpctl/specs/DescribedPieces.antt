@@ -1,5 +1,6 @@
 -- A run over an input of which the description comes first, in pieces.
-use Rattle.std.specs.Prelude.{◌≡◌, ◌≢◌, ◌⊎◌, [], Result, Ok, Err, ℕ, nat_lt, Bool, if◌then◌else◌, List, ◌++◌, length, Option, None, Some}
+use Rattle.std.specs.Prelude.{◌≡◌, ◌≢◌, ◌⊎◌, [], Result, Ok, Err, ℕ, nat_lt}
+use Rattle.std.specs.Prelude.{Bool, if◌then◌else◌, List, ◌++◌, length, Option, None, Some}
 use Rattle.mctpctl.specs.AnswerText.{described_run}
 use Rattle.mctpctl.specs.LinePieces.{glued}
 use Rattle.mctpctl.specs.LineRuns.{Written, stops_at}
@@ -17,13 +18,20 @@ use Rattle.pldm_responder.specs.Held.{Held, held_at_first}
 module _ (run : Description → Bool → List (List ℕ) → Written) where
   -- the run over the lines after the divider, if a line divides, where this is the description
   abbrev pub run_described : Bool → List ℕ → Option (List (List ℕ)) → Written
-  run_described is_cut text None = stops_at (if nat_lt MAX_DESCRIPTION (length text) then faults.TooLarge else faults.NoDivider)
+  run_described is_cut text None =
+      stops_at (if nat_lt MAX_DESCRIPTION (length text) then faults.TooLarge else faults.NoDivider)
   run_described is_cut text (Some lines) =
-      if nat_lt MAX_DESCRIPTION (length text) then stops_at faults.TooLarge else described_run run is_cut lines (stated text)
+      if nat_lt MAX_DESCRIPTION (length text)
+      then stops_at faults.TooLarge
+      else described_run run is_cut lines (stated text)
 
-  -- what the run writes of the bytes to come, where `text` is what came of the description before, and `kept` has come of a line
+  -- what the run writes of the bytes to come, where `text` is what came of the description before, and `kept` has come
+  -- of a line
   abbrev pub description_gives : List ℕ → List ℕ → Gives
-  description_gives text kept = λ is_cut bytes. run_described is_cut (text ++ description_of (glued kept (lines_of bytes))) (capture_lines (glued kept (lines_of bytes)))
+  description_gives text kept = λ is_cut bytes.
+      run_described is_cut
+      (text ++ description_of (glued kept (lines_of bytes)))
+      (capture_lines (glued kept (lines_of bytes)))
 
 -- what a run writes of the bytes to come, once it is past its description or before
 abbrev pub described_gives : {T : Type 0} → (T → Gives) → Gives → Option T → Gives
@@ -34,7 +42,8 @@ described_gives past before (Some run) = past run
 abbrev pub Describes : {T : Type 0} → (T → Gives) → Gives → List ℕ → Gives → Result (Option T) EngineFault → Type 0
 Describes past before piece after (Ok None) = GoesOn before piece [] after
 Describes past before piece after (Ok (Some run)) = GoesOn before piece [] (past run)
-Describes past before piece after (Err fault) = (fault ≡ faults.Memory) ⊎ ((fault ≢ faults.Memory) × StopsWith before piece [] fault)
+Describes past before piece after (Err fault) =
+    (fault ≡ faults.Memory) ⊎ ((fault ≢ faults.Memory) × StopsWith before piece [] fault)
 
 -- how many lines of the capture have ended
 abbrev pub described_count : {T : Type 0} → (T → ℕ) → Option T → ℕ

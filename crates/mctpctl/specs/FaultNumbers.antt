@@ -3,7 +3,8 @@ use Rattle.std.specs.Prelude.{ℕ}
 use Rattle.mctpctl.specs.declared.choose.ChooseFault.{ChooseFault}
 use Rattle.mctpctl.specs.declared.choose.ChooseFault.TheVariants as choices
 use Rattle.mctpctl.specs.declared.faults.EngineFault.{EngineFault}
-use Rattle.mctpctl.specs.declared.faults.EngineFault.TheVariants.{Device, NoDivider, Line, TooLarge, Read, Write, Memory}
+use Rattle.mctpctl.specs.declared.faults.EngineFault.TheVariants.{Device, NoDivider, Line, TooLarge}
+use Rattle.mctpctl.specs.declared.faults.EngineFault.TheVariants.{Read, Write, Memory}
 use Rattle.mctpctl.specs.declared.faults.LineKind.{LineKind}
 use Rattle.mctpctl.specs.declared.faults.LineKind.TheVariants.{LongLine, Words, Number, BackInTime, BadHex}
 

@@ -2,7 +2,8 @@
 use Rattle.std.specs.Prelude.{ℕ, List, ◌++◌, codes}
 use Rattle.std.specs.Fmt.{decimal}
 use Rattle.mctpctl.specs.declared.faults.EngineFault.{EngineFault}
-use Rattle.mctpctl.specs.declared.faults.EngineFault.TheVariants.{Device, NoDivider, Line, TooLarge, Read, Write, Memory}
+use Rattle.mctpctl.specs.declared.faults.EngineFault.TheVariants.{Device, NoDivider, Line, TooLarge}
+use Rattle.mctpctl.specs.declared.faults.EngineFault.TheVariants.{Read, Write, Memory}
 use Rattle.mctpctl.specs.declared.faults.LineKind.{LineKind}
 use Rattle.mctpctl.specs.declared.faults.LineKind.TheVariants.{LongLine, Words, Number, BackInTime, BadHex}
 use Rattle.pldm_device.specs.FileFaults.{name_of_file_fault}

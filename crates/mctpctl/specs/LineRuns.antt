@@ -1,5 +1,6 @@
 -- What a run over the lines of its input writes, line by line, and the fault that ends it.
-use Rattle.std.specs.Prelude.{◌≡◌, ◌⊎◌, ℕ, ◌+◌, Bool, nat_lt, if◌then◌else◌, List, [], ◌∷◌, ◌++◌, length, Option, None, Some, Result, Ok, Err, MatchResult}
+use Rattle.std.specs.Prelude.{◌≡◌, ◌⊎◌, ℕ, ◌+◌, Bool, nat_lt, if◌then◌else◌}
+use Rattle.std.specs.Prelude.{List, [], ◌∷◌, ◌++◌, length, Option, None, Some, Result, Ok, Err, MatchResult}
 use Rattle.std.specs.Io.KnownBytes.{Appends, Keeps}
 use Rattle.mctpctl.specs.declared.faults.EngineFault.{EngineFault}
 use Rattle.mctpctl.specs.declared.faults.EngineFault.TheVariants.{Line, TooLarge, Read, Write, Memory}
@@ -38,7 +39,8 @@ module _ {S : Type 0} (step : S → List ℕ → Result (List ℕ × S) LineKind
   -- a line, and then the lines after it
   abbrev pub lines_from : Bool → ℕ → S → List ℕ → List (List ℕ) → Written
   lines_from is_cut n state line [] = last_line is_cut n state line
-  lines_from is_cut n state line (next ∷ more) = line_then n (step state line) (λ after. lines_from is_cut (n + 1) after next more)
+  lines_from is_cut n state line (next ∷ more) =
+      line_then n (step state line) (λ after. lines_from is_cut (n + 1) after next more)
 
   -- what a run over these lines writes, the first of them with number n
   abbrev pub lines_written : Bool → ℕ → S → List (List ℕ) → Written
@@ -49,15 +51,18 @@ module _ {S : Type 0} (step : S → List ℕ → Result (List ℕ × S) LineKind
 abbrev pub IsOutside : EngineFault → Type 0
 IsOutside fault = (fault ≡ Read) ⊎ (fault ≡ Write) ⊎ (fault ≡ Memory)
 
--- a run that is Ok has written all the text, and the input has no fault; a fault of the input is told after the text before it
+-- a run that is Ok has written all the text, and the input has no fault; a fault of the input is told after the text
+-- before it
 abbrev pub Writes : Written → Option (List ℕ) → Option (List ℕ) → Result Unit EngineFault → Type 0
 Writes written old new result =
     MatchResult result
     (λ _. (written.fault ≡ None) × Appends old new written.text)
     (λ fault. IsOutside fault ⊎ ((written.fault ≡ Some fault) × Appends old new written.text))
 
--- a line that is taken has written its text and left this state; a refused one is told with its number and kind, and has written nothing
-abbrev pub WritesLine : {S : Type 0} → ℕ → Result (List ℕ × S) LineKind → S → Option (List ℕ) → Option (List ℕ) → Result Unit EngineFault → Type 0
+-- a line that is taken has written its text and left this state; a refused one is told with its number and kind, and
+-- has written nothing
+abbrev pub WritesLine : {S : Type 0} → ℕ → Result (List ℕ × S) LineKind → S
+    → Option (List ℕ) → Option (List ℕ) → Result Unit EngineFault → Type 0
 WritesLine n stepped state old new result =
     MatchResult result
     (λ _. (text : List ℕ) × (stepped ≡ Ok (text, state)) × Appends old new text)

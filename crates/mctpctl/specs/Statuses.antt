@@ -1,7 +1,8 @@
 -- The exit status of a run that ended in a fault.
 use Rattle.std.specs.Prelude.{ℕ}
 use Rattle.mctpctl.specs.declared.faults.EngineFault.{EngineFault}
-use Rattle.mctpctl.specs.declared.faults.EngineFault.TheVariants.{Device, NoDivider, Line, TooLarge, Read, Write, Memory}
+use Rattle.mctpctl.specs.declared.faults.EngineFault.TheVariants.{Device, NoDivider, Line, TooLarge}
+use Rattle.mctpctl.specs.declared.faults.EngineFault.TheVariants.{Read, Write, Memory}
 
 -- 1 where the input was refused, 3 where the run could not be done
 abbrev pub status_of_fault : EngineFault → ℕ

@@ -30,83 +30,11 @@ use std::alloc::Global;
 ///
 /// # Example
 ///
-/// A lamp whose terminus ID is all that its commands tell or set:
-///
-/// ```rust
-/// #[derive(Drop)]
-/// struct Lamp {
-///     tid: u8,
-/// }
-///
-/// impl Platform for Lamp {
-///     type State = u8;
-///
-///     const STEADY: bool = true;
-///
-///     ghost STEADY = { true };
-///
-///     ghost state = { λ lamp. lamp.tid };
-///
-///     ghost answer = { lamp_answer };
-///
-///     ghost after = { lamp_after };
-///
-///     ghost sensed = { λ tid id value. Err NoSuchSensor };
-///
-///     ghost performed = { λ before commands after. Unit {0} };
-///
-///     ghost reads_only = { lamp_reads_only };
-///
-///     ghost refusal_changes_nothing = { lamp_refusal };
-///
-///     ghost answers_the_command = { lamp_answers };
-///
-///     ghost none_performed = { λ value. tt };
-///
-///     ghost performed_in_turn = { λ first second third before after one other. tt };
-///
-///     fn perform(&mut self, _alloc: Global, command: &Command) -> Result<Answer, Memory> {
-///         Ok(match command {
-///             Command::SetTid { tid } => {
-///                 self.tid = *tid;
-///                 Answer::SetTid
-///             }
-///             Command::GetTid => Answer::GetTid { tid: self.tid },
-///             _ => Answer::Refused(Code::ERROR_UNSUPPORTED_PLDM_CMD),
-///         })
-///     }
-///
-///     fn set_reading(&mut self, _id: u16, _value: i64) -> Result<(), ReadingFault> {
-///         Err(ReadingFault::NoSuchSensor)
-///     }
-/// }
-/// ```
-///
-/// with these definitions and laws in a file of `specs/`:
-///
-/// ```text
-/// lamp_answer : ℕ → Command → Answer
-/// lamp_answer tid (SetTid new) = answers.SetTid
-/// lamp_answer tid GetTid = answers.GetTid tid
-/// lamp_answer tid _ = answers.Refused ERROR_UNSUPPORTED_PLDM_CMD
-///
-/// lamp_after : ℕ → Command → ℕ
-/// lamp_after tid (SetTid new) = new
-/// lamp_after tid _ = tid
-///
-/// lamp_reads_only : (tid : ℕ) (command : Command) → sets command ≡ false → lamp_after tid command ≡ tid
-/// lamp_reads_only tid (SetTid new) asks = cc
-/// lamp_reads_only tid _ asks = refl
-///
-/// lamp_refusal : (tid : ℕ) (command : Command) (code : ℕ) → lamp_answer tid command ≡ answers.Refused code → lamp_after tid command ≡ tid
-/// lamp_refusal tid (SetTid new) code refused = cc
-/// lamp_refusal tid _ code refused = refl
-///
-/// lamp_answers : (tid : ℕ) (command : Command) → IsAnswerTo (kind_of command) (lamp_answer tid command)
-/// lamp_answers tid (SetTid new) = refl
-/// lamp_answers tid GetTid = refl
-/// lamp_answers tid _ = tt
-/// ```
+/// `Recorder`, the platform of this crate's tests, is in `crates/pldm_device/src/tests/recorder.rt` and
+/// is proved with them. It keeps each terminus ID that it is given, tells the last one, or 0 before the
+/// first, and refuses any other command; its answers, the state that follows and the laws over them
+/// are in `crates/pldm_device/specs/Recorders.antt`. To keep an ID takes memory, so its `STEADY` is
+/// false; and it keeps no account of the commands, so its `performed` holds of all values.
 pub trait Platform: Drop {
     ghost use Rattle.std.specs.Prelude.{◌≡◌, ℕ, ℤ, Bool, false, List, [], ◌∷◌, ◌++◌, Result, IfOk, IsOk, OnOk, OnErr, IsTrue};
     ghost use Rattle.pldm_wire.specs.Commands.{kind_of, sets};
