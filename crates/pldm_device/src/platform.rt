@@ -14,8 +14,9 @@ use std::alloc::Global;
 /// these say. `performed` relates two values by the commands that were performed from the one to the
 /// other: a device that counts or records them says so there, and any other lets it hold of all
 /// values. What is proved for every platform holds whatever it says, so code over a platform can
-/// perform no command in secret. Where the device's own state can't be known in advance, as that of a sensor over a bus,
-/// `State` is what the value has read of it, and a call of the value's own takes in what is new.
+/// perform no command in secret. Where the device's own state can't be known in advance, as that of a
+/// sensor over a bus, `State` is what the value has read of it, and a call of the value's own takes in
+/// what is new.
 ///
 /// The laws, which each implementation proves of its definitions:
 ///
