@@ -1,5 +1,7 @@
 use super::*;
-use mctp_packet::{Eid, HEADER, MOST_PACKET_BYTES, Memory, PacketRef, Reason, Tag, UNIT, read_for};
+use mctp_packet::{
+    Eid, HEADER, MOST_PACKET_BYTES, Memory, PacketRef, Reason, Tag, UNIT, read, read_for,
+};
 use memory_hoard::Hoard;
 use std::alloc::Global;
 use std::process::Abort;
@@ -182,5 +184,25 @@ fn each_growth_is_refused_in_turn(rt: HostRuntime) -> Result<(), Fail> {
             "{again:?}"
         );
     }
+    Ok(())
+}
+
+/// Packets of all 247 sources, not addressed to one endpoint: every key has an assembly at a time.
+#[test]
+fn every_key_has_an_assembly(rt: HostRuntime) -> Result<(), Fail> {
+    let mut assembler = Assembler::new(rt.alloc());
+    for source in 8..=254u8 {
+        for tag in 0..8u8 {
+            for owner in [0x00u8, 0x08] {
+                let start = [0x01, OWN, source, 0x80 | owner | tag, 0x01];
+                let fed = assembler.feed(&read(&start)?)?;
+                assert!(rt; is(&fed, Given::Partial), "{fed:?} at {start:?}");
+            }
+        }
+    }
+    assert_eq!(rt; assembler.pending(), 3_952);
+    let fed = assembler.feed(&read(&[0x01, OWN, 0xfe, 0x5f, 0x05])?)?;
+    assert!(rt; is(&fed, Given::Whole(&[0x01, 0x05])), "{fed:?}");
+    assert_eq!(rt; assembler.pending(), 3_951);
     Ok(())
 }
