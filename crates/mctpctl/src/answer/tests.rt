@@ -416,11 +416,11 @@ fn the_longest_line_and_the_longest_input(rt: HostRuntime) -> Result<(), Fail> {
     assert_eq!(rt; line.len(), 4_096);
     expect(&rt, alloc, line.as_str(), Ok(()), "drop UnsupportedUnit\n")?;
     for (size, want) in [
-        (16_777_216, Ok(())),
+        (16_777_216usize, Ok(())),
         (16_777_217, Err(EngineFault::TooLarge)),
     ] {
         let mut text = input(alloc, "0 010908c801800002\n")?;
-        text.reserve(size - text.len())?;
+        text.reserve(size.saturating_sub(text.len()))?;
         for at in text.len()..size {
             text.push(if at % 1_024 == 0 { '\n' } else { ' ' })?;
         }
