@@ -20,9 +20,10 @@ packet_of bytes =
     packet (route_of bytes) (is_set (slice_index bytes 3) 7) (is_set (slice_index bytes 3) 6)
     (slice_index bytes 3 / 16 % 4) (drop HEADER bytes)
 
-abbrev pub unless : Option Reason → Packet → Result Packet Reason
-unless None p = Ok p
-unless (Some reason) p = Err reason
+-- what was found, unless there is a reason against it
+abbrev pub unless : {A : Type 0} → Option Reason → A → Result A Reason
+unless None x = Ok x
+unless (Some reason) x = Err reason
 
 -- what reading gives, with the own endpoint ID where it is known
 abbrev pub reading : Option ℕ → List ℕ → Result Packet Reason

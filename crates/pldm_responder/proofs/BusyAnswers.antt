@@ -7,7 +7,8 @@ use Rattle.mctp_packet.specs.declared.packet.Route.{Route}
 use Rattle.mctp_packet.specs.declared.reason.Reason.{Reason}
 use Rattle.pldm_wire.specs.Kinds.{TypeAndCommand, IsKind}
 use Rattle.pldm_wire.specs.Messages.{IsResponse}
-use Rattle.pldm_wire.specs.Requests.{Request, request_of, request_refusal, unless}
+use Rattle.mctp_packet.specs.Reading.{unless}
+use Rattle.pldm_wire.specs.Requests.{Request, request_of, request_refusal}
 use Rattle.pldm_wire.specs.declared.assigned.TheConstants.{INSTANCE_IDS, MESSAGE_TYPE, ERROR_NOT_READY}
 use Rattle.pldm_responder.specs.Laws.{BusyAnswersAreOnePacket}
 use Rattle.pldm_responder.specs.Performing.{busy_reply, busy_reply_to}

@@ -10,7 +10,8 @@ use Rattle.mctp_packet.specs.declared.reason.Reason.TheVariants.{BadTag}
 use Rattle.mctp_assembly.specs.Steps.{answer}
 use Rattle.mctp_assembly.specs.declared.fed.Fed.TheVariants.{Whole}
 use Rattle.pldm_wire.specs.Headers.{id_at}
-use Rattle.pldm_wire.specs.Requests.{Request, request_of, request_refusal, unless}
+use Rattle.mctp_packet.specs.Reading.{unless}
+use Rattle.pldm_wire.specs.Requests.{Request, request_of, request_refusal}
 use Rattle.pldm_responder.specs.Arrivals.{fed_arrival, headed, is_expected, message_of}
 use Rattle.pldm_responder.specs.Events.{Message, is_of}
 use Rattle.pldm_responder.specs.Held.{Entry, Held, IsHeld}

@@ -6,7 +6,8 @@ use Rattle.mctp_packet.specs.declared.reason.Reason.TheVariants.{NotRequest}
 use Rattle.pldm_wire.specs.Kinds.{TypeAndCommand}
 use Rattle.pldm_wire.specs.Headers.{checks, id_at, kind_at}
 use Rattle.pldm_wire.specs.Messages.{IsRequest, request_message}
-use Rattle.pldm_wire.specs.Requests.{request, request_refusal, unless, request_of}
+use Rattle.mctp_packet.specs.Reading.{unless}
+use Rattle.pldm_wire.specs.Requests.{request, request_refusal, request_of}
 use Rattle.pldm_wire.proofs.Passing.{AllPass, all_pass, none_fails}
 use Rattle.pldm_wire.specs.declared.assigned.TheConstants.{INSTANCE_IDS}
 

@@ -6,7 +6,7 @@ use Rattle.mctp_packet.specs.declared.reason.Reason.TheVariants.{NotResponse}
 use Rattle.pldm_wire.specs.Kinds.{TypeAndCommand}
 use Rattle.pldm_wire.specs.Headers.{checks, id_at, kind_at}
 use Rattle.pldm_wire.specs.Messages.{IsResponse, response_message}
-use Rattle.pldm_wire.specs.Requests.{unless}
+use Rattle.mctp_packet.specs.Reading.{unless}
 use Rattle.pldm_wire.specs.Responses.{response, response_refusal, response_of, code_at}
 use Rattle.pldm_wire.proofs.Cells.{front_bytes}
 use Rattle.pldm_wire.proofs.Passing.{AllPass, all_pass, none_fails}

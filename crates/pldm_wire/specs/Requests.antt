@@ -1,5 +1,6 @@
 -- The request that bytes are, as a function by place.
-use Rattle.std.specs.Prelude.{ℕ, List, drop, Option, Some, None, Result, Ok, Err}
+use Rattle.std.specs.Prelude.{ℕ, List, drop, Option, Result}
+use Rattle.mctp_packet.specs.Reading.{unless}
 use Rattle.mctp_packet.specs.declared.reason.Reason.{Reason}
 use Rattle.mctp_packet.specs.declared.reason.Reason.TheVariants.{NotRequest}
 use Rattle.pldm_wire.specs.Kinds.{TypeAndCommand}
@@ -18,10 +19,6 @@ request id kind rest = record { id = id; kind = kind; rest = rest }
 -- the first reason for which bytes are no request
 abbrev pub request_refusal : List ℕ → Option Reason
 request_refusal bytes = refusal REQUEST_HEADER 1 NotRequest bytes
-
-abbrev pub unless : {A : Type 0} → Option Reason → A → Result A Reason
-unless None x = Ok x
-unless (Some reason) x = Err reason
 
 -- what reading gives
 unfoldable pub request_of : List ℕ → Result Request Reason

@@ -1,10 +1,10 @@
 -- The response that bytes are, as a function by place.
 use Rattle.std.specs.Prelude.{ℕ, List, drop, slice_index, Option, Result}
+use Rattle.mctp_packet.specs.Reading.{unless}
 use Rattle.mctp_packet.specs.declared.reason.Reason.{Reason}
 use Rattle.mctp_packet.specs.declared.reason.Reason.TheVariants.{NotResponse}
 use Rattle.pldm_wire.specs.Kinds.{TypeAndCommand}
 use Rattle.pldm_wire.specs.Headers.{refusal, id_at, kind_at}
-use Rattle.pldm_wire.specs.Requests.{unless}
 use Rattle.pldm_wire.specs.declared.assigned.TheConstants.{REQUEST_HEADER, RESPONSE_HEADER}
 
 -- the instance ID, which command it answers, the completion code and the bytes after it
