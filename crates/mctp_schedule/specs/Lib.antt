@@ -2,6 +2,7 @@ pub mod CommandSpelling
 pub mod CommandWords
 pub mod DeviceHalf
 pub mod FirstArrivals
+pub mod HandedPackets
 pub mod Laws
 pub mod LineFaults
 pub mod LineSpelling
