@@ -1,6 +1,7 @@
 pub mod CommandSpelling
 pub mod CommandWords
 pub mod DeviceHalf
+pub mod Entries
 pub mod FirstArrivals
 pub mod HandedPackets
 pub mod Laws
@@ -9,6 +10,8 @@ pub mod LineSpelling
 pub mod LineWords
 pub mod Logs
 pub mod OncePerformed
+pub mod Requests
+pub mod RunFaults
 pub mod Schedules
 pub mod WordValues
 pub mod Worlds

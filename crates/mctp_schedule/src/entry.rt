@@ -1,0 +1,31 @@
+use pldm_device::ReadingFault;
+use pldm_requester::{Due, Got, OpenFault};
+use pldm_responder::Outcome;
+
+/// What came of a step.
+#[derive(Debug, Drop)]
+pub enum Entry {
+    /// Nothing: no such request was opened, or no such packet was sent.
+    Nothing,
+    /// A request was opened, with this number, counted from 0 over the opened requests of all
+    /// requesters.
+    Opened(u64),
+    /// No request was opened. The fault is never `Memory`.
+    NotOpened(OpenFault),
+    /// What a tick found due. The numbers count the opened requests of all requesters.
+    Due(Due),
+    /// The packet of a request came to the device.
+    Delivered {
+        /// Whether the device's end was busy after a restart, so that the outcome is a busy answer.
+        busy: bool,
+        /// What became of the packet.
+        outcome: Outcome,
+    },
+    /// A packet of an answer came to its requester. The number of an answered request counts the
+    /// opened requests of that requester alone.
+    Received(Got),
+    /// A sensor was to get a reading.
+    Sensed(Result<(), ReadingFault>),
+    /// The device's end restarted.
+    Restarted,
+}

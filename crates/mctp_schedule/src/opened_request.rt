@@ -1,0 +1,128 @@
+//! A request that was opened, as a report tells it.
+
+ghost use Rattle.std.specs.Prelude.{◌≡◌, ◌%◌};
+ghost use Rattle.pldm_requester.specs.Courses.{GaveUp, Answered};
+ghost use Rattle.pldm_requester.specs.Numbering.{id_of, tag_of};
+ghost use Rattle.pldm_requester.specs.Standings.{standing_told};
+ghost use Rattle.mctp_schedule.specs.Requests.{begun, with_standing};
+
+use mctp_packet::{Eid, Moment, TAGS, Tag};
+use pldm_requester::Status;
+use pldm_wire::INSTANCE_IDS;
+use std::marker::Model;
+
+/// A request that was opened, and how it stands.
+#[derive(Debug, Drop)]
+pub struct OpenedRequest {
+    requester: Eid,
+    number: u64,
+    opening: Moment,
+    message: Vec<u8>,
+    standing: Standing,
+}
+
+/// How it stands.
+#[derive(Debug, Drop)]
+enum Standing {
+    /// It is open.
+    Waiting,
+    /// It was answered, by this message.
+    Answered(Vec<u8>),
+    /// It was given up.
+    GaveUp,
+}
+
+impl Model for OpenedRequest {
+    ghost use Rattle.mctp_schedule.specs.Requests.{Request, coded_request, standing_of};
+
+    ghost Value = { Request };
+
+    ghost coded = { coded_request };
+
+    ghost view = { λ r. record {
+      asked = record { source = r.requester; own = r.number; opening = r.opening; message = r.message.items };
+      standing = standing_of r.standing;
+    } };
+}
+
+impl OpenedRequest {
+    /// A request that is open.
+    pub(crate) fn new(requester: Eid, number: u64, opening: Moment, message: Vec<u8>) -> OpenedRequest
+        ensures { result ≡ begun requester number opening message.items }
+    {
+        OpenedRequest {
+            requester,
+            number,
+            opening,
+            message,
+            standing: Standing::Waiting,
+        }
+    }
+
+    /// The endpoint that asks.
+    pub fn requester(&self) -> Eid
+        ensures { result ≡ self.now.asked.source }
+    {
+        self.requester
+    }
+
+    /// Its number, counted from 0 over the opened requests of its requester.
+    pub fn number(&self) -> u64
+        ensures { result ≡ self.now.asked.own }
+    {
+        self.number
+    }
+
+    /// Its instance ID (DSP0240, "PLDM message fields").
+    pub fn id(&self) -> u8
+        ensures { result ≡ id_of self.now.asked.own }
+    {
+        (self.number % u64::from(INSTANCE_IDS)) as u8
+    }
+
+    /// Its tag (DSP0236, "MCTP packet fields").
+    pub fn tag(&self) -> Tag
+        ensures { result ≡ tag_of self.now.asked.own }
+    {
+        Tag::new((self.number % u64::from(TAGS)) as u8).unwrap()
+    }
+
+    /// When it was opened.
+    pub fn opening(&self) -> Moment
+        ensures { result ≡ self.now.asked.opening }
+    {
+        self.opening
+    }
+
+    /// Its message.
+    pub fn message(&self) -> &[u8]
+        ensures { result.now ≡ self.now.asked.message }
+    {
+        &self.message
+    }
+
+    /// How it stands.
+    pub fn status(&self) -> Status<'_>
+        ensures { standing_told result ≡ self.now.standing }
+    {
+        match &self.standing {
+            Standing::Waiting => Status::Open,
+            Standing::Answered(message) => Status::Answered(message),
+            Standing::GaveUp => Status::GaveUp,
+        }
+    }
+
+    /// It is given up.
+    pub(crate) fn give_up(&mut self)
+        ensures { self.new ≡ with_standing GaveUp self.old }
+    {
+        self.standing = Standing::GaveUp;
+    }
+
+    /// It is answered.
+    pub(crate) fn answer(&mut self, message: Vec<u8>)
+        ensures { self.new ≡ with_standing (Answered message.items) self.old }
+    {
+        self.standing = Standing::Answered(message);
+    }
+}
