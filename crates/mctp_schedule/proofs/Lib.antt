@@ -21,3 +21,4 @@ pub mod TimelyExample
 pub mod TimelyLogs
 pub mod TimelyTests
 pub mod WorldRows
+pub mod AskerCalls

@@ -1,18 +1,23 @@
 //! Both ends of a link: requesters and a device over one schedule of what is delivered between them.
 #![tactic(auto)]
 
+mod askers;
+mod both_ends;
 mod command_words;
 mod entry;
+mod journal;
 pub mod laws;
 mod limits;
 mod line;
 mod line_fault;
 mod opened_request;
+mod places;
 mod run_fault;
 mod schedule;
 mod step;
 mod word;
 
+pub use both_ends::{Report, Setup, run};
 pub use entry::Entry;
 pub use limits::{GREATEST_BYTE, GREATEST_HANDLE, GREATEST_ID, LONGEST_TIMEOUT, MOST_WORDS};
 pub use line_fault::{LineFault, LineFaultKind};

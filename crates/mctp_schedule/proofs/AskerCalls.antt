@@ -1,0 +1,149 @@
+-- What the calls of a requester give, over what it holds.
+use Rattle.std.proofs.Common.{◌≡◌, ℕ, zero, suc, ◌+◌, ◌-◌, ◌%◌, ◌<◌, ◌≤◌, Bool, true, false, List, [], ◌∷◌, length, map, take, Option, Some, None, Result, Ok, Err, refl, sym, ap, ◌∙◌, arith, eq-eqb}
+use Rattle.std.specs.Prelude.{◌==◌, ◌&&◌, not, nat_lt, nat_le, filter, option_map, slice_get, slice_index, if◌then◌else◌}
+use Rattle.std.specs.List.{AllByRecursion, range_with_len}
+use Rattle.std.proofs.lemmas.Bool.{cond-true, ltb-true}
+use Rattle.mctp_packet.specs.Packets.{Packet, packet, written}
+use Rattle.mctp_packet.specs.Pieces.{piece, piece_count, written_packets}
+use Rattle.mctp_packet.specs.declared.packet.Route.{Route}
+use Rattle.mctp_packet.specs.declared.reason.Reason.{Reason}
+use Rattle.mctp_packet.specs.declared.reason.Reason.TheVariants.{NotMine, NotReady}
+use Rattle.mctp_packet.specs.declared.TheConstants.{SEQUENCE_NUMBERS, UNIT}
+use Rattle.mctp_assembly.specs.Steps as assembly
+use Rattle.mctp_assembly.specs.declared.fed.Fed.{Fed}
+use Rattle.mctp_assembly.specs.declared.fed.Fed.TheVariants as feds
+use Rattle.pldm_wire.specs.Responses.{Response, response_of}
+use Rattle.pldm_wire.specs.declared.assigned.TheConstants.{ERROR_NOT_READY}
+use Rattle.pldm_wire.specs.declared.command.Command.{Command}
+use Rattle.pldm_requester.specs.Arrivals.{Arrival, Drop, Part, Answer, fed_arrival, got_of, packet_arrival, passed_arrival, response_arrival}
+use Rattle.pldm_requester.specs.Calls.{is_from_device, open_answer}
+use Rattle.pldm_requester.specs.Courses as courses
+use Rattle.pldm_requester.specs.Courses.{Course, is_open}
+use Rattle.pldm_requester.specs.Numbering.{opened_as, packets_of}
+use Rattle.pldm_requester.specs.Slots.{remembered_in}
+use Rattle.pldm_requester.specs.declared.requester.TheConstants.{MOST_OPEN, MOST_REMEMBERED}
+use Rattle.pldm_requester.specs.Steps.{Held, IsHeld, Memo, arrived_by, goes_to, is_mine, is_open_in, latest_on, new_memo, opened_held, passed, passes, received_held, recent_numbers, remembered_after, where_open, with_course}
+use Rattle.pldm_requester.specs.declared.got.Got.TheVariants as got
+use Rattle.pldm_requester.specs.declared.opened.Opened.{Opened}
+use Rattle.pldm_requester.specs.declared.opened.OpenFault.{OpenFault}
+use Rattle.mctp_schedule.specs.Askers.{HasAnswer, TellsAnswer}
+use Rattle.mctp_schedule.specs.declared.askers.Answered.{Answered}
+
+-- ---- a message of one piece is one packet
+take_all : {X : Type 0} (n : ℕ) (xs : List X) → length xs ≤ n → take n xs ≡ xs
+take_all zero [] h = refl
+take_all (suc n) [] h = refl
+take_all zero (x ∷ xs) h = absurd (omega arith)
+take_all (suc n) (x ∷ xs) h = ap (λ ys. x ∷ ys) (take_all n xs (omega arith))
+
+abbrev counted : Route → List ℕ → ℕ → List (List ℕ)
+counted route message n =
+    map (λ i. written (packet route (i == 0) (i + 1 == n) (i % SEQUENCE_NUMBERS) (piece message i))) (range_with_len 0 n)
+
+pub one_packet : (route : Route) (message : List ℕ) → 0 < length message → length message ≤ UNIT → written_packets route message ≡ written (packet route true true 0 message) ∷ []
+one_packet route message some few =
+    let one : piece_count message ≡ 1 = omega arith in
+    ap (counted route message) one ∙ ap (λ m. written (packet route true true 0 m) ∷ []) (take_all UNIT message few)
+
+-- ---- an accepted open
+pub accepted_as : (tag id : Bool) (number : ℕ) (opened : Opened) → open_answer tag id number ≡ Ok opened → opened ≡ opened_as number
+accepted_as true id number opened e = absurd (cc)
+accepted_as false true number opened e = absurd (cc)
+accepted_as false false number opened e = cc
+
+pub opened_memo : (new held : Held) (moment : ℕ) (command : Command) → IsHeld new (opened_held held moment command) → new.remembered held.count ≡ Some (new_memo held moment command)
+opened_memo new held moment command h = h.remembered held.count ∙ cond-true (held.count == held.count) _ _ (eq-eqb held.count held.count refl)
+
+-- ---- an answer
+response_number : (mine : ℕ → Response → Bool) (number : ℕ) (message : List ℕ) (read : Result Response Reason) (n : ℕ) (m : List ℕ) → response_arrival mine number message read ≡ Answer n m → number ≡ n
+response_number mine number message (Err reason) n m e = absurd (cc)
+response_number mine number message (Ok response) n m e = go (mine number response) (response.code == ERROR_NOT_READY) e
+  where
+    go : (b c : Bool) → (if not b then Drop NotMine else (if c then Drop NotReady else Answer number message)) ≡ Answer n m → number ≡ n
+    go false c e = absurd (cc)
+    go true true e = absurd (cc)
+    go true false e = cc
+
+fed_number : (mine : ℕ → Response → Bool) (number : ℕ) (fed : Fed) (n : ℕ) (m : List ℕ) → fed_arrival mine number fed ≡ Answer n m → number ≡ n
+fed_number mine number (feds.Whole body) n m e = response_number mine number body.items (response_of body.items) n m e
+fed_number mine number feds.Partial n m e = absurd (cc)
+fed_number mine number (feds.Dropped reason) n m e = absurd (cc)
+
+packet_number : (to : Option ℕ) (gives : ℕ → Packet → Fed) (mine : ℕ → Response → Bool) (p : Packet) (n : ℕ) (m : List ℕ) → packet_arrival (λ q. to) gives mine to p ≡ Answer n m → to ≡ Some n
+packet_number None gives mine p n m e = absurd (cc)
+packet_number (Some number) gives mine p n m e = ap Some (fed_number mine number (gives number p) n m e)
+
+open_number : (opens : ℕ → Bool) (to : Option ℕ) (n : ℕ) → where_open opens to ≡ Some n → opens n ≡ true
+open_number opens None n e = absurd (cc)
+open_number opens (Some number) n e = go (opens number) refl e
+  where
+    go : (b : Bool) → opens number ≡ b → (if b then Some number else None) ≡ Some n → opens n ≡ true
+    go true o e = let same : number ≡ n = cc in ap opens (sym same) ∙ o
+    go false o e = absurd (cc)
+
+goes_open : (held : Held) (p : Packet) (n : ℕ) → goes_to held p ≡ Some n → is_open_in held n ≡ true
+goes_open held p n e = go (is_from_device held.device p) e
+  where
+    go : (b : Bool) → (if b then where_open (is_open_in held) (latest_on held.count p.route.tag) else None) ≡ Some n → is_open_in held n ≡ true
+    go true e = open_number (is_open_in held) (latest_on held.count p.route.tag) n e
+    go false e = absurd (cc)
+
+some_memo : (test : Course → Bool) (memo : Option Memo) → passes test memo ≡ true → (m : Memo) × (memo ≡ Some m)
+some_memo test None e = absurd (cc)
+some_memo test (Some m) e = (m, refl)
+
+pub answer_remembered : (held : Held) (read : Result Packet Reason) (n : ℕ) (message : List ℕ) → arrived_by held read ≡ Answer n message → (memo : Memo) × (held.remembered n ≡ Some memo)
+answer_remembered held (Err reason) n message e = absurd (cc)
+answer_remembered held (Ok p) n message e =
+    some_memo is_open (held.remembered n) (goes_open held p n (packet_number (goes_to held p) (λ number q. assembly.answer held.open_messages q) (is_mine held) p n message e))
+
+pub answer_of_got : (arrival : Arrival) (own : ℕ) → got_of arrival ≡ got.Answered own → (message : List ℕ) × (arrival ≡ Answer own message)
+answer_of_got (Drop reason) own e = absurd (cc)
+answer_of_got Part own e = absurd (cc)
+answer_of_got (Answer number message) own e = let same : number ≡ own = cc in (message, ap (λ n. Answer n message) same)
+
+-- what is held after an answer to this request
+pub standing_after : (held new : Held) (moment : ℕ) (bytes : List ℕ) (own : ℕ) (message : List ℕ) → IsHeld new (received_held held moment bytes) → arrived_by held (passed held bytes) ≡ Answer own message
+    → option_map (λ (memo : Memo). memo.course.standing) (new.remembered own) ≡ Some (courses.Answered message)
+standing_after held new moment bytes own message h e =
+    let memo = answer_remembered held (passed held bytes) own message e in
+    ap (option_map (λ (m : Memo). m.course.standing))
+    (h.remembered own ∙ ap (λ arrival. remembered_after held arrival own) e ∙ cond-true (own == own) _ _ (eq-eqb own own refl) ∙ ap (option_map (with_course (courses.answered message))) memo.1)
+
+pub own_below : (count : ℕ) (slots : List Memo) (own : ℕ) (memo : Memo) → remembered_in count slots own ≡ Some memo → own < count
+own_below count slots own memo e = go (nat_lt own count) refl (nat_le count (own + MOST_REMEMBERED)) e
+  where
+    go : (b : Bool) → nat_lt own count ≡ b → (c : Bool) → (if b && c then slice_get slots (own % MOST_REMEMBERED) else None) ≡ Some memo → own < count
+    go true t c e = ltb-true own count t
+    go false t c e = absurd (cc)
+
+-- ---- the numbers that are due
+pub all_filtered : (P : ℕ → Type 0) (test : ℕ → Bool) (xs : List ℕ) → AllByRecursion P xs → AllByRecursion P (filter test xs)
+all_filtered P test [] h = tt
+all_filtered P test (x ∷ xs) h = go (test x) (all_filtered P test xs h.1)
+  where
+    go : (b : Bool) → AllByRecursion P (filter test xs) → AllByRecursion P (if b then x ∷ filter test xs else filter test xs)
+    go true more = (h.0, more)
+    go false more = more
+
+all_ranged : (bound start n : ℕ) → start + n ≤ bound → AllByRecursion (λ k. k < bound) (range_with_len start n)
+all_ranged bound start zero h = tt
+all_ranged bound start (suc n) h = (omega arith, all_ranged bound (start + 1) n (omega arith))
+
+pub recent_below : (count : ℕ) (test : ℕ → Bool) → AllByRecursion (λ k. k < count) (filter test (recent_numbers count))
+recent_below count test = all_filtered (λ k. k < count) test (recent_numbers count) (all_ranged count (count - MOST_OPEN) (count - (count - MOST_OPEN)) (omega arith))
+
+-- ---- what is told of an answer
+pub none_told : (numbers : List ℕ) (arrival : Arrival) → ((own : ℕ) → got_of arrival ≡ got.Answered own → ⊥) → TellsAnswer numbers arrival None
+none_told numbers (Drop reason) h = refl
+none_told numbers Part h = refl
+none_told numbers (Answer number message) h = absurd (h number refl)
+
+pub one_told : (numbers : List ℕ) (arrival : Arrival) (own : ℕ) (a : Answered) → got_of arrival ≡ got.Answered own → a.number ≡ slice_index numbers own → ((m : List ℕ) → arrival ≡ Answer own m → a.message.items ≡ m) → TellsAnswer numbers arrival (Some a)
+one_told numbers (Drop reason) own a e number message = absurd (cc)
+one_told numbers Part own a e number message = absurd (cc)
+one_told numbers (Answer n m) own a e number message =
+    let same : n ≡ own = cc in (a, refl, number ∙ ap (slice_index numbers) (sym same), message m (ap (λ k. Answer k m) same))
+
+pub same_answer : (standing : Option courses.Standing) (a b : List ℕ) → standing ≡ Some (courses.Answered a) → standing ≡ Some (courses.Answered b) → a ≡ b
+same_answer standing a b e f = let both : ◌≡◌ {A = Option courses.Standing} (Some (courses.Answered a)) (Some (courses.Answered b)) = sym e ∙ f in cc

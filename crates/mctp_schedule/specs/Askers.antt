@@ -1,0 +1,56 @@
+-- What contracts see of a requester of a run, and what its calls give.
+use Rattle.std.specs.Prelude.{◌≡◌, ℕ, true, List, [], ◌∷◌, Option, Some, None, Ok, option_map, slice_index, refl}
+use Rattle.std.specs.Coded.{Coded, code_by, coded×, coded_ℕ, coded_list}
+use Rattle.mctp_packet.specs.Packets.{packet, written}
+use Rattle.pldm_wire.specs.Commands.{IsCommand}
+use Rattle.pldm_wire.specs.declared.command.Command.{Command}
+use Rattle.pldm_requester.specs.Arrivals.{Arrival, Drop, Part, Answer}
+use Rattle.pldm_requester.specs.Courses as courses
+use Rattle.pldm_requester.specs.Numbering.{message_of, opened_as, route_of}
+use Rattle.pldm_requester.specs.Slots.{Station, coded_station}
+use Rattle.pldm_requester.specs.Steps.{Held, opening_answer}
+use Rattle.mctp_schedule.specs.declared.askers.Answered.{Answered}
+use Rattle.mctp_schedule.specs.declared.askers.Sent.{Sent}
+
+-- a requester, and the numbers of its requests over all requests
+pub record Side : Type 0 where
+  pub station : Station
+  pub numbers : List ℕ
+
+-- it is stored as its parts
+abbrev pub coded_side : Coded Side
+coded_side =
+    code_by (Station × List ℕ) (coded× coded_station (coded_list coded_ℕ))
+    (λ s. (s.station, s.numbers))
+    (λ c. record { station = c.0; numbers = c.1 })
+    (λ _. refl)
+
+-- the bytes of the one packet of a request's message
+abbrev pub packet_bytes : ℕ → ℕ → ℕ → List ℕ → List ℕ
+packet_bytes own device number message = written (packet (route_of own device number) true true 0 message)
+
+-- a request that was opened for a command
+pub record IsSent (held : Held) (moment : ℕ) (command : Command) (sent : Sent) : Type 0 where
+  pub opened : opening_answer held moment ≡ Ok (opened_as held.count)
+  pub own : sent.own ≡ held.count
+  pub message : sent.message.items ≡ message_of held.count command
+  pub packet : sent.packet.items ≡ packet_bytes held.own held.device held.count (message_of held.count command)
+  pub readable : IsCommand command
+
+-- a request is remembered, and has one packet
+abbrev pub HasPacket : Held → ℕ → Type 0
+HasPacket held number =
+    (bytes : List ℕ) × (option_map (λ memo. memo.packets) (held.remembered number) ≡ Some (bytes ∷ []))
+
+-- a request is remembered, and was answered
+abbrev pub HasAnswer : Held → ℕ → Type 0
+HasAnswer held number =
+    (message : List ℕ)
+    × (option_map (λ memo. memo.course.standing) (held.remembered number) ≡ Some (courses.Answered message))
+
+-- the request that a packet answered is told by its number over all requests, with its answer
+abbrev pub TellsAnswer : List ℕ → Arrival → Option Answered → Type 0
+TellsAnswer numbers (Drop reason) answered = answered ≡ None
+TellsAnswer numbers Part answered = answered ≡ None
+TellsAnswer numbers (Answer number message) answered =
+    (a : Answered) × (answered ≡ Some a) × (a.number ≡ slice_index numbers number) × (a.message.items ≡ message)

@@ -1,0 +1,63 @@
+-- What a run writes down of its requests and their answers.
+use Rattle.std.specs.Prelude.{◌≡◌, ℕ, Bool, true, false, List, [], ◌∷◌, ◌==◌, Option, Some, None, option_and_then, slice_get, if◌then◌else◌, refl}
+use Rattle.std.specs.List.{list_any}
+use Rattle.std.specs.Coded.{Coded, code_by, coded×, coded_ℕ, coded_list, coded_option}
+use Rattle.pldm_requester.specs.Courses as courses
+use Rattle.pldm_responder.specs.declared.outcome.Outcome.{Outcome}
+use Rattle.pldm_responder.specs.declared.outcome.Outcome.TheVariants as outcomes
+use Rattle.mctp_schedule.specs.Requests.{Request, with_standing}
+use Rattle.mctp_schedule.specs.declared.askers.Answered.{Answered}
+use Rattle.mctp_schedule.specs.declared.entry.Entry.{Entry}
+use Rattle.mctp_schedule.specs.declared.entry.Entry.TheVariants.{Nothing, Opened, NotOpened, Due, Delivered, Received, Sensed, Restarted}
+
+-- the packet of a request, and the places of the latest reply and of the latest busy answer among the entries
+pub record Carried : Type 0 where
+  pub packet : List ℕ
+  pub reply : Option ℕ
+  pub busy : Option ℕ
+
+-- it is stored as its parts
+abbrev pub coded_carried : Coded Carried
+coded_carried =
+    code_by (List ℕ × (Option ℕ × Option ℕ))
+    (coded× (coded_list coded_ℕ) (coded× (coded_option coded_ℕ) (coded_option coded_ℕ)))
+    (λ c. (c.packet, (c.reply, c.busy)))
+    (λ c. record { packet = c.0; reply = c.1.0; busy = c.1.1 })
+    (λ _. refl)
+
+-- the latest answer, busy or not, stands at this place
+abbrev pub answers_at : ℕ → Bool → Carried → Carried
+answers_at place true carried = record { packet = carried.packet; reply = carried.reply; busy = Some place }
+answers_at place false carried = record { packet = carried.packet; reply = Some place; busy = carried.busy }
+
+-- the packets of an answer
+abbrev pub packets_of_outcome : Outcome → Option (List (List ℕ))
+packets_of_outcome (outcomes.Dropped reason) = None
+packets_of_outcome outcomes.Partial = None
+packets_of_outcome (outcomes.Answered fresh changed packets) = Some packets
+
+abbrev pub packets_of_entry : Entry → Option (List (List ℕ))
+packets_of_entry (Delivered busy outcome) = packets_of_outcome outcome
+packets_of_entry _ = None
+
+-- the packets of the answer at this place among the entries
+abbrev pub packets_in : List Entry → Option ℕ → Option (List (List ℕ))
+packets_in entries None = None
+packets_in entries (Some place) = option_and_then packets_of_entry (slice_get entries place)
+
+-- a request that was performed
+abbrev pub fresh_numbers : ℕ → Outcome → List ℕ
+fresh_numbers number (outcomes.Dropped reason) = []
+fresh_numbers number outcomes.Partial = []
+fresh_numbers number (outcomes.Answered fresh changed packets) = if fresh then number ∷ [] else []
+
+-- how a request stands after those of these numbers were given up
+abbrev pub stands_after : List ℕ → ℕ → Request → Request
+stands_after given_up number request =
+    if list_any (λ n. n == number) given_up then with_standing courses.GaveUp request else request
+
+-- and how it stands after the one that was answered
+abbrev pub answered_as : Option Answered → ℕ → Request → Request
+answered_as None number request = request
+answered_as (Some answered) number request =
+    if number == answered.number then with_standing (courses.Answered answered.message.items) request else request

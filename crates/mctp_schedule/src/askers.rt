@@ -1,0 +1,196 @@
+//! The requesters of a run.
+
+ghost use Rattle.std.specs.Prelude.{◌≡◌, ◌≤◌, ◌<◌, ◌∷◌, ◌++◌, [], Ok, Err, Some, IfOk, IfErr, OnOk, slice_index, length, option_map};
+ghost use Rattle.std.specs.List.{AllByRecursion};
+ghost use Rattle.pldm_requester.specs.Courses as courses;
+ghost use Rattle.pldm_requester.specs.Steps.{IsHeld, again_at, arrived_by, given_up_at, got_at, opened_held, opening_answer, passed, received_held, ticked_held};
+ghost use Rattle.pldm_requester.specs.Slots.{held_of};
+ghost use Rattle.mctp_schedule.specs.Askers.{HasAnswer, HasPacket, IsSent, TellsAnswer};
+ghost use Rattle.mctp_schedule.specs.Entries.{numbered};
+
+use arrayvec::ArrayVec;
+use mctp_packet::{Memory, Moment};
+use pldm_requester::{Due, Got, MOST_OPEN, OpenFault, Requester, Status};
+use pldm_wire::{Command, write_command};
+use std::alloc::Global;
+use std::marker::Model;
+
+/// A requester, and the numbers of its requests over all requests.
+#[derive(Debug, Drop)]
+pub(crate) struct Asker {
+    requester: Requester,
+    numbers: Vec<u64>,
+}
+
+impl Model for Asker {
+    ghost use Rattle.mctp_schedule.specs.Askers.{Side, coded_side};
+
+    ghost Value = { Side };
+
+    ghost coded = { coded_side };
+
+    ghost view = { λ a. record { station = a.requester; numbers = a.numbers.items } };
+}
+
+/// A request that an asker opened.
+#[derive(Drop)]
+pub(crate) struct Sent {
+    /// Its number, counted from 0 over the requests of its requester.
+    pub(crate) own: u64,
+    /// Its message.
+    pub(crate) message: Vec<u8>,
+    /// The bytes of its packet.
+    pub(crate) packet: Vec<u8>,
+}
+
+/// What came of a packet that an asker received.
+#[derive(Drop)]
+pub(crate) struct Taken {
+    pub(crate) got: Got,
+    /// The request that it answered.
+    pub(crate) answered: Option<Answered>,
+}
+
+/// A request that was answered.
+#[derive(Drop)]
+pub(crate) struct Answered {
+    /// Its number over all requests.
+    pub(crate) number: u64,
+    /// The message that answered it.
+    pub(crate) message: Vec<u8>,
+}
+
+impl Asker {
+    /// An asker that opened no request yet.
+    pub(crate) fn new(alloc: Global, requester: Requester) -> Asker
+        ensures { result ≡ record { station = requester; numbers = [] } }
+    {
+        Asker {
+            requester,
+            numbers: Vec::new(alloc),
+        }
+    }
+
+    /// Opens a request, which has the number `number` over all requests.
+    pub(crate) fn open(
+        &mut self,
+        alloc: Global,
+        now: Moment,
+        command: &Command,
+        number: u64,
+    ) -> Result<Result<Sent, OpenFault>, Memory>
+        requires { (held_of self.old.station).last ≤ now }
+        ensures sent { IfOk result (λ opening. IfOk opening (IsSent (held_of self.old.station) now command.now)) }
+        ensures held { IfOk result (λ opening. OnOk opening (IsHeld (held_of self.new.station) (opened_held (held_of self.old.station) now command.now))) }
+        ensures numbers { IfOk result (λ opening. OnOk opening (self.new.numbers ≡ self.old.numbers ++ number ∷ [])) }
+        ensures refused { IfOk result (λ opening. IfErr opening (λ fault. opening_answer (held_of self.old.station) now ≡ Err fault)) }
+        ensures same { IfOk result (λ opening. IfErr opening (λ fault. IsHeld (held_of self.new.station) (held_of self.old.station) × (self.new.numbers ≡ self.old.numbers))) }
+    {
+        pldm_wire::laws::messages_fit();
+        let opened = match self.requester.open(now, command) {
+            Ok(opened) => opened,
+            Err(OpenFault::Memory) => return Err(Memory),
+            Err(fault) => return Ok(Err(fault)),
+        };
+        let message = Vec::from_slice(alloc, &write_command(opened.id, command))?;
+        let packet = Vec::from_slice(alloc, self.packet(opened.number))?;
+        self.numbers.push(number)?;
+        Ok(Ok(Sent {
+            own: opened.number,
+            message,
+            packet,
+        }))
+    }
+
+    /// The packet of a request that is remembered.
+    fn packet(&self, own: u64) -> &[u8]
+        requires { HasPacket (held_of self.now.station) own }
+        ensures { option_map (λ memo. memo.packets) ((held_of self.now.station).remembered own) ≡ Some (result.now ∷ []) }
+    {
+        match self.requester.packets(own) {
+            Some(packets) => packets.get(0).unwrap(),
+            None => unreachable!(),
+        }
+    }
+
+    /// Tells what is due, by the numbers over all requests.
+    pub(crate) fn tick(&mut self, now: Moment) -> Due
+        requires moment { (held_of self.old.station).last ≤ now }
+        requires all { length self.old.numbers ≡ (held_of self.old.station).count }
+        ensures again { result.again.items ≡ numbered self.old.numbers (again_at (held_of self.old.station) now) }
+        ensures given_up { result.given_up.items ≡ numbered self.old.numbers (given_up_at (held_of self.old.station) now) }
+        ensures held { IsHeld (held_of self.new.station) (ticked_held (held_of self.old.station) now) }
+        ensures numbers { self.new.numbers ≡ self.old.numbers }
+    {
+        let due = self.requester.tick(now);
+        Due {
+            again: numbered(&self.numbers, &due.again),
+            given_up: numbered(&self.numbers, &due.given_up),
+        }
+    }
+
+    /// How many requests it opened.
+    pub(crate) fn count(&self) -> u64
+        ensures { result ≡ (held_of self.now.station).count }
+    {
+        self.requester.count()
+    }
+
+    /// Takes the bytes of a packet.
+    pub(crate) fn receive(
+        &mut self,
+        alloc: Global,
+        now: Moment,
+        bytes: &[u8],
+    ) -> Result<Taken, Memory>
+        requires moment { (held_of self.old.station).last ≤ now }
+        requires all { length self.old.numbers ≡ (held_of self.old.station).count }
+        ensures got { IfOk result (λ taken. taken.got ≡ got_at (held_of self.old.station) bytes.now) }
+        ensures answered { IfOk result (λ taken. TellsAnswer self.old.numbers (arrived_by (held_of self.old.station) (passed (held_of self.old.station) bytes.now)) taken.answered) }
+        ensures held { OnOk result (IsHeld (held_of self.new.station) (received_held (held_of self.old.station) now bytes.now)) }
+        ensures numbers { OnOk result (self.new.numbers ≡ self.old.numbers) }
+    {
+        let got = self.requester.receive(now, bytes)?;
+        let Got::Answered(own) = got else {
+            return Ok(Taken {
+                got,
+                answered: None,
+            });
+        };
+        let answered = self.answered(alloc, own)?;
+        Ok(Taken {
+            got,
+            answered: Some(answered),
+        })
+    }
+
+    /// A request that has been answered.
+    fn answered(&self, alloc: Global, own: u64) -> Result<Answered, Memory>
+        requires answer { HasAnswer (held_of self.now.station) own }
+        requires one { own < length self.now.numbers }
+        ensures number { IfOk result (λ answered. answered.number ≡ slice_index self.now.numbers own) }
+        ensures message { IfOk result (λ answered. option_map (λ memo. memo.course.standing) ((held_of self.now.station).remembered own) ≡ Some (courses.Answered answered.message.items)) }
+    {
+        let number = self.numbers[own as usize];
+        match self.requester.status(own) {
+            Some(Status::Answered(message)) => {
+                let message = Vec::from_slice(alloc, message)?;
+                Ok(Answered { number, message })
+            }
+            _ => unreachable!(),
+        }
+    }
+}
+
+/// Own numbers as numbers over all requests.
+fn numbered(numbers: &[u64], owns: &[u64]) -> ArrayVec<u64, MOST_OPEN>
+    requires some { AllByRecursion (λ own. own < length numbers.now) owns.now }
+    requires few { length owns.now ≤ MOST_OPEN }
+    ensures { result.items ≡ numbered numbers.now owns.now }
+{
+    let mut all = ArrayVec::new();
+    for own in owns {
+        all.push(numbers[*own as usize]);
+    }
+    all
+}

@@ -1,0 +1,216 @@
+//! What a run writes down as it goes.
+
+ghost use Rattle.std.specs.Prelude.{◌≡◌, ◌<◌, ◌++◌, ◌∷◌, [], ◌&&◌, ◌==◌, true, ℕ, None, OnOk, IfSome, length, option_map, slice_get, if◌then◌else◌};
+ghost use Rattle.std.specs.List.{list_any};
+ghost use Rattle.mctp_schedule.specs.Journals.{answered_as, answers_at, fresh_numbers, packets_in, stands_after};
+ghost use Rattle.mctp_schedule.specs.Requests.{begun};
+
+use crate::askers::{Answered, Sent};
+use crate::{Entry, OpenedRequest};
+use mctp_packet::{Eid, Memory, Moment, Packets};
+use pldm_requester::{Due, Got};
+use pldm_responder::Outcome;
+use std::alloc::Global;
+use std::marker::Model;
+
+/// The packet of a request, and where the latest answers to it stand among the entries.
+#[derive(Debug, Drop)]
+pub(crate) struct Traffic {
+    packet: Vec<u8>,
+    reply: Option<usize>,
+    busy: Option<usize>,
+}
+
+impl Model for Traffic {
+    ghost use Rattle.mctp_schedule.specs.Journals.{Carried, coded_carried};
+
+    ghost Value = { Carried };
+
+    ghost coded = { coded_carried };
+
+    ghost view = { λ t. record { packet = t.packet.items; reply = t.reply; busy = t.busy } };
+}
+
+impl Traffic {
+    /// A request that has no answer yet.
+    fn new(packet: Vec<u8>) -> Traffic
+        ensures { result ≡ record { packet = packet.items; reply = None; busy = None } }
+    {
+        Traffic {
+            packet,
+            reply: None,
+            busy: None,
+        }
+    }
+
+    /// The bytes of the request's packet.
+    pub(crate) fn packet(&self) -> &[u8]
+        ensures { result.now ≡ self.now.packet }
+    {
+        &self.packet
+    }
+
+    /// The entry with the latest reply, busy answers aside.
+    pub(crate) fn reply(&self) -> Option<usize>
+        ensures { result ≡ self.now.reply }
+    {
+        self.reply
+    }
+
+    /// The entry with the latest busy answer.
+    pub(crate) fn busy(&self) -> Option<usize>
+        ensures { result ≡ self.now.busy }
+    {
+        self.busy
+    }
+
+    /// The latest answer stands at this place among the entries.
+    fn answer_at(&mut self, place: usize, busy: bool)
+        ensures { self.new ≡ answers_at place busy self.old }
+    {
+        if busy {
+            self.busy = Some(place);
+        } else {
+            self.reply = Some(place);
+        }
+    }
+}
+
+/// The entries so far, and what is known of each request by its number.
+#[derive(Debug, Drop)]
+pub(crate) struct Journal {
+    pub(crate) entries: Vec<Entry>,
+    pub(crate) requests: Vec<OpenedRequest>,
+    pub(crate) traffic: Vec<Traffic>,
+    /// The requests that were performed, in that order.
+    pub(crate) order: Vec<u64>,
+    /// Whether all steps so far were timely.
+    pub(crate) timely: bool,
+}
+
+impl Journal {
+    /// A journal of no step.
+    pub(crate) fn new(alloc: Global) -> Journal
+        ensures entries { result.entries.items ≡ [] }
+        ensures requests { result.requests.items ≡ [] }
+        ensures traffic { result.traffic.items ≡ [] }
+        ensures order { result.order.items ≡ [] }
+        ensures timely { result.timely ≡ true }
+    {
+        Journal {
+            entries: Vec::new(alloc),
+            requests: Vec::new(alloc),
+            traffic: Vec::new(alloc),
+            order: Vec::new(alloc),
+            timely: true,
+        }
+    }
+
+    /// Writes down what came of a step that told nothing of a request.
+    pub(crate) fn enter(&mut self, entry: Entry) -> Result<(), Memory>
+        ensures entries { OnOk result (self.new.entries.items ≡ self.old.entries.items ++ entry ∷ []) }
+        ensures requests { OnOk result (self.new.requests.items ≡ self.old.requests.items) }
+        ensures traffic { OnOk result (self.new.traffic.items ≡ self.old.traffic.items) }
+        ensures order { OnOk result (self.new.order.items ≡ self.old.order.items) }
+        ensures timely { OnOk result (self.new.timely ≡ self.old.timely) }
+    {
+        self.entries.push(entry)?;
+        Ok(())
+    }
+
+    /// Writes down that a request was opened.
+    pub(crate) fn open(&mut self, requester: Eid, opening: Moment, sent: Sent) -> Result<(), Memory>
+        ensures entries { OnOk result (self.new.entries.items ≡ self.old.entries.items ++ Entry.Opened (length self.old.requests.items) ∷ []) }
+        ensures requests { OnOk result (self.new.requests.items ≡ self.old.requests.items ++ begun requester sent.own opening sent.message.items ∷ []) }
+        ensures traffic { OnOk result (self.new.traffic.items ≡ self.old.traffic.items ++ (record { packet = sent.packet.items; reply = None; busy = None }) ∷ []) }
+        ensures order { OnOk result (self.new.order.items ≡ self.old.order.items) }
+        ensures timely { OnOk result (self.new.timely ≡ self.old.timely) }
+    {
+        let number = self.requests.len() as u64;
+        let Sent { own, message, packet } = sent;
+        self.requests.push(OpenedRequest::new(requester, own, opening, message))?;
+        self.traffic.push(Traffic::new(packet))?;
+        self.enter(Entry::Opened(number))
+    }
+
+    /// Writes down what a tick found due.
+    pub(crate) fn tick(&mut self, due: Due) -> Result<(), Memory>
+        requires { (number : ℕ) → list_any (λ n. n == number) due.given_up.items ≡ true → number < length self.old.requests.items }
+        ensures entries { OnOk result (self.new.entries.items ≡ self.old.entries.items ++ Entry.Due due ∷ []) }
+        ensures requests { OnOk result ((number : ℕ) → slice_get self.new.requests.items number ≡ option_map (stands_after due.given_up.items number) (slice_get self.old.requests.items number)) }
+        ensures traffic { OnOk result (self.new.traffic.items ≡ self.old.traffic.items) }
+        ensures order { OnOk result (self.new.order.items ≡ self.old.order.items) }
+        ensures timely { OnOk result (self.new.timely ≡ self.old.timely) }
+    {
+        give_up(&mut self.requests, &due.given_up);
+        self.enter(Entry::Due(due))
+    }
+
+    /// Writes down what became of the packet of a request.
+    pub(crate) fn deliver(
+        &mut self,
+        number: u64,
+        in_time: bool,
+        busy: bool,
+        outcome: Outcome,
+    ) -> Result<(), Memory>
+        requires { number < length self.old.traffic.items }
+        ensures entries { OnOk result (self.new.entries.items ≡ self.old.entries.items ++ Entry.Delivered busy outcome ∷ []) }
+        ensures requests { OnOk result (self.new.requests.items ≡ self.old.requests.items) }
+        ensures traffic { OnOk result ((k : ℕ) → slice_get self.new.traffic.items k ≡ option_map (λ t. if k == number then answers_at (length self.old.entries.items) busy t else t) (slice_get self.old.traffic.items k)) }
+        ensures order { OnOk result (self.new.order.items ≡ self.old.order.items ++ fresh_numbers number outcome) }
+        ensures timely { OnOk result (self.new.timely ≡ (in_time && self.old.timely)) }
+    {
+        let place = self.entries.len();
+        self.traffic[number as usize].answer_at(place, busy);
+        if let Outcome::Answered { fresh: true, .. } = &outcome {
+            self.order.push(number)?;
+        }
+        self.timely = in_time && self.timely;
+        self.enter(Entry::Delivered { busy, outcome })
+    }
+
+    /// Writes down what a requester got.
+    pub(crate) fn receive(
+        &mut self,
+        in_time: bool,
+        got: Got,
+        answered: Option<Answered>,
+    ) -> Result<(), Memory>
+        requires { IfSome answered (λ a. a.number < length self.old.requests.items) }
+        ensures entries { OnOk result (self.new.entries.items ≡ self.old.entries.items ++ Entry.Received got ∷ []) }
+        ensures requests { OnOk result ((k : ℕ) → slice_get self.new.requests.items k ≡ option_map (answered_as answered k) (slice_get self.old.requests.items k)) }
+        ensures traffic { OnOk result (self.new.traffic.items ≡ self.old.traffic.items) }
+        ensures order { OnOk result (self.new.order.items ≡ self.old.order.items) }
+        ensures timely { OnOk result (self.new.timely ≡ (in_time && self.old.timely)) }
+    {
+        if let Some(Answered { number, message }) = answered {
+            self.requests[number as usize].answer(message);
+        }
+        self.timely = in_time && self.timely;
+        self.enter(Entry::Received(got))
+    }
+}
+
+/// These requests are given up.
+fn give_up(requests: &mut [OpenedRequest], numbers: &[u64])
+    requires { (number : ℕ) → list_any (λ n. n == number) numbers.now ≡ true → number < length requests.old }
+    ensures { (number : ℕ) → slice_get requests.new number ≡ option_map (stands_after numbers.now number) (slice_get requests.old number) }
+{
+    for number in numbers {
+        requests[*number as usize].give_up();
+    }
+}
+
+/// The packets of the answer that an entry tells.
+pub(crate) fn packets_in(entries: &[Entry], place: Option<usize>) -> Option<&Packets>
+    ensures { option_map (λ packets. packets.now) result ≡ packets_in entries.now place }
+{
+    match entries.get(place?)? {
+        Entry::Delivered {
+            outcome: Outcome::Answered { packets, .. },
+            ..
+        } => Some(packets),
+        _ => None,
+    }
+}

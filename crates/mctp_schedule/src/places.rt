@@ -1,0 +1,80 @@
+//! Where the requesters of a run stand.
+
+ghost use Rattle.std.specs.Prelude.{◌≡◌, ◌⊎◌, ◌+◌, ◌∷◌, [], None, Some, IfOk, IfErr, length};
+ghost use Rattle.pldm_requester.specs.Slots.{held_of};
+ghost use Rattle.pldm_requester.specs.Steps.{IsHeld, held_at_first};
+ghost use Rattle.pldm_requester.specs.Timings.{timing_fault};
+ghost use Rattle.mctp_schedule.specs.Places.{BeginEach};
+ghost use Rattle.mctp_schedule.specs.RunFaults.{refusal};
+ghost use Rattle.mctp_schedule.specs.Schedules.{AreDistinct};
+ghost use Rattle.mctp_schedule.specs.Worlds.{timing_from};
+
+use crate::askers::Asker;
+use crate::{RequesterLine, RunFault};
+use mctp_packet::{Eid, Keep, LAST_EID, Memory};
+use pldm_requester::{Requester, Timing};
+use std::alloc::Global;
+
+/// A place for each endpoint ID, from 0 on.
+pub(crate) type Places = Vec<Option<Asker>>;
+
+/// The requesters of these lines, for the device at the endpoint `device`, each in the place of its
+/// endpoint ID.
+///
+/// # Errors
+///
+/// The first line whose timing is refused, or `Memory`.
+pub(crate) fn begin_requesters(
+    alloc: Global,
+    device: Eid,
+    keep: Keep,
+    lines: &[RequesterLine],
+) -> Result<Places, RunFault>
+    requires { AreDistinct lines.now }
+    ensures ok { IfOk result (λ places. refusal device keep lines.now ≡ None) }
+    ensures begin { IfOk result (λ places. BeginEach device keep lines.now places.items) }
+    ensures err { IfErr result (λ fault. (fault ≡ RunFault.Memory) ⊎ (refusal device keep lines.now ≡ Some fault)) }
+{
+    let Ok(mut places) = empty_places(alloc) else {
+        return Err(RunFault::Memory);
+    };
+    for line in lines {
+        let requester = begin_requester(alloc, device, keep, line)?;
+        places[usize::from(line.eid.get())] = Some(Asker::new(alloc, requester));
+    }
+    Ok(places)
+}
+
+/// A place for each endpoint ID, with no requester yet.
+fn empty_places(alloc: Global) -> Result<Places, Memory>
+    ensures { IfOk result (λ places. length places.items ≡ LAST_EID + 1) }
+{
+    let count = usize::from(LAST_EID) + 1;
+    let mut places = Vec::with_capacity(alloc, count)?;
+    for _ in 0..count {
+        places.push(None)?;
+    }
+    Ok(places)
+}
+
+/// The requester of a line.
+fn begin_requester(
+    alloc: Global,
+    device: Eid,
+    keep: Keep,
+    line: &RequesterLine,
+) -> Result<Requester, RunFault>
+    ensures held { IfOk result (λ requester. IsHeld (held_of requester) (held_at_first line.now.eid device (timing_from keep (Some line.now)))) }
+    ensures ok { IfOk result (λ requester. timing_fault line.now.eid device (timing_from keep (Some line.now)) ≡ None) }
+    ensures err { IfErr result (λ fault. refusal device keep (line.now ∷ []) ≡ Some fault) }
+{
+    let timing = Timing {
+        keep,
+        timeout: line.timeout,
+        tries: line.tries,
+    };
+    match Requester::new(alloc, line.eid, device, timing) {
+        Ok(requester) => Ok(requester),
+        Err(fault) => Err(RunFault::Timing(line.eid, fault)),
+    }
+}
