@@ -28,14 +28,9 @@ use Rattle.pldm_requester.specs.declared.opened.Opened.{Opened}
 use Rattle.pldm_requester.specs.declared.opened.OpenFault.{OpenFault}
 use Rattle.mctp_schedule.specs.Askers.{HasAnswer, TellsAnswer}
 use Rattle.mctp_schedule.specs.declared.askers.Answered.{Answered}
+use Rattle.mctp_schedule.proofs.ListPlaces.{take_all}
 
 -- ---- a message of one piece is one packet
-take_all : {X : Type 0} (n : ℕ) (xs : List X) → length xs ≤ n → take n xs ≡ xs
-take_all zero [] h = refl
-take_all (suc n) [] h = refl
-take_all zero (x ∷ xs) h = absurd (omega arith)
-take_all (suc n) (x ∷ xs) h = ap (λ ys. x ∷ ys) (take_all n xs (omega arith))
-
 abbrev counted : Route → List ℕ → ℕ → List (List ℕ)
 counted route message n =
     map (λ i. written (packet route (i == 0) (i + 1 == n) (i % SEQUENCE_NUMBERS) (piece message i))) (range_with_len 0 n)

@@ -22,3 +22,6 @@ pub mod TimelyLogs
 pub mod TimelyTests
 pub mod WorldRows
 pub mod AskerCalls
+pub mod GivenUpRequests
+pub mod ListPlaces
+pub mod BegunRequesters

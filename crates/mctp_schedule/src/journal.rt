@@ -142,8 +142,22 @@ impl Journal {
         ensures order { OnOk result (self.new.order.items ≡ self.old.order.items) }
         ensures timely { OnOk result (self.new.timely ≡ self.old.timely) }
     {
-        give_up(&mut self.requests, &due.given_up);
+        self.give_up(&due.given_up);
         self.enter(Entry::Due(due))
+    }
+
+    /// The requests of these numbers are given up.
+    fn give_up(&mut self, numbers: &[u64])
+        requires { (number : ℕ) → list_any (λ n. n == number) numbers.now ≡ true → number < length self.old.requests.items }
+        ensures requests { (number : ℕ) → slice_get self.new.requests.items number ≡ option_map (stands_after numbers.now number) (slice_get self.old.requests.items number) }
+        ensures entries { self.new.entries ≡ self.old.entries }
+        ensures traffic { self.new.traffic ≡ self.old.traffic }
+        ensures order { self.new.order ≡ self.old.order }
+        ensures timely { self.new.timely ≡ self.old.timely }
+    {
+        for number in numbers {
+            self.requests[*number as usize].give_up();
+        }
     }
 
     /// Writes down what became of the packet of a request.
@@ -189,16 +203,6 @@ impl Journal {
         }
         self.timely = in_time && self.timely;
         self.enter(Entry::Received(got))
-    }
-}
-
-/// These requests are given up.
-fn give_up(requests: &mut [OpenedRequest], numbers: &[u64])
-    requires { (number : ℕ) → list_any (λ n. n == number) numbers.now ≡ true → number < length requests.old }
-    ensures { (number : ℕ) → slice_get requests.new number ≡ option_map (stands_after numbers.now number) (slice_get requests.old number) }
-{
-    for number in numbers {
-        requests[*number as usize].give_up();
     }
 }
 
