@@ -103,12 +103,11 @@ module _ (device keep : ℕ) (lines : List RequesterLine) where
           or_false false = refl
 
       go : (e ≡ line.eid) ⊎ (e ≡ line.eid → ⊥) → Here
-      go (inl same) =
-          (
-            side,
-            ap (side_at (slice_set places line.eid (Some side))) same ∙ or_set_at places line.eid (Some side) None below,
-            subst (λ k. Begins device keep lines k side) (sym same) begins,
-          )
+      go (inl same) = (
+        side,
+        ap (side_at (slice_set places line.eid (Some side))) same ∙ or_set_at places line.eid (Some side) None below,
+        subst (λ k. Begins device keep lines k side) (sym same) begins,
+      )
       go (inr other) =
           let was = begun e (before other) in
           (was.0, or_set_other places line.eid e (Some side) None other ∙ was.1, was.2)

@@ -25,3 +25,6 @@ pub mod AskerCalls
 pub mod GivenUpRequests
 pub mod ListPlaces
 pub mod BegunRequesters
+pub mod AskedRequests
+pub mod RunningFrames
+pub mod QuietSteps

@@ -45,6 +45,17 @@ abbrev pub packets_in : List Entry → Option ℕ → Option (List (List ℕ))
 packets_in entries None = None
 packets_in entries (Some place) = option_and_then packets_of_entry (slice_get entries place)
 
+-- the place of the latest answer, a busy one or not
+abbrev pub place_of : Bool → Carried → Option ℕ
+place_of true carried = carried.busy
+place_of false carried = carried.reply
+
+-- a packet of the latest answer, a busy one or not
+abbrev pub packet_at : List Entry → ℕ → Bool → Option Carried → Option (List ℕ)
+packet_at entries packet busy None = None
+packet_at entries packet busy (Some carried) =
+    option_and_then (λ packets. slice_get packets packet) (packets_in entries (place_of busy carried))
+
 -- a request that was performed
 abbrev pub fresh_numbers : ℕ → Outcome → List ℕ
 fresh_numbers number (outcomes.Dropped reason) = []

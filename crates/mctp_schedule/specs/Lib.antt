@@ -15,6 +15,7 @@ pub mod OncePerformed
 pub mod Places
 pub mod Requests
 pub mod RunFaults
+pub mod Running
 pub mod Schedules
 pub mod WordValues
 pub mod Worlds

@@ -1,6 +1,11 @@
 //! Both ends over a schedule.
 
-use crate::journal::{Journal, packets_in};
+ghost use Rattle.std.specs.Prelude.{◌≡◌, OnOk};
+ghost use Rattle.pldm_responder.specs.Performing.{rules_of};
+ghost use Rattle.mctp_schedule.specs.Running.{CanGoOn, GoesOn, answer_action};
+ghost use Rattle.mctp_schedule.specs.declared.step.Action.TheVariants as actions;
+
+use crate::journal::Journal;
 use crate::places::{Places, begin_requesters};
 use crate::{Action, Entry, OpenedRequest, RunFault, Schedule, Step};
 use mctp_packet::{Eid, Keep, Memory, Moment, TAGS};
@@ -56,8 +61,18 @@ pub fn run<P: Platform>(
             return Err(RunFault::Memory);
         }
     }
-    let Ends { responder, journal, .. } = ends;
-    let Journal { entries, requests, order, timely, .. } = journal;
+    let Ends {
+        responder,
+        journal,
+        ..
+    } = ends;
+    let Journal {
+        entries,
+        requests,
+        order,
+        timely,
+        ..
+    } = journal;
     Ok(Report {
         entries,
         requests,
@@ -79,108 +94,125 @@ struct Ends<P: Platform> {
 
 impl<P: Platform> Ends<P> {
     /// Takes a step.
-    fn take(&mut self, step: &Step) -> Result<(), Memory> {
+    fn take(&mut self, step: &Step) -> Result<(), Memory>
+        requires { CanGoOn (rules_of P.answer P.after P.sensed) self.old.keep self.old.responder self.old.places.items self.old.journal step.now }
+        ensures runs { OnOk result (GoesOn (rules_of P.answer P.after P.sensed) self.old.keep step.now self.old.responder self.old.places.items self.old.journal self.new.responder self.new.places.items self.new.journal) }
+        ensures keep { self.new.keep ≡ self.old.keep }
+    {
         let now = step.moment;
         match &step.action {
             Action::Open { requester, command } => self.open(now, *requester, command),
             Action::Tick { requester } => self.tick(now, *requester),
             Action::Request { number } => self.deliver(now, *number),
-            Action::Reply { number, packet } => self.reply(now, *number, usize::from(*packet)),
-            Action::Sense { sensor, value } => self.sense(*sensor, *value),
+            Action::Reply { number, packet } => self.hand(now, *number, *packet, false),
+            Action::Sense { sensor, value } => self.sense(now, *sensor, *value),
             Action::Restart => self.restart(now),
-            Action::Busy { number } => self.busy(now, *number),
+            Action::Busy { number } => self.hand(now, *number, 0, true),
         }
     }
 
     /// A requester opens a request.
-    fn open(&mut self, now: Moment, eid: Eid, command: &Command) -> Result<(), Memory> {
+    fn open(&mut self, now: Moment, eid: Eid, command: &Command) -> Result<(), Memory>
+        requires { CanGoOn (rules_of P.answer P.after P.sensed) self.old.keep self.old.responder self.old.places.items self.old.journal (record { moment = now; action = actions.Open eid command.now }) }
+        ensures runs { OnOk result (GoesOn (rules_of P.answer P.after P.sensed) self.old.keep (record { moment = now; action = actions.Open eid command.now }) self.old.responder self.old.places.items self.old.journal self.new.responder self.new.places.items self.new.journal) }
+        ensures keep { self.new.keep ≡ self.old.keep }
+    {
+        pldm_requester::laws::looks_back();
         let number = self.journal.requests.len() as u64;
         let opening = match &mut self.places[usize::from(eid.get())] {
             Some(asker) => asker.open(self.alloc, now, command, number)?,
             None => unreachable!(),
         };
         match opening {
-            Ok(sent) => self.journal.open(eid, now, sent),
-            Err(fault) => self.journal.enter(Entry::NotOpened(fault)),
+            Ok(sent) => self.journal.open(eid, now, sent)?,
+            Err(fault) => self.journal.enter(Entry::NotOpened(fault))?,
         }
+        Ok(())
     }
 
     /// A requester sends again and gives up what is due.
-    fn tick(&mut self, now: Moment, eid: Eid) -> Result<(), Memory> {
+    fn tick(&mut self, now: Moment, eid: Eid) -> Result<(), Memory>
+        requires { CanGoOn (rules_of P.answer P.after P.sensed) self.old.keep self.old.responder self.old.places.items self.old.journal (record { moment = now; action = actions.Tick eid }) }
+        ensures runs { OnOk result (GoesOn (rules_of P.answer P.after P.sensed) self.old.keep (record { moment = now; action = actions.Tick eid }) self.old.responder self.old.places.items self.old.journal self.new.responder self.new.places.items self.new.journal) }
+        ensures keep { self.new.keep ≡ self.old.keep }
+    {
+        pldm_requester::laws::looks_back();
         let due = match &mut self.places[usize::from(eid.get())] {
             Some(asker) => asker.tick(now),
             None => unreachable!(),
         };
-        self.journal.tick(due)
+        self.journal.tick(due)?;
+        Ok(())
     }
 
     /// The packet of a request comes to the device.
-    fn deliver(&mut self, now: Moment, number: u64) -> Result<(), Memory> {
+    fn deliver(&mut self, now: Moment, number: u64) -> Result<(), Memory>
+        requires { CanGoOn (rules_of P.answer P.after P.sensed) self.old.keep self.old.responder self.old.places.items self.old.journal (record { moment = now; action = actions.Request number }) }
+        ensures runs { OnOk result (GoesOn (rules_of P.answer P.after P.sensed) self.old.keep (record { moment = now; action = actions.Request number }) self.old.responder self.old.places.items self.old.journal self.new.responder self.new.places.items self.new.journal) }
+        ensures keep { self.new.keep ≡ self.old.keep }
+    {
+        pldm_responder::laws::looks_back::<P>();
+        mctp_packet::laws::bytes_spell_one_packet();
+        mctp_packet::laws::reading_is_spelling();
         if number >= self.journal.requests.len() as u64 {
-            return self.journal.enter(Entry::Nothing);
+            self.journal.enter(Entry::Nothing)?;
+            return Ok(());
         }
         let opening = self.journal.requests[number as usize].opening();
         let in_time = now.get() < opening.get() + u64::from(self.keep.get());
         let busy = self.responder.busy(now);
         let packet = self.journal.traffic[number as usize].packet();
         let outcome = self.responder.receive(now, packet)?;
-        self.journal.deliver(number, in_time, busy, outcome)
+        self.journal.deliver(number, in_time, busy, outcome)?;
+        Ok(())
     }
 
-    /// A packet of the latest reply to a request comes to its requester.
-    fn reply(&mut self, now: Moment, number: u64, packet: usize) -> Result<(), Memory> {
-        if number >= self.journal.requests.len() as u64 {
-            return self.journal.enter(Entry::Nothing);
-        }
-        let place = self.journal.traffic[number as usize].reply();
-        self.hand(now, number, place, packet)
-    }
-
-    /// The latest busy answer to a request comes to its requester.
-    fn busy(&mut self, now: Moment, number: u64) -> Result<(), Memory> {
-        if number >= self.journal.requests.len() as u64 {
-            return self.journal.enter(Entry::Nothing);
-        }
-        let place = self.journal.traffic[number as usize].busy();
-        self.hand(now, number, place, 0)
-    }
-
-    /// A packet of the answer at this place of the entries comes to the requester of a request.
-    fn hand(
-        &mut self,
-        now: Moment,
-        number: u64,
-        place: Option<usize>,
-        packet: usize,
-    ) -> Result<(), Memory> {
-        let Some(bytes) = packet_in(&self.journal.entries, place, packet) else {
-            return self.journal.enter(Entry::Nothing);
+    /// A packet of the latest answer to a request, a busy one or not, comes to its requester.
+    fn hand(&mut self, now: Moment, number: u64, packet: u8, busy: bool) -> Result<(), Memory>
+        requires { CanGoOn (rules_of P.answer P.after P.sensed) self.old.keep self.old.responder self.old.places.items self.old.journal (record { moment = now; action = answer_action busy number packet }) }
+        ensures runs { OnOk result (GoesOn (rules_of P.answer P.after P.sensed) self.old.keep (record { moment = now; action = answer_action busy number packet }) self.old.responder self.old.places.items self.old.journal self.new.responder self.new.places.items self.new.journal) }
+        ensures keep { self.new.keep ≡ self.old.keep }
+    {
+        pldm_requester::laws::looks_back();
+        let journal = &self.journal;
+        let Some(bytes) = journal.answer_packet(number, packet, busy) else {
+            self.journal.enter(Entry::Nothing)?;
+            return Ok(());
         };
-        let request = &self.journal.requests[number as usize];
+        let request = &journal.requests[number as usize];
+        let own = request.number();
         let (in_time, taken) = match &mut self.places[usize::from(request.requester().get())] {
             Some(asker) => {
-                let in_time = asker.count() <= request.number() + u64::from(TAGS);
+                let in_time = asker.count().saturating_sub(u64::from(TAGS)) <= own;
                 (in_time, asker.receive(self.alloc, now, bytes)?)
             }
             None => unreachable!(),
         };
-        self.journal.receive(in_time, taken.got, taken.answered)
+        self.journal.receive(in_time, taken.got, taken.answered)?;
+        Ok(())
     }
 
     /// A sensor of the device gets a reading.
-    fn sense(&mut self, sensor: u16, value: i64) -> Result<(), Memory> {
+    fn sense(&mut self, now: Moment, sensor: u16, value: i64) -> Result<(), Memory>
+        requires { CanGoOn (rules_of P.answer P.after P.sensed) self.old.keep self.old.responder self.old.places.items self.old.journal (record { moment = now; action = actions.Sense sensor value }) }
+        ensures runs { OnOk result (GoesOn (rules_of P.answer P.after P.sensed) self.old.keep (record { moment = now; action = actions.Sense sensor value }) self.old.responder self.old.places.items self.old.journal self.new.responder self.new.places.items self.new.journal) }
+        ensures keep { self.new.keep ≡ self.old.keep }
+    {
+        pldm_responder::laws::looks_back::<P>();
         let result = self.responder.set_reading(sensor, value);
-        self.journal.enter(Entry::Sensed(result))
+        self.journal.enter(Entry::Sensed(result))?;
+        Ok(())
     }
 
     /// The device's end restarts.
-    fn restart(&mut self, now: Moment) -> Result<(), Memory> {
+    fn restart(&mut self, now: Moment) -> Result<(), Memory>
+        requires { CanGoOn (rules_of P.answer P.after P.sensed) self.old.keep self.old.responder self.old.places.items self.old.journal (record { moment = now; action = actions.Restart }) }
+        ensures runs { OnOk result (GoesOn (rules_of P.answer P.after P.sensed) self.old.keep (record { moment = now; action = actions.Restart }) self.old.responder self.old.places.items self.old.journal self.new.responder self.new.places.items self.new.journal) }
+        ensures keep { self.new.keep ≡ self.old.keep }
+    {
+        pldm_responder::laws::looks_back::<P>();
         self.responder.restart(now);
-        self.journal.enter(Entry::Restarted)
+        self.journal.enter(Entry::Restarted)?;
+        Ok(())
     }
-}
-
-/// A packet of the answer at this place of the entries.
-fn packet_in(entries: &[Entry], place: Option<usize>, packet: usize) -> Option<&[u8]> {
-    packets_in(entries, place)?.get(packet)
 }

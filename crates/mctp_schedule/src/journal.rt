@@ -2,7 +2,7 @@
 
 ghost use Rattle.std.specs.Prelude.{◌≡◌, ◌<◌, ◌++◌, ◌∷◌, [], ◌&&◌, ◌==◌, true, ℕ, None, OnOk, IfSome, length, option_map, slice_get, if◌then◌else◌};
 ghost use Rattle.std.specs.List.{list_any};
-ghost use Rattle.mctp_schedule.specs.Journals.{answered_as, answers_at, fresh_numbers, packets_in, stands_after};
+ghost use Rattle.mctp_schedule.specs.Journals.{answered_as, answers_at, fresh_numbers, packet_at, packets_in, place_of, stands_after};
 ghost use Rattle.mctp_schedule.specs.Requests.{begun};
 
 use crate::askers::{Answered, Sent};
@@ -50,18 +50,11 @@ impl Traffic {
         &self.packet
     }
 
-    /// The entry with the latest reply, busy answers aside.
-    pub(crate) fn reply(&self) -> Option<usize>
-        ensures { result ≡ self.now.reply }
+    /// The entry with the latest answer, a busy one or not.
+    fn place(&self, busy: bool) -> Option<usize>
+        ensures { result ≡ place_of busy self.now }
     {
-        self.reply
-    }
-
-    /// The entry with the latest busy answer.
-    pub(crate) fn busy(&self) -> Option<usize>
-        ensures { result ≡ self.now.busy }
-    {
-        self.busy
+        if busy { self.busy } else { self.reply }
     }
 
     /// The latest answer stands at this place among the entries.
@@ -106,6 +99,14 @@ impl Journal {
         }
     }
 
+    /// A packet of the latest answer to a request, a busy one or not.
+    pub(crate) fn answer_packet(&self, number: u64, packet: u8, busy: bool) -> Option<&[u8]>
+        ensures { option_map (λ bytes. bytes.now) result ≡ packet_at self.now.entries.items packet busy (slice_get self.now.traffic.items number) }
+    {
+        let traffic = self.traffic.get(number as usize)?;
+        packets_in(&self.entries, traffic.place(busy))?.get(usize::from(packet))
+    }
+
     /// Writes down what came of a step that told nothing of a request.
     pub(crate) fn enter(&mut self, entry: Entry) -> Result<(), Memory>
         ensures entries { OnOk result (self.new.entries.items ≡ self.old.entries.items ++ entry ∷ []) }
@@ -127,8 +128,13 @@ impl Journal {
         ensures timely { OnOk result (self.new.timely ≡ self.old.timely) }
     {
         let number = self.requests.len() as u64;
-        let Sent { own, message, packet } = sent;
-        self.requests.push(OpenedRequest::new(requester, own, opening, message))?;
+        let Sent {
+            own,
+            message,
+            packet,
+        } = sent;
+        self.requests
+            .push(OpenedRequest::new(requester, own, opening, message))?;
         self.traffic.push(Traffic::new(packet))?;
         self.enter(Entry::Opened(number))
     }
@@ -207,7 +213,7 @@ impl Journal {
 }
 
 /// The packets of the answer that an entry tells.
-pub(crate) fn packets_in(entries: &[Entry], place: Option<usize>) -> Option<&Packets>
+fn packets_in(entries: &[Entry], place: Option<usize>) -> Option<&Packets>
     ensures { option_map (λ packets. packets.now) result ≡ packets_in entries.now place }
 {
     match entries.get(place?)? {

@@ -47,7 +47,12 @@ impl Model for OpenedRequest {
 
 impl OpenedRequest {
     /// A request that is open.
-    pub(crate) fn new(requester: Eid, number: u64, opening: Moment, message: Vec<u8>) -> OpenedRequest
+    pub(crate) fn new(
+        requester: Eid,
+        number: u64,
+        opening: Moment,
+        message: Vec<u8>,
+    ) -> OpenedRequest
         ensures { result ≡ begun requester number opening message.items }
     {
         OpenedRequest {

@@ -23,12 +23,11 @@ packet-requires c =
     let is = accepted_as (is_tag_in_use held) (is_id_in_use held c.args.now) held.count c.in-Ok.opened c.in-Ok.ensures.answer in
     let number = ap (λ (o : Opened). o.number) is in
     let fits = c.messages_fit.ensures.command (held.count % 32) c.args.command.now c.write_command.ensures.range in
-    let message = message_of held.count c.args.command.now in
-    (
+    let message = message_of held.count c.args.command.now in (
       packet_bytes held.own held.device held.count message,
       ap (λ n. option_map (λ (memo : Memo). memo.packets) ((held_of c.open.new.self).remembered n)) number
-      ∙ ap (option_map (λ (memo : Memo). memo.packets)) (opened_memo (held_of c.open.new.self) held c.args.now c.args.command.now c.in-Ok.ensures.held)
-      ∙ ap Some (one_packet (route_of held.own held.device held.count) message fits.0 fits.1),
+          ∙ ap (option_map (λ (memo : Memo). memo.packets)) (opened_memo (held_of c.open.new.self) held c.args.now c.args.command.now c.in-Ok.ensures.held)
+          ∙ ap Some (one_packet (route_of held.own held.device held.count) message fits.0 fits.1),
     )
 
 pub returns-clause-sent : goal.returns-clause-sent
@@ -41,10 +40,10 @@ returns-clause-sent c =
     let fits = c.messages_fit.ensures.command (held.count % 32) c.args.command.now c.write_command.ensures.range in
     let packets = packets_of held.own held.device held.count c.args.command.now in
     let here : Some (c.packet.result.now ∷ []) ≡ Some packets =
-        sym c.packet.ensures ∙ ap (λ n. option_map (λ (memo : Memo). memo.packets) ((held_of c.open.new.self).remembered n)) number
-        ∙ ap (option_map (λ (memo : Memo). memo.packets)) (opened_memo (held_of c.open.new.self) held c.args.now c.args.command.now c.in-Ok.ensures.held) in
+    sym c.packet.ensures ∙ ap (λ n. option_map (λ (memo : Memo). memo.packets) ((held_of c.open.new.self).remembered n)) number
+    ∙ ap (option_map (λ (memo : Memo). memo.packets)) (opened_memo (held_of c.open.new.self) held c.args.now c.args.command.now c.in-Ok.ensures.held) in
     let both : Some (c.packet.result.now ∷ []) ≡ Some (packet_bytes held.own held.device held.count message ∷ []) =
-        here ∙ ap Some (one_packet (route_of held.own held.device held.count) message fits.0 fits.1) in
+    here ∙ ap Some (one_packet (route_of held.own held.device held.count) message fits.0 fits.1) in
     let bytes : c.packet.result.now ≡ packet_bytes held.own held.device held.count message = cc in
     subst (λ (s : Side). IsSent (held_of s.station) c.args.now c.args.command.now (record { own = c.in-Ok.opened.number; message = c.in_ok-message.message; packet = c.in_ok-packet.packet })) c.self.view_is
     (record {
