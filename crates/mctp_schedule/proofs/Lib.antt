@@ -28,3 +28,5 @@ pub mod BegunRequesters
 pub mod AskedRequests
 pub mod RunningFrames
 pub mod QuietSteps
+pub mod DeliveredPackets
+pub mod DeliverySteps

@@ -143,6 +143,7 @@ impl Journal {
     pub(crate) fn tick(&mut self, due: Due) -> Result<(), Memory>
         requires { (number : ℕ) → list_any (λ n. n == number) due.given_up.items ≡ true → number < length self.old.requests.items }
         ensures entries { OnOk result (self.new.entries.items ≡ self.old.entries.items ++ Entry.Due due ∷ []) }
+        ensures all { OnOk result (length self.new.requests.items ≡ length self.old.requests.items) }
         ensures requests { OnOk result ((number : ℕ) → slice_get self.new.requests.items number ≡ option_map (stands_after due.given_up.items number) (slice_get self.old.requests.items number)) }
         ensures traffic { OnOk result (self.new.traffic.items ≡ self.old.traffic.items) }
         ensures order { OnOk result (self.new.order.items ≡ self.old.order.items) }
@@ -155,6 +156,7 @@ impl Journal {
     /// The requests of these numbers are given up.
     fn give_up(&mut self, numbers: &[u64])
         requires { (number : ℕ) → list_any (λ n. n == number) numbers.now ≡ true → number < length self.old.requests.items }
+        ensures all { length self.new.requests.items ≡ length self.old.requests.items }
         ensures requests { (number : ℕ) → slice_get self.new.requests.items number ≡ option_map (stands_after numbers.now number) (slice_get self.old.requests.items number) }
         ensures entries { self.new.entries ≡ self.old.entries }
         ensures traffic { self.new.traffic ≡ self.old.traffic }
@@ -177,6 +179,7 @@ impl Journal {
         requires { number < length self.old.traffic.items }
         ensures entries { OnOk result (self.new.entries.items ≡ self.old.entries.items ++ Entry.Delivered busy outcome ∷ []) }
         ensures requests { OnOk result (self.new.requests.items ≡ self.old.requests.items) }
+        ensures all { OnOk result (length self.new.traffic.items ≡ length self.old.traffic.items) }
         ensures traffic { OnOk result ((k : ℕ) → slice_get self.new.traffic.items k ≡ option_map (λ t. if k == number then answers_at (length self.old.entries.items) busy t else t) (slice_get self.old.traffic.items k)) }
         ensures order { OnOk result (self.new.order.items ≡ self.old.order.items ++ fresh_numbers number outcome) }
         ensures timely { OnOk result (self.new.timely ≡ (in_time && self.old.timely)) }
@@ -199,6 +202,7 @@ impl Journal {
     ) -> Result<(), Memory>
         requires { IfSome answered (λ a. a.number < length self.old.requests.items) }
         ensures entries { OnOk result (self.new.entries.items ≡ self.old.entries.items ++ Entry.Received got ∷ []) }
+        ensures all { OnOk result (length self.new.requests.items ≡ length self.old.requests.items) }
         ensures requests { OnOk result ((k : ℕ) → slice_get self.new.requests.items k ≡ option_map (answered_as answered k) (slice_get self.old.requests.items k)) }
         ensures traffic { OnOk result (self.new.traffic.items ≡ self.old.traffic.items) }
         ensures order { OnOk result (self.new.order.items ≡ self.old.order.items) }

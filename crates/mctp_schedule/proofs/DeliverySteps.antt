@@ -1,0 +1,282 @@
+-- The packet of a request comes to the device: what a run holds then.
+use Rattle.std.proofs.Common.{◌≡◌, ◌≢◌, ◌⊎◌, ℕ, ◌+◌, ◌<◌, ◌≤◌, Bool, true, false, List, [], ◌∷◌, ◌++◌, length, Option, Some, None, Ok, refl, sym, ap, subst, ◌∙◌, inl, inr, arith, eq-eqb}
+use Rattle.std.specs.Prelude.{not, ◌&&◌, ◌==◌, nat_lt, option_and_then, option_map, slice_get, if◌then◌else◌}
+use Rattle.std.proofs.lemmas.Bool.{cases_Bool, cases_eq, cond-true, cond-false, ne_eqb}
+use Rattle.mctp_packet.specs.Laws.{SpelledIsReadFor, WrittenSpells}
+use Rattle.mctp_packet.specs.Packets.{Packet}
+use Rattle.mctp_assembly.specs.Steps as assembly
+use Rattle.mctp_assembly.specs.declared.fed.Fed.{Fed}
+use Rattle.mctp_assembly.specs.declared.fed.Fed.TheVariants as feds
+use Rattle.pldm_wire.specs.Headers.{id_at}
+use Rattle.pldm_responder.specs.Arrivals.{Whole, arrival, packets_back}
+use Rattle.pldm_responder.specs.Calls.{answer_owed, events, fed, looked_back, outcome_owed, with_arrival}
+use Rattle.pldm_responder.specs.Calls as responder
+use Rattle.pldm_responder.specs.Events.{Message, Event, Came, Place, is_busy, is_copy, is_copy_of, is_fresh, origin}
+use Rattle.pldm_responder.specs.Fitting.{ArrivalFits, Fits, ReceivedFits}
+use Rattle.pldm_responder.specs.Held.{Held, IsHeld}
+use Rattle.pldm_responder.specs.Laws.{IsLeftBy, ReceivedLooksBack, SameIsLeft, entry_at}
+use Rattle.pldm_responder.specs.Performing.{Rules, answered, busy_reply, changes, performed, reply}
+use Rattle.pldm_responder.specs.Stations.{Station, held_of}
+use Rattle.pldm_responder.specs.Steps.{performs, received_arrival, received_held, received_outcome, repeats}
+use Rattle.pldm_responder.specs.declared.outcome.Outcome.{Outcome}
+use Rattle.pldm_responder.specs.declared.outcome.Outcome.TheVariants.{Answered}
+use Rattle.mctp_schedule.specs.Askers.{Side, packet_bytes}
+use Rattle.mctp_schedule.specs.Entries.{delivery_entry, entries}
+use Rattle.mctp_schedule.specs.FirstArrivals.{fresh_of, order}
+use Rattle.mctp_schedule.specs.Journals.{Carried, answers_at, fresh_numbers, packets_in, packets_of_entry, packets_of_outcome}
+use Rattle.mctp_schedule.specs.Logs.{Asked, Happening, Delivered, asked_at, message_at, told, told_of}
+use Rattle.mctp_schedule.specs.OncePerformed.{FitsPackets, RepliesFit, given, was_busy}
+use Rattle.mctp_schedule.specs.Requests.{Request}
+use Rattle.mctp_schedule.specs.Running.{IsCarried, IsOpened, IsRunning, busy_packets, device_calls, received}
+use Rattle.mctp_schedule.specs.Worlds.{Setting, World, answer_packets, comes_in_time, is_timely, time_now, world}
+use Rattle.mctp_schedule.specs.declared.entry.Entry.{Entry}
+use Rattle.mctp_schedule.specs.declared.entry.Entry.TheVariants as entry
+use Rattle.mctp_schedule.specs.declared.journal.Journal.{Journal}
+use Rattle.mctp_schedule.specs.declared.step.Action.TheVariants as actions
+use Rattle.mctp_schedule.specs.declared.step.Step.{Step}
+use Rattle.mctp_schedule.proofs.DeliveredPackets.{brings_message, packet_for, busy_here, busy_none, busy_other, busy_served, given_busy, given_here, given_none, given_other, held_whole, looked_whole}
+use Rattle.mctp_schedule.proofs.ListPlaces.{get_last, length_pushed}
+use Rattle.mctp_schedule.proofs.QuietSteps.{Enters}
+use Rattle.mctp_schedule.proofs.RunningFrames.{before_more, packets_stay, still_carried, still_opened, still_side}
+
+-- ---- what is owed to a message, by its packets and whether it is fresh
+module _ {S : Type 0} (device : Rules S) (own keep : ℕ) (start : S) (es : List Event) (m : Message) where
+  abbrev owed : Bool → Bool → Outcome
+  owed busy copy =
+      if busy then Answered false false (packets_back own m (busy_reply m.bytes))
+      else (if copy then Answered false false (packets_back own m (answered device keep start es m))
+      else Answered true (changes device (performed device keep start es) m.bytes) (packets_back own m (answered device keep start es m)))
+
+  pub owed_busy : is_busy keep es m.moment ≡ true → packets_of_outcome (answer_owed device own keep start es m) ≡ Some (packets_back own m (busy_reply m.bytes))
+  owed_busy on = ap (λ b. packets_of_outcome (owed b (is_copy keep es m))) on
+
+  pub owed_served : is_busy keep es m.moment ≡ false → packets_of_outcome (answer_owed device own keep start es m) ≡ Some (packets_back own m (answered device keep start es m))
+  owed_served off = ap (λ b. packets_of_outcome (owed b (is_copy keep es m))) off ∙ go (is_copy keep es m)
+    where
+      go : (copy : Bool) → packets_of_outcome (owed false copy) ≡ Some (packets_back own m (answered device keep start es m))
+      go true = refl
+      go false = refl
+
+  pub owed_fresh : (n : ℕ) → fresh_numbers n (answer_owed device own keep start es m) ≡ (if is_fresh keep es m then n ∷ [] else [])
+  owed_fresh n = go (is_busy keep es m.moment) (is_copy keep es m)
+    where
+      go : (busy copy : Bool) → fresh_numbers n (owed busy copy) ≡ (if not busy && not copy then n ∷ [] else [])
+      go true copy = refl
+      go false true = refl
+      go false false = refl
+
+-- ---- a message is performed exactly where it is fresh
+module _ {S : Type 0} (device : Rules S) (own keep : ℕ) (start : S) (held : Held S) (calls : List responder.Call) (left : IsLeftBy device own keep start held calls) where
+  repeats_is : (m : Message) (place : Option Place) → repeats keep m (entry_at device keep start place) ≡ is_copy_of keep m place
+  repeats_is m None = refl
+  repeats_is m (Some place) = refl
+
+  pub performs_is : (m : Message) → performs held m ≡ is_fresh keep (events own calls) m
+  performs_is m =
+      ap (λ from. not (nat_lt m.moment from) && not (repeats held.keep m (held.kept m.source (id_at m.bytes)))) left.serves_from
+      ∙ ap (λ k. not (is_busy keep (events own calls) m.moment) && not (repeats k m (held.kept m.source (id_at m.bytes)))) left.keeping
+      ∙ ap (λ kept. not (is_busy keep (events own calls) m.moment) && not (repeats keep m kept)) (left.kept m.source (id_at m.bytes))
+      ∙ ap (λ b. not (is_busy keep (events own calls) m.moment) && not b) (repeats_is m (origin keep (events own calls) m.source (id_at m.bytes)))
+
+append_none : (xs : List ℕ) → xs ++ [] ≡ xs
+append_none [] = refl
+append_none (x ∷ xs) = ap (λ ys. x ∷ ys) (append_none xs)
+
+listed : (b : Bool) (xs : List ℕ) (n : ℕ) → xs ++ (if b then n ∷ [] else []) ≡ (if b then xs ++ n ∷ [] else xs)
+listed true xs n = refl
+listed false xs n = append_none xs
+
+module _ {P S : Type 0} (setting : Setting S) (past : List Step) (keep : ℕ) (station : Station P S) (places : List (Option Side)) (old journal : Journal) (running : IsRunning setting past keep station places old) (moment n : ℕ) (later : time_now past ≤ moment) where
+  abbrev w : World
+  w = world setting past
+
+  abbrev v : World
+  v = world setting (record { moment = moment; action = actions.Request n } ∷ past)
+
+  -- ---- a request that was never opened
+  pub never_opened : asked_at w.log n ≡ None → Enters old journal entry.Nothing → IsRunning setting (record { moment = moment; action = actions.Request n } ∷ past) keep station places journal
+  never_opened none enters = record {
+    times = running.times;
+    device = record {
+      endpoint = running.device.endpoint;
+      left = subst (IsLeftBy setting.device setting.eid setting.keep setting.start (held_of station)) (sym (ap (λ o. received setting.eid moment o (device_calls setting.eid w.log)) none)) running.device.left;
+      events = ap (λ o. events setting.eid (received setting.eid moment o (device_calls setting.eid w.log))) none ∙ running.device.events ∙ sym (ap (λ o. told_of moment o (told w.log)) none);
+      called = let x = running.device.called in omega (arith, x, later);
+    };
+    sides = λ e has. let s = running.sides e has in (s.0, s.1, still_side setting w v (time_now past) moment e s.0 refl refl (λ k r is. is) later s.2);
+    opened = λ k r is. still_opened setting w v k r (omega arith) (λ here. here) (running.opened k r is);
+    requests = λ k. ap (λ rs. slice_get rs k) enters.requests ∙ running.requests k;
+    counted = ap (λ (rs : List Request). length rs) enters.requests ∙ running.counted;
+    traffic = λ k r is.
+        let t = running.traffic k r is in
+        (
+          t.0,
+          ap (λ ts. slice_get ts k) enters.traffic ∙ t.1,
+          subst (λ es. IsCarried setting v es k r t.0) (sym enters.entries)
+          (still_carried setting w v old.entries.items entry.Nothing k r t.0 (given_none setting.device setting.keep setting.start w.log moment n none k) (busy_none setting.device setting.keep setting.start w.log moment n none k) t.2),
+        );
+    carried = ap (λ (ts : List Carried). length ts) enters.traffic ∙ running.carried;
+    entries = enters.entries ∙ ap (λ es. es ++ entry.Nothing ∷ []) running.entries ∙ ap (λ o. entries setting past ++ delivery_entry setting w.log moment o ∷ []) (sym none);
+    order = enters.order ∙ running.order ∙ sym (cond-false (fresh_of setting.keep (told w.log) moment (asked_at w.log n)) _ _ (ap (fresh_of setting.keep (told w.log) moment) none));
+    timely = enters.timely ∙ running.timely ∙ ap (λ o. comes_in_time setting moment o && is_timely setting past) (sym none);
+    sent = running.sent;
+    fit = (λ r is fresh. let wrong : ◌≡◌ {A = Option Asked} None (Some r) = sym none ∙ is in absurd (cc), running.fit);
+  }
+
+  -- ---- a request that was opened
+  module _ (r : Asked) (is : asked_at w.log n ≡ Some r) (new : Station P S) (bytes : List ℕ) (outcome : Outcome) (busy in_time : Bool) where
+    abbrev m : Message
+    m = message_at moment r
+
+    abbrev calls : List responder.Call
+    calls = device_calls setting.eid w.log
+
+    pub record Delivers : Type 0 where
+      pub packet_is : bytes ≡ packet_bytes r.source setting.eid r.own r.message
+      pub new_held : IsHeld (held_of new) (received_held setting.device (held_of station) moment bytes)
+      pub given_outcome : outcome ≡ received_outcome setting.device (held_of station) moment bytes
+      pub given_fits : ReceivedFits setting.device (held_of station) moment bytes
+      pub given_busy : busy ≡ nat_lt moment (held_of station).serves_from
+      pub given_in_time : in_time ≡ nat_lt moment (r.opening + setting.keep)
+      pub new_entries : journal.entries.items ≡ old.entries.items ++ entry.Delivered busy outcome ∷ []
+      pub new_requests : journal.requests.items ≡ old.requests.items
+      pub same_count : length journal.traffic.items ≡ length old.traffic.items
+      pub new_traffic : (k : ℕ) → slice_get journal.traffic.items k ≡ option_map (λ t. if k == n then answers_at (length old.entries.items) busy t else t) (slice_get old.traffic.items k)
+      pub new_order : journal.order.items ≡ old.order.items ++ fresh_numbers n outcome
+      pub new_timely : journal.timely ≡ (in_time && old.timely)
+
+    module _ (looks : ReceivedLooksBack setting.device) (same : SameIsLeft setting.device) (spells : WrittenSpells) (read_for : SpelledIsReadFor) (d : Delivers) where
+      source : IsOpened setting w n r
+      source = running.opened n r is
+
+      brings : (gives : Packet → Fed) → gives (packet_for setting.eid r) ≡ feds.Whole (record { items = r.message }) → arrival gives setting.eid moment bytes ≡ Whole m
+      brings gives whole =
+          let side = running.sides r.source source.source in
+          ap (arrival gives setting.eid moment) d.packet_is
+          ∙ brings_message spells read_for gives setting.eid moment r source.readable.0 running.device.endpoint side.2.endpoint side.2.other source.some source.few source.readable.1 whole
+
+      arrives_here : responder.arrived setting.eid calls moment bytes ≡ Whole m
+      arrives_here = brings (looked_back (fed setting.eid calls)) (looked_whole (fed setting.eid calls) setting.eid r)
+
+      looked : (received_outcome setting.device (held_of station) moment bytes ≡ responder.outcome setting.device setting.eid setting.keep setting.start calls moment bytes)
+          × IsLeftBy setting.device setting.eid setting.keep setting.start (received_held setting.device (held_of station) moment bytes) (responder.Received moment bytes ∷ calls)
+      looked = looks setting.eid setting.keep setting.start (held_of station) calls moment bytes running.device.left
+
+      busy_is : busy ≡ is_busy setting.keep (told w.log) moment
+      busy_is =
+          d.given_busy ∙ ap (nat_lt moment) running.device.left.serves_from ∙ ap (λ es. is_busy setting.keep es moment) running.device.events
+
+      outcome_is : outcome ≡ answer_owed setting.device setting.eid setting.keep setting.start (told w.log) m
+      outcome_is =
+          d.given_outcome ∙ looked.0
+          ∙ ap (outcome_owed setting.device setting.eid setting.keep setting.start (events setting.eid calls)) arrives_here
+          ∙ ap (λ es. answer_owed setting.device setting.eid setting.keep setting.start es m) running.device.events
+
+      called_with : received setting.eid moment (asked_at w.log n) calls ≡ responder.Received moment bytes ∷ calls
+      called_with = ap (λ o. received setting.eid moment o calls) is ∙ ap (λ b. responder.Received moment b ∷ calls) (sym d.packet_is)
+
+      abbrev x : Entry
+      x = entry.Delivered busy outcome
+
+      at_place : packets_in (old.entries.items ++ x ∷ []) (Some (length old.entries.items)) ≡ packets_of_outcome outcome
+      at_place = ap (option_and_then packets_of_entry) (get_last old.entries.items x)
+
+      below : length old.entries.items < length (old.entries.items ++ x ∷ [])
+      below = let l = length_pushed old.entries.items x in omega (arith, l)
+
+      carried_here : (c : Carried) → IsCarried setting w old.entries.items n r c → IsCarried setting v (old.entries.items ++ x ∷ []) n r (answers_at (length old.entries.items) busy c)
+      carried_here c t = go busy refl
+        where
+          es : List Entry
+          es = old.entries.items ++ x ∷ []
+
+          go : (b : Bool) → busy ≡ b → IsCarried setting v es n r (answers_at (length old.entries.items) b c)
+          go true on =
+              let up = sym busy_is ∙ on in
+              record {
+                packet = t.packet;
+                reply = packets_stay old.entries.items x c.reply t.reply_place ∙ t.reply ∙ ap (option_map (answer_packets setting.eid r)) (sym (given_busy setting.device setting.keep setting.start w.log moment n r is up));
+                busy = at_place ∙ ap packets_of_outcome outcome_is ∙ owed_busy setting.device setting.eid setting.keep setting.start (told w.log) m up ∙ ap (busy_packets setting.eid r) (sym (busy_here setting.device setting.keep setting.start w.log moment n r is up));
+                reply_place = before_more old.entries.items x c.reply t.reply_place;
+                busy_place = below;
+              }
+          go false off =
+              let up = sym busy_is ∙ off in
+              record {
+                packet = t.packet;
+                reply = at_place ∙ ap packets_of_outcome outcome_is ∙ owed_served setting.device setting.eid setting.keep setting.start (told w.log) m up ∙ ap (option_map (answer_packets setting.eid r)) (sym (given_here setting.device setting.keep setting.start w.log moment n r is up));
+                busy = packets_stay old.entries.items x c.busy t.busy_place ∙ t.busy ∙ ap (busy_packets setting.eid r) (sym (busy_served setting.device setting.keep setting.start w.log moment n r is up));
+                reply_place = below;
+                busy_place = before_more old.entries.items x c.busy t.busy_place;
+              }
+
+      carried_at : (k : ℕ) (q : Asked) → asked_at w.log k ≡ Some q → (c : Carried) × (slice_get journal.traffic.items k ≡ Some c) × IsCarried setting v journal.entries.items k q c
+      carried_at k q asked = go (cases_eq k n)
+        where
+          t : (c : Carried) × (slice_get old.traffic.items k ≡ Some c) × IsCarried setting w old.entries.items k q c
+          t = running.traffic k q asked
+
+          moved : slice_get journal.traffic.items k ≡ Some (if k == n then answers_at (length old.entries.items) busy t.0 else t.0)
+          moved = d.new_traffic k ∙ ap (option_map (λ c. if k == n then answers_at (length old.entries.items) busy c else c)) t.1
+
+          go : (k ≡ n) ⊎ (k ≡ n → ⊥) → (c : Carried) × (slice_get journal.traffic.items k ≡ Some c) × IsCarried setting v journal.entries.items k q c
+          go (inl e) =
+              let same_request : q ≡ r = let both : Some q ≡ Some r = sym asked ∙ ap (asked_at w.log) e ∙ is in cc in
+              let was : IsCarried setting w old.entries.items n r t.0 = subst (λ j. IsCarried setting w old.entries.items j r t.0) e (subst (λ a. IsCarried setting w old.entries.items k a t.0) same_request t.2) in
+              let here = carried_here t.0 was in
+              (
+                answers_at (length old.entries.items) busy t.0,
+                moved ∙ ap Some (cond-true (k == n) _ _ (eq-eqb k n e)),
+                subst (λ es. IsCarried setting v es k q (answers_at (length old.entries.items) busy t.0)) (sym d.new_entries)
+                (subst (λ j. IsCarried setting v (old.entries.items ++ x ∷ []) j q (answers_at (length old.entries.items) busy t.0)) (sym e)
+                (subst (λ a. IsCarried setting v (old.entries.items ++ x ∷ []) n a (answers_at (length old.entries.items) busy t.0)) (sym same_request) here)),
+              )
+          go (inr other) =
+              (
+                t.0,
+                moved ∙ ap Some (cond-false (k == n) _ _ (ne_eqb k n other)),
+                subst (λ es. IsCarried setting v es k q t.0) (sym d.new_entries)
+                (still_carried setting w v old.entries.items x k q t.0 (given_other setting.device setting.keep setting.start w.log moment n k (λ e. other (sym e))) (busy_other setting.device setting.keep setting.start w.log moment n k (λ e. other (sym e))) t.2),
+              )
+
+      fits_here : (q : Asked) → asked_at w.log n ≡ Some q → is_fresh setting.keep (told w.log) (message_at moment q) ≡ true → FitsPackets (reply setting.device (performed setting.device setting.keep setting.start (told w.log)) q.message)
+      fits_here q asked fresh =
+          let same_request : r ≡ q = let both : Some r ≡ Some q = sym is ∙ asked in cc in
+          let held = held_of station in
+          let arrival_is : received_arrival held moment bytes ≡ Whole m =
+              ap (λ own. arrival (assembly.answer held.open_messages) own moment bytes) running.device.left.endpoint ∙ brings (assembly.answer held.open_messages) (held_whole held.open_messages setting.eid r) in
+          let fits : performs held m ≡ true → Fits (reply setting.device held.state m.bytes) = subst (ArrivalFits setting.device held) arrival_is d.given_fits in
+          let on : performs held m ≡ true =
+              performs_is setting.device setting.eid setting.keep setting.start held calls running.device.left m ∙ ap (λ es. is_fresh setting.keep es m) running.device.events ∙ subst (λ a. is_fresh setting.keep (told w.log) (message_at moment a) ≡ true) (sym same_request) fresh in
+          let both = fits on in
+          let state = running.device.left.state ∙ ap (performed setting.device setting.keep setting.start) running.device.events in
+          subst (λ (a : Asked). FitsPackets (reply setting.device (performed setting.device setting.keep setting.start (told w.log)) a.message)) same_request
+          (subst (λ s. FitsPackets (reply setting.device s r.message)) state (record { some = both.0; few = both.1 }))
+
+      pub delivered_runs : IsRunning setting (record { moment = moment; action = actions.Request n } ∷ past) keep new places journal
+      delivered_runs = record {
+        times = running.times;
+        device = record {
+          endpoint = running.device.endpoint;
+          left = same setting.eid setting.keep setting.start (held_of new) (received_held setting.device (held_of station) moment bytes) (device_calls setting.eid v.log) d.new_held
+              (subst (IsLeftBy setting.device setting.eid setting.keep setting.start (received_held setting.device (held_of station) moment bytes)) (sym called_with) looked.1);
+          events = ap (events setting.eid) called_with ∙ ap (λ a. with_arrival a (events setting.eid calls)) arrives_here ∙ ap (λ es. Came m ∷ es) running.device.events ∙ sym (ap (λ o. told_of moment o (told w.log)) is);
+          called = let y = d.new_held.last in omega (arith, y);
+        };
+        sides = λ e has. let s = running.sides e has in (s.0, s.1, still_side setting w v (time_now past) moment e s.0 refl refl (λ k q asked. asked) later s.2);
+        opened = λ k q asked. still_opened setting w v k q (omega arith) (λ here. here) (running.opened k q asked);
+        requests = λ k. ap (λ rs. slice_get rs k) d.new_requests ∙ running.requests k;
+        counted = ap (λ (rs : List Request). length rs) d.new_requests ∙ running.counted;
+        traffic = carried_at;
+        carried = d.same_count ∙ running.carried;
+        entries = d.new_entries ∙ ap (λ es. es ++ x ∷ []) running.entries
+            ∙ ap (λ y. entries setting past ++ y ∷ []) (ap (λ b. entry.Delivered b outcome) busy_is ∙ ap (entry.Delivered (is_busy setting.keep (told w.log) moment)) outcome_is ∙ sym (ap (delivery_entry setting w.log moment) is));
+        order = d.new_order ∙ ap (λ xs. xs ++ fresh_numbers n outcome) running.order
+            ∙ ap (λ o. order setting.keep w.log ++ fresh_numbers n o) outcome_is
+            ∙ ap (λ xs. order setting.keep w.log ++ xs) (owed_fresh setting.device setting.eid setting.keep setting.start (told w.log) m n)
+            ∙ listed (is_fresh setting.keep (told w.log) m) (order setting.keep w.log) n
+            ∙ ap (λ o. if fresh_of setting.keep (told w.log) moment o then order setting.keep w.log ++ n ∷ [] else order setting.keep w.log) (sym is);
+        timely = d.new_timely ∙ ap (λ b. b && old.timely) d.given_in_time ∙ ap (λ b. nat_lt moment (r.opening + setting.keep) && b) running.timely ∙ ap (λ o. comes_in_time setting moment o && is_timely setting past) (sym is);
+        sent = running.sent;
+        fit = (fits_here, running.fit);
+      }

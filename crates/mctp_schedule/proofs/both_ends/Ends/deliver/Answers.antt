@@ -1,0 +1,67 @@
+-- The packet of a request is one more call of the responder.
+use Rattle.std.proofs.Common.{◌≡◌, ◌<◌, ◌≤◌, ◌+◌, Bool, Option, length, Some, sym, ap, ◌∙◌, arith, refl}
+use Rattle.std.specs.Prelude.{nat_lt, option_map, slice_get}
+use Rattle.pldm_responder.specs.Performing.{rules_of}
+use Rattle.mctp_schedule.specs.Entries.{as_it_stands}
+use Rattle.mctp_schedule.specs.Journals.{Carried}
+use Rattle.mctp_schedule.specs.Requests.{Request}
+use Rattle.mctp_schedule.specs.Logs.{asked_at, count_of}
+use Rattle.mctp_schedule.specs.Running.{setting_of}
+use Rattle.mctp_schedule.specs.Worlds.{world}
+use Rattle.mctp_schedule.proofs.AskedRequests.{asked_some, none_past}
+use Rattle.mctp_schedule.proofs.DeliverySteps.{delivered_runs, never_opened}
+use Rattle.mctp_schedule.proofs.ListPlaces.{or_get}
+use Rattle.mctp_schedule.proofs.both_ends.Ends.deliver.Goals as goal
+
+pub returns-then-number-len-clause-runs : goal.returns-then-number-len-clause-runs
+returns-then-number-len-clause-runs g c = λ terms past running may.
+    let setting = setting_of (rules_of g.P.Platform.answer g.P.Platform.after g.P.Platform.sensed) terms in
+    let entered = c.in_ok-enter.ensures in
+    let len = c.len.ensures in
+    let above = c.if-number-len.true in
+    let count = running.counted in
+    let past_all : count_of (world setting past).log ≤ c.args.number = omega (arith, len, above, count) in
+    never_opened setting past c.args.self.now.keep c.args.self.now.responder c.args.self.now.places.items c.args.self.now.journal c.enter.new.self running c.args.now c.args.number may.later
+    (none_past (world setting past).log c.args.number past_all)
+    (record {
+      entries = entered.entries;
+      requests = entered.requests;
+      traffic = entered.traffic;
+      order = entered.order;
+      timely = entered.timely;
+    })
+
+pub returns-clause-runs : goal.returns-clause-runs
+returns-clause-runs g c = λ terms past running may.
+    let setting = setting_of (rules_of g.P.Platform.answer g.P.Platform.after g.P.Platform.sensed) terms in
+    let len = c.len.ensures in
+    let below = c.if-number-len.false in
+    let count = running.counted in
+    let within : c.args.number < count_of (world setting past).log = omega (arith, len, below, count) in
+    let asked = asked_some (world setting past).log c.args.number within in
+    let entered = c.in_ok-deliver.ensures in
+    let w = world setting past in
+    let traffic = c.args.self.now.journal.traffic.items in
+    let requests = c.args.self.now.journal.requests.items in
+    let t = running.traffic c.args.number asked.0 asked.1 in
+    let carried = c.index-2.ensures ∙ or_get traffic c.args.number c.index-2.result.now t.0 t.1 in
+    let stands = or_get requests c.args.number c.index.result.now (as_it_stands setting w asked.0) (running.requests c.args.number ∙ ap (option_map (as_it_stands setting w)) asked.1) in
+    let opening = c.get-2.ensures.value ∙ c.opening-opening.ensures ∙ ap (λ (q : Request). q.asked.opening) (c.index.ensures ∙ stands) in
+    let keep = c.from.ensures ∙ c.get-3.ensures.value ∙ running.times in
+    delivered_runs setting past c.args.self.now.keep c.args.self.now.responder c.args.self.now.places.items c.args.self.now.journal c.deliver.new.self running c.args.now c.args.number may.later
+    asked.0 asked.1 c.receive.new.self c.packet-packet.result.now c.in_ok-outcome.outcome c.busy-busy.result (nat_lt c.get.result (c.get-2.result + c.from.result))
+    c.looks_back.ensures.received c.looks_back.ensures.same c.bytes_spell_one_packet.ensures.written c.reading_is_spelling.ensures.read_for
+    (record {
+      packet_is = c.packet-packet.ensures ∙ ap (λ (x : Carried). x.packet) carried ∙ t.2.packet;
+      new_held = c.in_ok-outcome.ensures.held;
+      given_outcome = c.in_ok-outcome.ensures.outcome;
+      given_fits = c.in_ok-outcome.ensures.fits;
+      given_busy = c.busy-busy.ensures;
+      given_in_time = ap (λ now. nat_lt now (c.get-2.result + c.from.result)) c.get.ensures.value ∙ ap (λ x. nat_lt c.args.now (x + c.from.result)) opening ∙ ap (λ x. nat_lt c.args.now (asked.0.opening + x)) keep;
+      new_entries = entered.entries;
+      new_requests = entered.requests;
+      same_count = entered.all;
+      new_traffic = entered.traffic;
+      new_order = entered.order;
+      new_timely = entered.timely;
+    })
