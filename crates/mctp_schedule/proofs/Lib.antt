@@ -30,3 +30,6 @@ pub mod RunningFrames
 pub mod QuietSteps
 pub mod DeliveredPackets
 pub mod DeliverySteps
+pub mod CalledSteps
+pub mod NumberedRequests
+pub mod TickedSteps

@@ -1,0 +1,69 @@
+-- A tick is one more call of its requester.
+use Rattle.std.proofs.Common.{◌≡◌, ◌<◌, ◌∷◌, List, ℕ, length, Option, Some, sym, ap, subst, ◌∙◌, arith}
+use Rattle.std.specs.Prelude.{◌==◌, true, slice_index, slice_set}
+use Rattle.std.specs.List.{list_any}
+use Rattle.pldm_responder.specs.Performing.{rules_of}
+use Rattle.pldm_requester.specs.Courses.{is_given_up}
+use Rattle.pldm_requester.specs.Slots.{held_of}
+use Rattle.pldm_requester.specs.Steps.{IsHeld, again_at, given_up_at, passes, ticked_held}
+use Rattle.mctp_schedule.specs.Askers.{Side}
+use Rattle.mctp_schedule.specs.Entries.{numbered, numbers_of}
+use Rattle.mctp_schedule.specs.Running.{IsRunning, setting_of}
+use Rattle.mctp_schedule.specs.Worlds.{world}
+use Rattle.mctp_schedule.specs.declared.step.Action.TheVariants as actions
+use Rattle.mctp_schedule.proofs.AskedRequests.{asked_below}
+use Rattle.mctp_schedule.proofs.AskerCalls.{recent_below}
+use Rattle.mctp_schedule.proofs.CalledSteps.{place_holds}
+use Rattle.mctp_schedule.proofs.NumberedRequests.{get_index, listed_own}
+use Rattle.mctp_schedule.proofs.TickedSteps.{tick_runs}
+use Rattle.mctp_schedule.proofs.both_ends.Ends.tick.Goals as goal
+
+pub tick-requires : goal.tick-requires
+tick-requires g c = λ number listed.
+    let terms = c.requires.0 in
+    let past = c.requires.1 in
+    let running = c.requires.2 in
+    let may = c.requires.3 in
+    let setting = setting_of (rules_of g.P.Platform.answer g.P.Platform.after g.P.Platform.sensed) terms in
+    let e = c.args.eid in
+    let s = running.sides e may.known in
+    let asker = c.in-Some.asker in
+    let same = place_holds c.args.self.now.places.items e c.from.result c.index_mut.result.now s.0 asker (c.from.ensures ∙ c.get.ensures.value) c.index_mut.ensures.value s.1 c.in-Some.is in
+    let held = held_of asker.station in
+    let all = recent_below held.count (λ n. passes (is_given_up held.timing c.args.now) (held.remembered n)) in
+    let own = listed_own (slice_index asker.numbers) number held.count (given_up_at held c.args.now) all (subst (λ xs. list_any (λ n. n == number) xs ≡ true) c.tick-due.ensures.given_up listed) in
+    let numbers = ap (λ (a : Side). a.numbers) same ∙ s.2.numbers in
+    let counted = s.2.counted in
+    let left = s.2.left.count in
+    let count = ap (λ (a : Side). (held_of a.station).count) same in
+    let low = own.1 in
+    let below : own.0 < length (numbers_of (world setting past).log e) = omega (arith, low, counted, left, count) in
+    let here = get_index (numbers_of (world setting past).log e) own.0 below ∙ ap Some (ap (λ xs. slice_index xs own.0) (sym numbers) ∙ own.2) in
+    let q = s.2.numbered own.0 number here in
+    let known = asked_below (world setting past).log number q.0 q.1 in
+    let all_counted = running.counted in
+    omega (arith, known, all_counted)
+
+pub returns-clause-runs : goal.returns-clause-runs
+returns-clause-runs g c = λ terms past running may.
+    let setting = setting_of (rules_of g.P.Platform.answer g.P.Platform.after g.P.Platform.sensed) terms in
+    let e = c.args.eid in
+    let s = running.sides e may.known in
+    let asker = c.in-Some.asker in
+    let at = c.from.ensures ∙ c.get.ensures.value in
+    let same = place_holds c.args.self.now.places.items e c.from.result c.index_mut.result.now s.0 asker at c.index_mut.ensures.value s.1 c.in-Some.is in
+    let due = c.tick-due.ensures in
+    let entered = c.in_ok-tick.ensures in
+    subst (λ i. IsRunning setting (record { moment = c.args.now; action = actions.Tick e } ∷ past) c.args.self.now.keep c.args.self.now.responder (slice_set c.args.self.now.places.items i (Some c.tick-due.new.self)) c.tick.new.self) (sym at)
+    (tick_runs setting past c.args.self.now.keep c.args.self.now.responder c.args.self.now.places.items c.args.self.now.journal c.tick.new.self running c.args.now may.later e may.known c.tick-due.new.self c.tick-due.result
+    c.looks_back.ensures.tick c.looks_back.ensures.same
+    (record {
+      held = subst (λ (a : Side). IsHeld (held_of c.tick-due.new.self.station) (ticked_held (held_of a.station) c.args.now)) same due.held;
+      same_numbers = due.numbers ∙ ap (λ (a : Side). a.numbers) same;
+      again = due.again ∙ ap (λ (a : Side). numbered a.numbers (again_at (held_of a.station) c.args.now)) same;
+      given_up = due.given_up ∙ ap (λ (a : Side). numbered a.numbers (given_up_at (held_of a.station) c.args.now)) same;
+      requests = entered.requests;
+      counted = entered.all;
+      writes = record { entries = entered.entries; traffic = entered.traffic; order = entered.order };
+      timely = entered.timely;
+    }))
