@@ -1,7 +1,7 @@
 -- The requests of a log, by their numbers.
 use Rattle.std.proofs.Common.{◌≡◌, ◌⊎◌, ℕ, suc, ◌<◌, ◌≤◌, Bool, true, false, List, [], ◌∷◌, Option, Some, None, refl, sym, ap, ◌∙◌, inl, inr, arith, eq-eqb, eqb-true}
-use Rattle.std.specs.Prelude.{◌==◌, if◌then◌else◌}
-use Rattle.std.proofs.lemmas.Bool.{cases_eq, cond-true, cond-false, ne_eqb}
+use Rattle.std.specs.Prelude.{◌==◌, nat_lt, if◌then◌else◌}
+use Rattle.std.proofs.lemmas.Bool.{cases_Bool, cases_eq, cond-true, cond-false, ltb-false, ltb-true, ne_eqb}
 use Rattle.mctp_schedule.specs.Logs.{Asked, Happening, Opened, Delivered, Sensed, WentDown, asked_at, count_of}
 
 pub asked_below : (log : List Happening) (k : ℕ) (r : Asked) → asked_at log k ≡ Some r → k < count_of log
@@ -38,3 +38,10 @@ asked_some (Opened q ∷ past) k l = go (cases_eq k (count_of past)) (λ low. as
 asked_some (Delivered _ _ ∷ past) k l = asked_some past k l
 asked_some (Sensed _ _ _ ∷ past) k l = asked_some past k l
 asked_some (WentDown _ ∷ past) k l = asked_some past k l
+
+pub none_above : (log : List Happening) (k : ℕ) → asked_at log k ≡ None → count_of log ≤ k
+none_above log k none = go (cases_Bool (nat_lt k (count_of log)))
+  where
+    go : (nat_lt k (count_of log) ≡ true) ⊎ (nat_lt k (count_of log) ≡ false) → count_of log ≤ k
+    go (inl t) = let r = asked_some log k (ltb-true k (count_of log) t) in let wrong : ◌≡◌ {A = Option Asked} None (Some r.0) = sym none ∙ r.1 in absurd (cc)
+    go (inr f) = ltb-false k (count_of log) f

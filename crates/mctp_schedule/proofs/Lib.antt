@@ -33,3 +33,5 @@ pub mod DeliverySteps
 pub mod CalledSteps
 pub mod NumberedRequests
 pub mod TickedSteps
+pub mod HandedAnswers
+pub mod ReceivedSteps

@@ -52,7 +52,7 @@ module _ {S : Type 0} (setting : Setting S) (w : World) (moment e : ℕ) where
     pub counted : length (numbers_of w.log e) ≡ (requests_of setting w e).count
     pub back : (own k : ℕ) → slice_get (numbers_of w.log e) own ≡ Some k → (r : Asked) × (asked_at w.log k ≡ Some r) × (r.source ≡ e) × (r.own ≡ own)
 
-  unique : Numbered → (k : ℕ) (r : Asked) → asked_at w.log k ≡ Some r → (n : ℕ) → n < (requests_of setting w e).count → slice_index (numbers_of w.log e) n ≡ k → (r.source ≡ e) × (n ≡ r.own)
+  pub unique : Numbered → (k : ℕ) (r : Asked) → asked_at w.log k ≡ Some r → (n : ℕ) → n < (requests_of setting w e).count → slice_index (numbers_of w.log e) n ≡ k → (r.source ≡ e) × (n ≡ r.own)
   unique z k r is n below at =
       let count = z.counted in
       let here = get_index (numbers_of w.log e) n (omega (arith, below, count)) ∙ ap Some at in

@@ -1,6 +1,6 @@
 //! Both ends over a schedule.
 
-ghost use Rattle.std.specs.Prelude.{◌≡◌, OnOk};
+ghost use Rattle.std.specs.Prelude.{◌≡◌, true, OnOk};
 ghost use Rattle.pldm_responder.specs.Performing.{rules_of};
 ghost use Rattle.mctp_schedule.specs.Running.{CanGoOn, GoesOn, answer_action};
 ghost use Rattle.mctp_schedule.specs.declared.step.Action.TheVariants as actions;
@@ -169,7 +169,8 @@ impl<P: Platform> Ends<P> {
 
     /// A packet of the latest answer to a request, a busy one or not, comes to its requester.
     fn hand(&mut self, now: Moment, number: u64, packet: u8, busy: bool) -> Result<(), Memory>
-        requires { CanGoOn (rules_of P.answer P.after P.sensed) self.old.keep self.old.responder self.old.places.items self.old.journal (record { moment = now; action = answer_action busy number packet }) }
+        requires first { busy ≡ true → packet ≡ 0 }
+        requires steps { CanGoOn (rules_of P.answer P.after P.sensed) self.old.keep self.old.responder self.old.places.items self.old.journal (record { moment = now; action = answer_action busy number packet }) }
         ensures runs { OnOk result (GoesOn (rules_of P.answer P.after P.sensed) self.old.keep (record { moment = now; action = answer_action busy number packet }) self.old.responder self.old.places.items self.old.journal self.new.responder self.new.places.items self.new.journal) }
         ensures keep { self.new.keep ≡ self.old.keep }
     {
