@@ -35,3 +35,4 @@ pub mod NumberedRequests
 pub mod TickedSteps
 pub mod HandedAnswers
 pub mod ReceivedSteps
+pub mod OpenedSteps

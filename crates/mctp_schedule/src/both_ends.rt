@@ -118,6 +118,8 @@ impl<P: Platform> Ends<P> {
         ensures keep { self.new.keep ≡ self.old.keep }
     {
         pldm_requester::laws::looks_back();
+        pldm_wire::laws::commands_are_read_back();
+        pldm_wire::laws::messages_fit();
         let number = self.journal.requests.len() as u64;
         let opening = match &mut self.places[usize::from(eid.get())] {
             Some(asker) => asker.open(self.alloc, now, command, number)?,
