@@ -61,12 +61,11 @@ module _ {P S : Type 0} (setting : Setting S) (past : List Step) (keep : ℕ) (s
         requests = λ k. ap (λ rs. slice_get rs k) enters.requests ∙ running.requests k ∙ ap (λ v. option_map (as_it_stands setting v) (asked_at v.log k)) back;
         counted = ap (λ (rs : List Request). length rs) enters.requests ∙ running.counted ∙ ap (λ (v : World). count_of v.log) back;
         traffic = λ k r is.
-            let t = running.traffic k r (ap (λ v. asked_at v.log k) back ∙ is) in
-            (
+            let t = running.traffic k r (ap (λ v. asked_at v.log k) back ∙ is) in (
               t.0,
               ap (λ ts. slice_get ts k) enters.traffic ∙ t.1,
               subst (λ v. IsCarried setting v journal.entries.items k r t.0) back
-              (subst (λ es. IsCarried setting w es k r t.0) (sym enters.entries) (still_carried setting w w old.entries.items (entry_of setting w moment a) k r t.0 refl refl t.2)),
+                  (subst (λ es. IsCarried setting w es k r t.0) (sym enters.entries) (still_carried setting w w old.entries.items (entry_of setting w moment a) k r t.0 refl refl t.2)),
             );
         carried = ap (λ (ts : List Carried). length ts) enters.traffic ∙ running.carried ∙ ap (λ (v : World). count_of v.log) back;
         entries = enters.entries ∙ ap (λ es. es ++ entry_of setting w moment a ∷ []) running.entries;
@@ -128,15 +127,13 @@ module _ {P S : Type 0} (setting : Setting S) (past : List Step) (keep : ℕ) (s
         side_in d known = at (cases_eq d e)
           where
             at : (d ≡ e) ⊎ (d ≡ e → ⊥) → (s : Side) × (side_at (slice_set places e (Some new)) d ≡ Some s) × IsSide setting v moment d s
-            at (inl same) =
-                (
-                  new,
-                  ap (side_at (slice_set places e (Some new))) same ∙ or_set_at places e (Some new) None below,
-                  subst (λ k. IsSide setting v moment k new) (sym same) c.is_side,
-                )
+            at (inl same) = (
+              new,
+              ap (side_at (slice_set places e (Some new))) same ∙ or_set_at places e (Some new) None below,
+              subst (λ k. IsSide setting v moment k new) (sym same) c.is_side,
+            )
             at (inr other) =
-                let s = running.sides d known in
-                (
+                let s = running.sides d known in (
                   s.0,
                   or_set_other places e d (Some new) None other ∙ s.1,
                   still_side setting w v (time_now past) moment d s.0 (call_other w.calls e call d other) refl (λ k r is. is) later s.2,
@@ -151,12 +148,11 @@ module _ {P S : Type 0} (setting : Setting S) (past : List Step) (keep : ℕ) (s
           requests = λ k. c.requests k ∙ ap (λ u. option_map (as_it_stands setting u) (asked_at u.log k)) back;
           counted = c.counted ∙ running.counted ∙ ap (λ (u : World). count_of u.log) back;
           traffic = λ k r is.
-              let t = running.traffic k r (ap (λ (u : World). asked_at u.log k) back ∙ is) in
-              (
+              let t = running.traffic k r (ap (λ (u : World). asked_at u.log k) back ∙ is) in (
                 t.0,
                 ap (λ ts. slice_get ts k) c.writes.traffic ∙ t.1,
                 subst (λ u. IsCarried setting u journal.entries.items k r t.0) back
-                (subst (λ es. IsCarried setting v es k r t.0) (sym c.writes.entries) (still_carried setting w v old.entries.items x k r t.0 refl refl t.2)),
+                    (subst (λ es. IsCarried setting v es k r t.0) (sym c.writes.entries) (still_carried setting w v old.entries.items x k r t.0 refl refl t.2)),
               );
           carried = ap (λ (ts : List Carried). length ts) c.writes.traffic ∙ running.carried ∙ ap (λ (u : World). count_of u.log) back;
           entries = c.writes.entries ∙ ap (λ es. es ++ x ∷ []) running.entries ∙ ap (λ y. entries setting past ++ y ∷ []) c.is_entry;

@@ -79,7 +79,6 @@ module _ {S : Type 0} (device : Rules S) (keep : ℕ) (start : S) (past : List H
 abbrev pub packet_for : ℕ → Asked → Packet
 packet_for eid r = packet (route_of r.source eid r.own) true true 0 r.message
 
-
 pub held_whole : (held : assembly.Held) (eid : ℕ) (r : Asked) → assembly.answer held (packet_for eid r) ≡ feds.Whole (record { items = r.message })
 held_whole held eid r = go (map.get held (key_of (packet_for eid r)))
   where

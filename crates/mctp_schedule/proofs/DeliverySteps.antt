@@ -108,12 +108,11 @@ module _ {P S : Type 0} (setting : Setting S) (past : List Step) (keep : ℕ) (s
     requests = λ k. ap (λ rs. slice_get rs k) enters.requests ∙ running.requests k;
     counted = ap (λ (rs : List Request). length rs) enters.requests ∙ running.counted;
     traffic = λ k r is.
-        let t = running.traffic k r is in
-        (
+        let t = running.traffic k r is in (
           t.0,
           ap (λ ts. slice_get ts k) enters.traffic ∙ t.1,
           subst (λ es. IsCarried setting v es k r t.0) (sym enters.entries)
-          (still_carried setting w v old.entries.items entry.Nothing k r t.0 (given_none setting.device setting.keep setting.start w.log moment n none k) (busy_none setting.device setting.keep setting.start w.log moment n none k) t.2),
+              (still_carried setting w v old.entries.items entry.Nothing k r t.0 (given_none setting.device setting.keep setting.start w.log moment n none k) (busy_none setting.device setting.keep setting.start w.log moment n none k) t.2),
         );
     carried = ap (λ (ts : List Carried). length ts) enters.traffic ∙ running.carried;
     entries = enters.entries ∙ ap (λ es. es ++ entry.Nothing ∷ []) running.entries ∙ ap (λ o. entries setting past ++ delivery_entry setting w.log moment o ∷ []) (sym none);
@@ -223,31 +222,29 @@ module _ {P S : Type 0} (setting : Setting S) (past : List Step) (keep : ℕ) (s
           go (inl e) =
               let same_request : q ≡ r = let both : Some q ≡ Some r = sym asked ∙ ap (asked_at w.log) e ∙ is in cc in
               let was : IsCarried setting w old.entries.items n r t.0 = subst (λ j. IsCarried setting w old.entries.items j r t.0) e (subst (λ a. IsCarried setting w old.entries.items k a t.0) same_request t.2) in
-              let here = carried_here t.0 was in
-              (
+              let here = carried_here t.0 was in (
                 answers_at (length old.entries.items) busy t.0,
                 moved ∙ ap Some (cond-true (k == n) _ _ (eq-eqb k n e)),
                 subst (λ es. IsCarried setting v es k q (answers_at (length old.entries.items) busy t.0)) (sym d.new_entries)
-                (subst (λ j. IsCarried setting v (old.entries.items ++ x ∷ []) j q (answers_at (length old.entries.items) busy t.0)) (sym e)
-                (subst (λ a. IsCarried setting v (old.entries.items ++ x ∷ []) n a (answers_at (length old.entries.items) busy t.0)) (sym same_request) here)),
+                    (subst (λ j. IsCarried setting v (old.entries.items ++ x ∷ []) j q (answers_at (length old.entries.items) busy t.0)) (sym e)
+                    (subst (λ a. IsCarried setting v (old.entries.items ++ x ∷ []) n a (answers_at (length old.entries.items) busy t.0)) (sym same_request) here)),
               )
-          go (inr other) =
-              (
-                t.0,
-                moved ∙ ap Some (cond-false (k == n) _ _ (ne_eqb k n other)),
-                subst (λ es. IsCarried setting v es k q t.0) (sym d.new_entries)
+          go (inr other) = (
+            t.0,
+            moved ∙ ap Some (cond-false (k == n) _ _ (ne_eqb k n other)),
+            subst (λ es. IsCarried setting v es k q t.0) (sym d.new_entries)
                 (still_carried setting w v old.entries.items x k q t.0 (given_other setting.device setting.keep setting.start w.log moment n k (λ e. other (sym e))) (busy_other setting.device setting.keep setting.start w.log moment n k (λ e. other (sym e))) t.2),
-              )
+          )
 
       fits_here : (q : Asked) → asked_at w.log n ≡ Some q → is_fresh setting.keep (told w.log) (message_at moment q) ≡ true → FitsPackets (reply setting.device (performed setting.device setting.keep setting.start (told w.log)) q.message)
       fits_here q asked fresh =
           let same_request : r ≡ q = let both : Some r ≡ Some q = sym is ∙ asked in cc in
           let held = held_of station in
           let arrival_is : received_arrival held moment bytes ≡ Whole m =
-              ap (λ own. arrival (assembly.answer held.open_messages) own moment bytes) running.device.left.endpoint ∙ brings (assembly.answer held.open_messages) (held_whole held.open_messages setting.eid r) in
+          ap (λ own. arrival (assembly.answer held.open_messages) own moment bytes) running.device.left.endpoint ∙ brings (assembly.answer held.open_messages) (held_whole held.open_messages setting.eid r) in
           let fits : performs held m ≡ true → Fits (reply setting.device held.state m.bytes) = subst (ArrivalFits setting.device held) arrival_is d.given_fits in
           let on : performs held m ≡ true =
-              performs_is setting.device setting.eid setting.keep setting.start held calls running.device.left m ∙ ap (λ es. is_fresh setting.keep es m) running.device.events ∙ subst (λ a. is_fresh setting.keep (told w.log) (message_at moment a) ≡ true) (sym same_request) fresh in
+          performs_is setting.device setting.eid setting.keep setting.start held calls running.device.left m ∙ ap (λ es. is_fresh setting.keep es m) running.device.events ∙ subst (λ a. is_fresh setting.keep (told w.log) (message_at moment a) ≡ true) (sym same_request) fresh in
           let both = fits on in
           let state = running.device.left.state ∙ ap (performed setting.device setting.keep setting.start) running.device.events in
           subst (λ (a : Asked). FitsPackets (reply setting.device (performed setting.device setting.keep setting.start (told w.log)) a.message)) same_request

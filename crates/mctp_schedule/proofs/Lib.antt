@@ -36,3 +36,5 @@ pub mod TickedSteps
 pub mod HandedAnswers
 pub mod ReceivedSteps
 pub mod OpenedSteps
+pub mod RunsBegin
+pub mod ReportedRequests

@@ -313,17 +313,15 @@ module _ {P S : Type 0} (setting : Setting S) (past : List Step) (keep : ℕ) (s
     traffic_now k r is = go (asked_cases k r is)
       where
         go : ((k ≡ count) × (r ≡ q)) ⊎ (asked_at w.log k ≡ Some r) → (c : Carried) × (slice_get journal.traffic.items k ≡ Some c) × IsCarried setting v journal.entries.items k r c
-        go (inl at) =
-            (
-              carried_new,
-              ap (slice_get journal.traffic.items) (at.0 ∙ sym running.carried) ∙ ap (λ ts. slice_get ts (length old.traffic.items)) x.new_traffic ∙ get_last old.traffic.items carried_new,
-              subst (λ j. IsCarried setting v journal.entries.items j r carried_new) (sym at.0) (subst (λ a. IsCarried setting v journal.entries.items count a carried_new) (sym at.1) carried_is),
-            )
+        go (inl at) = (
+          carried_new,
+          ap (slice_get journal.traffic.items) (at.0 ∙ sym running.carried) ∙ ap (λ ts. slice_get ts (length old.traffic.items)) x.new_traffic ∙ get_last old.traffic.items carried_new,
+          subst (λ j. IsCarried setting v journal.entries.items j r carried_new) (sym at.0) (subst (λ a. IsCarried setting v journal.entries.items count a carried_new) (sym at.1) carried_is),
+        )
         go (inr older) =
             let t = running.traffic k r older in
             let low = asked_below w.log k r older in
-            let all = running.carried in
-            (
+            let all = running.carried in (
               t.0,
               ap (λ ts. slice_get ts k) x.new_traffic ∙ get_front old.traffic.items carried_new k (omega (arith, low, all)) ∙ t.1,
               subst (λ es. IsCarried setting v es k r t.0) (sym x.new_entries) (still_carried setting w v old.entries.items (entry.Opened (length old.requests.items)) k r t.0 refl refl t.2),
@@ -333,15 +331,13 @@ module _ {P S : Type 0} (setting : Setting S) (past : List Step) (keep : ℕ) (s
     side_in d known = go (cases_eq d e)
       where
         go : (d ≡ e) ⊎ (d ≡ e → ⊥) → (y : Side) × (side_at (slice_set places e (Some new)) d ≡ Some y) × IsSide setting v moment d y
-        go (inl at) =
-            (
-              new,
-              ap (side_at (slice_set places e (Some new))) at ∙ or_set_at places e (Some new) None (or_within places e (running.sides e has).0 (running.sides e has).1),
-              subst (λ j. IsSide setting v moment j new) (sym at) is_side,
-            )
+        go (inl at) = (
+          new,
+          ap (side_at (slice_set places e (Some new))) at ∙ or_set_at places e (Some new) None (or_within places e (running.sides e has).0 (running.sides e has).1),
+          subst (λ j. IsSide setting v moment j new) (sym at) is_side,
+        )
         go (inr other) =
-            let y = running.sides d known in
-            (
+            let y = running.sides d known in (
               y.0,
               or_set_other places e d (Some new) None other ∙ y.1,
               still_side setting w v (time_now past) moment d y.0 (call_other w.calls e call d other) (numbers_other d other) asked_stays later y.2,

@@ -82,7 +82,7 @@ module _ {S : Type 0} (setting : Setting S) (w : World) (moment e : ℕ) where
           let within = subst (λ d. r.own < (requests_of setting w d).count) same o.within in
           let number = subst (λ d. slice_get (numbers_of w.log d) r.own ≡ Some k) same o.number in
           let here : with_call w.calls e (requester.Tick moment) r.source ≡ requester.Tick moment ∷ w.calls r.source =
-              ap (with_call w.calls e (requester.Tick moment)) same ∙ call_here w.calls e (requester.Tick moment) ∙ ap (λ d. requester.Tick moment ∷ w.calls d) (sym same) in
+          ap (with_call w.calls e (requester.Tick moment)) same ∙ call_here w.calls e (requester.Tick moment) ∙ ap (λ d. requester.Tick moment ∷ w.calls d) (sym same) in
           stood k r (is_given_up (timing_of setting e) moment ((requests_of setting w e).each r.own).course)
           (among_one (slice_index (numbers_of w.log e)) (λ n. is_given_up (timing_of setting e) moment ((requests_of setting w e).each n).course) k r.own 0 (requests_of setting w e).count (omega arith) (omega (arith, within)) (index_get (numbers_of w.log e) r.own k number)
           (λ i low high at. (unique z k r is i (omega arith) at).1))

@@ -16,6 +16,7 @@ pub mod Places
 pub mod Requests
 pub mod RunFaults
 pub mod Running
+pub mod Runs
 pub mod Schedules
 pub mod WordValues
 pub mod Worlds

@@ -1,8 +1,13 @@
 //! Both ends over a schedule.
 
-ghost use Rattle.std.specs.Prelude.{◌≡◌, true, OnOk};
+ghost use Rattle.std.specs.Prelude.{◌≡◌, ◌⊎◌, true, None, Some, IfOk, IfErr, OnOk};
 ghost use Rattle.pldm_responder.specs.Performing.{rules_of};
+ghost use Rattle.mctp_schedule.specs.Entries.{entries, requests_after};
+ghost use Rattle.mctp_schedule.specs.FirstArrivals.{order};
+ghost use Rattle.mctp_schedule.specs.RunFaults.{refusal};
 ghost use Rattle.mctp_schedule.specs.Running.{CanGoOn, GoesOn, answer_action};
+ghost use Rattle.mctp_schedule.specs.Runs.{final_state, final_world, newest_first, setting_of_run};
+ghost use Rattle.mctp_schedule.specs.Worlds.{is_timely};
 ghost use Rattle.mctp_schedule.specs.declared.step.Action.TheVariants as actions;
 
 use crate::journal::Journal;
@@ -43,12 +48,30 @@ pub struct Report<P: Platform> {
 }
 
 /// Runs a device and the requesters of a schedule over its steps.
+///
+/// Nothing is lost, repeated or reordered but by the schedule: what is never delivered is lost, and
+/// what is delivered again is a repeat.
+///
+/// # Errors
+///
+/// `Timing` for the first requester whose timing is refused, or `Memory` where a growth was refused.
 pub fn run<P: Platform>(
     alloc: Global,
     setup: Setup<P>,
     schedule: &Schedule,
-) -> Result<Report<P>, RunFault> {
+) -> Result<Report<P>, RunFault>
+    ensures ok { IfOk result (λ report. refusal setup.eid setup.keep schedule.now.requesters ≡ None) }
+    ensures err { IfErr result (λ fault. (fault ≡ RunFault.Memory) ⊎ (refusal setup.eid setup.keep schedule.now.requesters ≡ Some fault)) }
+    ensures entries { IfOk result (λ report. report.entries.items ≡ entries (setting_of_run (rules_of P.answer P.after P.sensed) (P.state setup.device) setup.eid setup.keep schedule.now) (newest_first schedule.now)) }
+    ensures requests { IfOk result (λ report. report.requests.items ≡ requests_after (setting_of_run (rules_of P.answer P.after P.sensed) (P.state setup.device) setup.eid setup.keep schedule.now) (final_world (setting_of_run (rules_of P.answer P.after P.sensed) (P.state setup.device) setup.eid setup.keep schedule.now) schedule.now)) }
+    ensures order { IfOk result (λ report. report.order.items ≡ order setup.keep (final_world (setting_of_run (rules_of P.answer P.after P.sensed) (P.state setup.device) setup.eid setup.keep schedule.now) schedule.now).log) }
+    ensures device { IfOk result (λ report. P.state report.device ≡ final_state (setting_of_run (rules_of P.answer P.after P.sensed) (P.state setup.device) setup.eid setup.keep schedule.now) schedule.now) }
+    ensures timely { IfOk result (λ report. report.timely ≡ is_timely (setting_of_run (rules_of P.answer P.after P.sensed) (P.state setup.device) setup.eid setup.keep schedule.now) (newest_first schedule.now)) }
+{
+    pldm_responder::laws::looks_back::<P>();
+    pldm_requester::laws::looks_back();
     let Setup { eid, keep, device } = setup;
+    let _range = eid.get();
     let mut ends = Ends {
         alloc,
         keep,
@@ -57,9 +80,9 @@ pub fn run<P: Platform>(
         journal: Journal::new(alloc),
     };
     for step in schedule.steps() {
-        if ends.take(step).is_err() {
+        let Ok(()) = ends.take(step) else {
             return Err(RunFault::Memory);
-        }
+        };
     }
     let Ends {
         responder,

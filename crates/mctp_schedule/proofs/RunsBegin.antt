@@ -1,0 +1,106 @@
+-- What a run holds before its first step, and that each step may come after those before it.
+use Rattle.std.proofs.Common.{◌≡◌, ℕ, zero, suc, ◌+◌, ◌<◌, ◌≤◌, true, List, [], ◌∷◌, ◌++◌, length, take, Option, Some, None, refl, sym, ap, subst, ◌∙◌, arith}
+use Rattle.std.specs.Prelude.{reverse, slice_get, slice_index_or}
+use Rattle.std.proofs.lemmas.List.{reverse-append, take_more}
+use Rattle.mctp_packet.specs.Ids.{IsEid}
+use Rattle.pldm_responder.specs.Held as device_held
+use Rattle.pldm_responder.specs.Laws as device_laws
+use Rattle.pldm_responder.specs.Performing.{Rules}
+use Rattle.pldm_responder.specs.Stations as responder_stations
+use Rattle.pldm_requester.specs.Laws.{NewLooksBack, SameIsLeft}
+use Rattle.pldm_requester.specs.Slots.{held_of}
+use Rattle.pldm_requester.specs.Steps.{held_at_first}
+use Rattle.mctp_schedule.specs.Askers.{Side}
+use Rattle.mctp_schedule.specs.Logs.{Asked}
+use Rattle.mctp_schedule.specs.Places.{BeginEach, Begins}
+use Rattle.mctp_schedule.specs.Running.{IsRunning, IsSide, MayCome}
+use Rattle.mctp_schedule.specs.Schedules.{AreKnown, NeverGoBack, has_requester, is_known, is_requester}
+use Rattle.mctp_schedule.specs.Worlds.{Setting, time_now, timing_of, world}
+use Rattle.mctp_schedule.specs.declared.journal.Journal.{Journal}
+use Rattle.mctp_schedule.specs.declared.step.RequesterLine.{RequesterLine}
+use Rattle.mctp_schedule.specs.declared.step.Step.{Step}
+
+-- a journal of no step
+pub record IsEmpty (journal : Journal) : Type 0 where
+  pub entries : journal.entries.items ≡ []
+  pub requests : journal.requests.items ≡ []
+  pub traffic : journal.traffic.items ≡ []
+  pub order : journal.order.items ≡ []
+  pub timely : journal.timely ≡ true
+
+pub begins : {P S : Type 0} (setting : Setting S) (station : responder_stations.Station P S) (places : List (Option Side)) (journal : Journal) → IsEid setting.eid → device_laws.NewLooksBack setting.device → device_laws.SameIsLeft setting.device
+    → NewLooksBack → SameIsLeft → device_held.IsHeld (responder_stations.held_of station) (device_held.held_at_first setting.eid setting.keep setting.start) → BeginEach setting.eid setting.keep setting.requesters places → IsEmpty journal
+    → IsRunning setting [] setting.keep station places journal
+begins setting station places journal eid device_new device_same new same held each empty = record {
+  times = refl;
+  device = record {
+    endpoint = eid;
+    left = device_same setting.eid setting.keep setting.start (responder_stations.held_of station) (device_held.held_at_first setting.eid setting.keep setting.start) [] held (device_new setting.eid setting.keep setting.start);
+    events = refl;
+    called = let l = held.last in omega (arith, l);
+  };
+  sides = λ e has. let s = each e has in (s.0, s.1, side e s.0 s.2);
+  opened = λ k r is. absurd (cc);
+  requests = λ k. ap (λ rs. slice_get rs k) empty.requests;
+  counted = ap (λ xs. length xs) empty.requests;
+  traffic = λ k r is. absurd (cc);
+  carried = ap (λ xs. length xs) empty.traffic;
+  entries = empty.entries;
+  order = empty.order;
+  timely = empty.timely;
+  sent = tt;
+  fit = tt;
+}
+  where
+    side : (e : ℕ) (s : Side) → Begins setting.eid setting.keep setting.requesters e s → IsSide setting (world setting []) 0 e s
+    side e s b = record {
+      endpoint = b.endpoint;
+      other = b.other;
+      left = same e setting.eid (timing_of setting e) (held_of s.station) (held_at_first e setting.eid (timing_of setting e)) [] b.held (new e setting.eid (timing_of setting e));
+      numbers = b.numbers;
+      counted = refl;
+      numbered = λ own k is. absurd (cc);
+      called = let l = b.held.last in omega (arith, l);
+    }
+
+-- ---- the steps so far, and one more
+pub taken_more : (steps : List Step) (i : ℕ) (step : Step) → i < length steps → step ≡ slice_index_or steps i step → reverse (take (i + 1) steps) ≡ step ∷ reverse (take i steps)
+taken_more steps i step within at =
+    ap reverse (take_more steps i step within ∙ ap (λ s. take i steps ++ s ∷ []) (sym at)) ∙ reverse-append (take i steps) (step ∷ [])
+
+abbrev time_or : ℕ → List Step → ℕ
+time_or moment [] = moment
+time_or moment (step ∷ steps) = step.moment
+
+abbrev last_of : ℕ → List Step → ℕ
+last_of moment [] = moment
+last_of moment (step ∷ steps) = last_of step.moment steps
+
+-- the moment of the last of the first so many steps
+in_order_at : (moment : ℕ) (steps : List Step) (i : ℕ) (step : Step) → NeverGoBack moment steps → slice_get steps i ≡ Some step → last_of moment (take i steps) ≤ step.moment
+in_order_at moment [] i step order is = absurd (cc)
+in_order_at moment (first ∷ steps) zero step order is = let same : first ≡ step = cc in let m = ap (λ (s : Step). s.moment) same in let o = order.0 in omega (arith, m, o)
+in_order_at moment (first ∷ steps) (suc i) step order is = in_order_at first.moment steps i step order.1 is
+
+known_at : (requesters : List RequesterLine) (steps : List Step) (i : ℕ) (step : Step) → AreKnown requesters steps → slice_get steps i ≡ Some step → is_known requesters step.action ≡ true
+known_at requesters [] i step known is = absurd (cc)
+known_at requesters (first ∷ steps) zero step known is = let same : first ≡ step = cc in ap (λ (s : Step). is_known requesters s.action) (sym same) ∙ known.0
+known_at requesters (first ∷ steps) (suc i) step known is = known_at requesters steps i step known.1 is
+
+time_last : (moment : ℕ) (steps : List Step) (step : Step) → time_or moment (steps ++ step ∷ []) ≡ time_or step.moment steps
+time_last moment [] step = refl
+time_last moment (first ∷ steps) step = refl
+
+time_reversed : (moment : ℕ) (steps : List Step) → time_or moment (reverse steps) ≡ last_of moment steps
+time_reversed moment [] = refl
+time_reversed moment (step ∷ steps) = ap (time_or moment) (reverse-append (step ∷ []) steps) ∙ time_last moment (reverse steps) step ∙ time_reversed step.moment steps
+
+time_is : (steps : List Step) → time_now steps ≡ time_or 0 steps
+time_is [] = refl
+time_is (step ∷ steps) = refl
+
+pub may_come : (requesters : List RequesterLine) (steps : List Step) (i : ℕ) (step : Step) → NeverGoBack 0 steps → AreKnown requesters steps → slice_get steps i ≡ Some step → MayCome requesters (reverse (take i steps)) step
+may_come requesters steps i step order known is = record {
+  later = let t = time_is (reverse (take i steps)) ∙ time_reversed 0 (take i steps) in let l = in_order_at 0 steps i step order is in omega (arith, t, l);
+  known = known_at requesters steps i step known is;
+}

@@ -1,0 +1,68 @@
+-- Step by step, until there is none.
+use Rattle.std.proofs.Common.{◌≡◌, ◌≤◌, ◌<◌, ◌+◌, ◌∷◌, List, ℕ, length, take, Some, sym, ap, subst, ◌∙◌, arith}
+use Rattle.std.specs.Prelude.{option_map, reverse, slice_get, slice_index_or}
+use Rattle.pldm_responder.specs.Performing.{rules_of}
+use Rattle.mctp_schedule.specs.Entries.{as_it_stands, requests_after}
+use Rattle.mctp_schedule.specs.Logs.{asked_at}
+use Rattle.mctp_schedule.specs.Places.{BeginEach}
+use Rattle.mctp_schedule.specs.Running.{IsRunning, Terms}
+use Rattle.mctp_schedule.specs.Runs.{newest_first, setting_of_run}
+use Rattle.mctp_schedule.specs.Worlds.{world}
+use Rattle.mctp_schedule.specs.declared.step.Step.{Step}
+use Rattle.mctp_schedule.proofs.ListPlaces.{get_or, take_all}
+use Rattle.mctp_schedule.proofs.ReportedRequests.{requests_are}
+use Rattle.mctp_schedule.proofs.RunsBegin.{begins, may_come, taken_more}
+use Rattle.mctp_schedule.proofs.both_ends.run.Goals as goal
+
+pub loop-step-init : goal.loop-step-init
+loop-step-init g c =
+    let setting = setting_of_run (rules_of g.P.Platform.answer g.P.Platform.after g.P.Platform.sensed) (g.P.Platform.state c.args.setup.device) c.args.setup.eid c.args.setup.keep c.args.schedule.now in
+    let empty = c.new-2.ensures in
+    let begun = c.in_ok-begin_requesters.ensures.begin in
+    record {
+      items = c.steps-step-items.ensures.value;
+      runs = begins setting c.new.result c.in_ok-begin_requesters.field-0.items c.new-2.result c.get-range.ensures.range c.looks_back.ensures.new c.looks_back.ensures.same c.looks_back-2.ensures.new c.looks_back-2.ensures.same c.new.ensures.held
+          (subst (λ lines. BeginEach c.args.setup.eid c.args.setup.keep lines c.in_ok-begin_requesters.field-0.items) c.requesters.ensures.value begun)
+          (record { entries = empty.entries; requests = empty.requests; traffic = empty.traffic; order = empty.order; timely = empty.timely });
+    }
+
+pub take-requires : goal.take-requires
+take-requires g c =
+    let schedule = c.args.schedule.now in
+    let terms : Terms g.row.P-State.Denot = record { start = g.P.Platform.state c.args.setup.device; eid = c.args.setup.eid; keep = c.args.setup.keep; requesters = schedule.requesters } in
+    let i = c.loop-step.step-index in
+    let step = c.step-item.result in
+    let items = c.steps-step-items.ensures.value in
+    let valid = c.steps-step-items.ensures.valid in
+    let here = ap (λ (xs : List Step). slice_get xs i) (sym items) ∙ get_or c.steps-step-items.result.now i step c.loop-step-test.true ∙ ap Some (sym c.step-item.is) in
+    (terms, reverse (take i schedule.steps), c.loop-step.invariant.runs, may_come schedule.requesters schedule.steps i step valid.in_order valid.known here)
+
+pub loop-step-preserved : goal.loop-step-preserved
+loop-step-preserved g c =
+    let schedule = c.args.schedule.now in
+    let setting = setting_of_run (rules_of g.P.Platform.answer g.P.Platform.after g.P.Platform.sensed) (g.P.Platform.state c.args.setup.device) c.args.setup.eid c.args.setup.keep schedule in
+    let terms : Terms g.row.P-State.Denot = record { start = g.P.Platform.state c.args.setup.device; eid = c.args.setup.eid; keep = c.args.setup.keep; requesters = schedule.requesters } in
+    let i = c.loop-step.step-index in
+    let step = c.step-item.result in
+    let items = c.steps-step-items.ensures.value in
+    let valid = c.steps-step-items.ensures.valid in
+    let within : i < length schedule.steps = (let t = c.loop-step-test.true in let l = ap (λ (xs : List Step). length xs) items in omega (arith, t, l)) in
+    let at = c.step-item.is ∙ ap (λ (xs : List Step). slice_index_or xs i step) items in
+    let here = get_or schedule.steps i step within ∙ ap Some (sym at) in
+    let runs = c.in-Ok.ensures.runs terms (reverse (take i schedule.steps)) c.loop-step.invariant.runs (may_come schedule.requesters schedule.steps i step valid.in_order valid.known here) in
+    record {
+      items = items;
+      runs = subst (λ keep. IsRunning setting (reverse (take (i + 1) schedule.steps)) keep c.take.new.self.responder c.take.new.self.places.items c.take.new.self.journal) (sym c.in-Ok.ensures.keep)
+          (subst (λ past. IsRunning setting past c.loop-step.ends.keep c.take.new.self.responder c.take.new.self.places.items c.take.new.self.journal) (sym (taken_more schedule.steps i step within at)) runs);
+    }
+
+pub returns-clause-requests : goal.returns-clause-requests
+returns-clause-requests g c =
+    let schedule = c.args.schedule.now in
+    let setting = setting_of_run (rules_of g.P.Platform.answer g.P.Platform.after g.P.Platform.sensed) (g.P.Platform.state c.args.setup.device) c.args.setup.eid c.args.setup.keep schedule in
+    let i = c.loop-step.step-index in
+    let done = c.loop-step-test.false in
+    let l = ap (λ (xs : List Step). length xs) c.steps-step-items.ensures.value in
+    let all = ap reverse (take_all i schedule.steps (omega (arith, done, l))) in
+    let w = world setting (reverse (take i schedule.steps)) in
+    requests_are setting w c.loop-step.ends.journal.requests.items c.loop-step.invariant.runs.requests ∙ ap (λ past. requests_after setting (world setting past)) all

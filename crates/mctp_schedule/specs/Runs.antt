@@ -1,0 +1,30 @@
+-- A run of a device and the requesters of a schedule: what it is about, and the world at its end.
+use Rattle.std.specs.Prelude.{ℕ, List, reverse}
+use Rattle.pldm_responder.specs.Performing.{Rules, performed}
+use Rattle.mctp_schedule.specs.Logs.{told}
+use Rattle.mctp_schedule.specs.Schedules.{Spelled}
+use Rattle.mctp_schedule.specs.Worlds.{Setting, World, world}
+use Rattle.mctp_schedule.specs.declared.step.Step.{Step}
+
+-- a device with these rules, in its first state, at the endpoint `eid`; both ends keep for `keep`
+abbrev pub setting_of_run : {S : Type 0} → Rules S → S → ℕ → ℕ → Spelled → Setting S
+setting_of_run device start eid keep schedule = record {
+  device = device;
+  start = start;
+  eid = eid;
+  keep = keep;
+  requesters = schedule.requesters;
+}
+
+-- a schedule has its oldest step first
+abbrev pub newest_first : Spelled → List Step
+newest_first schedule = reverse schedule.steps
+
+-- the world after all steps
+abbrev pub final_world : {S : Type 0} → Setting S → Spelled → World
+final_world setting schedule = world setting (newest_first schedule)
+
+-- the responder's state after all steps
+abbrev pub final_state : {S : Type 0} → Setting S → Spelled → S
+final_state setting schedule =
+    performed setting.device setting.keep setting.start (told (final_world setting schedule).log)
