@@ -33,7 +33,7 @@ pub mod DeliverySteps
 pub mod CalledSteps
 pub mod NumberedRequests
 pub mod TickedSteps
-pub mod HandedAnswers
+pub mod DeliveredAnswers
 pub mod ReceivedSteps
 pub mod OpenedSteps
 pub mod RunsBegin

@@ -33,7 +33,7 @@ use Rattle.mctp_schedule.specs.declared.step.Step.{Step}
 use Rattle.mctp_schedule.proofs.AskerCalls.{answer_of_got, answer_remembered, own_below, standing_after}
 use Rattle.mctp_schedule.proofs.AskedRequests.{asked_below}
 use Rattle.mctp_schedule.proofs.CalledSteps.{Writes, called_runs, new_side}
-use Rattle.mctp_schedule.proofs.HandedAnswers.{delivered, done_is, entry_is, timely_is}
+use Rattle.mctp_schedule.proofs.DeliveredAnswers.{delivered, done_is, entry_is, timely_is}
 use Rattle.mctp_schedule.proofs.NumberedRequests.{get_index, index_get}
 use Rattle.mctp_schedule.proofs.RunningFrames.{call_here, call_other}
 use Rattle.mctp_schedule.proofs.TickedSteps.{Numbered, unique}

@@ -14,7 +14,7 @@ use Rattle.mctp_schedule.specs.Worlds.{handed, is_timely, source_of, tag_is_own,
 use Rattle.mctp_schedule.specs.declared.entry.Entry.TheVariants as entry
 use Rattle.mctp_schedule.proofs.AskedRequests.{asked_below}
 use Rattle.mctp_schedule.proofs.CalledSteps.{nothing_runs, or_within, place_holds}
-use Rattle.mctp_schedule.proofs.HandedAnswers.{asked_of, done_is, entry_is, not_some, timely_is, written}
+use Rattle.mctp_schedule.proofs.DeliveredAnswers.{asked_of, done_is, entry_is, not_some, timely_is, written}
 use Rattle.mctp_schedule.proofs.ListPlaces.{get_or, or_get}
 use Rattle.mctp_schedule.proofs.ReceivedSteps.{hand_runs, tag_kept, told_below}
 use Rattle.mctp_schedule.proofs.both_ends.Ends.hand.Goals as goal
