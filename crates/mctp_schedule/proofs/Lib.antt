@@ -9,6 +9,7 @@ pub mod LineSplits
 pub mod LongLines
 pub mod Numbers
 pub mod ReadLines
+pub mod RequesterRows
 pub mod ScheduleKept
 pub mod Origins
 pub mod ScheduleRows

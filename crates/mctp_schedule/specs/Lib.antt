@@ -9,6 +9,8 @@ pub mod LineSpelling
 pub mod LineWords
 pub mod Logs
 pub mod OncePerformed
+pub mod RequesterHalf
 pub mod Schedules
+pub mod Taken
 pub mod WordValues
 pub mod Worlds
