@@ -10,6 +10,7 @@ pub mod LongLines
 pub mod Numbers
 pub mod ReadLines
 pub mod RequesterRows
+pub mod RowsOfReplies
 pub mod ScheduleKept
 pub mod Origins
 pub mod ScheduleRows
