@@ -5,6 +5,7 @@ pub mod FoundCommands
 pub mod FreshOrder
 pub mod GivenReplies
 pub mod JoinedLogs
+pub mod KnownRequests
 pub mod LineSplits
 pub mod LongLines
 pub mod Numbers
