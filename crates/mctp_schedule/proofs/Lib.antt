@@ -1,3 +1,4 @@
+pub mod AnswersRead
 pub mod DeliveriesOwed
 pub mod FirstPerformed
 pub mod FittingReplies
