@@ -5,6 +5,7 @@ pub mod FittingReplies
 pub mod FoundCommands
 pub mod FreshOrder
 pub mod GivenReplies
+pub mod HandedAnswers
 pub mod JoinedLogs
 pub mod KnownRequests
 pub mod LineSplits
