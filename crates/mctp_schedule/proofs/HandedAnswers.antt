@@ -22,14 +22,14 @@ use Rattle.pldm_requester.specs.Numbering.{tag_of}
 use Rattle.pldm_requester.specs.declared.timing.Timing.{Timing}
 
 -- ---- the packets of a message by place
-packet_there : (route : Route) (message : List ℕ) (j : ℕ) → j < piece_count message → slice_get (written_packets route message) j ≡ Some (written (packet_at route message j))
+pub packet_there : (route : Route) (message : List ℕ) (j : ℕ) → j < piece_count message → slice_get (written_packets route message) j ≡ Some (written (packet_at route message j))
 packet_there route message j l =
     let f : ℕ → List ℕ = λ i. written (packet_at route message i) in
     let n = piece_count message in
     slice_get-get_or (map f (range_with_len 0 n)) j [] (omega (arith, length-map-range_with_len f 0 n))
     ∙ ap Some (get_or-map-range_with_len f 0 n j j [] l (zero-add j))
 
-packet_past : (route : Route) (message : List ℕ) (j : ℕ) → piece_count message ≤ j → slice_get (written_packets route message) j ≡ None
+pub packet_past : (route : Route) (message : List ℕ) (j : ℕ) → piece_count message ≤ j → slice_get (written_packets route message) j ≡ None
 packet_past route message j l =
     let f : ℕ → List ℕ = λ i. written (packet_at route message i) in
     let n = piece_count message in
@@ -51,10 +51,10 @@ IsOf n (Drop reason) = Unit {0}
 IsOf n Part = Unit {0}
 IsOf n (Answer m message) = m ≡ n
 
-put_here : (each : ℕ → Request) (n : ℕ) (r : Request) (k : ℕ) → k ≡ n → put each n r k ≡ r
+pub put_here : (each : ℕ → Request) (n : ℕ) (r : Request) (k : ℕ) → k ≡ n → put each n r k ≡ r
 put_here each n r k e = cond-true (k == n) r (each k) (eq-eqb k n e)
 
-put_other : (each : ℕ → Request) (n : ℕ) (r : Request) (k : ℕ) → k ≢ n → put each n r k ≡ each k
+pub put_other : (each : ℕ → Request) (n : ℕ) (r : Request) (k : ℕ) → k ≢ n → put each n r k ≡ each k
 put_other each n r k e = cond-false (k == n) r (each k) (ne_eqb k n e)
 
 -- only request n is another

@@ -12,6 +12,7 @@ pub mod LineSplits
 pub mod LongLines
 pub mod Numbers
 pub mod ReadLines
+pub mod RepliesKept
 pub mod RequesterRows
 pub mod RowsOfReplies
 pub mod ScheduleKept
