@@ -1,3 +1,4 @@
+pub mod AnswersOwed
 pub mod AnswersRead
 pub mod DeliveriesOwed
 pub mod FirstPerformed
