@@ -24,6 +24,7 @@ pub mod SpelledCommands
 pub mod SpelledLines
 pub mod SpelledWords
 pub mod StateWords
+pub mod StepsOnRequests
 pub mod TimelyExample
 pub mod TimelyLogs
 pub mod TimelyTests
