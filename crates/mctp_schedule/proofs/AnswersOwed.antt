@@ -112,6 +112,9 @@ module _ {S : Type 0} (setting : Setting S) (lower : Lower) (past : List Step) (
   refuses : busy_reply r.message ≡ answer_message (id_of r.own) (kind_of command) (Refused ERROR_NOT_READY)
   refuses = ap busy_reply known.message ∙ busy_refuses lower.requests r.own command
 
+  pub busy_is_one : piece_count (busy_reply r.message) ≡ 1
+  busy_is_one = ap piece_count refuses
+
   abbrev busy_one : Packet
   busy_one = brought setting r m None
 
@@ -124,7 +127,7 @@ module _ {S : Type 0} (setting : Setting S) (lower : Lower) (past : List Step) (
   busy_payload : busy_one.payload ≡ busy_reply r.message
   busy_payload = ap (λ message. piece message 0) refuses ∙ sym refuses
 
-  abbrev mine : ℕ → Response → Bool
+  abbrev pub mine : ℕ → Response → Bool
   mine n response = is_mine r.source setting.eid (timing_of setting r.source) (requests_of setting w r.source) n response
 
   pub busy_brings : (before : List Packet) → fed_arrival mine r.own (next before busy_one) ≡ Drop NotReady

@@ -25,6 +25,7 @@ pub mod SpelledLines
 pub mod SpelledWords
 pub mod StateWords
 pub mod StepsOnRequests
+pub mod TakenReplies
 pub mod TimelyExample
 pub mod TimelyLogs
 pub mod TimelyTests

@@ -131,7 +131,7 @@ module _ {S : Type 0} (setting : Setting S) where
     pub standing : StandingIs setting steps k (Stands steps r).course.standing
     pub arrived : taken setting steps k ≡ true → (place : List Happening) × (first setting.keep (Log steps) k ≡ Some place)
 
-  claim_moves : (step : Step) (past : List Step) (k : ℕ) (x : Standing) → taken setting (step ∷ past) k ≡ taken setting past k → (taken setting past k ≡ true → (place : List Happening) × (first setting.keep (Log past) k ≡ Some place)) → StandingIs setting past k x → StandingIs setting (step ∷ past) k x
+  pub claim_moves : (step : Step) (past : List Step) (k : ℕ) (x : Standing) → taken setting (step ∷ past) k ≡ taken setting past k → (taken setting past k ≡ true → (place : List Happening) × (first setting.keep (Log past) k ≡ Some place)) → StandingIs setting past k x → StandingIs setting (step ∷ past) k x
   claim_moves step past k Waiting same arrived c = same ∙ c
   claim_moves step past k GaveUp same arrived c = same ∙ c
   claim_moves step past k (Answered message) same arrived c =

@@ -1,0 +1,197 @@
+-- Over a timely schedule each request was fed the packets that were delivered to it, and is answered exactly where it was taken.
+use Rattle.std.proofs.Common.{◌≡◌, ◌≢◌, ◌⊎◌, ℕ, ◌+◌, ◌<◌, ◌≤◌, List, [], ◌∷◌, map, slice_get, Option, Some, None, Bool, true, false, Ok, refl, sym, ap, ◌∙◌, subst, inl, inr, ⊎_elim, arith, eq-eqb}
+use Rattle.std.specs.Prelude.{ℤ, ◌&&◌, ◌||◌, ◌==◌, nat_lt, if◌then◌else◌}
+use Rattle.std.proofs.lemmas.Bool.{and_left, and_right, and_from, or_left, ne_eqb, cases_Bool, cases_eq, cases_lt, lt-ltb, le-ltb, cond-true, cond-false}
+use Rattle.mctp_packet.specs.Packets.{Packet, written}
+use Rattle.mctp_packet.specs.Pieces.{packet_at, piece_count}
+use Rattle.mctp_packet.specs.declared.reason.Reason.TheVariants.{NotReady}
+use Rattle.mctp_assembly.specs.Rows.{next}
+use Rattle.mctp_assembly.specs.declared.fed.Fed.{Fed}
+use Rattle.mctp_assembly.specs.declared.fed.Fed.TheVariants.{Whole, Partial, Dropped}
+use Rattle.pldm_wire.specs.declared.command.Command.{Command}
+use Rattle.pldm_responder.specs.Performing.{busy_reply}
+use Rattle.pldm_requester.specs.Arrivals.{Arrival, Drop, Answer, fed_arrival}
+use Rattle.pldm_requester.specs.Calls.{Open, Receive, Tick, Request, accepts, arrived, is_from_device, is_mine, new_request}
+use Rattle.pldm_requester.specs.Courses.{Course, Standing, Waiting, Answered, GaveUp, answered, is_open}
+use Rattle.mctp_schedule.specs.Logs.{Asked, Happening, IsTimelyLog, Opened, asked_at, count_of}
+use Rattle.mctp_schedule.specs.FirstArrivals.{first}
+use Rattle.mctp_schedule.specs.OncePerformed.{RepliesFit, given, was_busy}
+use Rattle.mctp_schedule.specs.RequesterHalf.{IsSound, StandingIs}
+use Rattle.mctp_schedule.specs.Taken.{brought, came, completes, completes_for, is_waiting, parts, replies, reply_of, taken, way_to}
+use Rattle.mctp_schedule.specs.Worlds.{IsTimely, IsTimelyAction, NeverWentBack, Setting, TagIsOwn, World, answer_packets, asked_by, busy_from, busy_packet, handed, packet_of, reply_packet, requests_of, source_of, timing_of, world}
+use Rattle.mctp_schedule.specs.declared.step.Action.{Action}
+use Rattle.mctp_schedule.specs.declared.step.Action.TheVariants as actions
+use Rattle.mctp_schedule.specs.declared.step.Step.{Step}
+use Rattle.mctp_schedule.proofs.AnswersOwed.{Lower, arrival_by, arrival_owed, busy_brings, busy_is, busy_is_one, has_arrived, mine, owed_is_own, packet_is, reads_back, reply_brings}
+use Rattle.mctp_schedule.proofs.FirstPerformed.{request_opened}
+use Rattle.mctp_schedule.proofs.FittingReplies.{fits_before}
+use Rattle.mctp_schedule.proofs.GivenReplies.{busy_opened}
+use Rattle.mctp_schedule.proofs.HandedAnswers.{IsOf, comes_in, course_after, packet_past, packet_there, with_arrival}
+use Rattle.mctp_schedule.proofs.KnownRequests.{Known, all_known, asked_stays_done, handed_log, held_before}
+use Rattle.mctp_schedule.proofs.RepliesKept.{Holds, Kept, Stands, arrived_stays, claim_moves, holds_kept, quiet, reply_stays, same_kept, still_below, still_brought}
+use Rattle.mctp_schedule.proofs.RowsOfReplies.{Below}
+use Rattle.mctp_schedule.proofs.StepsOnRequests.{called, comes_to_it, comes_to_none, open_keeps, opens_new, others_rest, tick_keeps}
+use Rattle.mctp_schedule.proofs.TimelyLogs.{log_is_timely}
+
+by_keeps : (f : Fed) (course : Course) → course_after (arrival_by f) course ≡ course
+by_keeps (Whole body) course = refl
+by_keeps Partial course = refl
+by_keeps (Dropped reason) course = refl
+
+module _ {S : Type 0} (setting : Setting S) where
+  abbrev Log : List Step → List Happening
+  Log steps = (world setting steps).log
+
+  abbrev pub AllHold : List Step → Type 0
+  AllHold steps = (k : ℕ) (r : Asked) → asked_at (Log steps) k ≡ Some r → Holds setting steps k r
+
+  abbrev HasArrived : List Step → ℕ → Type 0
+  HasArrived steps k = (place : List Happening) × (first setting.keep (Log steps) k ≡ Some place)
+
+  -- each request was opened before the step, or by it
+  all_of : (step : Step) (past : List Step)
+      → ((k : ℕ) (q : Asked) → asked_at (Log past) k ≡ Some q → Holds setting (step ∷ past) k q)
+      → ((k : ℕ) (r : Asked) → asked_at (Log past) k ≡ None → asked_at (Log (step ∷ past)) k ≡ Some r → Holds setting (step ∷ past) k r)
+      → AllHold (step ∷ past)
+  all_of step past old new k r is = go (asked_at (Log past) k) refl
+    where
+      go : (o : Option Asked) → asked_at (Log past) k ≡ o → Holds setting (step ∷ past) k r
+      go None e = new k r e is
+      go (Some q) e =
+          let stays = asked_stays_done setting (world setting past) step.moment step.action k q e in
+          let same : q ≡ r = (let x : Some q ≡ Some r = sym stays ∙ is in cc) in
+          subst (Holds setting (step ∷ past) k) same (old k q e)
+
+  -- a step that opens nothing
+  none_new : (step : Step) (past : List Step) → ((k : ℕ) → asked_at (Log (step ∷ past)) k ≡ asked_at (Log past) k) → (k : ℕ) (r : Asked) → asked_at (Log past) k ≡ None → asked_at (Log (step ∷ past)) k ≡ Some r → Holds setting (step ∷ past) k r
+  none_new step past same k r off is = absurd (let wrong : Some r ≡ None = sym is ∙ same k ∙ off in cc)
+
+  -- a step that calls no requester
+  holds_log : (step : Step) (past : List Step) → AllHold past
+      → ((k : ℕ) → asked_at (Log (step ∷ past)) k ≡ asked_at (Log past) k)
+      → ((r : Asked) → Stands setting (step ∷ past) r ≡ Stands setting past r)
+      → ((k : ℕ) → replies setting (step ∷ past) k ≡ replies setting past k)
+      → ((k : ℕ) → taken setting (step ∷ past) k ≡ taken setting past k)
+      → AllHold (step ∷ past)
+  holds_log step past h same stands rs ts =
+      all_of step past
+      (λ k q e. holds_kept setting step past k q (h k q e) (same_kept (Stands setting past q) (Stands setting (step ∷ past) q) (stands q)) (rs k) (ts k))
+      (none_new step past same)
+
+  -- ---- an open
+  module _ (past : List Step) (h : AllHold past) (moment e : ℕ) (command : Command) where
+    abbrev opening : Step
+    opening = record { moment = moment; action = actions.Open e command }
+
+    abbrev new : Asked
+    new = asked_by setting (world setting past) moment e command
+
+    holds_new : (k : ℕ) → asked_at (Log past) k ≡ None → accepts (timing_of setting e).keep (requests_of setting (world setting past) e) moment ≡ true → Holds setting (opening ∷ past) k new
+    holds_new k off ok =
+        let q = quiet setting past k off in
+        let stands : Stands setting (opening ∷ past) new ≡ new_request moment command = opens_new setting (world setting past) (Log (opening ∷ past)) moment e command ok in
+        record {
+          fed = λ _. ap (λ (r : Request). r.fed) stands ∙ sym (ap (map (brought setting new (reply_of setting (world setting (opening ∷ past)) k))) q.0);
+          below = subst (Below (parts setting (world setting (opening ∷ past)) k)) (sym q.0) tt;
+          standing = subst (λ (r : Request). StandingIs setting (opening ∷ past) k r.course.standing) (sym stands) q.1;
+          arrived = λ t. absurd (let wrong : true ≡ false = sym t ∙ q.1 in cc);
+        }
+
+    first_seen : (k : ℕ) (r : Asked) → asked_at (Log past) k ≡ None → asked_at (Log (opening ∷ past)) k ≡ Some r → Holds setting (opening ∷ past) k r
+    first_seen k r off is = go (accepts (timing_of setting e).keep (requests_of setting (world setting past) e) moment) refl is
+      where
+        go : (b : Bool) → accepts (timing_of setting e).keep (requests_of setting (world setting past) e) moment ≡ b → asked_at (if b then Opened new ∷ Log past else Log past) k ≡ Some r → Holds setting (opening ∷ past) k r
+        go false refused f = absurd (let wrong : Some r ≡ None = sym f ∙ off in cc)
+        go true ok f =
+            ⊎_elim
+            (λ (x : (k ≡ count_of (Log past)) × (new ≡ r)). subst (Holds setting (opening ∷ past) k) x.1 (holds_new k off ok))
+            (λ (x : (k ≢ count_of (Log past)) × (asked_at (Log past) k ≡ Some r)). absurd (let wrong : Some r ≡ None = sym x.1 ∙ off in cc))
+            (request_opened new (Log past) k r f)
+
+    pub holds_open : AllHold (opening ∷ past)
+    holds_open =
+        all_of opening past
+        (λ k q f. holds_kept setting opening past k q (h k q f) (open_keeps setting (world setting past) (Log (opening ∷ past)) moment e command q ((all_known setting past).known k q f)) refl refl)
+        first_seen
+
+  -- ---- a delivery to request k
+  hit : (step : Step) (past : List Step) (k : ℕ) (q : Asked) (p : Packet) (d : Option ℕ) (arrival : Arrival) → Holds setting past k q
+      → (is_waiting setting (world setting past) q ≡ true → Stands setting (step ∷ past) q ≡ with_arrival (Stands setting past q) p arrival)
+      → (is_waiting setting (world setting past) q ≡ false → Stands setting (step ∷ past) q ≡ Stands setting past q)
+      → replies setting (step ∷ past) k ≡ d ∷ replies setting past k
+      → p ≡ brought setting q (reply_of setting (world setting (step ∷ past)) k) d
+      → Below (parts setting (world setting (step ∷ past)) k) (d ∷ replies setting past k)
+      → StandingIs setting (step ∷ past) k (Stands setting (step ∷ past) q).course.standing
+      → (taken setting (step ∷ past) k ≡ true → HasArrived (step ∷ past) k)
+      → Holds setting (step ∷ past) k q
+  hit step past k q p d arrival h opens shuts rs is below standing arrives = record {
+    fed = λ now. go now (cases_Bool (is_waiting setting (world setting past) q));
+    below = subst (Below (parts setting (world setting (step ∷ past)) k)) (sym rs) below;
+    standing = standing;
+    arrived = arrives;
+  }
+    where
+      m : List ℕ
+      m = reply_of setting (world setting (step ∷ past)) k
+
+      go : is_waiting setting (world setting (step ∷ past)) q ≡ true → (is_waiting setting (world setting past) q ≡ true) ⊎ (is_waiting setting (world setting past) q ≡ false) → (Stands setting (step ∷ past) q).fed ≡ came setting (step ∷ past) k q
+      go now (inr shut) = absurd (let wrong : true ≡ false = sym now ∙ ap (λ (r : Request). is_open r.course) (shuts shut) ∙ shut in cc)
+      go now (inl waits) =
+          ap (λ (r : Request). r.fed) (opens waits)
+          ∙ (λ i. is i ∷ (h.fed waits ∙ sym (still_brought setting step past k q h.below)) i)
+          ∙ sym (ap (map (brought setting q m)) rs)
+
+  -- nothing is handed over
+  holds_nothing : (step : Step) (past : List Step) → AllHold past → world setting (step ∷ past) ≡ world setting past
+      → ((k : ℕ) → replies setting (step ∷ past) k ≡ replies setting past k)
+      → ((k : ℕ) → taken setting (step ∷ past) k ≡ taken setting past k)
+      → AllHold (step ∷ past)
+  holds_nothing step past h same rs ts =
+      holds_log step past h (λ k. ap (λ (w : World). asked_at w.log k) same) (λ r. ap (λ w. (requests_of setting w r.source).each r.own) same) rs ts
+
+  -- a packet of an answer to request i is handed to its requester
+  module _ (lower : Lower) (past : List Step) (h : AllHold past) (timely : IsTimelyLog setting.keep (world setting past).log) (sound : IsSound setting past) (step : Step) (moment i : ℕ) (q : Asked) (is : asked_at (world setting past).log i ≡ Some q) (own : TagIsOwn setting (world setting past) i) (message : List ℕ) (j : ℕ) (bytes : List ℕ) (sent : slice_get (answer_packets setting.eid q message) j ≡ Some bytes) (now_is : world setting (step ∷ past) ≡ called setting (world setting past) (world setting past).log q.source (Receive moment bytes)) (arrival : Arrival) (is_own : IsOf q.own arrival) (brings : is_waiting setting (world setting past) q ≡ true → fed_arrival (mine setting lower past timely sound i q is) q.own (next (Stands setting past q).fed (packet_at (way_to setting q) message j)) ≡ arrival) where
+    abbrev p : Packet
+    p = packet_at (way_to setting q) message j
+
+    known : Known setting (world setting past) q
+    known = (all_known setting past).known i q is
+
+    from : is_from_device setting.eid p ≡ true
+    from = eq-eqb setting.eid setting.eid refl
+
+    arrives : is_waiting setting (world setting past) q ≡ true → arrived q.source setting.eid (timing_of setting q.source) (requests_of setting (world setting past) q.source) bytes ≡ arrival
+    arrives waits =
+        comes_in q.source setting.eid (timing_of setting q.source) ((world setting past).calls q.source) lower.found q.own known.within (own q is) p bytes (reads_back setting lower past timely sound i q is message j bytes sent) from refl waits
+        ∙ brings waits
+
+    stands_open : is_waiting setting (world setting past) q ≡ true → Stands setting (step ∷ past) q ≡ with_arrival (Stands setting past q) p arrival
+    stands_open waits =
+        ap (λ w. (requests_of setting w q.source).each q.own) now_is
+        ∙ comes_to_it setting (world setting past) (world setting past).log lower.found q moment known (own q is) p bytes (reads_back setting lower past timely sound i q is message j bytes sent) from refl arrival is_own arrives waits
+
+    stands_shut : is_waiting setting (world setting past) q ≡ false → Stands setting (step ∷ past) q ≡ Stands setting past q
+    stands_shut shut =
+        ap (λ w. (requests_of setting w q.source).each q.own) now_is
+        ∙ comes_to_none setting (world setting past) (world setting past).log lower.found q moment known (own q is) p bytes (reads_back setting lower past timely sound i q is message j bytes sent) from refl arrival is_own arrives shut
+
+    stands_other : (k : ℕ) (r : Asked) → asked_at (Log past) k ≡ Some r → k ≢ i → Stands setting (step ∷ past) r ≡ Stands setting past r
+    stands_other k r f ne =
+        ap (λ w. (requests_of setting w r.source).each r.own) now_is
+        ∙ others_rest setting (world setting past) (world setting past).log lower.found q moment known (own q is) p bytes (reads_back setting lower past timely sound i q is message j bytes sent) from refl arrival is_own arrives r
+        (λ s o. ne ((all_known setting past).distinct k i r q f is s o))
+
+    -- so the others hold, and it is left to show of request i
+    holds_handed : ((k : ℕ) → k ≢ i → replies setting (step ∷ past) k ≡ replies setting past k)
+        → ((k : ℕ) → k ≢ i → taken setting (step ∷ past) k ≡ taken setting past k)
+        → Holds setting (step ∷ past) i q → AllHold (step ∷ past)
+    holds_handed rs ts here = all_of step past each (none_new step past (λ k. ap (λ (w : World). asked_at w.log k) now_is))
+      where
+        each : (k : ℕ) (r : Asked) → asked_at (Log past) k ≡ Some r → Holds setting (step ∷ past) k r
+        each k r f =
+            ⊎_elim
+            (λ (same : k ≡ i).
+            let one : q ≡ r = (let x : Some q ≡ Some r = sym is ∙ ap (asked_at (Log past)) (sym same) ∙ f in cc) in
+            subst (λ (x : ℕ × Asked). Holds setting (step ∷ past) x.0 x.1) (λ x. (sym same x, one x)) here)
+            (λ (ne : k ≡ i → ⊥). holds_kept setting step past k r (h k r f) (same_kept (Stands setting past r) (Stands setting (step ∷ past) r) (stands_other k r f ne)) (rs k ne) (ts k ne))
+            (cases_eq k i)
