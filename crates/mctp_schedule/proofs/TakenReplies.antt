@@ -28,7 +28,7 @@ use Rattle.mctp_schedule.proofs.FittingReplies.{fits_before}
 use Rattle.mctp_schedule.proofs.GivenReplies.{busy_opened}
 use Rattle.mctp_schedule.proofs.HandedAnswers.{IsOf, comes_in, course_after, packet_past, packet_there, with_arrival}
 use Rattle.mctp_schedule.proofs.KnownRequests.{Known, all_known, asked_stays_done, handed_log, held_before}
-use Rattle.mctp_schedule.proofs.RepliesKept.{Holds, Kept, Stands, arrived_stays, claim_moves, holds_kept, quiet, reply_stays, same_kept, still_below, still_brought}
+use Rattle.mctp_schedule.proofs.RepliesKept.{Holds, Kept, Stands, arrived_stays, claim_moves, first_unopened, holds_kept, no_parts, quiet, reply_stays, same_kept, still_below, still_brought}
 use Rattle.mctp_schedule.proofs.RowsOfReplies.{Below}
 use Rattle.mctp_schedule.proofs.StepsOnRequests.{called, comes_to_it, comes_to_none, open_keeps, opens_new, others_rest, tick_keeps}
 use Rattle.mctp_schedule.proofs.TimelyLogs.{log_is_timely}
@@ -195,3 +195,129 @@ module _ {S : Type 0} (setting : Setting S) where
             subst (λ (x : ℕ × Asked). Holds setting (step ∷ past) x.0 x.1) (λ x. (sym same x, one x)) here)
             (λ (ne : k ≡ i → ⊥). holds_kept setting step past k r (h k r f) (same_kept (Stands setting past r) (Stands setting (step ∷ past) r) (stands_other k r f ne)) (rs k ne) (ts k ne))
             (cases_eq k i)
+
+  -- ---- a packet of a reply
+  no_reply : (past : List Step) (timely : IsTimelyLog setting.keep (world setting past).log) (sound : IsSound setting past) (lower : Lower) (i j : ℕ) → parts setting (world setting past) i ≤ j → reply_packet setting (world setting past) i j ≡ None
+  no_reply past timely sound lower i j l = go (asked_at (Log past) i) refl
+    where
+      go : (o : Option Asked) → asked_at (Log past) i ≡ o → reply_packet setting (world setting past) i j ≡ None
+      go None e = ap (λ o. packet_of setting o (given setting.device setting.keep setting.start (Log past) i) j) e
+      go (Some q) e = packet_is setting lower past timely sound i q e j ∙ packet_past (way_to setting q) (reply_of setting (world setting past) i) j l
+
+  none_completes : (past : List Step) (i j : ℕ) → parts setting (world setting past) i ≤ j → completes setting past i j ≡ false
+  none_completes past i j l = go (asked_at (Log past) i)
+    where
+      go : (o : Option Asked) → completes_for setting past i j o ≡ false
+      go None = refl
+      go (Some q) = and_left (nat_lt j (parts setting (world setting past) i)) _ (le-ltb j (parts setting (world setting past) i) l)
+
+  module _ (lower : Lower) (past : List Step) (h : AllHold past) (timely : IsTimelyLog setting.keep (world setting past).log) (sound : IsSound setting past) (moment i j : ℕ) where
+    abbrev replying : Step
+    replying = record { moment = moment; action = actions.Reply i j }
+
+    -- where there is no such packet
+    holds_no_reply : parts setting (world setting past) i ≤ j → AllHold (replying ∷ past)
+    holds_no_reply l =
+        holds_nothing replying past h
+        (ap (handed setting (world setting past) moment (source_of (asked_at (Log past) i))) (no_reply past timely sound lower i j l))
+        (λ k. ⊎_elim
+        (λ (same : i ≡ k). cond-false (i == k && nat_lt j (parts setting (world setting past) k)) _ _ (and_right (i == k) _ (le-ltb j (parts setting (world setting past) k) (subst (λ n. parts setting (world setting past) n ≤ j) same l))))
+        (λ (ne : i ≡ k → ⊥). cond-false (i == k && nat_lt j (parts setting (world setting past) k)) _ _ (and_left (i == k) _ (ne_eqb i k ne)))
+        (cases_eq i k))
+        (λ k. ap (λ b. b || taken setting past k) (⊎_elim
+        (λ (same : i ≡ k). and_right (i == k) (completes setting past k j) (subst (λ n. completes setting past n j ≡ false) same (none_completes past i j l)))
+        (λ (ne : i ≡ k → ⊥). and_left (i == k) (completes setting past k j) (ne_eqb i k ne))
+        (cases_eq i k)))
+
+    module _ (own : IsTimelyAction setting (world setting past) moment (actions.Reply i j)) (q : Asked) (is : asked_at (Log past) i ≡ Some q) (l : j < parts setting (world setting past) i) where
+      abbrev m : List ℕ
+      m = reply_of setting (world setting past) i
+
+      abbrev bytes : List ℕ
+      bytes = written (packet_at (way_to setting q) m j)
+
+      sent : slice_get (answer_packets setting.eid q m) j ≡ Some bytes
+      sent = packet_there (way_to setting q) m j l
+
+      handed_over : reply_packet setting (world setting past) i j ≡ Some bytes
+      handed_over = packet_is setting lower past timely sound i q is j ∙ sent
+
+      now_is : world setting (replying ∷ past) ≡ called setting (world setting past) (Log past) q.source (Receive moment bytes)
+      now_is x = handed setting (world setting past) moment (source_of (is x)) (handed_over x)
+
+      place : HasArrived past i
+      place = has_arrived setting lower past timely sound i q is j l
+
+      same_reply : reply_of setting (world setting (replying ∷ past)) i ≡ m
+      same_reply = reply_stays setting replying past i place.0 place.1
+
+      before : Holds setting past i q
+      before = h i q is
+
+      abbrev owed : Arrival
+      owed = arrival_owed setting lower past timely sound i q is j
+
+      brings : is_waiting setting (world setting past) q ≡ true → fed_arrival (mine setting lower past timely sound i q is) q.own (next (Stands setting past q).fed (packet_at (way_to setting q) m j)) ≡ owed
+      brings waits =
+          ap (λ fed. fed_arrival (mine setting lower past timely sound i q is) q.own (next fed (packet_at (way_to setting q) m j))) (before.fed waits)
+          ∙ reply_brings setting lower past timely sound i q is j l waits before.below
+
+      is_own : IsOf q.own owed
+      is_own = owed_is_own setting lower past timely sound i q is j
+
+      opened : is_waiting setting (world setting past) q ≡ true → Stands setting (replying ∷ past) q ≡ with_arrival (Stands setting past q) (packet_at (way_to setting q) m j) owed
+      opened = stands_open lower past h timely sound replying moment i q is (own bytes handed_over) m j bytes sent now_is owed is_own brings
+
+      shut : is_waiting setting (world setting past) q ≡ false → Stands setting (replying ∷ past) q ≡ Stands setting past q
+      shut = stands_shut lower past h timely sound replying moment i q is (own bytes handed_over) m j bytes sent now_is owed is_own brings
+
+      -- it is taken now, or what was claimed stays
+      stays : completes setting past i j ≡ false → (x : Standing) → StandingIs setting past i x → StandingIs setting (replying ∷ past) i x
+      stays off x c = claim_moves setting replying past i x (ap (λ b. b || taken setting past i) (and_right (i == i) _ off)) before.arrived c
+
+      not_waiting : is_waiting setting (world setting past) q ≡ false → completes setting past i j ≡ false
+      not_waiting closed = ap (completes_for setting past i j) is ∙ and_right (nat_lt j (parts setting (world setting past) i)) _ (and_left (is_waiting setting (world setting past) q) _ closed)
+
+      standing : StandingIs setting (replying ∷ past) i (Stands setting (replying ∷ past) q).course.standing
+      standing = go (cases_Bool (is_waiting setting (world setting past) q)) (cases_Bool (completes setting past i j))
+        where
+          course : Course
+          course = (Stands setting past q).course
+
+          go : (is_waiting setting (world setting past) q ≡ true) ⊎ (is_waiting setting (world setting past) q ≡ false) → (completes setting past i j ≡ true) ⊎ (completes setting past i j ≡ false) → StandingIs setting (replying ∷ past) i (Stands setting (replying ∷ past) q).course.standing
+          go (inr closed) _ = subst (λ (r : Request). StandingIs setting (replying ∷ past) i r.course.standing) (sym (shut closed)) (stays (not_waiting closed) course.standing before.standing)
+          go (inl waits) (inl done) =
+              let now : (Stands setting (replying ∷ past) q).course ≡ answered m course = ap (λ (r : Request). r.course) (opened waits) ∙ ap (λ x. course_after x course) (cond-true (completes setting past i j) _ _ done) in
+              let claim : StandingIs setting (replying ∷ past) i (Answered m) = (or_left (i == i && completes setting past i j) (taken setting past i) (and_from (i == i) (completes setting past i j) (eq-eqb i i refl) done), sym same_reply) in
+              subst (λ (c : Course). StandingIs setting (replying ∷ past) i c.standing) (sym now) claim
+          go (inl waits) (inr off) =
+              let now : (Stands setting (replying ∷ past) q).course ≡ course =
+              (ap (λ (r : Request). r.course) (opened waits) ∙ ap (λ x. course_after x course) (cond-false (completes setting past i j) _ _ off) ∙ by_keeps _ course) in
+              subst (λ (c : Course). StandingIs setting (replying ∷ past) i c.standing) (sym now) (stays off course.standing before.standing)
+
+      holds_here : Holds setting (replying ∷ past) i q
+      holds_here =
+          hit replying past i q (packet_at (way_to setting q) m j) (Some j) owed before opened shut
+          (cond-true (i == i && nat_lt j (parts setting (world setting past) i)) _ _ (and_from (i == i) _ (eq-eqb i i refl) (lt-ltb j (parts setting (world setting past) i) l)))
+          (ap (λ x. packet_at (way_to setting q) x j) (sym same_reply))
+          (subst (λ x. j < piece_count x) (sym same_reply) l, still_below setting replying past i before.below)
+          standing
+          (λ _. (place.0, arrived_stays setting replying past i place.0 place.1))
+
+      holds_reply_to : AllHold (replying ∷ past)
+      holds_reply_to =
+          holds_handed lower past h timely sound replying moment i q is (own bytes handed_over) m j bytes sent now_is owed is_own brings
+          (λ k ne. cond-false (i == k && nat_lt j (parts setting (world setting past) k)) _ _ (and_left (i == k) _ (ne_eqb i k (λ e. ne (sym e)))))
+          (λ k ne. ap (λ b. b || taken setting past k) (and_left (i == k) _ (ne_eqb i k (λ e. ne (sym e)))))
+          holds_here
+
+    pub holds_reply : IsTimelyAction setting (world setting past) moment (actions.Reply i j) → AllHold (replying ∷ past)
+    holds_reply own = go (cases_lt j (parts setting (world setting past) i))
+      where
+        asked : (l : j < parts setting (world setting past) i) → (o : Option Asked) → asked_at (Log past) i ≡ o → AllHold (replying ∷ past)
+        asked l None e = absurd (let none = ap piece_count (no_parts setting (world setting past) i (first_unopened setting.keep (Log past) i e)) in omega (arith, none))
+        asked l (Some q) e = holds_reply_to own q e l
+
+        go : (j < parts setting (world setting past) i) ⊎ (parts setting (world setting past) i ≤ j) → AllHold (replying ∷ past)
+        go (inl l) = asked l (asked_at (Log past) i) refl
+        go (inr l) = holds_no_reply l
