@@ -17,6 +17,7 @@ pub mod RepliesKept
 pub mod RequesterRows
 pub mod RowsOfReplies
 pub mod ScheduleKept
+pub mod OneReplyTaken
 pub mod Origins
 pub mod ScheduleRows
 pub mod SizeWords

@@ -321,3 +321,109 @@ module _ {S : Type 0} (setting : Setting S) where
         go : (j < parts setting (world setting past) i) ⊎ (parts setting (world setting past) i ≤ j) → AllHold (replying ∷ past)
         go (inl l) = asked l (asked_at (Log past) i) refl
         go (inr l) = holds_no_reply l
+
+  -- ---- a busy answer
+  no_busy : (o : Option Asked) → busy_from setting o false ≡ None
+  no_busy None = refl
+  no_busy (Some q) = refl
+
+  module _ (lower : Lower) (past : List Step) (h : AllHold past) (timely : IsTimelyLog setting.keep (world setting past).log) (sound : IsSound setting past) (moment i : ℕ) where
+    abbrev busying : Step
+    busying = record { moment = moment; action = actions.Busy i }
+
+    holds_no_busy : was_busy setting.keep (Log past) i ≡ false → AllHold (busying ∷ past)
+    holds_no_busy off =
+        holds_nothing busying past h
+        (ap (handed setting (world setting past) moment (source_of (asked_at (Log past) i))) (ap (busy_from setting (asked_at (Log past) i)) off ∙ no_busy (asked_at (Log past) i)))
+        (λ k. ⊎_elim
+        (λ (same : i ≡ k). cond-false (i == k && was_busy setting.keep (Log past) k) _ _ (and_right (i == k) _ (subst (λ n. was_busy setting.keep (Log past) n ≡ false) same off)))
+        (λ (ne : i ≡ k → ⊥). cond-false (i == k && was_busy setting.keep (Log past) k) _ _ (and_left (i == k) _ (ne_eqb i k ne)))
+        (cases_eq i k))
+        (λ k. refl)
+
+    module _ (own : IsTimelyAction setting (world setting past) moment (actions.Busy i)) (q : Asked) (is : asked_at (Log past) i ≡ Some q) (busy : was_busy setting.keep (Log past) i ≡ true) where
+      abbrev message : List ℕ
+      message = busy_reply q.message
+
+      abbrev busy_bytes : List ℕ
+      busy_bytes = written (packet_at (way_to setting q) message 0)
+
+      one_sent : slice_get (answer_packets setting.eid q message) 0 ≡ Some busy_bytes
+      one_sent = packet_there (way_to setting q) message 0 (let one = busy_is_one setting lower past timely sound i q is in omega (arith, one))
+
+      one_handed : busy_packet setting (world setting past) i ≡ Some busy_bytes
+      one_handed = busy_is setting lower past timely sound i q is busy ∙ one_sent
+
+      then_is : world setting (busying ∷ past) ≡ called setting (world setting past) (Log past) q.source (Receive moment busy_bytes)
+      then_is x = handed setting (world setting past) moment (source_of (is x)) (one_handed x)
+
+      brings_none : is_waiting setting (world setting past) q ≡ true → fed_arrival (mine setting lower past timely sound i q is) q.own (next (Stands setting past q).fed (packet_at (way_to setting q) message 0)) ≡ Drop NotReady
+      brings_none waits = busy_brings setting lower past timely sound i q is (Stands setting past q).fed
+
+      came_open : is_waiting setting (world setting past) q ≡ true → Stands setting (busying ∷ past) q ≡ with_arrival (Stands setting past q) (packet_at (way_to setting q) message 0) (Drop NotReady)
+      came_open = stands_open lower past h timely sound busying moment i q is (own busy_bytes one_handed) message 0 busy_bytes one_sent then_is (Drop NotReady) tt brings_none
+
+      came_shut : is_waiting setting (world setting past) q ≡ false → Stands setting (busying ∷ past) q ≡ Stands setting past q
+      came_shut = stands_shut lower past h timely sound busying moment i q is (own busy_bytes one_handed) message 0 busy_bytes one_sent then_is (Drop NotReady) tt brings_none
+
+      same_course : (Stands setting (busying ∷ past) q).course ≡ (Stands setting past q).course
+      same_course =
+          ⊎_elim
+          (λ (waits : is_waiting setting (world setting past) q ≡ true). ap (λ (r : Request). r.course) (came_open waits))
+          (λ (shut : is_waiting setting (world setting past) q ≡ false). ap (λ (r : Request). r.course) (came_shut shut))
+          (cases_Bool (is_waiting setting (world setting past) q))
+
+      busy_here : Holds setting (busying ∷ past) i q
+      busy_here =
+          let before = h i q is in
+          hit busying past i q (packet_at (way_to setting q) message 0) None (Drop NotReady) before came_open came_shut
+          (cond-true (i == i && was_busy setting.keep (Log past) i) _ _ (and_from (i == i) _ (eq-eqb i i refl) busy))
+          refl
+          (still_below setting busying past i before.below)
+          (subst (λ (c : Course). StandingIs setting (busying ∷ past) i c.standing) (sym same_course) (claim_moves setting busying past i (Stands setting past q).course.standing refl before.arrived before.standing))
+          (λ t. let x = before.arrived t in (x.0, arrived_stays setting busying past i x.0 x.1))
+
+      holds_busy_to : AllHold (busying ∷ past)
+      holds_busy_to =
+          holds_handed lower past h timely sound busying moment i q is (own busy_bytes one_handed) message 0 busy_bytes one_sent then_is (Drop NotReady) tt brings_none
+          (λ k ne. cond-false (i == k && was_busy setting.keep (Log past) k) _ _ (and_left (i == k) _ (ne_eqb i k (λ e. ne (sym e)))))
+          (λ k ne. refl)
+          busy_here
+
+    pub holds_busy : IsTimelyAction setting (world setting past) moment (actions.Busy i) → AllHold (busying ∷ past)
+    holds_busy own = go (cases_Bool (was_busy setting.keep (Log past) i))
+      where
+        asked : (busy : was_busy setting.keep (Log past) i ≡ true) → (o : Option Asked) → asked_at (Log past) i ≡ o → AllHold (busying ∷ past)
+        asked busy None e = absurd (let wrong : true ≡ false = sym busy ∙ busy_opened setting.device setting.keep setting.start (Log past) i e in cc)
+        asked busy (Some q) e = holds_busy_to own q e busy
+
+        go : (was_busy setting.keep (Log past) i ≡ true) ⊎ (was_busy setting.keep (Log past) i ≡ false) → AllHold (busying ∷ past)
+        go (inl busy) = asked busy (asked_at (Log past) i) refl
+        go (inr off) = holds_no_busy off
+
+  -- ---- any step
+  holds_done : (lower : Lower) (past : List Step) → AllHold past → IsTimelyLog setting.keep (world setting past).log → IsSound setting past → (moment : ℕ) (action : Action) → IsTimelyAction setting (world setting past) moment action → AllHold (record { moment = moment; action = action } ∷ past)
+  holds_done lower past h timely sound moment (actions.Open e command) own = holds_open past h moment e command
+  holds_done lower past h timely sound moment (actions.Tick e) own =
+      let ticking : Step = record { moment = moment; action = actions.Tick e } in
+      all_of ticking past
+      (λ k q f. holds_kept setting ticking past k q (h k q f) (tick_keeps setting (world setting past) (Log past) moment e q) refl refl)
+      (none_new ticking past (λ k. refl))
+  holds_done lower past h timely sound moment (actions.Request i) own = holds_log (record { moment = moment; action = actions.Request i }) past h (λ k. refl) (λ r. refl) (λ k. refl) (λ k. refl)
+  holds_done lower past h timely sound moment (actions.Reply i j) own = holds_reply lower past h timely sound moment i j own
+  holds_done lower past h timely sound moment (actions.Sense id value) own = holds_log (record { moment = moment; action = actions.Sense id value }) past h (λ k. refl) (λ r. refl) (λ k. refl) (λ k. refl)
+  holds_done lower past h timely sound moment actions.Restart own = holds_log (record { moment = moment; action = actions.Restart }) past h (λ k. refl) (λ r. refl) (λ k. refl) (λ k. refl)
+  holds_done lower past h timely sound moment (actions.Busy i) own = holds_busy lower past h timely sound moment i own
+
+  sound_before : (step : Step) (past : List Step) → IsSound setting (step ∷ past) → IsSound setting past
+  sound_before step past s = record {
+    device = s.device;
+    sources = λ k r is. s.sources k r (asked_stays_done setting (world setting past) step.moment step.action k r is);
+    fit = held_before setting (RepliesFit setting.device setting.keep setting.start) (fits_before setting.device setting.keep setting.start) (world setting past) step.moment step.action s.fit;
+  }
+
+  pub all_hold : Lower → (steps : List Step) → NeverWentBack steps → IsTimely setting steps → IsSound setting steps → AllHold steps
+  all_hold lower [] order timely sound = λ k r is. absurd (cc)
+  all_hold lower (step ∷ past) order timely sound =
+      let before = sound_before step past sound in
+      holds_done lower past (all_hold lower past order.1 timely.1 before) (log_is_timely setting lower.apart past order.1 timely.1) before step.moment step.action timely.0
