@@ -1,6 +1,7 @@
 -- The requester's half of the link: what came to a request, what each packet of an answer gives, and what each request took.
-use Rattle.std.proofs.Common.{◌≡◌, ◌⊎◌, ℕ, ◌<◌, ◌≤◌, List, ◌∷◌, slice_get, Option, Some, None, Bool, true, false, refl, sym, ap, ◌∙◌, inl, inr, arith, eq-eqb}
-use Rattle.std.specs.Prelude.{◌&&◌, nat_lt, if◌then◌else◌}
+use Rattle.std.proofs.Common.{◌≡◌, ◌⊎◌, ℕ, suc, ◌<◌, ◌≤◌, List, [], ◌∷◌, slice_get, Option, Some, None, Bool, true, false, refl, sym, ap, ◌∙◌, subst, inl, inr, arith, eq-eqb, eqb-true}
+use Rattle.std.specs.Prelude.{◌&&◌, ◌||◌, ◌==◌, is_some, nat_lt, if◌then◌else◌}
+use Rattle.std.specs.List.{list_any}
 use Rattle.std.proofs.lemmas.Bool.{and_left, and_right, cases_Bool, cases_lt, lt-ltb, le-ltb, cond-true, cond-false}
 use Rattle.mctp_packet.specs.Packets.{Packet, written}
 use Rattle.mctp_packet.specs.Pieces.{packet_at}
@@ -11,19 +12,22 @@ use Rattle.mctp_assembly.specs.declared.fed.Fed.TheVariants.{Whole, Partial, Dro
 use Rattle.pldm_responder.specs.Performing.{busy_reply}
 use Rattle.pldm_requester.specs.Arrivals.{Arrival, Answer, fed_arrival, got_of}
 use Rattle.pldm_requester.specs.Calls.{Call, Requests, arrived, is_from_device, is_open_at, requests}
+use Rattle.pldm_requester.specs.Courses.{Standing, Answered}
 use Rattle.pldm_requester.specs.Laws.{FedSinceItsOpening}
 use Rattle.pldm_requester.specs.declared.got.Got.{Got}
 use Rattle.pldm_requester.specs.declared.got.Got.TheVariants as got
 use Rattle.pldm_requester.specs.declared.timing.Timing.{Timing}
 use Rattle.mctp_schedule.specs.HandedPackets.{got_from, got_of_busy, got_of_reply}
+use Rattle.mctp_schedule.specs.FirstArrivals.{order}
 use Rattle.mctp_schedule.specs.Logs.{Asked, IsTimelyLog, asked_at}
 use Rattle.mctp_schedule.specs.OncePerformed.{given, was_busy}
-use Rattle.mctp_schedule.specs.RequesterHalf.{AnsweredWhereTaken, BusyIsOwed, IsSound, IsTimelySchedule, OwnAssembly, OwnDeliveries, ReplyIsOwed, TakenWasPerformed}
-use Rattle.mctp_schedule.specs.Taken.{brought, busy_owed, busy_owed_to, came, completes, completes_for, got_by, if_waiting, is_waiting, parts, reply_of, reply_owed, reply_owed_to, way_to}
+use Rattle.mctp_schedule.specs.RequesterHalf.{AnsweredWasPerformed, AnsweredWhereTaken, BusyIsOwed, IsTimelySchedule, OwnAssembly, OwnDeliveries, ReplyIsOwed, StandingIs}
+use Rattle.mctp_schedule.specs.Taken.{brought, busy_owed, busy_owed_to, came, completes, completes_for, got_by, if_waiting, is_waiting, parts, reply_of, reply_owed, reply_owed_to, taken, way_to}
 use Rattle.mctp_schedule.specs.Worlds.{IsTimelyAction, Setting, TagIsOwn, World, answer_packets, busy_from, busy_packet, packet_of, reply_packet, requests_of, source_of, timing_of, world}
 use Rattle.mctp_schedule.specs.declared.step.Action.TheVariants.{Reply, Busy}
 use Rattle.mctp_schedule.specs.declared.step.Step.{Step}
 use Rattle.mctp_schedule.proofs.AnswersOwed.{Lower, arrival_by, arrival_owed, busy_brings, busy_is, busy_is_one, mine, packet_is, performed_at, reads_back, reply_brings}
+use Rattle.mctp_schedule.proofs.DeliveriesOwed.{fresh_in_order_of_firsts}
 use Rattle.mctp_schedule.proofs.GivenReplies.{busy_opened}
 use Rattle.mctp_schedule.proofs.HandedAnswers.{bad_tag, comes_in, packet_past, packet_there}
 use Rattle.mctp_schedule.proofs.KnownRequests.{Known, all_known}
@@ -35,6 +39,15 @@ by_got : (f : Fed) → got_of (arrival_by f) ≡ got_by f
 by_got (Whole body) = refl
 by_got Partial = refl
 by_got (Dropped reason) = refl
+
+-- a number that is in a list stands somewhere in it
+listed_at : (k : ℕ) (numbers : List ℕ) → list_any (λ n. n == k) numbers ≡ true → (i : ℕ) × (slice_get numbers i ≡ Some k)
+listed_at k [] e = cc
+listed_at k (n ∷ numbers) e = go (n == k) refl (listed_at k numbers) e
+  where
+    go : (b : Bool) → (n == k) ≡ b → (list_any (λ n. n == k) numbers ≡ true → (i : ℕ) × (slice_get numbers i ≡ Some k)) → (b || list_any (λ n. n == k) numbers) ≡ true → (i : ℕ) × (slice_get (n ∷ numbers) i ≡ Some k)
+    go true same rest e = (0, ap Some (eqb-true n k same))
+    go false other rest e = let later = rest e in (suc later.0, later.1)
 
 module _ {S : Type 0} (setting : Setting S) (lower : Lower) where
   all_of : (steps : List Step) → IsTimelySchedule setting steps → AllHold setting steps
@@ -54,13 +67,24 @@ module _ {S : Type 0} (setting : Setting S) (lower : Lower) where
   pub answered_where_taken : AnsweredWhereTaken setting
   answered_where_taken steps k r s is = (all_of steps s k r is).standing
 
-  pub taken_was_performed : TakenWasPerformed setting
-  taken_was_performed steps k r s is took =
-      let came_in = (all_of steps s k r is).arrived took in (
-        came_in.0,
-        came_in.1,
-        performed_at setting lower steps (log_of steps s) s.sound k r is came_in.0 came_in.1,
-      )
+  taken_of : (steps : List Step) (k : ℕ) (message : List ℕ) (x : Standing) → x ≡ Answered message → StandingIs setting steps k x → (taken setting steps k ≡ true) × (message ≡ reply_of setting (world setting steps) k)
+  taken_of steps k message x e c = subst (StandingIs setting steps k) e c
+
+  pub answered_was_performed : AnsweredWasPerformed setting
+  answered_was_performed steps k r message s is stands =
+      let h = all_of steps s k r is in
+      let took = taken_of steps k message (Stands setting steps r).course.standing stands h.standing in
+      let came_in = h.arrived took.0 in
+      let listing = fresh_in_order_of_firsts setting.keep (world setting steps).log (log_of steps s) in
+      let at = listed_at k (order setting.keep (world setting steps).log) (listing.has k ∙ ap is_some came_in.1) in
+      record {
+        place = came_in.0;
+        arrived = came_in.1;
+        answer = took.1 ∙ performed_at setting lower steps (log_of steps s) s.sound k r is came_in.0 came_in.1;
+        index = at.0;
+        listed = at.1;
+        only = λ i here. listing.once i at.0 k here at.1;
+      }
 
   -- ---- what a packet gives, where it is on the way of request r's answers
   module _ (past : List Step) (s : IsTimelySchedule setting past) (k : ℕ) (r : Asked) (is : asked_at (world setting past).log k ≡ Some r) (own : TagIsOwn setting (world setting past) k) (message : List ℕ) (j : ℕ) (bytes : List ℕ) (sent : slice_get (answer_packets setting.eid r message) j ≡ Some bytes) where

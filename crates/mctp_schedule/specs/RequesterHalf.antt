@@ -1,6 +1,6 @@
 -- The requester's half of the link: over a timely schedule each requester takes the one reply of its own request and
 -- nothing else, exactly where the packets of that reply came in a row while the request was open.
-use Rattle.std.specs.Prelude.{◌≡◌, ◌≢◌, ℕ, true, false, List, ◌∷◌, Some}
+use Rattle.std.specs.Prelude.{◌≡◌, ◌≢◌, ℕ, true, false, List, slice_get, Some}
 use Rattle.mctp_packet.specs.Ids.{IsEid}
 use Rattle.mctp_assembly.specs.Histories as assembly
 use Rattle.pldm_responder.specs.Performing.{reply}
@@ -8,7 +8,7 @@ use Rattle.pldm_requester.specs.Calls.{answer_key, assembled}
 use Rattle.pldm_requester.specs.Courses.{Standing, Waiting, Answered, GaveUp}
 use Rattle.pldm_requester.specs.Numbering.{tag_of}
 use Rattle.mctp_schedule.specs.Logs.{Asked, Happening, asked_at}
-use Rattle.mctp_schedule.specs.FirstArrivals.{first}
+use Rattle.mctp_schedule.specs.FirstArrivals.{first, order}
 use Rattle.mctp_schedule.specs.OncePerformed.{RepliesFit, once}
 use Rattle.mctp_schedule.specs.HandedPackets.{got_of_busy, got_of_reply}
 use Rattle.mctp_schedule.specs.Taken.{busy_owed, came, is_waiting, reply_of, reply_owed, taken}
@@ -30,6 +30,16 @@ pub record IsTimelySchedule {S : Type 0} (setting : Setting S) (steps : List Ste
   pub order : NeverWentBack steps
   pub timely : IsTimely setting steps
   pub sound : IsSound setting steps
+
+-- request k, which is r, arrived, and performing it then gave this reply; it stands once in the order of performing
+pub record WasPerformedOnce {S : Type 0}
+    (setting : Setting S) (steps : List Step) (k : ℕ) (r : Asked) (message : List ℕ) : Type 0 where
+  pub place : List Happening
+  pub arrived : first setting.keep (world setting steps).log k ≡ Some place
+  pub answer : message ≡ reply setting.device (once setting.device setting.keep setting.start place) r.message
+  pub index : ℕ
+  pub listed : slice_get (order setting.keep (world setting steps).log) index ≡ Some k
+  pub only : (i : ℕ) → slice_get (order setting.keep (world setting steps).log) i ≡ Some k → i ≡ index
 
 module _ {S : Type 0} (setting : Setting S) where
   -- what came to an open request are the packets that were delivered to it: of its one reply, and busy answers
@@ -77,12 +87,10 @@ module _ {S : Type 0} (setting : Setting S) where
       → IsTimelySchedule setting steps → asked_at (world setting steps).log k ≡ Some r
       → StandingIs steps k ((requests_of setting (world setting steps) r.source).each r.own).course.standing
 
-  -- a request that was taken has arrived, so it was performed, and its reply is that of performing it then
-  abbrev pub TakenWasPerformed : Type 0
-  TakenWasPerformed =
-      (steps : List Step) (k : ℕ) (r : Asked)
+  -- so an answer that a requester took is the one reply of a request that was performed exactly once
+  abbrev pub AnsweredWasPerformed : Type 0
+  AnsweredWasPerformed =
+      (steps : List Step) (k : ℕ) (r : Asked) (message : List ℕ)
       → IsTimelySchedule setting steps → asked_at (world setting steps).log k ≡ Some r
-      → taken setting steps k ≡ true
-      → (place : List Happening) × (first setting.keep (world setting steps).log k ≡ Some place)
-      × (reply_of setting (world setting steps) k
-      ≡ reply setting.device (once setting.device setting.keep setting.start place) r.message)
+      → ((requests_of setting (world setting steps) r.source).each r.own).course.standing ≡ Answered message
+      → WasPerformedOnce setting steps k r message

@@ -113,8 +113,9 @@ module _ {S : Type 0} (setting : Setting S) where
       (got_by (assembly.next (came past k r) (brought r (reply_of (world setting past) k) (Some j)))))
       else None
 
-  -- what the delivery of packet j of request k's reply owes: nothing where there is no such packet; the answer where it
-  -- completes it; else a bad tag where k is not open, and what assembly gives after the packets that were delivered to k
+  -- what the delivery of packet j of request k's reply owes: nothing where there is no such packet; the answer where
+  -- it completes it; else a bad tag where k is not open, and where it is, what assembly gives after the packets that
+  -- were delivered to k
   abbrev pub reply_owed : List Step → ℕ → ℕ → Option Got
   reply_owed past k j = reply_owed_to past k j (asked_at (world setting past).log k)
 
