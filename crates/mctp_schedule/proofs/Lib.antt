@@ -14,10 +14,12 @@ pub mod LongLines
 pub mod Numbers
 pub mod ReadLines
 pub mod RepliesKept
+pub mod RequesterExample
 pub mod RequesterRows
 pub mod RowsOfReplies
 pub mod ScheduleKept
 pub mod OneReplyTaken
+pub mod OpenedSources
 pub mod Origins
 pub mod ScheduleRows
 pub mod SizeWords

@@ -31,7 +31,7 @@ long_answer state _ = answers.GetPldmVersion 0 (replicate 190 7)
 abbrev long_device : Rules ℕ
 long_device = record { answer = long_answer; after = λ state command. state; sensed = λ state id value. Err NoSuchSensor }
 
-abbrev long : Setting ℕ
+abbrev pub long : Setting ℕ
 long = record {
   device = long_device;
   start = 0;
@@ -44,7 +44,7 @@ abbrev asked : List Step
 asked = at 0 (Request 0) ∷ at 0 (Open 8 GetPdrRepositoryInfo) ∷ []
 
 -- packets 1, 0, 0, 1 and 2 were delivered: one too early, one that came again
-abbrev in_turn : List Step
+abbrev pub in_turn : List Step
 in_turn = at 5 (Reply 0 2) ∷ at 4 (Reply 0 1) ∷ at 3 (Reply 0 0) ∷ at 2 (Reply 0 0) ∷ at 1 (Reply 0 1) ∷ asked
 
 too_early : reply_owed long asked 0 1 ≡ Some (Dropped UnexpectedMiddleOrEnd)
