@@ -28,7 +28,7 @@ use Rattle.mctp_schedule.specs.Logs.{Asked, Happening, IsTimelyLog, asked_at}
 use Rattle.mctp_schedule.specs.FirstArrivals.{first}
 use Rattle.mctp_schedule.specs.OncePerformed.{FitsPackets, bytes_of, given_once, once, reply_at_first, reply_from, the_reply, was_busy}
 use Rattle.mctp_schedule.specs.RequesterHalf.{IsSound}
-use Rattle.mctp_schedule.specs.Taken.{brought, came, completes, completes_for, is_ready, is_waiting, parts, replies, reply_of, row, way_to}
+use Rattle.mctp_schedule.specs.Taken.{brought, came, completes, completes_for, is_ready, is_waiting, part_count, replies, reply_of, row, way_to}
 use Rattle.mctp_schedule.specs.Worlds.{Setting, World, answer_packets, busy_from, busy_packet, packet_of, reply_packet, requests_of, timing_of, world}
 use Rattle.mctp_schedule.specs.declared.step.Step.{Step}
 use Rattle.mctp_schedule.proofs.AnswersRead.{AnswersRequest, answer_arrives, busy_refuses, reply_answers, whole_arrival}
@@ -88,7 +88,7 @@ module _ {S : Type 0} (setting : Setting S) (lower : Lower) (past : List Step) (
   busy_is busy i = busy_from setting (is i) (busy i)
 
   -- ---- the reply
-  pub has_arrived : (j : ℕ) → j < parts setting w k → (place : List Happening) × (first setting.keep w.log k ≡ Some place)
+  pub has_arrived : (j : ℕ) → j < part_count setting w k → (place : List Happening) × (first setting.keep w.log k ≡ Some place)
   has_arrived j l = go (first setting.keep w.log k) refl
     where
       go : (f : Option (List Happening)) → first setting.keep w.log k ≡ f → (place : List Happening) × (f ≡ Some place)
@@ -98,14 +98,14 @@ module _ {S : Type 0} (setting : Setting S) (lower : Lower) (past : List Step) (
   pub performed_at : (place : List Happening) → first setting.keep w.log k ≡ Some place → m ≡ reply setting.device (once setting.device setting.keep setting.start place) r.message
   performed_at place e i = reply_from setting.device setting.keep setting.start (bytes_of (is i)) (e i)
 
-  answers : (j : ℕ) → j < parts setting w k → AnswersRequest r.own command m
+  answers : (j : ℕ) → j < part_count setting w k → AnswersRequest r.own command m
   answers j l =
       let came_in = has_arrived j l in
       let state = once setting.device setting.keep setting.start came_in.0 in
       let own : m ≡ reply setting.device state _ = performed_at came_in.0 came_in.1 ∙ ap (reply setting.device state) known.message in
       subst (AnswersRequest r.own command) (sym own) (reply_answers lower.requests setting.device state r.own command)
 
-  fits : (j : ℕ) → j < parts setting w k → FitsPackets m
+  fits : (j : ℕ) → j < part_count setting w k → FitsPackets m
   fits j l = let came_in = has_arrived j l in the_reply_fits setting.device setting.keep setting.start w.log k came_in.0 timely sound.fit came_in.1
 
   -- ---- the busy answer
@@ -143,17 +143,17 @@ module _ {S : Type 0} (setting : Setting S) (lower : Lower) (past : List Step) (
       if completes setting past k j then Answer r.own m
       else arrival_by (next (came setting past k r) (brought setting r m (Some j)))
 
-  module _ (j : ℕ) (l : j < parts setting w k) (opens : is_waiting setting w r ≡ true) (below : Below (parts setting w k) (replies setting past k)) where
+  module _ (j : ℕ) (l : j < part_count setting w k) (opens : is_waiting setting w r ≡ true) (below : Below (part_count setting w k) (replies setting past k)) where
     abbrev js : List (Option ℕ)
     js = replies setting past k
 
     abbrev in_row : Bool
-    in_row = row (parts setting w k) (Some j ∷ js)
+    in_row = row (part_count setting w k) (Some j ∷ js)
 
     abbrev gave : Fed
     gave = next (came setting past k r) (brought setting r m (Some j))
 
-    completes_is : completes setting past k j ≡ (nat_lt j (parts setting w k) && (is_waiting setting w r && (in_row && is_ready m)))
+    completes_is : completes setting past k j ≡ (nat_lt j (part_count setting w k) && (is_waiting setting w r && (in_row && is_ready m)))
     completes_is = ap (completes_for setting past k j) is
 
     few : piece_count m ≤ MOST_PACKETS
@@ -176,10 +176,10 @@ module _ {S : Type 0} (setting : Setting S) (lower : Lower) (past : List Step) (
         ∙ answer_arrives lower.responses mine r.own command m (λ response. refl) (answers j l)
 
     off : (in_row && is_ready m) ≡ false → completes setting past k j ≡ false
-    off e = completes_is ∙ and_right (nat_lt j (parts setting w k)) _ (and_right (is_waiting setting w r) _ e)
+    off e = completes_is ∙ and_right (nat_lt j (part_count setting w k)) _ (and_right (is_waiting setting w r) _ e)
 
     done : in_row ≡ true → is_ready m ≡ true → completes setting past k j ≡ true
-    done on ready = completes_is ∙ and_from (nat_lt j (parts setting w k)) _ (lt-ltb j (parts setting w k) l) (and_from (is_waiting setting w r) _ opens (and_from in_row (is_ready m) on ready))
+    done on ready = completes_is ∙ and_from (nat_lt j (part_count setting w k)) _ (lt-ltb j (part_count setting w k) l) (and_from (is_waiting setting w r) _ opens (and_from in_row (is_ready m) on ready))
 
     pub reply_brings : fed_arrival mine r.own gave ≡ arrival_owed j
     reply_brings = go (cases_Bool in_row) (cases_Bool (is_ready m))

@@ -21,8 +21,8 @@ use Rattle.mctp_schedule.specs.HandedPackets.{got_from, got_of_busy, got_of_repl
 use Rattle.mctp_schedule.specs.FirstArrivals.{order}
 use Rattle.mctp_schedule.specs.Logs.{Asked, IsTimelyLog, asked_at}
 use Rattle.mctp_schedule.specs.OncePerformed.{given, was_busy}
-use Rattle.mctp_schedule.specs.RequesterHalf.{AnsweredWasPerformed, AnsweredWhereTaken, BusyIsOwed, IsTimelySchedule, OwnAssembly, OwnDeliveries, ReplyIsOwed, StandingIs}
-use Rattle.mctp_schedule.specs.Taken.{brought, busy_owed, busy_owed_to, came, completes, completes_for, got_by, if_waiting, is_waiting, parts, reply_of, reply_owed, reply_owed_to, taken, way_to}
+use Rattle.mctp_schedule.specs.RequesterHalf.{AnsweredWasPerformed, AnsweredWhereTaken, BusyIsOwed, IsTimelySchedule, OwnAssembly, OwnDeliveries, ReplyIsOwed, StandingIs, TakenOnce}
+use Rattle.mctp_schedule.specs.Taken.{brought, busy_owed, busy_owed_to, came, completes, completes_for, got_by, if_waiting, is_waiting, part_count, reply_of, reply_owed, reply_owed_to, taken, way_to}
 use Rattle.mctp_schedule.specs.Worlds.{IsTimelyAction, Setting, TagIsOwn, World, answer_packets, busy_from, busy_packet, packet_of, reply_packet, requests_of, source_of, timing_of, world}
 use Rattle.mctp_schedule.specs.declared.step.Action.TheVariants.{Reply, Busy}
 use Rattle.mctp_schedule.specs.declared.step.Step.{Step}
@@ -32,6 +32,7 @@ use Rattle.mctp_schedule.proofs.GivenReplies.{busy_opened}
 use Rattle.mctp_schedule.proofs.HandedAnswers.{bad_tag, comes_in, packet_past, packet_there}
 use Rattle.mctp_schedule.proofs.KnownRequests.{Known, all_known}
 use Rattle.mctp_schedule.proofs.RepliesKept.{Holds, Stands}
+use Rattle.mctp_schedule.proofs.StepsOnRequests.{waits_so}
 use Rattle.mctp_schedule.proofs.TakenReplies.{AllHold, all_hold}
 use Rattle.mctp_schedule.proofs.TimelyLogs.{log_is_timely}
 
@@ -66,6 +67,20 @@ module _ {S : Type 0} (setting : Setting S) (lower : Lower) where
 
   pub answered_where_taken : AnsweredWhereTaken setting
   answered_where_taken steps k r s is = (all_of steps s k r is).standing
+
+  pub taken_once : TakenOnce setting
+  taken_once steps k j s took = go (asked_at (world setting steps).log k) refl
+    where
+      closed : (r : Asked) → asked_at (world setting steps).log k ≡ Some r → (is_waiting setting (world setting steps) r ≡ true) ⊎ (is_waiting setting (world setting steps) r ≡ false) → is_waiting setting (world setting steps) r ≡ false
+      closed r is (inr shut) = shut
+      closed r is (inl opens) =
+          let still = waits_so (Stands setting steps r).course.standing opens in
+          let off : taken setting steps k ≡ false = subst (StandingIs setting steps k) still (all_of steps s k r is).standing in
+          absurd (let wrong : true ≡ false = sym took ∙ off in cc)
+
+      go : (o : Option Asked) → asked_at (world setting steps).log k ≡ o → completes_for setting steps k j o ≡ false
+      go None e = refl
+      go (Some r) e = and_right (nat_lt j (part_count setting (world setting steps) k)) _ (and_left (is_waiting setting (world setting steps) r) _ (closed r e (cases_Bool (is_waiting setting (world setting steps) r))))
 
   taken_of : (steps : List Step) (k : ℕ) (message : List ℕ) (x : Standing) → x ≡ Answered message → StandingIs setting steps k x → (taken setting steps k ≡ true) × (message ≡ reply_of setting (world setting steps) k)
   taken_of steps k message x e c = subst (StandingIs setting steps k) e c
@@ -120,7 +135,7 @@ module _ {S : Type 0} (setting : Setting S) (lower : Lower) where
     abbrev w : World
     w = world setting past
 
-    module _ (r : Asked) (is : asked_at w.log k ≡ Some r) (l : j < parts setting w k) where
+    module _ (r : Asked) (is : asked_at w.log k ≡ Some r) (l : j < part_count setting w k) where
       abbrev m : List ℕ
       m = reply_of setting w k
 
@@ -148,7 +163,7 @@ module _ {S : Type 0} (setting : Setting S) (lower : Lower) where
 
       not_waiting : is_waiting setting w r ≡ false → got_from setting w r.source (Some bytes) ≡ Some (if completes setting past k j then got.Answered r.own else if_waiting setting past r assembled)
       not_waiting shut =
-          let off : completes setting past k j ≡ false = ap (completes_for setting past k j) is ∙ and_right (nat_lt j (parts setting w k)) _ (and_left (is_waiting setting w r) _ shut) in
+          let off : completes setting past k j ≡ false = ap (completes_for setting past k j) is ∙ and_right (nat_lt j (part_count setting w k)) _ (and_left (is_waiting setting w r) _ shut) in
           gives_bad_tag past s k r is (timely bytes handed_over) m j bytes sent shut
           ∙ ap Some (sym (cond-false (completes setting past k j) _ _ off ∙ cond-false (is_waiting setting w r) _ _ shut))
 
@@ -156,16 +171,16 @@ module _ {S : Type 0} (setting : Setting S) (lower : Lower) where
       there =
           ap (got_from setting w r.source) handed_over
           ∙ go (cases_Bool (is_waiting setting w r))
-          ∙ sym (cond-true (nat_lt j (parts setting w k)) _ _ (lt-ltb j (parts setting w k) l))
+          ∙ sym (cond-true (nat_lt j (part_count setting w k)) _ _ (lt-ltb j (part_count setting w k) l))
         where
           go : (is_waiting setting w r ≡ true) ⊎ (is_waiting setting w r ≡ false) → got_from setting w r.source (Some bytes) ≡ Some (if completes setting past k j then got.Answered r.own else if_waiting setting past r assembled)
           go (inl waits) = waiting waits
           go (inr shut) = not_waiting shut
 
-    past_them : (r : Asked) → asked_at w.log k ≡ Some r → parts setting w k ≤ j → got_from setting w r.source (reply_packet setting w k j) ≡ reply_owed_to setting past k j (Some r)
+    past_them : (r : Asked) → asked_at w.log k ≡ Some r → part_count setting w k ≤ j → got_from setting w r.source (reply_packet setting w k j) ≡ reply_owed_to setting past k j (Some r)
     past_them r is l =
         ap (got_from setting w r.source) (packet_is setting lower past (log_of past s) s.sound k r is j ∙ packet_past (way_to setting r) (reply_of setting w k) j l)
-        ∙ sym (cond-false (nat_lt j (parts setting w k)) _ _ (le-ltb j (parts setting w k) l))
+        ∙ sym (cond-false (nat_lt j (part_count setting w k)) _ _ (le-ltb j (part_count setting w k) l))
 
     owed_to : (o : Option Asked) → asked_at w.log k ≡ o → got_of_reply setting w k j ≡ reply_owed setting past k j
     owed_to None off =
@@ -173,10 +188,10 @@ module _ {S : Type 0} (setting : Setting S) (lower : Lower) where
         ∙ sym (ap (reply_owed_to setting past k j) off)
     owed_to (Some r) is =
         ap (λ o. got_from setting w (source_of o) (reply_packet setting w k j)) is
-        ∙ by_place (cases_lt j (parts setting w k))
+        ∙ by_place (cases_lt j (part_count setting w k))
         ∙ sym (ap (reply_owed_to setting past k j) is)
       where
-        by_place : (j < parts setting w k) ⊎ (parts setting w k ≤ j) → got_from setting w r.source (reply_packet setting w k j) ≡ reply_owed_to setting past k j (Some r)
+        by_place : (j < part_count setting w k) ⊎ (part_count setting w k ≤ j) → got_from setting w r.source (reply_packet setting w k j) ≡ reply_owed_to setting past k j (Some r)
         by_place (inl l) = there r is l
         by_place (inr l) = past_them r is l
 

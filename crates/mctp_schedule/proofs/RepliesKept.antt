@@ -11,7 +11,7 @@ use Rattle.mctp_schedule.specs.Logs.{Asked, Happening, Opened, Delivered, Sensed
 use Rattle.mctp_schedule.specs.FirstArrivals.{arrives, earlier, first}
 use Rattle.mctp_schedule.specs.OncePerformed.{bytes_of, given_once, reply_at_first, reply_from, the_reply, was_busy}
 use Rattle.mctp_schedule.specs.RequesterHalf.{StandingIs}
-use Rattle.mctp_schedule.specs.Taken.{brought, came, completes_for, is_waiting, parts, replies, reply_of, taken, takes, with_delivery}
+use Rattle.mctp_schedule.specs.Taken.{brought, came, completes_for, is_waiting, part_count, replies, reply_of, taken, takes, with_delivery}
 use Rattle.mctp_schedule.specs.Worlds.{Setting, World, done, requests_of, world}
 use Rattle.mctp_schedule.specs.declared.step.Action.{Action}
 use Rattle.mctp_schedule.specs.declared.step.Action.TheVariants as actions
@@ -95,10 +95,10 @@ module _ {S : Type 0} (setting : Setting S) where
   no_parts world k none = ap (reply_from setting.device setting.keep setting.start (bytes_of (asked_at world.log k))) none
 
   -- it stays, or it had not arrived
-  stays_or_none : (step : Step) (past : List Step) (k : ℕ) → (reply_of setting (world setting (step ∷ past)) k ≡ reply_of setting (world setting past) k) ⊎ (parts setting (world setting past) k ≡ 0)
+  stays_or_none : (step : Step) (past : List Step) (k : ℕ) → (reply_of setting (world setting (step ∷ past)) k ≡ reply_of setting (world setting past) k) ⊎ (part_count setting (world setting past) k ≡ 0)
   stays_or_none step past k = go (first setting.keep (Log past) k) refl
     where
-      go : (f : Option (List Happening)) → first setting.keep (Log past) k ≡ f → (reply_of setting (world setting (step ∷ past)) k ≡ reply_of setting (world setting past) k) ⊎ (parts setting (world setting past) k ≡ 0)
+      go : (f : Option (List Happening)) → first setting.keep (Log past) k ≡ f → (reply_of setting (world setting (step ∷ past)) k ≡ reply_of setting (world setting past) k) ⊎ (part_count setting (world setting past) k ≡ 0)
       go None e = inr (ap piece_count (no_parts (world setting past) k e))
       go (Some place) e = inl (reply_stays step past k place e)
 
@@ -109,25 +109,25 @@ module _ {S : Type 0} (setting : Setting S) where
   same_brought r m n (Some j ∷ js) b = absurd (let x = b.0 in omega arith)
 
   -- the same deliveries brought the same, and stay packets of the reply
-  pub still_brought : (step : Step) (past : List Step) (k : ℕ) (r : Asked) → Below (parts setting (world setting past) k) (replies setting past k)
+  pub still_brought : (step : Step) (past : List Step) (k : ℕ) (r : Asked) → Below (part_count setting (world setting past) k) (replies setting past k)
       → map (brought setting r (reply_of setting (world setting (step ∷ past)) k)) (replies setting past k) ≡ came setting past k r
   still_brought step past k r b = go (stays_or_none step past k)
     where
-      go : ((reply_of setting (world setting (step ∷ past)) k ≡ reply_of setting (world setting past) k) ⊎ (parts setting (world setting past) k ≡ 0)) → map (brought setting r (reply_of setting (world setting (step ∷ past)) k)) (replies setting past k) ≡ came setting past k r
+      go : ((reply_of setting (world setting (step ∷ past)) k ≡ reply_of setting (world setting past) k) ⊎ (part_count setting (world setting past) k ≡ 0)) → map (brought setting r (reply_of setting (world setting (step ∷ past)) k)) (replies setting past k) ≡ came setting past k r
       go (inl same) = ap (λ m. map (brought setting r m) (replies setting past k)) same
       go (inr none) = same_brought r (reply_of setting (world setting (step ∷ past)) k) (reply_of setting (world setting past) k) (replies setting past k) (subst (λ n. Below n (replies setting past k)) none b)
 
-  pub still_below : (step : Step) (past : List Step) (k : ℕ) → Below (parts setting (world setting past) k) (replies setting past k) → Below (parts setting (world setting (step ∷ past)) k) (replies setting past k)
+  pub still_below : (step : Step) (past : List Step) (k : ℕ) → Below (part_count setting (world setting past) k) (replies setting past k) → Below (part_count setting (world setting (step ∷ past)) k) (replies setting past k)
   still_below step past k b = go (stays_or_none step past k)
     where
-      go : ((reply_of setting (world setting (step ∷ past)) k ≡ reply_of setting (world setting past) k) ⊎ (parts setting (world setting past) k ≡ 0)) → Below (parts setting (world setting (step ∷ past)) k) (replies setting past k)
+      go : ((reply_of setting (world setting (step ∷ past)) k ≡ reply_of setting (world setting past) k) ⊎ (part_count setting (world setting past) k ≡ 0)) → Below (part_count setting (world setting (step ∷ past)) k) (replies setting past k)
       go (inl same) = subst (λ m. Below (piece_count m) (replies setting past k)) (sym same) b
-      go (inr none) = below_more (parts setting (world setting (step ∷ past)) k) (replies setting past k) (subst (λ n. Below n (replies setting past k)) none b)
+      go (inr none) = below_more (part_count setting (world setting (step ∷ past)) k) (replies setting past k) (subst (λ n. Below n (replies setting past k)) none b)
 
   -- ---- what holds of request k, which is r
   pub record Holds (steps : List Step) (k : ℕ) (r : Asked) : Type 0 where
     pub fed : is_waiting setting (world setting steps) r ≡ true → (Stands steps r).fed ≡ came setting steps k r
-    pub below : Below (parts setting (world setting steps) k) (replies setting steps k)
+    pub below : Below (part_count setting (world setting steps) k) (replies setting steps k)
     pub standing : StandingIs setting steps k (Stands steps r).course.standing
     pub arrived : taken setting steps k ≡ true → (place : List Happening) × (first setting.keep (Log steps) k ≡ Some place)
 
@@ -151,7 +151,7 @@ module _ {S : Type 0} (setting : Setting S) where
   pub holds_kept : (step : Step) (past : List Step) (k : ℕ) (r : Asked) → Holds past k r → Kept (Stands past r) (Stands (step ∷ past) r) → replies setting (step ∷ past) k ≡ replies setting past k → taken setting (step ∷ past) k ≡ taken setting past k → Holds (step ∷ past) k r
   holds_kept step past k r h kept rs ts = record {
     fed = λ opens. kept.fed ∙ h.fed (kept_opens (Stands past r) (Stands (step ∷ past) r) kept opens) ∙ sym (still_brought step past k r h.below) ∙ ap (map (brought setting r (reply_of setting (world setting (step ∷ past)) k))) (sym rs);
-    below = subst (Below (parts setting (world setting (step ∷ past)) k)) (sym rs) (still_below step past k h.below);
+    below = subst (Below (part_count setting (world setting (step ∷ past)) k)) (sym rs) (still_below step past k h.below);
     standing = claim_kept step past k (Stands past r) (Stands (step ∷ past) r) kept ts h.arrived h.standing;
     arrived = λ t. let x = h.arrived (sym ts ∙ t) in (x.0, arrived_stays step past k x.0 x.1);
   }
@@ -166,8 +166,8 @@ module _ {S : Type 0} (setting : Setting S) where
 
   nothing_comes : (w : World) (k : ℕ) (action : Action) (js : List (Option ℕ)) → asked_at w.log k ≡ None → with_delivery setting w k action js ≡ js
   nothing_comes w k (actions.Reply i j) js off =
-      let none : parts setting w k ≡ 0 = ap piece_count (no_parts w k (first_unopened setting.keep w.log k off)) in
-      cond-false (i == k && nat_lt j (parts setting w k)) _ _ (and_right (i == k) _ (le-ltb j (parts setting w k) (omega arith)))
+      let none : part_count setting w k ≡ 0 = ap piece_count (no_parts w k (first_unopened setting.keep w.log k off)) in
+      cond-false (i == k && nat_lt j (part_count setting w k)) _ _ (and_right (i == k) _ (le-ltb j (part_count setting w k) (omega arith)))
   nothing_comes w k (actions.Busy i) js off =
       cond-false (i == k && was_busy setting.keep w.log k) _ _ (and_right (i == k) _ (busy_opened setting.device setting.keep setting.start w.log k off))
   nothing_comes w k (actions.Open e command) js off = refl

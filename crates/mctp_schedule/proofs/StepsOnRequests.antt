@@ -18,7 +18,7 @@ use Rattle.mctp_schedule.proofs.HandedAnswers.{IsOf, Moved, nothing_moves, one_m
 use Rattle.mctp_schedule.proofs.KnownRequests.{Known}
 use Rattle.mctp_schedule.proofs.RepliesKept.{Kept, same_kept}
 
-waits_so : (x : Standing) → waits x ≡ true → x ≡ Waiting
+pub waits_so : (x : Standing) → waits x ≡ true → x ≡ Waiting
 waits_so Waiting e = refl
 waits_so (Answered message) e = cc
 waits_so GaveUp e = cc

@@ -17,7 +17,7 @@ use Rattle.mctp_schedule.specs.Logs.{Asked, Happening, IsTimelyLog, Opened, aske
 use Rattle.mctp_schedule.specs.FirstArrivals.{first}
 use Rattle.mctp_schedule.specs.OncePerformed.{RepliesFit, given, was_busy}
 use Rattle.mctp_schedule.specs.RequesterHalf.{IsSound, StandingIs}
-use Rattle.mctp_schedule.specs.Taken.{brought, came, completes, completes_for, is_waiting, parts, replies, reply_of, taken, way_to}
+use Rattle.mctp_schedule.specs.Taken.{brought, came, completes, completes_for, is_waiting, part_count, replies, reply_of, taken, way_to}
 use Rattle.mctp_schedule.specs.Worlds.{IsTimely, IsTimelyAction, NeverWentBack, Setting, TagIsOwn, World, answer_packets, asked_by, busy_from, busy_packet, handed, packet_of, reply_packet, requests_of, source_of, timing_of, world}
 use Rattle.mctp_schedule.specs.declared.step.Action.{Action}
 use Rattle.mctp_schedule.specs.declared.step.Action.TheVariants as actions
@@ -92,7 +92,7 @@ module _ {S : Type 0} (setting : Setting S) where
         let stands : Stands setting (opening ∷ past) new ≡ new_request moment command = opens_new setting (world setting past) (Log (opening ∷ past)) moment e command ok in
         record {
           fed = λ _. ap (λ (r : Request). r.fed) stands ∙ sym (ap (map (brought setting new (reply_of setting (world setting (opening ∷ past)) k))) q.0);
-          below = subst (Below (parts setting (world setting (opening ∷ past)) k)) (sym q.0) tt;
+          below = subst (Below (part_count setting (world setting (opening ∷ past)) k)) (sym q.0) tt;
           standing = subst (λ (r : Request). StandingIs setting (opening ∷ past) k r.course.standing) (sym stands) q.1;
           arrived = λ t. absurd (let wrong : true ≡ false = sym t ∙ q.1 in cc);
         }
@@ -120,13 +120,13 @@ module _ {S : Type 0} (setting : Setting S) where
       → (is_waiting setting (world setting past) q ≡ false → Stands setting (step ∷ past) q ≡ Stands setting past q)
       → replies setting (step ∷ past) k ≡ d ∷ replies setting past k
       → p ≡ brought setting q (reply_of setting (world setting (step ∷ past)) k) d
-      → Below (parts setting (world setting (step ∷ past)) k) (d ∷ replies setting past k)
+      → Below (part_count setting (world setting (step ∷ past)) k) (d ∷ replies setting past k)
       → StandingIs setting (step ∷ past) k (Stands setting (step ∷ past) q).course.standing
       → (taken setting (step ∷ past) k ≡ true → HasArrived (step ∷ past) k)
       → Holds setting (step ∷ past) k q
   hit step past k q p d arrival h opens shuts rs is below standing arrives = record {
     fed = λ now. go now (cases_Bool (is_waiting setting (world setting past) q));
-    below = subst (Below (parts setting (world setting (step ∷ past)) k)) (sym rs) below;
+    below = subst (Below (part_count setting (world setting (step ∷ past)) k)) (sym rs) below;
     standing = standing;
     arrived = arrives;
   }
@@ -197,39 +197,39 @@ module _ {S : Type 0} (setting : Setting S) where
             (cases_eq k i)
 
   -- ---- a packet of a reply
-  no_reply : (past : List Step) (timely : IsTimelyLog setting.keep (world setting past).log) (sound : IsSound setting past) (lower : Lower) (i j : ℕ) → parts setting (world setting past) i ≤ j → reply_packet setting (world setting past) i j ≡ None
+  no_reply : (past : List Step) (timely : IsTimelyLog setting.keep (world setting past).log) (sound : IsSound setting past) (lower : Lower) (i j : ℕ) → part_count setting (world setting past) i ≤ j → reply_packet setting (world setting past) i j ≡ None
   no_reply past timely sound lower i j l = go (asked_at (Log past) i) refl
     where
       go : (o : Option Asked) → asked_at (Log past) i ≡ o → reply_packet setting (world setting past) i j ≡ None
       go None e = ap (λ o. packet_of setting o (given setting.device setting.keep setting.start (Log past) i) j) e
       go (Some q) e = packet_is setting lower past timely sound i q e j ∙ packet_past (way_to setting q) (reply_of setting (world setting past) i) j l
 
-  none_completes : (past : List Step) (i j : ℕ) → parts setting (world setting past) i ≤ j → completes setting past i j ≡ false
+  none_completes : (past : List Step) (i j : ℕ) → part_count setting (world setting past) i ≤ j → completes setting past i j ≡ false
   none_completes past i j l = go (asked_at (Log past) i)
     where
       go : (o : Option Asked) → completes_for setting past i j o ≡ false
       go None = refl
-      go (Some q) = and_left (nat_lt j (parts setting (world setting past) i)) _ (le-ltb j (parts setting (world setting past) i) l)
+      go (Some q) = and_left (nat_lt j (part_count setting (world setting past) i)) _ (le-ltb j (part_count setting (world setting past) i) l)
 
   module _ (lower : Lower) (past : List Step) (h : AllHold past) (timely : IsTimelyLog setting.keep (world setting past).log) (sound : IsSound setting past) (moment i j : ℕ) where
     abbrev replying : Step
     replying = record { moment = moment; action = actions.Reply i j }
 
     -- where there is no such packet
-    holds_no_reply : parts setting (world setting past) i ≤ j → AllHold (replying ∷ past)
+    holds_no_reply : part_count setting (world setting past) i ≤ j → AllHold (replying ∷ past)
     holds_no_reply l =
         holds_nothing replying past h
         (ap (handed setting (world setting past) moment (source_of (asked_at (Log past) i))) (no_reply past timely sound lower i j l))
         (λ k. ⊎_elim
-        (λ (same : i ≡ k). cond-false (i == k && nat_lt j (parts setting (world setting past) k)) _ _ (and_right (i == k) _ (le-ltb j (parts setting (world setting past) k) (subst (λ n. parts setting (world setting past) n ≤ j) same l))))
-        (λ (ne : i ≡ k → ⊥). cond-false (i == k && nat_lt j (parts setting (world setting past) k)) _ _ (and_left (i == k) _ (ne_eqb i k ne)))
+        (λ (same : i ≡ k). cond-false (i == k && nat_lt j (part_count setting (world setting past) k)) _ _ (and_right (i == k) _ (le-ltb j (part_count setting (world setting past) k) (subst (λ n. part_count setting (world setting past) n ≤ j) same l))))
+        (λ (ne : i ≡ k → ⊥). cond-false (i == k && nat_lt j (part_count setting (world setting past) k)) _ _ (and_left (i == k) _ (ne_eqb i k ne)))
         (cases_eq i k))
         (λ k. ap (λ b. b || taken setting past k) (⊎_elim
         (λ (same : i ≡ k). and_right (i == k) (completes setting past k j) (subst (λ n. completes setting past n j ≡ false) same (none_completes past i j l)))
         (λ (ne : i ≡ k → ⊥). and_left (i == k) (completes setting past k j) (ne_eqb i k ne))
         (cases_eq i k)))
 
-    module _ (own : IsTimelyAction setting (world setting past) moment (actions.Reply i j)) (q : Asked) (is : asked_at (Log past) i ≡ Some q) (l : j < parts setting (world setting past) i) where
+    module _ (own : IsTimelyAction setting (world setting past) moment (actions.Reply i j)) (q : Asked) (is : asked_at (Log past) i ≡ Some q) (l : j < part_count setting (world setting past) i) where
       abbrev m : List ℕ
       m = reply_of setting (world setting past) i
 
@@ -276,7 +276,7 @@ module _ {S : Type 0} (setting : Setting S) where
       stays off x c = claim_moves setting replying past i x (ap (λ b. b || taken setting past i) (and_right (i == i) _ off)) before.arrived c
 
       not_waiting : is_waiting setting (world setting past) q ≡ false → completes setting past i j ≡ false
-      not_waiting closed = ap (completes_for setting past i j) is ∙ and_right (nat_lt j (parts setting (world setting past) i)) _ (and_left (is_waiting setting (world setting past) q) _ closed)
+      not_waiting closed = ap (completes_for setting past i j) is ∙ and_right (nat_lt j (part_count setting (world setting past) i)) _ (and_left (is_waiting setting (world setting past) q) _ closed)
 
       standing : StandingIs setting (replying ∷ past) i (Stands setting (replying ∷ past) q).course.standing
       standing = go (cases_Bool (is_waiting setting (world setting past) q)) (cases_Bool (completes setting past i j))
@@ -298,7 +298,7 @@ module _ {S : Type 0} (setting : Setting S) where
       holds_here : Holds setting (replying ∷ past) i q
       holds_here =
           hit replying past i q (packet_at (way_to setting q) m j) (Some j) owed before opened shut
-          (cond-true (i == i && nat_lt j (parts setting (world setting past) i)) _ _ (and_from (i == i) _ (eq-eqb i i refl) (lt-ltb j (parts setting (world setting past) i) l)))
+          (cond-true (i == i && nat_lt j (part_count setting (world setting past) i)) _ _ (and_from (i == i) _ (eq-eqb i i refl) (lt-ltb j (part_count setting (world setting past) i) l)))
           (ap (λ x. packet_at (way_to setting q) x j) (sym same_reply))
           (subst (λ x. j < piece_count x) (sym same_reply) l, still_below setting replying past i before.below)
           standing
@@ -307,18 +307,18 @@ module _ {S : Type 0} (setting : Setting S) where
       holds_reply_to : AllHold (replying ∷ past)
       holds_reply_to =
           holds_handed lower past h timely sound replying moment i q is (own bytes handed_over) m j bytes sent now_is owed is_own brings
-          (λ k ne. cond-false (i == k && nat_lt j (parts setting (world setting past) k)) _ _ (and_left (i == k) _ (ne_eqb i k (λ e. ne (sym e)))))
+          (λ k ne. cond-false (i == k && nat_lt j (part_count setting (world setting past) k)) _ _ (and_left (i == k) _ (ne_eqb i k (λ e. ne (sym e)))))
           (λ k ne. ap (λ b. b || taken setting past k) (and_left (i == k) _ (ne_eqb i k (λ e. ne (sym e)))))
           holds_here
 
     pub holds_reply : IsTimelyAction setting (world setting past) moment (actions.Reply i j) → AllHold (replying ∷ past)
-    holds_reply own = go (cases_lt j (parts setting (world setting past) i))
+    holds_reply own = go (cases_lt j (part_count setting (world setting past) i))
       where
-        asked : (l : j < parts setting (world setting past) i) → (o : Option Asked) → asked_at (Log past) i ≡ o → AllHold (replying ∷ past)
+        asked : (l : j < part_count setting (world setting past) i) → (o : Option Asked) → asked_at (Log past) i ≡ o → AllHold (replying ∷ past)
         asked l None e = absurd (let none = ap piece_count (no_parts setting (world setting past) i (first_unopened setting.keep (Log past) i e)) in omega (arith, none))
         asked l (Some q) e = holds_reply_to own q e l
 
-        go : (j < parts setting (world setting past) i) ⊎ (parts setting (world setting past) i ≤ j) → AllHold (replying ∷ past)
+        go : (j < part_count setting (world setting past) i) ⊎ (part_count setting (world setting past) i ≤ j) → AllHold (replying ∷ past)
         go (inl l) = asked l (asked_at (Log past) i) refl
         go (inr l) = holds_no_reply l
 

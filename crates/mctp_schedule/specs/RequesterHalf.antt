@@ -11,7 +11,7 @@ use Rattle.mctp_schedule.specs.Logs.{Asked, Happening, asked_at}
 use Rattle.mctp_schedule.specs.FirstArrivals.{first, order}
 use Rattle.mctp_schedule.specs.OncePerformed.{RepliesFit, once}
 use Rattle.mctp_schedule.specs.HandedPackets.{got_of_busy, got_of_reply}
-use Rattle.mctp_schedule.specs.Taken.{busy_owed, came, is_waiting, reply_of, reply_owed, taken}
+use Rattle.mctp_schedule.specs.Taken.{busy_owed, came, completes, is_waiting, reply_of, reply_owed, taken}
 use Rattle.mctp_schedule.specs.Worlds.{IsTimely, IsTimelyAction, NeverWentBack, Setting, requests_of, timing_of, world}
 use Rattle.mctp_schedule.specs.declared.step.Action.TheVariants.{Reply, Busy}
 use Rattle.mctp_schedule.specs.declared.step.Step.{Step}
@@ -86,6 +86,12 @@ module _ {S : Type 0} (setting : Setting S) where
       (steps : List Step) (k : ℕ) (r : Asked)
       → IsTimelySchedule setting steps → asked_at (world setting steps).log k ≡ Some r
       → StandingIs steps k ((requests_of setting (world setting steps) r.source).each r.own).course.standing
+
+  -- it is taken once: no later packet completes it
+  abbrev pub TakenOnce : Type 0
+  TakenOnce =
+      (steps : List Step) (k j : ℕ)
+      → IsTimelySchedule setting steps → taken setting steps k ≡ true → completes setting steps k j ≡ false
 
   -- so an answer that a requester took is the one reply of a request that was performed exactly once
   abbrev pub AnsweredWasPerformed : Type 0

@@ -45,12 +45,12 @@ module _ {S : Type 0} (setting : Setting S) where
   reply_of world k = the_reply setting.device setting.keep setting.start world.log k
 
   -- how many packets it has
-  abbrev pub parts : World → ℕ → ℕ
-  parts world k = piece_count (reply_of world k)
+  abbrev pub part_count : World → ℕ → ℕ
+  part_count world k = piece_count (reply_of world k)
 
   abbrev pub with_delivery : World → ℕ → Action → List (Option ℕ) → List (Option ℕ)
   with_delivery world k (Reply i j) deliveries =
-      if i == k && nat_lt j (parts world k) then Some j ∷ deliveries else deliveries
+      if i == k && nat_lt j (part_count world k) then Some j ∷ deliveries else deliveries
   with_delivery world k (Busy i) deliveries =
       if i == k && was_busy setting.keep world.log k then None ∷ deliveries else deliveries
   with_delivery world k _ deliveries = deliveries
@@ -80,9 +80,9 @@ module _ {S : Type 0} (setting : Setting S) where
   abbrev pub completes_for : List Step → ℕ → ℕ → Option Asked → Bool
   completes_for past k j None = false
   completes_for past k j (Some r) =
-      nat_lt j (parts (world setting past) k)
+      nat_lt j (part_count (world setting past) k)
       && (is_waiting (world setting past) r
-      && (row (parts (world setting past) k) (Some j ∷ replies past k) && is_ready (reply_of (world setting past) k)))
+      && (row (part_count (world setting past) k) (Some j ∷ replies past k) && is_ready (reply_of (world setting past) k)))
 
   -- packet j of request k's reply completes it: k is open, with this one the last deliveries are all packets of the
   -- reply in order, and the reply is one that k takes
@@ -105,7 +105,7 @@ module _ {S : Type 0} (setting : Setting S) where
   abbrev pub reply_owed_to : List Step → ℕ → ℕ → Option Asked → Option Got
   reply_owed_to past k j None = None
   reply_owed_to past k j (Some r) =
-      if nat_lt j (parts (world setting past) k)
+      if nat_lt j (part_count (world setting past) k)
       then Some (
       if completes past k j
       then got.Answered r.own

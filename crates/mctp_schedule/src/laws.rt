@@ -3,7 +3,7 @@
 ghost use Rattle.pldm_responder.specs.Performing.{rules_of};
 ghost use Rattle.mctp_schedule.specs.Laws.{LogIsTimely, ReadAsSpelled, TimelyIsTested};
 ghost use Rattle.mctp_schedule.specs.Worlds.{Setting};
-ghost use Rattle.mctp_schedule.specs.RequesterHalf.{AnsweredWasPerformed, AnsweredWhereTaken, BusyIsOwed, OwnAssembly, OwnDeliveries, ReplyIsOwed};
+ghost use Rattle.mctp_schedule.specs.RequesterHalf.{AnsweredWasPerformed, AnsweredWhereTaken, BusyIsOwed, OwnAssembly, OwnDeliveries, ReplyIsOwed, TakenOnce};
 ghost use Rattle.mctp_schedule.specs.DeviceHalf.{DeliveryIsOwed, FreshInOrderOfFirsts, FreshWhereFirst, GivenIsTheReply, NoneOpenedSince, NotPerformedAgain, StateIsOnce, TheReplyFits};
 
 use pldm_device::Platform;
@@ -50,6 +50,7 @@ pub fn requesters_take_the_one_reply<P: Platform>()
     ensures reply { (setting : Setting P.State) → ReplyIsOwed setting }
     ensures busy { (setting : Setting P.State) → BusyIsOwed setting }
     ensures answered { (setting : Setting P.State) → AnsweredWhereTaken setting }
+    ensures once { (setting : Setting P.State) → TakenOnce setting }
     ensures performed { (setting : Setting P.State) → AnsweredWasPerformed setting }
 {
     mctp_packet::laws::split_packets_read_back();
