@@ -19,9 +19,8 @@ use Rattle.mctp_schedule.specs.Worlds.{NeverWentBack, is_timely, world}
 use Rattle.mctp_schedule.specs.declared.step.Action.TheVariants.{Reply}
 use Rattle.mctp_schedule.specs.declared.step.Step.{Step}
 use Rattle.mctp_schedule.proofs.OpenedSources.{EachOpensAt, sources_of}
-use Rattle.mctp_schedule.proofs.RequesterRows.{in_turn, long}
+use Rattle.mctp_schedule.proofs.RequesterRows.{after_restart, at, in_turn, light, long}
 use Rattle.mctp_schedule.proofs.TimelyTests.{timely_is_tested}
-use Rattle.mctp_schedule.proofs.WorldRows.{after_restart, at, setting}
 
 abbrev IsOther : ℕ → Type 0
 IsOther e = IsEid e × (e ≢ 9)
@@ -74,7 +73,7 @@ answered_late = at 220 (Reply 0 0) ∷ after_restart
 light_order : NeverWentBack answered_late
 light_order = (omega arith, (omega arith, (omega arith, (omega arith, (omega arith, (omega arith, (omega arith, tt)))))))
 
-light_in_time : is_timely setting answered_late ≡ true
+light_in_time : is_timely light answered_late ≡ true
 unfolding request_of command_of response_of
 light_in_time = refl
 
@@ -84,20 +83,20 @@ light_sources = (tt, (tt, (tt, (tt, (tt, (tt, (eight, tt)))))))
 abbrev light_request : Asked
 light_request = record { source = 8; own = 0; opening = 0; message = message_of 0 (SetNumericEffecterValue 1 (sized_number Uint8 (pos 40))) }
 
-light_fit : RepliesFit setting.device 1000 (pos 10) (world setting answered_late).log
+light_fit : RepliesFit light.device 1000 (pos 10) (world light answered_late).log
 unfolding request_of command_of response_of
 light_fit = (
-  λ r e fresh. same (λ (r : Asked). FitsPackets (reply setting.device (pos 40) r.message)) light_request (sized _ refl refl) r e,
-  (λ r e fresh. same (λ (r : Asked). FitsPackets (reply setting.device (pos 10) r.message)) light_request (sized _ refl refl) r e, tt),
+  λ r e fresh. same (λ (r : Asked). FitsPackets (reply light.device (pos 40) r.message)) light_request (sized _ refl refl) r e,
+  (λ r e fresh. same (λ (r : Asked). FitsPackets (reply light.device (pos 10) r.message)) light_request (sized _ refl refl) r e, tt),
 )
 
-pub light_schedule : IsTimelySchedule setting answered_late
+pub light_schedule : IsTimelySchedule light answered_late
 light_schedule = record {
   order = light_order;
-  timely = (timely_is_tested setting answered_late).0 light_in_time;
+  timely = (timely_is_tested light answered_late).0 light_in_time;
   sound = record {
     device = (omega arith, omega arith);
-    sources = sources_of setting IsOther answered_late light_sources;
+    sources = sources_of light IsOther answered_late light_sources;
     fit = light_fit;
   };
 }

@@ -1,18 +1,21 @@
 -- What the definitions of the requester's half give over schedules that are written out, computed. The newest step stands
 -- first.
-use Rattle.std.proofs.Common.{◌≡◌, ℕ, List, [], ◌∷◌, Some, None, true, false, refl, drop}
+use Rattle.std.proofs.Common.{◌≡◌, ℕ, ℤ, pos, List, [], ◌∷◌, Some, None, true, false, refl, drop}
 use Rattle.std.specs.Prelude.{replicate, Err}
 use Rattle.mctp_packet.specs.declared.reason.Reason.TheVariants.{UnexpectedMiddleOrEnd, OutOfSequence, BadTag, NotReady}
 use Rattle.pldm_wire.specs.CommandReading.{command_of}
+use Rattle.pldm_wire.specs.Numbers.{sized}
 use Rattle.pldm_wire.specs.Requests.{request_of}
 use Rattle.pldm_wire.specs.Responses.{response_of}
 use Rattle.pldm_wire.specs.declared.answer.Answer.{Answer}
 use Rattle.pldm_wire.specs.declared.answer.Answer.TheVariants as answers
 use Rattle.pldm_wire.specs.declared.command.Command.{Command}
-use Rattle.pldm_wire.specs.declared.command.Command.TheVariants.{GetTid, GetPdrRepositoryInfo}
+use Rattle.pldm_wire.specs.declared.command.Command.TheVariants.{GetTid, GetPdrRepositoryInfo, SetNumericEffecterValue}
+use Rattle.pldm_wire.specs.declared.size.Size.TheVariants.{Uint8}
 use Rattle.pldm_device.specs.declared.reading_fault.ReadingFault.{ReadingFault}
 use Rattle.pldm_device.specs.declared.reading_fault.ReadingFault.TheVariants.{NoSuchSensor}
-use Rattle.pldm_responder.specs.Performing.{Rules}
+use Rattle.pldm_responder.specs.Dimmers.{dimmer_answer, dimmer_after, dimmer_sensed}
+use Rattle.pldm_responder.specs.Performing.{Rules, rules_of}
 use Rattle.pldm_requester.specs.declared.got.Got.{Got}
 use Rattle.pldm_requester.specs.declared.got.Got.TheVariants.{Dropped, Partial, Answered}
 use Rattle.mctp_schedule.specs.HandedPackets.{got_of_reply, got_of_busy}
@@ -21,7 +24,9 @@ use Rattle.mctp_schedule.specs.Worlds.{Setting, world}
 use Rattle.mctp_schedule.specs.declared.step.Action.{Action}
 use Rattle.mctp_schedule.specs.declared.step.Action.TheVariants.{Open, Tick, Request, Reply, Restart, Busy}
 use Rattle.mctp_schedule.specs.declared.step.Step.{Step}
-use Rattle.mctp_schedule.proofs.WorldRows.{at, a_retry, after_restart, setting}
+
+abbrev pub at : ℕ → Action → Step
+at moment action = record { moment = moment; action = action }
 
 -- ---- a device with long answers: one of four packets, to a command of its kind
 abbrev long_answer : ℕ → Command → Answer
@@ -144,36 +149,56 @@ new_one_is_taken : taken long (at 620 (Reply 8 3) ∷ three_came) 8 ≡ true
 unfolding request_of command_of response_of
 new_one_is_taken = refl
 
--- ---- a light: a retry, a late copy of its answer, and a restart with a busy answer
-retry_is_taken : taken setting a_retry 0 ≡ true
+-- ---- a light at endpoint 9, which keeps answers for a second
+abbrev pub light : Setting ℤ
+light = record {
+  device = rules_of dimmer_answer dimmer_after dimmer_sensed;
+  start = pos 10;
+  eid = 9;
+  keep = 1000;
+  requesters = record { eid = 8; timeout = 200; tries = 5 } ∷ [];
+}
+
+abbrev set_40 : Action
+set_40 = Open 8 (SetNumericEffecterValue 1 (sized Uint8 (pos 40)))
+
+abbrev a_retry : List Step
+a_retry = at 210 (Reply 0 0) ∷ at 200 (Request 0) ∷ at 200 (Tick 8) ∷ at 0 (Request 0) ∷ at 0 set_40 ∷ []
+
+abbrev pub after_restart : List Step
+after_restart =
+    at 210 (Busy 0) ∷ at 200 (Request 0) ∷ at 200 (Tick 8) ∷ at 100 Restart ∷ at 0 (Request 0) ∷ at 0 set_40 ∷ []
+
+-- a retry, a late copy of its answer, and a restart with a busy answer
+retry_is_taken : taken light a_retry 0 ≡ true
 unfolding request_of command_of response_of
 retry_is_taken = refl
 
-answer_of_it : reply_owed setting (drop 1 a_retry) 0 0 ≡ Some (Answered 0)
+answer_of_it : reply_owed light (drop 1 a_retry) 0 0 ≡ Some (Answered 0)
 unfolding request_of command_of response_of
 answer_of_it = refl
 
-answer_again : reply_owed setting a_retry 0 0 ≡ Some (Dropped BadTag)
+answer_again : reply_owed light a_retry 0 0 ≡ Some (Dropped BadTag)
 unfolding request_of command_of response_of
 answer_again = refl
 
-busy_answer : busy_owed setting (drop 1 after_restart) 0 ≡ Some (Dropped NotReady)
+busy_answer : busy_owed light (drop 1 after_restart) 0 ≡ Some (Dropped NotReady)
 unfolding request_of command_of response_of
 busy_answer = refl
 
-busy_answer_is_none_before : busy_owed setting (drop 2 after_restart) 0 ≡ None
+busy_answer_is_none_before : busy_owed light (drop 2 after_restart) 0 ≡ None
 unfolding request_of command_of response_of
 busy_answer_is_none_before = refl
 
-busy_is_told : replies setting after_restart 0 ≡ None ∷ []
+busy_is_told : replies light after_restart 0 ≡ None ∷ []
 unfolding request_of command_of response_of
 busy_is_told = refl
 
-reply_after_it : reply_owed setting after_restart 0 0 ≡ Some (Answered 0)
+reply_after_it : reply_owed light after_restart 0 0 ≡ Some (Answered 0)
 unfolding request_of command_of response_of
 reply_after_it = refl
 
-busy_answer_afterwards : busy_owed setting (at 220 (Reply 0 0) ∷ after_restart) 0 ≡ Some (Dropped BadTag)
+busy_answer_afterwards : busy_owed light (at 220 (Reply 0 0) ∷ after_restart) 0 ≡ Some (Dropped BadTag)
 unfolding request_of command_of response_of
 busy_answer_afterwards = refl
 
@@ -199,6 +224,6 @@ late_is_given : got_of_reply long (world long (at 6 (Reply 0 3) ∷ in_turn)) 0 
 unfolding request_of command_of response_of
 late_is_given = refl
 
-busy_is_given : got_of_busy setting (world setting (drop 1 after_restart)) 0 ≡ Some (Dropped NotReady)
+busy_is_given : got_of_busy light (world light (drop 1 after_restart)) 0 ≡ Some (Dropped NotReady)
 unfolding request_of command_of response_of
 busy_is_given = refl

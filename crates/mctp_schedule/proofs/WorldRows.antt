@@ -19,10 +19,10 @@ use Rattle.mctp_schedule.specs.declared.step.Action.TheVariants.{Open, Tick, Req
 use Rattle.mctp_schedule.specs.declared.step.Step.{Step}
 use Rattle.mctp_schedule.proofs.TimelyTests.{timely_is_tested}
 
-abbrev pub at : ℕ → Action → Step
+abbrev at : ℕ → Action → Step
 at moment action = record { moment = moment; action = action }
 
-abbrev pub setting : Setting ℤ
+abbrev setting : Setting ℤ
 setting = record {
   device = rules_of dimmer_answer dimmer_after dimmer_sensed;
   start = pos 10;
@@ -44,7 +44,7 @@ abbrev level : List Step → ℤ
 level steps = once (setting.device) 1000 (pos 10) (world setting steps).log
 
 -- a request is sent again, and its answer comes
-abbrev pub a_retry : List Step
+abbrev a_retry : List Step
 a_retry = at 210 (Reply 0 0) ∷ at 200 (Request 0) ∷ at 200 (Tick 8) ∷ at 0 (Request 0) ∷ at 0 set_40 ∷ []
 
 retry_is_answered : standing a_retry ≡ Answered (1 ∷ 0 ∷ 2 ∷ 49 ∷ 0 ∷ [])
@@ -77,7 +77,7 @@ late_copy_is_not_timely = refl
 
 -- a restart after a request was performed: its copy gets the busy answer, which its requester does not take; the latest reply
 -- still comes
-abbrev pub after_restart : List Step
+abbrev after_restart : List Step
 after_restart =
     at 210 (Busy 0) ∷ at 200 (Request 0) ∷ at 200 (Tick 8) ∷ at 100 Restart ∷ at 0 (Request 0) ∷ at 0 set_40 ∷ []
 
