@@ -1,12 +1,11 @@
 -- What the packets of answers are, and what each brings its request: the answer where it completes it, else what assembly gives.
-use Rattle.std.proofs.Common.{◌≡◌, ◌≢◌, ◌⊎◌, ℕ, ◌+◌, ◌%◌, ◌<◌, ◌≤◌, List, [], ◌∷◌, map, slice_get, take, Option, Some, None, Bool, true, false, Ok, refl, sym, ap, ◌∙◌, subst, inl, inr, arith, eq-eqb}
-use Rattle.std.specs.Prelude.{not, ◌&&◌, ◌==◌, nat_lt, if◌then◌else◌}
+use Rattle.std.proofs.Common.{◌≡◌, ◌⊎◌, ℕ, ◌+◌, ◌<◌, ◌≤◌, List, ◌∷◌, slice_get, Option, Some, None, Bool, true, false, Ok, refl, sym, ap, ◌∙◌, subst, inl, inr, arith}
+use Rattle.std.specs.Prelude.{◌&&◌, ◌==◌, nat_lt, if◌then◌else◌}
 use Rattle.std.proofs.lemmas.Bool.{and_left, and_right, and_from, cases_Bool, lt-ltb, cond-true, cond-false}
 use Rattle.mctp_packet.specs.Laws.{IsRoute, SplitsReadBack}
 use Rattle.mctp_packet.specs.Packets.{Packet}
 use Rattle.mctp_packet.specs.Pieces.{packet_at, piece, piece_count}
 use Rattle.mctp_packet.specs.Reading.{reading}
-use Rattle.mctp_packet.specs.declared.reason.Reason.{Reason}
 use Rattle.mctp_packet.specs.declared.reason.Reason.TheVariants.{NotReady}
 use Rattle.mctp_packet.specs.declared.TheConstants.{MOST_PACKETS}
 use Rattle.mctp_assembly.specs.Rows.{next}
@@ -21,12 +20,12 @@ use Rattle.pldm_wire.specs.declared.assigned.TheConstants.{ERROR_NOT_READY}
 use Rattle.pldm_wire.specs.declared.command.Command.{Command}
 use Rattle.pldm_responder.specs.Performing.{busy_reply, reply}
 use Rattle.pldm_requester.specs.Arrivals.{Arrival, Drop, Part, Answer, fed_arrival, response_arrival}
-use Rattle.pldm_requester.specs.Calls.{Request, Requests, is_mine}
+use Rattle.pldm_requester.specs.Calls.{is_mine}
 use Rattle.pldm_requester.specs.Laws.{FoundOnItsTag, IdsApart}
 use Rattle.pldm_requester.specs.Numbering.{id_of}
 use Rattle.mctp_schedule.specs.Logs.{Asked, Happening, IsTimelyLog, asked_at}
 use Rattle.mctp_schedule.specs.FirstArrivals.{first}
-use Rattle.mctp_schedule.specs.OncePerformed.{FitsPackets, bytes_of, given_once, once, reply_at_first, reply_from, the_reply, was_busy}
+use Rattle.mctp_schedule.specs.OncePerformed.{FitsPackets, bytes_of, given_once, once, reply_at_first, reply_from, was_busy}
 use Rattle.mctp_schedule.specs.RequesterHalf.{IsSound}
 use Rattle.mctp_schedule.specs.Taken.{brought, came, completes, completes_for, is_ready, is_waiting, part_count, replies, reply_of, row, way_to}
 use Rattle.mctp_schedule.specs.Worlds.{Setting, World, answer_packets, busy_from, busy_packet, packet_of, reply_packet, requests_of, timing_of, world}

@@ -1,18 +1,16 @@
 -- The reply to a request that a requester opened is a response of its own instance ID and kind, so the requester takes it,
 -- unless it says that the device is not ready.
-use Rattle.std.proofs.Common.{◌≡◌, ℕ, ◌+◌, ◌*◌, ◌%◌, ◌<◌, List, [], ◌∷◌, Bool, true, false, Ok, Result, refl, sym, ap, ◌∙◌, arith, eq-eqb}
-use Rattle.std.specs.Prelude.{not, ◌&&◌, ◌==◌, if◌then◌else◌}
-use Rattle.std.proofs.lemmas.Bool.{and_from, cond-true, cond-false}
-use Rattle.mctp_packet.specs.declared.reason.Reason.{Reason}
-use Rattle.mctp_packet.specs.declared.reason.Reason.TheVariants.{NotMine, NotReady}
+use Rattle.std.proofs.Common.{◌≡◌, ℕ, List, Bool, true, false, Ok, refl, sym, ap, ◌∙◌, arith, eq-eqb}
+use Rattle.std.specs.Prelude.{not, ◌==◌, if◌then◌else◌}
+use Rattle.std.proofs.lemmas.Bool.{and_from, cond-false}
+use Rattle.mctp_packet.specs.declared.reason.Reason.TheVariants.{NotReady}
 use Rattle.pldm_wire.specs.Answers.{answer_data, answer_message, code_of}
 use Rattle.pldm_wire.specs.CommandReading.{command_of}
 use Rattle.pldm_wire.specs.Commands.{command_data, kind_of}
-use Rattle.pldm_wire.specs.Kinds.{TypeAndCommand, IsKind}
+use Rattle.pldm_wire.specs.Kinds.{IsKind}
 use Rattle.pldm_wire.specs.Laws.{RequestReadBack, ResponseReadBack}
-use Rattle.pldm_wire.specs.Messages.{IsRequest, IsResponse}
 use Rattle.pldm_wire.specs.Requests.{request, request_of}
-use Rattle.pldm_wire.specs.Responses.{Response, code_at, response, response_of}
+use Rattle.pldm_wire.specs.Responses.{Response, response, response_of}
 use Rattle.pldm_wire.specs.declared.answer.Answer.{Answer}
 use Rattle.pldm_wire.specs.declared.answer.Answer.TheVariants.{Refused}
 use Rattle.pldm_wire.specs.declared.assigned.TheConstants.{ERROR_NOT_READY}

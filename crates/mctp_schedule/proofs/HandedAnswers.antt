@@ -1,9 +1,9 @@
 -- What a packet on the way of a request's answers does at its requester, while the request's tag was not used again: it comes
 -- to that request where it is open, and to none where it is not.
-use Rattle.std.proofs.Common.{◌≡◌, ◌≢◌, ◌⊎◌, ℕ, ◌+◌, ◌<◌, ◌≤◌, List, [], ◌∷◌, map, slice_get, Option, Some, None, Bool, true, false, Result, Ok, Err, refl, sym, ap, ◌∙◌, subst, ⊎_elim, arith, eq-eqb, zero-add}
-use Rattle.std.specs.Prelude.{not, ◌&&◌, ◌==◌, is_some, if◌then◌else◌}
+use Rattle.std.proofs.Common.{◌≡◌, ◌≢◌, ℕ, ◌+◌, ◌<◌, ◌≤◌, List, [], ◌∷◌, map, slice_get, Option, Some, None, true, false, Result, Ok, Err, refl, sym, ap, ◌∙◌, subst, arith, eq-eqb, zero-add}
+use Rattle.std.specs.Prelude.{◌==◌, is_some, if◌then◌else◌}
 use Rattle.std.specs.List.{range_with_len}
-use Rattle.std.proofs.lemmas.Bool.{and_from, ne_eqb, cases_eq, cond-true, cond-false}
+use Rattle.std.proofs.lemmas.Bool.{ne_eqb, cond-true, cond-false}
 use Rattle.std.proofs.lemmas.List.FromFn.{get_or-map-range_with_len, length-map-range_with_len}
 use Rattle.std.proofs.lemmas.Option.{slice_get-get_or, slice_get_past}
 use Rattle.mctp_packet.specs.Packets.{Packet, written}
@@ -15,7 +15,7 @@ use Rattle.mctp_packet.specs.declared.reason.Reason.{Reason}
 use Rattle.mctp_packet.specs.declared.reason.Reason.TheVariants.{BadTag}
 use Rattle.mctp_packet.specs.declared.TheConstants.{TAGS}
 use Rattle.pldm_requester.specs.Arrivals.{Arrival, Drop, Part, Answer, fed_arrival, packet_arrival, passed_arrival}
-use Rattle.pldm_requester.specs.Calls.{Call, Receive, Request, Requests, after_call, answered_by, arrived, fed_by, fed_to, gives, goes_to, is_from_device, is_mine, is_open_at, open_on, passed, put, received, requests, with_request}
+use Rattle.pldm_requester.specs.Calls.{Call, Request, Requests, answered_by, arrived, fed_by, fed_to, gives, goes_to, is_from_device, is_mine, is_open_at, open_on, passed, put, received, requests, with_request}
 use Rattle.pldm_requester.specs.Courses.{Course, answered}
 use Rattle.pldm_requester.specs.Laws.{FoundOnItsTag}
 use Rattle.pldm_requester.specs.Numbering.{tag_of}

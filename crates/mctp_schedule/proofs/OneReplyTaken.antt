@@ -1,6 +1,6 @@
 -- The requester's half of the link: what came to a request, what each packet of an answer gives, and what each request took.
 use Rattle.std.proofs.Common.{◌≡◌, ◌⊎◌, ℕ, suc, ◌<◌, ◌≤◌, List, [], ◌∷◌, slice_get, Option, Some, None, Bool, true, false, refl, sym, ap, ◌∙◌, subst, inl, inr, arith, eq-eqb, eqb-true}
-use Rattle.std.specs.Prelude.{◌&&◌, ◌||◌, ◌==◌, is_some, nat_lt, if◌then◌else◌}
+use Rattle.std.specs.Prelude.{◌||◌, ◌==◌, is_some, nat_lt, if◌then◌else◌}
 use Rattle.std.specs.List.{list_any}
 use Rattle.std.proofs.lemmas.Bool.{and_left, and_right, cases_Bool, cases_lt, lt-ltb, le-ltb, cond-true, cond-false}
 use Rattle.mctp_packet.specs.Packets.{Packet, written}
@@ -11,7 +11,7 @@ use Rattle.mctp_assembly.specs.declared.fed.Fed.{Fed}
 use Rattle.mctp_assembly.specs.declared.fed.Fed.TheVariants.{Whole, Partial, Dropped}
 use Rattle.pldm_responder.specs.Performing.{busy_reply}
 use Rattle.pldm_requester.specs.Arrivals.{Arrival, Answer, fed_arrival, got_of}
-use Rattle.pldm_requester.specs.Calls.{Call, Requests, arrived, is_from_device, is_open_at, requests}
+use Rattle.pldm_requester.specs.Calls.{Call, is_from_device}
 use Rattle.pldm_requester.specs.Courses.{Standing, Answered}
 use Rattle.pldm_requester.specs.Laws.{FedSinceItsOpening}
 use Rattle.pldm_requester.specs.declared.got.Got.{Got}
@@ -23,15 +23,14 @@ use Rattle.mctp_schedule.specs.Logs.{Asked, IsTimelyLog, asked_at}
 use Rattle.mctp_schedule.specs.OncePerformed.{given, was_busy}
 use Rattle.mctp_schedule.specs.RequesterHalf.{AnsweredWasPerformed, AnsweredWhereTaken, BusyIsOwed, IsTimelySchedule, OwnAssembly, OwnDeliveries, ReplyIsOwed, StandingIs, TakenOnce}
 use Rattle.mctp_schedule.specs.Taken.{brought, busy_owed, busy_owed_to, came, completes, completes_for, got_by, if_waiting, is_waiting, part_count, reply_of, reply_owed, reply_owed_to, taken, way_to}
-use Rattle.mctp_schedule.specs.Worlds.{IsTimelyAction, Setting, TagIsOwn, World, answer_packets, busy_from, busy_packet, packet_of, reply_packet, requests_of, source_of, timing_of, world}
+use Rattle.mctp_schedule.specs.Worlds.{IsTimelyAction, Setting, TagIsOwn, World, answer_packets, busy_from, busy_packet, packet_of, reply_packet, source_of, timing_of, world}
 use Rattle.mctp_schedule.specs.declared.step.Action.TheVariants.{Reply, Busy}
 use Rattle.mctp_schedule.specs.declared.step.Step.{Step}
 use Rattle.mctp_schedule.proofs.AnswersOwed.{Lower, arrival_by, arrival_owed, busy_brings, busy_is, busy_is_one, mine, packet_is, performed_at, reads_back, reply_brings}
 use Rattle.mctp_schedule.proofs.DeliveriesOwed.{fresh_in_order_of_firsts}
-use Rattle.mctp_schedule.proofs.GivenReplies.{busy_opened}
 use Rattle.mctp_schedule.proofs.HandedAnswers.{bad_tag, comes_in, packet_past, packet_there}
 use Rattle.mctp_schedule.proofs.KnownRequests.{Known, all_known}
-use Rattle.mctp_schedule.proofs.RepliesKept.{Holds, Stands}
+use Rattle.mctp_schedule.proofs.RepliesKept.{Stands}
 use Rattle.mctp_schedule.proofs.StepsOnRequests.{waits_so}
 use Rattle.mctp_schedule.proofs.TakenReplies.{AllHold, all_hold}
 use Rattle.mctp_schedule.proofs.TimelyLogs.{log_is_timely}

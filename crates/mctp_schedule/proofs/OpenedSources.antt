@@ -1,12 +1,11 @@
 -- The requests of the log come from the endpoints of the steps that open them, so what holds of each of these endpoints holds
 -- of each source.
-use Rattle.std.proofs.Common.{◌≡◌, ◌≢◌, ◌⊎◌, ℕ, List, [], ◌∷◌, Option, Some, None, Bool, true, false, refl, sym, ap, ◌∙◌, subst, inl, inr, ⊎_elim, eqb-true}
+use Rattle.std.proofs.Common.{◌≡◌, ◌≢◌, ℕ, List, [], ◌∷◌, Some, Bool, true, false, refl, sym, ap, ◌∙◌, subst, ⊎_elim, eqb-true}
 use Rattle.std.specs.Prelude.{◌||◌, ◌==◌, if◌then◌else◌}
-use Rattle.std.specs.List.{list_any, AllByRecursion}
-use Rattle.pldm_wire.specs.declared.command.Command.{Command}
+use Rattle.std.specs.List.{AllByRecursion}
 use Rattle.pldm_requester.specs.Calls.{accepts}
 use Rattle.mctp_schedule.specs.Logs.{Asked, Happening, Opened, asked_at, count_of}
-use Rattle.mctp_schedule.specs.Schedules.{has_requester, is_known, is_requester}
+use Rattle.mctp_schedule.specs.Schedules.{has_requester, is_known}
 use Rattle.mctp_schedule.specs.Worlds.{Setting, World, asked_by, busy_packet, done, reply_packet, requests_of, source_of, timing_of, world}
 use Rattle.mctp_schedule.specs.declared.step.RequesterLine.{RequesterLine}
 use Rattle.mctp_schedule.specs.declared.step.Action.{Action}

@@ -1,9 +1,8 @@
 -- What is told of a request stays over a step that brings it nothing: its one reply, the packets that came, and its standing.
-use Rattle.std.proofs.Common.{◌≡◌, ◌≢◌, ◌⊎◌, ℕ, zero, suc, ◌+◌, ◌<◌, ◌≤◌, List, [], ◌∷◌, map, Option, Some, None, Bool, true, false, refl, sym, ap, ◌∙◌, subst, inl, inr, ⊎_elim, arith}
-use Rattle.std.specs.Prelude.{not, ◌&&◌, ◌||◌, ◌==◌, nat_lt, if◌then◌else◌}
-use Rattle.std.proofs.lemmas.Bool.{and_left, and_right, or_from, le-ltb, cond-true, cond-false}
-use Rattle.mctp_packet.specs.Packets.{Packet}
-use Rattle.mctp_packet.specs.Pieces.{packet_at, piece_count}
+use Rattle.std.proofs.Common.{◌≡◌, ◌⊎◌, ℕ, List, [], ◌∷◌, map, Option, Some, None, Bool, true, false, refl, sym, ap, ◌∙◌, subst, inl, inr, arith}
+use Rattle.std.specs.Prelude.{◌&&◌, ◌==◌, nat_lt, if◌then◌else◌}
+use Rattle.std.proofs.lemmas.Bool.{and_right, or_from, le-ltb, cond-false}
+use Rattle.mctp_packet.specs.Pieces.{piece_count}
 use Rattle.pldm_responder.specs.Events.{is_busy}
 use Rattle.pldm_requester.specs.Calls.{Request}
 use Rattle.pldm_requester.specs.Courses.{Standing, Waiting, Answered, GaveUp, is_open, is_waiting as waits}
@@ -12,7 +11,7 @@ use Rattle.mctp_schedule.specs.FirstArrivals.{arrives, earlier, first}
 use Rattle.mctp_schedule.specs.OncePerformed.{bytes_of, given_once, reply_at_first, reply_from, the_reply, was_busy}
 use Rattle.mctp_schedule.specs.RequesterHalf.{StandingIs}
 use Rattle.mctp_schedule.specs.Taken.{brought, came, completes_for, is_waiting, part_count, replies, reply_of, taken, takes, with_delivery}
-use Rattle.mctp_schedule.specs.Worlds.{Setting, World, done, requests_of, world}
+use Rattle.mctp_schedule.specs.Worlds.{Setting, World, requests_of, world}
 use Rattle.mctp_schedule.specs.declared.step.Action.{Action}
 use Rattle.mctp_schedule.specs.declared.step.Action.TheVariants as actions
 use Rattle.mctp_schedule.specs.declared.step.Step.{Step}

@@ -1,6 +1,6 @@
 -- The premises of the requester's half can be met: by a device whose reply has four packets, of which one came too early and one
 -- again, and by a light with a retry, a restart and a busy answer.
-use Rattle.std.proofs.Common.{◌≡◌, ◌≢◌, ℕ, ◌<◌, ◌≤◌, pos, List, [], ◌∷◌, length, Some, true, refl, subst, arith}
+use Rattle.std.proofs.Common.{◌≡◌, ◌≢◌, ℕ, pos, List, ◌∷◌, length, Some, true, refl, subst, arith}
 use Rattle.std.specs.Prelude.{nat_le, nat_lt}
 use Rattle.std.proofs.lemmas.Bool.{leb-true, ltb-true}
 use Rattle.mctp_packet.specs.Ids.{IsEid}

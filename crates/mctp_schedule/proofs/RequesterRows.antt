@@ -10,19 +10,19 @@ use Rattle.pldm_wire.specs.Responses.{response_of}
 use Rattle.pldm_wire.specs.declared.answer.Answer.{Answer}
 use Rattle.pldm_wire.specs.declared.answer.Answer.TheVariants as answers
 use Rattle.pldm_wire.specs.declared.command.Command.{Command}
-use Rattle.pldm_wire.specs.declared.command.Command.TheVariants.{GetTid, GetPdrRepositoryInfo, SetNumericEffecterValue}
+use Rattle.pldm_wire.specs.declared.command.Command.TheVariants.{GetTid, GetPdrRepositoryInfo, GetSensorReading, SetNumericEffecterValue}
 use Rattle.pldm_wire.specs.declared.size.Size.TheVariants.{Uint8}
-use Rattle.pldm_device.specs.declared.reading_fault.ReadingFault.{ReadingFault}
 use Rattle.pldm_device.specs.declared.reading_fault.ReadingFault.TheVariants.{NoSuchSensor}
 use Rattle.pldm_responder.specs.Dimmers.{dimmer_answer, dimmer_after, dimmer_sensed}
 use Rattle.pldm_responder.specs.Performing.{Rules, rules_of}
-use Rattle.pldm_requester.specs.declared.got.Got.{Got}
+use Rattle.pldm_requester.specs.Courses as standings
+use Rattle.pldm_requester.specs.Courses.{Standing}
 use Rattle.pldm_requester.specs.declared.got.Got.TheVariants.{Dropped, Partial, Answered}
 use Rattle.mctp_schedule.specs.HandedPackets.{got_of_reply, got_of_busy}
-use Rattle.mctp_schedule.specs.Taken.{busy_owed, completes, replies, reply_owed, taken}
-use Rattle.mctp_schedule.specs.Worlds.{Setting, world}
+use Rattle.mctp_schedule.specs.Taken.{busy_owed, replies, reply_of, reply_owed, taken}
+use Rattle.mctp_schedule.specs.Worlds.{Setting, requests_of, world}
 use Rattle.mctp_schedule.specs.declared.step.Action.{Action}
-use Rattle.mctp_schedule.specs.declared.step.Action.TheVariants.{Open, Tick, Request, Reply, Restart, Busy}
+use Rattle.mctp_schedule.specs.declared.step.Action.TheVariants.{Open, Tick, Request, Reply, Sense, Restart, Busy}
 use Rattle.mctp_schedule.specs.declared.step.Step.{Step}
 
 abbrev pub at : ℕ → Action → Step
@@ -214,6 +214,89 @@ row_is_cut = refl
 cut_row_is_not_taken : taken long (at 211 (Reply 0 3) ∷ cut_by_busy) 0 ≡ false
 unfolding request_of command_of response_of
 cut_row_is_not_taken = refl
+
+-- ---- one packet, and the same one again
+abbrev tid_asked : List Step
+tid_asked = at 0 (Request 0) ∷ at 0 (Open 8 GetTid) ∷ []
+
+abbrev standing : {S : Type 0} → Setting S → List Step → ℕ → Standing
+standing setting steps n = ((requests_of setting (world setting steps) 8).each n).course.standing
+
+tid_comes : reply_owed long tid_asked 0 0 ≡ Some (Answered 0)
+unfolding request_of command_of response_of
+tid_comes = refl
+
+tid_comes_again : reply_owed long (at 0 (Reply 0 0) ∷ tid_asked) 0 0 ≡ Some (Dropped BadTag)
+unfolding request_of command_of response_of
+tid_comes_again = refl
+
+tid_is_taken : standing long (at 600 (Tick 8) ∷ at 0 (Reply 0 0) ∷ at 0 (Reply 0 0) ∷ tid_asked) 0 ≡ standings.Answered (1 ∷ 0 ∷ 0 ∷ 2 ∷ 0 ∷ 1 ∷ [])
+unfolding request_of command_of response_of
+tid_is_taken = refl
+
+-- ---- a gauge: a copy gets the reading of its first arrival, a new request the one after a change
+abbrev gauge_answer : ℤ → Command → Answer
+gauge_answer level command = answers.GetSensorReading 0 0 1 1 1 (sized Uint8 level)
+
+abbrev gauge : Setting ℤ
+gauge = record {
+  device = rules_of gauge_answer (λ level command. level) dimmer_sensed;
+  start = pos 40;
+  eid = 9;
+  keep = 1000;
+  requesters = record { eid = 8; timeout = 200; tries = 3 } ∷ [];
+}
+
+abbrev two_readings : List Step
+two_readings =
+    at 10 (Request 1) ∷ at 10 (Open 8 (GetSensorReading 1 0)) ∷ at 10 (Request 0) ∷ at 5 (Sense 1 (pos 41)) ∷ at 0 (Request 0)
+    ∷ at 0 (Open 8 (GetSensorReading 1 0)) ∷ []
+
+abbrev reading_of_first : List ℕ
+reading_of_first = 1 ∷ 0 ∷ 2 ∷ 17 ∷ 0 ∷ 0 ∷ 0 ∷ 0 ∷ 1 ∷ 1 ∷ 1 ∷ 40 ∷ []
+
+abbrev reading_of_second : List ℕ
+reading_of_second = 1 ∷ 1 ∷ 2 ∷ 17 ∷ 0 ∷ 0 ∷ 0 ∷ 0 ∷ 1 ∷ 1 ∷ 1 ∷ 41 ∷ []
+
+first_reading : reply_owed gauge two_readings 0 0 ≡ Some (Answered 0)
+unfolding request_of command_of response_of
+first_reading = refl
+
+second_reading : reply_owed gauge (at 20 (Reply 0 0) ∷ two_readings) 1 0 ≡ Some (Answered 1)
+unfolding request_of command_of response_of
+second_reading = refl
+
+first_reply : reply_of gauge (world gauge two_readings) 0 ≡ reading_of_first
+unfolding request_of command_of response_of
+first_reply = refl
+
+first_stands : standing gauge (at 20 (Reply 1 0) ∷ at 20 (Reply 0 0) ∷ two_readings) 0 ≡ standings.Answered reading_of_first
+unfolding request_of command_of response_of
+first_stands = refl
+
+second_stands : standing gauge (at 20 (Reply 1 0) ∷ at 20 (Reply 0 0) ∷ two_readings) 1 ≡ standings.Answered reading_of_second
+unfolding request_of command_of response_of
+second_stands = refl
+
+-- ---- busy from the first on: no busy answer was given yet, then two, and the request is performed once the time is over
+abbrev opened_busy : List Step
+opened_busy = at 500 set_40 ∷ at 0 Restart ∷ []
+
+abbrev served_later : List Step
+served_later =
+    at 1000 (Request 0) ∷ at 999 (Request 0) ∷ at 500 (Request 0) ∷ at 500 (Busy 0) ∷ opened_busy
+
+nothing_given_yet : busy_owed light opened_busy 0 ≡ None
+unfolding request_of command_of response_of
+nothing_given_yet = refl
+
+busy_is_no_reply : reply_owed light (drop 1 served_later) 0 0 ≡ None
+unfolding request_of command_of response_of
+busy_is_no_reply = refl
+
+served_at_last : reply_owed light served_later 0 0 ≡ Some (Answered 0)
+unfolding request_of command_of response_of
+served_at_last = refl
 
 -- ---- the requesters give what is owed
 fourth_is_given : got_of_reply long (world long in_turn) 0 3 ≡ Some (Answered 0)

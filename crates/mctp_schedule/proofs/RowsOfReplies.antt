@@ -1,7 +1,7 @@
 -- Where only packets of one message came, and whole packets of others, that message is given exactly where its packets
 -- came in a row, and no other one is.
-use Rattle.std.proofs.Common.{◌≡◌, ◌≢◌, ◌⊎◌, ℕ, zero, suc, ◌+◌, ◌*◌, ◌%◌, ◌<◌, ◌≤◌, List, [], ◌∷◌, ◌++◌, length, map, take, drop, find, Some, None, Option, Bool, true, false, cond, refl, sym, ap, ◌∙◌, subst, inl, inr, arith, eqb-true, eq-eqb, length-take, length-drop}
-use Rattle.std.specs.Prelude.{not, ◌&&◌, ◌==◌, nat_le, if◌then◌else◌}
+use Rattle.std.proofs.Common.{◌≡◌, ◌≢◌, ◌⊎◌, ℕ, zero, suc, ◌+◌, ◌*◌, ◌%◌, ◌<◌, ◌≤◌, List, [], ◌∷◌, ◌++◌, length, map, take, drop, find, Some, None, Option, Bool, true, false, cond, refl, sym, ap, ◌∙◌, inl, inr, arith, eqb-true, eq-eqb, length-take, length-drop}
+use Rattle.std.specs.Prelude.{not, ◌&&◌, ◌==◌, nat_le}
 use Rattle.std.specs.List.{range_with_len}
 use Rattle.std.proofs.lemmas.Bool.{and_from, and_parts, not-true, le-leb, eqb-false, ne_eqb, cases_Bool, cond-true, cond-false}
 use Rattle.std.proofs.lemmas.List.{take-append-drop, take-take, drop-take, take_all}
@@ -11,9 +11,8 @@ use Rattle.mctp_packet.specs.declared.packet.Route.{Route}
 use Rattle.mctp_packet.specs.declared.reason.Reason.{Reason}
 use Rattle.mctp_packet.specs.declared.reason.Reason.TheVariants.{OutOfSequence, TooLong, WrongUnit}
 use Rattle.mctp_packet.specs.declared.TheConstants.{UNIT, SEQUENCE_NUMBERS}
-use Rattle.mctp_assembly.specs.Rows.{unit_of, follows, is_middle, is_end, is_row, is_message, newest, joined, given, dropped_after, next_within}
-use Rattle.mctp_assembly.specs.declared.fed.Fed.{Fed}
-use Rattle.mctp_assembly.specs.declared.fed.Fed.TheVariants.{Whole, Partial, Dropped}
+use Rattle.mctp_assembly.specs.Rows.{unit_of, follows, is_middle, is_end, is_row, is_message, newest, joined, given, next_within}
+use Rattle.mctp_assembly.specs.declared.fed.Fed.TheVariants.{Whole, Dropped}
 use Rattle.mctp_schedule.specs.Taken.{row}
 
 -- packets 0, 1, .. so many, the newest first

@@ -1,13 +1,13 @@
 -- What one more call of a requester leaves of the requests of the log: it keeps all but the one that a packet comes to.
-use Rattle.std.proofs.Common.{◌≡◌, ◌≢◌, ◌⊎◌, ℕ, ◌+◌, ◌<◌, ◌≤◌, List, [], ◌∷◌, Option, Some, None, Bool, true, false, Ok, refl, sym, ap, ◌∙◌, subst, inl, inr, ⊎_elim, arith, eq-eqb}
-use Rattle.std.specs.Prelude.{◌&&◌, ◌==◌, if◌then◌else◌}
-use Rattle.std.proofs.lemmas.Bool.{and_from, and_parts, ne_eqb, cases_Bool, cases_eq, cond-true, cond-false}
+use Rattle.std.proofs.Common.{◌≡◌, ◌≢◌, ℕ, ◌+◌, ◌≤◌, List, ◌∷◌, Some, Bool, true, false, Ok, refl, sym, ap, ◌∙◌, subst, inl, inr, ⊎_elim, arith, eq-eqb}
+use Rattle.std.specs.Prelude.{◌==◌, if◌then◌else◌}
+use Rattle.std.proofs.lemmas.Bool.{and_parts, ne_eqb, cases_Bool, cases_eq, cond-true, cond-false}
 use Rattle.mctp_packet.specs.Packets.{Packet}
 use Rattle.mctp_packet.specs.Reading.{reading}
 use Rattle.mctp_packet.specs.declared.TheConstants.{TAGS}
 use Rattle.pldm_wire.specs.declared.command.Command.{Command}
 use Rattle.pldm_requester.specs.Arrivals.{Arrival}
-use Rattle.pldm_requester.specs.Calls.{Call, Open, Tick, Receive, Request, Requests, accepts, after_call, arrived, is_from_device, is_open_at, new_request, opened, received, requests}
+use Rattle.pldm_requester.specs.Calls.{Call, Open, Tick, Receive, Request, Requests, accepts, after_call, arrived, is_from_device, is_open_at, new_request, opened, requests}
 use Rattle.pldm_requester.specs.Courses.{Course, Standing, Waiting, Answered, GaveUp, given_up, is_given_up, is_open, is_over, is_sent_again, is_waiting as waits, sent_again, ticked}
 use Rattle.pldm_requester.specs.Laws.{FoundOnItsTag}
 use Rattle.pldm_requester.specs.Numbering.{tag_of}

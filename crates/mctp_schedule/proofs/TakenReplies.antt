@@ -1,6 +1,6 @@
 -- Over a timely schedule each request was fed the packets that were delivered to it, and is answered exactly where it was taken.
-use Rattle.std.proofs.Common.{◌≡◌, ◌≢◌, ◌⊎◌, ℕ, ◌+◌, ◌<◌, ◌≤◌, List, [], ◌∷◌, map, slice_get, Option, Some, None, Bool, true, false, Ok, refl, sym, ap, ◌∙◌, subst, inl, inr, ⊎_elim, arith, eq-eqb}
-use Rattle.std.specs.Prelude.{ℤ, ◌&&◌, ◌||◌, ◌==◌, nat_lt, if◌then◌else◌}
+use Rattle.std.proofs.Common.{◌≡◌, ◌≢◌, ◌⊎◌, ℕ, ◌<◌, ◌≤◌, List, [], ◌∷◌, map, slice_get, Option, Some, None, Bool, true, false, refl, sym, ap, ◌∙◌, subst, inl, inr, ⊎_elim, arith, eq-eqb}
+use Rattle.std.specs.Prelude.{◌&&◌, ◌||◌, ◌==◌, nat_lt, if◌then◌else◌}
 use Rattle.std.proofs.lemmas.Bool.{and_left, and_right, and_from, or_left, ne_eqb, cases_Bool, cases_eq, cases_lt, lt-ltb, le-ltb, cond-true, cond-false}
 use Rattle.mctp_packet.specs.Packets.{Packet, written}
 use Rattle.mctp_packet.specs.Pieces.{packet_at, piece_count}
@@ -10,9 +10,9 @@ use Rattle.mctp_assembly.specs.declared.fed.Fed.{Fed}
 use Rattle.mctp_assembly.specs.declared.fed.Fed.TheVariants.{Whole, Partial, Dropped}
 use Rattle.pldm_wire.specs.declared.command.Command.{Command}
 use Rattle.pldm_responder.specs.Performing.{busy_reply}
-use Rattle.pldm_requester.specs.Arrivals.{Arrival, Drop, Answer, fed_arrival}
-use Rattle.pldm_requester.specs.Calls.{Open, Receive, Tick, Request, accepts, arrived, is_from_device, is_mine, new_request}
-use Rattle.pldm_requester.specs.Courses.{Course, Standing, Waiting, Answered, GaveUp, answered, is_open}
+use Rattle.pldm_requester.specs.Arrivals.{Arrival, Drop, fed_arrival}
+use Rattle.pldm_requester.specs.Calls.{Receive, Request, accepts, arrived, is_from_device, new_request}
+use Rattle.pldm_requester.specs.Courses.{Course, Standing, Answered, answered, is_open}
 use Rattle.mctp_schedule.specs.Logs.{Asked, Happening, IsTimelyLog, Opened, asked_at, count_of}
 use Rattle.mctp_schedule.specs.FirstArrivals.{first}
 use Rattle.mctp_schedule.specs.OncePerformed.{RepliesFit, given, was_busy}
@@ -27,8 +27,8 @@ use Rattle.mctp_schedule.proofs.FirstPerformed.{request_opened}
 use Rattle.mctp_schedule.proofs.FittingReplies.{fits_before}
 use Rattle.mctp_schedule.proofs.GivenReplies.{busy_opened}
 use Rattle.mctp_schedule.proofs.HandedAnswers.{IsOf, comes_in, course_after, packet_past, packet_there, with_arrival}
-use Rattle.mctp_schedule.proofs.KnownRequests.{Known, all_known, asked_stays_done, handed_log, held_before}
-use Rattle.mctp_schedule.proofs.RepliesKept.{Holds, Kept, Stands, arrived_stays, claim_moves, first_unopened, holds_kept, no_parts, quiet, reply_stays, same_kept, still_below, still_brought}
+use Rattle.mctp_schedule.proofs.KnownRequests.{Known, all_known, asked_stays_done, held_before}
+use Rattle.mctp_schedule.proofs.RepliesKept.{Holds, Stands, arrived_stays, claim_moves, first_unopened, holds_kept, no_parts, quiet, reply_stays, same_kept, still_below, still_brought}
 use Rattle.mctp_schedule.proofs.RowsOfReplies.{Below}
 use Rattle.mctp_schedule.proofs.StepsOnRequests.{called, comes_to_it, comes_to_none, open_keeps, opens_new, others_rest, tick_keeps}
 use Rattle.mctp_schedule.proofs.TimelyLogs.{log_is_timely}
