@@ -82,7 +82,8 @@ module _ {S : Type 0} (setting : Setting S) where
   completes_for past k j (Some r) =
       nat_lt j (part_count (world setting past) k)
       && (is_waiting (world setting past) r
-      && (row (part_count (world setting past) k) (Some j ∷ replies past k) && is_ready (reply_of (world setting past) k)))
+      && (row (part_count (world setting past) k) (Some j ∷ replies past k)
+      && is_ready (reply_of (world setting past) k)))
 
   -- packet j of request k's reply completes it: k is open, with this one the last deliveries are all packets of the
   -- reply in order, and the reply is one that k takes
