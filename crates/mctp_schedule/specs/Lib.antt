@@ -13,10 +13,12 @@ pub mod LineWords
 pub mod Logs
 pub mod OncePerformed
 pub mod Places
+pub mod RequesterHalf
 pub mod Requests
 pub mod RunFaults
 pub mod Running
 pub mod Runs
 pub mod Schedules
+pub mod Taken
 pub mod WordValues
 pub mod Worlds

@@ -3,6 +3,7 @@
 ghost use Rattle.pldm_responder.specs.Performing.{rules_of};
 ghost use Rattle.mctp_schedule.specs.Laws.{LogIsTimely, ReadAsSpelled, TimelyIsTested};
 ghost use Rattle.mctp_schedule.specs.Worlds.{Setting};
+ghost use Rattle.mctp_schedule.specs.RequesterHalf.{AnsweredWasPerformed, AnsweredWhereTaken, BusyIsOwed, OwnAssembly, OwnDeliveries, ReplyIsOwed, TakenOnce};
 ghost use Rattle.mctp_schedule.specs.DeviceHalf.{DeliveryIsOwed, FreshInOrderOfFirsts, FreshWhereFirst, GivenIsTheReply, NoneOpenedSince, NotPerformedAgain, StateIsOnce, TheReplyFits};
 
 use pldm_device::Platform;
@@ -37,5 +38,23 @@ pub fn logs_are_timely<P: Platform>()
     ensures log { (setting : Setting P.State) → LogIsTimely setting }
     ensures tested { (setting : Setting P.State) → TimelyIsTested setting }
 {
+    pldm_requester::laws::instance_ids_are_apart();
+}
+
+/// Over a timely schedule an open request is fed the packets of its one reply and its busy answers alone,
+/// each packet of an answer gives what is owed to it, and a request is answered exactly where it was
+/// taken, by its one reply, which performing it exactly once gave.
+pub fn requesters_take_the_one_reply<P: Platform>()
+    ensures deliveries { (setting : Setting P.State) → OwnDeliveries setting }
+    ensures assembly { (setting : Setting P.State) → OwnAssembly setting }
+    ensures reply { (setting : Setting P.State) → ReplyIsOwed setting }
+    ensures busy { (setting : Setting P.State) → BusyIsOwed setting }
+    ensures answered { (setting : Setting P.State) → AnsweredWhereTaken setting }
+    ensures once { (setting : Setting P.State) → TakenOnce setting }
+    ensures performed { (setting : Setting P.State) → AnsweredWasPerformed setting }
+{
+    mctp_packet::laws::split_packets_read_back();
+    pldm_wire::laws::messages_are_told_apart();
+    pldm_requester::laws::one_open_on_each_tag();
     pldm_requester::laws::instance_ids_are_apart();
 }

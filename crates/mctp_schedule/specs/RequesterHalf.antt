@@ -1,0 +1,102 @@
+-- The requester's half of the link: over a timely schedule each requester takes the one reply of its own request and
+-- nothing else, exactly where the packets of that reply came in a row while the request was open.
+use Rattle.std.specs.Prelude.{◌≡◌, ◌≢◌, ℕ, true, false, List, slice_get, Some}
+use Rattle.mctp_packet.specs.Ids.{IsEid}
+use Rattle.mctp_assembly.specs.Histories as assembly
+use Rattle.pldm_responder.specs.Performing.{reply}
+use Rattle.pldm_requester.specs.Calls.{answer_key, assembled}
+use Rattle.pldm_requester.specs.Courses.{Standing, Waiting, Answered, GaveUp}
+use Rattle.pldm_requester.specs.Numbering.{tag_of}
+use Rattle.mctp_schedule.specs.Logs.{Asked, Happening, asked_at}
+use Rattle.mctp_schedule.specs.FirstArrivals.{first, order}
+use Rattle.mctp_schedule.specs.OncePerformed.{RepliesFit, once}
+use Rattle.mctp_schedule.specs.HandedPackets.{got_of_busy, got_of_reply}
+use Rattle.mctp_schedule.specs.Taken.{busy_owed, came, completes, is_waiting, reply_of, reply_owed, taken}
+use Rattle.mctp_schedule.specs.Worlds.{IsTimely, IsTimelyAction, NeverWentBack, Setting, requests_of, timing_of, world}
+use Rattle.mctp_schedule.specs.declared.step.Action.TheVariants.{Reply, Busy}
+use Rattle.mctp_schedule.specs.declared.step.Step.{Step}
+
+-- the device and each requester that opened a request have endpoint IDs, not the same one, and each reply that the
+-- device made fits packets
+pub record IsSound {S : Type 0} (setting : Setting S) (steps : List Step) : Type 0 where
+  pub device : IsEid setting.eid
+  pub sources :
+      (k : ℕ) (r : Asked) → asked_at (world setting steps).log k ≡ Some r
+      → IsEid r.source × (r.source ≢ setting.eid)
+  pub fit : RepliesFit setting.device setting.keep setting.start (world setting steps).log
+
+-- a timely schedule of such requesters and such replies
+pub record IsTimelySchedule {S : Type 0} (setting : Setting S) (steps : List Step) : Type 0 where
+  pub order : NeverWentBack steps
+  pub timely : IsTimely setting steps
+  pub sound : IsSound setting steps
+
+-- request k, which is r, arrived, and performing it then gave this reply; it stands once in the order of performing
+pub record WasPerformedOnce {S : Type 0}
+    (setting : Setting S) (steps : List Step) (k : ℕ) (r : Asked) (message : List ℕ) : Type 0 where
+  pub place : List Happening
+  pub arrived : first setting.keep (world setting steps).log k ≡ Some place
+  pub answer : message ≡ reply setting.device (once setting.device setting.keep setting.start place) r.message
+  pub index : ℕ
+  pub listed : slice_get (order setting.keep (world setting steps).log) index ≡ Some k
+  pub only : (i : ℕ) → slice_get (order setting.keep (world setting steps).log) i ≡ Some k → i ≡ index
+
+module _ {S : Type 0} (setting : Setting S) where
+  -- what came to an open request are the packets that were delivered to it: of its one reply, and busy answers
+  abbrev pub OwnDeliveries : Type 0
+  OwnDeliveries =
+      (steps : List Step) (k : ℕ) (r : Asked)
+      → IsTimelySchedule setting steps → asked_at (world setting steps).log k ≡ Some r
+      → is_waiting setting (world setting steps) r ≡ true
+      → ((requests_of setting (world setting steps) r.source).each r.own).fed ≡ came setting steps k r
+
+  -- so these are what came to assembly on its tag since its opening
+  abbrev pub OwnAssembly : Type 0
+  OwnAssembly =
+      (steps : List Step) (k : ℕ) (r : Asked)
+      → IsTimelySchedule setting steps → asked_at (world setting steps).log k ≡ Some r
+      → is_waiting setting (world setting steps) r ≡ true
+      → assembly.since (answer_key setting.eid (tag_of r.own))
+      (assembled r.source setting.eid (timing_of setting r.source) ((world setting steps).calls r.source))
+      ≡ came setting steps k r
+
+  -- what the packet of a reply gives at its requester is what the definitions owe to it
+  abbrev pub ReplyIsOwed : Type 0
+  ReplyIsOwed =
+      (past : List Step) (moment k j : ℕ)
+      → IsTimelySchedule setting past → IsTimelyAction setting (world setting past) moment (Reply k j)
+      → got_of_reply setting (world setting past) k j ≡ reply_owed setting past k j
+
+  -- and so is what that of a busy answer gives
+  abbrev pub BusyIsOwed : Type 0
+  BusyIsOwed =
+      (past : List Step) (moment k : ℕ)
+      → IsTimelySchedule setting past → IsTimelyAction setting (world setting past) moment (Busy k)
+      → got_of_busy setting (world setting past) k ≡ busy_owed setting past k
+
+  -- a request that was taken is answered, by its one reply; one that was not is open or given up
+  abbrev pub StandingIs : List Step → ℕ → Standing → Type 0
+  StandingIs steps k Waiting = taken setting steps k ≡ false
+  StandingIs steps k (Answered message) =
+      (taken setting steps k ≡ true) × (message ≡ reply_of setting (world setting steps) k)
+  StandingIs steps k GaveUp = taken setting steps k ≡ false
+
+  abbrev pub AnsweredWhereTaken : Type 0
+  AnsweredWhereTaken =
+      (steps : List Step) (k : ℕ) (r : Asked)
+      → IsTimelySchedule setting steps → asked_at (world setting steps).log k ≡ Some r
+      → StandingIs steps k ((requests_of setting (world setting steps) r.source).each r.own).course.standing
+
+  -- it is taken once: no later packet completes it
+  abbrev pub TakenOnce : Type 0
+  TakenOnce =
+      (steps : List Step) (k j : ℕ)
+      → IsTimelySchedule setting steps → taken setting steps k ≡ true → completes setting steps k j ≡ false
+
+  -- so an answer that a requester took is the one reply of a request that was performed exactly once
+  abbrev pub AnsweredWasPerformed : Type 0
+  AnsweredWasPerformed =
+      (steps : List Step) (k : ℕ) (r : Asked) (message : List ℕ)
+      → IsTimelySchedule setting steps → asked_at (world setting steps).log k ≡ Some r
+      → ((requests_of setting (world setting steps) r.source).each r.own).course.standing ≡ Answered message
+      → WasPerformedOnce setting steps k r message
