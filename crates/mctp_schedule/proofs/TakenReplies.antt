@@ -415,7 +415,7 @@ module _ {S : Type 0} (setting : Setting S) where
   holds_done lower past h timely sound moment actions.Restart own = holds_log (record { moment = moment; action = actions.Restart }) past h (λ k. refl) (λ r. refl) (λ k. refl) (λ k. refl)
   holds_done lower past h timely sound moment (actions.Busy i) own = holds_busy lower past h timely sound moment i own
 
-  sound_before : (step : Step) (past : List Step) → IsSound setting (step ∷ past) → IsSound setting past
+  pub sound_before : (step : Step) (past : List Step) → IsSound setting (step ∷ past) → IsSound setting past
   sound_before step past s = record {
     device = s.device;
     sources = λ k r is. s.sources k r (asked_stays_done setting (world setting past) step.moment step.action k r is);

@@ -5,6 +5,7 @@ pub mod DeviceHalf
 pub mod Entries
 pub mod FirstArrivals
 pub mod HandedPackets
+pub mod Headline
 pub mod Journals
 pub mod Laws
 pub mod LineFaults

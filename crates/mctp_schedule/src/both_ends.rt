@@ -4,6 +4,7 @@ ghost use Rattle.std.specs.Prelude.{◌≡◌, ◌⊎◌, true, None, Some, IfOk
 ghost use Rattle.pldm_responder.specs.Performing.{rules_of};
 ghost use Rattle.mctp_schedule.specs.Entries.{entries, requests_after};
 ghost use Rattle.mctp_schedule.specs.FirstArrivals.{order};
+ghost use Rattle.mctp_schedule.specs.Headline.{Headline};
 ghost use Rattle.mctp_schedule.specs.RunFaults.{refusal};
 ghost use Rattle.mctp_schedule.specs.Running.{CanGoOn, GoesOn, answer_action};
 ghost use Rattle.mctp_schedule.specs.Runs.{final_state, final_world, newest_first, setting_of_run};
@@ -11,6 +12,9 @@ ghost use Rattle.mctp_schedule.specs.Worlds.{is_timely};
 ghost use Rattle.mctp_schedule.specs.declared.step.Action.TheVariants as actions;
 
 use crate::journal::Journal;
+use crate::laws::{
+    fresh_deliveries_are_first, logs_are_timely, performs_once, requesters_take_the_one_reply,
+};
 use crate::places::{Places, begin_requesters};
 use crate::{Action, Entry, OpenedRequest, RunFault, Schedule, Step};
 use mctp_packet::{Eid, Keep, Memory, Moment, TAGS};
@@ -67,9 +71,14 @@ pub fn run<P: Platform>(
     ensures order { IfOk result (λ report. report.order.items ≡ order setup.keep (final_world (setting_of_run (rules_of P.answer P.after P.sensed) (P.state setup.device) setup.eid setup.keep schedule.now) schedule.now).log) }
     ensures device { IfOk result (λ report. P.state report.device ≡ final_state (setting_of_run (rules_of P.answer P.after P.sensed) (P.state setup.device) setup.eid setup.keep schedule.now) schedule.now) }
     ensures timely { IfOk result (λ report. report.timely ≡ is_timely (setting_of_run (rules_of P.answer P.after P.sensed) (P.state setup.device) setup.eid setup.keep schedule.now) (newest_first schedule.now)) }
+    ensures headline { IfOk result (λ report. report.timely ≡ true → Headline (setting_of_run (rules_of P.answer P.after P.sensed) (P.state setup.device) setup.eid setup.keep schedule.now) (newest_first schedule.now) report.entries.items report.requests.items report.order.items (P.state report.device)) }
 {
     pldm_responder::laws::looks_back::<P>();
     pldm_requester::laws::looks_back();
+    fresh_deliveries_are_first();
+    performs_once::<P>();
+    logs_are_timely::<P>();
+    requesters_take_the_one_reply::<P>();
     let Setup { eid, keep, device } = setup;
     let _range = eid.get();
     let mut ends = Ends {

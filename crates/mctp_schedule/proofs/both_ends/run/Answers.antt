@@ -3,12 +3,14 @@ use Rattle.std.proofs.Common.{◌≡◌, ◌≤◌, ◌<◌, ◌+◌, ◌∷◌,
 use Rattle.std.specs.Prelude.{option_map, reverse, slice_get, slice_index_or}
 use Rattle.pldm_responder.specs.Performing.{rules_of}
 use Rattle.mctp_schedule.specs.Entries.{as_it_stands, requests_after}
-use Rattle.mctp_schedule.specs.Logs.{asked_at}
+use Rattle.pldm_responder.specs.Stations.{held_of}
+use Rattle.mctp_schedule.specs.Headline.{Headline}
 use Rattle.mctp_schedule.specs.Places.{BeginEach}
 use Rattle.mctp_schedule.specs.Running.{IsRunning, Terms}
 use Rattle.mctp_schedule.specs.Runs.{newest_first, setting_of_run}
-use Rattle.mctp_schedule.specs.Worlds.{world}
+use Rattle.mctp_schedule.specs.Worlds.{NeverWentBack, world}
 use Rattle.mctp_schedule.specs.declared.step.Step.{Step}
+use Rattle.mctp_schedule.proofs.HeadlineHolds.{Halves, run_is_headline}
 use Rattle.mctp_schedule.proofs.ListPlaces.{get_or, take_all}
 use Rattle.mctp_schedule.proofs.ReportedRequests.{requests_are}
 use Rattle.mctp_schedule.proofs.RunsBegin.{begins, may_come, taken_more}
@@ -21,6 +23,7 @@ loop-step-init g c =
     let begun = c.in_ok-begin_requesters.ensures.begin in
     record {
       items = c.steps-step-items.ensures.value;
+      in_order = tt;
       runs = begins setting c.new.result c.in_ok-begin_requesters.field-0.items c.new-2.result c.get-range.ensures.range c.looks_back.ensures.new c.looks_back.ensures.same c.looks_back-2.ensures.new c.looks_back-2.ensures.same c.new.ensures.held
           (subst (λ lines. BeginEach c.args.setup.eid c.args.setup.keep lines c.in_ok-begin_requesters.field-0.items) c.requesters.ensures.value begun)
           (record { entries = empty.entries; requests = empty.requests; traffic = empty.traffic; order = empty.order; timely = empty.timely });
@@ -49,9 +52,11 @@ loop-step-preserved g c =
     let within : i < length schedule.steps = (let t = c.loop-step-test.true in let l = ap (λ (xs : List Step). length xs) items in omega (arith, t, l)) in
     let at = c.step-item.is ∙ ap (λ (xs : List Step). slice_index_or xs i step) items in
     let here = get_or schedule.steps i step within ∙ ap Some (sym at) in
-    let runs = c.in-Ok.ensures.runs terms (reverse (take i schedule.steps)) c.loop-step.invariant.runs (may_come schedule.requesters schedule.steps i step valid.in_order valid.known here) in
+    let may = may_come schedule.requesters schedule.steps i step valid.in_order valid.known here in
+    let runs = c.in-Ok.ensures.runs terms (reverse (take i schedule.steps)) c.loop-step.invariant.runs may in
     record {
       items = items;
+      in_order = subst NeverWentBack (sym (taken_more schedule.steps i step within at)) (may.later, c.loop-step.invariant.in_order);
       runs = subst (λ keep. IsRunning setting (reverse (take (i + 1) schedule.steps)) keep c.take.new.self.responder c.take.new.self.places.items c.take.new.self.journal) (sym c.in-Ok.ensures.keep)
           (subst (λ past. IsRunning setting past c.loop-step.ends.keep c.take.new.self.responder c.take.new.self.places.items c.take.new.self.journal) (sym (taken_more schedule.steps i step within at)) runs);
     }
@@ -66,3 +71,30 @@ returns-clause-requests g c =
     let all = ap reverse (take_all i schedule.steps (omega (arith, done, l))) in
     let w = world setting (reverse (take i schedule.steps)) in
     requests_are setting w c.loop-step.ends.journal.requests.items c.loop-step.invariant.runs.requests ∙ ap (λ past. requests_after setting (world setting past)) all
+
+pub returns-clause-headline : goal.returns-clause-headline
+returns-clause-headline g c =
+    let schedule = c.args.schedule.now in
+    let setting = setting_of_run (rules_of g.P.Platform.answer g.P.Platform.after g.P.Platform.sensed) (g.P.Platform.state c.args.setup.device) c.args.setup.eid c.args.setup.keep schedule in
+    let i = c.loop-step.step-index in
+    let done = c.loop-step-test.false in
+    let l = ap (λ (xs : List Step). length xs) c.steps-step-items.ensures.value in
+    let all = ap reverse (take_all i schedule.steps (omega (arith, done, l))) in
+    let both = c.requesters_take_the_one_reply.ensures in
+    let once = c.performs_once.ensures in
+    let halves : Halves setting = record {
+      log = c.logs_are_timely.ensures.log setting;
+      tested = c.logs_are_timely.ensures.tested setting;
+      state = once.state;
+      delivery = once.delivery;
+      order = c.fresh_deliveries_are_first.ensures.order;
+      reply = both.reply setting;
+      busy = both.busy setting;
+      answered = both.answered setting;
+      performed = both.performed setting;
+    } in
+    let journal = c.loop-step.ends.journal in
+    λ timely.
+    subst (λ s. Headline setting (newest_first schedule) journal.entries.items journal.requests.items journal.order.items s) (sym c.into_platform.ensures.state)
+    (subst (λ past. Headline setting past journal.entries.items journal.requests.items journal.order.items (held_of c.loop-step.ends.responder).state) all
+    (run_is_headline setting (reverse (take i schedule.steps)) c.loop-step.ends.keep c.loop-step.ends.responder c.loop-step.ends.places.items journal c.loop-step.invariant.runs halves c.loop-step.invariant.in_order timely))

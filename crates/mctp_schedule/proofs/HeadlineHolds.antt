@@ -1,0 +1,101 @@
+-- What a run tells of a timely schedule is the headline.
+use Rattle.std.proofs.Common.{◌≡◌, ℕ, ◌≤◌, true, List, [], ◌∷◌, ◌++◌, Option, Some, None, refl, sym, ap, subst, ◌∙◌, arith}
+use Rattle.std.specs.Prelude.{option_map, slice_get}
+use Rattle.pldm_device.specs.Changes.{made_of}
+use Rattle.pldm_responder.specs.Events.{is_busy}
+use Rattle.pldm_responder.specs.Performing.{performed}
+use Rattle.pldm_responder.specs.Stations as responder_stations
+use Rattle.pldm_requester.specs.Courses.{Answered}
+use Rattle.mctp_schedule.specs.Askers.{Side}
+use Rattle.mctp_schedule.specs.DeviceHalf.{DeliveryIsOwed, FreshInOrderOfFirsts, StateIsOnce}
+use Rattle.mctp_schedule.specs.Entries.{as_it_stands, delivery_entry, entries, entry_of, got_entry}
+use Rattle.mctp_schedule.specs.FirstArrivals.{IsOrderOfFirsts, order}
+use Rattle.mctp_schedule.specs.Headline.{Headline, IsTold, delivery_owes, entries_owed, entry_owes, state_once}
+use Rattle.mctp_schedule.specs.Laws.{LogIsTimely, TimelyIsTested}
+use Rattle.mctp_schedule.specs.Logs.{Asked, IsTimelyLog, asked_at, told}
+use Rattle.mctp_schedule.specs.RequesterHalf.{AnsweredWasPerformed, AnsweredWhereTaken, BusyIsOwed, IsSound, IsTimelySchedule, ReplyIsOwed}
+use Rattle.mctp_schedule.specs.Requests.{Request as EndedRequest}
+use Rattle.mctp_schedule.specs.Running.{IsRunning}
+use Rattle.mctp_schedule.specs.Worlds.{NeverWentBack, Setting, world}
+use Rattle.mctp_schedule.specs.declared.entry.Entry.{Entry}
+use Rattle.mctp_schedule.specs.declared.entry.Entry.TheVariants.{Delivered, Sensed}
+use Rattle.mctp_schedule.specs.declared.journal.Journal.{Journal}
+use Rattle.mctp_schedule.specs.declared.step.Action.{Action}
+use Rattle.mctp_schedule.specs.declared.step.Action.TheVariants as actions
+use Rattle.mctp_schedule.specs.declared.step.Step.{Step}
+use Rattle.mctp_schedule.proofs.TakenReplies.{sound_before}
+
+-- the laws of both halves
+pub record Halves {S : Type 0} (setting : Setting S) : Type 0 where
+  pub log : LogIsTimely setting
+  pub tested : TimelyIsTested setting
+  pub state : StateIsOnce setting.device
+  pub delivery : DeliveryIsOwed setting.device
+  pub order : FreshInOrderOfFirsts
+  pub reply : ReplyIsOwed setting
+  pub busy : BusyIsOwed setting
+  pub answered : AnsweredWhereTaken setting
+  pub performed : AnsweredWasPerformed setting
+
+module _ {S : Type 0} (setting : Setting S) (laws : Halves setting) where
+  log_of : (steps : List Step) → IsTimelySchedule setting steps → IsTimelyLog setting.keep (world setting steps).log
+  log_of steps s = laws.log steps s.order s.timely
+
+  before : (step : Step) (past : List Step) → IsTimelySchedule setting (step ∷ past) → IsTimelySchedule setting past
+  before step past s = record { order = s.order.1; timely = s.timely.1; sound = sound_before setting step past s.sound }
+
+  delivery_is : (past : List Step) (moment k : ℕ) → IsTimelySchedule setting (record { moment = moment; action = actions.Request k } ∷ past) → (o : Option Asked) → asked_at (world setting past).log k ≡ o
+      → delivery_entry setting (world setting past).log moment o ≡ delivery_owes setting past moment k o
+  delivery_is past moment k s None is = refl
+  delivery_is past moment k s (Some r) is =
+      ap (Delivered (is_busy setting.keep (told (world setting past).log) moment))
+      (laws.delivery setting.eid setting.keep setting.start (world setting past).log moment k r (log_of (record { moment = moment; action = actions.Request k } ∷ past) s) is)
+
+  entry_is : (past : List Step) (moment : ℕ) (action : Action) → IsTimelySchedule setting (record { moment = moment; action = action } ∷ past) → entry_of setting (world setting past) moment action ≡ entry_owes setting past moment action
+  entry_is past moment (actions.Open e command) s = refl
+  entry_is past moment (actions.Tick e) s = refl
+  entry_is past moment actions.Restart s = refl
+  entry_is past moment (actions.Request k) s = delivery_is past moment k s (asked_at (world setting past).log k) refl
+  entry_is past moment (actions.Reply k j) s = ap got_entry (laws.reply past moment k j (before (record { moment = moment; action = actions.Reply k j }) past s) s.timely.0)
+  entry_is past moment (actions.Busy k) s = ap got_entry (laws.busy past moment k (before (record { moment = moment; action = actions.Busy k }) past s) s.timely.0)
+  entry_is past moment (actions.Sense id value) s =
+      ap (λ state. Sensed (made_of (λ _. tt) (setting.device.sensed state id value)))
+      (laws.state setting.keep setting.start (world setting past).log (log_of past (before (record { moment = moment; action = actions.Sense id value }) past s)))
+
+  entries_are : (steps : List Step) → IsTimelySchedule setting steps → entries setting steps ≡ entries_owed setting steps
+  entries_are [] s = refl
+  entries_are (step ∷ past) s =
+      ap (λ es. es ++ entry_of setting (world setting past) step.moment step.action ∷ []) (entries_are past (before step past s))
+      ∙ ap (λ x. entries_owed setting past ++ x ∷ []) (entry_is past step.moment step.action s)
+
+  pub headline_holds : (steps : List Step) (requests : List EndedRequest) → IsTimelySchedule setting steps → ((k : ℕ) → slice_get requests k ≡ option_map (as_it_stands setting (world setting steps)) (asked_at (world setting steps).log k))
+      → Headline setting steps (entries setting steps) requests (order setting.keep (world setting steps).log) (performed setting.device setting.keep setting.start (told (world setting steps).log))
+  headline_holds steps requests s each = record {
+    each_step = entries_are steps s;
+    each_request = λ k r is. record {
+      standing = (as_it_stands setting (world setting steps) r).standing;
+      told = each k ∙ ap (option_map (as_it_stands setting (world setting steps))) is;
+      stands = laws.answered steps k r s is;
+      performed = λ message e. laws.performed steps k r message s is e;
+    };
+    performed_in_order = laws.order setting.keep (world setting steps).log (log_of steps s);
+    performed_once = laws.state setting.keep setting.start (world setting steps).log (log_of steps s);
+  }
+
+-- ---- a run discharges the premises
+module _ {P S : Type 0} (setting : Setting S) (past : List Step) (keep : ℕ) (station : responder_stations.Station P S) (places : List (Option Side)) (journal : Journal) (running : IsRunning setting past keep station places journal) where
+  is_sound : IsSound setting past
+  is_sound = record {
+    device = running.device.endpoint;
+    sources = λ k r is. let s = (running.sides r.source (running.opened k r is).source).2 in (s.endpoint, s.other);
+    fit = running.fit;
+  }
+
+  pub run_is_headline : Halves setting → NeverWentBack past → journal.timely ≡ true → Headline setting past journal.entries.items journal.requests.items journal.order.items (responder_stations.held_of station).state
+  run_is_headline laws in_order timely =
+      let schedule : IsTimelySchedule setting past = record { order = in_order; timely = (laws.tested past).0 (sym running.timely ∙ timely); sound = is_sound } in
+      let state = running.device.left.state ∙ ap (performed setting.device setting.keep setting.start) running.device.events in
+      subst (λ s. Headline setting past journal.entries.items journal.requests.items journal.order.items s) (sym state)
+      (subst (λ os. Headline setting past journal.entries.items journal.requests.items os (performed setting.device setting.keep setting.start (told (world setting past).log))) (sym running.order)
+      (subst (λ es. Headline setting past es journal.requests.items (order setting.keep (world setting past).log) (performed setting.device setting.keep setting.start (told (world setting past).log))) (sym running.entries)
+      (headline_holds setting laws past journal.requests.items schedule running.requests)))

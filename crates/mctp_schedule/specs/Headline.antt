@@ -1,0 +1,68 @@
+-- The headline: over a timely schedule of losses, repeats and reorderings, with restarts, the device's state and each
+-- reply are those of performing, once each, the requests that arrived, in the order of their first arrivals; all copies
+-- of a request get the same message; and each answer that a requester took is that message, of a request that was
+-- performed exactly once. Steps have the newest first.
+use Rattle.std.specs.Prelude.{◌≡◌, ℕ, List, [], ◌∷◌, ◌++◌, Option, Some, None, slice_get}
+use Rattle.pldm_device.specs.Changes.{made_of}
+use Rattle.pldm_requester.specs.Courses.{Standing, Answered}
+use Rattle.pldm_responder.specs.Events.{is_busy}
+use Rattle.mctp_schedule.specs.Entries.{entry_of, got_entry}
+use Rattle.mctp_schedule.specs.FirstArrivals.{IsOrderOfFirsts}
+use Rattle.mctp_schedule.specs.Logs.{Asked, asked_at, told}
+use Rattle.mctp_schedule.specs.OncePerformed.{delivery_owed, once}
+use Rattle.mctp_schedule.specs.Requests.{Request as EndedRequest}
+use Rattle.mctp_schedule.specs.RequesterHalf.{StandingIs, WasPerformedOnce}
+use Rattle.mctp_schedule.specs.Taken.{busy_owed, reply_owed}
+use Rattle.mctp_schedule.specs.Worlds.{Setting, world}
+use Rattle.mctp_schedule.specs.declared.entry.Entry.{Entry}
+use Rattle.mctp_schedule.specs.declared.entry.Entry.TheVariants.{Nothing, Delivered, Sensed}
+use Rattle.mctp_schedule.specs.declared.step.Action.{Action}
+use Rattle.mctp_schedule.specs.declared.step.Action.TheVariants as actions
+use Rattle.mctp_schedule.specs.declared.step.Step.{Step}
+
+module _ {S : Type 0} (setting : Setting S) where
+  -- the device's state where each request that arrived is performed once, at its first arrival
+  abbrev pub state_once : List Step → S
+  state_once steps = once setting.device setting.keep setting.start (world setting steps).log
+
+  -- what a delivery of request k owes: nothing where it was never opened; after a restart a busy answer; else its one
+  -- reply, told as fresh at its first arrival and as a copy later
+  abbrev pub delivery_owes : List Step → ℕ → ℕ → Option Asked → Entry
+  delivery_owes past moment k None = Nothing
+  delivery_owes past moment k (Some r) =
+      let log = (world setting past).log in
+      Delivered (is_busy setting.keep (told log) moment)
+      (delivery_owed setting.device setting.keep setting.start setting.eid log moment k r)
+
+  -- what the entry of an action owes after these steps; what an open and a tick owe is told by their requester's calls
+  abbrev pub entry_owes : List Step → ℕ → Action → Entry
+  entry_owes past moment (actions.Request k) = delivery_owes past moment k (asked_at (world setting past).log k)
+  entry_owes past moment (actions.Reply k j) = got_entry (reply_owed setting past k j)
+  entry_owes past moment (actions.Busy k) = got_entry (busy_owed setting past k)
+  entry_owes past moment (actions.Sense id value) =
+      Sensed (made_of (λ _. tt) (setting.device.sensed (state_once past) id value))
+  entry_owes past moment (actions.Open e command) =
+      entry_of setting (world setting past) moment (actions.Open e command)
+  entry_owes past moment (actions.Tick e) = entry_of setting (world setting past) moment (actions.Tick e)
+  entry_owes past moment actions.Restart = entry_of setting (world setting past) moment actions.Restart
+
+  -- the entries of these steps, the oldest first
+  abbrev pub entries_owed : List Step → List Entry
+  entries_owed [] = []
+  entries_owed (step ∷ past) = entries_owed past ++ entry_owes past step.moment step.action ∷ []
+
+  -- request k, which is r, is told as it was opened, and as answered by its one reply exactly where it was taken; an
+  -- answer is of a request that was performed exactly once
+  pub record IsTold (steps : List Step) (k : ℕ) (r : Asked) (requests : List EndedRequest) : Type 0 where
+    pub standing : Standing
+    pub told : slice_get requests k ≡ Some (record { asked = r; standing = standing })
+    pub stands : StandingIs setting steps k standing
+    pub performed : (message : List ℕ) → standing ≡ Answered message → WasPerformedOnce setting steps k r message
+
+  -- what a run over these steps tells is this
+  pub record Headline
+      (steps : List Step) (entries : List Entry) (requests : List EndedRequest) (order : List ℕ) (state : S) : Type 0 where
+    pub each_step : entries ≡ entries_owed steps
+    pub each_request : (k : ℕ) (r : Asked) → asked_at (world setting steps).log k ≡ Some r → IsTold steps k r requests
+    pub performed_in_order : IsOrderOfFirsts setting.keep (world setting steps).log order
+    pub performed_once : state ≡ state_once steps
