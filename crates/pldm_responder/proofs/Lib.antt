@@ -2,7 +2,6 @@ pub mod FewSources
 pub mod KeyOrder
 pub mod AskedKeys
 pub mod CountedPairs
-pub mod SlotLookups
 pub mod KeptCounts
 pub mod ServedMessages
 pub mod CallsLookBack
