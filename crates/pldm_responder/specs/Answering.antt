@@ -1,5 +1,5 @@
 -- What becomes of a packet, once the message that answers it is cut into packets.
-use Rattle.std.specs.Prelude.{ℕ, ◌<◌, Bool, true, List, length, Option, Some, None, if◌then◌else◌}
+use Rattle.std.specs.Prelude.{ℕ, ◌<◌, Bool, List, length, Option, Some, None, if◌then◌else◌}
 use Rattle.pldm_responder.specs.Arrivals.{packets_back}
 use Rattle.pldm_responder.specs.Events.{Message}
 use Rattle.pldm_responder.specs.declared.outcome.Outcome.{Outcome}

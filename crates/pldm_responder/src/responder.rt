@@ -1,7 +1,6 @@
 ghost use Rattle.std.specs.FinMap as map;
 ghost use Rattle.std.specs.Prelude.{◌≡◌, ◌≢◌, ℕ, false, ◌≤◌, ◌<◌, true, Bool, [], length, nat_lt, Ok, IfOk, IfSome, OnOk, OnErr};
 ghost use Rattle.mctp_packet.specs.Passing.{passed};
-ghost use Rattle.mctp_packet.specs.Pieces.{written_packets};
 ghost use Rattle.mctp_assembly.specs.Keys.{IsKey, key_of};
 ghost use Rattle.mctp_assembly.specs.Steps.{answer};
 ghost use Rattle.mctp_assembly.specs.declared.fed.Fed.TheVariants.{Whole};
@@ -198,11 +197,16 @@ impl<P: Platform> Responder<P> {
         match taken {
             Taken::Dropped(reason) => Ok(Outcome::Dropped(reason)),
             Taken::Partial => Ok(Outcome::Partial),
-            Taken::Answered { fresh, changed } => Ok(Outcome::Answered {
-                fresh,
-                changed,
-                packets: packets_back(self.own, packet.route(), &reply),
-            }),
+            Taken::Answered { fresh, changed } => {
+                match split(&way_back(self.own, packet.route()), &reply) {
+                    Ok(packets) => Ok(Outcome::Answered {
+                        fresh,
+                        changed,
+                        packets,
+                    }),
+                    Err(_) => unreachable!(),
+                }
+            }
         }
     }
 
@@ -399,17 +403,14 @@ fn not_performed() -> Taken
     }
 }
 
-/// The packets that carry an answer back to where the packets with this route came from.
-fn packets_back(own: Eid, route: Route, answer: &[u8]) -> Packets
-    requires some { 0 < length answer.now }
-    requires few { length answer.now ≤ MOST_MESSAGE_BYTES }
-    ensures { result ≡ written_packets (record { destination = route.source; source = own; owner = false; tag = route.tag }) answer.now }
+/// The way back to where packets with this route came from.
+fn way_back(own: Eid, route: Route) -> Route
+    ensures { result ≡ record { destination = route.source; source = own; owner = false; tag = route.tag } }
 {
-    let back = Route {
+    Route {
         destination: route.source,
         source: own,
         owner: false,
         tag: route.tag,
-    };
-    split(&back, answer).unwrap()
+    }
 }

@@ -1,7 +1,7 @@
-use Rattle.std.proofs.Common.{◌≡◌, ℕ, ◌<◌, ◌≤◌, [], None, inl, inr, ap}
+use Rattle.std.proofs.Common.{◌≡◌, [], inl, inr, ap}
 use Rattle.std.proofs.lemmas.Bool.{cases_lt}
 use Rattle.std.proofs.lemmas.List.{get_or_past}
-use Rattle.pldm_responder.specs.Slots.{row_of, in_slot, kept_in}
+use Rattle.pldm_responder.specs.Slots.{row_of, in_slot}
 use Rattle.pldm_responder.proofs.KeptCounts.{none_are_kept}
 use Rattle.pldm_responder.proofs.kept_answers.KeptAnswers.new.Goals as goal
 

@@ -1,4 +1,4 @@
-use Rattle.std.proofs.Common.{◌≡◌, Bool, true, false, not, is_some, refl, ap, sym, ◌∙◌, arith}
+use Rattle.std.proofs.Common.{◌≡◌, Bool, true, false, not, refl, sym, ◌∙◌, arith}
 use Rattle.pldm_responder.proofs.KeptCounts.{few_fit, one_more_is_kept, as_many_are_kept}
 use Rattle.pldm_responder.proofs.kept_answers.KeptAnswers.put.Goals as goal
 
