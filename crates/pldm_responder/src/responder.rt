@@ -219,7 +219,10 @@ impl<P: Platform> Responder<P> {
         reply: &mut Body,
     ) -> Result<Taken, Memory>
         requires { packet.now.route.source ≢ self.old.own }
-        ensures outcome { IfOk result (λ taken. answering self.old.own (message_of packet.now.route.source packet.now.route.tag now []) reply.new.items taken ≡ arrival_outcome (rules_of P.answer P.after P.sensed) (held_of self.old) (passed_arrival (answer self.old.open_messages) now (passed is_expected (Ok packet.now)))) }
+        ensures outcome { IfOk result (λ taken.
+            answering self.old.own (message_of packet.now.route.source packet.now.route.tag now []) reply.new.items taken
+            ≡ arrival_outcome (rules_of P.answer P.after P.sensed) (held_of self.old)
+            (passed_arrival (answer self.old.open_messages) now (passed is_expected (Ok packet.now)))) }
         ensures some { IfOk result (HasReply reply.new.items) }
         ensures fits { OnOk result (ArrivalFits (rules_of P.answer P.after P.sensed) (held_of self.old) (passed_arrival (answer self.old.open_messages) now (passed is_expected (Ok packet.now)))) }
         ensures held { OnOk result (IsHeld (held_of self.new) (passed_held (rules_of P.answer P.after P.sensed) (held_of self.old) now (passed is_expected (Ok packet.now)))) }
@@ -262,7 +265,10 @@ impl<P: Platform> Responder<P> {
     ) -> Result<Taken, Memory>
         requires owner { packet.now.route.owner ≡ true }
         requires other { packet.now.route.source ≢ self.old.own }
-        ensures outcome { IfOk result (λ taken. answering self.old.own (message_of packet.now.route.source packet.now.route.tag now []) reply.new.items taken ≡ arrival_outcome (rules_of P.answer P.after P.sensed) (held_of self.old) (passed_arrival (answer self.old.open_messages) now (passed is_expected (Ok packet.now)))) }
+        ensures outcome { IfOk result (λ taken.
+            answering self.old.own (message_of packet.now.route.source packet.now.route.tag now []) reply.new.items taken
+            ≡ arrival_outcome (rules_of P.answer P.after P.sensed) (held_of self.old)
+            (passed_arrival (answer self.old.open_messages) now (passed is_expected (Ok packet.now)))) }
         ensures some { IfOk result (HasReply reply.new.items) }
         ensures fits { OnOk result (ArrivalFits (rules_of P.answer P.after P.sensed) (held_of self.old) (passed_arrival (answer self.old.open_messages) now (passed is_expected (Ok packet.now)))) }
         ensures held { OnOk result (IsHeld (held_of self.new) (passed_held (rules_of P.answer P.after P.sensed) (held_of self.old) now (passed is_expected (Ok packet.now)))) }
@@ -302,7 +308,10 @@ impl<P: Platform> Responder<P> {
     ) -> Result<Taken, Memory>
         requires other { source ≢ self.old.own }
         requires few { length message.now ≤ MOST_MESSAGE_BYTES }
-        ensures outcome { IfOk result (λ taken. answering self.old.own (message_of source tag now []) reply.new.items taken ≡ arrival_outcome (rules_of P.answer P.after P.sensed) (held_of self.old) (headed (message_of source tag now message.now) (request_of message.now))) }
+        ensures outcome { IfOk result (λ taken.
+            answering self.old.own (message_of source tag now []) reply.new.items taken
+            ≡ arrival_outcome (rules_of P.answer P.after P.sensed) (held_of self.old)
+            (headed (message_of source tag now message.now) (request_of message.now))) }
         ensures some { IfOk result (HasReply reply.new.items) }
         ensures fits { OnOk result (ArrivalFits (rules_of P.answer P.after P.sensed) (held_of self.old) (headed (message_of source tag now message.now) (request_of message.now))) }
         ensures held { OnOk result (IsHeld (held_of self.new) (arrival_held (rules_of P.answer P.after P.sensed) (held_of self.old) (headed (message_of source tag now message.now) (request_of message.now)))) }
@@ -343,7 +352,8 @@ impl<P: Platform> Responder<P> {
         reply: &mut Body,
     ) -> bool
         requires { id < ids }
-        ensures packets { copied_packets self.now.own self.now.keep (message_of source tag now message.now) (kept_in self.now.rows source id) ≡ packets_if result (packets_back self.now.own (message_of source tag now []) reply.new.items) }
+        ensures packets { copied_packets self.now.own self.now.keep (message_of source tag now message.now) (kept_in self.now.rows source id)
+            ≡ packets_if result (packets_back self.now.own (message_of source tag now []) reply.new.items) }
         ensures some { result ≡ true → 0 < length reply.new.items }
     {
         match self.kept.get(source, id) {
