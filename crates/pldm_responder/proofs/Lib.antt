@@ -2,6 +2,7 @@ pub mod FewSources
 pub mod KeyOrder
 pub mod AskedKeys
 pub mod CountedPairs
+pub mod SlotLookups
 pub mod KeptCounts
 pub mod ServedMessages
 pub mod CallsLookBack

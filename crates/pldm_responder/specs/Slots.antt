@@ -1,19 +1,22 @@
--- How a responder keeps its answers: a row for each source, with a slot for each instance ID once there is room.
-use Rattle.std.specs.Prelude.{◌≡◌, ℕ, ◌<◌, ◌≤◌, List, [], length, slice_index_or, Option, None, IfSome, refl}
+-- How a responder keeps its answers: for each source a row with a slot for each instance ID.
+use Rattle.std.specs.Prelude.{ℕ, ◌<◌, ◌≤◌, List, length, slice_index_or, Option, None, IfSome, option_and_then, refl}
+use Rattle.std.specs.BTreeMap.{is_at}
 use Rattle.std.specs.Coded.{Coded, code_by, coded×, coded_ℕ, coded_list, coded_option}
+use Rattle.std.specs.Map.{lookup}
+use Rattle.std.specs.Ordering.{nat_cmp}
 use Rattle.mctp_packet.specs.Ids.{IsEid}
 use Rattle.mctp_packet.specs.declared.TheConstants.{MOST_MESSAGE_BYTES}
 use Rattle.pldm_wire.specs.declared.assigned.TheConstants.{INSTANCE_IDS}
 use Rattle.pldm_responder.specs.Counts.{CountsKept}
 use Rattle.pldm_responder.specs.Held.{Entry}
 
--- a slot for each instance ID, from 0 on, or none where there is no room yet; an empty slot holds no answer
+-- a slot for each instance ID, from 0 on; an empty one holds no answer
 abbrev pub Row : Type 0
 Row = List (Option Entry)
 
--- a row for each number that a source can have, from 0 on
+-- each source that has a row, and the row
 abbrev pub Rows : Type 0
-Rows = List Row
+Rows = List (ℕ × Row)
 
 -- they are stored as their parts
 abbrev pub coded_entry : Coded Entry
@@ -28,22 +31,18 @@ abbrev pub coded_row : Coded Row
 coded_row = coded_list (coded_option coded_entry)
 
 abbrev pub coded_rows : Coded Rows
-coded_rows = coded_list coded_row
+coded_rows = coded_list (coded× coded_ℕ coded_row)
 
 -- the answer in the slot of an instance ID
 abbrev pub in_slot : Row → ℕ → Option Entry
 in_slot row id = slice_index_or row id None
 
-abbrev pub row_of : Rows → ℕ → Row
-row_of rows source = slice_index_or rows source []
-
--- a row with room
-abbrev pub HasRoom : Row → Type 0
-HasRoom row = length row ≡ INSTANCE_IDS
+abbrev pub row_of : Rows → ℕ → Option Row
+row_of rows source = lookup (is_at (nat_cmp source)) rows
 
 -- the answer that is kept for a source and an instance ID
 abbrev pub kept_in : Rows → ℕ → ℕ → Option Entry
-kept_in rows source id = in_slot (row_of rows source) id
+kept_in rows source id = option_and_then (λ row. in_slot row id) (row_of rows source)
 
 -- an answer to an endpoint, for an instance ID
 pub record IsKept (source id : ℕ) (entry : Entry) : Type 0 where

@@ -1,27 +1,24 @@
-ghost use Rattle.std.specs.Prelude.{◌≡◌, ℕ, ◌≤◌, ◌<◌, ◌&&◌, ◌==◌, [], length, Some, None, if◌then◌else◌, not, is_some, IfSome, OnOk, OnErr};
+ghost use Rattle.std.specs.Prelude.{◌≡◌, ℕ, ◌≤◌, ◌<◌, ◌&&◌, ◌==◌, length, Some, None, is_some, if◌then◌else◌, IfSome, IsSome, OnOk, OnErr};
 ghost use Rattle.std.specs.Option.{option_copied};
 ghost use Rattle.mctp_packet.specs.Ids.{IsEid};
 ghost use Rattle.mctp_packet.specs.declared.TheConstants.{MOST_MESSAGE_BYTES};
 ghost use Rattle.pldm_wire.specs.declared.assigned.TheConstants.{INSTANCE_IDS};
 ghost use Rattle.pldm_responder.specs.Counts.{CountsKept};
-ghost use Rattle.pldm_responder.specs.Slots.{HasRoom, IsKept, kept_in, row_of};
+ghost use Rattle.pldm_responder.specs.Slots.{IsKept, kept_in, row_of};
 
 use crate::kept_answer::KeptAnswer;
 use crate::row::Row;
 use mctp_packet::{Eid, Memory, Moment};
 use std::alloc::Global;
-use std::array;
+use std::collections::BTreeMap;
 use std::marker::Model;
-
-/// How many numbers a byte has, and so more than there are endpoint IDs.
-const SOURCES: usize = 256;
 
 /// The answers that are kept, by the source of the request and its instance ID.
 #[derive(Debug, Drop)]
 pub(crate) struct KeptAnswers {
     alloc: Global,
-    /// A row for each number. Those of sources of which a fresh message came have room.
-    rows: [Row; SOURCES],
+    /// A row for each source of which a fresh message came.
+    rows: BTreeMap<Eid, Row>,
     /// How many slots hold an answer.
     count: usize,
 }
@@ -33,9 +30,9 @@ impl Model for KeptAnswers {
 
     ghost coded = { coded_rows };
 
-    ghost view = { λ k. k.rows };
+    ghost view = { λ k. k.rows.entries };
 
-    ghost invariant = { λ k. AreKept k.rows k.count };
+    ghost invariant = { λ k. AreKept k.rows.entries k.count };
 }
 
 impl KeptAnswers {
@@ -45,49 +42,52 @@ impl KeptAnswers {
     {
         KeptAnswers {
             alloc,
-            rows: array::from_fn(
-                |_| -> Row
-                    ensures { result ≡ [] }
-                { Row::empty(alloc) },
-            ),
+            rows: BTreeMap::new(alloc),
             count: 0,
         }
     }
 
     /// The answer that is kept for a source and an instance ID.
     pub(crate) fn get(&self, source: Eid, id: u8) -> Option<&KeptAnswer>
+        requires { id < INSTANCE_IDS }
         ensures { option_copied result ≡ kept_in self.now source id }
     {
-        self.rows[usize::from(source.get())].get(id)
+        match self.rows.get(&source) {
+            Some(row) => row.get(id),
+            None => None,
+        }
     }
 
     /// Takes the room for the answers to a source, where it has none yet.
     pub(crate) fn make_room(&mut self, source: Eid) -> Result<(), Memory>
         ensures same { (other id : ℕ) → kept_in self.new other id ≡ kept_in self.old other id }
-        ensures ok { OnOk result (HasRoom (row_of self.new source)) }
-        ensures err { OnErr result ((id : ℕ) → kept_in self.old source id ≡ None) }
+        ensures ok { OnOk result (IsSome (row_of self.new source)) }
+        ensures err { OnErr result (row_of self.old source ≡ None) }
     {
-        let place = usize::from(source.get());
-        if !self.rows[place].has_room() {
-            self.rows[place] = Row::new(self.alloc)?;
+        if self.rows.contains_key(&source) {
+            return Ok(());
         }
+        self.rows.insert(source, Row::new(self.alloc)?)?;
         Ok(())
     }
 
     /// Puts an answer in the place of its source's and instance ID's. There has to be room for it.
     pub(crate) fn put(&mut self, source: Eid, id: u8, moment: Moment, bytes: &[u8], answer: &[u8])
-        requires room { HasRoom (row_of self.old source) }
+        requires room { IsSome (row_of self.old source) }
         requires id { id < INSTANCE_IDS }
         requires bytes { length bytes.now ≤ MOST_MESSAGE_BYTES }
         requires some { 0 < length answer.now }
         requires few { length answer.now ≤ MOST_MESSAGE_BYTES }
         ensures { (other i : ℕ) → kept_in self.new other i ≡
-            (if source == other && id == i
-            then Some (record { moment = moment; bytes = bytes.now; answer = answer.now })
+            (if source == other && id == i then Some (record { moment = moment; bytes = bytes.now; answer = answer.now })
             else kept_in self.old other i) }
     {
         let _range = source.get();
-        if write(&mut self.rows, source, id, moment, bytes, answer) {
+        let is_first = match self.rows.get_mut(&source) {
+            Some(row) => row.put(id, moment, bytes, answer),
+            None => unreachable!(),
+        };
+        if is_first {
             self.count += 1;
         }
     }
@@ -99,26 +99,4 @@ impl KeptAnswers {
     {
         self.count
     }
-}
-
-/// Puts an answer into its slot, and gives whether there was none.
-fn write(
-    rows: &mut [Row; SOURCES],
-    source: Eid,
-    id: u8,
-    moment: Moment,
-    bytes: &[u8],
-    answer: &[u8],
-) -> bool
-    requires room { HasRoom (row_of rows.old source) }
-    requires id { id < INSTANCE_IDS }
-    requires bytes { length bytes.now ≤ MOST_MESSAGE_BYTES }
-    requires some { 0 < length answer.now }
-    requires few { length answer.now ≤ MOST_MESSAGE_BYTES }
-    ensures kept { (other i : ℕ) → kept_in rows.new other i ≡
-        (if source == other && id == i then Some (record { moment = moment; bytes = bytes.now; answer = answer.now })
-        else kept_in rows.old other i) }
-    ensures first { result ≡ not (is_some (kept_in rows.old source id)) }
-{
-    rows[usize::from(source.get())].put(id, moment, bytes, answer)
 }
