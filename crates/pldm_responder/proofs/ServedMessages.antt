@@ -12,6 +12,7 @@ use Rattle.mctp_assembly.specs.declared.fed.Fed.TheVariants.{Whole}
 use Rattle.pldm_wire.specs.Headers.{id_at}
 use Rattle.mctp_packet.specs.Reading.{unless}
 use Rattle.pldm_wire.specs.Requests.{Request, request_of, request_refusal}
+use Rattle.pldm_responder.specs.Answering.{packets_if}
 use Rattle.pldm_responder.specs.Arrivals.{fed_arrival, headed, is_expected, message_of}
 use Rattle.pldm_responder.specs.Events.{Message, is_of}
 use Rattle.pldm_responder.specs.Held.{Entry, Held, IsHeld}
@@ -37,6 +38,11 @@ id_of_request bytes request h = passed_id (request_refusal bytes) _ request h
 no_packets : (t : Bool) (packets : List (List ℕ)) → None ≡ cond t (Some packets) None → not t ≡ true
 no_packets true packets h = cc
 no_packets false packets h = refl
+
+-- a message that is no copy has no kept packets
+pub no_copy : (is_copy : Bool) (packets : List (List ℕ)) (kept : Option (List (List ℕ))) → kept ≡ packets_if is_copy packets → is_copy ≡ false → None ≡ kept
+no_copy true packets kept are not_copy = cc
+no_copy false packets kept are not_copy = sym are
 
 -- a message without kept packets repeats none
 not_repeated : (own keep : ℕ) (m : Message) (o : Option Entry) → None ≡ copied_packets own keep m o → not (repeats keep m o) ≡ true

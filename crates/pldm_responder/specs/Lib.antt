@@ -4,6 +4,7 @@ pub mod Arrivals
 pub mod Calls
 pub mod Held
 pub mod Steps
+pub mod Answering
 pub mod Fitting
 pub mod Wants
 pub mod Counts

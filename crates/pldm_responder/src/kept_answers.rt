@@ -8,7 +8,7 @@ ghost use Rattle.pldm_responder.specs.Slots.{IsKept, kept_in, row_of};
 
 use crate::kept_answer::KeptAnswer;
 use crate::row::Row;
-use mctp_packet::{Eid, Memory};
+use mctp_packet::{Eid, Memory, Moment};
 use std::alloc::Global;
 use std::collections::BTreeMap;
 use std::marker::Model;
@@ -58,14 +58,6 @@ impl KeptAnswers {
         }
     }
 
-    /// Whether an answer is kept for a source and an instance ID.
-    fn has(&self, source: Eid, id: u8) -> bool
-        requires { id < INSTANCE_IDS }
-        ensures { result ≡ is_some (kept_in self.now source id) }
-    {
-        self.get(source, id).is_some()
-    }
-
     /// Takes the room for the answers to a source, where it has none yet.
     pub(crate) fn make_room(&mut self, source: Eid) -> Result<(), Memory>
         ensures same { (other id : ℕ) → kept_in self.new other id ≡ kept_in self.old other id }
@@ -80,19 +72,22 @@ impl KeptAnswers {
     }
 
     /// Puts an answer in the place of its source's and instance ID's. There has to be room for it.
-    pub(crate) fn put(&mut self, source: Eid, id: u8, answer: KeptAnswer)
+    pub(crate) fn put(&mut self, source: Eid, id: u8, moment: Moment, bytes: &[u8], answer: &[u8])
         requires room { IsSome (row_of self.old source) }
         requires id { id < INSTANCE_IDS }
-        requires few { length answer.answer ≤ MOST_MESSAGE_BYTES }
-        ensures { (other i : ℕ) → kept_in self.new other i ≡ (if source == other && id == i then Some answer else kept_in self.old other i) }
+        requires bytes { length bytes.now ≤ MOST_MESSAGE_BYTES }
+        requires some { 0 < length answer.now }
+        requires few { length answer.now ≤ MOST_MESSAGE_BYTES }
+        ensures { (other i : ℕ) → kept_in self.new other i ≡
+            (if source == other && id == i then Some (record { moment = moment; bytes = bytes.now; answer = answer.now })
+            else kept_in self.old other i) }
     {
         let _range = source.get();
-        let had = self.has(source, id);
-        match self.rows.get_mut(&source) {
-            Some(row) => row.put(id, answer),
+        let is_first = match self.rows.get_mut(&source) {
+            Some(row) => row.put(id, moment, bytes, answer),
             None => unreachable!(),
-        }
-        if !had {
+        };
+        if is_first {
             self.count += 1;
         }
     }

@@ -9,6 +9,7 @@ mod outcome;
 mod performing;
 mod responder;
 mod row;
+mod taken;
 
 pub use outcome::Outcome;
 pub use responder::{MOST_KEPT, MOST_PENDING, Responder};

@@ -1,59 +1,56 @@
 ghost use Rattle.std.specs.Prelude.{◌≡◌, ◌<◌, ◌≤◌, ◌==◌, [], length, Ok, IfOk, IsOk, OnOk, OnErr, IsTrue};
-ghost use Rattle.pldm_wire.specs.Answers.{code_of};
-ghost use Rattle.pldm_responder.specs.Performing.{busy_reply_to, changes_at, commands_at, next_after, reply_to, rules_of};
+ghost use Rattle.pldm_wire.specs.Answers.{answer_message, code_of};
+ghost use Rattle.pldm_wire.specs.declared.answer.Answer.TheVariants.{Refused};
+ghost use Rattle.pldm_responder.specs.Performing.{changes_at, commands_at, next_after, reply_to, rules_of};
 
 use mctp_packet::{Body, MOST_MESSAGE_BYTES, Memory};
 use pldm_device::Platform;
 use pldm_wire::{Answer, Code, RequestRef, SUCCESS, read_command, write_answer};
 use std::alloc::Global;
 
-/// A request that was performed.
-#[derive(Drop)]
-pub(crate) struct Performed {
-    /// The message that answers it.
-    pub(crate) answer: Body,
-    /// Whether it is of a command that sets, and was not refused.
-    pub(crate) changed: bool,
-}
-
-/// Performs a request: its command where it has one, else it is refused. An `Err` changes nothing.
+/// Performs a request: its command where it has one, else it is refused. The message that answers it
+/// is put into `reply`, and the result is whether it is of a command that sets, and was not refused.
+/// An `Err` changes nothing of the platform.
 pub(crate) fn perform<P: Platform>(
     alloc: Global,
     platform: &mut P,
     request: &RequestRef<'_>,
-) -> Result<Performed, Memory>
-    ensures answer { IfOk result (λ p. p.answer.items ≡ reply_to (rules_of P.answer P.after P.sensed) (P.state platform.old) (Ok request.now)) }
-    ensures changed { IfOk result (λ p. p.changed ≡ changes_at (rules_of P.answer P.after P.sensed) (P.state platform.old) (Ok request.now)) }
+    reply: &mut Body,
+) -> Result<bool, Memory>
+    ensures answer { OnOk result (reply.new.items ≡ reply_to (rules_of P.answer P.after P.sensed) (P.state platform.old) (Ok request.now)) }
+    ensures changed { IfOk result (λ changed. changed ≡ changes_at (rules_of P.answer P.after P.sensed) (P.state platform.old) (Ok request.now)) }
     ensures state { OnOk result (P.state platform.new ≡ next_after (rules_of P.answer P.after P.sensed) (P.state platform.old) (Ok request.now)) }
     ensures performed { OnOk result (P.performed platform.old (commands_at (Ok request.now)) platform.new) }
-    ensures some { IfOk result (λ p. 0 < length p.answer.items) }
-    ensures few { IfOk result (λ p. length p.answer.items ≤ MOST_MESSAGE_BYTES) }
+    ensures some { OnOk result (0 < length reply.new.items) }
+    ensures few { OnOk result (length reply.new.items ≤ MOST_MESSAGE_BYTES) }
     ensures err { OnErr result (P.state platform.new ≡ P.state platform.old) }
     ensures none_performed { OnErr result (P.performed platform.old [] platform.new) }
     ensures steady { IsTrue P.STEADY → IsOk result }
 {
-    let (answer, changed) = match read_command(request) {
-        Ok(command) => {
-            let answer = platform.perform(alloc, &command)?;
-            let changed = command.sets() && succeeded(&answer);
-            (answer, changed)
+    let command = match read_command(request) {
+        Ok(command) => command,
+        Err(code) => {
+            refuse(request, code, reply);
+            return Ok(false);
         }
-        Err(code) => (Answer::Refused(code), false),
     };
-    Ok(Performed {
-        answer: write_answer(request.id(), request.kind(), &answer),
-        changed,
-    })
+    match &platform.perform(alloc, &command) {
+        Ok(answer) => {
+            *reply = write_answer(request.id(), request.kind(), answer);
+            Ok(command.sets() && succeeded(answer))
+        }
+        Err(memory) => Err(*memory),
+    }
 }
 
-/// The message that answers a request while the responder is busy.
-pub(crate) fn busy_answer(request: &RequestRef<'_>) -> Body
-    ensures answer { result.items ≡ busy_reply_to (Ok request.now) }
-    ensures some { 0 < length result.items }
-    ensures few { length result.items ≤ MOST_MESSAGE_BYTES }
+/// Puts the message that refuses a request into `reply`.
+#[inline(never)]
+pub(crate) fn refuse(request: &RequestRef<'_>, code: Code, reply: &mut Body)
+    ensures answer { reply.new.items ≡ answer_message request.now.id request.now.kind (Refused code) }
+    ensures some { 0 < length reply.new.items }
+    ensures few { length reply.new.items ≤ MOST_MESSAGE_BYTES }
 {
-    let not_ready = Answer::Refused(Code::ERROR_NOT_READY);
-    write_answer(request.id(), request.kind(), &not_ready)
+    *reply = write_answer(request.id(), request.kind(), &Answer::Refused(code));
 }
 
 /// Whether the answer has the completion code SUCCESS.

@@ -1,13 +1,15 @@
 ghost use Rattle.std.specs.FinMap as map;
 ghost use Rattle.std.specs.Prelude.{◌≡◌, ◌≢◌, ℕ, false, ◌≤◌, ◌<◌, true, Bool, [], length, nat_lt, Ok, IfOk, IfSome, OnOk, OnErr};
 ghost use Rattle.mctp_packet.specs.Passing.{passed};
-ghost use Rattle.mctp_packet.specs.Pieces.{written_packets};
+ghost use Rattle.mctp_assembly.specs.Keys.{IsKey, key_of};
 ghost use Rattle.mctp_assembly.specs.Steps.{answer};
+ghost use Rattle.mctp_assembly.specs.declared.fed.Fed.TheVariants.{Whole};
 ghost use Rattle.mctp_assembly.specs.declared.key.Key.{Key as KeyValue};
 ghost use Rattle.pldm_device.specs.Changes.{made_of};
 ghost use Rattle.pldm_wire.specs.Requests.{request_of};
 ghost use Rattle.pldm_wire.specs.declared.assigned.TheConstants.{INSTANCE_IDS as ids};
-ghost use Rattle.pldm_responder.specs.Arrivals.{headed, is_expected, message_of, passed_arrival};
+ghost use Rattle.pldm_responder.specs.Answering.{HasReply, answering, packets_if};
+ghost use Rattle.pldm_responder.specs.Arrivals.{headed, is_expected, message_of, packets_back, passed_arrival};
 ghost use Rattle.pldm_responder.specs.Counts.{CountsKept};
 ghost use Rattle.pldm_responder.specs.Fitting.{ArrivalFits, ReceivedFits};
 ghost use Rattle.pldm_responder.specs.Held.{IsHeld, held_at_first};
@@ -15,20 +17,20 @@ ghost use Rattle.pldm_responder.specs.Performing.{rules_of};
 ghost use Rattle.pldm_responder.specs.Slots.{kept_in};
 ghost use Rattle.pldm_responder.specs.Stations.{held_of};
 ghost use Rattle.pldm_responder.specs.Steps.{arrival_commands, arrival_held, arrival_outcome, copied_packets, passed_held, received_commands, received_held, received_outcome, restarted_held, sensed_held};
-ghost use Rattle.pldm_responder.specs.declared.outcome.Outcome.TheVariants.{Answered};
+ghost use Rattle.pldm_responder.specs.declared.taken.Taken.TheVariants.{Answered};
 ghost use Rattle.pldm_responder.specs.Wants.{ArrivalWants, PassedWants, WantsMemory};
 
-use crate::kept_answer::KeptAnswer;
 use crate::kept_answers::KeptAnswers;
 use crate::outcome::Outcome;
-use crate::performing::{Performed, busy_answer, perform};
+use crate::performing::{perform, refuse};
+use crate::taken::Taken;
 use mctp_assembly::{Assembler, Fed, Key};
 use mctp_packet::{
     Body, Eid, FIRST_EID, Keep, LAST_EID, MOST_MESSAGE_BYTES, Memory, Moment, PacketRef, Packets,
     Reason, Route, TAGS, Tag, read_for, split,
 };
 use pldm_device::{Platform, ReadingFault};
-use pldm_wire::{INSTANCE_IDS, read_request};
+use pldm_wire::{Code, INSTANCE_IDS, read_request};
 use std::alloc::Global;
 use std::marker::Model;
 
@@ -182,18 +184,46 @@ impl<P: Platform> Responder<P> {
         ensures err { OnErr result (IsHeld (held_of self.new) (held_of self.old)) }
         ensures none_performed { OnErr result (P.performed self.old.platform [] self.new.platform) }
     {
-        let outcome = match read_for(self.own, bytes) {
-            Err(reason) => Outcome::Dropped(reason),
-            Ok(packet) => self.take(now, &packet)?,
+        let packet = match read_for(self.own, bytes) {
+            Ok(packet) => packet,
+            Err(reason) => {
+                self.last = now;
+                return Ok(Outcome::Dropped(reason));
+            }
         };
+        let mut reply = Body::new();
+        let taken = self.take(now, &packet, &mut reply)?;
         self.last = now;
-        Ok(outcome)
+        match taken {
+            Taken::Dropped(reason) => Ok(Outcome::Dropped(reason)),
+            Taken::Partial => Ok(Outcome::Partial),
+            Taken::Answered { fresh, changed } => {
+                match split(&way_back(self.own, packet.route()), &reply) {
+                    Ok(packets) => Ok(Outcome::Answered {
+                        fresh,
+                        changed,
+                        packets,
+                    }),
+                    Err(_) => unreachable!(),
+                }
+            }
+        }
     }
 
-    /// Takes a packet that is addressed to the endpoint by another one.
-    fn take(&mut self, now: Moment, packet: &PacketRef<'_>) -> Result<Outcome, Memory>
+    /// Takes a packet that is addressed to the endpoint by another one. The message that answers it is
+    /// put into `reply`.
+    fn take(
+        &mut self,
+        now: Moment,
+        packet: &PacketRef<'_>,
+        reply: &mut Body,
+    ) -> Result<Taken, Memory>
         requires { packet.now.route.source ≢ self.old.own }
-        ensures outcome { IfOk result (λ outcome. outcome ≡ arrival_outcome (rules_of P.answer P.after P.sensed) (held_of self.old) (passed_arrival (answer self.old.open_messages) now (passed is_expected (Ok packet.now)))) }
+        ensures outcome { IfOk result (λ taken.
+            answering self.old.own (message_of packet.now.route.source packet.now.route.tag now []) reply.new.items taken
+            ≡ arrival_outcome (rules_of P.answer P.after P.sensed) (held_of self.old)
+            (passed_arrival (answer self.old.open_messages) now (passed is_expected (Ok packet.now)))) }
+        ensures some { IfOk result (HasReply reply.new.items) }
         ensures fits { OnOk result (ArrivalFits (rules_of P.answer P.after P.sensed) (held_of self.old) (passed_arrival (answer self.old.open_messages) now (passed is_expected (Ok packet.now)))) }
         ensures held { OnOk result (IsHeld (held_of self.new) (passed_held (rules_of P.answer P.after P.sensed) (held_of self.old) now (passed is_expected (Ok packet.now)))) }
         ensures performed { OnOk result (P.performed self.old.platform (arrival_commands (held_of self.old) (passed_arrival (answer self.old.open_messages) now (passed is_expected (Ok packet.now)))) self.new.platform) }
@@ -203,87 +233,136 @@ impl<P: Platform> Responder<P> {
     {
         let route = packet.route();
         if !route.owner {
-            return Ok(Outcome::Dropped(Reason::BadTag));
+            return Ok(Taken::Dropped(Reason::BadTag));
         }
-        let _ranges = (route.source.get(), route.tag.get());
-        let key = Key {
-            source: route.source,
-            tag: route.tag,
-            owner: route.owner,
+        let Some(message) = self.alone(packet) else {
+            return self.take_piece(now, packet, reply);
         };
-        match self.assembler.look(packet) {
+        let taken = self.serve(now, route.source, route.tag, message, reply)?;
+        self.assembler.forget(key_of(packet));
+        Ok(taken)
+    }
+
+    /// The message of a packet that is both a start and an end packet: its payload, whatever is open.
+    fn alone<'a>(&self, packet: &PacketRef<'a>) -> Option<&'a [u8]>
+        ensures whole { IfSome result (λ message. Whole (record { items = message.now }) ≡ answer self.now.open_messages packet.now) }
+        ensures few { IfSome result (λ message. length message.now ≤ MOST_MESSAGE_BYTES) }
+    {
+        if packet.start() && packet.end() {
+            Some(packet.payload())
+        } else {
+            None
+        }
+    }
+
+    /// Takes a packet with TO 1, whatever its place in its message.
+    #[inline(never)]
+    fn take_piece(
+        &mut self,
+        now: Moment,
+        packet: &PacketRef<'_>,
+        reply: &mut Body,
+    ) -> Result<Taken, Memory>
+        requires owner { packet.now.route.owner ≡ true }
+        requires other { packet.now.route.source ≢ self.old.own }
+        ensures outcome { IfOk result (λ taken.
+            answering self.old.own (message_of packet.now.route.source packet.now.route.tag now []) reply.new.items taken
+            ≡ arrival_outcome (rules_of P.answer P.after P.sensed) (held_of self.old)
+            (passed_arrival (answer self.old.open_messages) now (passed is_expected (Ok packet.now)))) }
+        ensures some { IfOk result (HasReply reply.new.items) }
+        ensures fits { OnOk result (ArrivalFits (rules_of P.answer P.after P.sensed) (held_of self.old) (passed_arrival (answer self.old.open_messages) now (passed is_expected (Ok packet.now)))) }
+        ensures held { OnOk result (IsHeld (held_of self.new) (passed_held (rules_of P.answer P.after P.sensed) (held_of self.old) now (passed is_expected (Ok packet.now)))) }
+        ensures performed { OnOk result (P.performed self.old.platform (arrival_commands (held_of self.old) (passed_arrival (answer self.old.open_messages) now (passed is_expected (Ok packet.now)))) self.new.platform) }
+        ensures memory { OnErr result (PassedWants (held_of self.old) P.STEADY now (passed is_expected (Ok packet.now))) }
+        ensures err { OnErr result (IsHeld (held_of self.new) (held_of self.old)) }
+        ensures none_performed { OnErr result (P.performed self.old.platform [] self.new.platform) }
+    {
+        let route = packet.route();
+        let key = key_of(packet);
+        match &self.assembler.look(packet) {
             Fed::Whole(message) => {
-                let outcome = self.serve(now, route.source, route.tag, message)?;
+                let taken = self.serve(now, route.source, route.tag, message, reply)?;
                 self.assembler.forget(key);
-                Ok(outcome)
+                Ok(taken)
             }
             Fed::Partial => {
                 self.assembler.feed(packet)?;
-                Ok(Outcome::Partial)
+                Ok(Taken::Partial)
             }
             Fed::Dropped(reason) => {
                 self.assembler.forget(key);
-                Ok(Outcome::Dropped(reason))
+                Ok(Taken::Dropped(*reason))
             }
         }
     }
 
-    /// Serves a whole message, whose packets had this source and tag.
+    /// Serves a whole message, whose packets had this source and tag. The message that answers it is put
+    /// into `reply`.
     fn serve(
         &mut self,
         now: Moment,
         source: Eid,
         tag: Tag,
-        message: Body,
-    ) -> Result<Outcome, Memory>
-        requires { source ≢ self.old.own }
-        ensures outcome { IfOk result (λ outcome. outcome ≡ arrival_outcome (rules_of P.answer P.after P.sensed) (held_of self.old) (headed (message_of source tag now message.items) (request_of message.items))) }
-        ensures fits { OnOk result (ArrivalFits (rules_of P.answer P.after P.sensed) (held_of self.old) (headed (message_of source tag now message.items) (request_of message.items))) }
-        ensures held { OnOk result (IsHeld (held_of self.new) (arrival_held (rules_of P.answer P.after P.sensed) (held_of self.old) (headed (message_of source tag now message.items) (request_of message.items)))) }
-        ensures performed { OnOk result (P.performed self.old.platform (arrival_commands (held_of self.old) (headed (message_of source tag now message.items) (request_of message.items))) self.new.platform) }
-        ensures memory { OnErr result ((start : Bool) → ArrivalWants (held_of self.old) P.STEADY start (headed (message_of source tag now message.items) (request_of message.items))) }
+        message: &[u8],
+        reply: &mut Body,
+    ) -> Result<Taken, Memory>
+        requires other { source ≢ self.old.own }
+        requires few { length message.now ≤ MOST_MESSAGE_BYTES }
+        ensures outcome { IfOk result (λ taken.
+            answering self.old.own (message_of source tag now []) reply.new.items taken
+            ≡ arrival_outcome (rules_of P.answer P.after P.sensed) (held_of self.old)
+            (headed (message_of source tag now message.now) (request_of message.now))) }
+        ensures some { IfOk result (HasReply reply.new.items) }
+        ensures fits { OnOk result (ArrivalFits (rules_of P.answer P.after P.sensed) (held_of self.old) (headed (message_of source tag now message.now) (request_of message.now))) }
+        ensures held { OnOk result (IsHeld (held_of self.new) (arrival_held (rules_of P.answer P.after P.sensed) (held_of self.old) (headed (message_of source tag now message.now) (request_of message.now)))) }
+        ensures performed { OnOk result (P.performed self.old.platform (arrival_commands (held_of self.old) (headed (message_of source tag now message.now) (request_of message.now))) self.new.platform) }
+        ensures memory { OnErr result ((start : Bool) → ArrivalWants (held_of self.old) P.STEADY start (headed (message_of source tag now message.now) (request_of message.now))) }
         ensures err { OnErr result (IsHeld (held_of self.new) (held_of self.old)) }
         ensures none_performed { OnErr result (P.performed self.old.platform [] self.new.platform) }
     {
-        let request = match read_request(&message) {
+        let request = match read_request(message) {
             Ok(request) => request,
-            Err(reason) => return Ok(Outcome::Dropped(reason)),
+            Err(reason) => return Ok(Taken::Dropped(reason)),
         };
         if now.get() < self.serves_from {
-            let answer = busy_answer(&request);
-            let packets = packets_back(self.own, source, tag, &answer);
-            return Ok(not_performed(packets));
+            refuse(&request, Code::ERROR_NOT_READY, reply);
+            return Ok(not_performed());
         }
         let id = request.id();
-        if let Some(packets) = self.copied(now, source, tag, id, &message) {
-            return Ok(not_performed(packets));
+        if self.copied(now, source, tag, id, message, reply) {
+            return Ok(not_performed());
         }
         self.kept.make_room(source)?;
-        let Performed { answer, changed } = perform(self.alloc, &mut self.platform, &request)?;
-        let packets = packets_back(self.own, source, tag, &answer);
-        let kept = KeptAnswer {
-            moment: now,
-            bytes: message,
-            answer,
-        };
-        self.kept.put(source, id, kept);
-        Ok(Outcome::Answered {
+        let changed = perform(self.alloc, &mut self.platform, &request, reply)?;
+        self.kept.put(source, id, now, message, reply);
+        Ok(Taken::Answered {
             fresh: true,
             changed,
-            packets,
         })
     }
 
-    /// The packets of the kept answer, where a message of this instance ID is a copy.
-    fn copied(&self, now: Moment, source: Eid, tag: Tag, id: u8, message: &[u8]) -> Option<Packets>
+    /// Whether a message of this instance ID is a copy. The kept answer is then put into `reply`.
+    fn copied(
+        &self,
+        now: Moment,
+        source: Eid,
+        tag: Tag,
+        id: u8,
+        message: &[u8],
+        reply: &mut Body,
+    ) -> bool
         requires { id < ids }
-        ensures { result ≡ copied_packets self.now.own self.now.keep (message_of source tag now message.now) (kept_in self.now.rows source id) }
+        ensures packets { copied_packets self.now.own self.now.keep (message_of source tag now message.now) (kept_in self.now.rows source id)
+            ≡ packets_if result (packets_back self.now.own (message_of source tag now []) reply.new.items) }
+        ensures some { result ≡ true → 0 < length reply.new.items }
     {
-        let kept = self.kept.get(source, id)?;
-        if kept.is_repeated(self.keep, now, message) {
-            Some(packets_back(self.own, source, tag, &kept.answer))
-        } else {
-            None
+        match self.kept.get(source, id) {
+            Some(kept) if kept.is_repeated(self.keep, now, message) => {
+                reply.clear();
+                reply.try_extend_from_slice(&kept.answer).unwrap();
+                true
+            }
+            _ => false,
         }
     }
 
@@ -310,28 +389,38 @@ impl<P: Platform> Responder<P> {
     }
 }
 
-/// What becomes of a message that is answered and not performed.
-fn not_performed(packets: Packets) -> Outcome
-    ensures { result ≡ Answered false false packets }
+/// The key of a packet.
+fn key_of(packet: &PacketRef<'_>) -> Key
+    ensures value { result ≡ key_of packet.now }
+    ensures range { IsKey result }
 {
-    Outcome::Answered {
-        fresh: false,
-        changed: false,
-        packets,
+    let route = packet.route();
+    let _ranges = (route.source.get(), route.tag.get());
+    Key {
+        source: route.source,
+        tag: route.tag,
+        owner: route.owner,
     }
 }
 
-/// The packets that carry an answer back to the source of its request.
-fn packets_back(own: Eid, source: Eid, tag: Tag, answer: &[u8]) -> Packets
-    requires some { 0 < length answer.now }
-    requires few { length answer.now ≤ MOST_MESSAGE_BYTES }
-    ensures { result ≡ written_packets (record { destination = source; source = own; owner = false; tag = tag }) answer.now }
+/// What becomes of a message that is answered and not performed.
+fn not_performed() -> Taken
+    ensures { result ≡ Answered false false }
 {
-    let back = Route {
-        destination: source,
+    Taken::Answered {
+        fresh: false,
+        changed: false,
+    }
+}
+
+/// The way back to where packets with this route came from.
+fn way_back(own: Eid, route: Route) -> Route
+    ensures { result ≡ record { destination = route.source; source = own; owner = false; tag = route.tag } }
+{
+    Route {
+        destination: route.source,
         source: own,
         owner: false,
-        tag,
-    };
-    split(&back, answer).unwrap()
+        tag: route.tag,
+    }
 }

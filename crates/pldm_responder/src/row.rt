@@ -1,10 +1,11 @@
-ghost use Rattle.std.specs.Prelude.{◌≡◌, ℕ, ◌<◌, Some, None, IfOk, slice_set, length};
+ghost use Rattle.std.specs.Prelude.{◌≡◌, ℕ, ◌<◌, ◌≤◌, Some, None, IfOk, slice_set, length, not, is_some};
+ghost use Rattle.mctp_packet.specs.declared.TheConstants.{MOST_MESSAGE_BYTES};
 ghost use Rattle.std.specs.Option.{option_copied};
 ghost use Rattle.pldm_wire.specs.declared.assigned.TheConstants.{INSTANCE_IDS as ids};
 ghost use Rattle.pldm_responder.specs.Slots.{in_slot};
 
 use crate::kept_answer::KeptAnswer;
-use mctp_packet::Memory;
+use mctp_packet::{Memory, Moment};
 use pldm_wire::INSTANCE_IDS;
 use std::alloc::Global;
 use std::marker::Model;
@@ -31,6 +32,7 @@ impl Model for Row {
 
 impl Row {
     /// A row of empty slots, taken in one reservation.
+    #[inline(never)]
     pub(crate) fn new(alloc: Global) -> Result<Row, Memory>
         ensures { IfOk result (λ row. (id : ℕ) → in_slot row id ≡ None) }
     {
@@ -50,12 +52,34 @@ impl Row {
         self.slots[usize::from(id)].as_ref()
     }
 
-    /// Puts an answer into the slot of an instance ID, in the place of the one that was there.
-    pub(crate) fn put(&mut self, id: u8, answer: KeptAnswer)
-        requires { id < ids }
-        ensures slots { self.new ≡ slice_set self.old id (Some answer) }
+    /// Puts an answer into the slot of an instance ID, in the place of the one that was there. It gives
+    /// whether there was none.
+    pub(crate) fn put(&mut self, id: u8, moment: Moment, bytes: &[u8], answer: &[u8]) -> bool
+        requires id { id < ids }
+        requires bytes { length bytes.now ≤ MOST_MESSAGE_BYTES }
+        requires some { 0 < length answer.now }
+        requires few { length answer.now ≤ MOST_MESSAGE_BYTES }
+        ensures slots { self.new ≡ slice_set self.old id (Some (record { moment = moment; bytes = bytes.now; answer = answer.now })) }
         ensures room { id < length self.old }
+        ensures first { result ≡ not (is_some (in_slot self.old id)) }
     {
-        self.slots[usize::from(id)] = Some(answer);
+        if let Some(kept) = &mut self.slots[usize::from(id)] {
+            kept.replace(moment, bytes, answer);
+            return false;
+        }
+        self.fill(id, moment, bytes, answer);
+        true
+    }
+
+    /// Puts an answer into the slot of an instance ID.
+    #[inline(never)]
+    fn fill(&mut self, id: u8, moment: Moment, bytes: &[u8], answer: &[u8])
+        requires id { id < ids }
+        requires bytes { length bytes.now ≤ MOST_MESSAGE_BYTES }
+        requires some { 0 < length answer.now }
+        requires few { length answer.now ≤ MOST_MESSAGE_BYTES }
+        ensures { self.new ≡ slice_set self.old id (Some (record { moment = moment; bytes = bytes.now; answer = answer.now })) }
+    {
+        self.slots[usize::from(id)] = Some(KeptAnswer::new(moment, bytes, answer));
     }
 }

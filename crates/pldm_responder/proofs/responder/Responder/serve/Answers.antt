@@ -1,23 +1,22 @@
-use Rattle.std.proofs.Common.{◌∙◌, ℕ, List, cond, ◌&&◌, ◌==◌, Some, Ok, ap, sym, arith}
-use Rattle.pldm_wire.specs.Requests.{request_of}
+use Rattle.std.proofs.Common.{◌∙◌, ℕ, cond, ◌&&◌, ◌==◌, Some, Ok, ap, sym, arith}
 use Rattle.pldm_responder.specs.Arrivals.{message_of}
 use Rattle.pldm_responder.specs.Held.{Entry}
 use Rattle.pldm_responder.specs.Performing.{rules_of, reply_to, next_after}
 use Rattle.pldm_responder.specs.Slots.{kept_in}
 use Rattle.pldm_responder.specs.Stations.{Station}
 use Rattle.pldm_responder.specs.Steps.{copied_packets}
-use Rattle.pldm_responder.proofs.ServedMessages.{at_error, wants_once_performed, held_once_performed}
+use Rattle.pldm_responder.proofs.ServedMessages.{at_error, no_copy, wants_once_performed, held_once_performed}
 use Rattle.pldm_responder.proofs.responder.Responder.serve.Goals as goal
 
-pub returns-in_err-answer-clause-memory : goal.returns-in_err-answer-clause-memory
-returns-in_err-answer-clause-memory g c =
+pub returns-in_err-changed-clause-memory : goal.returns-in_err-changed-clause-memory
+returns-in_err-changed-clause-memory g c =
     let before = c.args.self.now in
-    let copied = λ (bytes : List ℕ) (id : ℕ). copied_packets before.own before.keep (message_of c.args.source c.args.tag c.args.now bytes) (kept_in before.rows c.args.source id) in
-    at_error _ (wants_once_performed before (message_of c.args.source c.args.tag c.args.now c.args.message.items) c.in-Ok.request
-    (ap request_of (sym c.deref.ensures.0) ∙ sym c.in-Ok.ensures.exact)
+    let copied = λ (id : ℕ). copied_packets before.own before.keep (message_of c.args.source c.args.tag c.args.now c.args.message.now) (kept_in before.rows c.args.source id) in
+    at_error _ (wants_once_performed before (message_of c.args.source c.args.tag c.args.now c.args.message.now) c.in-Ok.request
+    (sym c.in-Ok.ensures.exact)
     (omega (arith, c.if-get-self.false, c.get.ensures.value, ap (λ (s : Station g.row.P.Denot g.row.P-State.Denot). s.serves_from) c.self.view_is))
-    (◌∙◌ {b = copied c.deref-2.result.now c.id-id.result} (◌∙◌ {b = c.copied.result} (sym c.in_default.is) c.copied.ensures) (ap (λ bytes. copied bytes c.id-id.result) c.deref-2.ensures.0 ∙ ap (copied c.args.message.items) c.id-id.ensures.value))
-    g.P.Platform.STEADY (λ steady id. cc (c.in_err-answer.ensures.steady steady)))
+    (no_copy c.copied.result _ (copied c.id-id.result) c.copied.ensures.packets c.if-copied.false ∙ ap copied c.id-id.ensures.value)
+    g.P.Platform.STEADY (λ steady id. cc (c.in_err-changed.ensures.steady steady)))
 
 pub returns-clause-held : goal.returns-clause-held
 returns-clause-held g c =
@@ -36,18 +35,19 @@ returns-clause-held g c =
       serves_from = c.self.inside.serves_from;
       last = c.self.inside.last;
     } in
-    let entry : Entry = record { moment = c.args.now; bytes = c.args.message.items; answer = c.in_ok-answer.field-0.answer.items } in
-    let copied = λ (bytes : List ℕ) (id : ℕ). copied_packets before.own before.keep (message_of c.args.source c.args.tag c.args.now bytes) (kept_in before.rows c.args.source id) in
-    held_once_performed before (message_of c.args.source c.args.tag c.args.now c.args.message.items) request
-    (ap request_of (sym c.deref.ensures.0) ∙ sym c.in-Ok.ensures.exact)
+    let entry : Entry = record { moment = c.args.now; bytes = c.args.message.now; answer = c.perform.new.reply.items } in
+    let copied = λ (id : ℕ). copied_packets before.own before.keep (message_of c.args.source c.args.tag c.args.now c.args.message.now) (kept_in before.rows c.args.source id) in
+    held_once_performed before (message_of c.args.source c.args.tag c.args.now c.args.message.now) request
+    (sym c.in-Ok.ensures.exact)
     (omega (arith, c.if-get-self.false, c.get.ensures.value, ap (λ (s : Station g.row.P.Denot g.row.P-State.Denot). s.serves_from) view))
-    (◌∙◌ {b = copied c.deref-2.result.now c.id-id.result} (◌∙◌ {b = c.copied.result} (sym c.in_default.is) c.copied.ensures) (ap (λ bytes. copied bytes c.id-id.result) c.deref-2.ensures.0 ∙ ap (copied c.args.message.items) c.id-id.ensures.value))
-    device new c.in_ok-answer.field-0.answer.items
-    (◌∙◌ {b = reply_to device (g.P.Platform.state c.self.inside.platform) (Ok request)} c.in_ok-answer.ensures.answer (ap (λ s. reply_to device s (Ok request)) state))
+    (no_copy c.copied.result _ (copied c.id-id.result) c.copied.ensures.packets c.if-copied.false ∙ ap copied c.id-id.ensures.value)
+    device new c.perform.new.reply.items
+    (◌∙◌ {b = reply_to device (g.P.Platform.state c.self.inside.platform) (Ok request)} c.in_ok-changed.ensures.answer (ap (λ s. reply_to device s (Ok request)) state))
     (λ other i. c.put.ensures other i
+    ∙ ap (λ answer. cond (c.args.source == other && c.id-id.result == i) (Some (record { moment = c.args.now; bytes = c.args.message.now; answer = answer })) (kept_in c.make_room.new.self other i)) c.deref.ensures.0
     ∙ ap (λ id. cond (c.args.source == other && id == i) (Some entry) (kept_in c.make_room.new.self other i)) c.id-id.ensures.value
     ∙ ap (λ o. cond (c.args.source == other && request.id == i) (Some entry) o) (c.make_room.ensures.same other i ∙ ap (λ (s : Station g.row.P.Denot g.row.P-State.Denot). kept_in s.rows other i) view))
-    (◌∙◌ {b = next_after device (g.P.Platform.state c.self.inside.platform) (Ok request)} c.in_ok-answer.ensures.state (ap (λ s. next_after device s (Ok request)) state))
+    (◌∙◌ {b = next_after device (g.P.Platform.state c.self.inside.platform) (Ok request)} c.in_ok-changed.ensures.state (ap (λ s. next_after device s (Ok request)) state))
     (ap (λ (s : Station g.row.P.Denot g.row.P-State.Denot). s.own) view)
     (ap (λ (s : Station g.row.P.Denot g.row.P-State.Denot). s.keep) view)
     (ap (λ (s : Station g.row.P.Denot g.row.P-State.Denot). s.open_messages) view)

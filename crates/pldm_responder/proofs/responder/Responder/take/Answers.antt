@@ -1,10 +1,6 @@
-use Rattle.std.proofs.Common.{◌≡◌, ◌∙◌, Bool, true, false, not, ap, sym, subst, refl}
-use Rattle.mctp_packet.specs.Ids.{IsEid, IsTag}
-use Rattle.mctp_packet.specs.declared.packet.Route.{Route}
-use Rattle.mctp_assembly.specs.Keys.{key_of}
-use Rattle.mctp_assembly.specs.Steps.{answer}
-use Rattle.pldm_responder.specs.Stations.{Station, IsAsked, held_of}
-use Rattle.pldm_responder.proofs.AskedKeys.{asked_without, asked_after}
+use Rattle.std.proofs.Common.{◌≡◌, Bool, true, false, not, refl}
+use Rattle.pldm_responder.specs.Stations.{held_of}
+use Rattle.pldm_responder.proofs.AskedKeys.{asked_without}
 use Rattle.pldm_responder.proofs.ServedMessages.{at_error, wants_when_whole}
 use Rattle.pldm_responder.proofs.responder.Responder.take.Goals as goal
 
@@ -14,26 +10,9 @@ true_by false h = cc
 
 pub invariant_of-self : goal.invariant_of-self
 invariant_of-self g c =
-    (rw c.forget.ensures (asked_without c.self-in-Whole.inside.own c.self-in-Whole.inside.assembler _ c.self-in-Whole.invariant.0), c.self-in-Whole.invariant.1)
+    (rw c.forget.ensures (asked_without c.self.inside.own c.self.inside.assembler _ c.self.invariant.0), c.self.invariant.1)
 
-pub invariant_of-self-in-Partial : goal.invariant_of-self-in-Partial
-invariant_of-self-in-Partial g c =
-    let own = ap (λ (s : Station g.row.P.Denot g.row.P-State.Denot). s.own) c.self.view_is in
-    let route = c.route-route.ensures in
-    let asked : IsAsked c.self.inside.own (key_of c.args.packet.now) = record {
-      ranges = subst (λ (r : Route). IsEid r.source × IsTag r.tag) route (c.get.ensures.range, c.get-2.ensures.range);
-      owner = sym (ap (λ (r : Route). r.owner) route) ∙ true_by _ c.if-not-route.false;
-      other = λ same. c.requires (same ∙ own);
-    } in
-    (rw c.in_ok-feed-in-Partial.ensures.ok (asked_after c.self.inside.own c.self.inside.assembler c.args.packet.now asked c.self.invariant.0), c.self.invariant.1)
-
-pub invariant_of-self-in-Dropped : goal.invariant_of-self-in-Dropped
-invariant_of-self-in-Dropped g c =
-    (rw c.forget-in-Dropped.ensures (asked_without c.self.inside.own c.self.inside.assembler _ c.self.invariant.0), c.self.invariant.1)
-
-pub returns-in_err-outcome-in-Whole-clause-memory : goal.returns-in_err-outcome-in-Whole-clause-memory
-returns-in_err-outcome-in-Whole-clause-memory g c =
-    let view = ap (λ (s : Station g.row.P.Denot g.row.P-State.Denot). s.open_messages) c.self.view_is in
-    at_error _ (wants_when_whole (held_of c.args.self.now) g.P.Platform.STEADY c.args.now c.args.packet.now c.route-route.result c.in-Whole.message.items
-    c.route-route.ensures (true_by _ c.if-not-route.false) (c.in-Whole.ensures ∙ ap (λ m. answer m c.args.packet.now) view)
-    c.in_err-outcome-in-Whole.ensures.memory)
+pub returns-in_err-taken-clause-memory : goal.returns-in_err-taken-clause-memory
+returns-in_err-taken-clause-memory g c =
+    at_error _ (wants_when_whole (held_of c.args.self.now) g.P.Platform.STEADY c.args.now c.args.packet.now c.route-route.result c.in-Some.message.now
+    c.route-route.ensures (true_by _ c.if-not-route.false) c.in-Some.ensures.whole c.in_err-taken.ensures.memory)
