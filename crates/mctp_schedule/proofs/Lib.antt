@@ -5,7 +5,6 @@ pub mod FoundCommands
 pub mod FreshOrder
 pub mod GivenReplies
 pub mod JoinedLogs
-pub mod LineSplits
 pub mod LongLines
 pub mod Numbers
 pub mod ReadLines

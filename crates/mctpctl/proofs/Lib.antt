@@ -6,7 +6,6 @@ pub mod DescribedGlue
 pub mod DividerRows
 pub mod KnownInputs
 pub mod LineGlue
-pub mod LineSplits
 pub mod LookingBack
 pub mod PieceRuns
 pub mod RunsOverLines

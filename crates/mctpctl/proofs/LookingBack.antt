@@ -1,11 +1,12 @@
 -- The run over what the responder holds writes the same as the run that looks back over all packets.
 use Rattle.std.proofs.Common.{◌≡◌, ℕ, Bool, if◌then◌else◌, List, [], length, nat_lt, Option, None, Some, Result, Ok, Err, refl, sym, subst, ap}
+use Rattle.line_words.specs.TextLines.{lines_of}
 use Rattle.mctpctl.specs.AnswerText.{stepped, described_run, divided_run, run_of, simulated, with_packet, called_step, called_run}
 use Rattle.mctpctl.specs.CaptureLine.{TimedPacket, capture_of}
 use Rattle.mctpctl.specs.HeldRuns.{held_step, held_run}
 use Rattle.mctpctl.specs.LineRuns.{stops_at}
 use Rattle.mctpctl.specs.OutcomeTexts.{outcome_text}
-use Rattle.mctpctl.specs.TextLines.{lines_of, capture_lines, description_of}
+use Rattle.mctpctl.specs.TextLines.{capture_lines, description_of}
 use Rattle.mctpctl.specs.declared.faults.EngineFault.TheVariants.{TooLarge}
 use Rattle.mctpctl.specs.declared.faults.LineKind.{LineKind}
 use Rattle.mctpctl.specs.declared.limits.TheConstants.{MAX_DESCRIPTION}

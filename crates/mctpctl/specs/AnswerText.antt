@@ -1,10 +1,11 @@
 -- What `mctpctl answer` writes of an input: a device description, the line that divides, and a capture.
 use Rattle.std.specs.Prelude.{ℕ, nat_lt, Bool, if◌then◌else◌, List, [], ◌∷◌, length, take}
 use Rattle.std.specs.Prelude.{Option, None, Some, Result, Ok, Err}
+use Rattle.line_words.specs.TextLines.{lines_of}
 use Rattle.mctpctl.specs.CaptureLine.{TimedPacket, capture_of}
 use Rattle.mctpctl.specs.LineRuns.{Written, stops_at, lines_written}
 use Rattle.mctpctl.specs.OutcomeTexts.{outcome_text}
-use Rattle.mctpctl.specs.TextLines.{lines_of, capture_lines, description_of}
+use Rattle.mctpctl.specs.TextLines.{capture_lines, description_of}
 use Rattle.mctpctl.specs.declared.faults.EngineFault.TheVariants as faults
 use Rattle.mctpctl.specs.declared.faults.LineKind.{LineKind}
 use Rattle.mctpctl.specs.declared.limits.TheConstants.{MAX_INPUT, MAX_DESCRIPTION}
