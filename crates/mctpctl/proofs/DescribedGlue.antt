@@ -9,7 +9,7 @@ use Rattle.mctpctl.specs.AnswerText.{described_run, divided_run, run_of}
 use Rattle.mctpctl.specs.DescribedPieces.{run_described, description_gives, begun, device_begun}
 use Rattle.mctpctl.specs.HeldRuns.{held_step, held_run}
 use Rattle.mctpctl.specs.LinePieces.{glued, line_gives}
-use Rattle.mctpctl.specs.LineRuns.{Written, stops_at, after_text, lines_written}
+use Rattle.mctpctl.specs.LineRuns.{Written, stops_at, lines_written}
 use Rattle.mctpctl.specs.Pieces.{Gives, GoesOn, StopsWith, Takes, Finishes}
 use Rattle.mctpctl.specs.AnswerPieces.{nothing_where_cut}
 use Rattle.mctpctl.proofs.PieceRuns.{goes_after, stops_after, front_text}

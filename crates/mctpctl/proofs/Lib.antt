@@ -7,7 +7,11 @@ pub mod DividerRows
 pub mod KnownInputs
 pub mod LineGlue
 pub mod LookingBack
+pub mod ObservedEntries
 pub mod PieceRuns
 pub mod RunsOverLines
+pub mod RunsToEnd
+pub mod SameCaptures
 pub mod SameHeld
+pub mod ShownLookingBack
 pub mod Numbers

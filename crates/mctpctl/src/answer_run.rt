@@ -4,7 +4,7 @@ ghost use Rattle.std.specs.Prelude.{◌≡◌, ◌≢◌, ◌≤◌, ◌<◌, �
 ghost use Rattle.line_words.specs.TextLines.{HasNoFeed};
 ghost use Rattle.mctpctl.specs.DescribedPieces.{description_gives, described_gives, described_count, Begins, Describes};
 ghost use Rattle.mctpctl.specs.AnswerPieces.{past_gives, past_count, nothing_where_cut};
-ghost use Rattle.mctpctl.specs.HeldRefusals.{held_refuses};
+ghost use Rattle.mctpctl.specs.LongLines.{held_refuses};
 ghost use Rattle.mctpctl.specs.HeldRuns.{held_step, held_run};
 ghost use Rattle.mctpctl.specs.LinePieces.{line_gives, AddsLine};
 ghost use Rattle.mctpctl.specs.Pieces.{GoesOn, Takes, Finishes};
