@@ -13,5 +13,6 @@ pub mod RunsOverLines
 pub mod RunsToEnd
 pub mod SameCaptures
 pub mod SameHeld
+pub mod ShowRows
 pub mod ShownLookingBack
 pub mod Numbers

@@ -1,6 +1,6 @@
 //! What `mctpctl show` makes of the packets of a capture.
 
-ghost use Rattle.std.specs.Prelude.{◌≡◌, ◌≢◌, ℕ, List, Result, Err, IfOk, OnOk, OnErr, string_bytes};
+ghost use Rattle.std.specs.Prelude.{◌≡◌, ◌≢◌, Err, IfOk, OnOk, string_bytes};
 ghost use Rattle.mctpctl.specs.LinePieces.{AddsLine};
 ghost use Rattle.mctpctl.specs.LongLines.{observed_refuses};
 ghost use Rattle.mctpctl.specs.ObservedRuns.{Observed, given_at, none_observed, observed_of, observed_step, open_after, open_in, open_with};
