@@ -1,10 +1,13 @@
-//! The words of a line of text, and the numbers that they spell. A space (0x20) alone separates words.
+//! The lines of a text, the words of a line, and the numbers that words spell. LF alone ends a line, and
+//! a space (0x20) alone separates words.
 #![tactic(auto)]
 
 mod limits;
+mod lines;
 mod numbers;
 mod words;
 
 pub use limits::MAX_DIGITS;
+pub use lines::split_line;
 pub use numbers::{read_decimal, read_number, read_value};
 pub use words::{first_word, split_word, without_cr};

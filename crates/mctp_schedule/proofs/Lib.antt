@@ -9,7 +9,6 @@ pub mod GivenReplies
 pub mod HandedAnswers
 pub mod JoinedLogs
 pub mod KnownRequests
-pub mod LineSplits
 pub mod LongLines
 pub mod Numbers
 pub mod ReadLines

@@ -1,7 +1,8 @@
 -- The schedule that a text spells, or its first faulty line.
 use Rattle.std.specs.Prelude.{◌≡◌, ℕ, ◌+◌, ◌≤◌, ◌==◌, nat_lt, Bool, true, false, List, [], ◌∷◌, ◌++◌, Result, Ok, Err, ◌⊎◌, if◌then◌else◌}
-use Rattle.std.specs.List.{list_any, slice_split}
+use Rattle.std.specs.List.{list_any}
 use Rattle.line_words.specs.Lines.{said_words}
+use Rattle.line_words.specs.TextLines.{lines_of}
 use Rattle.mctp_schedule.specs.LineWords.{line_of}
 use Rattle.mctp_schedule.specs.WordValues.{◌>>=◌}
 use Rattle.mctp_schedule.specs.declared.line.Line.{Line}
@@ -86,10 +87,6 @@ pub record IsSchedule (spelled : Spelled) : Type 0 where
 
 abbrev pub none_spelled : Spelled
 none_spelled = record { requesters = []; steps = [] }
-
--- the pieces between line feeds
-abbrev pub lines_of : List ℕ → List (List ℕ)
-lines_of text = slice_split (λ b. b == 10) text
 
 -- line n and the lines after it, each after those before: what they spell, or the number and kind of the first fault
 abbrev pub spelled_then

@@ -1,10 +1,11 @@
 //! A whole schedule.
 
-ghost use Rattle.std.specs.Prelude.{◌≡◌, ◌≤◌, ◌+◌, ◌++◌, ◌∷◌, [], ◌==◌, Ok, Err, IfOk, IfErr, IfSome, IfNone, OnOk, Some, true, false, length, position};
-ghost use Rattle.mctp_schedule.specs.Schedules.{IsSchedule, TellsFault, TellsKind, after_line, has_requester, is_known, last_moment, lines_of, none_spelled, schedule_of, with_line, with_requester, with_step};
+ghost use Rattle.std.specs.Prelude.{◌≡◌, Ok, IfOk, IfErr, OnOk};
+ghost use Rattle.mctp_schedule.specs.Schedules.{IsSchedule, TellsFault, TellsKind, after_line, has_requester, is_known, last_moment, none_spelled, schedule_of, with_line, with_requester, with_step};
 
 use crate::line::{Line, read_line};
 use crate::{Action, LineFault, LineFaultKind, RequesterLine, Step};
+use line_words::split_line;
 use mctp_packet::Eid;
 use std::alloc::Global;
 use std::marker::Model;
@@ -158,23 +159,6 @@ fn last_moment(steps: &[Step]) -> u64
         Some(step) => step.moment.get(),
         None => 0,
     }
-}
-
-/// The first line, and what follows its LF; `None` where there is no LF, and all is one line.
-fn split_line(text: &[u8]) -> Option<(&[u8], &[u8])>
-    ensures some { IfSome result (λ p. lines_of text.now ≡ p.0.now ∷ lines_of p.1.now) }
-    ensures len { IfSome result (λ p. length p.0.now + length p.1.now + 1 ≡ length text.now) }
-    ensures none { IfNone result (lines_of text.now ≡ text.now ∷ []) }
-{
-    let end = line_end(text)?;
-    Some((&text[..end], &text[end + 1..]))
-}
-
-/// Where the first LF is.
-fn line_end(text: &[u8]) -> Option<usize>
-    ensures { result ≡ position (λ b. b == 10) text.now }
-{
-    text.iter().position(|b| *b == b'\n')
 }
 
 #[cfg(test)]

@@ -4,15 +4,16 @@ use Rattle.std.specs.List.{join_with_byte}
 use Rattle.std.proofs.lemmas.List.Splits.{join_with_byte-slice_split}
 use Rattle.std.proofs.lemmas.Bool.Decides.{nat_tests}
 use Rattle.std.proofs.lemmas.Slice.Eq.{bytes_eq-Decides}
+use Rattle.line_words.specs.TextLines.{HasNoFeed, lines_of}
 use Rattle.mctpctl.specs.AnswerText.{described_run, divided_run, run_of}
 use Rattle.mctpctl.specs.DescribedPieces.{run_described, description_gives, begun, device_begun}
 use Rattle.mctpctl.specs.HeldRuns.{held_step, held_run}
-use Rattle.mctpctl.specs.LinePieces.{HasNoFeed, glued, line_gives}
-use Rattle.mctpctl.specs.LineRuns.{Written, stops_at, after_text, lines_written}
+use Rattle.mctpctl.specs.LinePieces.{glued, line_gives}
+use Rattle.mctpctl.specs.LineRuns.{Written, stops_at, lines_written}
 use Rattle.mctpctl.specs.Pieces.{Gives, GoesOn, StopsWith, Takes, Finishes}
 use Rattle.mctpctl.specs.AnswerPieces.{nothing_where_cut}
 use Rattle.mctpctl.proofs.PieceRuns.{goes_after, stops_after, front_text}
-use Rattle.mctpctl.specs.TextLines.{lines_of, is_divider, capture_lines, description_of}
+use Rattle.mctpctl.specs.TextLines.{is_divider, capture_lines, description_of}
 use Rattle.mctpctl.specs.declared.faults.EngineFault.{EngineFault}
 use Rattle.mctpctl.specs.declared.faults.EngineFault.TheVariants as faults
 use Rattle.line_words.specs.Lines.{without_cr}

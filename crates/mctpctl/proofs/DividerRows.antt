@@ -1,6 +1,7 @@
 -- What the definitions of the divider say of inputs that are written out.
 use Rattle.std.proofs.Common.{◌≡◌, ℕ, List, [], ◌∷◌, ◌++◌, codes, None, Some, refl}
-use Rattle.mctpctl.specs.TextLines.{lines_of, capture_lines, description_of}
+use Rattle.line_words.specs.TextLines.{lines_of}
+use Rattle.mctpctl.specs.TextLines.{capture_lines, description_of}
 
 -- `a`, `%%`, `0` and `%%`, with line feeds between
 with_two : List ℕ

@@ -6,9 +6,13 @@ pub mod DescribedGlue
 pub mod DividerRows
 pub mod KnownInputs
 pub mod LineGlue
-pub mod LineSplits
 pub mod LookingBack
+pub mod ObservedEntries
 pub mod PieceRuns
 pub mod RunsOverLines
+pub mod RunsToEnd
+pub mod SameCaptures
 pub mod SameHeld
+pub mod ShowRows
+pub mod ShownLookingBack
 pub mod Numbers

@@ -1,15 +1,15 @@
 -- The run over what the responder holds writes the same as the run that looks back over all packets.
-use Rattle.std.proofs.Common.{◌≡◌, ℕ, Bool, if◌then◌else◌, List, [], length, nat_lt, Option, None, Some, Result, Ok, Err, refl, sym, subst, ap}
-use Rattle.mctpctl.specs.AnswerText.{stepped, described_run, divided_run, run_of, simulated, with_packet, called_step, called_run}
-use Rattle.mctpctl.specs.CaptureLine.{TimedPacket, capture_of}
+use Rattle.std.proofs.Common.{◌≡◌, ℕ, Bool, if◌then◌else◌, List, [], length, nat_lt, Option, None, Some, Result, Ok, Err, refl, ap}
+use Rattle.line_words.specs.TextLines.{lines_of}
+use Rattle.mctpctl.specs.AnswerText.{described_run, divided_run, run_of, simulated, with_packet, called_step, called_run}
 use Rattle.mctpctl.specs.HeldRuns.{held_step, held_run}
 use Rattle.mctpctl.specs.LineRuns.{stops_at}
 use Rattle.mctpctl.specs.OutcomeTexts.{outcome_text}
-use Rattle.mctpctl.specs.TextLines.{lines_of, capture_lines, description_of}
+use Rattle.mctpctl.specs.TextLines.{capture_lines, description_of}
 use Rattle.mctpctl.specs.declared.faults.EngineFault.TheVariants.{TooLarge}
-use Rattle.mctpctl.specs.declared.faults.LineKind.{LineKind}
 use Rattle.mctpctl.specs.declared.limits.TheConstants.{MAX_DESCRIPTION}
 use Rattle.mctpctl.proofs.RunsOverLines.{SameStep, same_run}
+use Rattle.mctpctl.proofs.SameCaptures.{same_capture_step}
 use Rattle.pldm_device.specs.Descriptions.{stated}
 use Rattle.pldm_device.specs.Devices.{Device}
 use Rattle.pldm_device.specs.declared.description.Description.{Description}
@@ -24,19 +24,14 @@ abbrev IsLeft : Description → Held Device → List Call → Type 0
 IsLeft d held calls = IsLeftBy simulated d.eid d.keep d.device held calls
 
 module _ (received : ReceivedLooksBack simulated) where
-  same_stepped : (d : Description) (held : Held Device) (calls : List Call) (said : Result (Option TimedPacket) LineKind) → IsLeft d held calls → SameStep (IsLeft d)
-      (stepped (λ h. h.last) (received_outcome simulated) (received_held simulated) held said)
-      (stepped last_moment (outcome simulated d.eid d.keep d.device) with_packet calls said)
-  same_stepped d held calls (Err kind) left = refl
-  same_stepped d held calls (Ok None) left = (refl, left)
-  same_stepped d held calls (Ok (Some packet)) left =
-      let back = received d.eid d.keep d.device held calls packet.moment packet.bytes left in
-      (ap outcome_text back.0, back.1)
-
   same_step : (d : Description) (held : Held Device) (calls : List Call) (line : List ℕ) → IsLeft d held calls → SameStep (IsLeft d) (held_step held line) (called_step d calls line)
-  same_step d held calls line left =
-      let Same : Result (Option TimedPacket) LineKind → Type 0 = λ said. SameStep (IsLeft d) (stepped (λ h. h.last) (received_outcome simulated) (received_held simulated) held said) (called_step d calls line) in
-      subst Same (ap (capture_of line) (sym left.last)) (same_stepped d held calls (capture_of line (last_moment calls)) left)
+  same_step d =
+      same_capture_step (λ held. held.last) (λ held moment bytes. outcome_text (received_outcome simulated held moment bytes)) (received_held simulated)
+      last_moment (λ calls moment bytes. outcome_text (outcome simulated d.eid d.keep d.device calls moment bytes)) with_packet (IsLeft d) (record {
+        last = λ held calls left. left.last;
+        gives = λ held calls moment bytes left. ap outcome_text (received d.eid d.keep d.device held calls moment bytes left).0;
+        with = λ held calls moment bytes left. (received d.eid d.keep d.device held calls moment bytes left).1;
+      })
 
   module _ (new : NewLooksBack simulated) where
     same_lines : (d : Description) (is_cut : Bool) (lines : List (List ℕ)) → held_run d is_cut lines ≡ called_run d is_cut lines

@@ -1,13 +1,13 @@
 -- The run of `answer` in pieces, past the line that divides and before it.
 use Rattle.std.specs.Prelude.{◌≡◌, ℕ, ◌+◌, nat_lt, Bool, true, false, if◌then◌else◌}
-use Rattle.std.specs.Prelude.{List, [], ◌∷◌, ◌++◌, length, Option, None, Some, Result, Ok, Err, refl}
+use Rattle.std.specs.Prelude.{List, [], ◌++◌, length, Option, None, Some, Result, Ok, Err, refl}
 use Rattle.mctpctl.specs.AnswerText.{described_run}
 use Rattle.mctpctl.specs.DescribedPieces.{run_described, description_gives, described_gives}
 use Rattle.mctpctl.specs.HeldRuns.{held_step, held_run}
 use Rattle.mctpctl.specs.LinePieces.{line_gives}
-use Rattle.mctpctl.specs.LineRuns.{Written, stops_at}
+use Rattle.mctpctl.specs.LineRuns.{stops_at}
 use Rattle.mctpctl.specs.Pieces.{Gives}
-use Rattle.mctpctl.specs.TextLines.{lines_of, is_divider, capture_lines, description_of}
+use Rattle.mctpctl.specs.TextLines.{is_divider}
 use Rattle.mctpctl.specs.declared.faults.EngineFault.TheVariants as faults
 use Rattle.mctpctl.specs.declared.limits.TheConstants.{MAX_DESCRIPTION}
 use Rattle.mctpctl.specs.declared.line_run.LineRun.{LineRun}

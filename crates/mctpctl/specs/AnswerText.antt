@@ -1,10 +1,11 @@
 -- What `mctpctl answer` writes of an input: a device description, the line that divides, and a capture.
 use Rattle.std.specs.Prelude.{ℕ, nat_lt, Bool, if◌then◌else◌, List, [], ◌∷◌, length, take}
 use Rattle.std.specs.Prelude.{Option, None, Some, Result, Ok, Err}
-use Rattle.mctpctl.specs.CaptureLine.{TimedPacket, capture_of}
+use Rattle.line_words.specs.TextLines.{lines_of}
+use Rattle.mctpctl.specs.CaptureRuns.{capture_step}
 use Rattle.mctpctl.specs.LineRuns.{Written, stops_at, lines_written}
 use Rattle.mctpctl.specs.OutcomeTexts.{outcome_text}
-use Rattle.mctpctl.specs.TextLines.{lines_of, capture_lines, description_of}
+use Rattle.mctpctl.specs.TextLines.{capture_lines, description_of}
 use Rattle.mctpctl.specs.declared.faults.EngineFault.TheVariants as faults
 use Rattle.mctpctl.specs.declared.faults.LineKind.{LineKind}
 use Rattle.mctpctl.specs.declared.limits.TheConstants.{MAX_INPUT, MAX_DESCRIPTION}
@@ -18,19 +19,11 @@ use Rattle.pldm_responder.specs.Calls.{Call, Received, last_moment, outcome}
 use Rattle.pldm_responder.specs.Performing.{Rules, rules_of}
 use Rattle.pldm_responder.specs.declared.outcome.Outcome.{Outcome}
 
--- of what is known of the packets that came before, `last` is the moment of the last one, `gives` says what becomes of
--- bytes that come at a moment, and `with` puts them to it
-module _ {M : Type 0} (last : M → ℕ) (gives : M → ℕ → List ℕ → Outcome) (with : M → ℕ → List ℕ → M) where
-  -- a packet gives the text of its outcome, and a line that is skipped nothing
-  abbrev pub stepped : M → Result (Option TimedPacket) LineKind → Result (List ℕ × M) LineKind
-  stepped before (Err kind) = Err kind
-  stepped before (Ok None) = Ok ([], before)
-  stepped before (Ok (Some packet)) =
-      Ok (outcome_text (gives before packet.moment packet.bytes), with before packet.moment packet.bytes)
-
-  -- what one line gives
-  abbrev pub step : M → List ℕ → Result (List ℕ × M) LineKind
-  step before line = stepped before (capture_of line (last before))
+-- what one line gives: a packet gives the text of its outcome
+abbrev pub step
+    : {M : Type 0} → (M → ℕ) → (M → ℕ → List ℕ → Outcome) → (M → ℕ → List ℕ → M) → M → List ℕ
+    → Result (List ℕ × M) LineKind
+step last gives with = capture_step last (λ before moment bytes. outcome_text (gives before moment bytes)) with
 
 -- `run` says what the lines of a capture give, where the described device answers them
 module _ (run : Description → Bool → List (List ℕ) → Written) where

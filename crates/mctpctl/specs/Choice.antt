@@ -5,23 +5,26 @@ use Rattle.clap.specs.Words.{App, new_app, with_subcommand, fault_of, subcommand
 use Rattle.clap.specs.declared.error.kind.ErrorKind.{ErrorKind}
 use Rattle.clap.specs.declared.error.kind.ErrorKind.TheVariants.{DisplayHelp, OutOfMemory}
 use Rattle.mctpctl.specs.declared.choose.Task.{Task}
-use Rattle.mctpctl.specs.declared.choose.Task.TheVariants.{Answer}
+use Rattle.mctpctl.specs.declared.choose.Task.TheVariants.{Answer, Show}
 use Rattle.mctpctl.specs.declared.choose.ChooseFault.{ChooseFault}
 use Rattle.mctpctl.specs.declared.choose.ChooseFault.TheVariants.{Help, Refused, Memory}
 
--- `mctpctl` and its subcommands, one of which is required
+-- `mctpctl` requires one of its subcommands
+abbrev pub program : App
+program = record { top = record (new_app (codes "mctpctl")).top { subcommand_required = true }; subs = [] }
+
 abbrev pub command : App
-command =
-    with_subcommand
-    (record { top = record (new_app (codes "mctpctl")).top { subcommand_required = true }; subs = [] })
-    (new_app (codes "answer")).top
+command = with_subcommand (with_subcommand program (new_app (codes "answer")).top) (new_app (codes "show")).top
 
 -- whether `clap` takes the words, of which the first is the program's name
 abbrev pub takes_line : List (List ℕ) → Bool
 takes_line words = length (fault_of command words) == 0
 
 abbrev pub task_named : List ℕ → Option Task
-task_named name = if bytes_eq name (codes "answer") then Some Answer else None
+task_named name =
+    if bytes_eq name (codes "answer") then Some Answer
+    else if bytes_eq name (codes "show") then Some Show
+    else None
 
 -- the task of a line that is taken
 abbrev pub task_of : List (List ℕ) → Option Task

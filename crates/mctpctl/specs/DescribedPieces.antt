@@ -1,11 +1,12 @@
 -- A run over an input of which the description comes first, in pieces.
 use Rattle.std.specs.Prelude.{◌≡◌, ◌≢◌, ◌⊎◌, [], Result, Ok, Err, ℕ, nat_lt}
 use Rattle.std.specs.Prelude.{Bool, if◌then◌else◌, List, ◌++◌, length, Option, None, Some}
+use Rattle.line_words.specs.TextLines.{lines_of}
 use Rattle.mctpctl.specs.AnswerText.{described_run}
 use Rattle.mctpctl.specs.LinePieces.{glued}
 use Rattle.mctpctl.specs.LineRuns.{Written, stops_at}
 use Rattle.mctpctl.specs.Pieces.{Gives, GoesOn, StopsWith}
-use Rattle.mctpctl.specs.TextLines.{lines_of, capture_lines, description_of}
+use Rattle.mctpctl.specs.TextLines.{capture_lines, description_of}
 use Rattle.mctpctl.specs.declared.faults.EngineFault.{EngineFault}
 use Rattle.mctpctl.specs.declared.faults.EngineFault.TheVariants as faults
 use Rattle.mctpctl.specs.declared.limits.TheConstants.{MAX_DESCRIPTION}

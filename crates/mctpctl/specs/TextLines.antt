@@ -1,11 +1,6 @@
--- The lines of an input, and the line that divides it into a device description and a capture.
-use Rattle.std.specs.Prelude.{ℕ, ◌==◌, Bool, if◌then◌else◌, List, [], ◌∷◌, ◌++◌, codes, bytes_eq, Option, None, Some}
-use Rattle.std.specs.List.{slice_split}
+-- The line that divides an input into a device description and a capture.
+use Rattle.std.specs.Prelude.{ℕ, Bool, if◌then◌else◌, List, [], ◌∷◌, ◌++◌, codes, bytes_eq, Option, None, Some}
 use Rattle.line_words.specs.Lines.{without_cr}
-
--- the pieces between line feeds; what follows the last line feed is a line too, and may be empty
-abbrev pub lines_of : List ℕ → List (List ℕ)
-lines_of text = slice_split (λ b. b == 10) text
 
 abbrev pub is_divider : List ℕ → Bool
 is_divider line = bytes_eq (without_cr line) (codes "%%")
@@ -20,8 +15,3 @@ abbrev pub description_of : List (List ℕ) → List ℕ
 description_of [] = []
 description_of (line ∷ []) = if is_divider line then [] else line
 description_of (line ∷ next ∷ more) = if is_divider line then [] else line ++ 10 ∷ description_of (next ∷ more)
-
--- the lines of the rest of an input, if there is a rest
-abbrev pub lines_of_rest : Option (List ℕ) → List (List ℕ)
-lines_of_rest None = []
-lines_of_rest (Some text) = lines_of text

@@ -9,7 +9,7 @@ ghost use Rattle.mctpctl.specs.Ports.{inner_of, has_failed};
 use crate::answer_run::AnswerRun;
 use crate::faults::EngineFault;
 use crate::port::Port;
-use crate::stream::run_all;
+use crate::stream::run_to_end;
 use pldm_device::{FileFault, SimDevice};
 use pldm_responder::laws;
 use std::alloc::Global;
@@ -50,12 +50,5 @@ pub fn answer_all<R: Read, W: Write>(
 {
     laws::looks_back::<SimDevice>();
     let mut run = AnswerRun::new(alloc);
-    let result = run_all(alloc, &mut run, reader, writer);
-    if reader.failed() || writer.failed() {
-        return result;
-    }
-    if writer.flush().is_err() {
-        return Err(EngineFault::Write);
-    }
-    result
+    run_to_end(alloc, &mut run, reader, writer)
 }

@@ -1,11 +1,12 @@
 //! The engine of `mctpctl answer`, over an input that comes in pieces.
 
 ghost use Rattle.std.specs.Prelude.{◌≡◌, ◌≢◌, ◌≤◌, ◌<◌, ◌+◌, ◌++◌, ◌∷◌, ℕ, List, [], Ok, Result, Err, IfOk, IfSome, length, None};
+ghost use Rattle.line_words.specs.TextLines.{HasNoFeed};
 ghost use Rattle.mctpctl.specs.DescribedPieces.{description_gives, described_gives, described_count, Begins, Describes};
 ghost use Rattle.mctpctl.specs.AnswerPieces.{past_gives, past_count, nothing_where_cut};
-ghost use Rattle.mctpctl.specs.HeldRefusals.{held_refuses};
+ghost use Rattle.mctpctl.specs.LongLines.{held_refuses};
 ghost use Rattle.mctpctl.specs.HeldRuns.{held_step, held_run};
-ghost use Rattle.mctpctl.specs.LinePieces.{HasNoFeed, line_gives, AddsLine};
+ghost use Rattle.mctpctl.specs.LinePieces.{line_gives, AddsLine};
 ghost use Rattle.mctpctl.specs.Pieces.{GoesOn, Takes, Finishes};
 ghost use Rattle.pldm_responder.specs.Stations.{held_of};
 ghost use Rattle.pldm_responder.specs.Held.{Held};
@@ -15,9 +16,10 @@ use crate::capture::{CaptureFault, CaptureLine, read_capture_line};
 use crate::faults::EngineFault;
 use crate::limits::{LONGEST_DIVIDER, MAX_DESCRIPTION, MAX_INPUT};
 use crate::line_run::{LineRun, LineTask};
-use crate::lines::{is_divider, split_line};
+use crate::lines::is_divider;
 use crate::outcome::outcome_text;
 use crate::stream::Run;
+use line_words::split_line;
 use mctp_packet::Moment;
 use pldm_device::{Description, FileFault, SimDevice};
 use pldm_responder::Responder;

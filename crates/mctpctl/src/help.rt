@@ -33,3 +33,26 @@ Exit status:
   0  done
   1  the input was refused: one line on standard error says why
   3  a read or a write failed, or there was no memory";
+
+/// What `show` reads and writes.
+pub const SHOW: &str = "\
+Input, from standard input: a capture alone, with no description before it. A capture
+line is a moment in milliseconds, a space, and a packet in hex, from and to any endpoint:
+
+  # endpoint 8 asks device 9 for its terminus ID
+  0 010908c801800002
+  1 010809c0010000020001
+
+Output: for each packet its header and what it gave ('whole', 'partial' or 'drop NAME'),
+and after 'whole' the message, as soon as the line has been read. A request is followed by
+'ok', or by 'refused' and the completion code of its refusal:
+
+  0 8>9 tag 0 to 1 som 1 eom 1 seq 0 len 4 whole
+    request 0 GetTID - ok
+  1 9>8 tag 0 to 0 som 1 eom 1 seq 0 len 6 whole
+    response 0 GetTID 00 01
+
+Exit status:
+  0  done
+  1  the input was refused: one line on standard error says why
+  3  a read or a write failed, or there was no memory";

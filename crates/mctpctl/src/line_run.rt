@@ -1,14 +1,15 @@
 //! A run over lines, which keeps what has come of a line that has not ended.
 
 ghost use Rattle.std.specs.Prelude.{◌≡◌, ◌≢◌, ◌≤◌, ◌<◌, ◌+◌, ◌++◌, ◌∷◌, ℕ, List, [], Result, Err, length, refl};
+ghost use Rattle.line_words.specs.TextLines.{HasNoFeed};
 ghost use Rattle.mctpctl.specs.declared.faults.LineKind.{LineKind};
-ghost use Rattle.mctpctl.specs.LinePieces.{HasNoFeed, RefusesLong, line_gives, AddsLine};
+ghost use Rattle.mctpctl.specs.LinePieces.{RefusesLong, line_gives, AddsLine};
 ghost use Rattle.mctpctl.specs.Pieces.{Takes, Finishes};
 
 use crate::faults::{EngineFault, LineKind};
 use crate::limits::{MAX_CAPTURE_LINE, MAX_INPUT};
-use crate::lines::split_line;
 use crate::stream::Run;
+use line_words::split_line;
 use pldm_device::FileFault;
 use std::alloc::Global;
 

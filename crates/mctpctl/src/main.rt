@@ -1,4 +1,4 @@
-//! `mctpctl` answers captures of MCTP packets as a simulated PLDM device would.
+//! `mctpctl` answers captures of MCTP packets as a simulated PLDM device would, and shows what they say.
 #![tactic(auto)]
 
 mod answer;
@@ -14,21 +14,26 @@ mod help;
 mod limits;
 mod line_run;
 mod lines;
+mod message_line;
+mod observer;
 mod outcome;
+mod packet_line;
 mod port;
+mod show;
 mod stream;
 
 use crate::answer::answer_all;
 use crate::choose::{ChooseFault, Task, choose};
 use crate::faults::{EngineFault, fault_line, status_of};
 use crate::port::Port;
+use crate::show::show_all;
 use std::env;
 use std::io::ErrorKind;
 use std::process::ExitCode;
 
 fn main(rt: HostRuntime) -> ExitCode {
     let status = match chosen(&rt) {
-        Ok(Task::Answer) => match run_answer(&rt) {
+        Ok(task) => match run(&rt, task) {
             Ok(()) => 0,
             Err(fault) => {
                 tell(&rt, &fault);
@@ -72,11 +77,14 @@ fn chosen(rt: &HostRuntime) -> Result<Task, ChooseFault> {
     choose(alloc, &words)
 }
 
-/// Answers standard input on standard output.
-fn run_answer(rt: &HostRuntime) -> Result<(), EngineFault> {
+/// Runs the task over standard input, on standard output.
+fn run(rt: &HostRuntime, task: Task) -> Result<(), EngineFault> {
     let mut reader = Port::new(rt.stdin());
     let mut writer = Port::new(rt.stdout());
-    answer_all(rt.alloc(), &mut reader, &mut writer)
+    match task {
+        Task::Answer => answer_all(rt.alloc(), &mut reader, &mut writer),
+        Task::Show => show_all(rt.alloc(), &mut reader, &mut writer),
+    }
 }
 
 /// Tells the fault on standard error; where there is no memory for the line, none is printed.

@@ -149,7 +149,7 @@ fn run_pieces<T: Run, R: Read, W: Write>(
 }
 
 /// Runs over all that a reader gives.
-pub fn run_all<T: Run, R: Read, W: Write>(
+fn run_all<T: Run, R: Read, W: Write>(
     alloc: Global,
     run: &mut T,
     reader: &mut Port<R>,
@@ -172,4 +172,35 @@ pub fn run_all<T: Run, R: Read, W: Write>(
         return Err(EngineFault::Memory);
     };
     run_pieces(alloc, run, reader, writer, &mut piece)
+}
+
+/// Runs over all that a reader gives, and flushes what was written. Where a port has failed nothing is
+/// flushed.
+pub fn run_to_end<T: Run, R: Read, W: Write>(
+    alloc: Global,
+    run: &mut T,
+    reader: &mut Port<R>,
+    writer: &mut Port<W>,
+) -> Result<(), EngineFault>
+    requires reads { has_failed reader.old ≡ false }
+    requires writes { has_failed writer.old ≡ false }
+    requires fresh { T.counted run.old ≡ 0 }
+    ensures text { IfSome (R.remaining (inner_of reader.old))
+        (λ all. Writes (T.gives run.old (nat_lt MAX_INPUT (length all)) (take MAX_INPUT all)) (W.contents (inner_of writer.old)) (W.contents (inner_of writer.new)) result) }
+    ensures at_read { IsErrOf result EngineFault.Read
+        → WroteOfRead (T.gives run.old) (R.remaining (inner_of reader.old)) (R.remaining (inner_of reader.new)) (W.contents (inner_of writer.old)) (W.contents (inner_of writer.new)) }
+    ensures at_memory { IsErrOf result EngineFault.Memory
+        → WroteOfFront (T.gives run.old) (R.remaining (inner_of reader.old)) (W.contents (inner_of writer.old)) (W.contents (inner_of writer.new)) }
+    ensures read { IsErrOf result EngineFault.Read ↔ (has_failed reader.new ≡ true) }
+    ensures write { IsErrOf result EngineFault.Write ↔ (has_failed writer.new ≡ true) }
+    ensures device { result ≢ Err (EngineFault.Device FileFault.Memory) }
+{
+    let result = run_all(alloc, run, reader, writer);
+    if reader.failed() || writer.failed() {
+        return result;
+    }
+    if writer.flush().is_err() {
+        return Err(EngineFault::Write);
+    }
+    result
 }

@@ -1,5 +1,5 @@
 -- The definitions computed on messages: what each of these bytes is read as, and what is written.
-use Rattle.std.proofs.Common.{◌≡◌, ℕ, pos, negsuc, List, [], ◌∷◌, ◌++◌, replicate, Some, Ok, Err, refl}
+use Rattle.std.proofs.Common.{◌≡◌, ℕ, pos, negsuc, List, [], ◌∷◌, ◌++◌, codes, replicate, Some, None, Ok, Err, refl}
 use Rattle.mctp_packet.specs.declared.reason.Reason.TheVariants.{NotPldm, Integrity, ShortHeader, BadPldmHeader, NotRequest, Datagram, NotResponse}
 use Rattle.pldm_wire.specs.Kinds.{of_type}
 use Rattle.pldm_wire.specs.Requests.{request, request_of}
@@ -9,6 +9,7 @@ use Rattle.pldm_wire.specs.EffecterNumbers.{two_numbers}
 use Rattle.pldm_wire.specs.RecordParts.{part}
 use Rattle.pldm_wire.specs.Commands.{command_data, command_message}
 use Rattle.pldm_wire.specs.CommandReading.{command_of}
+use Rattle.pldm_wire.specs.CommandNames.{name_of_kind}
 use Rattle.pldm_wire.specs.Answers.{answer_message}
 use Rattle.pldm_wire.specs.AnswerReading.{success_of, answer_of}
 use Rattle.pldm_wire.specs.Crc.{divisor, times_divisor, crc}
@@ -209,6 +210,20 @@ last_part = refl
 
 values_told : answer_message 3 (of_type 2 0x32) (answers.GetNumericEffecterValue 1 (two_numbers (sized Uint8 (pos 40)) (sized Uint8 (pos 40)))) ≡ 0x01 ∷ 0x03 ∷ 0x02 ∷ 0x32 ∷ 0x00 ∷ 0x00 ∷ 0x01 ∷ 0x28 ∷ 0x28 ∷ []
 values_told = refl
+
+-- names
+
+base_command_named : name_of_kind (of_type 0 0x03) ≡ Some (codes "GetPLDMVersion")
+unfolding name_of_kind
+base_command_named = refl
+
+platform_command_named : name_of_kind (of_type 2 0x3a) ≡ Some (codes "GetStateEffecterStates")
+unfolding name_of_kind
+platform_command_named = refl
+
+command_of_another_type : name_of_kind (of_type 5 0x02) ≡ None
+unfolding name_of_kind
+command_of_another_type = refl
 
 -- checksums
 

@@ -17,6 +17,7 @@ pub mod Commands
 pub mod BaseCommandReading
 pub mod PlatformCommandReading
 pub mod CommandReading
+pub mod CommandNames
 pub mod Answers
 pub mod AnswerFaults
 pub mod BaseAnswerReading

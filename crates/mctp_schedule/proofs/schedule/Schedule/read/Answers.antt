@@ -1,6 +1,7 @@
 -- Line by line, the schedule is that of the lines so far.
 use Rattle.std.proofs.Common.{sym, ap, ◌∙◌, arith}
-use Rattle.mctp_schedule.specs.Schedules.{lines_of, spelled_from}
+use Rattle.line_words.specs.TextLines.{lines_of}
+use Rattle.mctp_schedule.specs.Schedules.{spelled_from}
 use Rattle.mctp_schedule.proofs.ReadLines.{at_first}
 use Rattle.mctp_schedule.proofs.schedule.Schedule.read.Goals as goal
 

@@ -1,6 +1,7 @@
 -- The lines so far are added, and the rest is to be read.
 use Rattle.std.proofs.Common.{◌≡◌, ◌≤◌, ◌+◌, length}
-use Rattle.mctp_schedule.specs.Schedules.{lines_of, schedule_of, spelled_from}
+use Rattle.line_words.specs.TextLines.{lines_of}
+use Rattle.mctp_schedule.specs.Schedules.{schedule_of, spelled_from}
 use Rattle.mctp_schedule.proofs.schedule.Schedule.read.Given as goal
 
 abbrev pub invariant-loop-line : goal.invariant-loop-line

@@ -1,5 +1,5 @@
 -- Lines of the description give nothing, and the line that divides begins the run over the capture.
-use Rattle.std.proofs.Common.{◌≡◌, ◌+◌, ◌++◌, ◌∷◌, [], Ok, None, ap, sym, subst, ◌∙◌, append_assoc}
+use Rattle.std.proofs.Common.{◌≡◌, ◌++◌, ◌∷◌, [], Ok, None, ap, sym, subst, ◌∙◌, append_assoc}
 use Rattle.mctpctl.specs.AnswerPieces.{past_gives, nothing_where_cut}
 use Rattle.mctpctl.specs.DescribedPieces.{description_gives, described_gives, Describes}
 use Rattle.mctpctl.specs.HeldRuns.{held_run}
