@@ -1,5 +1,5 @@
 -- What the calls of a requester give, over what it holds.
-use Rattle.std.proofs.Common.{◌≡◌, ℕ, zero, suc, ◌+◌, ◌-◌, ◌%◌, ◌<◌, ◌≤◌, Bool, true, false, List, [], ◌∷◌, length, map, take, Option, Some, None, Result, Ok, Err, refl, sym, ap, ◌∙◌, arith, eq-eqb}
+use Rattle.std.proofs.Common.{◌≡◌, ℕ, zero, suc, ◌+◌, ◌-◌, ◌%◌, ◌<◌, ◌≤◌, Bool, true, false, List, [], ◌∷◌, length, map, Option, Some, None, Result, Ok, Err, refl, sym, ap, ◌∙◌, arith, eq-eqb}
 use Rattle.std.specs.Prelude.{◌==◌, ◌&&◌, not, nat_lt, nat_le, filter, option_map, slice_get, slice_index, if◌then◌else◌}
 use Rattle.std.specs.List.{AllByRecursion, range_with_len}
 use Rattle.std.proofs.lemmas.Bool.{cond-true, ltb-true}
@@ -15,18 +15,17 @@ use Rattle.mctp_assembly.specs.declared.fed.Fed.TheVariants as feds
 use Rattle.pldm_wire.specs.Responses.{Response, response_of}
 use Rattle.pldm_wire.specs.declared.assigned.TheConstants.{ERROR_NOT_READY}
 use Rattle.pldm_wire.specs.declared.command.Command.{Command}
-use Rattle.pldm_requester.specs.Arrivals.{Arrival, Drop, Part, Answer, fed_arrival, got_of, packet_arrival, passed_arrival, response_arrival}
+use Rattle.pldm_requester.specs.Arrivals.{Arrival, Drop, Part, Answer, fed_arrival, got_of, packet_arrival, response_arrival}
 use Rattle.pldm_requester.specs.Calls.{is_from_device, open_answer}
 use Rattle.pldm_requester.specs.Courses as courses
 use Rattle.pldm_requester.specs.Courses.{Course, is_open}
-use Rattle.pldm_requester.specs.Numbering.{opened_as, packets_of}
+use Rattle.pldm_requester.specs.Numbering.{opened_as}
 use Rattle.pldm_requester.specs.Slots.{remembered_in}
 use Rattle.pldm_requester.specs.declared.requester.TheConstants.{MOST_OPEN, MOST_REMEMBERED}
 use Rattle.pldm_requester.specs.Steps.{Held, IsHeld, Memo, arrived_by, goes_to, is_mine, is_open_in, latest_on, new_memo, opened_held, passed, passes, received_held, recent_numbers, remembered_after, where_open, with_course}
 use Rattle.pldm_requester.specs.declared.got.Got.TheVariants as got
 use Rattle.pldm_requester.specs.declared.opened.Opened.{Opened}
-use Rattle.pldm_requester.specs.declared.opened.OpenFault.{OpenFault}
-use Rattle.mctp_schedule.specs.Askers.{HasAnswer, TellsAnswer}
+use Rattle.mctp_schedule.specs.Askers.{TellsAnswer}
 use Rattle.mctp_schedule.specs.declared.askers.Answered.{Answered}
 use Rattle.mctp_schedule.proofs.ListPlaces.{take_all}
 

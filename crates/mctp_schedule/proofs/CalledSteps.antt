@@ -1,5 +1,5 @@
 -- A call of a requester that leaves the log: what a run holds then.
-use Rattle.std.proofs.Common.{◌≡◌, ◌⊎◌, ℕ, zero, suc, ◌+◌, ◌<◌, ◌≤◌, Bool, true, false, List, [], ◌∷◌, ◌++◌, length, Option, Some, None, refl, sym, ap, subst, ◌∙◌, inl, inr, arith}
+use Rattle.std.proofs.Common.{◌≡◌, ◌⊎◌, ℕ, zero, suc, ◌<◌, ◌≤◌, true, List, [], ◌∷◌, ◌++◌, length, Option, Some, None, refl, sym, ap, subst, ◌∙◌, inl, inr, arith}
 use Rattle.std.specs.Prelude.{option_map, slice_get, slice_index_or, slice_set}
 use Rattle.std.proofs.lemmas.Bool.{cases_eq}
 use Rattle.pldm_responder.specs.Stations as responder_stations
@@ -8,10 +8,10 @@ use Rattle.pldm_requester.specs.Calls.{requests}
 use Rattle.pldm_requester.specs.Laws.{IsLeftBy}
 use Rattle.pldm_requester.specs.Slots.{held_of}
 use Rattle.mctp_schedule.specs.Askers.{Side}
-use Rattle.mctp_schedule.specs.Entries.{as_it_stands, entries, entry_of, numbers_of}
+use Rattle.mctp_schedule.specs.Entries.{as_it_stands, entries, entry_of}
 use Rattle.mctp_schedule.specs.FirstArrivals.{order}
 use Rattle.mctp_schedule.specs.Journals.{Carried}
-use Rattle.mctp_schedule.specs.Logs.{Asked, Happening, asked_at, count_of}
+use Rattle.mctp_schedule.specs.Logs.{asked_at, count_of}
 use Rattle.mctp_schedule.specs.OncePerformed.{AreRequests, RepliesFit}
 use Rattle.mctp_schedule.specs.Places.{side_at}
 use Rattle.mctp_schedule.specs.Requests.{Request}
@@ -19,7 +19,6 @@ use Rattle.mctp_schedule.specs.Running.{IsCarried, IsDevice, IsOpened, IsRunning
 use Rattle.mctp_schedule.specs.Schedules.{has_requester}
 use Rattle.mctp_schedule.specs.Worlds.{Setting, World, is_timely, requests_of, time_now, timing_of, with_call, world}
 use Rattle.mctp_schedule.specs.declared.entry.Entry.{Entry}
-use Rattle.mctp_schedule.specs.declared.entry.Entry.TheVariants as entry
 use Rattle.mctp_schedule.specs.declared.journal.Journal.{Journal}
 use Rattle.mctp_schedule.specs.declared.step.Action.{Action}
 use Rattle.mctp_schedule.specs.declared.step.Step.{Step}

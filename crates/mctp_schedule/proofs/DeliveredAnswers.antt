@@ -1,11 +1,11 @@
 -- The packet of an answer that a step hands over, as it is written down and as the world has it.
-use Rattle.std.proofs.Common.{◌≡◌, ℕ, ◌<◌, ◌≤◌, Bool, true, false, List, [], ◌∷◌, length, Option, Some, None, refl, sym, ap, ◌∙◌, arith}
+use Rattle.std.proofs.Common.{◌≡◌, ℕ, ◌≤◌, Bool, true, false, List, Option, Some, None, refl, sym, ap, ◌∙◌, arith}
 use Rattle.std.specs.Prelude.{◌||◌, not, is_some, option_and_then, option_map, slice_get}
 use Rattle.pldm_responder.specs.Stations as responder_stations
 use Rattle.mctp_schedule.specs.Askers.{Side}
 use Rattle.mctp_schedule.specs.Entries.{entry_of, got_entry}
 use Rattle.mctp_schedule.specs.HandedPackets.{got_from}
-use Rattle.mctp_schedule.specs.Journals.{Carried, packet_at, packets_in, place_of}
+use Rattle.mctp_schedule.specs.Journals.{packet_at}
 use Rattle.mctp_schedule.specs.Logs.{Asked, asked_at, count_of}
 use Rattle.mctp_schedule.specs.OncePerformed.{given, was_busy}
 use Rattle.mctp_schedule.specs.Running.{IsRunning, answer_action, busy_packets}
@@ -14,7 +14,6 @@ use Rattle.mctp_schedule.specs.declared.journal.Journal.{Journal}
 use Rattle.mctp_schedule.specs.declared.step.Step.{Step}
 use Rattle.mctp_schedule.proofs.AskedRequests.{none_above}
 use Rattle.mctp_schedule.proofs.ListPlaces.{get_past}
-use Rattle.pldm_responder.specs.Performing.{busy_reply}
 
 module _ {S : Type 0} (setting : Setting S) (w : World) where
   -- the packet that the step delivers

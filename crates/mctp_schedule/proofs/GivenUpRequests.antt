@@ -1,13 +1,13 @@
 -- One more request that is given up.
-use Rattle.std.proofs.Common.{◌≡◌, ◌⊎◌, ℕ, ◌+◌, ◌<◌, Bool, true, false, List, [], ◌∷◌, length, take, Option, Some, None, refl, sym, ap, ◌∙◌, inl, inr, arith, eq-eqb}
+use Rattle.std.proofs.Common.{◌≡◌, ◌⊎◌, ℕ, ◌+◌, ◌<◌, Bool, true, false, List, length, take, Option, Some, None, refl, sym, ap, ◌∙◌, inl, inr, eq-eqb}
 use Rattle.std.specs.Prelude.{◌||◌, ◌==◌, option_map, slice_get, slice_set, slice_index_or, if◌then◌else◌}
 use Rattle.std.specs.List.{list_any}
-use Rattle.std.proofs.lemmas.Bool.{cases_eq, cond-true, cond-false, ne_eqb}
+use Rattle.std.proofs.lemmas.Bool.{cases_eq, ne_eqb}
 use Rattle.std.proofs.lemmas.List.Folds.{list_any_at, list_any_more}
 use Rattle.pldm_requester.specs.Courses.{GaveUp}
 use Rattle.mctp_schedule.specs.Journals.{stands_after}
 use Rattle.mctp_schedule.specs.Requests.{Request, with_standing}
-use Rattle.mctp_schedule.proofs.ListPlaces.{get_or, get_set_at, get_set_other}
+use Rattle.mctp_schedule.proofs.ListPlaces.{get_set_at, get_set_other}
 
 -- a number of the list is below a bound of all of them
 pub number_below : (numbers : List ℕ) (bound i : ℕ) → ((n : ℕ) → list_any (λ m. m == n) numbers ≡ true → n < bound) → i < length numbers → slice_index_or numbers i 0 < bound

@@ -1,23 +1,21 @@
 -- What a run tells of a timely schedule is the headline.
-use Rattle.std.proofs.Common.{◌≡◌, ℕ, ◌≤◌, true, List, [], ◌∷◌, ◌++◌, Option, Some, None, refl, sym, ap, subst, ◌∙◌, arith}
+use Rattle.std.proofs.Common.{◌≡◌, ℕ, true, List, [], ◌∷◌, ◌++◌, Option, Some, None, refl, sym, ap, subst, ◌∙◌}
 use Rattle.std.specs.Prelude.{option_map, slice_get}
 use Rattle.pldm_device.specs.Changes.{made_of}
 use Rattle.pldm_responder.specs.Events.{is_busy}
 use Rattle.pldm_responder.specs.Performing.{performed}
 use Rattle.pldm_responder.specs.Stations as responder_stations
-use Rattle.pldm_requester.specs.Courses.{Answered}
 use Rattle.mctp_schedule.specs.Askers.{Side}
 use Rattle.mctp_schedule.specs.DeviceHalf.{DeliveryIsOwed, FreshInOrderOfFirsts, StateIsOnce}
 use Rattle.mctp_schedule.specs.Entries.{as_it_stands, delivery_entry, entries, entry_of, got_entry}
-use Rattle.mctp_schedule.specs.FirstArrivals.{IsOrderOfFirsts, order}
-use Rattle.mctp_schedule.specs.Headline.{Headline, IsTold, delivery_owes, entries_owed, entry_owes, state_once}
+use Rattle.mctp_schedule.specs.FirstArrivals.{order}
+use Rattle.mctp_schedule.specs.Headline.{Headline, delivery_owes, entries_owed, entry_owes}
 use Rattle.mctp_schedule.specs.Laws.{LogIsTimely, TimelyIsTested}
 use Rattle.mctp_schedule.specs.Logs.{Asked, IsTimelyLog, asked_at, told}
 use Rattle.mctp_schedule.specs.RequesterHalf.{AnsweredWasPerformed, AnsweredWhereTaken, BusyIsOwed, IsSound, IsTimelySchedule, ReplyIsOwed}
 use Rattle.mctp_schedule.specs.Requests.{Request as EndedRequest}
 use Rattle.mctp_schedule.specs.Running.{IsRunning}
 use Rattle.mctp_schedule.specs.Worlds.{NeverWentBack, Setting, world}
-use Rattle.mctp_schedule.specs.declared.entry.Entry.{Entry}
 use Rattle.mctp_schedule.specs.declared.entry.Entry.TheVariants.{Delivered, Sensed}
 use Rattle.mctp_schedule.specs.declared.journal.Journal.{Journal}
 use Rattle.mctp_schedule.specs.declared.step.Action.{Action}

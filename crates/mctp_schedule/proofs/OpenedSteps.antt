@@ -1,8 +1,7 @@
 -- A requester is asked to open a request: what a run holds then.
-use Rattle.std.proofs.Common.{◌≡◌, ◌⊎◌, ℕ, suc, ◌+◌, ◌<◌, ◌≤◌, Bool, true, false, List, [], ◌∷◌, ◌++◌, length, Option, Some, None, Result, Ok, Err, refl, sym, ap, subst, ◌∙◌, inl, inr, arith, eq-eqb}
-use Rattle.std.specs.Prelude.{◌&&◌, ◌==◌, ◌%◌, nat_lt, not, option_map, slice_get, slice_set, if◌then◌else◌}
+use Rattle.std.proofs.Common.{◌≡◌, ◌⊎◌, ℕ, suc, ◌<◌, ◌≤◌, Bool, true, false, List, [], ◌∷◌, ◌++◌, length, Option, Some, None, Ok, Err, refl, sym, ap, subst, ◌∙◌, inl, inr, arith, eq-eqb}
+use Rattle.std.specs.Prelude.{◌&&◌, ◌==◌, ◌%◌, nat_lt, not, option_map, slice_get, slice_set}
 use Rattle.std.proofs.lemmas.Bool.{and_right, cases_Bool, cases_eq, cond-true, cond-false, ltb-false, ltb-true, ne_eqb}
-use Rattle.pldm_wire.specs.Commands.{IsCommand}
 use Rattle.pldm_wire.specs.Laws.{WrittenCommandReadBack}
 use Rattle.pldm_wire.specs.MessageSizes.{CommandFitsOnePacket}
 use Rattle.pldm_wire.specs.declared.command.Command.{Command}
@@ -11,7 +10,6 @@ use Rattle.pldm_responder.specs.Performing.{Rules}
 use Rattle.pldm_responder.specs.Stations as responder_stations
 use Rattle.pldm_requester.specs.Calls as requester
 use Rattle.pldm_requester.specs.Calls.{Requests, accepts, new_request, open_answer, open_owed, opened, put, requests}
-use Rattle.pldm_requester.specs.Courses as courses
 use Rattle.pldm_requester.specs.Laws.{IsLeftBy, OpenLooksBack, SameIsLeft}
 use Rattle.pldm_requester.specs.Numbering.{message_of, opened_as}
 use Rattle.pldm_requester.specs.Slots.{held_of}
@@ -30,9 +28,8 @@ use Rattle.mctp_schedule.specs.Places.{side_at}
 use Rattle.mctp_schedule.specs.Requests.{Request, begun}
 use Rattle.mctp_schedule.specs.Running.{IsCarried, IsDevice, IsOpened, IsRunning, IsSide, busy_packets}
 use Rattle.mctp_schedule.specs.Schedules.{has_requester}
-use Rattle.mctp_schedule.specs.Worlds.{Setting, World, answer_packets, asked_by, is_timely, log_opened, requests_of, time_now, timing_of, with_call, world}
+use Rattle.mctp_schedule.specs.Worlds.{Setting, World, answer_packets, asked_by, requests_of, time_now, timing_of, with_call, world}
 use Rattle.mctp_schedule.specs.declared.askers.Sent.{Sent}
-use Rattle.mctp_schedule.specs.declared.entry.Entry.{Entry}
 use Rattle.mctp_schedule.specs.declared.entry.Entry.TheVariants as entry
 use Rattle.mctp_schedule.specs.declared.journal.Journal.{Journal}
 use Rattle.mctp_schedule.specs.declared.step.Action.TheVariants as actions

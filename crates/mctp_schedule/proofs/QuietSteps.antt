@@ -1,9 +1,8 @@
 -- A reading that is set, and a restart: they leave all requests as they were.
-use Rattle.std.proofs.Common.{◌≡◌, ℕ, ◌≤◌, List, [], ◌∷◌, ◌++◌, Option, Some, refl, sym, ap, subst, ◌∙◌, arith}
+use Rattle.std.proofs.Common.{◌≡◌, ℕ, ◌≤◌, List, [], ◌∷◌, ◌++◌, Option, refl, sym, ap, subst, ◌∙◌, arith}
 use Rattle.std.specs.Prelude.{ℤ, length, slice_get}
 use Rattle.pldm_responder.specs.Held.{IsHeld}
-use Rattle.pldm_responder.specs.Laws.{IsLeftBy, RestartedLooksBack, SameIsLeft, SensedLooksBack}
-use Rattle.pldm_responder.specs.Calls as responder
+use Rattle.pldm_responder.specs.Laws.{RestartedLooksBack, SameIsLeft, SensedLooksBack}
 use Rattle.pldm_responder.specs.Events.{Set, Restarted}
 use Rattle.pldm_responder.specs.Stations.{Station, held_of}
 use Rattle.pldm_responder.specs.Steps.{restarted_held, sensed_held}
@@ -15,7 +14,6 @@ use Rattle.mctp_schedule.specs.Running.{IsCarried, IsRunning, device_calls}
 use Rattle.mctp_schedule.specs.Worlds.{Setting, World, time_now, world}
 use Rattle.mctp_schedule.specs.declared.entry.Entry.{Entry}
 use Rattle.mctp_schedule.specs.declared.journal.Journal.{Journal}
-use Rattle.mctp_schedule.specs.declared.step.Action.{Action}
 use Rattle.mctp_schedule.specs.declared.step.Action.TheVariants as actions
 use Rattle.mctp_schedule.specs.declared.step.Step.{Step}
 use Rattle.mctp_schedule.proofs.RunningFrames.{still_carried, still_opened, still_side}

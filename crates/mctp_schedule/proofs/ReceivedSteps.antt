@@ -1,5 +1,5 @@
 -- The packet of an answer comes to a requester: how its requests stand then.
-use Rattle.std.proofs.Common.{◌≡◌, ◌⊎◌, ℕ, ◌+◌, ◌<◌, ◌≤◌, Bool, true, false, List, [], ◌∷◌, length, Option, Some, None, Result, Ok, Err, refl, sym, ap, subst, ◌∙◌, inl, inr, arith, eq-eqb, eqb-true}
+use Rattle.std.proofs.Common.{◌≡◌, ◌⊎◌, ℕ, ◌+◌, ◌<◌, ◌≤◌, Bool, true, false, List, ◌∷◌, length, Option, Some, None, Result, Ok, Err, refl, sym, ap, subst, ◌∙◌, inl, inr, arith, eq-eqb, eqb-true}
 use Rattle.std.specs.Prelude.{◌||◌, ◌&&◌, ◌-◌, ◌==◌, not, is_some, nat_le, IfSome, option_map, slice_get, slice_index, slice_set, if◌then◌else◌}
 use Rattle.std.proofs.lemmas.Bool.{cases_Bool, cases_eq, cond-true, cond-false, leb-false, leb-true, ne_eqb}
 use Rattle.mctp_packet.specs.Packets.{Packet}
@@ -18,11 +18,10 @@ use Rattle.pldm_requester.specs.declared.got.Got.{Got}
 use Rattle.pldm_requester.specs.declared.got.Got.TheVariants as got
 use Rattle.pldm_requester.specs.declared.timing.Timing.{Timing}
 use Rattle.mctp_schedule.specs.Askers.{Side, TellsAnswer}
-use Rattle.mctp_schedule.specs.Entries.{as_it_stands, entry_of, got_entry, numbers_of}
+use Rattle.mctp_schedule.specs.Entries.{as_it_stands, got_entry, numbers_of}
 use Rattle.mctp_schedule.specs.HandedPackets.{got_from}
 use Rattle.mctp_schedule.specs.Journals.{answered_as}
 use Rattle.mctp_schedule.specs.Logs.{Asked, asked_at, count_of}
-use Rattle.mctp_schedule.specs.Requests.{Request, with_standing}
 use Rattle.mctp_schedule.specs.Running.{IsOpened, IsRunning, IsSide, answer_action}
 use Rattle.mctp_schedule.specs.Schedules.{has_requester}
 use Rattle.mctp_schedule.specs.Worlds.{Setting, World, handed, is_timely, requests_of, source_of, tag_is_own, time_now, timing_of, with_call, world}
@@ -36,7 +35,7 @@ use Rattle.mctp_schedule.proofs.CalledSteps.{Writes, called_runs, new_side}
 use Rattle.mctp_schedule.proofs.DeliveredAnswers.{delivered, done_is, entry_is, timely_is}
 use Rattle.mctp_schedule.proofs.NumberedRequests.{get_index, index_get}
 use Rattle.mctp_schedule.proofs.RunningFrames.{call_here, call_other}
-use Rattle.mctp_schedule.proofs.TickedSteps.{Numbered, unique}
+use Rattle.mctp_schedule.proofs.TickedSteps.{unique}
 
 -- ---- a packet changes the course of the request that it answers alone
 module _ (own device : ℕ) (timing : Timing) where

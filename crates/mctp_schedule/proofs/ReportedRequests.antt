@@ -1,9 +1,9 @@
 -- The requests of a world, by their numbers.
-use Rattle.std.proofs.Common.{◌≡◌, ◌⊎◌, ℕ, suc, ◌<◌, ◌≤◌, List, [], ◌∷◌, ◌++◌, length, Option, Some, None, refl, sym, ap, ◌∙◌, inl, inr, arith}
+use Rattle.std.proofs.Common.{◌≡◌, ◌⊎◌, ℕ, suc, List, [], ◌∷◌, ◌++◌, length, Some, refl, sym, ap, ◌∙◌, inl, inr, arith}
 use Rattle.std.specs.Prelude.{◌==◌, nat_lt, true, false, option_map, slice_get}
 use Rattle.std.proofs.lemmas.Bool.{cases_Bool, cases_eq, cond-false, ltb-false, ltb-true, ne_eqb}
 use Rattle.mctp_schedule.specs.Entries.{as_it_stands, requests_in}
-use Rattle.mctp_schedule.specs.Logs.{Asked, Happening, Opened, Delivered, Sensed, WentDown, asked_at, count_of}
+use Rattle.mctp_schedule.specs.Logs.{Happening, Opened, Delivered, Sensed, WentDown, asked_at, count_of}
 use Rattle.mctp_schedule.specs.Requests.{Request}
 use Rattle.mctp_schedule.specs.Worlds.{Setting, World}
 use Rattle.mctp_schedule.proofs.AskedRequests.{asked_here}

@@ -1,6 +1,6 @@
 -- What a step leaves of what a run holds.
-use Rattle.std.proofs.Common.{◌≡◌, ◌≢◌, ℕ, ◌<◌, ◌≤◌, Bool, true, false, List, [], ◌∷◌, ◌++◌, length, Option, Some, None, refl, sym, ap, subst, ◌∙◌, arith, eq-eqb}
-use Rattle.std.specs.Prelude.{◌==◌, IfSome, option_and_then, option_map, slice_get, if◌then◌else◌}
+use Rattle.std.proofs.Common.{◌≡◌, ℕ, ◌≤◌, List, [], ◌∷◌, ◌++◌, length, Option, Some, None, refl, sym, ap, subst, ◌∙◌, arith, eq-eqb}
+use Rattle.std.specs.Prelude.{◌==◌, option_and_then, option_map, slice_get}
 use Rattle.std.proofs.lemmas.Bool.{cond-true, cond-false, ne_eqb}
 use Rattle.pldm_responder.specs.Stations as responder_stations
 use Rattle.pldm_requester.specs.Calls as requester
@@ -12,7 +12,7 @@ use Rattle.mctp_schedule.specs.Entries.{numbers_of}
 use Rattle.mctp_schedule.specs.Journals.{Carried, packets_in, packets_of_entry}
 use Rattle.mctp_schedule.specs.Logs.{Asked, asked_at}
 use Rattle.mctp_schedule.specs.OncePerformed.{given, was_busy}
-use Rattle.mctp_schedule.specs.Running.{IsBefore, IsCarried, IsDevice, IsOpened, IsSide, busy_packets, device_calls}
+use Rattle.mctp_schedule.specs.Running.{IsBefore, IsCarried, IsDevice, IsOpened, IsSide, busy_packets}
 use Rattle.mctp_schedule.specs.Worlds.{Setting, World, answer_packets, requests_of, timing_of, with_call}
 use Rattle.mctp_schedule.specs.declared.entry.Entry.{Entry}
 use Rattle.mctp_schedule.proofs.ListPlaces.{get_front, length_pushed}

@@ -1,20 +1,18 @@
 -- What a run holds before its first step, and that each step may come after those before it.
-use Rattle.std.proofs.Common.{◌≡◌, ℕ, zero, suc, ◌+◌, ◌<◌, ◌≤◌, true, List, [], ◌∷◌, ◌++◌, length, take, Option, Some, None, refl, sym, ap, subst, ◌∙◌, arith}
+use Rattle.std.proofs.Common.{◌≡◌, ℕ, zero, suc, ◌+◌, ◌<◌, ◌≤◌, true, List, [], ◌∷◌, ◌++◌, length, take, Option, Some, refl, sym, ap, ◌∙◌, arith}
 use Rattle.std.specs.Prelude.{reverse, slice_get, slice_index_or}
 use Rattle.std.proofs.lemmas.List.{reverse-append, take_more}
 use Rattle.mctp_packet.specs.Ids.{IsEid}
 use Rattle.pldm_responder.specs.Held as device_held
 use Rattle.pldm_responder.specs.Laws as device_laws
-use Rattle.pldm_responder.specs.Performing.{Rules}
 use Rattle.pldm_responder.specs.Stations as responder_stations
 use Rattle.pldm_requester.specs.Laws.{NewLooksBack, SameIsLeft}
 use Rattle.pldm_requester.specs.Slots.{held_of}
 use Rattle.pldm_requester.specs.Steps.{held_at_first}
 use Rattle.mctp_schedule.specs.Askers.{Side}
-use Rattle.mctp_schedule.specs.Logs.{Asked}
 use Rattle.mctp_schedule.specs.Places.{BeginEach, Begins}
 use Rattle.mctp_schedule.specs.Running.{IsRunning, IsSide, MayCome}
-use Rattle.mctp_schedule.specs.Schedules.{AreKnown, NeverGoBack, has_requester, is_known, is_requester}
+use Rattle.mctp_schedule.specs.Schedules.{AreKnown, NeverGoBack, is_known}
 use Rattle.mctp_schedule.specs.Worlds.{Setting, time_now, timing_of, world}
 use Rattle.mctp_schedule.specs.declared.journal.Journal.{Journal}
 use Rattle.mctp_schedule.specs.declared.step.RequesterLine.{RequesterLine}

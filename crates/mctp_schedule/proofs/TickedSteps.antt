@@ -1,7 +1,7 @@
 -- A tick: which requests it gives up, by their numbers over all requests.
-use Rattle.std.proofs.Common.{◌≡◌, ◌⊎◌, ℕ, ◌+◌, ◌<◌, ◌≤◌, Bool, true, false, List, [], ◌∷◌, length, Option, Some, None, refl, sym, ap, subst, ◌∙◌, inl, inr, arith}
-use Rattle.std.specs.Prelude.{◌==◌, not, filter, option_map, slice_get, slice_index, slice_set, if◌then◌else◌}
-use Rattle.std.specs.List.{list_any, range_with_len}
+use Rattle.std.proofs.Common.{◌≡◌, ◌⊎◌, ℕ, ◌<◌, ◌≤◌, Bool, true, false, List, ◌∷◌, length, Option, Some, None, refl, sym, ap, subst, ◌∙◌, inl, inr, arith}
+use Rattle.std.specs.Prelude.{◌==◌, option_map, slice_get, slice_index, slice_set, if◌then◌else◌}
+use Rattle.std.specs.List.{list_any}
 use Rattle.std.proofs.lemmas.Bool.{cases_eq, cond-true, cond-false}
 use Rattle.pldm_responder.specs.Stations as responder_stations
 use Rattle.pldm_requester.specs.Calls as requester
@@ -17,8 +17,7 @@ use Rattle.mctp_schedule.specs.Askers.{Side}
 use Rattle.mctp_schedule.specs.Entries.{as_it_stands, numbered, numbers_of}
 use Rattle.mctp_schedule.specs.Journals.{stands_after}
 use Rattle.mctp_schedule.specs.Logs.{Asked, asked_at}
-use Rattle.mctp_schedule.specs.Requests.{Request, with_standing}
-use Rattle.mctp_schedule.specs.Running.{IsOpened, IsRunning, IsSide}
+use Rattle.mctp_schedule.specs.Running.{IsOpened, IsRunning}
 use Rattle.mctp_schedule.specs.Schedules.{has_requester}
 use Rattle.mctp_schedule.specs.Worlds.{Setting, World, requests_of, time_now, timing_of, with_call, world}
 use Rattle.mctp_schedule.specs.declared.entry.Entry.TheVariants as entry

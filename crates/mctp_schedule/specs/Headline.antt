@@ -61,7 +61,8 @@ module _ {S : Type 0} (setting : Setting S) where
 
   -- what a run over these steps tells is this
   pub record Headline
-      (steps : List Step) (entries : List Entry) (requests : List EndedRequest) (order : List ℕ) (state : S) : Type 0 where
+      (steps : List Step) (entries : List Entry) (requests : List EndedRequest) (order : List ℕ) (state : S)
+      : Type 0 where
     pub each_step : entries ≡ entries_owed steps
     pub each_request : (k : ℕ) (r : Asked) → asked_at (world setting steps).log k ≡ Some r → IsTold steps k r requests
     pub performed_in_order : IsOrderOfFirsts setting.keep (world setting steps).log order

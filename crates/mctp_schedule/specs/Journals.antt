@@ -1,5 +1,5 @@
 -- What a run writes down of its requests and their answers.
-use Rattle.std.specs.Prelude.{◌≡◌, ℕ, Bool, true, false, List, [], ◌∷◌, ◌==◌, Option, Some, None, option_and_then, slice_get, if◌then◌else◌, refl}
+use Rattle.std.specs.Prelude.{ℕ, Bool, true, false, List, [], ◌∷◌, ◌==◌, Option, Some, None, option_and_then, slice_get, if◌then◌else◌, refl}
 use Rattle.std.specs.List.{list_any}
 use Rattle.std.specs.Coded.{Coded, code_by, coded×, coded_ℕ, coded_list, coded_option}
 use Rattle.pldm_requester.specs.Courses as courses
@@ -8,7 +8,7 @@ use Rattle.pldm_responder.specs.declared.outcome.Outcome.TheVariants as outcomes
 use Rattle.mctp_schedule.specs.Requests.{Request, with_standing}
 use Rattle.mctp_schedule.specs.declared.askers.Answered.{Answered}
 use Rattle.mctp_schedule.specs.declared.entry.Entry.{Entry}
-use Rattle.mctp_schedule.specs.declared.entry.Entry.TheVariants.{Nothing, Opened, NotOpened, Due, Delivered, Received, Sensed, Restarted}
+use Rattle.mctp_schedule.specs.declared.entry.Entry.TheVariants.{Delivered}
 
 -- the packet of a request, and the places of the latest reply and of the latest busy answer among the entries
 pub record Carried : Type 0 where

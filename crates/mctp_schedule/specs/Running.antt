@@ -1,5 +1,5 @@
 -- What a run holds after some steps, the newest first: both ends, and what is written down of them.
-use Rattle.std.specs.Prelude.{◌≡◌, ◌≢◌, ℕ, ◌<◌, ◌≤◌, true, false, List, [], ◌∷◌, length, Option, Some, None, IfSome, option_map, slice_get, Bool, if◌then◌else◌}
+use Rattle.std.specs.Prelude.{◌≡◌, ◌≢◌, ℕ, ◌<◌, ◌≤◌, true, false, List, [], ◌∷◌, length, Option, Some, None, IfSome, option_map, slice_get, Bool}
 use Rattle.mctp_packet.specs.Ids.{IsEid}
 use Rattle.mctp_packet.specs.declared.TheConstants.{UNIT}
 use Rattle.pldm_responder.specs.Calls as responder

@@ -1,8 +1,8 @@
 -- Step by step, until there is none.
-use Rattle.std.proofs.Common.{◌≡◌, ◌≤◌, ◌<◌, ◌+◌, ◌∷◌, List, ℕ, length, take, Some, sym, ap, subst, ◌∙◌, arith}
-use Rattle.std.specs.Prelude.{option_map, reverse, slice_get, slice_index_or}
+use Rattle.std.proofs.Common.{◌<◌, ◌+◌, List, length, take, Some, sym, ap, subst, ◌∙◌, arith}
+use Rattle.std.specs.Prelude.{reverse, slice_get, slice_index_or}
 use Rattle.pldm_responder.specs.Performing.{rules_of}
-use Rattle.mctp_schedule.specs.Entries.{as_it_stands, requests_after}
+use Rattle.mctp_schedule.specs.Entries.{requests_after}
 use Rattle.pldm_responder.specs.Stations.{held_of}
 use Rattle.mctp_schedule.specs.Headline.{Headline}
 use Rattle.mctp_schedule.specs.Places.{BeginEach}

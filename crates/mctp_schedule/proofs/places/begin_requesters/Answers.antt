@@ -1,5 +1,5 @@
 -- One more line, until there is none.
-use Rattle.std.proofs.Common.{◌≡◌, ◌<◌, ◌+◌, ℕ, true, take, length, Some, sym, ap, subst, ◌∙◌, refl, arith}
+use Rattle.std.proofs.Common.{◌≡◌, ◌<◌, ◌+◌, ℕ, true, take, length, Some, sym, ap, subst, ◌∙◌, arith}
 use Rattle.std.specs.Prelude.{slice_set}
 use Rattle.pldm_requester.specs.Slots.{held_of}
 use Rattle.pldm_requester.specs.Steps.{IsHeld, held_at_first}
@@ -8,7 +8,7 @@ use Rattle.mctp_schedule.specs.Places.{Begins, side_at}
 use Rattle.mctp_schedule.specs.Worlds.{timing_from}
 use Rattle.mctp_schedule.specs.Schedules.{has_requester}
 use Rattle.mctp_schedule.proofs.BegunRequesters.{accepted_more, begun_more}
-use Rattle.mctp_schedule.proofs.ListPlaces.{get_or, length_set, or_get, take_all}
+use Rattle.mctp_schedule.proofs.ListPlaces.{get_or, length_set, take_all}
 use Rattle.mctp_schedule.proofs.places.begin_requesters.Goals as goal
 
 pub loop-line-preserved : goal.loop-line-preserved

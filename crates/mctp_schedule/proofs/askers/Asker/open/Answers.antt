@@ -1,7 +1,7 @@
 -- A request that was opened has one packet, that of its command.
-use Rattle.std.proofs.Common.{◌≡◌, ◌<◌, ◌%◌, [], ◌∷◌, List, ℕ, Ok, Some, sym, ap, subst, ◌∙◌, arith}
+use Rattle.std.proofs.Common.{◌≡◌, ◌%◌, [], ◌∷◌, Ok, Some, sym, ap, subst, ◌∙◌, arith}
 use Rattle.std.specs.Prelude.{option_map}
-use Rattle.pldm_requester.specs.Numbering.{id_of, message_of, packets_of, route_of}
+use Rattle.pldm_requester.specs.Numbering.{message_of, packets_of, route_of}
 use Rattle.pldm_requester.specs.Slots.{held_of}
 use Rattle.pldm_requester.specs.Steps.{Memo, is_id_in_use, is_tag_in_use}
 use Rattle.pldm_requester.specs.declared.opened.Opened.{Opened}

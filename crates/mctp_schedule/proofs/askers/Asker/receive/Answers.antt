@@ -1,6 +1,5 @@
 -- An answer is that of the request that it answered.
-use Rattle.std.proofs.Common.{◌≡◌, List, ℕ, None, Some, refl, subst, ap, sym, ◌∙◌}
-use Rattle.pldm_requester.specs.Arrivals.{Arrival, Drop, Part, Answer}
+use Rattle.std.proofs.Common.{◌≡◌, None, Some, refl, subst, sym, ◌∙◌}
 use Rattle.pldm_requester.specs.Slots.{held_of}
 use Rattle.std.specs.Prelude.{option_map}
 use Rattle.pldm_requester.specs.Steps.{IsHeld, Memo, arrived_by, got_at, passed, received_held}

@@ -1,5 +1,5 @@
 -- What is due has been opened.
-use Rattle.std.proofs.Common.{◌≡◌, ◌<◌, ℕ, List, length, subst, sym, ◌∙◌, ap}
+use Rattle.std.proofs.Common.{◌≡◌, ◌<◌, length, subst, sym, ◌∙◌, ap}
 use Rattle.std.specs.List.{AllByRecursion}
 use Rattle.pldm_requester.specs.Courses.{is_given_up, is_sent_again}
 use Rattle.pldm_requester.specs.Slots.{held_of}

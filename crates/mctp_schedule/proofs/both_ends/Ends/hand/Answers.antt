@@ -1,6 +1,6 @@
 -- A packet of an answer is one more call of its requester; where there is none, nothing comes of the step.
-use Rattle.std.proofs.Common.{◌≡◌, ◌<◌, ◌≤◌, ◌+◌, ◌-◌, ◌∷◌, ◌++◌, [], Bool, List, ℕ, length, Option, None, Some, refl, sym, ap, subst, ◌∙◌, arith}
-use Rattle.std.specs.Prelude.{◌||◌, ◌&&◌, not, is_some, nat_le, option_map, slice_get, slice_index, slice_index_or, slice_set, IfSome}
+use Rattle.std.proofs.Common.{◌≡◌, ◌+◌, ◌-◌, ◌∷◌, ◌++◌, [], List, ℕ, length, Option, None, Some, sym, ap, subst, ◌∙◌, arith}
+use Rattle.std.specs.Prelude.{◌||◌, ◌&&◌, not, is_some, nat_le, option_map, slice_index_or, slice_set}
 use Rattle.pldm_responder.specs.Performing.{rules_of}
 use Rattle.pldm_requester.specs.Slots.{held_of}
 use Rattle.pldm_requester.specs.Steps.{IsHeld, arrived_by, got_at, passed, received_held}
@@ -11,7 +11,6 @@ use Rattle.mctp_schedule.specs.Logs.{asked_at}
 use Rattle.mctp_schedule.specs.Requests.{Request}
 use Rattle.mctp_schedule.specs.Running.{IsRunning, answer_action, setting_of}
 use Rattle.mctp_schedule.specs.Worlds.{handed, is_timely, source_of, tag_is_own, time_now, world}
-use Rattle.mctp_schedule.specs.declared.entry.Entry.TheVariants as entry
 use Rattle.mctp_schedule.proofs.AskedRequests.{asked_below}
 use Rattle.mctp_schedule.proofs.CalledSteps.{nothing_runs, or_within, place_holds}
 use Rattle.mctp_schedule.proofs.DeliveredAnswers.{asked_of, done_is, entry_is, not_some, timely_is, written}

@@ -1,5 +1,5 @@
 -- An open is one more call of its requester; where it is accepted, there is one more request.
-use Rattle.std.proofs.Common.{◌≡◌, ◌∷◌, ◌++◌, [], List, ℕ, length, Some, Ok, Err, sym, ap, subst, ◌∙◌, arith}
+use Rattle.std.proofs.Common.{◌≡◌, ◌∷◌, ◌++◌, [], length, Some, Err, sym, ap, subst, ◌∙◌, arith}
 use Rattle.std.specs.Prelude.{slice_set, IfOk, IfErr, OnOk}
 use Rattle.pldm_responder.specs.Performing.{rules_of}
 use Rattle.pldm_requester.specs.Slots.{held_of}
