@@ -1,0 +1,118 @@
+"""What the scripts of this folder share: a program is timed over inputs, beside another one or alone."""
+
+import argparse
+import os
+import statistics
+import subprocess
+import sys
+import tempfile
+import time
+from pathlib import Path
+
+ROOT = Path(__file__).resolve().parent.parent
+DEVICE = (ROOT / "examples" / "device.toml").read_bytes()
+MOST_INPUT = 16 * 1024 * 1024
+RUNS = 3
+
+
+def begin(program, task, given, taken):
+    given.seek(0)
+    return subprocess.Popen([program, task], stdin=given, stdout=taken)
+
+
+def run(program, task, given, output):
+    """The seconds of one run over this input; what it writes goes to `output`."""
+    with open(output, "wb") as taken:
+        start = time.monotonic()
+        status = begin(program, task, given, taken).wait()
+        seconds = time.monotonic() - start
+    if status != 0:
+        sys.exit(f"bench: {program} ended with status {status}")
+    return seconds
+
+
+def peak_memory(program, task, given):
+    """The greatest memory in MiB of one run over this input, looked at every 2 ms."""
+    child = begin(program, task, given, subprocess.DEVNULL)
+    peak = 0
+    while child.poll() is None:
+        try:
+            status = Path(f"/proc/{child.pid}/status").read_text()
+        except OSError:
+            break
+        peak = max([peak] + [int(line.split()[1]) for line in status.splitlines() if line.startswith("VmHWM:")])
+        time.sleep(0.002)
+    child.wait()
+    return peak / 1024
+
+
+def build_peer(folder, room):
+    """Builds the other program away from its folder, and gives the path of what was built."""
+    subprocess.run(
+        ["cargo", "build", "--release", "--offline", "--quiet", "--target-dir", room], cwd=folder, check=True
+    )
+    built = [path for path in (Path(room) / "release").iterdir() if path.is_file() and os.access(path, os.X_OK)]
+    if len(built) != 1:
+        sys.exit(f"bench: expected one program of {folder}, found {len(built)}")
+    return built[0]
+
+
+def measure(programs, task, text, room):
+    """The median seconds of each program, the peak memory of the first, and whether all wrote the same."""
+    outputs = [Path(room) / f"output{place}" for place in range(len(programs))]
+    with tempfile.TemporaryFile() as given:
+        given.write(text)
+        given.flush()
+        rounds = [
+            [run(program, task, given, output) for program, output in zip(programs, outputs)] for _ in range(RUNS)
+        ]
+        memory = peak_memory(programs[0], task, given)
+    seconds = [statistics.median(times[place] for times in rounds) for place in range(len(programs))]
+    return seconds, memory, len({output.read_bytes() for output in outputs}) == 1
+
+
+def filled(rule, size):
+    """An input of at most this many bytes, and how many lines of the rule it has."""
+    parts = [DEVICE, b"%%\n"]
+    left = size - sum(map(len, parts))
+    count = 0
+    for line in rule():
+        if len(line) > left:
+            return b"".join(parts), count
+        parts.append(line)
+        left -= len(line)
+        count += 1
+
+
+def bench(document, task, unit, rules):
+    """Times `mctpctl` with this subcommand over the inputs of each rule; `unit` is what a line is called."""
+    arguments = argparse.ArgumentParser(description=document, formatter_class=argparse.RawDescriptionHelpFormatter)
+    arguments.add_argument("--peer", metavar="FOLDER", help="a Rust program to compare with")
+    arguments.add_argument("sizes", metavar="MiB", nargs="*", type=int, help="sizes of the inputs")
+    chosen = arguments.parse_args()
+    sizes = chosen.sizes or [1, 4, 16]
+    with tempfile.TemporaryDirectory() as room:
+        # builds the program where it is not built yet, and runs it over no line
+        subprocess.run([ROOT / "mctpctl", "answer"], input=DEVICE + b"%%\n", check=True)
+        programs = [ROOT / "crates" / "mctpctl" / "out" / "mctpctl"]
+        if chosen.peer:
+            programs.append(build_peer(chosen.peer, room + "/peer"))
+        print(f"{'input':<10}{'MiB':>5}{unit:>9}{'seconds':>9}{'a second':>11}{'peak MiB':>10}", end="")
+        print(f"{'peer':>9}{'ratio':>7}" if chosen.peer else "")
+        same = True
+        for rule in rules:
+            times = []
+            for size in sizes:
+                text, count = filled(rule, min(size * 1024 * 1024, MOST_INPUT))
+                seconds, memory, equal = measure(programs, task, text, room)
+                same = same and equal
+                times.append(seconds[0])
+                row = f"{rule.__name__:<10}{size:>5}{count:>9}"
+                row += f"{seconds[0]:>9.2f}{count / seconds[0]:>11.0f}{memory:>10.1f}"
+                if chosen.peer:
+                    row += f"{seconds[1]:>9.2f}{seconds[0] / seconds[1]:>7.2f}" + ("" if equal else "  outputs differ")
+                print(row)
+            growth = times[-1] / times[0]
+            print(f"{rule.__name__:<10} {sizes[-1]} MiB take {growth:.1f} times as long as {sizes[0]} MiB")
+    if not same:
+        sys.exit("bench: the programs did not write the same")
