@@ -50,3 +50,4 @@ pub mod OpenedSteps
 pub mod RunsBegin
 pub mod ReportedRequests
 pub mod HeadlineHolds
+pub mod TwoRequesters

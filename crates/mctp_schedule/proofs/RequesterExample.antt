@@ -42,10 +42,10 @@ long_in_time = refl
 long_sources : EachOpensAt IsOther all_came
 long_sources = (tt, (tt, (tt, (tt, (tt, (tt, (tt, (eight, tt))))))))
 
-sized : (bytes : List ℕ) → nat_lt 0 (length bytes) ≡ true → nat_le (length bytes) 256 ≡ true → FitsPackets bytes
+pub sized : (bytes : List ℕ) → nat_lt 0 (length bytes) ≡ true → nat_le (length bytes) 256 ≡ true → FitsPackets bytes
 sized bytes some few = record { some = ltb-true 0 (length bytes) some; few = leb-true (length bytes) 256 few }
 
-same : (P : Asked → Type 0) (q : Asked) → P q → (r : Asked) → Some q ≡ Some r → P r
+pub same : (P : Asked → Type 0) (q : Asked) → P q → (r : Asked) → Some q ≡ Some r → P r
 same P q x r e = subst P (let y : q ≡ r = cc in y) x
 
 abbrev long_request : Asked
