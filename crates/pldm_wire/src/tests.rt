@@ -33,6 +33,21 @@ fn bytes_that_are_no_response_have_a_reason(rt: HostRuntime) {
 }
 
 #[test]
+fn generic_completion_codes_have_their_numbers(rt: HostRuntime) {
+    let numbers = [
+        (Code::ERROR, 0x01),
+        (Code::ERROR_INVALID_DATA, 0x02),
+        (Code::ERROR_INVALID_LENGTH, 0x03),
+        (Code::ERROR_NOT_READY, 0x04),
+        (Code::ERROR_UNSUPPORTED_PLDM_CMD, 0x05),
+        (Code::ERROR_INVALID_PLDM_TYPE, 0x20),
+    ];
+    for (code, number) in numbers {
+        assert_eq!(rt; code.get(), number);
+    }
+}
+
+#[test]
 fn values_that_no_reader_takes_are_not_made(rt: HostRuntime) {
     let beside = [
         (Size::Uint8, -1),
