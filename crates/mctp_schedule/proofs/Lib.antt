@@ -51,3 +51,4 @@ pub mod RunsBegin
 pub mod ReportedRequests
 pub mod HeadlineHolds
 pub mod TwoRequesters
+pub mod WorkedRuns

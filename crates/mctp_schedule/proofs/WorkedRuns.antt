@@ -1,0 +1,209 @@
+-- Worked schedules over the example device, computed from what the headline owes: the entries, the requests that arrived in
+-- the order of their first arrivals, the device's state and the one reply of a request. The newest step stands first.
+use Rattle.std.proofs.Common.{◌≡◌, ℕ, ℤ, pos, List, [], ◌∷◌, ◌++◌, length, map, Some, None, Option, true, false, Bool, Ok, ◌+◌, replicate, refl}
+use Rattle.mctp_packet.specs.declared.reason.Reason.TheVariants.{UnexpectedMiddleOrEnd, BadTag, NotReady}
+use Rattle.pldm_wire.specs.CommandReading.{command_of}
+use Rattle.pldm_wire.specs.Numbers.{sized}
+use Rattle.pldm_wire.specs.Requests.{request_of}
+use Rattle.pldm_wire.specs.Responses.{response_of}
+use Rattle.pldm_wire.specs.declared.command.Command.TheVariants.{GetTid, GetPdr, GetSensorReading, SetNumericEffecterValue}
+use Rattle.pldm_wire.specs.declared.size.Size.TheVariants.{Uint8}
+use Rattle.pldm_device.specs.DeviceAnswers.{answer, after}
+use Rattle.pldm_device.specs.Devices.{Device}
+use Rattle.pldm_device.specs.SensorAnswers.{sensed}
+use Rattle.pldm_device.specs.StateEffecters.{fields_of_states}
+use Rattle.pldm_requester.specs.declared.got.Got.{Got}
+use Rattle.pldm_requester.specs.declared.got.Got.TheVariants as got
+use Rattle.pldm_responder.specs.Performing.{rules_of}
+use Rattle.pldm_responder.specs.declared.outcome.Outcome.TheVariants.{Answered}
+use Rattle.mctp_schedule.specs.FirstArrivals.{firsts}
+use Rattle.mctp_schedule.specs.Headline.{entries_owed, state_once}
+use Rattle.mctp_schedule.specs.Taken.{reply_of, reply_owed}
+use Rattle.mctp_schedule.specs.Worlds.{Setting, world}
+use Rattle.mctp_schedule.specs.declared.entry.Entry.{Entry}
+use Rattle.mctp_schedule.specs.declared.entry.Entry.TheVariants.{Nothing, Opened, Due, Delivered, Received, Sensed, Restarted}
+use Rattle.mctp_schedule.specs.declared.step.Action.{Action}
+use Rattle.mctp_schedule.specs.declared.step.Action.TheVariants.{Open, Tick, Request, Reply, Sense, Restart, Busy}
+use Rattle.mctp_schedule.specs.declared.step.Step.{Step}
+
+-- the example device, with this reading of sensor 1 and this value of numeric effecter 1
+abbrev with_values : ℤ → ℤ → Device
+with_values reading value = record {
+  tid = 1;
+  base_versions = 0x00 ∷ 0xf0 ∷ 0xf0 ∷ 0xf1 ∷ [];
+  platform_versions = 0x00 ∷ 0xf2 ∷ 0xf1 ∷ 0xf1 ∷ [];
+  update_time = replicate 13 0;
+  oem_update_time = replicate 13 0;
+  numeric_sensors = (1, record { present = 1; previous = 1; event = 1; reading = sized Uint8 reading }) ∷ [];
+  state_sensors = [];
+  numeric_effecters = (1, record { min = pos 0; max = pos 100; value = sized Uint8 value }) ∷ [];
+  state_effecters = (2, fields_of_states ((1 ∷ 2 ∷ []) ∷ (1 ∷ 2 ∷ []) ∷ []) (1 ∷ 1 ∷ [])) ∷ [];
+  records = (0x01 ∷ 0 ∷ 0 ∷ 0 ∷ 0x01 ∷ 0x01 ∷ 0 ∷ 0 ∷ 0x22 ∷ 0x01 ∷ replicate 290 0) ∷ [];
+}
+
+abbrev asked_by : ℕ → Setting Device
+asked_by tries = record {
+  device = rules_of answer after sensed;
+  start = with_values (pos 40) (pos 10);
+  eid = 9;
+  keep = 1000;
+  requesters = record { eid = 8; timeout = 200; tries = tries } ∷ record { eid = 10; timeout = 200; tries = 3 } ∷ [];
+}
+
+abbrev setting : Setting Device
+setting = asked_by 3
+
+abbrev at : ℕ → Action → Step
+at moment action = record { moment = moment; action = action }
+
+abbrev set_to : ℕ → ℤ → Action
+set_to e value = Open e (SetNumericEffecterValue 1 (sized Uint8 value))
+
+-- entries in short
+abbrev fresh : Bool → List ℕ → Entry
+fresh changed packet = Delivered false (Answered true changed (packet ∷ []))
+
+abbrev copy : List ℕ → Entry
+copy packet = Delivered false (Answered false false (packet ∷ []))
+
+abbrev busy : List ℕ → Entry
+busy packet = Delivered true (Answered false false (packet ∷ []))
+
+abbrev again : List ℕ → Entry
+again numbers = Due (record { again = record { items = numbers }; given_up = record { items = [] } })
+
+-- ---- a retry: the copy is not performed, and has the same answer
+abbrev a_retry : List Step
+a_retry = at 210 (Reply 0 0) ∷ at 200 (Request 0) ∷ at 200 (Tick 8) ∷ at 0 (Request 0) ∷ at 0 (set_to 8 (pos 40)) ∷ []
+
+abbrev done : List ℕ
+done = 0x01 ∷ 0x08 ∷ 0x09 ∷ 0xc0 ∷ 0x01 ∷ 0x00 ∷ 0x02 ∷ 0x31 ∷ 0x00 ∷ []
+
+retry_entries : entries_owed setting a_retry ≡ Opened 0 ∷ fresh true done ∷ again (0 ∷ []) ∷ copy done ∷ Received (got.Answered 0) ∷ []
+unfolding request_of command_of response_of
+retry_entries = refl
+
+retry_order : firsts 1000 (world setting a_retry).log ≡ 0 ∷ []
+unfolding request_of command_of response_of
+retry_order = refl
+
+retry_state : state_once setting a_retry ≡ with_values (pos 40) (pos 40)
+unfolding request_of command_of response_of
+retry_state = refl
+
+retry_reply : reply_of setting (world setting a_retry) 0 ≡ 0x01 ∷ 0x00 ∷ 0x02 ∷ 0x31 ∷ 0x00 ∷ []
+unfolding request_of command_of response_of
+retry_reply = refl
+
+-- ---- a reading between a request and its copy: the copy has the answer of before
+abbrev a_reading : List Step
+a_reading =
+    at 20 (Reply 1 0) ∷ at 20 (Reply 0 0) ∷ at 10 (Request 1) ∷ at 10 (Open 8 (GetSensorReading 1 0)) ∷ at 10 (Request 0)
+    ∷ at 5 (Sense 1 (pos 41)) ∷ at 0 (Request 0) ∷ at 0 (Open 8 (GetSensorReading 1 0)) ∷ []
+
+abbrev reading_message : ℕ → ℕ → List ℕ
+reading_message id value =
+    0x01 ∷ id ∷ 0x02 ∷ 0x11 ∷ 0x00 ∷ 0x00 ∷ 0x00 ∷ 0x00 ∷ 0x01 ∷ 0x01 ∷ 0x01 ∷ value ∷ []
+
+abbrev reading_packet : ℕ → ℕ → List ℕ
+reading_packet id value = 0x01 ∷ 0x08 ∷ 0x09 ∷ (0xc0 + id) ∷ reading_message id value
+
+reading_entries : entries_owed setting a_reading ≡ Opened 0 ∷ fresh false (reading_packet 0 0x28) ∷ Sensed (Ok tt)
+    ∷ copy (reading_packet 0 0x28) ∷ Opened 1 ∷ fresh false (reading_packet 1 0x29) ∷ Received (got.Answered 0)
+    ∷ Received (got.Answered 1) ∷ []
+unfolding request_of command_of response_of
+reading_entries = refl
+
+reading_order : firsts 1000 (world setting a_reading).log ≡ 0 ∷ 1 ∷ []
+unfolding request_of command_of response_of
+reading_order = refl
+
+reading_state : state_once setting a_reading ≡ with_values (pos 41) (pos 10)
+unfolding request_of command_of response_of
+reading_state = refl
+
+reading_replies : map (reply_of setting (world setting a_reading)) (0 ∷ 1 ∷ []) ≡ reading_message 0 0x28 ∷ reading_message 1 0x29 ∷ []
+unfolding request_of command_of response_of
+reading_replies = refl
+
+-- ---- two requesters set one effecter: performed in the order of arrival, and a copy of the first one changes nothing
+abbrev two_of_them : List Step
+two_of_them =
+    at 0 (Request 2) ∷ at 0 (Request 1) ∷ at 0 (Request 0) ∷ at 0 (Request 1)
+    ∷ at 0 (set_to 10 (pos 50)) ∷ at 0 (set_to 8 (pos 40)) ∷ []
+
+abbrev done_to : ℕ → List ℕ
+done_to e = 0x01 ∷ e ∷ 0x09 ∷ 0xc0 ∷ 0x01 ∷ 0x00 ∷ 0x02 ∷ 0x31 ∷ 0x00 ∷ []
+
+two_entries : entries_owed setting two_of_them
+    ≡ Opened 0 ∷ Opened 1 ∷ fresh true (done_to 10) ∷ fresh true (done_to 8) ∷ copy (done_to 10) ∷ Nothing ∷ []
+unfolding request_of command_of response_of
+two_entries = refl
+
+two_order : firsts 1000 (world setting two_of_them).log ≡ 1 ∷ 0 ∷ []
+unfolding request_of command_of response_of
+two_order = refl
+
+two_state : state_once setting two_of_them ≡ with_values (pos 40) (pos 40)
+unfolding request_of command_of response_of
+two_state = refl
+
+-- ---- an answer that comes twice is taken once
+abbrev twice_answered : List Step
+twice_answered = at 600 (Tick 8) ∷ at 0 (Reply 0 0) ∷ at 0 (Reply 0 0) ∷ at 0 (Request 0) ∷ at 0 (Open 8 GetTid) ∷ []
+
+twice_entries : entries_owed setting twice_answered
+    ≡ Opened 0 ∷ fresh false (0x01 ∷ 0x08 ∷ 0x09 ∷ 0xc0 ∷ 0x01 ∷ 0x00 ∷ 0x00 ∷ 0x02 ∷ 0x00 ∷ 0x01 ∷ []) ∷ Received (got.Answered 0)
+    ∷ Received (got.Dropped BadTag) ∷ again [] ∷ []
+unfolding request_of command_of response_of
+twice_entries = refl
+
+-- ---- a restart: the copy after it is not performed, and the answer of before is still taken
+abbrev a_restart : List Step
+a_restart =
+    at 220 (Reply 0 0) ∷ at 210 (Busy 0) ∷ at 200 (Request 0) ∷ at 200 (Tick 8) ∷ at 100 Restart ∷ at 0 (Request 0)
+    ∷ at 0 (set_to 8 (pos 40)) ∷ []
+
+abbrev not_ready : List ℕ
+not_ready = 0x01 ∷ 0x08 ∷ 0x09 ∷ 0xc0 ∷ 0x01 ∷ 0x00 ∷ 0x02 ∷ 0x31 ∷ 0x04 ∷ []
+
+restart_entries : entries_owed (asked_by 5) a_restart
+    ≡ Opened 0 ∷ fresh true done ∷ Restarted ∷ again (0 ∷ []) ∷ busy not_ready ∷ Received (got.Dropped NotReady)
+    ∷ Received (got.Answered 0) ∷ []
+unfolding request_of command_of response_of
+restart_entries = refl
+
+restart_state : state_once (asked_by 5) a_restart ≡ with_values (pos 40) (pos 40)
+unfolding request_of command_of response_of
+restart_state = refl
+
+-- ---- an answer of four packets: what each delivery of them gives, where they come out of order and again
+abbrev of_four : List Step
+of_four = at 0 (Request 0) ∷ at 0 (Open 8 (GetPdr 0 0 1 239 0)) ∷ []
+
+abbrev replies_after : List ℕ → List Step
+replies_after [] = of_four
+replies_after (j ∷ earlier) = at 0 (Reply 0 j) ∷ replies_after earlier
+
+four_reply : reply_of setting (world setting of_four) 0
+    ≡ (0x01 ∷ 0x00 ∷ 0x02 ∷ 0x51 ∷ 0x00 ∷ 0x00 ∷ 0x00 ∷ 0x00 ∷ 0x00 ∷ 0xef ∷ 0x00 ∷ 0x00 ∷ 0x00 ∷ 0x00 ∷ 0xef ∷ 0x00
+    ∷ 0x01 ∷ 0x00 ∷ 0x00 ∷ 0x00 ∷ 0x01 ∷ 0x01 ∷ 0x00 ∷ 0x00 ∷ 0x22 ∷ 0x01 ∷ []) ++ replicate 229 0
+unfolding request_of command_of response_of
+four_reply = refl
+
+four_early : reply_owed setting of_four 0 1 ≡ Some (got.Dropped UnexpectedMiddleOrEnd)
+unfolding request_of command_of response_of
+four_early = refl
+
+four_parts : (reply_owed setting (replies_after (1 ∷ [])) 0 0 ≡ Some got.Partial)
+    × (reply_owed setting (replies_after (0 ∷ 1 ∷ [])) 0 0 ≡ Some got.Partial)
+    × (reply_owed setting (replies_after (0 ∷ 0 ∷ 1 ∷ [])) 0 1 ≡ Some got.Partial)
+    × (reply_owed setting (replies_after (1 ∷ 0 ∷ 0 ∷ 1 ∷ [])) 0 2 ≡ Some got.Partial)
+unfolding request_of command_of response_of
+four_parts = (refl, refl, refl, refl)
+
+four_answered : (reply_owed setting (replies_after (2 ∷ 1 ∷ 0 ∷ 0 ∷ 1 ∷ [])) 0 3 ≡ Some (got.Answered 0))
+    × (reply_owed setting (replies_after (3 ∷ 2 ∷ 1 ∷ 0 ∷ 0 ∷ 1 ∷ [])) 0 3 ≡ Some (got.Dropped BadTag))
+    × (reply_owed setting (replies_after (3 ∷ 3 ∷ 2 ∷ 1 ∷ 0 ∷ 0 ∷ 1 ∷ [])) 0 4 ≡ None)
+unfolding request_of command_of response_of
+four_answered = (refl, refl, refl)
