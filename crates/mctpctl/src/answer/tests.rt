@@ -1,3 +1,4 @@
+mod changed_packets;
 mod records;
 mod transfer;
 
