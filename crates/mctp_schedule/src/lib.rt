@@ -15,6 +15,8 @@ mod places;
 mod run_fault;
 mod schedule;
 mod step;
+#[cfg(test)]
+mod tests;
 mod word;
 
 pub use both_ends::{Report, Setup, run};
