@@ -1,4 +1,5 @@
 mod lamp;
+mod memory;
 mod told;
 
 use crate::{LineFaultKind, RunFault, Schedule, Setup, run};
