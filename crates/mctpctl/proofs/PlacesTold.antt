@@ -55,7 +55,7 @@ rank ids (suc place) sorted within =
 pub place_below : {X : Type 0} (things : ById X) (place : ℕ) (thing : ℕ × X) → AscendingIds things → slice_get things place ≡ Some thing → place ≤ thing.0
 place_below {X} things place thing sorted found =
     let key : slice_get (keys_of things) place ≡ Some thing.0 =
-        slice_get-map (λ (e : ℕ × X). e.0) things place ∙ ap (option_map (λ (e : ℕ × X). e.0)) found in
+    slice_get-map (λ (e : ℕ × X). e.0) things place ∙ ap (option_map (λ (e : ℕ × X). e.0)) found in
     let within : place < length (keys_of things) = slice_get_within (keys_of things) place thing.0 key in
     let is : get_or (keys_of things) place 0 ≡ thing.0 = get_or_from_slice_get (keys_of things) place thing.0 0 key in
     omega (arith, rank (keys_of things) place sorted within, is)

@@ -39,7 +39,11 @@ fn expect(rt: &impl Abort, alloc: Global, schedule: &str, told: &str) -> Result<
     let input = example::input(alloc, schedule)?;
     let mut reader = Port::new(input.as_bytes());
     let mut writer = Port::new(Vec::with_capacity(alloc, 4_096)?);
-    assert_eq!(rt; run_all(alloc, &mut reader, &mut writer), Ok(()), "{schedule}");
+    assert_eq!(rt;
+        run_all(alloc, &mut reader, &mut writer),
+        Ok(()),
+        "{schedule}"
+    );
     let written = writer.into_inner();
     assert_eq!(rt; written.as_slice(), told.as_bytes(), "{schedule}");
     Ok(())
@@ -67,13 +71,34 @@ fn refused_inputs_write_nothing(rt: HostRuntime) -> Result<(), Fail> {
     let device = example::description(alloc)?;
     let rows = [
         (format!(in alloc; "{device}")?, "no %% line"),
-        (format!(in alloc; "eid = 9\nkeep_ms = 1000\ntid = 255\n%%\nx\n")?, "device: OutOfRange"),
-        (format!(in alloc; "{device}%%\n{REQUESTER}at 5 tick 8\nat 4 tick 8\n")?, "line 3: BackInTime"),
-        (format!(in alloc; "{device}%%\n{retry}at 300 tick 9\n")?, "line 7: NoSuchRequester"),
-        (format!(in alloc; "{device}%%\n{REQUESTER}{REQUESTER}")?, "line 2: SameRequester"),
-        (format!(in alloc; "{device}%%\nrequester 8 timeout 400 tries 3\n")?, "requester 8: TooLate"),
-        (format!(in alloc; "{device}%%\nrequester 9 timeout 200 tries 3\n")?, "requester 9: SameEid"),
-        (format!(in alloc; "{device}%%\nrequester 9 timeout 200 tries 3\n\nx\n")?, "line 3: Words"),
+        (
+            format!(in alloc; "eid = 9\nkeep_ms = 1000\ntid = 255\n%%\nx\n")?,
+            "device: OutOfRange",
+        ),
+        (
+            format!(in alloc; "{device}%%\n{REQUESTER}at 5 tick 8\nat 4 tick 8\n")?,
+            "line 3: BackInTime",
+        ),
+        (
+            format!(in alloc; "{device}%%\n{retry}at 300 tick 9\n")?,
+            "line 7: NoSuchRequester",
+        ),
+        (
+            format!(in alloc; "{device}%%\n{REQUESTER}{REQUESTER}")?,
+            "line 2: SameRequester",
+        ),
+        (
+            format!(in alloc; "{device}%%\nrequester 8 timeout 400 tries 3\n")?,
+            "requester 8: TooLate",
+        ),
+        (
+            format!(in alloc; "{device}%%\nrequester 9 timeout 200 tries 3\n")?,
+            "requester 9: SameEid",
+        ),
+        (
+            format!(in alloc; "{device}%%\nrequester 9 timeout 200 tries 3\n\nx\n")?,
+            "line 3: Words",
+        ),
         (format!(in alloc; "{device}%%\n%%\n")?, "line 1: Words"),
     ];
     for (input, line) in rows {
@@ -113,11 +138,17 @@ fn failed_ports_are_told(rt: HostRuntime) -> Result<(), Fail> {
     let input = example::input(alloc, RETRY)?;
     let mut reader = Port::new(FailsAt::once(input.as_bytes(), 1));
     let mut writer = Port::new(Vec::new(alloc));
-    assert_eq!(rt; run_all(alloc, &mut reader, &mut writer), Err(EngineFault::Read));
+    assert_eq!(rt;
+        run_all(alloc, &mut reader, &mut writer),
+        Err(EngineFault::Read)
+    );
     assert!(rt; writer.into_inner().is_empty());
     let mut reader = Port::new(input.as_bytes());
     let mut writer = Port::new(FailsAt::once(Vec::new(alloc), 0));
-    assert_eq!(rt; run_all(alloc, &mut reader, &mut writer), Err(EngineFault::Write));
+    assert_eq!(rt;
+        run_all(alloc, &mut reader, &mut writer),
+        Err(EngineFault::Write)
+    );
     let faulty = example::input(alloc, "x\n")?;
     let mut reader = Port::new(faulty.as_bytes());
     let mut writer = Port::new(Vec::new(alloc));
