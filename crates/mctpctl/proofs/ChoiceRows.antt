@@ -5,11 +5,15 @@ use Rattle.clap.specs.Words.{fault_of}
 use Rattle.clap.specs.declared.error.kind.ErrorKind.TheVariants.{DisplayHelp, MissingSubcommand}
 use Rattle.mctpctl.specs.Choice.{command as the_command}
 use Rattle.mctpctl.specs.Choice.{task_of}
-use Rattle.mctpctl.specs.declared.choose.Task.TheVariants.{Answer, Show}
+use Rattle.mctpctl.specs.declared.choose.Task.TheVariants.{Answer, Run, Show}
 
 answer : task_of (codes "mctpctl" ∷ codes "answer" ∷ []) ≡ Some Answer
 unfolding clap_on_literals
 answer = refl
+
+run : task_of (codes "mctpctl" ∷ codes "run" ∷ []) ≡ Some Run
+unfolding clap_on_literals
+run = refl
 
 show : task_of (codes "mctpctl" ∷ codes "show" ∷ []) ≡ Some Show
 unfolding clap_on_literals

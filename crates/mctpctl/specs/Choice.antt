@@ -5,7 +5,7 @@ use Rattle.clap.specs.Words.{App, new_app, with_subcommand, fault_of, subcommand
 use Rattle.clap.specs.declared.error.kind.ErrorKind.{ErrorKind}
 use Rattle.clap.specs.declared.error.kind.ErrorKind.TheVariants.{DisplayHelp, OutOfMemory}
 use Rattle.mctpctl.specs.declared.choose.Task.{Task}
-use Rattle.mctpctl.specs.declared.choose.Task.TheVariants.{Answer, Show}
+use Rattle.mctpctl.specs.declared.choose.Task.TheVariants.{Answer, Run, Show}
 use Rattle.mctpctl.specs.declared.choose.ChooseFault.{ChooseFault}
 use Rattle.mctpctl.specs.declared.choose.ChooseFault.TheVariants.{Help, Refused, Memory}
 
@@ -14,7 +14,9 @@ abbrev pub program : App
 program = record { top = record (new_app (codes "mctpctl")).top { subcommand_required = true }; subs = [] }
 
 abbrev pub command : App
-command = with_subcommand (with_subcommand program (new_app (codes "answer")).top) (new_app (codes "show")).top
+command =
+    with_subcommand (with_subcommand (with_subcommand program (new_app (codes "answer")).top)
+    (new_app (codes "run")).top) (new_app (codes "show")).top
 
 -- whether `clap` takes the words, of which the first is the program's name
 abbrev pub takes_line : List (List ℕ) → Bool
@@ -23,6 +25,7 @@ takes_line words = length (fault_of command words) == 0
 abbrev pub task_named : List ℕ → Option Task
 task_named name =
     if bytes_eq name (codes "answer") then Some Answer
+    else if bytes_eq name (codes "run") then Some Run
     else if bytes_eq name (codes "show") then Some Show
     else None
 

@@ -5,6 +5,7 @@ pub mod CaptureLine
 pub mod CaptureRuns
 pub mod Choice
 pub mod DescribedPieces
+pub mod EntryTexts
 pub mod FaultNumbers
 pub mod FaultTexts
 pub mod HeldRuns
@@ -15,6 +16,9 @@ pub mod ObservedRuns
 pub mod OutcomeTexts
 pub mod Pieces
 pub mod Ports
+pub mod ReportTexts
+pub mod RunText
+pub mod SchedulePieces
 pub mod ShowText
 pub mod ShownLines
 pub mod Statuses

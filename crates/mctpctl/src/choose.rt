@@ -5,7 +5,7 @@ ghost use Rattle.clap.specs.Words.{app_of, kind_of, subcommand_name_of};
 ghost use Rattle.mctpctl.specs.FaultNumbers.{number_of_choose_fault};
 ghost use Rattle.mctpctl.specs.Choice.{command as the_command, task_named, task_of, TellsKind, TellsRefusal};
 
-use crate::help::{ANSWER, SHOW, STATUSES};
+use crate::help::{ANSWER, RUN, SHOW, STATUSES};
 use clap::error::ErrorKind;
 use clap::{ArgMatches, Command};
 use std::alloc::{AllocError, Global};
@@ -16,6 +16,8 @@ use thiserror::Error;
 pub enum Task {
     /// Answer a capture of packets as the described device.
     Answer,
+    /// Run requesters and the described device over a schedule.
+    Run,
     /// Show the packets and messages of a capture.
     Show,
 }
@@ -71,6 +73,9 @@ fn command<'a>(alloc: Global) -> Result<Command<'a>, AllocError>
     let answer = Command::new(alloc, "answer")
         .about("Answers the packets of a capture as the described device does")
         .after_help(ANSWER);
+    let run = Command::new(alloc, "run")
+        .about("Runs requesters and the described device over a schedule of what is delivered")
+        .after_help(RUN);
     let show = Command::new(alloc, "show")
         .about("Shows the packets of a capture and the messages that they complete")
         .after_help(SHOW);
@@ -79,6 +84,7 @@ fn command<'a>(alloc: Global) -> Result<Command<'a>, AllocError>
         .after_help(STATUSES)
         .subcommand_required(true)
         .subcommand(answer)?
+        .subcommand(run)?
         .subcommand(show)
 }
 
@@ -95,6 +101,7 @@ fn named(name: &str) -> Option<Task>
 {
     match name {
         "answer" => Some(Task::Answer),
+        "run" => Some(Task::Run),
         "show" => Some(Task::Show),
         _ => None,
     }
@@ -124,6 +131,8 @@ mod tests {
     fn takes_the_subcommand(rt: HostRuntime) {
         let task = choose(rt.alloc(), &["mctpctl", "answer"]);
         assert!(rt; matches!(task, Ok(Task::Answer)));
+        let task = choose(rt.alloc(), &["mctpctl", "run"]);
+        assert!(rt; matches!(task, Ok(Task::Run)));
         let task = choose(rt.alloc(), &["mctpctl", "show"]);
         assert!(rt; matches!(task, Ok(Task::Show)));
     }
@@ -143,6 +152,7 @@ mod tests {
         };
         assert!(rt; text.as_str().contains("Usage: mctpctl <COMMAND>"));
         assert!(rt; text.as_str().contains("answer"));
+        assert!(rt; text.as_str().contains("run"));
         assert!(rt; text.as_str().contains("show"));
         Ok(())
     }

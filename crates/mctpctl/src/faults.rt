@@ -2,11 +2,12 @@
 
 ghost use Rattle.std.specs.Prelude.{◌≡◌, IfOk, Some, string_bytes};
 ghost use Rattle.mctpctl.specs.FaultNumbers.{number_of_engine_fault, number_of_line_kind};
-ghost use Rattle.mctpctl.specs.FaultTexts.{fault_text, name_of_line_kind};
+ghost use Rattle.mctpctl.specs.FaultTexts.{fault_text, name_of_line_kind, name_of_timing_fault};
 ghost use Rattle.mctpctl.specs.Statuses.{status_of_fault};
 
-use mctp_packet::Memory;
+use mctp_packet::{Eid, Memory};
 use pldm_device::FileFault;
+use pldm_requester::TimingFault;
 use std::alloc::Global;
 use std::{error, fmt};
 use thiserror::Error;
@@ -17,14 +18,18 @@ use thiserror::Error;
 pub enum LineKind {
     /// The line is over the limit of a capture line.
     LongLine = 1,
-    /// The line has too many words.
+    /// The count of words is wrong, or a word of a schedule is not one that may stand there.
     Words = 2,
-    /// The moment is no decimal number, or is outside its range.
+    /// The moment, or a number of a schedule, is no decimal number or is outside its range.
     Number = 3,
     /// The moment is before that of an earlier line.
     BackInTime = 4,
     /// The packet has an odd number of hex digits, or a character that is none.
     BadHex = 5,
+    /// No earlier line of the schedule is of the requester at this endpoint ID.
+    NoSuchRequester = 6,
+    /// An earlier line of the schedule is of the requester at this endpoint ID.
+    SameRequester = 7,
 }
 
 impl LineKind {
@@ -45,6 +50,8 @@ impl LineKind {
             LineKind::Number => "Number",
             LineKind::BackInTime => "BackInTime",
             LineKind::BadHex => "BadHex",
+            LineKind::NoSuchRequester => "NoSuchRequester",
+            LineKind::SameRequester => "SameRequester",
         }
     }
 }
@@ -58,6 +65,8 @@ pub enum EngineFault {
     NoDivider,
     /// The line with this number, counted from 1 after the divider, was refused.
     Line(u64, LineKind),
+    /// The timing of the requester at this endpoint was refused.
+    Timing(Eid, TimingFault),
     /// The description or the whole input is over its limit.
     TooLarge,
     /// The reader failed.
@@ -76,6 +85,9 @@ impl fmt::Display for EngineFault {
             EngineFault::Device(fault) => write!(f, "device: {}", fault.name()),
             EngineFault::NoDivider => write!(f, "no %% line"),
             EngineFault::Line(number, kind) => write!(f, "line {number}: {}", kind.name()),
+            EngineFault::Timing(eid, fault) => {
+                write!(f, "requester {}: {}", eid.get(), timing_name(*fault))
+            }
             EngineFault::TooLarge => write!(f, "input too large"),
             EngineFault::Read => write!(f, "read fault"),
             EngineFault::Write => write!(f, "write fault"),
@@ -87,7 +99,7 @@ impl fmt::Display for EngineFault {
 impl error::Error for EngineFault {}
 
 impl EngineFault {
-    /// The fault's number in this program's list: 4 is kept for a requester's refused timing.
+    /// The fault's number in this program's list.
     pub fn number(&self) -> u8
         ensures { result ≡ number_of_engine_fault self.now }
     {
@@ -95,11 +107,24 @@ impl EngineFault {
             EngineFault::Device(_) => 1,
             EngineFault::NoDivider => 2,
             EngineFault::Line(_, _) => 3,
+            EngineFault::Timing(_, _) => 4,
             EngineFault::TooLarge => 5,
             EngineFault::Read => 6,
             EngineFault::Write => 7,
             EngineFault::Memory => 8,
         }
+    }
+}
+
+/// The name of a timing's fault, as it is spelled in its type.
+fn timing_name(fault: TimingFault) -> &'static str
+    ensures { result.now ≡ name_of_timing_fault fault }
+{
+    match fault {
+        TimingFault::Timeout => "Timeout",
+        TimingFault::Tries => "Tries",
+        TimingFault::TooLate => "TooLate",
+        TimingFault::SameEid => "SameEid",
     }
 }
 
@@ -112,6 +137,7 @@ pub fn status_of(fault: &EngineFault) -> u8
         EngineFault::Device(_)
         | EngineFault::NoDivider
         | EngineFault::Line(_, _)
+        | EngineFault::Timing(_, _)
         | EngineFault::TooLarge => 1,
         EngineFault::Read | EngineFault::Write | EngineFault::Memory => 3,
     }
@@ -131,6 +157,7 @@ mod tests {
 
     #[test]
     fn tells_each_fault(rt: HostRuntime) -> Result<(), Fail> {
+        let requester = Eid::new(8).ok_or(Fail::from("no endpoint ID"))?;
         let rows = [
             (
                 EngineFault::Device(FileFault::OutOfRange),
@@ -147,6 +174,21 @@ mod tests {
             (
                 EngineFault::Line(1, LineKind::LongLine),
                 "line 1: LongLine",
+                1,
+            ),
+            (
+                EngineFault::Line(2, LineKind::SameRequester),
+                "line 2: SameRequester",
+                1,
+            ),
+            (
+                EngineFault::Line(7, LineKind::NoSuchRequester),
+                "line 7: NoSuchRequester",
+                1,
+            ),
+            (
+                EngineFault::Timing(requester, TimingFault::TooLate),
+                "requester 8: TooLate",
                 1,
             ),
             (EngineFault::TooLarge, "input too large", 1),

@@ -34,6 +34,52 @@ Exit status:
   1  the input was refused: one line on standard error says why
   3  a read or a write failed, or there was no memory";
 
+/// What `run` reads and writes.
+pub const RUN: &str = "\
+Input, from standard input: a device description in TOML, a line '%%', and a schedule of
+what is delivered between requesters and the device. Nothing else is, so what no line
+delivers is lost. A schedule has these lines, and '#' begins a comment:
+
+  requester EID timeout MS tries N   a requester, and when it sends a request again
+  at MS open EID COMMAND             it opens a request; requests are numbered from 0
+  at MS tick EID                     it sends again and gives up what is due
+  at MS req K                        the packet of request K comes to the device
+  at MS rep K J                      packet J of its latest reply comes to the requester
+  at MS sense ID VALUE               a numeric sensor of the device gets a reading
+  at MS restart                      the device's end restarts, and is busy for keep_ms
+  at MS busy K                       the latest busy answer to K comes to the requester
+
+COMMAND is gettid, settid N, getversion TYPE, gettypes, getcommands TYPE, sensor ID,
+statesensors ID, setnum ID SIZE VALUE, getnum ID, setstate ID S .., getstate ID, pdrinfo
+or getpdr RECORD TRANSFER first|next COUNT. In setstate an S is a state, or '-' for none.
+Thus, after a description and '%%':
+
+  requester 8 timeout 200 tries 3
+  at 0 open 8 gettid
+  at 0 req 0
+  at 200 tick 8
+  at 200 req 0
+  at 210 rep 0 0
+
+Output, once all of the schedule has been run: what came of each step, how each request
+stands, the requests in the order in which the device performed them, the device, and
+whether no packet came too late for its answer to be owed:
+
+  0 opened 0
+  0 fresh unchanged
+  200 again 0
+  200 copy
+  210 answered
+  request 0 from 8 answered 010000020001
+  order 0
+  tid 1
+  timely: yes
+
+Exit status:
+  0  done, whether the schedule was timely or not
+  1  the input was refused: one line on standard error says why, and nothing was written
+  3  a read or a write failed, or there was no memory";
+
 /// What `show` reads and writes.
 pub const SHOW: &str = "\
 Input, from standard input: a capture alone, with no description before it. A capture

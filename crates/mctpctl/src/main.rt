@@ -1,10 +1,13 @@
-//! `mctpctl` answers captures of MCTP packets as a simulated PLDM device would, and shows what they say.
+//! `mctpctl` answers captures of MCTP packets as a simulated PLDM device would, runs
+//! requesters and the device over a schedule, and shows what packets say.
 #![tactic(auto)]
 
 mod answer;
 mod answer_run;
 mod capture;
 mod choose;
+mod device_text;
+mod entry_text;
 #[cfg(test)]
 mod example;
 #[cfg(test)]
@@ -19,6 +22,9 @@ mod observer;
 mod outcome;
 mod packet_line;
 mod port;
+mod report_text;
+mod run;
+mod schedule_run;
 mod show;
 mod stream;
 
@@ -26,6 +32,7 @@ use crate::answer::answer_all;
 use crate::choose::{ChooseFault, Task, choose};
 use crate::faults::{EngineFault, fault_line, status_of};
 use crate::port::Port;
+use crate::run::run_all;
 use crate::show::show_all;
 use std::env;
 use std::io::ErrorKind;
@@ -33,7 +40,7 @@ use std::process::ExitCode;
 
 fn main(rt: HostRuntime) -> ExitCode {
     let status = match chosen(&rt) {
-        Ok(task) => match run(&rt, task) {
+        Ok(task) => match perform(&rt, task) {
             Ok(()) => 0,
             Err(fault) => {
                 tell(&rt, &fault);
@@ -77,12 +84,13 @@ fn chosen(rt: &HostRuntime) -> Result<Task, ChooseFault> {
     choose(alloc, &words)
 }
 
-/// Runs the task over standard input, on standard output.
-fn run(rt: &HostRuntime, task: Task) -> Result<(), EngineFault> {
+/// Does the task over standard input, on standard output.
+fn perform(rt: &HostRuntime, task: Task) -> Result<(), EngineFault> {
     let mut reader = Port::new(rt.stdin());
     let mut writer = Port::new(rt.stdout());
     match task {
         Task::Answer => answer_all(rt.alloc(), &mut reader, &mut writer),
+        Task::Run => run_all(rt.alloc(), &mut reader, &mut writer),
         Task::Show => show_all(rt.alloc(), &mut reader, &mut writer),
     }
 }

@@ -1,0 +1,158 @@
+use crate::example;
+use crate::fakes::{FailsAt, OneByteWriter, PieceReader};
+use crate::faults::{EngineFault, LineKind, fault_line};
+use crate::port::Port;
+use crate::run::run_all;
+use std::alloc::{AllocError, Global};
+use std::process::Abort;
+use std::test::Fail;
+
+mod rows;
+
+const REQUESTER: &str = "requester 8 timeout 200 tries 3\n";
+
+/// A request whose first answer is lost, and a retry.
+const RETRY: &str = "requester 8 timeout 200 tries 3
+at 0 open 8 setnum 1 uint8 40
+at 0 req 0
+at 200 tick 8
+at 200 req 0
+at 210 rep 0 0
+";
+
+const RETRY_TOLD: &str = "0 opened 0
+0 fresh changed
+200 again 0
+200 copy
+210 answered
+request 0 from 8 answered 0100023100
+order 0
+tid 1
+sensor 1 40
+numeric 1 40
+state 2 1 1
+timely: yes
+";
+
+/// Checks what a schedule over the example device gives.
+fn expect(rt: &impl Abort, alloc: Global, schedule: &str, told: &str) -> Result<(), AllocError> {
+    let input = example::input(alloc, schedule)?;
+    let mut reader = Port::new(input.as_bytes());
+    let mut writer = Port::new(Vec::with_capacity(alloc, 4_096)?);
+    assert_eq!(rt;
+        run_all(alloc, &mut reader, &mut writer),
+        Ok(()),
+        "{schedule}"
+    );
+    let written = writer.into_inner();
+    assert_eq!(rt; written.as_slice(), told.as_bytes(), "{schedule}");
+    Ok(())
+}
+
+#[test]
+fn a_retry_is_answered_by_the_kept_answer(rt: HostRuntime) -> Result<(), Fail> {
+    expect(&rt, rt.alloc(), RETRY, RETRY_TOLD)?;
+    Ok(())
+}
+
+#[test]
+fn schedules_tell_what_comes_of_them(rt: HostRuntime) -> Result<(), Fail> {
+    for (schedule, told) in rows::SCHEDULES {
+        expect(&rt, rt.alloc(), schedule, told)?;
+    }
+    Ok(())
+}
+
+/// Each of these texts is refused with this line, and nothing is written.
+#[test]
+fn refused_inputs_write_nothing(rt: HostRuntime) -> Result<(), Fail> {
+    let alloc = rt.alloc();
+    let retry = RETRY;
+    let device = example::description(alloc)?;
+    let rows = [
+        (format!(in alloc; "{device}")?, "no %% line"),
+        (
+            format!(in alloc; "eid = 9\nkeep_ms = 1000\ntid = 255\n%%\nx\n")?,
+            "device: OutOfRange",
+        ),
+        (
+            format!(in alloc; "{device}%%\n{REQUESTER}at 5 tick 8\nat 4 tick 8\n")?,
+            "line 3: BackInTime",
+        ),
+        (
+            format!(in alloc; "{device}%%\n{retry}at 300 tick 9\n")?,
+            "line 7: NoSuchRequester",
+        ),
+        (
+            format!(in alloc; "{device}%%\n{REQUESTER}{REQUESTER}")?,
+            "line 2: SameRequester",
+        ),
+        (
+            format!(in alloc; "{device}%%\nrequester 8 timeout 400 tries 3\n")?,
+            "requester 8: TooLate",
+        ),
+        (
+            format!(in alloc; "{device}%%\nrequester 9 timeout 200 tries 3\n")?,
+            "requester 9: SameEid",
+        ),
+        (
+            format!(in alloc; "{device}%%\nrequester 9 timeout 200 tries 3\n\nx\n")?,
+            "line 3: Words",
+        ),
+        (format!(in alloc; "{device}%%\n%%\n")?, "line 1: Words"),
+    ];
+    for (input, line) in rows {
+        let mut reader = Port::new(input.as_bytes());
+        let mut writer = Port::new(Vec::new(alloc));
+        let Err(fault) = run_all(alloc, &mut reader, &mut writer) else {
+            return Err(Fail::from("not refused"));
+        };
+        assert_eq!(rt; fault_line(alloc, &fault)?.as_str(), line);
+        assert!(rt; writer.into_inner().is_empty(), "{line}");
+    }
+    Ok(())
+}
+
+#[test]
+fn pieces_change_nothing(rt: HostRuntime) -> Result<(), Fail> {
+    let alloc = rt.alloc();
+    let input = example::input(alloc, RETRY)?;
+    let mut reader = Port::new(PieceReader {
+        bytes: input.as_bytes(),
+        piece: 7,
+    });
+    let mut writer = Port::new(OneByteWriter {
+        taken: Vec::new(alloc),
+        flushes: 0,
+    });
+    assert_eq!(rt; run_all(alloc, &mut reader, &mut writer), Ok(()));
+    let writer = writer.into_inner();
+    assert_eq!(rt; writer.taken.as_slice(), RETRY_TOLD.as_bytes());
+    assert_eq!(rt; writer.flushes, 1);
+    Ok(())
+}
+
+#[test]
+fn failed_ports_are_told(rt: HostRuntime) -> Result<(), Fail> {
+    let alloc = rt.alloc();
+    let input = example::input(alloc, RETRY)?;
+    let mut reader = Port::new(FailsAt::once(input.as_bytes(), 1));
+    let mut writer = Port::new(Vec::new(alloc));
+    assert_eq!(rt;
+        run_all(alloc, &mut reader, &mut writer),
+        Err(EngineFault::Read)
+    );
+    assert!(rt; writer.into_inner().is_empty());
+    let mut reader = Port::new(input.as_bytes());
+    let mut writer = Port::new(FailsAt::once(Vec::new(alloc), 0));
+    assert_eq!(rt;
+        run_all(alloc, &mut reader, &mut writer),
+        Err(EngineFault::Write)
+    );
+    let faulty = example::input(alloc, "x\n")?;
+    let mut reader = Port::new(faulty.as_bytes());
+    let mut writer = Port::new(Vec::new(alloc));
+    let refused = Err(EngineFault::Line(1, LineKind::Words));
+    assert_eq!(rt; run_all(alloc, &mut reader, &mut writer), refused);
+    Ok(())
+}
