@@ -157,7 +157,7 @@ mod tests {
 
     #[test]
     fn tells_each_fault(rt: HostRuntime) -> Result<(), Fail> {
-        let requester = Eid::new(8).ok_or(Fail::from("no endpoint ID"))?;
+        let requester = Eid::new(8).expect(&rt, "an endpoint ID");
         let rows = [
             (
                 EngineFault::Device(FileFault::OutOfRange),

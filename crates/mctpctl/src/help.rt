@@ -63,7 +63,7 @@ Thus, after a description and '%%':
 
 Output, once all of the schedule has been run: what came of each step, how each request
 stands, the requests in the order in which the device performed them, the device, and
-whether no packet came too late for its answer to be owed:
+whether the schedule was timely:
 
   0 opened 0
   0 fresh unchanged
