@@ -13,10 +13,12 @@ use Rattle.mctpctl.specs.declared.choose.ChooseFault.TheVariants.{Help, Refused,
 abbrev pub program : App
 program = record { top = record (new_app (codes "mctpctl")).top { subcommand_required = true }; subs = [] }
 
+-- the subcommands that simulate a device
+abbrev pub device_command : App
+device_command = with_subcommand (with_subcommand program (new_app (codes "answer")).top) (new_app (codes "run")).top
+
 abbrev pub command : App
-command =
-    with_subcommand (with_subcommand (with_subcommand program (new_app (codes "answer")).top)
-    (new_app (codes "run")).top) (new_app (codes "show")).top
+command = with_subcommand device_command (new_app (codes "show")).top
 
 -- whether `clap` takes the words, of which the first is the program's name
 abbrev pub takes_line : List (List ℕ) → Bool

@@ -3,7 +3,7 @@
 ghost use Rattle.std.specs.Prelude.{◌≡◌, IfOk, IfErr, Some, map, option_and_then};
 ghost use Rattle.clap.specs.Words.{app_of, kind_of, subcommand_name_of};
 ghost use Rattle.mctpctl.specs.FaultNumbers.{number_of_choose_fault};
-ghost use Rattle.mctpctl.specs.Choice.{command as the_command, task_named, task_of, TellsKind, TellsRefusal};
+ghost use Rattle.mctpctl.specs.Choice.{command as the_command, device_command as the_device_command, task_named, task_of, TellsKind, TellsRefusal};
 
 use crate::help::{ANSWER, RUN, SHOW, STATUSES};
 use clap::error::ErrorKind;
@@ -70,22 +70,28 @@ pub fn choose(alloc: Global, words: &[&str]) -> Result<Task, ChooseFault>
 fn command<'a>(alloc: Global) -> Result<Command<'a>, AllocError>
     ensures { IfOk result (λ command. app_of command ≡ the_command) }
 {
+    let show = Command::new(alloc, "show")
+        .about("Shows the packets of a capture and the messages that they complete")
+        .after_help(SHOW);
+    device_command(alloc)?.subcommand(show)
+}
+
+/// The program with the subcommands that simulate a device.
+fn device_command<'a>(alloc: Global) -> Result<Command<'a>, AllocError>
+    ensures { IfOk result (λ command. app_of command ≡ the_device_command) }
+{
     let answer = Command::new(alloc, "answer")
         .about("Answers the packets of a capture as the described device does")
         .after_help(ANSWER);
     let run = Command::new(alloc, "run")
         .about("Runs requesters and the described device over a schedule of what is delivered")
         .after_help(RUN);
-    let show = Command::new(alloc, "show")
-        .about("Shows the packets of a capture and the messages that they complete")
-        .after_help(SHOW);
     Command::new(alloc, "mctpctl")
         .about("A simulated PLDM device behind MCTP, on standard input and output")
         .after_help(STATUSES)
         .subcommand_required(true)
         .subcommand(answer)?
-        .subcommand(run)?
-        .subcommand(show)
+        .subcommand(run)
 }
 
 /// The task of the subcommand that `clap` found.
