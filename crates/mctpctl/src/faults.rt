@@ -157,7 +157,9 @@ mod tests {
 
     #[test]
     fn tells_each_fault(rt: HostRuntime) -> Result<(), Fail> {
-        let requester = Eid::new(8).ok_or(Fail::from("no endpoint ID"))?;
+        let Some(requester) = Eid::new(8) else {
+            return Err(Fail::from("no endpoint ID"));
+        };
         let rows = [
             (
                 EngineFault::Device(FileFault::OutOfRange),
