@@ -9,8 +9,6 @@ use std::test::Fail;
 
 mod rows;
 
-const REQUESTER: &str = "requester 8 timeout 200 tries 3\n";
-
 /// A request whose first answer is lost, and a retry.
 const RETRY: &str = "requester 8 timeout 200 tries 3
 at 0 open 8 setnum 1 uint8 40
@@ -63,52 +61,46 @@ fn schedules_tell_what_comes_of_them(rt: HostRuntime) -> Result<(), Fail> {
     Ok(())
 }
 
-/// Each of these texts is refused with this line, and nothing is written.
+/// Checks that an input is refused with this line, and that nothing is written.
+fn refused(rt: &impl Abort, alloc: Global, input: &str, line: &str) -> Result<(), Fail> {
+    let mut reader = Port::new(input.as_bytes());
+    let mut writer = Port::new(Vec::new(alloc));
+    let Err(fault) = run_all(alloc, &mut reader, &mut writer) else {
+        return Err(Fail::from("not refused"));
+    };
+    assert_eq!(rt; fault_line(alloc, &fault)?.as_str(), line);
+    assert!(rt; writer.into_inner().is_empty(), "{line}");
+    Ok(())
+}
+
 #[test]
 fn refused_inputs_write_nothing(rt: HostRuntime) -> Result<(), Fail> {
     let alloc = rt.alloc();
-    let retry = RETRY;
     let device = example::description(alloc)?;
+    refused(&rt, alloc, device.as_str(), "no %% line")?;
+    let no_tid = "eid = 9\nkeep_ms = 1000\ntid = 255\n%%\nx\n";
+    refused(&rt, alloc, no_tid, "device: OutOfRange")?;
     let rows = [
-        (format!(in alloc; "{device}")?, "no %% line"),
         (
-            format!(in alloc; "eid = 9\nkeep_ms = 1000\ntid = 255\n%%\nx\n")?,
-            "device: OutOfRange",
-        ),
-        (
-            format!(in alloc; "{device}%%\n{REQUESTER}at 5 tick 8\nat 4 tick 8\n")?,
+            "requester 8 timeout 200 tries 3\nat 5 tick 8\nat 4 tick 8\n",
             "line 3: BackInTime",
         ),
         (
-            format!(in alloc; "{device}%%\n{retry}at 300 tick 9\n")?,
-            "line 7: NoSuchRequester",
+            "requester 8 timeout 200 tries 3\nat 300 tick 9\n",
+            "line 2: NoSuchRequester",
         ),
         (
-            format!(in alloc; "{device}%%\n{REQUESTER}{REQUESTER}")?,
+            "requester 8 timeout 200 tries 3\nrequester 8 timeout 200 tries 3\n",
             "line 2: SameRequester",
         ),
-        (
-            format!(in alloc; "{device}%%\nrequester 8 timeout 400 tries 3\n")?,
-            "requester 8: TooLate",
-        ),
-        (
-            format!(in alloc; "{device}%%\nrequester 9 timeout 200 tries 3\n")?,
-            "requester 9: SameEid",
-        ),
-        (
-            format!(in alloc; "{device}%%\nrequester 9 timeout 200 tries 3\n\nx\n")?,
-            "line 3: Words",
-        ),
-        (format!(in alloc; "{device}%%\n%%\n")?, "line 1: Words"),
+        ("requester 8 timeout 400 tries 3\n", "requester 8: TooLate"),
+        ("requester 9 timeout 200 tries 3\n", "requester 9: SameEid"),
+        ("requester 9 timeout 200 tries 3\n\nx\n", "line 3: Words"),
+        ("%%\n", "line 1: Words"),
     ];
-    for (input, line) in rows {
-        let mut reader = Port::new(input.as_bytes());
-        let mut writer = Port::new(Vec::new(alloc));
-        let Err(fault) = run_all(alloc, &mut reader, &mut writer) else {
-            return Err(Fail::from("not refused"));
-        };
-        assert_eq!(rt; fault_line(alloc, &fault)?.as_str(), line);
-        assert!(rt; writer.into_inner().is_empty(), "{line}");
+    for (schedule, line) in rows {
+        let input = example::input(alloc, schedule)?;
+        refused(&rt, alloc, input.as_str(), line)?;
     }
     Ok(())
 }
