@@ -2,38 +2,11 @@
 //! requesters and the device over a schedule, and shows what packets say.
 #![tactic(auto)]
 
-mod answer;
-mod answer_run;
-mod capture;
 mod choose;
-mod device_text;
-mod entry_text;
-#[cfg(test)]
-mod example;
-#[cfg(test)]
-mod fakes;
-mod faults;
 mod help;
-mod limits;
-mod line_run;
-mod lines;
-mod message_line;
-mod observer;
-mod outcome;
-mod packet_line;
-mod port;
-mod report_text;
-mod run;
-mod schedule_run;
-mod show;
-mod stream;
 
-use crate::answer::answer_all;
 use crate::choose::{ChooseFault, Task, choose};
-use crate::faults::{EngineFault, fault_line, status_of};
-use crate::port::Port;
-use crate::run::run_all;
-use crate::show::show_all;
+use mctpctl_engines::{EngineFault, Port, answer_all, fault_line, run_all, show_all, status_of};
 use std::env;
 use std::io::ErrorKind;
 use std::process::ExitCode;

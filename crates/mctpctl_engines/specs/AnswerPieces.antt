@@ -1,0 +1,43 @@
+-- The run of `answer` in pieces, past the line that divides and before it.
+use Rattle.std.specs.Prelude.{◌≡◌, ℕ, ◌+◌, nat_lt, Bool, true, false, if◌then◌else◌}
+use Rattle.std.specs.Prelude.{List, [], ◌++◌, length, Option, None, Some, Result, Ok, Err, refl}
+use Rattle.mctpctl_engines.specs.AnswerText.{described_run}
+use Rattle.mctpctl_engines.specs.DescribedPieces.{run_described, description_gives, described_gives}
+use Rattle.mctpctl_engines.specs.HeldRuns.{held_step, held_run}
+use Rattle.mctpctl_engines.specs.LinePieces.{line_gives}
+use Rattle.mctpctl_engines.specs.LineRuns.{stops_at}
+use Rattle.mctpctl_engines.specs.Pieces.{Gives}
+use Rattle.mctpctl_engines.specs.TextLines.{is_divider}
+use Rattle.mctpctl_engines.specs.declared.faults.EngineFault.TheVariants as faults
+use Rattle.mctpctl_engines.specs.declared.limits.TheConstants.{MAX_DESCRIPTION}
+use Rattle.mctpctl_engines.specs.declared.line_run.LineRun.{LineRun}
+use Rattle.pldm_device.specs.Descriptions.{stated}
+use Rattle.pldm_device.specs.Devices.{Device}
+use Rattle.pldm_device.specs.declared.description.Description.{Description}
+use Rattle.pldm_device.specs.declared.description_fault.FileFault.{FileFault}
+use Rattle.pldm_responder.specs.Stations.{Station, held_of}
+
+-- what the run over the capture writes of the bytes to come
+abbrev pub past_gives : LineRun (Station Device Device) → Gives
+past_gives run = line_gives held_step (run.ended + 1) (held_of run.task) run.kept.items
+
+abbrev pub past_count : LineRun (Station Device Device) → ℕ
+past_count run = run.ended
+
+-- a run whose input is cut off at once writes nothing more
+
+device_writes_nothing : (said : Result Description FileFault) (long : Bool)
+    → (if long then stops_at faults.TooLarge else described_run held_run true [] said).text ≡ []
+device_writes_nothing said true = refl
+device_writes_nothing (Ok description) false = refl
+device_writes_nothing (Err fault) false = refl
+
+pub nothing_where_cut : (text kept : List ℕ) (lines : Option (LineRun (Station Device Device)))
+    → (described_gives past_gives (description_gives held_run text kept) lines true []).text ≡ []
+nothing_where_cut text kept (Some run) = refl
+nothing_where_cut text kept None = by_line (is_divider (kept ++ [])) where
+  by_line : (here : Bool)
+      → (run_described held_run true (text ++ (if here then [] else kept ++ [])) (if here then Some [] else None)).text
+      ≡ []
+  by_line true = device_writes_nothing (stated (text ++ [])) (nat_lt MAX_DESCRIPTION (length (text ++ [])))
+  by_line false = refl

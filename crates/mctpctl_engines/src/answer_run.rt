@@ -1,0 +1,267 @@
+//! The engine of `mctpctl answer`, over an input that comes in pieces.
+
+ghost use Rattle.std.specs.Prelude.{◌≡◌, ◌≢◌, ◌≤◌, ◌<◌, ◌+◌, ◌++◌, ◌∷◌, ℕ, List, [], Ok, Result, Err, IfOk, IfSome, length, None};
+ghost use Rattle.line_words.specs.TextLines.{HasNoFeed};
+ghost use Rattle.mctpctl_engines.specs.DescribedPieces.{description_gives, described_gives, described_count, Begins, Describes};
+ghost use Rattle.mctpctl_engines.specs.AnswerPieces.{past_gives, past_count, nothing_where_cut};
+ghost use Rattle.mctpctl_engines.specs.LongLines.{held_refuses};
+ghost use Rattle.mctpctl_engines.specs.HeldRuns.{held_step, held_run};
+ghost use Rattle.mctpctl_engines.specs.LinePieces.{line_gives, AddsLine};
+ghost use Rattle.mctpctl_engines.specs.Pieces.{GoesOn, Takes, Finishes};
+ghost use Rattle.pldm_responder.specs.Stations.{held_of};
+ghost use Rattle.pldm_responder.specs.Held.{Held};
+ghost use Rattle.pldm_device.specs.Devices.{Device};
+
+use crate::capture::{CaptureFault, CaptureLine, read_capture_line};
+use crate::faults::EngineFault;
+use crate::limits::{LONGEST_DIVIDER, MAX_DESCRIPTION, MAX_INPUT};
+use crate::line_run::{LineRun, LineTask};
+use crate::lines::is_divider;
+use crate::outcome::outcome_text;
+use crate::stream::Run;
+use line_words::split_line;
+use mctp_packet::Moment;
+use pldm_device::{Description, FileFault, SimDevice};
+use pldm_responder::Responder;
+use std::alloc::Global;
+
+impl LineTask for Responder<SimDevice> {
+    ghost State = { Held Device };
+
+    ghost state_of = { held_of };
+
+    ghost step = { held_step };
+
+    /// Answers a packet as the described device does.
+    fn answer(
+        &mut self,
+        alloc: Global,
+        number: u64,
+        line: &[u8],
+        out: &mut Vec<u8>,
+    ) -> Result<(), EngineFault>
+        ensures meets { AddsLine number (held_step (held_of self.old) line.now) (held_of self.new) out.old.items out.new.items result }
+        ensures device { result ≢ Err (EngineFault.Device FileFault.Memory) }
+    {
+        let last = self.last_moment();
+        let (moment, bytes) = match read_capture_line(alloc, line, last.get()) {
+            Ok(CaptureLine::Packet { moment, bytes }) => (moment, bytes),
+            Ok(CaptureLine::Skipped) => return Ok(()),
+            Err(CaptureFault::Line(kind)) => return Err(EngineFault::Line(number, kind)),
+            Err(CaptureFault::Memory) => return Err(EngineFault::Memory),
+        };
+        let now = Moment::new(moment).unwrap();
+        let Ok(outcome) = self.receive(now, &bytes) else {
+            return Err(EngineFault::Memory);
+        };
+        let Ok(text) = outcome_text(alloc, &outcome) else {
+            return Err(EngineFault::Memory);
+        };
+        if out.extend_from_slice(text.as_bytes()).is_err() {
+            return Err(EngineFault::Memory);
+        }
+        Ok(())
+    }
+
+    ghost refuses_long = { held_refuses };
+}
+
+/// The run of `answer`: a description, the line that divides, and then the lines of a capture.
+#[derive(Drop)]
+pub struct AnswerRun {
+    /// The lines of the description that have ended, their LF among them.
+    text: Vec<u8>,
+    /// What has come of the next one.
+    kept: Vec<u8>,
+    /// The run over the capture, once a line has divided.
+    lines: Option<LineRun<Responder<SimDevice>>>,
+}
+
+/// A responder of the device that the text before the divider describes.
+fn begin(alloc: Global, text: &[u8]) -> Result<Responder<SimDevice>, EngineFault>
+    ensures meets { Begins held_of text.now result }
+    ensures read { result ≢ Err EngineFault.Read }
+    ensures write { result ≢ Err EngineFault.Write }
+    ensures device { result ≢ Err (EngineFault.Device FileFault.Memory) }
+{
+    if text.len() > MAX_DESCRIPTION {
+        return Err(EngineFault::TooLarge);
+    }
+    let description = match Description::read(alloc, text) {
+        Ok(description) => description,
+        Err(FileFault::Memory) => return Err(EngineFault::Memory),
+        Err(fault) => return Err(EngineFault::Device(fault)),
+    };
+    Ok(Responder::new(alloc, description.eid, description.keep, description.device))
+}
+
+impl AnswerRun {
+    /// A run of which nothing has come.
+    pub fn new(alloc: Global) -> AnswerRun
+        ensures text { result.text.items ≡ [] }
+        ensures kept { result.kept.items ≡ [] }
+        ensures lines { result.lines ≡ None }
+    {
+        AnswerRun {
+            text: Vec::new(alloc),
+            kept: Vec::new(alloc),
+            lines: None,
+        }
+    }
+
+    /// Ends a line of the description, or begins the run over the capture where the line divides.
+    fn describe(
+        &mut self,
+        alloc: Global,
+        line: &[u8],
+    ) -> Result<Option<LineRun<Responder<SimDevice>>>, EngineFault>
+        requires { HasNoFeed line.now }
+        ensures meets { Describes past_gives
+            (description_gives held_run self.old.text.items self.old.kept.items) (line.now ++ 10 ∷ [])
+            (description_gives held_run self.new.text.items self.new.kept.items) result }
+        ensures lines { self.new.lines ≡ self.old.lines }
+        ensures ended { IfOk result (λ begun. IfSome begun (λ run. run.ended ≡ 0)) }
+        ensures read { result ≢ Err EngineFault.Read }
+        ensures write { result ≢ Err EngineFault.Write }
+        ensures device { result ≢ Err (EngineFault.Device FileFault.Memory) }
+    {
+        if self.kept.extend_from_slice(line).is_err() {
+            return Err(EngineFault::Memory);
+        }
+        if !is_divider(&self.kept) {
+            if self.text.extend_from_slice(&self.kept).is_err() || self.text.push(b'\n').is_err() {
+                return Err(EngineFault::Memory);
+            }
+            self.kept.clear();
+            return Ok(None);
+        }
+        let task = match begin(alloc, &self.text) {
+            Ok(task) => task,
+            Err(fault) => return Err(fault),
+        };
+        let kept = Vec::new(alloc);
+        Ok(Some(LineRun {
+            task,
+            ended: 0,
+            kept,
+        }))
+    }
+
+    /// Keeps the front of a line of the description. A description that is too long, whatever comes
+    /// of its line, ends the run.
+    fn keep(&mut self, front: &[u8]) -> Result<(), EngineFault>
+        requires { HasNoFeed front.now }
+        ensures meets { Takes (description_gives held_run self.old.text.items self.old.kept.items) front.now
+            (description_gives held_run self.new.text.items self.new.kept.items) [] [] result }
+        ensures lines { self.new.lines ≡ self.old.lines }
+        ensures read { result ≢ Err EngineFault.Read }
+        ensures write { result ≢ Err EngineFault.Write }
+        ensures device { result ≢ Err (EngineFault.Device FileFault.Memory) }
+    {
+        if self.kept.extend_from_slice(front).is_err() {
+            return Err(EngineFault::Memory);
+        }
+        if self.text.len().saturating_add(self.kept.len()) > MAX_DESCRIPTION + LONGEST_DIVIDER {
+            return Err(EngineFault::TooLarge);
+        }
+        Ok(())
+    }
+}
+
+impl AnswerRun {
+    /// Takes a piece before a line has divided: lines of the description and, once one divides, lines of
+    /// the capture.
+    fn take_description(
+        &mut self,
+        alloc: Global,
+        piece: &[u8],
+        out: &mut Vec<u8>,
+    ) -> Result<(), EngineFault>
+        requires before { self.old.lines ≡ None }
+        requires counted { length piece.now ≤ MAX_INPUT }
+        ensures meets { Takes (description_gives held_run self.old.text.items self.old.kept.items) piece.now
+            (described_gives past_gives (description_gives held_run self.new.text.items self.new.kept.items) self.new.lines)
+            out.old.items out.new.items result }
+        ensures counted { described_count past_count self.new.lines ≤ length piece.now }
+        ensures read { result ≢ Err EngineFault.Read }
+        ensures write { result ≢ Err EngineFault.Write }
+        ensures device { result ≢ Err (EngineFault.Device FileFault.Memory) }
+    {
+        let mut rest = piece;
+        while let Some((line, after)) = split_line(rest) {
+            match self.describe(alloc, line) {
+                Ok(None) => {}
+                Ok(Some(begun)) => {
+                    let mut lines = begun;
+                    let result = lines.take(alloc, after, out);
+                    self.lines = Some(lines);
+                    return result;
+                }
+                Err(fault) => return Err(fault),
+            }
+            rest = after;
+        }
+        self.keep(rest)
+    }
+
+    /// Takes the end of the input before a line has divided, but for this one.
+    fn finish_description(&self, alloc: Global, is_cut: bool) -> Result<(), EngineFault>
+        ensures meets { Finishes (description_gives held_run self.now.text.items self.now.kept.items is_cut []) [] [] result }
+        ensures read { result ≢ Err EngineFault.Read }
+        ensures write { result ≢ Err EngineFault.Write }
+        ensures device { result ≢ Err (EngineFault.Device FileFault.Memory) }
+    {
+        if !is_divider(&self.kept) {
+            let length = self.text.len().saturating_add(self.kept.len());
+            return Err(if length > MAX_DESCRIPTION {
+                EngineFault::TooLarge
+            } else {
+                EngineFault::NoDivider
+            });
+        }
+        match begin(alloc, &self.text) {
+            Ok(_) if is_cut => Err(EngineFault::TooLarge),
+            Ok(_) => Ok(()),
+            Err(fault) => Err(fault),
+        }
+    }
+}
+
+impl Run for AnswerRun {
+    ghost gives = { λ run. described_gives past_gives (description_gives held_run run.text.items run.kept.items) run.lines };
+
+    ghost counted = { λ run. described_count past_count run.lines };
+
+    /// Takes lines of the description, and once one divides lines of the capture.
+    fn take(&mut self, alloc: Global, piece: &[u8], out: &mut Vec<u8>) -> Result<(), EngineFault>
+        requires { described_count past_count self.old.lines + length piece.now ≤ MAX_INPUT }
+        ensures meets { Takes (described_gives past_gives (description_gives held_run self.old.text.items self.old.kept.items) self.old.lines) piece.now
+            (described_gives past_gives (description_gives held_run self.new.text.items self.new.kept.items) self.new.lines)
+            out.old.items out.new.items result }
+        ensures counted { described_count past_count self.new.lines ≤ described_count past_count self.old.lines + length piece.now }
+        ensures read { result ≢ Err EngineFault.Read }
+        ensures write { result ≢ Err EngineFault.Write }
+        ensures device { result ≢ Err (EngineFault.Device FileFault.Memory) }
+    {
+        match &mut self.lines {
+            Some(lines) => lines.take(alloc, piece, out),
+            None => self.take_description(alloc, piece, out),
+        }
+    }
+
+    /// Takes the end of the input.
+    fn finish(&mut self, alloc: Global, is_cut: bool, out: &mut Vec<u8>) -> Result<(), EngineFault>
+        requires { described_count past_count self.old.lines ≤ MAX_INPUT }
+        ensures meets { Finishes (described_gives past_gives (description_gives held_run self.old.text.items self.old.kept.items) self.old.lines is_cut []) out.old.items out.new.items result }
+        ensures read { result ≢ Err EngineFault.Read }
+        ensures write { result ≢ Err EngineFault.Write }
+        ensures device { result ≢ Err (EngineFault.Device FileFault.Memory) }
+    {
+        match &mut self.lines {
+            Some(lines) => lines.finish(alloc, is_cut, out),
+            None => self.finish_description(alloc, is_cut),
+        }
+    }
+
+    ghost none_where_cut = { λ run. nothing_where_cut run.text.items run.kept.items run.lines };
+}

@@ -1,0 +1,135 @@
+//! One line of a capture: `MS`, or `MS HEX`.
+
+ghost use Rattle.std.specs.Prelude.{◌≡◌, ◌≤◌, ℕ, MatchResult, Ok, Err, IfOk, IfErr, IfSome};
+ghost use Rattle.line_words.specs.Lines.{words_of};
+ghost use Rattle.mctpctl_engines.specs.CaptureLine.{capture_of, packet_in, packet_at, packet_word, timed_packet, moment_of, TellsFault};
+ghost use Rattle.hex.specs.Hex.{decode_of};
+
+use crate::faults::LineKind;
+use crate::limits::MAX_CAPTURE_LINE;
+use hex::FromHexError;
+use line_words::{first_word, read_number, split_word};
+use mctp_packet::LAST_MOMENT;
+use std::alloc::Global;
+use thiserror::Error;
+
+/// What a line of a capture says.
+#[derive(Debug, Drop)]
+pub enum CaptureLine {
+    /// Nothing: the line is blank, or a comment.
+    Skipped,
+    /// That a packet came.
+    Packet {
+        /// When it came, in milliseconds.
+        moment: u64,
+        /// Its bytes, of which there may be none.
+        bytes: Vec<u8>,
+    },
+}
+
+/// Why a line of a capture was not read.
+#[derive(Clone, Copy, Debug, PartialEq, Eq, Error)]
+pub enum CaptureFault {
+    /// The line is faulty.
+    #[error("{0}")]
+    Line(LineKind),
+    /// No memory was left.
+    #[error("out of memory")]
+    Memory,
+}
+
+/// What one line says, given without its LF, where `last` is the moment of an earlier line, in
+/// milliseconds. Of several faults it tells the first of `LongLine`, `Words`, `Number`,
+/// `BackInTime` and `BadHex`; a line that is too long is refused even where it says nothing.
+#[tactic(auto, unfolding(crate::specs::CaptureLine::capture_of))]
+pub fn read_capture_line(alloc: Global, line: &[u8], last: u64) -> Result<CaptureLine, CaptureFault>
+    ensures ok { IfOk result (λ read. capture_of line.now last ≡ Ok (packet_in read)) }
+    ensures err { IfErr result (λ fault. TellsFault (capture_of line.now last) fault) }
+    ensures moment { IfOk result (λ read. IfSome (packet_in read) (λ packet. (last ≤ packet.moment) × (packet.moment ≤ LAST_MOMENT))) }
+{
+    if line.len() > MAX_CAPTURE_LINE {
+        return Err(CaptureFault::Line(LineKind::LongLine));
+    }
+    let Some((first, rest)) = first_word(line) else {
+        return Ok(CaptureLine::Skipped);
+    };
+    read_packet(alloc, first, rest, last)
+}
+
+/// The packet of a line whose first word is `moment`, before `rest`.
+fn read_packet(
+    alloc: Global,
+    moment: &[u8],
+    rest: &[u8],
+    last: u64,
+) -> Result<CaptureLine, CaptureFault>
+    ensures ok { IfOk result (λ read. timed_packet (packet_word (words_of rest.now)) (moment_of moment.now last) ≡ Ok (packet_in read)) }
+    ensures err { IfErr result (λ fault. TellsFault (timed_packet (packet_word (words_of rest.now)) (moment_of moment.now last)) fault) }
+    ensures moment { IfOk result (λ read. IfSome (packet_in read) (λ packet. (last ≤ packet.moment) × (packet.moment ≤ LAST_MOMENT))) }
+{
+    let digits = read_packet_word(rest).map_err(CaptureFault::Line)?;
+    let moment = read_moment(moment, last).map_err(CaptureFault::Line)?;
+    let bytes = read_hex(alloc, digits)?;
+    Ok(CaptureLine::Packet { moment, bytes })
+}
+
+/// The one word of a text, or no bytes where it has no word.
+fn read_packet_word(text: &[u8]) -> Result<&[u8], LineKind>
+    ensures { MatchResult result (λ word. packet_word (words_of text.now) ≡ Ok word.now) (λ kind. packet_word (words_of text.now) ≡ Err kind) }
+{
+    let Some((word, rest)) = split_word(text) else {
+        return Ok(b"");
+    };
+    if split_word(rest).is_some() {
+        return Err(LineKind::Words);
+    }
+    Ok(word)
+}
+
+/// The bytes that hex digits of either case spell.
+fn read_hex(alloc: Global, digits: &[u8]) -> Result<Vec<u8>, CaptureFault>
+    ensures ok { IfOk result (λ bytes. decode_of digits.now ≡ Ok bytes.items) }
+    ensures err { IfErr result (λ fault. (moment : ℕ) → TellsFault (packet_at moment (decode_of digits.now)) fault) }
+{
+    match hex::decode(alloc, digits) {
+        Ok(bytes) => Ok(bytes),
+        Err(FromHexError::OutOfMemory) => Err(CaptureFault::Memory),
+        Err(_) => Err(CaptureFault::Line(LineKind::BadHex)),
+    }
+}
+
+/// The moment that a word spells, where it is in its range and not before the last one.
+fn read_moment(word: &[u8], last: u64) -> Result<u64, LineKind>
+    ensures value { result ≡ moment_of word.now last }
+    ensures range { IfOk result (λ moment. (last ≤ moment) × (moment ≤ LAST_MOMENT)) }
+{
+    let Some(moment) = read_number(word, LAST_MOMENT) else {
+        return Err(LineKind::Number);
+    };
+    if moment < last {
+        return Err(LineKind::BackInTime);
+    }
+    Ok(moment)
+}
+
+#[cfg(test)]
+mod tests {
+    use super::*;
+    use std::test::Fail;
+
+    #[test]
+    fn reads_a_packet_and_skips_a_comment(rt: HostRuntime) -> Result<(), Fail> {
+        let line = b"  0 010908C801800002\r";
+        let CaptureLine::Packet { moment, bytes } = read_capture_line(rt.alloc(), line, 0)? else {
+            return Err(Fail::from("skipped"));
+        };
+        assert_eq!(rt; moment, 0);
+        assert_eq!(rt;
+            bytes.as_slice(),
+            b"\x01\x09\x08\xc8\x01\x80\x00\x02".as_slice()
+        );
+        let comment = read_capture_line(rt.alloc(), b" # 0 00", 0)?;
+        assert!(rt; matches!(comment, CaptureLine::Skipped));
+        Ok(())
+    }
+}

@@ -1,0 +1,141 @@
+//! A run over lines, which keeps what has come of a line that has not ended.
+
+ghost use Rattle.std.specs.Prelude.{◌≡◌, ◌≢◌, ◌≤◌, ◌<◌, ◌+◌, ◌++◌, ◌∷◌, ℕ, List, [], Result, Err, length, refl};
+ghost use Rattle.line_words.specs.TextLines.{HasNoFeed};
+ghost use Rattle.mctpctl_engines.specs.declared.faults.LineKind.{LineKind};
+ghost use Rattle.mctpctl_engines.specs.LinePieces.{RefusesLong, line_gives, AddsLine};
+ghost use Rattle.mctpctl_engines.specs.Pieces.{Takes, Finishes};
+
+use crate::faults::{EngineFault, LineKind};
+use crate::limits::{MAX_CAPTURE_LINE, MAX_INPUT};
+use crate::stream::Run;
+use line_words::split_line;
+use pldm_device::FileFault;
+use std::alloc::Global;
+
+/// What answers one line after another: `step` says what a line gives in a state, and the state after
+/// it.
+///
+/// The law `refuses_long`: a line of more than `MAX_CAPTURE_LINE` bytes is refused, whatever it says.
+pub trait LineTask {
+    ghost State: { Type 0 };
+
+    // the state of a value
+    ghost state_of: { Self → State };
+
+    // what a line gives in a state, and the state after it
+    ghost step: { State → List ℕ → Result (List ℕ × State) LineKind };
+
+    /// Answers the line of this number, and adds its text to `out`.
+    fn answer(
+        &mut self,
+        alloc: Global,
+        number: u64,
+        line: &[u8],
+        out: &mut Vec<u8>,
+    ) -> Result<(), EngineFault>
+        ensures meets { AddsLine number (step (state_of self.old) line.now) (state_of self.new) out.old.items out.new.items result }
+        ensures device { result ≢ Err (EngineFault.Device FileFault.Memory) };
+
+    ghost refuses_long: { RefusesLong step };
+}
+
+/// A run over the lines of a capture.
+#[derive(Drop)]
+pub struct LineRun<T> {
+    /// What answers the lines.
+    pub task: T,
+    /// How many lines have ended.
+    pub ended: u64,
+    /// What has come of the next one.
+    pub kept: Vec<u8>,
+}
+
+impl<T: LineTask> LineRun<T> {
+    /// Answers the line that this LF ends.
+    fn end_line(&mut self, alloc: Global, line: &[u8], out: &mut Vec<u8>) -> Result<(), EngineFault>
+        requires feed { HasNoFeed line.now }
+        requires counted { self.old.ended < MAX_INPUT }
+        ensures meets { Takes (line_gives T.step (self.old.ended + 1) (T.state_of self.old.task) self.old.kept.items) (line.now ++ 10 ∷ [])
+            (line_gives T.step (self.new.ended + 1) (T.state_of self.new.task) self.new.kept.items) out.old.items out.new.items result }
+        ensures counted { self.new.ended ≤ self.old.ended + 1 }
+        ensures read { result ≢ Err EngineFault.Read }
+        ensures write { result ≢ Err EngineFault.Write }
+        ensures device { result ≢ Err (EngineFault.Device FileFault.Memory) }
+    {
+        if self.kept.extend_from_slice(line).is_err() {
+            return Err(EngineFault::Memory);
+        }
+        let number = self.ended + 1;
+        let result = self.task.answer(alloc, number, &self.kept, out);
+        self.kept.clear();
+        self.ended = number;
+        result
+    }
+
+    /// Keeps the front of a line.
+    fn keep(&mut self, front: &[u8]) -> Result<(), EngineFault>
+        requires feed { HasNoFeed front.now }
+        requires counted { self.old.ended ≤ MAX_INPUT }
+        ensures meets { Takes (line_gives T.step (self.old.ended + 1) (T.state_of self.old.task) self.old.kept.items) front.now
+            (line_gives T.step (self.new.ended + 1) (T.state_of self.new.task) self.new.kept.items) [] [] result }
+        ensures counted { self.new.ended ≡ self.old.ended }
+        ensures read { result ≢ Err EngineFault.Read }
+        ensures write { result ≢ Err EngineFault.Write }
+        ensures device { result ≢ Err (EngineFault.Device FileFault.Memory) }
+    {
+        if self.kept.extend_from_slice(front).is_err() {
+            return Err(EngineFault::Memory);
+        }
+        if self.kept.len() > MAX_CAPTURE_LINE {
+            return Err(EngineFault::Line(self.ended + 1, LineKind::LongLine));
+        }
+        Ok(())
+    }
+}
+
+impl<T: LineTask> Run for LineRun<T> {
+    ghost gives = { λ run. line_gives T.step (run.ended + 1) (T.state_of run.task) run.kept.items };
+
+    ghost counted = { λ run. run.ended };
+
+    fn take(&mut self, alloc: Global, piece: &[u8], out: &mut Vec<u8>) -> Result<(), EngineFault>
+        requires { self.old.ended + length piece.now ≤ MAX_INPUT }
+        ensures meets { Takes (line_gives T.step (self.old.ended + 1) (T.state_of self.old.task) self.old.kept.items) piece.now
+            (line_gives T.step (self.new.ended + 1) (T.state_of self.new.task) self.new.kept.items) out.old.items out.new.items result }
+        ensures counted { self.new.ended ≤ self.old.ended + length piece.now }
+        ensures read { result ≢ Err EngineFault.Read }
+        ensures write { result ≢ Err EngineFault.Write }
+        ensures device { result ≢ Err (EngineFault.Device FileFault.Memory) }
+    {
+        let mut rest = piece;
+        while let Some((line, after)) = split_line(rest) {
+            match self.end_line(alloc, line, out) {
+                Ok(()) => {}
+                Err(fault) => return Err(fault),
+            }
+            rest = after;
+        }
+        self.keep(rest)
+    }
+
+    fn finish(&mut self, alloc: Global, is_cut: bool, out: &mut Vec<u8>) -> Result<(), EngineFault>
+        requires { self.old.ended ≤ MAX_INPUT }
+        ensures meets { Finishes (line_gives T.step (self.old.ended + 1) (T.state_of self.old.task) self.old.kept.items is_cut []) out.old.items out.new.items result }
+        ensures read { result ≢ Err EngineFault.Read }
+        ensures write { result ≢ Err EngineFault.Write }
+        ensures device { result ≢ Err (EngineFault.Device FileFault.Memory) }
+    {
+        let number = self.ended + 1;
+        if is_cut {
+            return Err(if self.kept.len() > MAX_CAPTURE_LINE {
+                EngineFault::Line(number, LineKind::LongLine)
+            } else {
+                EngineFault::TooLarge
+            });
+        }
+        self.task.answer(alloc, number, &self.kept, out)
+    }
+
+    ghost none_where_cut = { λ run. refl };
+}

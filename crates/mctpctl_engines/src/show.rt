@@ -1,0 +1,61 @@
+//! The engine of `mctpctl show`: a capture, and what its packets and messages say.
+
+ghost use Rattle.std.specs.Prelude.{◌≡◌, ◌≢◌, ◌↔◌, Err, IfSome, IsErrOf, true, false};
+ghost use Rattle.mctpctl_engines.specs.LineRuns.{Writes};
+ghost use Rattle.mctpctl_engines.specs.Pieces.{WroteOfFront, WroteOfRead};
+ghost use Rattle.mctpctl_engines.specs.Ports.{inner_of, has_failed};
+ghost use Rattle.mctpctl_engines.specs.ShowText.{seen_run, show_text};
+
+use crate::faults::EngineFault;
+use crate::line_run::LineRun;
+use crate::observer::Observer;
+use crate::port::Port;
+use crate::stream::run_to_end;
+use mctp_assembly::laws;
+use pldm_device::FileFault;
+use std::alloc::Global;
+use std::io::{Read, Write};
+
+#[cfg(test)]
+mod tests;
+
+/// Shows a capture of packets between any endpoints, as it comes: what the lines of a piece of input
+/// give is written before more is asked for. For each packet it writes a line with its header and with
+/// what it gave (`whole`, `partial` or `drop NAME`), and after `whole` a line with the message.
+///
+/// At `Line` and `TooLarge` the text of the lines that ended before has been written. `Read` is for a
+/// read port that has failed: the text of the lines that ended in the bytes before it has been written.
+/// `Write` is for a write port; what a failed writer took is not known. At `Memory` the text of the
+/// lines that ended in some front of the input has been written.
+///
+/// It holds the messages that have begun and not ended, the longest line, one piece of input and what
+/// that gives, whatever the length of the input.
+pub fn show_all<R: Read, W: Write>(
+    alloc: Global,
+    reader: &mut Port<R>,
+    writer: &mut Port<W>,
+) -> Result<(), EngineFault>
+    requires reads { has_failed reader.old ≡ false }
+    requires writes { has_failed writer.old ≡ false }
+    ensures text { IfSome (R.remaining (inner_of reader.old))
+        (λ all. Writes (show_text all) (W.contents (inner_of writer.old)) (W.contents (inner_of writer.new)) result) }
+    ensures at_read { IsErrOf result EngineFault.Read
+        → WroteOfRead seen_run (R.remaining (inner_of reader.old)) (R.remaining (inner_of reader.new))
+        (W.contents (inner_of writer.old)) (W.contents (inner_of writer.new)) }
+    ensures at_memory { IsErrOf result EngineFault.Memory
+        → WroteOfFront seen_run (R.remaining (inner_of reader.old))
+        (W.contents (inner_of writer.old)) (W.contents (inner_of writer.new)) }
+    ensures read { IsErrOf result EngineFault.Read ↔ (has_failed reader.new ≡ true) }
+    ensures write { IsErrOf result EngineFault.Write ↔ (has_failed writer.new ≡ true) }
+    ensures device { result ≢ Err (EngineFault.Device FileFault.Memory) }
+{
+    laws::looks_back();
+    let task = Observer::new(alloc);
+    let kept = Vec::new(alloc);
+    let mut run = LineRun {
+        task,
+        ended: 0,
+        kept,
+    };
+    run_to_end(alloc, &mut run, reader, writer)
+}
