@@ -11,6 +11,7 @@ from pathlib import Path
 
 ROOT = Path(__file__).resolve().parent.parent
 DEVICE = (ROOT / "examples" / "device.toml").read_bytes()
+DESCRIBED = DEVICE + b"%%\n"
 MOST_INPUT = 16 * 1024 * 1024
 RUNS = 3
 
@@ -71,10 +72,10 @@ def measure(programs, task, text, room):
     return seconds, memory, len({output.read_bytes() for output in outputs}) == 1
 
 
-def filled(rule, size):
-    """An input of at most this many bytes, and how many lines of the rule it has."""
-    parts = [DEVICE, b"%%\n"]
-    left = size - sum(map(len, parts))
+def filled(head, rule, size):
+    """An input of at most this many bytes that begins with `head`, and how many lines of the rule it has."""
+    parts = [head]
+    left = size - len(head)
     count = 0
     for line in rule():
         if len(line) > left:
@@ -84,8 +85,9 @@ def filled(rule, size):
         count += 1
 
 
-def bench(document, task, unit, rules):
-    """Times `mctpctl` with this subcommand over the inputs of each rule; `unit` is what a line is called."""
+def bench(document, task, unit, head, rules):
+    """Times `mctpctl` with this subcommand over inputs of `head` and the lines of each rule; `unit` is what a line is
+    called."""
     arguments = argparse.ArgumentParser(description=document, formatter_class=argparse.RawDescriptionHelpFormatter)
     arguments.add_argument("--peer", metavar="FOLDER", help="a Rust program to compare with")
     arguments.add_argument("sizes", metavar="MiB", nargs="*", type=int, help="sizes of the inputs")
@@ -93,7 +95,7 @@ def bench(document, task, unit, rules):
     sizes = chosen.sizes or [1, 4, 16]
     with tempfile.TemporaryDirectory() as room:
         # builds the program where it is not built yet, and runs it over no line
-        subprocess.run([ROOT / "mctpctl", "answer"], input=DEVICE + b"%%\n", check=True)
+        subprocess.run([ROOT / "mctpctl", "answer"], input=DESCRIBED, check=True)
         programs = [ROOT / "crates" / "mctpctl" / "out" / "mctpctl"]
         if chosen.peer:
             programs.append(build_peer(chosen.peer, room + "/peer"))
@@ -103,7 +105,7 @@ def bench(document, task, unit, rules):
         for rule in rules:
             times = []
             for size in sizes:
-                text, count = filled(rule, min(size * 1024 * 1024, MOST_INPUT))
+                text, count = filled(head, rule, min(size * 1024 * 1024, MOST_INPUT))
                 seconds, memory, equal = measure(programs, task, text, room)
                 same = same and equal
                 times.append(seconds[0])

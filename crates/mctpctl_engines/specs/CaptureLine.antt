@@ -53,10 +53,10 @@ unfoldable pub capture_of : List ℕ → ℕ → Result (Option TimedPacket) Lin
 capture_of line last =
     if nat_lt MAX_CAPTURE_LINE (length line) then Err LongLine else capture_of_words (said_words line) last
 
--- what was read of a line
-abbrev pub packet_in : CaptureLine → Option TimedPacket
-packet_in Skipped = None
-packet_in (Packet moment bytes) = Some (record { moment = moment; bytes = bytes.items })
+-- what was read of a line, where these are the bytes of its packet
+abbrev pub packet_in : CaptureLine → List ℕ → Option TimedPacket
+packet_in Skipped bytes = None
+packet_in (Packet moment) bytes = Some (record { moment = moment; bytes = bytes })
 
 -- a fault of the line is the one that it has; memory may be wanting at any line
 abbrev pub TellsFault : Result (Option TimedPacket) LineKind → CaptureFault → Type 0

@@ -15,9 +15,9 @@ ghost use Rattle.pldm_device.specs.Devices.{Device};
 use crate::capture::{CaptureFault, CaptureLine, read_capture_line};
 use crate::faults::EngineFault;
 use crate::limits::{LONGEST_DIVIDER, MAX_DESCRIPTION, MAX_INPUT};
-use crate::line_run::{LineRun, LineTask};
+use crate::line_run::{LineRoom, LineRun, LineTask};
 use crate::lines::is_divider;
-use crate::outcome::outcome_text;
+use crate::outcome::push_outcome;
 use crate::stream::Run;
 use line_words::split_line;
 use mctp_packet::Moment;
@@ -35,29 +35,32 @@ impl LineTask for Responder<SimDevice> {
     /// Answers a packet as the described device does.
     fn answer(
         &mut self,
-        alloc: Global,
+        _alloc: Global,
         number: u64,
         line: &[u8],
+        room: &mut LineRoom,
         out: &mut Vec<u8>,
     ) -> Result<(), EngineFault>
         ensures meets { AddsLine number (held_step (held_of self.old) line.now) (held_of self.new) out.old.items out.new.items result }
         ensures device { result ≢ Err (EngineFault.Device FileFault.Memory) }
     {
         let last = self.last_moment();
-        let (moment, bytes) = match read_capture_line(alloc, line, last.get()) {
-            Ok(CaptureLine::Packet { moment, bytes }) => (moment, bytes),
+        let moment = match read_capture_line(line, last.get(), &mut room.packet) {
+            Ok(CaptureLine::Packet { moment }) => moment,
             Ok(CaptureLine::Skipped) => return Ok(()),
             Err(CaptureFault::Line(kind)) => return Err(EngineFault::Line(number, kind)),
             Err(CaptureFault::Memory) => return Err(EngineFault::Memory),
         };
         let now = Moment::new(moment).unwrap();
-        let Ok(outcome) = self.receive(now, &bytes) else {
+        let received = self.receive(now, &room.packet);
+        let Ok(outcome) = &received else {
             return Err(EngineFault::Memory);
         };
-        let Ok(text) = outcome_text(alloc, &outcome) else {
+        room.text.clear();
+        if push_outcome(&mut room.text, outcome).is_err() {
             return Err(EngineFault::Memory);
-        };
-        if out.extend_from_slice(text.as_bytes()).is_err() {
+        }
+        if out.extend_from_slice(&room.text).is_err() {
             return Err(EngineFault::Memory);
         }
         Ok(())
@@ -144,6 +147,7 @@ impl AnswerRun {
             task,
             ended: 0,
             kept,
+            room: LineRoom::new(alloc),
         }))
     }
 

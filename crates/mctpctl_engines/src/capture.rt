@@ -1,20 +1,18 @@
 //! One line of a capture: `MS`, or `MS HEX`.
 
-ghost use Rattle.std.specs.Prelude.{◌≡◌, ◌≤◌, ℕ, MatchResult, Ok, Err, IfOk, IfErr, IfSome};
+ghost use Rattle.std.specs.Prelude.{◌≡◌, ◌≤◌, ℕ, MatchResult, Ok, Err, IfOk, IfErr, IfSome, OnOk};
 ghost use Rattle.line_words.specs.Lines.{words_of};
 ghost use Rattle.mctpctl_engines.specs.CaptureLine.{capture_of, packet_in, packet_at, packet_word, timed_packet, moment_of, TellsFault};
 ghost use Rattle.hex.specs.Hex.{decode_of};
 
 use crate::faults::LineKind;
 use crate::limits::MAX_CAPTURE_LINE;
-use hex::FromHexError;
 use line_words::{first_word, read_number, split_word};
 use mctp_packet::LAST_MOMENT;
-use std::alloc::Global;
 use thiserror::Error;
 
 /// What a line of a capture says.
-#[derive(Debug, Drop)]
+#[derive(Clone, Copy, Debug)]
 pub enum CaptureLine {
     /// Nothing: the line is blank, or a comment.
     Skipped,
@@ -22,8 +20,6 @@ pub enum CaptureLine {
     Packet {
         /// When it came, in milliseconds.
         moment: u64,
-        /// Its bytes, of which there may be none.
-        bytes: Vec<u8>,
     },
 }
 
@@ -39,13 +35,18 @@ pub enum CaptureFault {
 }
 
 /// What one line says, given without its LF, where `last` is the moment of an earlier line, in
-/// milliseconds. Of several faults it tells the first of `LongLine`, `Words`, `Number`,
-/// `BackInTime` and `BadHex`; a line that is too long is refused even where it says nothing.
+/// milliseconds. The bytes of a packet, of which there may be none, are put into `packet`. Of several
+/// faults it tells the first of `LongLine`, `Words`, `Number`, `BackInTime` and `BadHex`; a line that is
+/// too long is refused even where it says nothing.
 #[tactic(auto, unfolding(crate::specs::CaptureLine::capture_of))]
-pub fn read_capture_line(alloc: Global, line: &[u8], last: u64) -> Result<CaptureLine, CaptureFault>
-    ensures ok { IfOk result (λ read. capture_of line.now last ≡ Ok (packet_in read)) }
+pub fn read_capture_line(
+    line: &[u8],
+    last: u64,
+    packet: &mut Vec<u8>,
+) -> Result<CaptureLine, CaptureFault>
+    ensures ok { IfOk result (λ read. capture_of line.now last ≡ Ok (packet_in read packet.new.items)) }
     ensures err { IfErr result (λ fault. TellsFault (capture_of line.now last) fault) }
-    ensures moment { IfOk result (λ read. IfSome (packet_in read) (λ packet. (last ≤ packet.moment) × (packet.moment ≤ LAST_MOMENT))) }
+    ensures moment { IfOk result (λ read. IfSome (packet_in read packet.new.items) (λ timed. (last ≤ timed.moment) × (timed.moment ≤ LAST_MOMENT))) }
 {
     if line.len() > MAX_CAPTURE_LINE {
         return Err(CaptureFault::Line(LineKind::LongLine));
@@ -53,24 +54,24 @@ pub fn read_capture_line(alloc: Global, line: &[u8], last: u64) -> Result<Captur
     let Some((first, rest)) = first_word(line) else {
         return Ok(CaptureLine::Skipped);
     };
-    read_packet(alloc, first, rest, last)
+    read_packet(first, rest, last, packet)
 }
 
 /// The packet of a line whose first word is `moment`, before `rest`.
 fn read_packet(
-    alloc: Global,
     moment: &[u8],
     rest: &[u8],
     last: u64,
+    packet: &mut Vec<u8>,
 ) -> Result<CaptureLine, CaptureFault>
-    ensures ok { IfOk result (λ read. timed_packet (packet_word (words_of rest.now)) (moment_of moment.now last) ≡ Ok (packet_in read)) }
+    ensures ok { IfOk result (λ read. timed_packet (packet_word (words_of rest.now)) (moment_of moment.now last) ≡ Ok (packet_in read packet.new.items)) }
     ensures err { IfErr result (λ fault. TellsFault (timed_packet (packet_word (words_of rest.now)) (moment_of moment.now last)) fault) }
-    ensures moment { IfOk result (λ read. IfSome (packet_in read) (λ packet. (last ≤ packet.moment) × (packet.moment ≤ LAST_MOMENT))) }
+    ensures moment { IfOk result (λ read. IfSome (packet_in read packet.new.items) (λ timed. (last ≤ timed.moment) × (timed.moment ≤ LAST_MOMENT))) }
 {
     let digits = read_packet_word(rest).map_err(CaptureFault::Line)?;
     let moment = read_moment(moment, last).map_err(CaptureFault::Line)?;
-    let bytes = read_hex(alloc, digits)?;
-    Ok(CaptureLine::Packet { moment, bytes })
+    read_hex(digits, packet)?;
+    Ok(CaptureLine::Packet { moment })
 }
 
 /// The one word of a text, or no bytes where it has no word.
@@ -86,14 +87,16 @@ fn read_packet_word(text: &[u8]) -> Result<&[u8], LineKind>
     Ok(word)
 }
 
-/// The bytes that hex digits of either case spell.
-fn read_hex(alloc: Global, digits: &[u8]) -> Result<Vec<u8>, CaptureFault>
-    ensures ok { IfOk result (λ bytes. decode_of digits.now ≡ Ok bytes.items) }
+/// Puts the bytes that hex digits of either case spell into `packet`.
+fn read_hex(digits: &[u8], packet: &mut Vec<u8>) -> Result<(), CaptureFault>
+    ensures ok { OnOk result (decode_of digits.now ≡ Ok packet.new.items) }
     ensures err { IfErr result (λ fault. (moment : ℕ) → TellsFault (packet_at moment (decode_of digits.now)) fault) }
 {
-    match hex::decode(alloc, digits) {
-        Ok(bytes) => Ok(bytes),
-        Err(FromHexError::OutOfMemory) => Err(CaptureFault::Memory),
+    if packet.resize(digits.len() / 2, 0).is_err() {
+        return Err(CaptureFault::Memory);
+    }
+    match hex::decode_to_slice(digits, packet.as_mut_slice()) {
+        Ok(()) => Ok(()),
         Err(_) => Err(CaptureFault::Line(LineKind::BadHex)),
     }
 }
@@ -119,16 +122,17 @@ mod tests {
 
     #[test]
     fn reads_a_packet_and_skips_a_comment(rt: HostRuntime) -> Result<(), Fail> {
+        let mut packet = Vec::new(rt.alloc());
         let line = b"  0 010908C801800002\r";
-        let CaptureLine::Packet { moment, bytes } = read_capture_line(rt.alloc(), line, 0)? else {
+        let CaptureLine::Packet { moment } = read_capture_line(line, 0, &mut packet)? else {
             return Err(Fail::from("skipped"));
         };
         assert_eq!(rt; moment, 0);
         assert_eq!(rt;
-            bytes.as_slice(),
+            packet.as_slice(),
             b"\x01\x09\x08\xc8\x01\x80\x00\x02".as_slice()
         );
-        let comment = read_capture_line(rt.alloc(), b" # 0 00", 0)?;
+        let comment = read_capture_line(b" # 0 00", 0, &mut packet)?;
         assert!(rt; matches!(comment, CaptureLine::Skipped));
         Ok(())
     }

@@ -1,37 +1,47 @@
 //! The text of what came of a step.
 
-ghost use Rattle.std.specs.Prelude.{◌≡◌, IfOk, string_bytes};
+ghost use Rattle.std.specs.Prelude.{◌≡◌, ◌++◌, OnOk, codes};
+ghost use Rattle.std.specs.Fmt.{decimal};
 ghost use Rattle.mctpctl_engines.specs.EntryTexts.{again_text, answered_text, delivered_text, due_text, entry_line, entry_text, gave_up_text, not_opened_text, numbers_text, received_text, sensed_text};
-ghost use Rattle.mctpctl_engines.specs.ShownLines.{drop_text};
 
-use mctp_packet::{Memory, Reason};
+use crate::bytes_text::{push_number, push_text};
+use crate::packet_line::push_drop;
+use mctp_packet::Memory;
 use mctp_schedule::Entry;
 use pldm_device::ReadingFault;
 use pldm_requester::{Got, OpenFault};
 use pldm_responder::Outcome;
-use std::alloc::Global;
 
-/// The line of a step at this moment: the moment, and what came of the step.
-pub fn entry_line(alloc: Global, moment: u64, entry: &Entry) -> Result<String, Memory>
-    ensures { IfOk result (λ text. string_bytes text ≡ entry_line moment entry.now) }
+/// Adds the line of a step at this moment: the moment, and what came of the step.
+pub fn push_entry_line(out: &mut Vec<u8>, moment: u64, entry: &Entry) -> Result<(), Memory>
+    ensures { OnOk result (out.new.items ≡ out.old.items ++ entry_line moment entry.now) }
 {
-    let told = entry_text(alloc, entry)?;
-    Ok(format!(in alloc; "{moment} {told}\n")?)
+    push_number(out, moment)?;
+    push_text(out, " ")?;
+    push_entry(out, entry)?;
+    push_text(out, "\n")
 }
 
-fn entry_text(alloc: Global, entry: &Entry) -> Result<String, Memory>
-    ensures { IfOk result (λ text. string_bytes text ≡ entry_text entry.now) }
+fn push_entry(out: &mut Vec<u8>, entry: &Entry) -> Result<(), Memory>
+    ensures { OnOk result (out.new.items ≡ out.old.items ++ entry_text entry.now) }
 {
     match entry {
-        Entry::Nothing => Ok(String::from_str(alloc, "nothing")?),
-        Entry::Opened(number) => Ok(format!(in alloc; "opened {number}")?),
-        Entry::NotOpened(fault) => Ok(String::from_str(alloc, not_opened_text(*fault))?),
-        Entry::Due(due) => due_text(alloc, &due.again, &due.given_up),
-        Entry::Delivered { busy, outcome } => delivered_text(alloc, *busy, outcome),
-        Entry::Received(got) => received_text(alloc, *got),
-        Entry::Sensed(sensed) => Ok(String::from_str(alloc, sensed_text(sensed))?),
-        Entry::Restarted => Ok(String::from_str(alloc, "restarted")?),
+        Entry::Nothing => push_text(out, "nothing"),
+        Entry::Opened(number) => push_opened(out, *number),
+        Entry::NotOpened(fault) => push_text(out, not_opened_text(*fault)),
+        Entry::Due(due) => push_due(out, &due.again, &due.given_up),
+        Entry::Delivered { busy, outcome } => push_delivered(out, *busy, outcome),
+        Entry::Received(got) => push_received(out, *got),
+        Entry::Sensed(sensed) => push_text(out, sensed_text(sensed)),
+        Entry::Restarted => push_text(out, "restarted"),
     }
+}
+
+fn push_opened(out: &mut Vec<u8>, number: u64) -> Result<(), Memory>
+    ensures { OnOk result (out.new.items ≡ out.old.items ++ (codes "opened " ++ decimal number)) }
+{
+    push_text(out, "opened ")?;
+    push_number(out, number)
 }
 
 fn not_opened_text(fault: OpenFault) -> &'static str
@@ -44,57 +54,56 @@ fn not_opened_text(fault: OpenFault) -> &'static str
     }
 }
 
-fn due_text(alloc: Global, again: &[u64], given_up: &[u64]) -> Result<String, Memory>
-    ensures { IfOk result (λ text. string_bytes text ≡ due_text again.now given_up.now) }
+fn push_due(out: &mut Vec<u8>, again: &[u64], given_up: &[u64]) -> Result<(), Memory>
+    ensures { OnOk result (out.new.items ≡ out.old.items ++ due_text again.now given_up.now) }
 {
     if again.is_empty() && given_up.is_empty() {
-        return Ok(String::from_str(alloc, "nothing due")?);
+        return push_text(out, "nothing due");
     }
     if given_up.is_empty() {
-        return again_text(alloc, again);
+        return push_again(out, again);
     }
     if again.is_empty() {
-        return gave_up_text(alloc, given_up);
+        return push_gave_up(out, given_up);
     }
-    let again = again_text(alloc, again)?;
-    let given_up = gave_up_text(alloc, given_up)?;
-    Ok(format!(in alloc; "{again} {given_up}")?)
+    push_again(out, again)?;
+    push_text(out, " ")?;
+    push_gave_up(out, given_up)
 }
 
-fn again_text(alloc: Global, numbers: &[u64]) -> Result<String, Memory>
-    ensures { IfOk result (λ text. string_bytes text ≡ again_text numbers.now) }
+fn push_again(out: &mut Vec<u8>, numbers: &[u64]) -> Result<(), Memory>
+    ensures { OnOk result (out.new.items ≡ out.old.items ++ again_text numbers.now) }
 {
-    let told = numbers_text(alloc, numbers)?;
-    Ok(format!(in alloc; "again{told}")?)
+    push_text(out, "again")?;
+    push_numbers(out, numbers)
 }
 
-fn gave_up_text(alloc: Global, numbers: &[u64]) -> Result<String, Memory>
-    ensures { IfOk result (λ text. string_bytes text ≡ gave_up_text numbers.now) }
+fn push_gave_up(out: &mut Vec<u8>, numbers: &[u64]) -> Result<(), Memory>
+    ensures { OnOk result (out.new.items ≡ out.old.items ++ gave_up_text numbers.now) }
 {
-    let told = numbers_text(alloc, numbers)?;
-    Ok(format!(in alloc; "gave up{told}")?)
+    push_text(out, "gave up")?;
+    push_numbers(out, numbers)
 }
 
-/// Numbers in decimal, a space before each.
-pub fn numbers_text(alloc: Global, numbers: &[u64]) -> Result<String, Memory>
-    ensures { IfOk result (λ text. string_bytes text ≡ numbers_text numbers.now) }
+/// Adds numbers in decimal, a space before each.
+pub fn push_numbers(out: &mut Vec<u8>, numbers: &[u64]) -> Result<(), Memory>
+    ensures { OnOk result (out.new.items ≡ out.old.items ++ numbers_text numbers.now) }
 {
-    let mut text = String::new(alloc);
     for i in 0..numbers.len() {
-        let number = numbers[i];
-        text.push_str(format!(in alloc; " {number}")?.as_str())?;
+        push_text(out, " ")?;
+        push_number(out, numbers[i])?;
     }
-    Ok(text)
+    Ok(())
 }
 
-fn delivered_text(alloc: Global, busy: bool, outcome: &Outcome) -> Result<String, Memory>
-    ensures { IfOk result (λ text. string_bytes text ≡ delivered_text busy outcome.now) }
+fn push_delivered(out: &mut Vec<u8>, busy: bool, outcome: &Outcome) -> Result<(), Memory>
+    ensures { OnOk result (out.new.items ≡ out.old.items ++ delivered_text busy outcome.now) }
 {
     match outcome {
-        Outcome::Dropped(reason) => dropped_text(alloc, *reason),
-        Outcome::Partial => Ok(String::from_str(alloc, "partial")?),
+        Outcome::Dropped(reason) => push_drop(out, *reason),
+        Outcome::Partial => push_text(out, "partial"),
         Outcome::Answered { fresh, changed, .. } => {
-            Ok(String::from_str(alloc, answered_text(busy, *fresh, *changed))?)
+            push_text(out, answered_text(busy, *fresh, *changed))
         }
     }
 }
@@ -113,21 +122,14 @@ fn answered_text(busy: bool, fresh: bool, changed: bool) -> &'static str
     }
 }
 
-fn received_text(alloc: Global, got: Got) -> Result<String, Memory>
-    ensures { IfOk result (λ text. string_bytes text ≡ received_text got) }
+fn push_received(out: &mut Vec<u8>, got: Got) -> Result<(), Memory>
+    ensures { OnOk result (out.new.items ≡ out.old.items ++ received_text got) }
 {
     match got {
-        Got::Dropped(reason) => dropped_text(alloc, reason),
-        Got::Partial => Ok(String::from_str(alloc, "partial")?),
-        Got::Answered(_) => Ok(String::from_str(alloc, "answered")?),
+        Got::Dropped(reason) => push_drop(out, reason),
+        Got::Partial => push_text(out, "partial"),
+        Got::Answered(_) => push_text(out, "answered"),
     }
-}
-
-fn dropped_text(alloc: Global, reason: Reason) -> Result<String, Memory>
-    ensures { IfOk result (λ text. string_bytes text ≡ drop_text reason) }
-{
-    let name = reason.name();
-    Ok(format!(in alloc; "drop {name}")?)
 }
 
 fn sensed_text(sensed: &Result<(), ReadingFault>) -> &'static str

@@ -3,6 +3,7 @@
 
 mod answer;
 mod answer_run;
+mod bytes_text;
 mod capture;
 mod device_text;
 mod entry_text;

@@ -13,6 +13,25 @@ use line_words::split_line;
 use pldm_device::FileFault;
 use std::alloc::Global;
 
+/// Room for what comes of one line, which is used again for the next.
+#[derive(Drop)]
+pub struct LineRoom {
+    /// For the bytes of its packet.
+    pub packet: Vec<u8>,
+    /// For its text.
+    pub text: Vec<u8>,
+}
+
+impl LineRoom {
+    /// Room that holds nothing.
+    pub fn new(alloc: Global) -> LineRoom {
+        LineRoom {
+            packet: Vec::new(alloc),
+            text: Vec::new(alloc),
+        }
+    }
+}
+
 /// What answers one line after another: `step` says what a line gives in a state, and the state after
 /// it.
 ///
@@ -26,12 +45,13 @@ pub trait LineTask {
     // what a line gives in a state, and the state after it
     ghost step: { State → List ℕ → Result (List ℕ × State) LineKind };
 
-    /// Answers the line of this number, and adds its text to `out`.
+    /// Answers the line of this number, and adds its text to `out`. What `room` holds is written over.
     fn answer(
         &mut self,
         alloc: Global,
         number: u64,
         line: &[u8],
+        room: &mut LineRoom,
         out: &mut Vec<u8>,
     ) -> Result<(), EngineFault>
         ensures meets { AddsLine number (step (state_of self.old) line.now) (state_of self.new) out.old.items out.new.items result }
@@ -49,6 +69,8 @@ pub struct LineRun<T> {
     pub ended: u64,
     /// What has come of the next one.
     pub kept: Vec<u8>,
+    /// Room for what comes of a line.
+    pub room: LineRoom,
 }
 
 impl<T: LineTask> LineRun<T> {
@@ -63,11 +85,16 @@ impl<T: LineTask> LineRun<T> {
         ensures write { result ≢ Err EngineFault.Write }
         ensures device { result ≢ Err (EngineFault.Device FileFault.Memory) }
     {
+        let number = self.ended + 1;
+        if self.kept.is_empty() {
+            let result = self.task.answer(alloc, number, line, &mut self.room, out);
+            self.ended = number;
+            return result;
+        }
         if self.kept.extend_from_slice(line).is_err() {
             return Err(EngineFault::Memory);
         }
-        let number = self.ended + 1;
-        let result = self.task.answer(alloc, number, &self.kept, out);
+        let result = self.task.answer(alloc, number, &self.kept, &mut self.room, out);
         self.kept.clear();
         self.ended = number;
         result
@@ -134,7 +161,7 @@ impl<T: LineTask> Run for LineRun<T> {
                 EngineFault::TooLarge
             });
         }
-        self.task.answer(alloc, number, &self.kept, out)
+        self.task.answer(alloc, number, &self.kept, &mut self.room, out)
     }
 
     ghost none_where_cut = { λ run. refl };

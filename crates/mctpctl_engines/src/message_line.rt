@@ -1,25 +1,27 @@
 //! The line that shows a whole message.
 
-ghost use Rattle.std.specs.Prelude.{◌≡◌, ◌++◌, ◌∷◌, [], IfOk, codes, string_bytes};
+ghost use Rattle.std.specs.Prelude.{◌≡◌, ◌++◌, ◌∷◌, [], OnOk, codes};
+ghost use Rattle.std.specs.Fmt.{decimal};
 ghost use Rattle.mctpctl_engines.specs.ShownLines.{byte_text, command_text, data_text, drop_text, is_shown_as_response, message_line, request_words, response_words, spaced_line, verdict_text};
 ghost use Rattle.pldm_wire.specs.CommandReading.{command_of};
 ghost use Rattle.pldm_wire.specs.Requests.{request_of};
 ghost use Rattle.pldm_wire.specs.Responses.{response_of};
 
+use crate::bytes_text::{push_hex, push_number, push_text};
+use crate::packet_line::push_drop;
 use mctp_packet::{Memory, Reason};
 use pldm_wire::{Kind, RequestRef, read_command, read_request, read_response};
-use std::alloc::Global;
 
-/// The line of a whole message, two spaces in: a request with whether it carries a command, a response
-/// with its completion code, or why the header is refused. It is read as a response where it has two
-/// bytes at least and the request bit is 0.
-pub fn message_line(alloc: Global, message: &[u8]) -> Result<String, Memory>
-    ensures { IfOk result (λ text. string_bytes text ≡ message_line message.now) }
+/// Adds the line of a whole message, two spaces in: a request with whether it carries a command, a
+/// response with its completion code, or why the header is refused. It is read as a response where it
+/// has two bytes at least and the request bit is 0.
+pub fn push_message_line(out: &mut Vec<u8>, message: &[u8]) -> Result<(), Memory>
+    ensures { OnOk result (out.new.items ≡ out.old.items ++ message_line message.now) }
 {
     if is_shown_as_response(message) {
-        response_line(alloc, message)
+        push_response_line(out, message)
     } else {
-        request_line(alloc, message)
+        push_request_line(out, message)
     }
 }
 
@@ -30,82 +32,97 @@ fn is_shown_as_response(message: &[u8]) -> bool
     message.len() >= 2 && message[1] >> 7 & 1 != 1
 }
 
-fn request_line(alloc: Global, message: &[u8]) -> Result<String, Memory>
-    ensures { IfOk result (λ text.
-        string_bytes text ≡ codes "  " ++ spaced_line (request_words (request_of message.now))) }
+fn push_request_line(out: &mut Vec<u8>, message: &[u8]) -> Result<(), Memory>
+    ensures { OnOk result (out.new.items
+        ≡ out.old.items ++ (codes "  " ++ spaced_line (request_words (request_of message.now)))) }
 {
     let request = match read_request(message) {
         Ok(request) => request,
-        Err(reason) => return refused_line(alloc, reason),
+        Err(reason) => return push_refused_line(out, reason),
     };
-    let id = request.id();
-    let command = command_text(alloc, request.kind())?;
-    let data = data_text(alloc, request.data())?;
-    let verdict = verdict_text(alloc, &request)?;
-    Ok(format!(in alloc; "  request {id} {command} {data} {verdict}\n")?)
+    push_subject(out, "  request ", request.id(), request.kind())?;
+    push_data(out, request.data())?;
+    push_text(out, " ")?;
+    push_verdict(out, &request)?;
+    push_text(out, "\n")
 }
 
-fn response_line(alloc: Global, message: &[u8]) -> Result<String, Memory>
-    ensures { IfOk result (λ text.
-        string_bytes text ≡ codes "  " ++ spaced_line (response_words (response_of message.now))) }
+fn push_response_line(out: &mut Vec<u8>, message: &[u8]) -> Result<(), Memory>
+    ensures { OnOk result (out.new.items
+        ≡ out.old.items ++ (codes "  " ++ spaced_line (response_words (response_of message.now)))) }
 {
     let response = match read_response(message) {
         Ok(response) => response,
-        Err(reason) => return refused_line(alloc, reason),
+        Err(reason) => return push_refused_line(out, reason),
     };
-    let id = response.id();
-    let command = command_text(alloc, response.kind())?;
-    let code = byte_text(alloc, response.code())?;
-    let data = data_text(alloc, response.data())?;
-    Ok(format!(in alloc; "  response {id} {command} {code} {data}\n")?)
+    push_subject(out, "  response ", response.id(), response.kind())?;
+    push_byte(out, response.code())?;
+    push_text(out, " ")?;
+    push_data(out, response.data())?;
+    push_text(out, "\n")
 }
 
-/// The line of a message whose header is refused.
-fn refused_line(alloc: Global, reason: Reason) -> Result<String, Memory>
-    ensures { IfOk result (λ text. string_bytes text ≡ codes "  " ++ spaced_line (drop_text reason ∷ [])) }
+/// Adds what a message is, its instance ID, its command, and a space.
+fn push_subject(out: &mut Vec<u8>, what: &str, id: u8, kind: Kind) -> Result<(), Memory>
+    ensures { OnOk result (out.new.items
+        ≡ out.old.items ++ (what.now ++ (decimal id ++ 32 ∷ (command_text kind ++ 32 ∷ [])))) }
 {
-    let name = reason.name();
-    Ok(format!(in alloc; "  drop {name}\n")?)
+    push_text(out, what)?;
+    push_number(out, id.into())?;
+    push_text(out, " ")?;
+    push_command(out, kind)?;
+    push_text(out, " ")
 }
 
-/// The command's name, or its PLDM type and its number.
-fn command_text(alloc: Global, kind: Kind) -> Result<String, Memory>
-    ensures { IfOk result (λ text. string_bytes text ≡ command_text kind) }
+/// Adds the line of a message whose header is refused.
+fn push_refused_line(out: &mut Vec<u8>, reason: Reason) -> Result<(), Memory>
+    ensures { OnOk result (out.new.items
+        ≡ out.old.items ++ (codes "  " ++ spaced_line (drop_text reason ∷ []))) }
+{
+    push_text(out, "  ")?;
+    push_drop(out, reason)?;
+    push_text(out, "\n")
+}
+
+/// Adds the command's name, or its PLDM type and its number.
+fn push_command(out: &mut Vec<u8>, kind: Kind) -> Result<(), Memory>
+    ensures { OnOk result (out.new.items ≡ out.old.items ++ command_text kind) }
 {
     if let Some(name) = kind.name() {
-        return Ok(String::from_str(alloc, name)?);
+        return push_text(out, name);
     }
-    let pldm_type = kind.pldm_type;
-    let command = byte_text(alloc, kind.command)?;
-    Ok(format!(in alloc; "{pldm_type}/{command}")?)
+    push_number(out, kind.pldm_type.into())?;
+    push_text(out, "/")?;
+    push_byte(out, kind.command)
 }
 
-/// Whether the request carries a command, or the completion code of its refusal.
-fn verdict_text(alloc: Global, request: &RequestRef<'_>) -> Result<String, Memory>
-    ensures { IfOk result (λ text. string_bytes text ≡ verdict_text (command_of request.now.kind request.now.rest)) }
+/// Adds whether the request carries a command, or the completion code of its refusal.
+fn push_verdict(out: &mut Vec<u8>, request: &RequestRef<'_>) -> Result<(), Memory>
+    ensures { OnOk result (out.new.items
+        ≡ out.old.items ++ verdict_text (command_of request.now.kind request.now.rest)) }
 {
     match read_command(request) {
-        Ok(_) => Ok(String::from_str(alloc, "ok")?),
+        Ok(_) => push_text(out, "ok"),
         Err(code) => {
-            let code = byte_text(alloc, code.get())?;
-            Ok(format!(in alloc; "refused {code}")?)
+            push_text(out, "refused ")?;
+            push_byte(out, code.get())
         }
     }
 }
 
-/// Bytes in lower-case hex, or `-` where there are none.
-fn data_text(alloc: Global, bytes: &[u8]) -> Result<String, Memory>
-    ensures { IfOk result (λ text. string_bytes text ≡ data_text bytes.now) }
+/// Adds bytes in lower-case hex, or `-` where there are none.
+fn push_data(out: &mut Vec<u8>, bytes: &[u8]) -> Result<(), Memory>
+    ensures { OnOk result (out.new.items ≡ out.old.items ++ data_text bytes.now) }
 {
     if bytes.is_empty() {
-        return Ok(String::from_str(alloc, "-")?);
+        return push_text(out, "-");
     }
-    Ok(hex::encode(alloc, bytes)?)
+    push_hex(out, bytes)
 }
 
-/// A byte as two lower-case hex digits.
-fn byte_text(alloc: Global, byte: u8) -> Result<String, Memory>
-    ensures { IfOk result (λ text. string_bytes text ≡ byte_text byte) }
+/// Adds a byte as two lower-case hex digits.
+fn push_byte(out: &mut Vec<u8>, byte: u8) -> Result<(), Memory>
+    ensures { OnOk result (out.new.items ≡ out.old.items ++ byte_text byte) }
 {
-    Ok(hex::encode(alloc, &[byte])?)
+    push_hex(out, &[byte])
 }

@@ -1,6 +1,6 @@
 //! What `mctpctl show` makes of the packets of a capture.
 
-ghost use Rattle.std.specs.Prelude.{◌≡◌, ◌≢◌, Err, IfOk, OnOk, string_bytes};
+ghost use Rattle.std.specs.Prelude.{◌≡◌, ◌≢◌, ◌++◌, Err, IfOk, OnOk};
 ghost use Rattle.mctpctl_engines.specs.LinePieces.{AddsLine};
 ghost use Rattle.mctpctl_engines.specs.LongLines.{observed_refuses};
 ghost use Rattle.mctpctl_engines.specs.ObservedRuns.{Observed, given_at, none_observed, observed_of, observed_step, open_after, open_in, open_with};
@@ -9,8 +9,8 @@ ghost use Rattle.mctp_packet.specs.Reading.{reading};
 
 use crate::capture::{CaptureFault, CaptureLine, read_capture_line};
 use crate::faults::EngineFault;
-use crate::line_run::LineTask;
-use crate::packet_line::{completed_text, no_packet_line, packet_line};
+use crate::line_run::{LineRoom, LineTask};
+use crate::packet_line::{push_completed, push_no_packet_line, push_packet_line};
 use mctp_assembly::{Assembler, Fed};
 use mctp_packet::{Eid, Memory, PacketRef, read};
 use pldm_device::FileFault;
@@ -56,23 +56,27 @@ impl Observer {
         Ok(fed)
     }
 
-    /// What is written of bytes that came at a moment.
-    fn show(&mut self, alloc: Global, moment: u64, bytes: &[u8]) -> Result<String, Memory>
-        ensures text { IfOk result (λ text. string_bytes text
-            ≡ shown_text moment (reading None bytes.now) (given_at (open_in self.old.assemblers.entries))) }
+    /// Adds what is written of bytes that came at a moment.
+    fn show(
+        &mut self,
+        alloc: Global,
+        moment: u64,
+        bytes: &[u8],
+        text: &mut Vec<u8>,
+    ) -> Result<(), Memory>
+        ensures text { OnOk result (text.new.items ≡ text.old.items
+            ++ shown_text moment (reading None bytes.now) (given_at (open_in self.old.assemblers.entries))) }
         ensures open { OnOk result (open_in self.new.assemblers.entries
             ≡ open_with (open_in self.old.assemblers.entries) (reading None bytes.now)) }
         ensures last { self.new.last ≡ self.old.last }
     {
         let packet = match read(bytes) {
             Ok(packet) => packet,
-            Err(reason) => return no_packet_line(alloc, moment, reason),
+            Err(reason) => return push_no_packet_line(text, moment, reason),
         };
         let fed = self.feed(alloc, &packet)?;
-        let mut text = packet_line(alloc, moment, &packet, &fed)?;
-        let message = completed_text(alloc, &fed)?;
-        text.push_str(message.as_str())?;
-        Ok(text)
+        push_packet_line(text, moment, &packet, &fed)?;
+        push_completed(text, &fed)
     }
 }
 
@@ -89,23 +93,25 @@ impl LineTask for Observer {
         alloc: Global,
         number: u64,
         line: &[u8],
+        room: &mut LineRoom,
         out: &mut Vec<u8>,
     ) -> Result<(), EngineFault>
         ensures meets { AddsLine number (observed_step (observed_of self.old) line.now) (observed_of self.new)
             out.old.items out.new.items result }
         ensures device { result ≢ Err (EngineFault.Device FileFault.Memory) }
     {
-        let (moment, bytes) = match read_capture_line(alloc, line, self.last) {
-            Ok(CaptureLine::Packet { moment, bytes }) => (moment, bytes),
+        let moment = match read_capture_line(line, self.last, &mut room.packet) {
+            Ok(CaptureLine::Packet { moment }) => moment,
             Ok(CaptureLine::Skipped) => return Ok(()),
             Err(CaptureFault::Line(kind)) => return Err(EngineFault::Line(number, kind)),
             Err(CaptureFault::Memory) => return Err(EngineFault::Memory),
         };
-        let Ok(text) = self.show(alloc, moment, &bytes) else {
+        room.text.clear();
+        if self.show(alloc, moment, &room.packet, &mut room.text).is_err() {
             return Err(EngineFault::Memory);
-        };
+        }
         self.last = moment;
-        if out.extend_from_slice(text.as_bytes()).is_err() {
+        if out.extend_from_slice(&room.text).is_err() {
             return Err(EngineFault::Memory);
         }
         Ok(())

@@ -1,50 +1,68 @@
 //! The lines that show what came at a moment.
 
-ghost use Rattle.std.specs.Prelude.{◌≡◌, ◌∷◌, [], IfOk, string_bytes};
+ghost use Rattle.std.specs.Prelude.{◌≡◌, ◌++◌, ◌∷◌, [], OnOk};
 ghost use Rattle.std.specs.Fmt.{decimal};
 ghost use Rattle.mctp_packet.specs.Bits.{bit};
 ghost use Rattle.mctpctl_engines.specs.ShownLines.{completed_text, drop_text, fed_text, packet_line, place_text, route_text, spaced_line};
 
-use crate::message_line::message_line;
+use crate::bytes_text::{push_number, push_text};
+use crate::message_line::push_message_line;
 use mctp_assembly::Fed;
 use mctp_packet::{Memory, PacketRef, Reason, Route};
-use std::alloc::Global;
+use std::io::Write;
 
-/// The line of a packet that came at this moment and gave this.
-pub fn packet_line(
-    alloc: Global,
+/// Adds the line of a packet that came at this moment and gave this.
+pub fn push_packet_line(
+    out: &mut Vec<u8>,
     moment: u64,
     packet: &PacketRef<'_>,
     fed: &Fed,
-) -> Result<String, Memory>
-    ensures { IfOk result (λ text. string_bytes text ≡ packet_line moment packet.now fed.now) }
+) -> Result<(), Memory>
+    ensures { OnOk result (out.new.items ≡ out.old.items ++ packet_line moment packet.now fed.now) }
 {
-    let route = route_text(alloc, packet.route())?;
-    let place = place_text(alloc, packet)?;
-    let given = fed_text(alloc, fed)?;
-    Ok(format!(in alloc; "{moment} {route} {place} {given}\n")?)
+    push_origin(out, moment, packet.route())?;
+    push_place(out, packet)?;
+    push_text(out, " ")?;
+    push_fed(out, fed)?;
+    push_text(out, "\n")
 }
 
-/// Where a packet comes from and goes to, and whose message it carries.
-fn route_text(alloc: Global, route: Route) -> Result<String, Memory>
-    ensures { IfOk result (λ text. string_bytes text ≡ route_text route) }
+/// Adds when a packet came, where it comes from and goes to, and a space.
+fn push_origin(out: &mut Vec<u8>, moment: u64, route: Route) -> Result<(), Memory>
+    ensures { OnOk result (out.new.items ≡ out.old.items ++ (decimal moment ++ 32 ∷ (route_text route ++ 32 ∷ []))) }
+{
+    push_number(out, moment)?;
+    push_text(out, " ")?;
+    push_route(out, route)?;
+    push_text(out, " ")
+}
+
+/// Adds where a packet comes from and goes to, and whose message it carries.
+fn push_route(out: &mut Vec<u8>, route: Route) -> Result<(), Memory>
+    ensures { OnOk result (out.new.items ≡ out.old.items ++ route_text route) }
 {
     let source = route.source.get();
     let destination = route.destination.get();
     let tag = route.tag.get();
     let owner = bit(route.owner);
-    Ok(format!(in alloc; "{source}>{destination} tag {tag} to {owner}")?)
+    if write!(out, "{source}>{destination} tag {tag} to {owner}").is_err() {
+        return Err(Memory);
+    }
+    Ok(())
 }
 
-/// A packet's place in its message, and how much of it it carries.
-fn place_text(alloc: Global, packet: &PacketRef<'_>) -> Result<String, Memory>
-    ensures { IfOk result (λ text. string_bytes text ≡ place_text packet.now) }
+/// Adds a packet's place in its message, and how much of it it carries.
+fn push_place(out: &mut Vec<u8>, packet: &PacketRef<'_>) -> Result<(), Memory>
+    ensures { OnOk result (out.new.items ≡ out.old.items ++ place_text packet.now) }
 {
     let start = bit(packet.start());
     let end = bit(packet.end());
     let seq = packet.seq().get();
     let length = packet.payload().len();
-    Ok(format!(in alloc; "som {start} eom {end} seq {seq} len {length}")?)
+    if write!(out, "som {start} eom {end} seq {seq} len {length}").is_err() {
+        return Err(Memory);
+    }
+    Ok(())
 }
 
 /// A flag as 0 or 1.
@@ -54,34 +72,41 @@ fn bit(flag: bool) -> u8
     u8::from(flag)
 }
 
-/// What a packet gave: `whole`, `partial` or `drop NAME`.
-fn fed_text(alloc: Global, fed: &Fed) -> Result<String, Memory>
-    ensures { IfOk result (λ text. string_bytes text ≡ fed_text fed.now) }
+/// Adds what a packet gave: `whole`, `partial` or `drop NAME`.
+fn push_fed(out: &mut Vec<u8>, fed: &Fed) -> Result<(), Memory>
+    ensures { OnOk result (out.new.items ≡ out.old.items ++ fed_text fed.now) }
 {
     match fed {
-        Fed::Whole(_) => Ok(String::from_str(alloc, "whole")?),
-        Fed::Partial => Ok(String::from_str(alloc, "partial")?),
-        Fed::Dropped(reason) => {
-            let name = reason.name();
-            Ok(format!(in alloc; "drop {name}")?)
-        }
+        Fed::Whole(_) => push_text(out, "whole"),
+        Fed::Partial => push_text(out, "partial"),
+        Fed::Dropped(reason) => push_drop(out, *reason),
     }
 }
 
-/// The line of the message that a packet completes, or nothing.
-pub fn completed_text(alloc: Global, fed: &Fed) -> Result<String, Memory>
-    ensures { IfOk result (λ text. string_bytes text ≡ completed_text fed.now) }
+/// Adds that bytes are dropped, and why.
+pub fn push_drop(out: &mut Vec<u8>, reason: Reason) -> Result<(), Memory>
+    ensures { OnOk result (out.new.items ≡ out.old.items ++ drop_text reason) }
+{
+    push_text(out, "drop ")?;
+    push_text(out, reason.name())
+}
+
+/// Adds the line of the message that a packet completes, or nothing.
+pub fn push_completed(out: &mut Vec<u8>, fed: &Fed) -> Result<(), Memory>
+    ensures { OnOk result (out.new.items ≡ out.old.items ++ completed_text fed.now) }
 {
     match fed {
-        Fed::Whole(message) => message_line(alloc, message),
-        Fed::Partial | Fed::Dropped(_) => Ok(String::new(alloc)),
+        Fed::Whole(message) => push_message_line(out, message),
+        Fed::Partial | Fed::Dropped(_) => Ok(()),
     }
 }
 
-/// The line of bytes that spell no packet.
-pub fn no_packet_line(alloc: Global, moment: u64, reason: Reason) -> Result<String, Memory>
-    ensures { IfOk result (λ text. string_bytes text ≡ spaced_line (decimal moment ∷ drop_text reason ∷ [])) }
+/// Adds the line of bytes that spell no packet.
+pub fn push_no_packet_line(out: &mut Vec<u8>, moment: u64, reason: Reason) -> Result<(), Memory>
+    ensures { OnOk result (out.new.items ≡ out.old.items ++ spaced_line (decimal moment ∷ drop_text reason ∷ [])) }
 {
-    let name = reason.name();
-    Ok(format!(in alloc; "{moment} drop {name}\n")?)
+    push_number(out, moment)?;
+    push_text(out, " ")?;
+    push_drop(out, reason)?;
+    push_text(out, "\n")
 }

@@ -1,6 +1,6 @@
 //! The engine of `mctpctl run`, over an input that comes in pieces.
 
-ghost use Rattle.std.specs.Prelude.{◌≡◌, ◌≢◌, ◌≤◌, ◌++◌, ◌+◌, ◌⊎◌, [], Err, Some, IfOk, IfSome, IfNone, None, length, option_map, string_bytes};
+ghost use Rattle.std.specs.Prelude.{◌≡◌, ◌≢◌, ◌≤◌, ◌++◌, ◌+◌, ◌⊎◌, [], Err, Some, IfOk, IfSome, IfNone, None, length, option_map};
 ghost use Rattle.line_words.specs.TextLines.{lines_of};
 ghost use Rattle.mctp_schedule.specs.Schedules.{schedule_of};
 ghost use Rattle.mctpctl_engines.specs.AnswerText.{run_of};
@@ -13,7 +13,7 @@ ghost use Rattle.mctpctl_engines.specs.TextLines.{capture_lines, description_of}
 use crate::faults::{EngineFault, LineKind};
 use crate::limits::{MAX_DESCRIPTION, MAX_INPUT};
 use crate::lines::is_divider;
-use crate::report_text::report_text;
+use crate::report_text::push_report;
 use crate::stream::Run;
 use line_words::split_line;
 use mctp_schedule::{LineFault, LineFaultKind, RunFault, Schedule, Setup, run};
@@ -119,8 +119,8 @@ fn run_schedule(
     alloc: Global,
     description: Description,
     schedule: &[u8],
-) -> Result<String, EngineFault>
-    ensures meets { TellsText string_bytes (schedule_written description (schedule_of schedule.now)) result }
+) -> Result<Vec<u8>, EngineFault>
+    ensures meets { TellsText (λ text. text.items) (schedule_written description (schedule_of schedule.now)) result }
     ensures read { result ≢ Err EngineFault.Read }
     ensures write { result ≢ Err EngineFault.Write }
     ensures device { result ≢ Err (EngineFault.Device FileFault.Memory) }
@@ -135,15 +135,16 @@ fn run_schedule(
         Ok(report) => report,
         Err(fault) => return Err(stop_of_run(fault)),
     };
-    let Ok(text) = report_text(alloc, schedule.steps(), &report) else {
+    let mut text = Vec::new(alloc);
+    if push_report(alloc, &mut text, schedule.steps(), &report).is_err() {
         return Err(EngineFault::Memory);
-    };
+    }
     Ok(text)
 }
 
 /// Runs all of an input, of which there is more where it is cut off.
-fn run_input(alloc: Global, text: &[u8], is_cut: bool) -> Result<String, EngineFault>
-    ensures meets { TellsText string_bytes (run_of scheduled_run is_cut text.now) result }
+fn run_input(alloc: Global, text: &[u8], is_cut: bool) -> Result<Vec<u8>, EngineFault>
+    ensures meets { TellsText (λ text. text.items) (run_of scheduled_run is_cut text.now) result }
     ensures read { result ≢ Err EngineFault.Read }
     ensures write { result ≢ Err EngineFault.Write }
     ensures device { result ≢ Err (EngineFault.Device FileFault.Memory) }
@@ -196,7 +197,7 @@ impl Run for ScheduleRun {
             Ok(text) => text,
             Err(fault) => return Err(fault),
         };
-        if out.extend_from_slice(text.as_bytes()).is_err() {
+        if out.extend_from_slice(&text).is_err() {
             return Err(EngineFault::Memory);
         }
         Ok(())

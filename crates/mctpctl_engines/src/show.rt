@@ -7,7 +7,7 @@ ghost use Rattle.mctpctl_engines.specs.Ports.{inner_of, has_failed};
 ghost use Rattle.mctpctl_engines.specs.ShowText.{seen_run, show_text};
 
 use crate::faults::EngineFault;
-use crate::line_run::LineRun;
+use crate::line_run::{LineRoom, LineRun};
 use crate::observer::Observer;
 use crate::port::Port;
 use crate::stream::run_to_end;
@@ -56,6 +56,7 @@ pub fn show_all<R: Read, W: Write>(
         task,
         ended: 0,
         kept,
+        room: LineRoom::new(alloc),
     };
     run_to_end(alloc, &mut run, reader, writer)
 }

@@ -1,0 +1,51 @@
+//! Text that is added to bytes.
+
+ghost use Rattle.std.specs.Fmt.{decimal, signed_decimal};
+ghost use Rattle.std.specs.Prelude.{◌≡◌, ◌++◌, OnOk};
+ghost use Rattle.hex.specs.Hex.{encode_lower};
+
+use mctp_packet::Memory;
+use std::io::Write;
+
+/// Adds text.
+pub fn push_text(out: &mut Vec<u8>, text: &str) -> Result<(), Memory>
+    ensures { OnOk result (out.new.items ≡ out.old.items ++ text.now) }
+{
+    out.extend_from_slice(text.as_bytes())?;
+    Ok(())
+}
+
+/// Adds a number in decimal.
+pub fn push_number(out: &mut Vec<u8>, number: u64) -> Result<(), Memory>
+    ensures { OnOk result (out.new.items ≡ out.old.items ++ decimal number) }
+{
+    if write!(out, "{number}").is_err() {
+        return Err(Memory);
+    }
+    Ok(())
+}
+
+/// Adds a value in decimal, with `-` in front where it is below 0.
+pub fn push_value(out: &mut Vec<u8>, value: i64) -> Result<(), Memory>
+    ensures { OnOk result (out.new.items ≡ out.old.items ++ signed_decimal value) }
+{
+    if write!(out, "{value}").is_err() {
+        return Err(Memory);
+    }
+    Ok(())
+}
+
+/// Adds bytes in lower-case hex.
+pub fn push_hex(out: &mut Vec<u8>, bytes: &[u8]) -> Result<(), Memory>
+    ensures { OnOk result (out.new.items ≡ out.old.items ++ encode_lower bytes.now) }
+{
+    let start = out.len();
+    let Some(end) = start.checked_add(2 * bytes.len()) else {
+        return Err(Memory);
+    };
+    out.resize(end, 0)?;
+    match hex::encode_to_slice(bytes, &mut out[start..]) {
+        Ok(()) => Ok(()),
+        Err(_) => unreachable!(),
+    }
+}
