@@ -1,4 +1,5 @@
 pub mod DecimalPlaces
+pub mod FoundPlaces
 pub mod LineRows
 pub mod LineSplits
 pub mod NumberRows

@@ -3,6 +3,8 @@
 ghost use Rattle.std.specs.Prelude.{◌≡◌, ◌+◌, ◌++◌, ◌∷◌, [], ◌==◌, IfSome, IfNone, length, position};
 ghost use Rattle.line_words.specs.TextLines.{HasNoFeed, lines_of};
 
+use memchr::memchr;
+
 /// The first line, and what follows its LF; `None` where there is no LF, and all is one line.
 pub fn split_line(text: &[u8]) -> Option<(&[u8], &[u8])>
     ensures some { IfSome result (λ p. lines_of text.now ≡ p.0.now ∷ lines_of p.1.now) }
@@ -20,5 +22,5 @@ pub fn split_line(text: &[u8]) -> Option<(&[u8], &[u8])>
 fn line_end(text: &[u8]) -> Option<usize>
     ensures { result ≡ position (λ b. b == 10) text.now }
 {
-    text.iter().position(|b| *b == b'\n')
+    memchr(b'\n', text)
 }
