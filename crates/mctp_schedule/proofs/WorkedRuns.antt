@@ -1,20 +1,14 @@
--- Worked schedules over the example device, computed from what the headline owes: the entries, the requests that arrived in
--- the order of their first arrivals, the device's state and the one reply of a request. The newest step stands first.
-use Rattle.std.proofs.Common.{◌≡◌, ℕ, ℤ, pos, List, [], ◌∷◌, ◌++◌, length, map, Some, None, Option, true, false, Bool, Ok, ◌+◌, replicate, refl}
+-- Worked schedules over the example device, computed from what the headline owes: the entries, the requests that arrived
+-- in the order of their first arrivals, the device's state and the one reply of a request. The newest step
+-- stands first.
+use Rattle.std.proofs.Common.{◌≡◌, ℕ, pos, List, [], ◌∷◌, ◌++◌, map, Some, None, true, false, Bool, Ok, ◌+◌, replicate, refl}
 use Rattle.mctp_packet.specs.declared.reason.Reason.TheVariants.{UnexpectedMiddleOrEnd, BadTag, NotReady}
 use Rattle.pldm_wire.specs.CommandReading.{command_of}
-use Rattle.pldm_wire.specs.Numbers.{sized}
 use Rattle.pldm_wire.specs.Requests.{request_of}
 use Rattle.pldm_wire.specs.Responses.{response_of}
-use Rattle.pldm_wire.specs.declared.command.Command.TheVariants.{GetTid, GetPdr, GetSensorReading, SetNumericEffecterValue}
-use Rattle.pldm_wire.specs.declared.size.Size.TheVariants.{Uint8}
-use Rattle.pldm_device.specs.DeviceAnswers.{answer, after}
+use Rattle.pldm_wire.specs.declared.command.Command.TheVariants.{GetTid, GetPdr, GetSensorReading}
 use Rattle.pldm_device.specs.Devices.{Device}
-use Rattle.pldm_device.specs.SensorAnswers.{sensed}
-use Rattle.pldm_device.specs.StateEffecters.{fields_of_states}
-use Rattle.pldm_requester.specs.declared.got.Got.{Got}
 use Rattle.pldm_requester.specs.declared.got.Got.TheVariants as got
-use Rattle.pldm_responder.specs.Performing.{rules_of}
 use Rattle.pldm_responder.specs.declared.outcome.Outcome.TheVariants.{Answered}
 use Rattle.mctp_schedule.specs.FirstArrivals.{firsts}
 use Rattle.mctp_schedule.specs.Headline.{entries_owed, state_once}
@@ -25,39 +19,10 @@ use Rattle.mctp_schedule.specs.declared.entry.Entry.TheVariants.{Nothing, Opened
 use Rattle.mctp_schedule.specs.declared.step.Action.{Action}
 use Rattle.mctp_schedule.specs.declared.step.Action.TheVariants.{Open, Tick, Request, Reply, Sense, Restart, Busy}
 use Rattle.mctp_schedule.specs.declared.step.Step.{Step}
-
--- the example device, with this reading of sensor 1 and this value of numeric effecter 1
-abbrev with_values : ℤ → ℤ → Device
-with_values reading value = record {
-  tid = 1;
-  base_versions = 0x00 ∷ 0xf0 ∷ 0xf0 ∷ 0xf1 ∷ [];
-  platform_versions = 0x00 ∷ 0xf2 ∷ 0xf1 ∷ 0xf1 ∷ [];
-  update_time = replicate 13 0;
-  oem_update_time = replicate 13 0;
-  numeric_sensors = (1, record { present = 1; previous = 1; event = 1; reading = sized Uint8 reading }) ∷ [];
-  state_sensors = [];
-  numeric_effecters = (1, record { min = pos 0; max = pos 100; value = sized Uint8 value }) ∷ [];
-  state_effecters = (2, fields_of_states ((1 ∷ 2 ∷ []) ∷ (1 ∷ 2 ∷ []) ∷ []) (1 ∷ 1 ∷ [])) ∷ [];
-  records = (0x01 ∷ 0 ∷ 0 ∷ 0 ∷ 0x01 ∷ 0x01 ∷ 0 ∷ 0 ∷ 0x22 ∷ 0x01 ∷ replicate 290 0) ∷ [];
-}
-
-abbrev asked_by : ℕ → Setting Device
-asked_by tries = record {
-  device = rules_of answer after sensed;
-  start = with_values (pos 40) (pos 10);
-  eid = 9;
-  keep = 1000;
-  requesters = record { eid = 8; timeout = 200; tries = tries } ∷ record { eid = 10; timeout = 200; tries = 3 } ∷ [];
-}
+use Rattle.mctp_schedule.proofs.ExampleDevice.{at, set_to, with_tries, with_values}
 
 abbrev setting : Setting Device
-setting = asked_by 3
-
-abbrev at : ℕ → Action → Step
-at moment action = record { moment = moment; action = action }
-
-abbrev set_to : ℕ → ℤ → Action
-set_to e value = Open e (SetNumericEffecterValue 1 (sized Uint8 value))
+setting = with_tries 3 3
 
 -- entries in short
 abbrev fresh : Bool → List ℕ → Entry
@@ -167,13 +132,13 @@ a_restart =
 abbrev not_ready : List ℕ
 not_ready = 0x01 ∷ 0x08 ∷ 0x09 ∷ 0xc0 ∷ 0x01 ∷ 0x00 ∷ 0x02 ∷ 0x31 ∷ 0x04 ∷ []
 
-restart_entries : entries_owed (asked_by 5) a_restart
+restart_entries : entries_owed (with_tries 5 3) a_restart
     ≡ Opened 0 ∷ fresh true done ∷ Restarted ∷ again (0 ∷ []) ∷ busy not_ready ∷ Received (got.Dropped NotReady)
     ∷ Received (got.Answered 0) ∷ []
 unfolding request_of command_of response_of
 restart_entries = refl
 
-restart_state : state_once (asked_by 5) a_restart ≡ with_values (pos 40) (pos 40)
+restart_state : state_once (with_tries 5 3) a_restart ≡ with_values (pos 40) (pos 40)
 unfolding request_of command_of response_of
 restart_state = refl
 
