@@ -117,38 +117,6 @@ nothing_to_a_number_that_was_never_opened : reply_owed long asked 1 0 ≡ None
 unfolding request_of command_of response_of
 nothing_to_a_number_that_was_never_opened = refl
 
--- ---- a tag that is used again: packet 0 of request 0's answer came before it was given up, and request 8 has its tag
-abbrev seven : List Step
-seven =
-    at 600 (Open 8 GetTid) ∷ at 600 (Open 8 GetTid) ∷ at 600 (Open 8 GetTid) ∷ at 600 (Open 8 GetTid) ∷ at 600 (Open 8 GetTid)
-    ∷ at 600 (Open 8 GetTid) ∷ at 600 (Open 8 GetTid) ∷ at 600 (Tick 8) ∷ at 0 (Reply 0 0) ∷ asked
-
-abbrev used_again : List Step
-used_again = at 600 (Request 8) ∷ at 600 (Open 8 GetPdrRepositoryInfo) ∷ seven
-
-old_buffer_is_gone : reply_owed long used_again 8 1 ≡ Some (Dropped UnexpectedMiddleOrEnd)
-unfolding request_of command_of response_of
-old_buffer_is_gone = refl
-
-abbrev three_came : List Step
-three_came = at 620 (Reply 8 2) ∷ at 620 (Reply 8 1) ∷ at 620 (Reply 8 0) ∷ at 610 (Reply 8 1) ∷ used_again
-
-new_ones_begin : reply_owed long (drop 3 three_came) 8 0 ≡ Some Partial
-unfolding request_of command_of response_of
-new_ones_begin = refl
-
-new_ones_end : reply_owed long three_came 8 3 ≡ Some (Answered 8)
-unfolding request_of command_of response_of
-new_ones_end = refl
-
-old_one_is_not_taken : taken long (at 620 (Reply 8 3) ∷ three_came) 0 ≡ false
-unfolding request_of command_of response_of
-old_one_is_not_taken = refl
-
-new_one_is_taken : taken long (at 620 (Reply 8 3) ∷ three_came) 8 ≡ true
-unfolding request_of command_of response_of
-new_one_is_taken = refl
-
 -- ---- a light at endpoint 9, which keeps answers for a second
 abbrev light : Setting ℤ
 light = record {

@@ -1,6 +1,6 @@
 -- Worked schedules over the example device, computed from what the headline owes: the entries, the requests that arrived
--- in the order of their first arrivals, the device's state and the one reply of a request. The newest step
--- stands first.
+-- in the order of their first arrivals, the device's state and the one reply of a request. One that is not timely is
+-- computed from the definitions of both ends. The newest step stands first.
 use Rattle.std.proofs.Common.{◌≡◌, ℕ, pos, List, [], ◌∷◌, ◌++◌, map, Some, None, true, false, Bool, Ok, ◌+◌, replicate, refl}
 use Rattle.mctp_packet.specs.declared.reason.Reason.TheVariants.{UnexpectedMiddleOrEnd, BadTag, NotReady}
 use Rattle.pldm_wire.specs.CommandReading.{command_of}
@@ -8,12 +8,17 @@ use Rattle.pldm_wire.specs.Requests.{request_of}
 use Rattle.pldm_wire.specs.Responses.{response_of}
 use Rattle.pldm_wire.specs.declared.command.Command.TheVariants.{GetTid, GetPdr, GetSensorReading}
 use Rattle.pldm_device.specs.Devices.{Device}
+use Rattle.pldm_requester.specs.Courses.{Waiting}
 use Rattle.pldm_requester.specs.declared.got.Got.TheVariants as got
+use Rattle.pldm_responder.specs.Performing.{performed}
 use Rattle.pldm_responder.specs.declared.outcome.Outcome.TheVariants.{Answered}
-use Rattle.mctp_schedule.specs.FirstArrivals.{firsts}
+use Rattle.mctp_schedule.specs.Entries.{entries, requests_after}
+use Rattle.mctp_schedule.specs.FirstArrivals.{firsts, order}
 use Rattle.mctp_schedule.specs.Headline.{entries_owed, state_once}
-use Rattle.mctp_schedule.specs.Taken.{reply_of, reply_owed}
-use Rattle.mctp_schedule.specs.Worlds.{Setting, world}
+use Rattle.mctp_schedule.specs.Logs.{told}
+use Rattle.mctp_schedule.specs.Requests.{Request as EndedRequest}
+use Rattle.mctp_schedule.specs.Taken.{reply_of, reply_owed, taken}
+use Rattle.mctp_schedule.specs.Worlds.{Setting, is_timely, world}
 use Rattle.mctp_schedule.specs.declared.entry.Entry.{Entry}
 use Rattle.mctp_schedule.specs.declared.entry.Entry.TheVariants.{Nothing, Opened, Due, Delivered, Received, Sensed, Restarted}
 use Rattle.mctp_schedule.specs.declared.step.Action.{Action}
@@ -36,6 +41,9 @@ busy packet = Delivered true (Answered false false (packet ∷ []))
 
 abbrev again : List ℕ → Entry
 again numbers = Due (record { again = record { items = numbers }; given_up = record { items = [] } })
+
+abbrev gave_up : List ℕ → Entry
+gave_up numbers = Due (record { again = record { items = [] }; given_up = record { items = numbers } })
 
 -- ---- a retry: the copy is not performed, and has the same answer
 abbrev a_retry : List Step
@@ -172,3 +180,68 @@ four_answered : (reply_owed setting (replies_after (2 ∷ 1 ∷ 0 ∷ 0 ∷ 1 �
     × (reply_owed setting (replies_after (3 ∷ 3 ∷ 2 ∷ 1 ∷ 0 ∷ 0 ∷ 1 ∷ [])) 0 4 ≡ None)
 unfolding request_of command_of response_of
 four_answered = (refl, refl, refl)
+
+-- ---- a tag that is used again: a part of the first answer came before its request was given up, and is no part of the
+-- later one
+abbrev ask_for_record : Action
+ask_for_record = Open 8 (GetPdr 0 0 1 65535 0)
+
+abbrev seven_opens : List Step → List Step
+seven_opens past =
+    at 600 (Open 8 GetTid) ∷ at 600 (Open 8 GetTid) ∷ at 600 (Open 8 GetTid) ∷ at 600 (Open 8 GetTid) ∷ at 600 (Open 8 GetTid)
+    ∷ at 600 (Open 8 GetTid) ∷ at 600 (Open 8 GetTid) ∷ past
+
+abbrev tag_used_again : List Step
+tag_used_again =
+    at 620 (Reply 8 3) ∷ at 620 (Reply 8 2) ∷ at 620 (Reply 8 1) ∷ at 620 (Reply 8 0) ∷ at 610 (Reply 8 1) ∷ at 600 (Request 8)
+    ∷ at 600 ask_for_record
+    ∷ seven_opens (at 600 (Tick 8) ∷ at 0 (Reply 0 0) ∷ at 0 (Request 0) ∷ at 0 ask_for_record ∷ [])
+
+abbrev record_packets : ℕ → List (List ℕ)
+record_packets id =
+    ((0x01 ∷ 0x08 ∷ 0x09 ∷ 0x80 ∷ 0x01 ∷ id ∷ 0x02 ∷ 0x51 ∷ 0x00 ∷ 0x00 ∷ 0x00 ∷ 0x00 ∷ 0x00 ∷ 0xef ∷ 0x00 ∷ 0x00 ∷ 0x00
+    ∷ 0x00 ∷ 0xef ∷ 0x00 ∷ 0x01 ∷ 0x00 ∷ 0x00 ∷ 0x00 ∷ 0x01 ∷ 0x01 ∷ 0x00 ∷ 0x00 ∷ 0x22 ∷ 0x01 ∷ []) ++ replicate 38 0)
+    ∷ (0x01 ∷ 0x08 ∷ 0x09 ∷ 0x10 ∷ replicate 64 0)
+    ∷ (0x01 ∷ 0x08 ∷ 0x09 ∷ 0x20 ∷ replicate 64 0)
+    ∷ (0x01 ∷ 0x08 ∷ 0x09 ∷ 0x70 ∷ replicate 63 0)
+    ∷ []
+
+tag_used_again_entries : entries_owed setting tag_used_again
+    ≡ Opened 0 ∷ Delivered false (Answered true false (record_packets 0)) ∷ Received got.Partial ∷ gave_up (0 ∷ []) ∷ Opened 1
+    ∷ Opened 2 ∷ Opened 3 ∷ Opened 4 ∷ Opened 5 ∷ Opened 6 ∷ Opened 7 ∷ Opened 8
+    ∷ Delivered false (Answered true false (record_packets 8)) ∷ Received (got.Dropped UnexpectedMiddleOrEnd)
+    ∷ Received got.Partial ∷ Received got.Partial ∷ Received got.Partial ∷ Received (got.Answered 8) ∷ []
+unfolding request_of command_of response_of
+tag_used_again_entries = refl
+
+tag_used_again_taken : (taken setting tag_used_again 0 ≡ false) × (taken setting tag_used_again 8 ≡ true)
+unfolding request_of command_of response_of
+tag_used_again_taken = (refl, refl)
+
+tag_used_again_is_timely : is_timely setting tag_used_again ≡ true
+unfolding request_of command_of response_of
+tag_used_again_is_timely = refl
+
+-- ---- a copy that comes the keeping time after its opening is performed again: the schedule is not timely
+abbrev untimely : List Step
+untimely = at 1000 (Request 0) ∷ at 0 (Request 0) ∷ at 0 (set_to 8 (pos 40)) ∷ []
+
+untimely_entries : entries setting untimely ≡ Opened 0 ∷ fresh true done ∷ fresh true done ∷ []
+unfolding request_of command_of response_of
+untimely_entries = refl
+
+untimely_requests : map (λ (r : EndedRequest). r.standing) (requests_after setting (world setting untimely)) ≡ Waiting ∷ []
+unfolding request_of command_of response_of
+untimely_requests = refl
+
+untimely_order : order 1000 (world setting untimely).log ≡ 0 ∷ 0 ∷ []
+unfolding request_of command_of response_of
+untimely_order = refl
+
+untimely_state : performed setting.device 1000 setting.start (told (world setting untimely).log) ≡ with_values (pos 40) (pos 40)
+unfolding request_of command_of response_of
+untimely_state = refl
+
+untimely_is_told : is_timely setting untimely ≡ false
+unfolding request_of command_of response_of
+untimely_is_told = refl

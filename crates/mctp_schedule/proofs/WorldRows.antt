@@ -1,6 +1,6 @@
 -- Both ends over schedules that are written out, computed: endpoint 8 asks a light at endpoint 9, which keeps answers for a
 -- second. The newest step stands first.
-use Rattle.std.proofs.Common.{◌≡◌, ℕ, ℤ, pos, List, [], ◌∷◌, None, true, false, refl}
+use Rattle.std.proofs.Common.{◌≡◌, ℕ, ℤ, pos, List, [], ◌∷◌, None, true, refl}
 use Rattle.pldm_wire.specs.CommandReading.{command_of}
 use Rattle.pldm_wire.specs.Numbers.{sized}
 use Rattle.pldm_wire.specs.Requests.{request_of}
@@ -61,18 +61,6 @@ retry_sets = refl
 retry_is_timely : is_timely setting a_retry ≡ true
 unfolding request_of command_of response_of
 retry_is_timely = refl
-
--- a copy a second after the opening is performed again
-abbrev late_copy : List Step
-late_copy = at 1000 (Request 0) ∷ at 0 (Request 0) ∷ at 0 set_40 ∷ []
-
-late_copy_is_performed : performed_in late_copy ≡ 0 ∷ 0 ∷ []
-unfolding request_of command_of response_of
-late_copy_is_performed = refl
-
-late_copy_is_not_timely : is_timely setting late_copy ≡ false
-unfolding request_of command_of response_of
-late_copy_is_not_timely = refl
 
 -- a restart after a request was performed: its copy gets the busy answer, which its requester does not take; the latest reply
 -- still comes
