@@ -13,7 +13,6 @@ pub mod LongLines
 pub mod Numbers
 pub mod ReadLines
 pub mod RepliesKept
-pub mod RequesterExample
 pub mod RequesterRows
 pub mod RowsOfReplies
 pub mod ScheduleKept
@@ -28,7 +27,6 @@ pub mod SpelledWords
 pub mod StateWords
 pub mod StepsOnRequests
 pub mod TakenReplies
-pub mod TimelyExample
 pub mod TimelyLogs
 pub mod TimelyTests
 pub mod WorldRows
@@ -50,5 +48,7 @@ pub mod OpenedSteps
 pub mod RunsBegin
 pub mod ReportedRequests
 pub mod HeadlineHolds
-pub mod TwoRequesters
+pub mod ExampleDevice
+pub mod PremiseTests
 pub mod WorkedRuns
+pub mod ExampleRun

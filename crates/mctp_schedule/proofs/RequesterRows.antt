@@ -25,7 +25,7 @@ use Rattle.mctp_schedule.specs.declared.step.Action.{Action}
 use Rattle.mctp_schedule.specs.declared.step.Action.TheVariants.{Open, Tick, Request, Reply, Sense, Restart, Busy}
 use Rattle.mctp_schedule.specs.declared.step.Step.{Step}
 
-abbrev pub at : ℕ → Action → Step
+abbrev at : ℕ → Action → Step
 at moment action = record { moment = moment; action = action }
 
 -- ---- a device with long answers: one of four packets, to a command of its kind
@@ -36,7 +36,7 @@ long_answer state _ = answers.GetPldmVersion 0 (replicate 190 7)
 abbrev long_device : Rules ℕ
 long_device = record { answer = long_answer; after = λ state command. state; sensed = λ state id value. Err NoSuchSensor }
 
-abbrev pub long : Setting ℕ
+abbrev long : Setting ℕ
 long = record {
   device = long_device;
   start = 0;
@@ -49,7 +49,7 @@ abbrev asked : List Step
 asked = at 0 (Request 0) ∷ at 0 (Open 8 GetPdrRepositoryInfo) ∷ []
 
 -- packets 1, 0, 0, 1 and 2 were delivered: one too early, one that came again
-abbrev pub in_turn : List Step
+abbrev in_turn : List Step
 in_turn = at 5 (Reply 0 2) ∷ at 4 (Reply 0 1) ∷ at 3 (Reply 0 0) ∷ at 2 (Reply 0 0) ∷ at 1 (Reply 0 1) ∷ asked
 
 too_early : reply_owed long asked 0 1 ≡ Some (Dropped UnexpectedMiddleOrEnd)
@@ -117,40 +117,8 @@ nothing_to_a_number_that_was_never_opened : reply_owed long asked 1 0 ≡ None
 unfolding request_of command_of response_of
 nothing_to_a_number_that_was_never_opened = refl
 
--- ---- a tag that is used again: packet 0 of request 0's answer came before it was given up, and request 8 has its tag
-abbrev seven : List Step
-seven =
-    at 600 (Open 8 GetTid) ∷ at 600 (Open 8 GetTid) ∷ at 600 (Open 8 GetTid) ∷ at 600 (Open 8 GetTid) ∷ at 600 (Open 8 GetTid)
-    ∷ at 600 (Open 8 GetTid) ∷ at 600 (Open 8 GetTid) ∷ at 600 (Tick 8) ∷ at 0 (Reply 0 0) ∷ asked
-
-abbrev used_again : List Step
-used_again = at 600 (Request 8) ∷ at 600 (Open 8 GetPdrRepositoryInfo) ∷ seven
-
-old_buffer_is_gone : reply_owed long used_again 8 1 ≡ Some (Dropped UnexpectedMiddleOrEnd)
-unfolding request_of command_of response_of
-old_buffer_is_gone = refl
-
-abbrev three_came : List Step
-three_came = at 620 (Reply 8 2) ∷ at 620 (Reply 8 1) ∷ at 620 (Reply 8 0) ∷ at 610 (Reply 8 1) ∷ used_again
-
-new_ones_begin : reply_owed long (drop 3 three_came) 8 0 ≡ Some Partial
-unfolding request_of command_of response_of
-new_ones_begin = refl
-
-new_ones_end : reply_owed long three_came 8 3 ≡ Some (Answered 8)
-unfolding request_of command_of response_of
-new_ones_end = refl
-
-old_one_is_not_taken : taken long (at 620 (Reply 8 3) ∷ three_came) 0 ≡ false
-unfolding request_of command_of response_of
-old_one_is_not_taken = refl
-
-new_one_is_taken : taken long (at 620 (Reply 8 3) ∷ three_came) 8 ≡ true
-unfolding request_of command_of response_of
-new_one_is_taken = refl
-
 -- ---- a light at endpoint 9, which keeps answers for a second
-abbrev pub light : Setting ℤ
+abbrev light : Setting ℤ
 light = record {
   device = rules_of dimmer_answer dimmer_after dimmer_sensed;
   start = pos 10;
@@ -165,7 +133,7 @@ set_40 = Open 8 (SetNumericEffecterValue 1 (sized Uint8 (pos 40)))
 abbrev a_retry : List Step
 a_retry = at 210 (Reply 0 0) ∷ at 200 (Request 0) ∷ at 200 (Tick 8) ∷ at 0 (Request 0) ∷ at 0 set_40 ∷ []
 
-abbrev pub after_restart : List Step
+abbrev after_restart : List Step
 after_restart =
     at 210 (Busy 0) ∷ at 200 (Request 0) ∷ at 200 (Tick 8) ∷ at 100 Restart ∷ at 0 (Request 0) ∷ at 0 set_40 ∷ []
 

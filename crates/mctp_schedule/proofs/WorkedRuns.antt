@@ -1,63 +1,33 @@
--- Worked schedules over the example device, computed from what the headline owes: the entries, the requests that arrived in
--- the order of their first arrivals, the device's state and the one reply of a request. The newest step stands first.
-use Rattle.std.proofs.Common.{◌≡◌, ℕ, ℤ, pos, List, [], ◌∷◌, ◌++◌, length, map, Some, None, Option, true, false, Bool, Ok, ◌+◌, replicate, refl}
+-- Worked schedules over the example device, computed from what the headline owes: the entries, the requests that arrived
+-- in the order of their first arrivals, the device's state and the one reply of a request. One that is not timely is
+-- computed from the definitions of both ends. The newest step stands first.
+use Rattle.std.proofs.Common.{◌≡◌, ℕ, pos, List, [], ◌∷◌, ◌++◌, map, Some, None, true, false, Bool, Ok, ◌+◌, replicate, refl}
 use Rattle.mctp_packet.specs.declared.reason.Reason.TheVariants.{UnexpectedMiddleOrEnd, BadTag, NotReady}
 use Rattle.pldm_wire.specs.CommandReading.{command_of}
-use Rattle.pldm_wire.specs.Numbers.{sized}
 use Rattle.pldm_wire.specs.Requests.{request_of}
 use Rattle.pldm_wire.specs.Responses.{response_of}
-use Rattle.pldm_wire.specs.declared.command.Command.TheVariants.{GetTid, GetPdr, GetSensorReading, SetNumericEffecterValue}
-use Rattle.pldm_wire.specs.declared.size.Size.TheVariants.{Uint8}
-use Rattle.pldm_device.specs.DeviceAnswers.{answer, after}
+use Rattle.pldm_wire.specs.declared.command.Command.TheVariants.{GetTid, GetPdr, GetSensorReading}
 use Rattle.pldm_device.specs.Devices.{Device}
-use Rattle.pldm_device.specs.SensorAnswers.{sensed}
-use Rattle.pldm_device.specs.StateEffecters.{fields_of_states}
-use Rattle.pldm_requester.specs.declared.got.Got.{Got}
+use Rattle.pldm_requester.specs.Courses.{Waiting}
 use Rattle.pldm_requester.specs.declared.got.Got.TheVariants as got
-use Rattle.pldm_responder.specs.Performing.{rules_of}
+use Rattle.pldm_responder.specs.Performing.{performed}
 use Rattle.pldm_responder.specs.declared.outcome.Outcome.TheVariants.{Answered}
-use Rattle.mctp_schedule.specs.FirstArrivals.{firsts}
+use Rattle.mctp_schedule.specs.Entries.{entries, requests_after}
+use Rattle.mctp_schedule.specs.FirstArrivals.{firsts, order}
 use Rattle.mctp_schedule.specs.Headline.{entries_owed, state_once}
-use Rattle.mctp_schedule.specs.Taken.{reply_of, reply_owed}
-use Rattle.mctp_schedule.specs.Worlds.{Setting, world}
+use Rattle.mctp_schedule.specs.Logs.{told}
+use Rattle.mctp_schedule.specs.Requests.{Request as EndedRequest}
+use Rattle.mctp_schedule.specs.Taken.{reply_of, reply_owed, taken}
+use Rattle.mctp_schedule.specs.Worlds.{Setting, is_timely, world}
 use Rattle.mctp_schedule.specs.declared.entry.Entry.{Entry}
 use Rattle.mctp_schedule.specs.declared.entry.Entry.TheVariants.{Nothing, Opened, Due, Delivered, Received, Sensed, Restarted}
 use Rattle.mctp_schedule.specs.declared.step.Action.{Action}
 use Rattle.mctp_schedule.specs.declared.step.Action.TheVariants.{Open, Tick, Request, Reply, Sense, Restart, Busy}
 use Rattle.mctp_schedule.specs.declared.step.Step.{Step}
-
--- the example device, with this reading of sensor 1 and this value of numeric effecter 1
-abbrev with_values : ℤ → ℤ → Device
-with_values reading value = record {
-  tid = 1;
-  base_versions = 0x00 ∷ 0xf0 ∷ 0xf0 ∷ 0xf1 ∷ [];
-  platform_versions = 0x00 ∷ 0xf2 ∷ 0xf1 ∷ 0xf1 ∷ [];
-  update_time = replicate 13 0;
-  oem_update_time = replicate 13 0;
-  numeric_sensors = (1, record { present = 1; previous = 1; event = 1; reading = sized Uint8 reading }) ∷ [];
-  state_sensors = [];
-  numeric_effecters = (1, record { min = pos 0; max = pos 100; value = sized Uint8 value }) ∷ [];
-  state_effecters = (2, fields_of_states ((1 ∷ 2 ∷ []) ∷ (1 ∷ 2 ∷ []) ∷ []) (1 ∷ 1 ∷ [])) ∷ [];
-  records = (0x01 ∷ 0 ∷ 0 ∷ 0 ∷ 0x01 ∷ 0x01 ∷ 0 ∷ 0 ∷ 0x22 ∷ 0x01 ∷ replicate 290 0) ∷ [];
-}
-
-abbrev asked_by : ℕ → Setting Device
-asked_by tries = record {
-  device = rules_of answer after sensed;
-  start = with_values (pos 40) (pos 10);
-  eid = 9;
-  keep = 1000;
-  requesters = record { eid = 8; timeout = 200; tries = tries } ∷ record { eid = 10; timeout = 200; tries = 3 } ∷ [];
-}
+use Rattle.mctp_schedule.proofs.ExampleDevice.{at, set_to, with_tries, with_values}
 
 abbrev setting : Setting Device
-setting = asked_by 3
-
-abbrev at : ℕ → Action → Step
-at moment action = record { moment = moment; action = action }
-
-abbrev set_to : ℕ → ℤ → Action
-set_to e value = Open e (SetNumericEffecterValue 1 (sized Uint8 value))
+setting = with_tries 3 3
 
 -- entries in short
 abbrev fresh : Bool → List ℕ → Entry
@@ -71,6 +41,9 @@ busy packet = Delivered true (Answered false false (packet ∷ []))
 
 abbrev again : List ℕ → Entry
 again numbers = Due (record { again = record { items = numbers }; given_up = record { items = [] } })
+
+abbrev gave_up : List ℕ → Entry
+gave_up numbers = Due (record { again = record { items = [] }; given_up = record { items = numbers } })
 
 -- ---- a retry: the copy is not performed, and has the same answer
 abbrev a_retry : List Step
@@ -167,13 +140,13 @@ a_restart =
 abbrev not_ready : List ℕ
 not_ready = 0x01 ∷ 0x08 ∷ 0x09 ∷ 0xc0 ∷ 0x01 ∷ 0x00 ∷ 0x02 ∷ 0x31 ∷ 0x04 ∷ []
 
-restart_entries : entries_owed (asked_by 5) a_restart
+restart_entries : entries_owed (with_tries 5 3) a_restart
     ≡ Opened 0 ∷ fresh true done ∷ Restarted ∷ again (0 ∷ []) ∷ busy not_ready ∷ Received (got.Dropped NotReady)
     ∷ Received (got.Answered 0) ∷ []
 unfolding request_of command_of response_of
 restart_entries = refl
 
-restart_state : state_once (asked_by 5) a_restart ≡ with_values (pos 40) (pos 40)
+restart_state : state_once (with_tries 5 3) a_restart ≡ with_values (pos 40) (pos 40)
 unfolding request_of command_of response_of
 restart_state = refl
 
@@ -207,3 +180,68 @@ four_answered : (reply_owed setting (replies_after (2 ∷ 1 ∷ 0 ∷ 0 ∷ 1 �
     × (reply_owed setting (replies_after (3 ∷ 3 ∷ 2 ∷ 1 ∷ 0 ∷ 0 ∷ 1 ∷ [])) 0 4 ≡ None)
 unfolding request_of command_of response_of
 four_answered = (refl, refl, refl)
+
+-- ---- a tag that is used again: a part of the first answer came before its request was given up, and is no part of the
+-- later one
+abbrev ask_for_record : Action
+ask_for_record = Open 8 (GetPdr 0 0 1 65535 0)
+
+abbrev seven_opens : List Step → List Step
+seven_opens past =
+    at 600 (Open 8 GetTid) ∷ at 600 (Open 8 GetTid) ∷ at 600 (Open 8 GetTid) ∷ at 600 (Open 8 GetTid) ∷ at 600 (Open 8 GetTid)
+    ∷ at 600 (Open 8 GetTid) ∷ at 600 (Open 8 GetTid) ∷ past
+
+abbrev tag_used_again : List Step
+tag_used_again =
+    at 620 (Reply 8 3) ∷ at 620 (Reply 8 2) ∷ at 620 (Reply 8 1) ∷ at 620 (Reply 8 0) ∷ at 610 (Reply 8 1) ∷ at 600 (Request 8)
+    ∷ at 600 ask_for_record
+    ∷ seven_opens (at 600 (Tick 8) ∷ at 0 (Reply 0 0) ∷ at 0 (Request 0) ∷ at 0 ask_for_record ∷ [])
+
+abbrev record_packets : ℕ → List (List ℕ)
+record_packets id =
+    ((0x01 ∷ 0x08 ∷ 0x09 ∷ 0x80 ∷ 0x01 ∷ id ∷ 0x02 ∷ 0x51 ∷ 0x00 ∷ 0x00 ∷ 0x00 ∷ 0x00 ∷ 0x00 ∷ 0xef ∷ 0x00 ∷ 0x00 ∷ 0x00
+    ∷ 0x00 ∷ 0xef ∷ 0x00 ∷ 0x01 ∷ 0x00 ∷ 0x00 ∷ 0x00 ∷ 0x01 ∷ 0x01 ∷ 0x00 ∷ 0x00 ∷ 0x22 ∷ 0x01 ∷ []) ++ replicate 38 0)
+    ∷ (0x01 ∷ 0x08 ∷ 0x09 ∷ 0x10 ∷ replicate 64 0)
+    ∷ (0x01 ∷ 0x08 ∷ 0x09 ∷ 0x20 ∷ replicate 64 0)
+    ∷ (0x01 ∷ 0x08 ∷ 0x09 ∷ 0x70 ∷ replicate 63 0)
+    ∷ []
+
+tag_used_again_entries : entries_owed setting tag_used_again
+    ≡ Opened 0 ∷ Delivered false (Answered true false (record_packets 0)) ∷ Received got.Partial ∷ gave_up (0 ∷ []) ∷ Opened 1
+    ∷ Opened 2 ∷ Opened 3 ∷ Opened 4 ∷ Opened 5 ∷ Opened 6 ∷ Opened 7 ∷ Opened 8
+    ∷ Delivered false (Answered true false (record_packets 8)) ∷ Received (got.Dropped UnexpectedMiddleOrEnd)
+    ∷ Received got.Partial ∷ Received got.Partial ∷ Received got.Partial ∷ Received (got.Answered 8) ∷ []
+unfolding request_of command_of response_of
+tag_used_again_entries = refl
+
+tag_used_again_taken : (taken setting tag_used_again 0 ≡ false) × (taken setting tag_used_again 8 ≡ true)
+unfolding request_of command_of response_of
+tag_used_again_taken = (refl, refl)
+
+tag_used_again_is_timely : is_timely setting tag_used_again ≡ true
+unfolding request_of command_of response_of
+tag_used_again_is_timely = refl
+
+-- ---- a copy that comes the keeping time after its opening is performed again: the schedule is not timely
+abbrev untimely : List Step
+untimely = at 1000 (Request 0) ∷ at 0 (Request 0) ∷ at 0 (set_to 8 (pos 40)) ∷ []
+
+untimely_entries : entries setting untimely ≡ Opened 0 ∷ fresh true done ∷ fresh true done ∷ []
+unfolding request_of command_of response_of
+untimely_entries = refl
+
+untimely_requests : map (λ (r : EndedRequest). r.standing) (requests_after setting (world setting untimely)) ≡ Waiting ∷ []
+unfolding request_of command_of response_of
+untimely_requests = refl
+
+untimely_order : order 1000 (world setting untimely).log ≡ 0 ∷ 0 ∷ []
+unfolding request_of command_of response_of
+untimely_order = refl
+
+untimely_state : performed setting.device 1000 setting.start (told (world setting untimely).log) ≡ with_values (pos 40) (pos 40)
+unfolding request_of command_of response_of
+untimely_state = refl
+
+untimely_is_told : is_timely setting untimely ≡ false
+unfolding request_of command_of response_of
+untimely_is_told = refl

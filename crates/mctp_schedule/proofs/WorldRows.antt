@@ -1,6 +1,6 @@
 -- Both ends over schedules that are written out, computed: endpoint 8 asks a light at endpoint 9, which keeps answers for a
 -- second. The newest step stands first.
-use Rattle.std.proofs.Common.{◌≡◌, ℕ, ℤ, pos, List, [], ◌∷◌, None, true, false, refl, arith}
+use Rattle.std.proofs.Common.{◌≡◌, ℕ, ℤ, pos, List, [], ◌∷◌, None, true, refl}
 use Rattle.pldm_wire.specs.CommandReading.{command_of}
 use Rattle.pldm_wire.specs.Numbers.{sized}
 use Rattle.pldm_wire.specs.Requests.{request_of}
@@ -13,11 +13,10 @@ use Rattle.pldm_requester.specs.Courses.{Standing, Waiting, Answered, GaveUp}
 use Rattle.mctp_schedule.specs.FirstArrivals.{order}
 use Rattle.mctp_schedule.specs.Logs.{count_of}
 use Rattle.mctp_schedule.specs.OncePerformed.{once}
-use Rattle.mctp_schedule.specs.Worlds.{IsTimely, NeverWentBack, Setting, busy_packet, is_timely, reply_packet, requests_of, world}
+use Rattle.mctp_schedule.specs.Worlds.{Setting, busy_packet, is_timely, reply_packet, requests_of, world}
 use Rattle.mctp_schedule.specs.declared.step.Action.{Action}
 use Rattle.mctp_schedule.specs.declared.step.Action.TheVariants.{Open, Tick, Request, Reply, Restart, Busy}
 use Rattle.mctp_schedule.specs.declared.step.Step.{Step}
-use Rattle.mctp_schedule.proofs.TimelyTests.{timely_is_tested}
 
 abbrev at : ℕ → Action → Step
 at moment action = record { moment = moment; action = action }
@@ -62,18 +61,6 @@ retry_sets = refl
 retry_is_timely : is_timely setting a_retry ≡ true
 unfolding request_of command_of response_of
 retry_is_timely = refl
-
--- a copy a second after the opening is performed again
-abbrev late_copy : List Step
-late_copy = at 1000 (Request 0) ∷ at 0 (Request 0) ∷ at 0 set_40 ∷ []
-
-late_copy_is_performed : performed_in late_copy ≡ 0 ∷ 0 ∷ []
-unfolding request_of command_of response_of
-late_copy_is_performed = refl
-
-late_copy_is_not_timely : is_timely setting late_copy ≡ false
-unfolding request_of command_of response_of
-late_copy_is_not_timely = refl
 
 -- a restart after a request was performed: its copy gets the busy answer, which its requester does not take; the latest reply
 -- still comes
@@ -128,16 +115,3 @@ given_up = refl
 -- an open that is refused opens nothing: no ninth request while the first is open
 nine_opens : count_of (world setting (at 0 set_40 ∷ at 0 set_40 ∷ at 0 set_40 ∷ at 0 set_40 ∷ at 0 set_40 ∷ at 0 set_40 ∷ at 0 set_40 ∷ at 0 set_40 ∷ at 0 set_40 ∷ [])).log ≡ 8
 nine_opens = refl
-
--- ---- the premises of the laws can be met
-retry_never_goes_back : NeverWentBack a_retry
-retry_never_goes_back = (omega arith, (omega arith, (omega arith, (omega arith, (omega arith, tt)))))
-
-retry_comes_in_time : IsTimely setting a_retry
-retry_comes_in_time = (timely_is_tested setting a_retry).0 retry_is_timely
-
-restart_never_goes_back : NeverWentBack after_restart
-restart_never_goes_back = (omega arith, (omega arith, (omega arith, (omega arith, (omega arith, (omega arith, tt))))))
-
-restart_comes_in_time : IsTimely setting (at 220 (Reply 0 0) ∷ after_restart)
-restart_comes_in_time = (timely_is_tested setting (at 220 (Reply 0 0) ∷ after_restart)).0 restart_is_timely

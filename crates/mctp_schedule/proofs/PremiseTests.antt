@@ -1,0 +1,214 @@
+-- Tests of the premises of the laws, so that a schedule that is written out meets them by computing.
+use Rattle.std.proofs.Common.{◌≡◌, ◌≢◌, ℕ, ◌+◌, ◌*◌, ◌<◌, ◌≤◌, List, [], ◌∷◌, length, Option, Some, None, Ok, Err, Bool, true, false, refl, ap, ◌∙◌, subst, ⊎_elim, eq-eqb}
+use Rattle.std.specs.Prelude.{Result, not, ◌&&◌, ◌||◌, ◌==◌, is_ok, nat_le, nat_lt}
+use Rattle.std.specs.List.{AllByRecursion}
+use Rattle.std.proofs.lemmas.Bool.{and_parts, and_from, leb-true, ltb-true}
+use Rattle.mctp_packet.specs.declared.TheConstants.{MOST_MESSAGE_BYTES}
+use Rattle.mctp_packet.specs.declared.reason.Reason.{Reason}
+use Rattle.pldm_wire.specs.Headers.{id_at}
+use Rattle.pldm_wire.specs.Requests as requests
+use Rattle.pldm_responder.specs.Performing.{Rules, performed, reply}
+use Rattle.pldm_responder.specs.Events.{is_fresh}
+use Rattle.mctp_schedule.specs.Logs.{Asked, Happening, Opened, Delivered, Sensed, WentDown, Apart, ComesLate, InOrder, InTime, IsTimelyLog, asked_at, count_of, last_of, message_at, moment_of, told}
+use Rattle.mctp_schedule.specs.OncePerformed.{AreRequests, FitsPackets, RepliesFit}
+use Rattle.mctp_schedule.specs.Schedules.{AreDistinct, AreKnown, IsSchedule, NeverGoBack, is_known}
+use Rattle.mctp_schedule.specs.Worlds.{NeverWentBack, time_now}
+use Rattle.mctp_schedule.specs.declared.step.RequesterLine.{RequesterLine}
+use Rattle.mctp_schedule.specs.declared.step.Step.{Step}
+use Rattle.mctp_schedule.proofs.FirstPerformed.{request_opened}
+
+same : (P : Asked → Type 0) (q : Asked) → P q → (r : Asked) → Some q ≡ Some r → P r
+same P q x r e = subst P (let y : q ≡ r = cc in y) x
+
+then_so : (b c : Bool) → (not b || c) ≡ true → b ≡ true → c ≡ true
+then_so true c e is = e
+then_so false c e is = cc
+
+-- ---- of steps
+abbrev pub goes_on : List Step → Bool
+goes_on [] = true
+goes_on (step ∷ past) = nat_le (time_now past) step.moment && goes_on past
+
+pub never_went_back : (steps : List Step) → goes_on steps ≡ true → NeverWentBack steps
+never_went_back [] t = tt
+never_went_back (step ∷ past) t =
+    let parts = and_parts (nat_le (time_now past) step.moment) (goes_on past) t in
+    (leb-true (time_now past) step.moment parts.0, never_went_back past parts.1)
+
+abbrev pub all_known : List RequesterLine → List Step → Bool
+all_known lines [] = true
+all_known lines (step ∷ past) = is_known lines step.action && all_known lines past
+
+pub each_is_known : (lines : List RequesterLine) (steps : List Step) → all_known lines steps ≡ true → AllByRecursion (λ (step : Step). is_known lines step.action ≡ true) steps
+each_is_known lines [] t = tt
+each_is_known lines (step ∷ past) t =
+    let parts = and_parts (is_known lines step.action) (all_known lines past) t in
+    (parts.0, each_is_known lines past parts.1)
+
+-- the same where the oldest step stands first, as in a schedule
+abbrev pub goes_forward : ℕ → List Step → Bool
+goes_forward moment [] = true
+goes_forward moment (step ∷ steps) = nat_le moment step.moment && goes_forward step.moment steps
+
+never_go_back : (moment : ℕ) (steps : List Step) → goes_forward moment steps ≡ true → NeverGoBack moment steps
+never_go_back moment [] t = tt
+never_go_back moment (step ∷ steps) t =
+    let parts = and_parts (nat_le moment step.moment) (goes_forward step.moment steps) t in
+    (leb-true moment step.moment parts.0, never_go_back step.moment steps parts.1)
+
+are_known : (lines : List RequesterLine) (steps : List Step) → all_known lines steps ≡ true → AreKnown lines steps
+are_known lines [] t = tt
+are_known lines (step ∷ steps) t =
+    let parts = and_parts (is_known lines step.action) (all_known lines steps) t in
+    (parts.0, are_known lines steps parts.1)
+
+pub is_schedule : (lines : List RequesterLine) (steps : List Step) → AreDistinct lines → goes_forward 0 steps ≡ true → all_known lines steps ≡ true → IsSchedule (record { requesters = lines; steps = steps })
+is_schedule lines steps distinct forward known = record {
+  in_order = never_go_back 0 steps forward;
+  distinct = distinct;
+  known = are_known lines steps known;
+}
+
+-- ---- of a log
+abbrev pub in_order : List Happening → Bool
+in_order [] = true
+in_order (newest ∷ past) = nat_le (last_of past) (moment_of newest) && in_order past
+
+is_in_order : (log : List Happening) → in_order log ≡ true → InOrder log
+is_in_order [] t = tt
+is_in_order (newest ∷ past) t =
+    let parts = and_parts (nat_le (last_of past) (moment_of newest)) (in_order past) t in
+    (leb-true (last_of past) (moment_of newest) parts.0, is_in_order past parts.1)
+
+-- r and q do not share a source and an instance ID, or r comes late
+abbrev late_after : ℕ → Asked → Asked → Bool
+late_after keep r q =
+    not (q.source == r.source && id_at q.message == id_at r.message) || nat_le (q.opening + 2 * keep) r.opening
+
+abbrev late : ℕ → Asked → List Happening → Bool
+late keep r [] = true
+late keep r (Opened q ∷ past) = late_after keep r q && late keep r past
+late keep r (Delivered _ _ ∷ past) = late keep r past
+late keep r (Sensed _ _ _ ∷ past) = late keep r past
+late keep r (WentDown _ ∷ past) = late keep r past
+
+comes_late : (keep : ℕ) (r : Asked) (past : List Happening) → late keep r past ≡ true → ComesLate keep r past
+comes_late keep r [] t k p e s i = absurd (cc)
+comes_late keep r (Delivered _ _ ∷ past) t k p e s i = comes_late keep r past t k p e s i
+comes_late keep r (Sensed _ _ _ ∷ past) t k p e s i = comes_late keep r past t k p e s i
+comes_late keep r (WentDown _ ∷ past) t k p e s i = comes_late keep r past t k p e s i
+comes_late keep r (Opened q ∷ past) t k p e s i =
+    let parts = and_parts (late_after keep r q) (late keep r past) t in
+    ⊎_elim
+    (λ (x : (k ≡ count_of past) × (q ≡ p)). (
+    let pair = and_from (q.source == r.source) (id_at q.message == id_at r.message) (eq-eqb q.source r.source (ap (λ (o : Asked). o.source) x.1 ∙ s)) (eq-eqb (id_at q.message) (id_at r.message) (ap (λ (o : Asked). id_at o.message) x.1 ∙ i)) in
+    subst (λ (o : Asked). o.opening + 2 * keep ≤ r.opening) x.1 (leb-true (q.opening + 2 * keep) r.opening (then_so _ _ parts.0 pair))
+    ))
+    (λ (x : (k ≢ count_of past) × (asked_at past k ≡ Some p)). comes_late keep r past parts.1 k p x.1 s i)
+    (request_opened q past k p e)
+
+abbrev pub apart : ℕ → List Happening → Bool
+apart keep [] = true
+apart keep (Opened r ∷ past) = late keep r past && apart keep past
+apart keep (Delivered _ _ ∷ past) = apart keep past
+apart keep (Sensed _ _ _ ∷ past) = apart keep past
+apart keep (WentDown _ ∷ past) = apart keep past
+
+are_apart : (keep : ℕ) (log : List Happening) → apart keep log ≡ true → Apart keep log
+are_apart keep [] t = tt
+are_apart keep (Opened r ∷ past) t =
+    let parts = and_parts (late keep r past) (apart keep past) t in
+    (comes_late keep r past parts.0, are_apart keep past parts.1)
+are_apart keep (Delivered _ _ ∷ past) t = are_apart keep past t
+are_apart keep (Sensed _ _ _ ∷ past) t = are_apart keep past t
+are_apart keep (WentDown _ ∷ past) t = are_apart keep past t
+
+abbrev comes_in_time : ℕ → ℕ → Option Asked → Bool
+comes_in_time keep moment None = true
+comes_in_time keep moment (Some r) = nat_lt moment (r.opening + keep)
+
+abbrev pub in_time : ℕ → List Happening → Bool
+in_time keep [] = true
+in_time keep (Opened _ ∷ past) = in_time keep past
+in_time keep (Sensed _ _ _ ∷ past) = in_time keep past
+in_time keep (WentDown _ ∷ past) = in_time keep past
+in_time keep (Delivered moment k ∷ past) = comes_in_time keep moment (asked_at past k) && in_time keep past
+
+came_in_time : (keep moment : ℕ) (o : Option Asked) → comes_in_time keep moment o ≡ true → (r : Asked) → o ≡ Some r → moment < r.opening + keep
+came_in_time keep moment None t r e = absurd (cc)
+came_in_time keep moment (Some q) t r e = same (λ r. moment < r.opening + keep) q (ltb-true moment (q.opening + keep) t) r e
+
+is_in_time : (keep : ℕ) (log : List Happening) → in_time keep log ≡ true → InTime keep log
+is_in_time keep [] t = tt
+is_in_time keep (Opened _ ∷ past) t = is_in_time keep past t
+is_in_time keep (Sensed _ _ _ ∷ past) t = is_in_time keep past t
+is_in_time keep (WentDown _ ∷ past) t = is_in_time keep past t
+is_in_time keep (Delivered moment k ∷ past) t =
+    let parts = and_parts (comes_in_time keep moment (asked_at past k)) (in_time keep past) t in
+    (came_in_time keep moment (asked_at past k) parts.0, is_in_time keep past parts.1)
+
+pub timely_log : (keep : ℕ) (log : List Happening) → in_order log ≡ true → apart keep log ≡ true → in_time keep log ≡ true → IsTimelyLog keep log
+timely_log keep log o a i = record {
+  order = is_in_order log o;
+  apart = are_apart keep log a;
+  in_time = is_in_time keep log i;
+}
+
+-- ---- of the requests
+read_as : (read : Result requests.Request Reason) → is_ok read ≡ true → (request : requests.Request) × (read ≡ Ok request)
+read_as (Ok request) t = (request, refl)
+read_as (Err reason) t = absurd (cc)
+
+abbrev pub all_read : List Happening → Bool
+all_read [] = true
+all_read (Opened r ∷ past) = is_ok (requests.request_of r.message) && all_read past
+all_read (Delivered _ _ ∷ past) = all_read past
+all_read (Sensed _ _ _ ∷ past) = all_read past
+all_read (WentDown _ ∷ past) = all_read past
+
+pub are_requests : (log : List Happening) → all_read log ≡ true → AreRequests log
+are_requests [] t = tt
+are_requests (Opened r ∷ past) t =
+    let parts = and_parts (is_ok (requests.request_of r.message)) (all_read past) t in
+    (read_as (requests.request_of r.message) parts.0, are_requests past parts.1)
+are_requests (Delivered _ _ ∷ past) t = are_requests past t
+are_requests (Sensed _ _ _ ∷ past) t = are_requests past t
+are_requests (WentDown _ ∷ past) t = are_requests past t
+
+-- ---- of the replies
+abbrev fits : List ℕ → Bool
+fits bytes = nat_lt 0 (length bytes) && nat_le (length bytes) MOST_MESSAGE_BYTES
+
+fits_packets : (bytes : List ℕ) → fits bytes ≡ true → FitsPackets bytes
+fits_packets bytes t =
+    let parts = and_parts (nat_lt 0 (length bytes)) (nat_le (length bytes) MOST_MESSAGE_BYTES) t in
+    record { some = ltb-true 0 (length bytes) parts.0; few = leb-true (length bytes) MOST_MESSAGE_BYTES parts.1 }
+
+module _ {S : Type 0} (device : Rules S) (keep : ℕ) (start : S) where
+  abbrev reply_fits : ℕ → List Happening → Option Asked → Bool
+  reply_fits moment past None = true
+  reply_fits moment past (Some r) =
+      not (is_fresh keep (told past) (message_at moment r))
+      || fits (reply device (performed device keep start (told past)) r.message)
+
+  abbrev pub all_fit : List Happening → Bool
+  all_fit [] = true
+  all_fit (Opened _ ∷ past) = all_fit past
+  all_fit (Sensed _ _ _ ∷ past) = all_fit past
+  all_fit (WentDown _ ∷ past) = all_fit past
+  all_fit (Delivered moment k ∷ past) = reply_fits moment past (asked_at past k) && all_fit past
+
+  one_fits : (moment : ℕ) (past : List Happening) (o : Option Asked) → reply_fits moment past o ≡ true → (r : Asked) → o ≡ Some r → is_fresh keep (told past) (message_at moment r) ≡ true → FitsPackets (reply device (performed device keep start (told past)) r.message)
+  one_fits moment past None t r e = absurd (cc)
+  one_fits moment past (Some q) t r e =
+      same (λ r. is_fresh keep (told past) (message_at moment r) ≡ true → FitsPackets (reply device (performed device keep start (told past)) r.message))
+      q (λ fresh. fits_packets (reply device (performed device keep start (told past)) q.message) (then_so _ _ t fresh)) r e
+
+  pub replies_fit : (log : List Happening) → all_fit log ≡ true → RepliesFit device keep start log
+  replies_fit [] t = tt
+  replies_fit (Opened _ ∷ past) t = replies_fit past t
+  replies_fit (Sensed _ _ _ ∷ past) t = replies_fit past t
+  replies_fit (WentDown _ ∷ past) t = replies_fit past t
+  replies_fit (Delivered moment k ∷ past) t =
+      let parts = and_parts (reply_fits moment past (asked_at past k)) (all_fit past) t in
+      (one_fits moment past (asked_at past k) parts.0, replies_fit past parts.1)
