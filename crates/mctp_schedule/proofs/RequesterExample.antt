@@ -4,6 +4,7 @@ use Rattle.std.proofs.Common.{◌≡◌, ◌≢◌, ℕ, pos, List, ◌∷◌, l
 use Rattle.std.specs.Prelude.{nat_le, nat_lt}
 use Rattle.std.proofs.lemmas.Bool.{leb-true, ltb-true}
 use Rattle.mctp_packet.specs.Ids.{IsEid}
+use Rattle.mctp_packet.specs.declared.TheConstants.{MOST_MESSAGE_BYTES}
 use Rattle.pldm_wire.specs.CommandReading.{command_of}
 use Rattle.pldm_wire.specs.Numbers.{sized as sized_number}
 use Rattle.pldm_wire.specs.Requests.{request_of}
@@ -42,8 +43,8 @@ long_in_time = refl
 long_sources : EachOpensAt IsOther all_came
 long_sources = (tt, (tt, (tt, (tt, (tt, (tt, (tt, (eight, tt))))))))
 
-pub sized : (bytes : List ℕ) → nat_lt 0 (length bytes) ≡ true → nat_le (length bytes) 256 ≡ true → FitsPackets bytes
-sized bytes some few = record { some = ltb-true 0 (length bytes) some; few = leb-true (length bytes) 256 few }
+pub sized : (bytes : List ℕ) → nat_lt 0 (length bytes) ≡ true → nat_le (length bytes) MOST_MESSAGE_BYTES ≡ true → FitsPackets bytes
+sized bytes some few = record { some = ltb-true 0 (length bytes) some; few = leb-true (length bytes) MOST_MESSAGE_BYTES few }
 
 pub same : (P : Asked → Type 0) (q : Asked) → P q → (r : Asked) → Some q ≡ Some r → P r
 same P q x r e = subst P (let y : q ≡ r = cc in y) x
