@@ -63,15 +63,25 @@ three_joined = refl
 short_middle : gives (feed begun ∷ []) (captured 0x18 (0 ∷ [])) ≡ Dropped WrongUnit
 short_middle = refl
 
--- a packet more than a message may have
+-- as many packets as a message may have, and one more
 abbrev four : List Call
 four = feed (captured 0x38 (1 ∷ [])) ∷ feed (captured 0x28 (0 ∷ [])) ∷ feed (captured 0x18 (0x80 ∷ [])) ∷ feed (captured 0x88 (1 ∷ [])) ∷ []
 
 fourth_taken : gives (feed (captured 0x28 (0 ∷ [])) ∷ feed (captured 0x18 (0x80 ∷ [])) ∷ feed (captured 0x88 (1 ∷ [])) ∷ []) (captured 0x38 (1 ∷ [])) ≡ Partial
 fourth_taken = refl
 
-fifth_dropped : gives four (captured 0x48 (5 ∷ [])) ≡ Dropped TooLong
-fifth_dropped = refl
+-- the fifth packet has the number of the first, and is told from it by SOM
+fifth_joined : gives four (captured 0x48 (5 ∷ [])) ≡ whole (1 ∷ 0x80 ∷ 0 ∷ 1 ∷ 5 ∷ [])
+fifth_joined = refl
+
+fifth_taken : gives four (captured 0x08 (0 ∷ [])) ≡ Partial
+fifth_taken = refl
+
+number_without_start : gives [] (captured 0x08 (0 ∷ [])) ≡ Dropped UnexpectedMiddleOrEnd
+number_without_start = refl
+
+sixth_dropped : gives (feed (captured 0x08 (0 ∷ [])) ∷ four) (captured 0x58 (5 ∷ [])) ≡ Dropped TooLong
+sixth_dropped = refl
 
 -- a key that was forgotten has nothing to go on
 forgotten : gives (forget (key_of begun) ∷ feed begun ∷ []) (captured 0x58 (0 ∷ 2 ∷ [])) ≡ Dropped UnexpectedMiddleOrEnd

@@ -17,7 +17,7 @@ last_moment_in_milliseconds = refl
 longest_keep_in_milliseconds : LONGEST_KEEP ≡ 60000
 longest_keep_in_milliseconds = refl
 
-packets_of_a_message : MOST_PACKETS ≡ 4
+packets_of_a_message : MOST_PACKETS ≡ 5
 packets_of_a_message = refl
 
 payload_bytes : UNIT ≡ 64
@@ -35,5 +35,5 @@ header_bytes = refl
 packet_bytes : MOST_PACKET_BYTES ≡ 68
 packet_bytes = refl
 
-message_bytes : MOST_MESSAGE_BYTES ≡ 256
+message_bytes : MOST_MESSAGE_BYTES ≡ 320
 message_bytes = refl

@@ -45,7 +45,7 @@ pub const LAST_MOMENT: u64 = 4_000_000_000_000_000;
 pub const LONGEST_KEEP: u32 = 60_000;
 
 /// The most packets that one message may have in this profile.
-pub const MOST_PACKETS: usize = 4;
+pub const MOST_PACKETS: usize = 5;
 
 /// The most payload bytes of one packet, the header not counted: DSP0236's baseline transmission
 /// unit.

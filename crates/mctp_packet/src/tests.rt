@@ -116,7 +116,7 @@ fn expect(rt: &impl Abort, packets: &Packets, want: &[([u8; 4], usize)]) {
 #[test]
 fn splits_messages(rt: HostRuntime) -> Result<(), Fail> {
     let route = to_eight()?;
-    let bytes = [0x55; 257];
+    let bytes = [0x55; 321];
     assert_eq!(rt; split(&route, &[]).err(), Some(SplitFault::Empty));
     assert_eq!(rt; split(&route, &bytes).err(), Some(SplitFault::TooLong));
     let one = split(&route, &bytes[..64]).map_err(|_| Fail::from("64"))?;
@@ -126,6 +126,13 @@ fn splits_messages(rt: HostRuntime) -> Result<(), Fail> {
     let four = split(&route, &bytes[..256]).map_err(|_| Fail::from("256"))?;
     let headers = [0x80, 0x10, 0x20, 0x70].map(|flags| ([1, 8, 9, flags], 68));
     expect(&rt, &four, &headers);
+    // The last packet of five has the number of the first.
+    for length in [257, 320] {
+        let five = split(&route, &bytes[..length]).map_err(|_| Fail::from("five"))?;
+        let mut headers = [0x80, 0x10, 0x20, 0x30, 0x40].map(|flags| ([1, 8, 9, flags], 68));
+        headers[4].1 = 4 + length - 256;
+        expect(&rt, &five, &headers);
+    }
     Ok(())
 }
 

@@ -101,14 +101,14 @@ const SEVERAL_PACKETS: [(&str, &str); 3] = [
             at 600 open 8 gettid\nat 600 open 8 gettid\nat 600 open 8 gettid\nat 600 open 8 gettid\n\
             at 600 open 8 gettid\nat 600 open 8 gettid\nat 600 open 8 gettid\n\
             at 600 open 8 getpdr 0 0 first 65535\nat 600 req 8\nat 610 rep 8 1\n\
-            at 620 rep 8 0\nat 620 rep 8 1\nat 620 rep 8 2\nat 620 rep 8 3\n",
+            at 620 rep 8 0\nat 620 rep 8 1\nat 620 rep 8 2\nat 620 rep 8 3\nat 620 rep 8 4\n",
         "0 opened 0\n0 fresh unchanged\n0 partial\n600 again, gave up 0\n\
             600 opened 1\n600 opened 2\n600 opened 3\n600 opened 4\n600 opened 5\n600 opened 6\n\
             600 opened 7\n600 opened 8\n600 fresh unchanged\n610 drop UnexpectedMiddleOrEnd\n\
-            620 partial\n620 partial\n620 partial\n620 answered 8\n\
+            620 partial\n620 partial\n620 partial\n620 partial\n620 answered 8\n\
             request 0 from 8 gave up\nrequest 1 from 8 open\nrequest 2 from 8 open\n\
             request 3 from 8 open\nrequest 4 from 8 open\nrequest 5 from 8 open\n\
-            request 6 from 8 open\nrequest 7 from 8 open\nrequest 8 from 8 answered by 255 bytes\n\
+            request 6 from 8 open\nrequest 7 from 8 open\nrequest 8 from 8 answered by 316 bytes\n\
             order 0 8\ntimely\n40 10\n",
     ),
     (

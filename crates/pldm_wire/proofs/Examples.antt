@@ -200,9 +200,13 @@ part_of_no_flag : answer_of (of_type 2 0x51) (of_type 2 0x51) 0 (0 ∷ 0 ∷ 0 �
 unfolding success_of
 part_of_no_flag = refl
 
-part_too_long : answer_of (of_type 2 0x51) (of_type 2 0x51) 0 (0 ∷ 0 ∷ 0 ∷ 0 ∷ 0 ∷ 0 ∷ 0 ∷ 0 ∷ 5 ∷ 0xf0 ∷ 0 ∷ []) ≡ Err Value
+part_too_long : answer_of (of_type 2 0x51) (of_type 2 0x51) 0 (0 ∷ 0 ∷ 0 ∷ 0 ∷ 0 ∷ 0 ∷ 0 ∷ 0 ∷ 5 ∷ 0x30 ∷ 1 ∷ []) ≡ Err Value
 unfolding success_of
 part_too_long = refl
+
+part_without_its_bytes : answer_of (of_type 2 0x51) (of_type 2 0x51) 0 (0 ∷ 0 ∷ 0 ∷ 0 ∷ 0 ∷ 0 ∷ 0 ∷ 0 ∷ 5 ∷ 0xf0 ∷ 0 ∷ []) ≡ Err Length
+unfolding success_of
+part_without_its_bytes = refl
 
 last_part : answer_of (of_type 2 0x51) (of_type 2 0x51) 0 (0 ∷ 0 ∷ 0 ∷ 0 ∷ 0 ∷ 0 ∷ 0 ∷ 0 ∷ 4 ∷ 1 ∷ 0 ∷ 0 ∷ 0xf5 ∷ []) ≡ Ok (answers.GetPdr 0 0 (part End (0 ∷ []) (Some 0xf5)))
 unfolding success_of

@@ -99,7 +99,7 @@ bytes_of_a_version = refl
 bytes_of_a_part_that_are_not_the_records : PART_FIELDS ≡ 12
 bytes_of_a_part_that_are_not_the_records = refl
 
-most_bytes_of_a_part : MOST_PART_BYTES ≡ 239
+most_bytes_of_a_part : MOST_PART_BYTES ≡ 303
 most_bytes_of_a_part = refl
 
 bytes_of_the_form_of_all_fields : ALL_FIELDS_FORM ≡ 19

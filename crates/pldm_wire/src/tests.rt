@@ -69,7 +69,7 @@ fn values_that_no_reader_takes_are_not_made(rt: HostRuntime) {
     assert_eq!(rt; VersionData::new(&[]), None);
     assert_eq!(rt; VersionData::new(&[0; 6]), None);
     assert_eq!(rt; VersionData::new(&[0; 36]), None);
-    assert_eq!(rt; RecordPart::new(TransferFlag::Start, &[0; 240], None), None);
+    assert_eq!(rt; RecordPart::new(TransferFlag::Start, &[0; 304], None), None);
     assert_eq!(rt; RecordPart::new(TransferFlag::Start, &[], Some(0)), None);
     assert_eq!(rt; RecordPart::new(TransferFlag::End, &[], None), None);
     let narrow = number(&rt, Size::Uint8, 1);

@@ -138,7 +138,11 @@ fn messages_of_several_packets(rt: HostRuntime) -> Result<(), Fail> {
         ("3 010908880180\n3 0109081800", "partial\ndrop WrongUnit\n"),
         (
             "4 0109088801\n4 0109081880\n4 0109082800\n4 0109083801\n4 0109084805",
-            "partial\npartial\npartial\npartial\ndrop TooLong\n",
+            "partial\npartial\npartial\npartial\n010809c00100000100\n",
+        ),
+        (
+            "5 0109088801\n5 0109081880\n5 0109082800\n5 0109083801\n5 0109080800\n5 0109085805",
+            "partial\npartial\npartial\npartial\npartial\ndrop TooLong\n",
         ),
     ];
     for (capture, text) in cases {

@@ -20,7 +20,7 @@ fn request(transfer_operation_flag: u8, offset: u32) -> Option<Command> {
         record_handle: 1,
         data_transfer_handle: offset,
         transfer_operation_flag,
-        request_count: 239,
+        request_count: 303,
         record_change_number: 0,
     })
 }
@@ -41,14 +41,15 @@ fn the_example_record_is_fetched(rt: HostRuntime) -> Result<(), Fail> {
     let mut fetch = Fetch::new(alloc, 1);
     assert_eq!(rt; fetch.next(), request(1, 0));
     assert_eq!(rt; fetch.record(), None);
-    let first = device.perform(alloc, &fetch.next().ok_or(Memory)?)?;
-    assert_eq!(rt; fetch.take(&first), Ok(FetchState::More));
-    assert_eq!(rt; fetch.next(), request(0, 239));
-    let last = device.perform(alloc, &fetch.next().ok_or(Memory)?)?;
-    assert_eq!(rt; fetch.take(&last), Ok(FetchState::Done(0)));
+    let whole = device.perform(alloc, &fetch.next().ok_or(Memory)?)?;
+    assert_eq!(rt;
+        Some(&whole),
+        part(TransferFlag::StartAndEnd, 0, &record(), None).as_ref()
+    );
+    assert_eq!(rt; fetch.take(&whole), Ok(FetchState::Done(0)));
     assert_eq!(rt; fetch.record(), Some(record().as_slice()));
     assert_eq!(rt; fetch.next(), None);
-    assert_eq!(rt; fetch.take(&last), Err(FetchFault::Unexpected));
+    assert_eq!(rt; fetch.take(&whole), Err(FetchFault::Unexpected));
     assert_eq!(rt; fetch.record(), Some(record().as_slice()));
     Ok(())
 }

@@ -84,7 +84,7 @@ fn the_longest_part_fills_a_message(rt: HostRuntime) {
         record_handle: 1,
         data_transfer_handle: 0,
         transfer_operation_flag: 1,
-        request_count: 239,
+        request_count: 303,
         record_change_number: 0,
     };
     let answer = Answer::GetPdr {
@@ -96,10 +96,10 @@ fn the_longest_part_fills_a_message(rt: HostRuntime) {
     };
     let mut message = mctp_packet::Body::new();
     let _ = message.try_extend_from_slice(&[
-        0x01, 0x00, 0x02, 0x51, 0x00, 0x00, 0x00, 0x00, 0x00, 0x00, 0x00, 0x00, 0x00, 0x04, 0xef,
-        0x00,
+        0x01, 0x00, 0x02, 0x51, 0x00, 0x00, 0x00, 0x00, 0x00, 0x00, 0x00, 0x00, 0x00, 0x04, 0x2f,
+        0x01,
     ]);
-    let _ = message.try_extend_from_slice(&[7; 239]);
+    let _ = message.try_extend_from_slice(&[7; 303]);
     let _ = message.try_push(1);
     assert!(rt; message.is_full());
     both_ways(&rt, message.as_slice(), &get_pdr, &answer);
@@ -116,7 +116,7 @@ fn responses_that_are_no_answer_have_a_fault(rt: HostRuntime) -> Result<(), Fail
         record_handle: 0,
         data_transfer_handle: 0,
         transfer_operation_flag: 1,
-        request_count: 239,
+        request_count: 303,
         record_change_number: 0,
     };
     let faults = [
@@ -168,11 +168,20 @@ fn responses_that_are_no_answer_have_a_fault(rt: HostRuntime) -> Result<(), Fail
         (
             [
                 0x01, 0x00, 0x02, 0x51, 0x00, 0x00, 0x00, 0x00, 0x00, 0x00, 0x00, 0x00, 0x00, 0x05,
-                0xf0, 0x00,
+                0x30, 0x01,
             ]
             .as_slice(),
             &get_pdr,
             AnswerFault::Value,
+        ),
+        (
+            [
+                0x01, 0x00, 0x02, 0x51, 0x00, 0x00, 0x00, 0x00, 0x00, 0x00, 0x00, 0x00, 0x00, 0x05,
+                0xf0, 0x00,
+            ]
+            .as_slice(),
+            &get_pdr,
+            AnswerFault::Length,
         ),
     ];
     for (bytes, command, fault) in faults {
