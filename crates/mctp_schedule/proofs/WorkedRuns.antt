@@ -193,24 +193,27 @@ seven_opens past =
 
 abbrev tag_used_again : List Step
 tag_used_again =
-    at 620 (Reply 8 3) ∷ at 620 (Reply 8 2) ∷ at 620 (Reply 8 1) ∷ at 620 (Reply 8 0) ∷ at 610 (Reply 8 1) ∷ at 600 (Request 8)
+    at 620 (Reply 8 4) ∷ at 620 (Reply 8 3) ∷ at 620 (Reply 8 2) ∷ at 620 (Reply 8 1) ∷ at 620 (Reply 8 0)
+    ∷ at 610 (Reply 8 1) ∷ at 600 (Request 8)
     ∷ at 600 ask_for_record
     ∷ seven_opens (at 600 (Tick 8) ∷ at 0 (Reply 0 0) ∷ at 0 (Request 0) ∷ at 0 ask_for_record ∷ [])
 
 abbrev record_packets : ℕ → List (List ℕ)
 record_packets id =
-    ((0x01 ∷ 0x08 ∷ 0x09 ∷ 0x80 ∷ 0x01 ∷ id ∷ 0x02 ∷ 0x51 ∷ 0x00 ∷ 0x00 ∷ 0x00 ∷ 0x00 ∷ 0x00 ∷ 0xef ∷ 0x00 ∷ 0x00 ∷ 0x00
-    ∷ 0x00 ∷ 0xef ∷ 0x00 ∷ 0x01 ∷ 0x00 ∷ 0x00 ∷ 0x00 ∷ 0x01 ∷ 0x01 ∷ 0x00 ∷ 0x00 ∷ 0x22 ∷ 0x01 ∷ []) ++ replicate 38 0)
+    ((0x01 ∷ 0x08 ∷ 0x09 ∷ 0x80 ∷ 0x01 ∷ id ∷ 0x02 ∷ 0x51 ∷ 0x00 ∷ 0x00 ∷ 0x00 ∷ 0x00 ∷ 0x00 ∷ 0x00 ∷ 0x00 ∷ 0x00 ∷ 0x00
+    ∷ 0x05 ∷ 0x2c ∷ 0x01 ∷ 0x01 ∷ 0x00 ∷ 0x00 ∷ 0x00 ∷ 0x01 ∷ 0x01 ∷ 0x00 ∷ 0x00 ∷ 0x22 ∷ 0x01 ∷ []) ++ replicate 38 0)
     ∷ (0x01 ∷ 0x08 ∷ 0x09 ∷ 0x10 ∷ replicate 64 0)
     ∷ (0x01 ∷ 0x08 ∷ 0x09 ∷ 0x20 ∷ replicate 64 0)
-    ∷ (0x01 ∷ 0x08 ∷ 0x09 ∷ 0x70 ∷ replicate 63 0)
+    ∷ (0x01 ∷ 0x08 ∷ 0x09 ∷ 0x30 ∷ replicate 64 0)
+    ∷ (0x01 ∷ 0x08 ∷ 0x09 ∷ 0x40 ∷ replicate 60 0)
     ∷ []
 
 tag_used_again_entries : entries_owed setting tag_used_again
     ≡ Opened 0 ∷ Delivered false (Answered true false (record_packets 0)) ∷ Received got.Partial ∷ gave_up (0 ∷ []) ∷ Opened 1
     ∷ Opened 2 ∷ Opened 3 ∷ Opened 4 ∷ Opened 5 ∷ Opened 6 ∷ Opened 7 ∷ Opened 8
     ∷ Delivered false (Answered true false (record_packets 8)) ∷ Received (got.Dropped UnexpectedMiddleOrEnd)
-    ∷ Received got.Partial ∷ Received got.Partial ∷ Received got.Partial ∷ Received (got.Answered 8) ∷ []
+    ∷ Received got.Partial ∷ Received got.Partial ∷ Received got.Partial ∷ Received got.Partial
+    ∷ Received (got.Answered 8) ∷ []
 unfolding request_of command_of response_of
 tag_used_again_entries = refl
 
