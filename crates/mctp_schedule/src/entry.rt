@@ -1,6 +1,6 @@
+use crate::Delivery;
 use pldm_device::ReadingFault;
 use pldm_requester::{Due, Got, OpenFault};
-use pldm_responder::Outcome;
 
 /// What came of a step.
 #[derive(Debug, Drop)]
@@ -19,7 +19,7 @@ pub enum Entry {
         /// Whether the device's end was busy after a restart, so that the outcome is a busy answer.
         busy: bool,
         /// What became of the packet.
-        outcome: Outcome,
+        delivery: Delivery,
     },
     /// A packet of an answer came to its requester. The number of an answered request counts the
     /// opened requests of that requester alone.

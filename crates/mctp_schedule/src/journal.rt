@@ -2,11 +2,11 @@
 
 ghost use Rattle.std.specs.Prelude.{◌≡◌, ◌<◌, ◌++◌, ◌∷◌, [], ◌&&◌, ◌==◌, true, ℕ, None, OnOk, IfSome, length, option_map, slice_get, if◌then◌else◌};
 ghost use Rattle.std.specs.List.{list_any};
-ghost use Rattle.mctp_schedule.specs.Journals.{answered_as, answers_at, fresh_numbers, packet_at, packets_in, place_of, stands_after};
+ghost use Rattle.mctp_schedule.specs.Journals.{answered_as, answers_at, fresh_numbers, packet_at, packets_in, packets_of_outcome, place_of, stands_after};
 ghost use Rattle.mctp_schedule.specs.Requests.{begun};
 
 use crate::askers::{Answered, Sent};
-use crate::{Entry, OpenedRequest};
+use crate::{Delivery, Entry, OpenedRequest};
 use mctp_packet::{Eid, Memory, Moment, Packets};
 use pldm_requester::{Due, Got};
 use pldm_responder::Outcome;
@@ -72,6 +72,7 @@ impl Traffic {
 /// The entries so far, and what is known of each request by its number.
 #[derive(Debug, Drop)]
 pub(crate) struct Journal {
+    alloc: Global,
     pub(crate) entries: Vec<Entry>,
     pub(crate) requests: Vec<OpenedRequest>,
     pub(crate) traffic: Vec<Traffic>,
@@ -91,6 +92,7 @@ impl Journal {
         ensures timely { result.timely ≡ true }
     {
         Journal {
+            alloc,
             entries: Vec::new(alloc),
             requests: Vec::new(alloc),
             traffic: Vec::new(alloc),
@@ -190,7 +192,8 @@ impl Journal {
             self.order.push(number)?;
         }
         self.timely = in_time && self.timely;
-        self.enter(Entry::Delivered { busy, outcome })
+        let delivery = Delivery::new(self.alloc, outcome)?;
+        self.enter(Entry::Delivered { busy, delivery })
     }
 
     /// Writes down what a requester got.
@@ -221,10 +224,17 @@ fn packets_in(entries: &[Entry], place: Option<usize>) -> Option<&Packets>
     ensures { option_map (λ packets. packets.now) result ≡ packets_in entries.now place }
 {
     match entries.get(place?)? {
-        Entry::Delivered {
-            outcome: Outcome::Answered { packets, .. },
-            ..
-        } => Some(packets),
+        Entry::Delivered { delivery, .. } => packets_of(delivery.outcome()),
+        _ => None,
+    }
+}
+
+/// The packets of an answer.
+fn packets_of(outcome: &Outcome) -> Option<&Packets>
+    ensures { option_map (λ packets. packets.now) result ≡ packets_of_outcome outcome.now }
+{
+    match outcome {
+        Outcome::Answered { packets, .. } => Some(packets),
         _ => None,
     }
 }

@@ -4,6 +4,7 @@
 mod askers;
 mod both_ends;
 mod command_words;
+mod delivery;
 mod entry;
 mod journal;
 pub mod laws;
@@ -20,6 +21,7 @@ mod tests;
 mod word;
 
 pub use both_ends::{Report, Setup, run};
+pub use delivery::Delivery;
 pub use entry::Entry;
 pub use limits::{GREATEST_BYTE, GREATEST_HANDLE, GREATEST_ID, LONGEST_TIMEOUT, MOST_WORDS};
 pub use line_fault::{LineFault, LineFaultKind};

@@ -30,7 +30,7 @@ fn push_entry(out: &mut Vec<u8>, entry: &Entry) -> Result<(), Memory>
         Entry::Opened(number) => push_opened(out, *number),
         Entry::NotOpened(fault) => push_text(out, not_opened_text(*fault)),
         Entry::Due(due) => push_due(out, &due.again, &due.given_up),
-        Entry::Delivered { busy, outcome } => push_delivered(out, *busy, outcome),
+        Entry::Delivered { busy, delivery } => push_delivered(out, *busy, delivery.outcome()),
         Entry::Received(got) => push_received(out, *got),
         Entry::Sensed(sensed) => push_text(out, sensed_text(sensed)),
         Entry::Restarted => push_text(out, "restarted"),

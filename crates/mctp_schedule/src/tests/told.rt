@@ -45,8 +45,8 @@ fn entry_words(alloc: Global, entry: &Entry) -> Result<String, AllocError> {
             format!(in alloc; "not opened, fault {number}")
         }
         Entry::Due(due) => due_words(alloc, due),
-        Entry::Delivered { busy, outcome } => {
-            String::from_str(alloc, delivered_words(*busy, outcome))
+        Entry::Delivered { busy, delivery } => {
+            String::from_str(alloc, delivered_words(*busy, delivery.outcome()))
         }
         Entry::Received(Got::Dropped(reason)) => {
             let name = reason.name();
