@@ -1,6 +1,6 @@
-use crate::Delivery;
+use crate::{Delivery, DueRequests};
 use pldm_device::ReadingFault;
-use pldm_requester::{Due, Got, OpenFault};
+use pldm_requester::{Got, OpenFault};
 
 /// What came of a step.
 #[derive(Debug, Drop)]
@@ -13,7 +13,7 @@ pub enum Entry {
     /// No request was opened. The fault is never `Memory`.
     NotOpened(OpenFault),
     /// What a tick found due. The numbers count the opened requests of all requesters.
-    Due(Due),
+    Due(DueRequests),
     /// The packet of a request came to the device.
     Delivered {
         /// Whether the device's end was busy after a restart, so that the outcome is a busy answer.

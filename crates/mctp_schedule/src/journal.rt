@@ -6,7 +6,7 @@ ghost use Rattle.mctp_schedule.specs.Journals.{answered_as, answers_at, fresh_nu
 ghost use Rattle.mctp_schedule.specs.Requests.{begun};
 
 use crate::askers::{Answered, Sent};
-use crate::{Delivery, Entry, OpenedRequest};
+use crate::{Delivery, DueRequests, Entry, OpenedRequest};
 use mctp_packet::{Eid, Memory, Moment, Packets};
 use pldm_requester::{Due, Got};
 use pldm_responder::Outcome;
@@ -152,6 +152,7 @@ impl Journal {
         ensures timely { OnOk result (self.new.timely ≡ self.old.timely) }
     {
         self.give_up(&due.given_up);
+        let due = DueRequests::new(self.alloc, due)?;
         self.enter(Entry::Due(due))
     }
 

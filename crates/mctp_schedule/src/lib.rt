@@ -5,6 +5,7 @@ mod askers;
 mod both_ends;
 mod command_words;
 mod delivery;
+mod due_requests;
 mod entry;
 mod journal;
 pub mod laws;
@@ -22,6 +23,7 @@ mod word;
 
 pub use both_ends::{Report, Setup, run};
 pub use delivery::Delivery;
+pub use due_requests::DueRequests;
 pub use entry::Entry;
 pub use limits::{GREATEST_BYTE, GREATEST_HANDLE, GREATEST_ID, LONGEST_TIMEOUT, MOST_WORDS};
 pub use line_fault::{LineFault, LineFaultKind};

@@ -29,7 +29,10 @@ fn push_entry(out: &mut Vec<u8>, entry: &Entry) -> Result<(), Memory>
         Entry::Nothing => push_text(out, "nothing"),
         Entry::Opened(number) => push_opened(out, *number),
         Entry::NotOpened(fault) => push_text(out, not_opened_text(*fault)),
-        Entry::Due(due) => push_due(out, &due.again, &due.given_up),
+        Entry::Due(due) => {
+            let due = due.numbers();
+            push_due(out, &due.again, &due.given_up)
+        }
         Entry::Delivered { busy, delivery } => push_delivered(out, *busy, delivery.outcome()),
         Entry::Received(got) => push_received(out, *got),
         Entry::Sensed(sensed) => push_text(out, sensed_text(sensed)),

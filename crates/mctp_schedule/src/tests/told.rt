@@ -44,7 +44,7 @@ fn entry_words(alloc: Global, entry: &Entry) -> Result<String, AllocError> {
             let number = fault.number();
             format!(in alloc; "not opened, fault {number}")
         }
-        Entry::Due(due) => due_words(alloc, due),
+        Entry::Due(due) => due_words(alloc, due.numbers()),
         Entry::Delivered { busy, delivery } => {
             String::from_str(alloc, delivered_words(*busy, delivery.outcome()))
         }
