@@ -69,6 +69,15 @@ told_further f things place thing before after line so_far added made found =
     added ∙ ap (λ b. b ++ line) so_far ∙ ap (λ l. flat_map f (take place things) ++ l) (sym made)
     ∙ sym (text_further f things place thing found) ∙ ap (λ n. flat_map f (take n things)) (sym one)
 
+-- the same, after what was there before
+pub added_further : {A : Type 0} (f : A → List ℕ) (things : List A) (place : ℕ) (thing : A) (old before after : List ℕ)
+    → before ≡ old ++ flat_map f (take place things) → after ≡ before ++ f thing → slice_get things place ≡ Some thing
+    → after ≡ old ++ flat_map f (take (place + 1) things)
+added_further f things place thing old before after so_far added found =
+    let text = flat_map f (take place things) in
+    added ∙ ap (λ b. b ++ f thing) so_far ∙ append_assoc old text (f thing)
+    ∙ ap (λ t. old ++ t) (told_further f things place thing text (text ++ f thing) (f thing) refl refl refl found)
+
 all_taken : {A : Type 0} (things : List A) (place : ℕ) → length things ≤ place → take place things ≡ things
 all_taken [] zero past = refl
 all_taken [] (suc place) past = refl

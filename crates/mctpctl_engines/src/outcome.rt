@@ -31,9 +31,10 @@ fn push_packets(out: &mut Vec<u8>, packets: &Packets) -> Result<(), Memory>
     ensures { OnOk result (out.new.items ≡ out.old.items ++ packets_text packets.now) }
 {
     for i in 0..packets.len() {
-        if let Some(packet) = packets.get(i) {
-            push_packet(out, packet)?;
-        }
+        let Some(packet) = packets.get(i) else {
+            unreachable!();
+        };
+        push_packet(out, packet)?;
     }
     Ok(())
 }
