@@ -25,6 +25,8 @@ mod run;
 mod schedule_run;
 mod show;
 mod stream;
+#[cfg(test)]
+mod tests;
 
 pub use answer::answer_all;
 pub use faults::{EngineFault, LineKind, fault_line, status_of};

@@ -15,6 +15,9 @@ const LARGEST: usize = 1 << 46;
 /// How many sizes are tried from there on, each half the one before, down to 4,096 bytes.
 const HALVINGS: usize = 35;
 
+/// How many sizes are tried from the reserve's on, each half the one before, down to 3,125 bytes.
+const REST_HALVINGS: usize = 8;
+
 /// The smallest block of which any number is taken, in bytes: below it the allocator keeps blocks by
 /// their size, so that each size is taken for itself.
 const SMALL: usize = 2_048;
@@ -23,7 +26,7 @@ const SMALL: usize = 2_048;
 const MOST_OF_A_SIZE: usize = 600;
 
 /// The bytes that are kept apart while all else is taken. No more than these can be left spare.
-const RESERVE: usize = 100_000;
+const RESERVE: usize = 400_000;
 
 /// The bytes by which the allocator's block is longer than what was asked of it, and what it keeps
 /// of a block that it splits.
@@ -32,35 +35,75 @@ const SPLIT: usize = 48;
 /// Memory that is taken. Dropping it gives it all back.
 #[derive(Drop)]
 pub struct Hoard {
+    alloc: Global,
+    /// All but the reserve.
     blocks: Vec<Vec<u8>>,
+    /// What is taken of the reserve.
+    last: Vec<u8>,
+    /// About how many bytes of the reserve are left.
+    spare: usize,
 }
 
 impl Hoard {
-    /// Takes all memory but about `spare` bytes in one piece, at most 99,000.
+    /// Takes all memory but about `spare` bytes in one piece, at most 399,000.
     ///
     /// # Errors
     ///
     /// `AllocError` where there was no room for the list of the blocks.
     pub fn take(alloc: Global, spare: usize) -> Result<Hoard, AllocError> {
+        // From now on the allocator takes a block of the reserve's size from the same place as small ones.
+        drop(Vec::<u8>::with_capacity(alloc, 2 * RESERVE)?);
         let mut blocks = Vec::with_capacity(alloc, MOST_BLOCKS)?;
-        let reserve = Vec::<u8>::with_capacity(alloc, RESERVE)?;
+        let reserve = Vec::with_capacity(alloc, RESERVE)?;
         let mut size = LARGEST;
         for _ in 0..HALVINGS {
             fill(alloc, &mut blocks, size, MOST_BLOCKS)?;
             size /= 2;
         }
-        for step in 0..SMALL / 16 {
-            fill(alloc, &mut blocks, SMALL - step * 16, MOST_OF_A_SIZE)?;
-        }
-        drop(reserve);
-        fill(
+        fill_small(alloc, &mut blocks)?;
+        let mut hoard = Hoard {
             alloc,
-            &mut blocks,
-            (RESERVE - SPLIT).saturating_sub(spare),
-            1,
-        )?;
-        Ok(Hoard { blocks })
+            blocks,
+            last: reserve,
+            spare: 0,
+        };
+        hoard.give(spare);
+        Ok(hoard)
     }
+
+    /// Takes what was given back and is not in use, and what was freed since: a call that comes next finds
+    /// no memory for its first growth.
+    ///
+    /// # Errors
+    ///
+    /// `AllocError` where the list of the blocks is full.
+    pub fn take_rest(&mut self) -> Result<(), AllocError> {
+        let mut size = RESERVE;
+        for _ in 0..REST_HALVINGS {
+            fill(self.alloc, &mut self.blocks, size, MOST_BLOCKS)?;
+            size /= 2;
+        }
+        fill_small(self.alloc, &mut self.blocks)
+    }
+
+    /// Gives back about so many bytes more. With few bytes at a time between tries of one call, each of
+    /// its growths is refused in turn, but for those that memory suffices for which the call itself freed.
+    pub fn give(&mut self, bytes: usize) {
+        self.spare = self.spare.saturating_add(bytes);
+        let rest = (RESERVE - SPLIT).saturating_sub(self.spare);
+        self.last = Vec::new(self.alloc);
+        if let Ok(block) = Vec::with_capacity(self.alloc, rest) {
+            self.last = block;
+        }
+    }
+}
+
+/// Takes blocks of each small size.
+fn fill_small(alloc: Global, blocks: &mut Vec<Vec<u8>>) -> Result<(), AllocError> {
+    for step in 0..SMALL / 16 {
+        fill(alloc, blocks, SMALL - step * 16, MOST_OF_A_SIZE)?;
+    }
+    Ok(())
 }
 
 /// Takes blocks of this size, until one is refused or there are `most` of them.

@@ -9,6 +9,8 @@ use std::alloc::Global;
 use std::process::Abort;
 use std::test::Fail;
 
+mod refused_growths;
+
 fn eid(number: u8) -> Result<Eid, Fail> {
     Ok(Eid::new(number).ok_or("no endpoint ID")?)
 }
@@ -231,66 +233,4 @@ fn faults_are_told(rt: HostRuntime) -> Result<(), Fail> {
         )
     );
     Ok(())
-}
-
-/// By how many bytes more each run may grow than the one before.
-const STEP: usize = 512;
-
-/// More runs than the growths of an open, or of a packet, want steps.
-const MOST_RUNS: usize = 150;
-
-/// A request is opened with more and more memory to be had, until that is not refused.
-#[test]
-fn each_growth_of_an_open_is_refused_in_turn(rt: HostRuntime) -> Result<(), Fail> {
-    for run in 0..MOST_RUNS {
-        let mut requester = requester(rt.alloc())?;
-        let hoard = Hoard::take(rt.alloc(), run * STEP)?;
-        let opened = open(&rt, &mut requester, 5)?;
-        drop(hoard);
-        if opened.is_ok() {
-            assert!(rt; run > 0, "a request wants memory");
-            return Ok(());
-        }
-        assert_eq!(rt;
-            (opened, requester.count(), requester.last_moment().get()),
-            (Err(OpenFault::Memory), 0, 0)
-        );
-        assert_eq!(rt; open(&rt, &mut requester, 5)?, Ok((0, 0, 0)));
-    }
-    Err(Fail::from("never opened"))
-}
-
-/// The first packet of an answer of two comes with more and more memory to be had, until that is not
-/// refused; the second comes with none.
-#[test]
-fn each_growth_of_an_answer_is_refused_in_turn(rt: HostRuntime) -> Result<(), Fail> {
-    let begun = [0x01, 0x08, 0x09, 0x80, 0x01, 0x00, 0x00, 0x02];
-    for run in 0..MOST_RUNS {
-        let mut requester = requester(rt.alloc())?;
-        let _ = open(&rt, &mut requester, 5)??;
-        let hoard = Hoard::take(rt.alloc(), run * STEP)?;
-        let first = receive(&rt, &mut requester, 6, &begun)?;
-        drop(hoard);
-        if first.is_err() {
-            assert_eq!(rt; requester.last_moment().get(), 5);
-            assert_eq!(rt; receive(&rt, &mut requester, 6, &begun)?, Ok(Got::Partial));
-        }
-        let hoard = Hoard::take(rt.alloc(), 0)?;
-        let whole = receive(
-            &rt,
-            &mut requester,
-            6,
-            &[0x01, 0x08, 0x09, 0x50, 0x00, 0x01],
-        )?;
-        drop(hoard);
-        assert_eq!(rt;
-            (whole, requester.status(0)),
-            (Ok(Got::Answered(0)), Some(Status::Answered(TID)))
-        );
-        if first.is_ok() {
-            assert!(rt; run > 0, "an answer of two packets wants memory");
-            return Ok(());
-        }
-    }
-    Err(Fail::from("never taken"))
 }

@@ -9,6 +9,7 @@ use std::process::Abort;
 use std::test::Fail;
 
 mod dimmer;
+mod refused_growths;
 
 /// A light at endpoint 9 that keeps answers for a second.
 fn light(alloc: Global) -> Result<Responder<Dimmer>, Fail> {
@@ -169,46 +170,6 @@ fn reading_and_refusals(rt: HostRuntime) -> Result<(), Fail> {
     Ok(())
 }
 
-/// How many bytes the first run may grow: too few for the slots of a source.
-const FIRST: usize = 16_000;
-
-/// By how many bytes more each run may grow than the one before.
-const STEP: usize = 16;
-
-/// More runs than the growths of one request want steps.
-const MOST_RUNS: usize = 400;
-
-/// A request that sets is received with more and more memory to be had, until nothing is refused:
-/// the room for its source's answers is refused first, and then the box of the light, when it is performed.
-#[test]
-fn each_growth_of_a_request_is_refused_in_turn(rt: HostRuntime) -> Result<(), Fail> {
-    let (mut rooms, mut boxes) = (0u32, 0u32);
-    let mut was_taken = false;
-    for run in 0..MOST_RUNS {
-        let mut light = light(rt.alloc())?;
-        let hoard = Hoard::take(rt.alloc(), FIRST + run * STEP)?;
-        let outcome = receive(&rt, &mut light, 5, SET_40)?;
-        drop(hoard);
-        if outcome.is_ok() {
-            was_taken = true;
-            break;
-        }
-        if light.platform().asked() == 0 {
-            rooms = rooms.saturating_add(1);
-        } else {
-            boxes = boxes.saturating_add(1);
-        }
-        assert_eq!(rt; (light.kept(), light.last_moment().get()), (0, 0));
-        assert_eq!(rt; light.platform().level(), 0);
-        let again = receive(&rt, &mut light, 5, SET_40)?;
-        assert!(rt; answers(&again, true, true, SET), "{again:?}");
-        assert_eq!(rt; (light.kept(), light.last_moment().get()), (1, 5));
-    }
-    assert!(rt; was_taken, "taken at last");
-    assert!(rt; rooms > 0 && boxes > 0, "{rooms} {boxes}");
-    Ok(())
-}
-
 #[test]
 fn copies_and_drops_take_no_memory(rt: HostRuntime) -> Result<(), Fail> {
     let mut light = light(rt.alloc())?;
@@ -231,7 +192,7 @@ fn copies_and_drops_take_no_memory(rt: HostRuntime) -> Result<(), Fail> {
     Ok(())
 }
 
-/// The device of the example, without records.
+/// The device of the example, but for sensors and states.
 const EXAMPLE: &str = r#"eid = 9
 keep_ms = 1000
 tid = 1
@@ -245,12 +206,13 @@ size = "uint8"
 min = 0
 max = 100
 value = 10
+[[pdr]]
 "#;
 
 /// The device of the example behind its responder.
 fn example(alloc: Global) -> Result<Responder<SimDevice>, Fail> {
-    let description = Description::read(alloc, EXAMPLE.as_bytes())?;
-    let Description { eid, keep, device } = description;
+    let text = format!(in alloc; "{EXAMPLE}hex = \"01000000010100002201{:0580}\"\n", 0)?;
+    let Description { eid, keep, device } = Description::read(alloc, text.as_bytes())?;
     Ok(Responder::new(alloc, eid, keep, device))
 }
 

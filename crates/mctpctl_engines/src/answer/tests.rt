@@ -4,12 +4,11 @@ mod transfer;
 
 use crate::answer::answer_all;
 use crate::example::{description, input};
-use crate::fakes::{FailsAt, OneByteWriter, PieceReader};
+use crate::fakes::OneByteWriter;
 use crate::faults::{EngineFault, LineKind};
 use crate::port::Port;
 use pldm_device::FileFault;
 use std::alloc::{AllocError, Global};
-use std::io;
 use std::io::Read;
 use std::process::Abort;
 use std::test::Fail;
@@ -246,148 +245,6 @@ fn refused_inputs(rt: HostRuntime) -> Result<(), Fail> {
     Ok(())
 }
 
-/// A byte that a reader gives without end, after some others.
-fn endless<'a>(first: &'a str, byte: u8) -> io::Chain<&'a [u8], io::Repeat> {
-    first.as_bytes().chain(io::repeat(byte))
-}
-
-#[test]
-fn endless_readers_are_stopped(rt: HostRuntime) -> Result<(), Fail> {
-    let alloc = rt.alloc();
-    let device = input(alloc, "")?;
-    let cases = [
-        ("", b'x', EngineFault::TooLarge),
-        (device.as_str(), b'\n', EngineFault::TooLarge),
-        (
-            device.as_str(),
-            b'x',
-            EngineFault::Line(1, LineKind::LongLine),
-        ),
-    ];
-    for (first, byte, fault) in cases {
-        let (result, written) = run(alloc, endless(first, byte))?;
-        assert_eq!(rt; result, Err(fault));
-        assert_eq!(rt; written.len(), 0);
-    }
-    Ok(())
-}
-
-/// The example device with a comment that makes its description this long.
-fn description_of_size(alloc: Global, size: usize) -> Result<String, AllocError> {
-    let mut text = description(alloc)?;
-    text.push('#')?;
-    for _ in text.len() + 1..size {
-        text.push('x')?;
-    }
-    text.push('\n')?;
-    Ok(text)
-}
-
-#[test]
-fn limits_of_a_description(rt: HostRuntime) -> Result<(), Fail> {
-    let alloc = rt.alloc();
-    for (size, want) in [(1_048_576, Ok(())), (1_048_577, Err(EngineFault::TooLarge))] {
-        let mut text = description_of_size(alloc, size)?;
-        assert_eq!(rt; text.len(), size);
-        text.push_str("%%\n0 010908c801800002")?;
-        let (result, written) = run(alloc, text.as_bytes())?;
-        assert_eq!(rt; result, want);
-        assert_eq!(rt; written.is_empty(), want.is_err());
-    }
-    Ok(())
-}
-
-#[test]
-fn limits_of_a_line(rt: HostRuntime) -> Result<(), Fail> {
-    let alloc = rt.alloc();
-    for (size, fault) in [(4_096, None), (4_097, Some(LineKind::LongLine))] {
-        let mut line = String::from_str(alloc, "0 010908c801800002")?;
-        for _ in line.len()..size {
-            line.push(' ')?;
-        }
-        let want = fault.map_or(Ok(()), |kind| Err(EngineFault::Line(1, kind)));
-        let text = if fault.is_some() {
-            ""
-        } else {
-            "010809c0010000020001\n"
-        };
-        expect(&rt, alloc, line.as_str(), want, text)?;
-    }
-    Ok(())
-}
-
-#[test]
-fn pieces_change_nothing(rt: HostRuntime) -> Result<(), Fail> {
-    let alloc = rt.alloc();
-    let text = input(alloc, "0 010908c90181000105\n1 010908ca01820002\n")?;
-    let mut reader = Port::new(PieceReader {
-        bytes: text.as_bytes(),
-        piece: 1,
-    });
-    let mut writer = Port::new(OneByteWriter {
-        taken: Vec::new(alloc),
-        flushes: 0,
-    });
-    assert_eq!(rt; answer_all(alloc, &mut reader, &mut writer), Ok(()));
-    let writer = writer.into_inner();
-    assert_eq!(rt;
-        writer.taken.as_slice(),
-        b"010809c10101000100\n010809c2010200020005\n".as_slice()
-    );
-    assert_eq!(rt; writer.flushes, 1);
-    Ok(())
-}
-
-/// A reader that gives 100 bytes at a call fails once, at each call in turn, the last of which would
-/// tell the end of input: it is not asked again, and the lines that ended before have been answered.
-#[test]
-fn a_reader_that_fails(rt: HostRuntime) -> Result<(), Fail> {
-    let alloc = rt.alloc();
-    let text = input(alloc, "0 010908c801800002\n1 010908c801800002\n")?;
-    let calls = text.len().div_ceil(100) + 1;
-    let answer = b"010809c0010000020001\n";
-    for calls_left in 0..calls {
-        let pieces = PieceReader {
-            bytes: text.as_bytes(),
-            piece: 100,
-        };
-        let mut reader = Port::new(FailsAt::once(pieces, calls_left));
-        let mut writer = Port::new(Vec::with_capacity(alloc, 4_096)?);
-        let result = answer_all(alloc, &mut reader, &mut writer);
-        assert_eq!(rt; result, Err(EngineFault::Read), "at {calls_left}");
-        assert_eq!(rt; reader.into_inner().calls, calls_left + 1);
-        let written = writer.into_inner();
-        let ended = text.as_bytes()[..text.len().min(calls_left * 100)].ends_with(b"02\n");
-        assert_eq!(rt; written.len(), if ended { 2 * answer.len() } else { 0 });
-    }
-    Ok(())
-}
-
-/// A writer of one byte at a call fails once, at each call in turn: 21 bytes, and the flush.
-#[test]
-fn a_writer_that_fails(rt: HostRuntime) -> Result<(), Fail> {
-    let alloc = rt.alloc();
-    let text = input(alloc, "0 010908c801800002")?;
-    for calls_left in 0..23 {
-        let mut reader = Port::new(text.as_bytes());
-        let inner = OneByteWriter {
-            taken: Vec::new(alloc),
-            flushes: 0,
-        };
-        let mut writer = Port::new(FailsAt::once(inner, calls_left));
-        let want = if calls_left < 22 {
-            Err(EngineFault::Write)
-        } else {
-            Ok(())
-        };
-        let result = answer_all(alloc, &mut reader, &mut writer);
-        assert_eq!(rt; result, want, "at {calls_left}");
-        assert_eq!(rt; writer.failed(), calls_left < 22);
-        assert_eq!(rt; writer.into_inner().calls, 22.min(calls_left + 1));
-    }
-    Ok(())
-}
-
 /// A run that ends with a refused line flushes what it wrote, once.
 #[test]
 fn a_refused_line_is_flushed(rt: HostRuntime) -> Result<(), Fail> {
@@ -409,10 +266,9 @@ fn a_refused_line_is_flushed(rt: HostRuntime) -> Result<(), Fail> {
     Ok(())
 }
 
-/// A line of as many bytes as it may have is one packet of 2,045 bytes, which no baseline unit carries;
-/// and input of as many bytes as it may have is answered to its end.
+/// A line of as many bytes as it may have is one packet of 2,045 bytes, which no baseline unit carries.
 #[test]
-fn the_longest_line_and_the_longest_input(rt: HostRuntime) -> Result<(), Fail> {
+fn the_longest_line(rt: HostRuntime) -> Result<(), Fail> {
     let alloc = rt.alloc();
     let mut line = String::from_str(alloc, "00000 010908c8")?;
     for _ in 0..2_041 {
@@ -420,18 +276,5 @@ fn the_longest_line_and_the_longest_input(rt: HostRuntime) -> Result<(), Fail> {
     }
     assert_eq!(rt; line.len(), 4_096);
     expect(&rt, alloc, line.as_str(), Ok(()), "drop UnsupportedUnit\n")?;
-    for (size, want) in [
-        (16_777_216usize, Ok(())),
-        (16_777_217, Err(EngineFault::TooLarge)),
-    ] {
-        let mut text = input(alloc, "0 010908c801800002\n")?;
-        text.reserve(size.saturating_sub(text.len()))?;
-        for at in text.len()..size {
-            text.push(if at % 1_024 == 0 { '\n' } else { ' ' })?;
-        }
-        let (result, written) = run(alloc, text.as_bytes())?;
-        assert_eq!(rt; result, want);
-        assert_eq!(rt; written.as_slice(), b"010809c0010000020001\n".as_slice());
-    }
     Ok(())
 }

@@ -1,36 +1,13 @@
 use crate::example;
-use crate::fakes::{FailsAt, OneByteWriter, PieceReader};
-use crate::faults::{EngineFault, LineKind, fault_line};
+use crate::faults::fault_line;
 use crate::port::Port;
 use crate::run::run_all;
+use crate::tests::{Engine, RETRY, RETRY_TOLD, refuse_each_growth};
 use std::alloc::{AllocError, Global};
 use std::process::Abort;
 use std::test::Fail;
 
 mod rows;
-
-/// A request whose first answer is lost, and a retry.
-const RETRY: &str = "requester 8 timeout 200 tries 3
-at 0 open 8 setnum 1 uint8 40
-at 0 req 0
-at 200 tick 8
-at 200 req 0
-at 210 rep 0 0
-";
-
-const RETRY_TOLD: &str = "0 opened 0
-0 fresh changed
-200 again 0
-200 copy
-210 answered
-request 0 from 8 answered 0100023100
-order 0
-tid 1
-sensor 1 40
-numeric 1 40
-state 2 1 1
-timely: yes
-";
 
 /// Checks what a schedule over the example device gives.
 fn expect(rt: &impl Abort, alloc: Global, schedule: &str, told: &str) -> Result<(), AllocError> {
@@ -105,46 +82,10 @@ fn refused_inputs_write_nothing(rt: HostRuntime) -> Result<(), Fail> {
     Ok(())
 }
 
+/// A tag that is used again, and an answer of five packets.
 #[test]
-fn pieces_change_nothing(rt: HostRuntime) -> Result<(), Fail> {
-    let alloc = rt.alloc();
-    let input = example::input(alloc, RETRY)?;
-    let mut reader = Port::new(PieceReader {
-        bytes: input.as_bytes(),
-        piece: 7,
-    });
-    let mut writer = Port::new(OneByteWriter {
-        taken: Vec::new(alloc),
-        flushes: 0,
-    });
-    assert_eq!(rt; run_all(alloc, &mut reader, &mut writer), Ok(()));
-    let writer = writer.into_inner();
-    assert_eq!(rt; writer.taken.as_slice(), RETRY_TOLD.as_bytes());
-    assert_eq!(rt; writer.flushes, 1);
-    Ok(())
-}
-
-#[test]
-fn failed_ports_are_told(rt: HostRuntime) -> Result<(), Fail> {
-    let alloc = rt.alloc();
-    let input = example::input(alloc, RETRY)?;
-    let mut reader = Port::new(FailsAt::once(input.as_bytes(), 1));
-    let mut writer = Port::new(Vec::new(alloc));
-    assert_eq!(rt;
-        run_all(alloc, &mut reader, &mut writer),
-        Err(EngineFault::Read)
-    );
-    assert!(rt; writer.into_inner().is_empty());
-    let mut reader = Port::new(input.as_bytes());
-    let mut writer = Port::new(FailsAt::once(Vec::new(alloc), 0));
-    assert_eq!(rt;
-        run_all(alloc, &mut reader, &mut writer),
-        Err(EngineFault::Write)
-    );
-    let faulty = example::input(alloc, "x\n")?;
-    let mut reader = Port::new(faulty.as_bytes());
-    let mut writer = Port::new(Vec::new(alloc));
-    let refused = Err(EngineFault::Line(1, LineKind::Words));
-    assert_eq!(rt; run_all(alloc, &mut reader, &mut writer), refused);
-    Ok(())
+fn each_growth_of_a_long_run_is_refused_in_turn(rt: HostRuntime) -> Result<(), Fail> {
+    let (schedule, told) = rows::SCHEDULES[2];
+    let input = example::input(rt.alloc(), schedule)?;
+    refuse_each_growth(&rt, rt.alloc(), Engine::Run, input.as_str(), told)
 }

@@ -1,7 +1,7 @@
-use crate::fakes::{OneByteWriter, PieceReader};
 use crate::faults::{EngineFault, LineKind};
 use crate::port::Port;
 use crate::show::show_all;
+use crate::tests::{QUESTION, QUESTION_SHOWN};
 use std::alloc::{AllocError, Global};
 use std::process::Abort;
 use std::test::Fail;
@@ -22,14 +22,6 @@ fn expect(
     assert_eq!(rt; written.as_slice(), text.as_bytes(), "{capture}");
     Ok(())
 }
-
-const QUESTION: &str = "0 010908c801800002\n1 010809c0010000020001\n";
-
-const QUESTION_SHOWN: &str = "0 8>9 tag 0 to 1 som 1 eom 1 seq 0 len 4 whole
-  request 0 GetTID - ok
-1 9>8 tag 0 to 0 som 1 eom 1 seq 0 len 6 whole
-  response 0 GetTID 00 01
-";
 
 #[test]
 fn shows_requests_and_responses(rt: HostRuntime) -> Result<(), Fail> {
@@ -97,23 +89,5 @@ fn tells_a_refused_line(rt: HostRuntime) -> Result<(), Fail> {
     for (capture, want, text) in cases {
         expect(&rt, rt.alloc(), capture, want, text)?;
     }
-    Ok(())
-}
-
-#[test]
-fn pieces_change_nothing(rt: HostRuntime) -> Result<(), Fail> {
-    let alloc = rt.alloc();
-    let mut reader = Port::new(PieceReader {
-        bytes: QUESTION.as_bytes(),
-        piece: 1,
-    });
-    let mut writer = Port::new(OneByteWriter {
-        taken: Vec::new(alloc),
-        flushes: 0,
-    });
-    assert_eq!(rt; show_all(alloc, &mut reader, &mut writer), Ok(()));
-    let writer = writer.into_inner();
-    assert_eq!(rt; writer.taken.as_slice(), QUESTION_SHOWN.as_bytes());
-    assert_eq!(rt; writer.flushes, 1);
     Ok(())
 }

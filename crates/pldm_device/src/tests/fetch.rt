@@ -141,14 +141,14 @@ fn answers_that_a_fetch_does_not_take(rt: HostRuntime) -> Result<(), Fail> {
     Ok(())
 }
 
-/// By how many bytes more each run may grow than the one before.
-const STEP: usize = 64;
+/// How many bytes more there are after each refusal.
+const STEP: usize = 16;
 
-/// More runs than a fetch of the example's record wants steps.
-const MOST_RUNS: usize = 250;
+/// More refusals than a part of the example's record meets.
+const MOST_REFUSALS: usize = 250;
 
-/// Fetches with more and more memory to be had, until nothing is refused: after each refusal the
-/// fetch is as before, and with memory at hand it takes the same answer.
+/// A record in two parts is fetched with no memory at first, and with a little more after each refusal,
+/// which leaves the fetch as it was.
 #[test]
 fn each_growth_of_a_fetch_is_refused_in_turn(rt: HostRuntime) -> Result<(), Fail> {
     let alloc = rt.alloc();
@@ -156,36 +156,27 @@ fn each_growth_of_a_fetch_is_refused_in_turn(rt: HostRuntime) -> Result<(), Fail
     let (before, after) = record.split_at(239);
     let first = part(TransferFlag::Start, 239, before, None).ok_or(Memory)?;
     let last = part(TransferFlag::StartAndEnd, 0, after, None).ok_or(Memory)?;
-    let mut refused_first = 0u32;
-    let mut refused_last = 0u32;
-    let mut was_fetched = false;
-    for run in 0..MOST_RUNS {
-        let mut fetch = Fetch::new(alloc, 1);
-        let hoard = Hoard::take(alloc, run * STEP)?;
-        let one = fetch.take(&first);
-        let asks = fetch.next();
-        let two = fetch.take(&last);
-        drop(hoard);
-        if one == Err(FetchFault::Memory) {
-            assert_eq!(rt; asks, request(1, 0));
-            refused_first = refused_first.saturating_add(1);
-            continue;
+    let mut fetch = Fetch::new(alloc, 1);
+    let mut hoard = Hoard::take(alloc, 0)?;
+    for (asked, answer, state) in [
+        (request(1, 0), first, FetchState::More),
+        (request(0, 239), last, FetchState::Done(0)),
+    ] {
+        hoard.take_rest()?;
+        let mut refusals = 0u32;
+        for _ in 0..MOST_REFUSALS {
+            assert_eq!(rt; fetch.next(), asked);
+            let taken = fetch.take(&answer);
+            if taken != Err(FetchFault::Memory) {
+                assert_eq!(rt; taken, Ok(state));
+                break;
+            }
+            refusals = refusals.saturating_add(1);
+            hoard.give(STEP);
         }
-        assert_eq!(rt; one, Ok(FetchState::More));
-        assert_eq!(rt; asks, request(0, 239));
-        if two == Err(FetchFault::Memory) {
-            assert_eq!(rt; fetch.next(), request(0, 239));
-            assert_eq!(rt; fetch.take(&last), Ok(FetchState::Done(0)));
-            refused_last = refused_last.saturating_add(1);
-        } else {
-            assert_eq!(rt; two, Ok(FetchState::Done(0)));
-            was_fetched = true;
-        }
-        assert_eq!(rt; fetch.record(), Some(record.as_slice()));
-        if was_fetched {
-            break;
-        }
+        assert!(rt; refusals > 0, "{asked:?}");
     }
-    assert!(rt; was_fetched && refused_first > 0 && refused_last > 0);
+    drop(hoard);
+    assert_eq!(rt; fetch.record(), Some(record.as_slice()));
     Ok(())
 }

@@ -3,33 +3,42 @@ use crate::{Description, FileFault};
 use memory_hoard::Hoard;
 use std::test::Fail;
 
-/// By how many bytes more each run may grow than the one before.
-const STEP: usize = 256;
+/// How many bytes more there are after each refusal.
+const STEP: usize = 16;
 
-/// More runs than a read of the example wants steps.
-const MOST_RUNS: usize = 250;
+/// More refusals than a read of the example meets.
+const MOST_REFUSALS: usize = 20_000;
 
-/// Reads the example with more and more memory to be had, until nothing is refused: each refusal is
-/// told as `Memory` and nothing else, and the same read succeeds with memory at hand.
+/// Reads the example with no memory at first, and with a little more after each refusal, which is told as
+/// `Memory` and nothing else: what is read at last is the example.
 #[test]
 fn each_growth_of_a_read_is_refused_in_turn(rt: HostRuntime) -> Result<(), Fail> {
     let alloc = rt.alloc();
     let text = description(alloc)?;
+    let mut hoard = Hoard::take(alloc, 0)?;
     let mut refusals = 0u32;
-    let mut was_read = false;
-    for run in 0..MOST_RUNS {
-        let hoard = Hoard::take(alloc, run * STEP)?;
-        let fault = Description::read(alloc, text.as_bytes()).err();
-        drop(hoard);
-        let Some(fault) = fault else {
-            was_read = true;
-            break;
-        };
-        assert_eq!(rt; fault, FileFault::Memory, "with {} bytes", run * STEP);
+    for _ in 0..MOST_REFUSALS {
+        match Description::read(alloc, text.as_bytes()) {
+            Ok(read) => {
+                drop(hoard);
+                let device = read.device;
+                assert!(rt; refusals > 100, "{refusals} refusals");
+                assert_eq!(rt;
+                    (read.eid.get(), read.keep.get(), device.tid()),
+                    (9, 1000, 1)
+                );
+                assert_eq!(rt;
+                    (device.sensor(0), device.numeric(0)),
+                    (Some((1, 40)), Some((1, 10)))
+                );
+                assert_eq!(rt; device.state(0), Some((2, [1, 1].as_slice())));
+                assert_eq!(rt; device.record(0).map(|record| record.len()), Some(300));
+                return Ok(());
+            }
+            Err(fault) => assert_eq!(rt; fault, FileFault::Memory, "after {refusals}"),
+        }
         refusals = refusals.saturating_add(1);
-        assert!(rt; Description::read(alloc, text.as_bytes()).is_ok());
+        hoard.give(STEP);
     }
-    assert!(rt; was_read, "read at last");
-    assert!(rt; refusals > 8, "{refusals} refusals");
-    Ok(())
+    Err(Fail::from("never read"))
 }

@@ -1,0 +1,157 @@
+//! Each growth of a run is refused in turn: a call finds no memory at first, and is made again with a
+//! little more after each refusal.
+
+use super::*;
+
+/// How many bytes more there are after each refusal.
+const STEP: usize = 32;
+
+/// More refusals than one call meets.
+const MOST_REFUSALS: usize = 4_000;
+
+/// A requester and all memory but a little.
+#[derive(Drop)]
+struct Short {
+    requester: Requester,
+    hoard: Hoard,
+    refusals: u32,
+}
+
+impl Short {
+    fn new(alloc: Global) -> Result<Short, Fail> {
+        Ok(Short {
+            requester: requester(alloc)?,
+            hoard: Hoard::take(alloc, 0)?,
+            refusals: 0,
+        })
+    }
+
+    /// Counts a refusal, which has to leave the requester as it was, and gives a little memory back.
+    fn refuse(&mut self, rt: &impl Abort, count: u64, last: Moment) {
+        assert_eq!(rt;
+            (self.requester.count(), self.requester.last_moment()),
+            (count, last)
+        );
+        self.refusals = self.refusals.saturating_add(1);
+        self.hoard.give(STEP);
+    }
+
+    /// Opens a request.
+    fn open(
+        &mut self,
+        rt: &impl Abort,
+        milliseconds: u64,
+        command: &Command,
+    ) -> Result<Result<(u64, u8, u8), OpenFault>, Fail> {
+        self.hoard.take_rest()?;
+        for _ in 0..MOST_REFUSALS {
+            let (count, last) = (self.requester.count(), self.requester.last_moment());
+            let now = moment(rt, &self.requester, milliseconds)?;
+            match self.requester.open(now, command) {
+                Ok(opened) => return Ok(Ok((opened.number, opened.id, opened.tag.get()))),
+                Err(OpenFault::Memory) => self.refuse(rt, count, last),
+                Err(fault) => return Ok(Err(fault)),
+            }
+        }
+        Err(Fail::from("never opened"))
+    }
+
+    /// What the requester makes of a packet.
+    fn receive(&mut self, rt: &impl Abort, bytes: &[u8]) -> Result<Got, Fail> {
+        self.hoard.take_rest()?;
+        for _ in 0..MOST_REFUSALS {
+            let (count, last) = (self.requester.count(), self.requester.last_moment());
+            match receive(rt, &mut self.requester, last.get(), bytes)? {
+                Ok(got) => return Ok(got),
+                Err(Memory) => self.refuse(rt, count, last),
+            }
+        }
+        Err(Fail::from("never taken"))
+    }
+}
+
+#[test]
+fn each_growth_of_the_openings_is_refused_in_turn(rt: HostRuntime) -> Result<(), Fail> {
+    let mut short = Short::new(rt.alloc())?;
+    for number in 0..32u8 {
+        let opened = short.open(&rt, 0, &Command::GetTid)?;
+        assert_eq!(rt; opened, Ok((u64::from(number), number, number % 8)));
+        let got = short.receive(&rt, &answer(number % 8, number))?;
+        assert_eq!(rt; got, Got::Answered(u64::from(number)));
+    }
+    for (milliseconds, expected) in [(1999, Err(OpenFault::IdInUse)), (2000, Ok((32, 0, 0)))] {
+        let opened = short.open(&rt, milliseconds, &Command::GetTid)?;
+        assert_eq!(rt; opened, expected);
+    }
+    assert!(rt; short.refusals > 32, "{} refusals", short.refusals);
+    Ok(())
+}
+
+#[test]
+fn each_growth_of_nine_openings_is_refused_in_turn(rt: HostRuntime) -> Result<(), Fail> {
+    let mut short = Short::new(rt.alloc())?;
+    for number in 0..9u8 {
+        let opened = short.open(&rt, 0, &Command::GetTid)?;
+        let expected = if number < 8 {
+            Ok((u64::from(number), number, number))
+        } else {
+            Err(OpenFault::TagInUse)
+        };
+        assert_eq!(rt; opened, expected);
+    }
+    Ok(())
+}
+
+#[test]
+fn each_growth_before_an_answer_is_refused_in_turn(rt: HostRuntime) -> Result<(), Fail> {
+    let mut short = Short::new(rt.alloc())?;
+    assert_eq!(rt; short.open(&rt, 0, &Command::GetTid)?, Ok((0, 0, 0)));
+    for (bytes, expected) in [
+        (answer(1, 0), Got::Dropped(Reason::BadTag)),
+        (answer(0, 0x80), Got::Dropped(Reason::NotResponse)),
+        (answer(0, 1), Got::Dropped(Reason::NotMine)),
+        (answer(0, 0), Got::Answered(0)),
+        (answer(0, 0), Got::Dropped(Reason::BadTag)),
+    ] {
+        assert_eq!(rt; short.receive(&rt, &bytes)?, expected);
+    }
+    Ok(())
+}
+
+/// The first part of the example's record: 239 of its 300 bytes, of which only the first ten are not 0.
+const FRONT: &[u8] = b"\x01\x00\x02\x51\0\0\0\0\0\xef\0\0\0\0\xef\0\x01\0\0\0\x01\x01\0\0\x22\x01";
+
+/// An answer of four packets, some early, some twice.
+#[test]
+fn each_growth_of_an_answer_is_refused_in_turn(rt: HostRuntime) -> Result<(), Fail> {
+    let mut message = [0; 255];
+    message[..FRONT.len()].copy_from_slice(FRONT);
+    let record = Command::GetPdr {
+        record_handle: 0,
+        data_transfer_handle: 0,
+        transfer_operation_flag: 1,
+        request_count: 239,
+        record_change_number: 0,
+    };
+    let mut short = Short::new(rt.alloc())?;
+    assert_eq!(rt; short.open(&rt, 0, &record)?, Ok((0, 0, 0)));
+    for (piece, flags, expected) in [
+        (1, 0x10, Got::Dropped(Reason::UnexpectedMiddleOrEnd)),
+        (0, 0x80, Got::Partial),
+        (0, 0x80, Got::Partial),
+        (1, 0x10, Got::Partial),
+        (2, 0x20, Got::Partial),
+        (3, 0x70, Got::Answered(0)),
+        (3, 0x70, Got::Dropped(Reason::BadTag)),
+    ] {
+        let payload = message.chunks(64).nth(piece).ok_or("no piece")?;
+        let mut packet = [0; 68];
+        packet[..4].copy_from_slice(&[0x01, 0x08, 0x09, flags]);
+        packet[4..4 + payload.len()].copy_from_slice(payload);
+        let got = short.receive(&rt, &packet[..4 + payload.len()])?;
+        assert_eq!(rt; got, expected, "{piece}");
+    }
+    assert!(rt; short.refusals > 1, "{} refusals", short.refusals);
+    assert_eq!(rt; short.requester.status(0), Some(Status::Answered(&message)));
+    Ok(())
+}
