@@ -94,7 +94,9 @@ impl<T: LineTask> LineRun<T> {
         if self.kept.extend_from_slice(line).is_err() {
             return Err(EngineFault::Memory);
         }
-        let result = self.task.answer(alloc, number, &self.kept, &mut self.room, out);
+        let result = self
+            .task
+            .answer(alloc, number, &self.kept, &mut self.room, out);
         self.kept.clear();
         self.ended = number;
         result
@@ -161,7 +163,8 @@ impl<T: LineTask> Run for LineRun<T> {
                 EngineFault::TooLarge
             });
         }
-        self.task.answer(alloc, number, &self.kept, &mut self.room, out)
+        self.task
+            .answer(alloc, number, &self.kept, &mut self.room, out)
     }
 
     ghost none_where_cut = { λ run. refl };

@@ -107,7 +107,10 @@ impl LineTask for Observer {
             Err(CaptureFault::Memory) => return Err(EngineFault::Memory),
         };
         room.text.clear();
-        if self.show(alloc, moment, &room.packet, &mut room.text).is_err() {
+        if self
+            .show(alloc, moment, &room.packet, &mut room.text)
+            .is_err()
+        {
             return Err(EngineFault::Memory);
         }
         self.last = moment;
