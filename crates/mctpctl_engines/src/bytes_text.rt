@@ -1,6 +1,6 @@
 //! Text that is added to bytes.
 
-ghost use Rattle.std.specs.Fmt.{decimal, signed_decimal};
+ghost use Rattle.std.specs.Fmt.{decimal};
 ghost use Rattle.std.specs.Prelude.{◌≡◌, ◌++◌, OnOk};
 ghost use Rattle.hex.specs.Hex.{encode_lower};
 
@@ -20,16 +20,6 @@ pub fn push_number(out: &mut Vec<u8>, number: u64) -> Result<(), Memory>
     ensures { OnOk result (out.new.items ≡ out.old.items ++ decimal number) }
 {
     if write!(out, "{number}").is_err() {
-        return Err(Memory);
-    }
-    Ok(())
-}
-
-/// Adds a value in decimal, with `-` in front where it is below 0.
-pub fn push_value(out: &mut Vec<u8>, value: i64) -> Result<(), Memory>
-    ensures { OnOk result (out.new.items ≡ out.old.items ++ signed_decimal value) }
-{
-    if write!(out, "{value}").is_err() {
         return Err(Memory);
     }
     Ok(())
