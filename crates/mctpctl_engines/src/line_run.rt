@@ -24,7 +24,10 @@ pub struct LineRoom {
 
 impl LineRoom {
     /// Room that holds nothing.
-    pub fn new(alloc: Global) -> LineRoom {
+    pub fn new(alloc: Global) -> LineRoom
+        ensures packet { result.packet.items ≡ [] }
+        ensures text { result.text.items ≡ [] }
+    {
         LineRoom {
             packet: Vec::new(alloc),
             text: Vec::new(alloc),
