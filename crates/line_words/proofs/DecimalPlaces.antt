@@ -1,12 +1,10 @@
 -- Decimal digits, read one after the other.
-use Rattle.std.proofs.Common.{◌≡◌, ℕ, ◌+◌, ◌-◌, ◌*◌, ◌^◌, ◌<◌, ◌≤◌, true, List, ◌∷◌, length, drop, get_or, refl, sym, ◌∙◌, add-one, drop-cons, lit<, arith}
+use Rattle.std.proofs.Common.{◌≡◌, ℕ, ◌+◌, ◌-◌, ◌*◌, ◌^◌, ◌<◌, ◌≤◌, true, List, ◌∷◌, length, drop, get_or, refl, sym, ◌∙◌, ◌&&◌, add-one, drop-cons, lit<, arith}
 use Rattle.std.specs.List.{list_all}
 use Rattle.std.proofs.Math.Nat.{pow-suc, pow-le-pow_right}
-use Rattle.std.proofs.lemmas.List.Sums.{AllPass-from_list_all}
-use Rattle.std.proofs.lemmas.Bool.{and_parts}
 use Rattle.std.proofs.lemmas.Bool.Decides.{nat_tests}
 use Rattle.line_words.specs.declared.limits.TheConstants.{MAX_DIGITS}
-use Rattle.line_words.specs.Numbers.{decimal_value, is_digit, is_number}
+use Rattle.line_words.specs.Numbers.{decimal_value, is_digit}
 
 by_ten : (value digit place rest : ℕ) → value * (place * 10) + (digit * place + rest) ≡ (value * 10 + digit) * place + rest
 by_ten value digit place rest = omega arith
@@ -34,16 +32,12 @@ at_most_all value index below few =
     let most : 10 ^ index ≤ 10 ^ MAX_DIGITS = pow-le-pow_right (lit< tt) {i = index} {j = MAX_DIGITS} few in
     omega arith
 
--- what makes a word a number
-pub record NumberParts (word : List ℕ) : Type 0 where
-  pub few : length word ≤ MAX_DIGITS
-  pub digits : (k : ℕ) → k < length word → (48 ≤ get_or word k 0) × (get_or word k 0 ≤ 57)
-
-digit_bounds : (b : ℕ) → is_digit b ≡ true → (48 ≤ b) × (b ≤ 57)
+pub digit_bounds : (b : ℕ) → is_digit b ≡ true → (48 ≤ b) × (b ≤ 57)
 digit_bounds b is = (grind (arith, nat_tests), grind (arith, nat_tests))
 
-pub number_parts : (word : List ℕ) → is_number word ≡ true → NumberParts word
-number_parts word is = record {
-  few = grind (arith, nat_tests);
-  digits = λ k within. digit_bounds (get_or word k 0) (AllPass-from_list_all is_digit word (and_parts _ (list_all is_digit word) is).1 k 0 within);
-}
+-- whether all of the rest are digits, by the first of the rest
+pub all_digits : (word : List ℕ) (index : ℕ) → index < length word
+    → list_all is_digit (drop index word) ≡ (is_digit (get_or word index 0) && list_all is_digit (drop (index + 1) word))
+all_digits word index within =
+    let rest : drop index word ≡ get_or word index 0 ∷ drop (index + 1) word = rw (add-one, drop-cons word index 0) refl in
+    rw rest refl

@@ -1,8 +1,7 @@
 //! The numbers that words spell.
 
-ghost use Rattle.std.specs.Prelude.{◌≡◌, ◌≤◌, ◌<◌, ◌^◌, true, IfSome};
-ghost use Rattle.std.specs.List.{list_all};
-ghost use Rattle.line_words.specs.Numbers.{decimal_of, decimal_value, is_digit, is_number, number_of, value_of};
+ghost use Rattle.std.specs.Prelude.{◌≡◌, ◌≤◌, ◌<◌, ◌^◌, IfSome};
+ghost use Rattle.line_words.specs.Numbers.{decimal_of, number_of, value_of};
 
 use crate::MAX_DIGITS;
 
@@ -30,36 +29,15 @@ pub fn read_decimal(word: &[u8]) -> Option<u64>
     ensures value { result ≡ decimal_of word.now }
     ensures range { IfSome result (λ number. number < 10 ^ MAX_DIGITS) }
 {
-    if is_number(word) {
-        Some(decimal_value(word))
-    } else {
-        None
+    if word.is_empty() || word.len() > MAX_DIGITS {
+        return None;
     }
-}
-
-/// Whether a word is decimal digits alone: one or more, and at most `MAX_DIGITS`.
-fn is_number(word: &[u8]) -> bool
-    ensures { result ≡ is_number word.now }
-{
-    !word.is_empty() && word.len() <= MAX_DIGITS && is_digits(word)
-}
-
-/// Whether each byte is a decimal digit.
-fn is_digits(word: &[u8]) -> bool
-    ensures { result ≡ list_all is_digit word.now }
-{
-    word.iter().all(|b| b.is_ascii_digit())
-}
-
-/// The value of decimal digits.
-fn decimal_value(digits: &[u8]) -> u64
-    requires { is_number digits.now ≡ true }
-    ensures value { result ≡ decimal_value digits.now }
-    ensures range { result < 10 ^ MAX_DIGITS }
-{
     let mut value = 0;
-    for digit in digits {
+    for digit in word {
+        if !digit.is_ascii_digit() {
+            return None;
+        }
         value = value * 10 + u64::from(*digit - b'0');
     }
-    value
+    Some(value)
 }

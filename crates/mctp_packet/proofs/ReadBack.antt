@@ -1,11 +1,11 @@
 -- What a message was split into reads back, packet by packet.
-use Rattle.std.proofs.Common.{◌≡◌, ◌≢◌, ℕ, ◌+◌, ◌<◌, List, [], ◌∷◌, length, map, slice_get, Some, refl, sym, ap, ◌∙◌, arith, zero-add}
+use Rattle.std.proofs.Common.{◌≡◌, ℕ, ◌<◌, List, [], ◌∷◌, map, slice_get, Some, refl, sym, ap, ◌∙◌, arith, zero-add}
 use Rattle.std.specs.List.{range_with_len}
 use Rattle.std.proofs.lemmas.List.{length-map}
 use Rattle.std.proofs.lemmas.List.FromFn.{get_or-map-range_with_len, length-range_with_len}
 use Rattle.std.proofs.lemmas.Option.{slice_get_within, get_or_from_slice_get}
 use Rattle.mctp_packet.specs.Packets.{Packet, Spells, written}
-use Rattle.mctp_packet.specs.Laws.{IsRoute, SpelledIsRead, SpelledIsReadFor, SplitsToWritten, SplitsReadBack}
+use Rattle.mctp_packet.specs.Laws.{SpelledIsRead, SpelledIsReadFor, SplitsToWritten, SplitsReadBack}
 use Rattle.mctp_packet.specs.Pieces.{piece_count, packet_at, written_packets}
 use Rattle.mctp_packet.specs.declared.packet.Route.{Route}
 use Rattle.mctp_packet.proofs.Joined.{each_is_packet}

@@ -1,4 +1,4 @@
-ghost use Rattle.std.specs.Prelude.{◌≡◌, ◌<◌, ◌%◌, ◌↔◌, [], length, slice_get, option_map, IfOk, IsErrOf};
+ghost use Rattle.std.specs.Prelude.{◌≡◌, ◌<◌, ◌%◌, ◌↔◌, [], length, slice_get, option_map, IfOk, IfSome, IsErrOf, IsSome};
 ghost use Rattle.mctp_packet.specs.Packets.{written, HasPayloadSize};
 ghost use Rattle.mctp_packet.specs.Pieces.{piece, piece_count, packet_at, written_packets};
 ghost use Rattle.mctp_packet.specs.SplitFaults.{number_of_split_fault};
@@ -92,17 +92,37 @@ pub fn split(route: &Route, message: &[u8]) -> Result<Packets, SplitFault>
     Ok(Packets { packets })
 }
 
+/// Packet `index` of a message on this route, counted from 0 and not copied; `None` past the last.
+/// [`split`] gives the bytes of all of them.
+pub fn packet_at<'a>(route: &Route, message: &'a [u8], index: usize) -> Option<PacketRef<'a>>
+    ensures some { IsSome result ↔ (index < piece_count message.now) }
+    ensures value { IfSome result (λ packet. packet ≡ packet_at route.now message.now index) }
+{
+    if index < message.len().div_ceil(UNIT) {
+        Some(packet_of(*route, message, index))
+    } else {
+        None
+    }
+}
+
+/// Packet `i` of a message.
+fn packet_of<'a>(route: Route, message: &'a [u8], i: usize) -> PacketRef<'a>
+    requires { i < piece_count message.now }
+    ensures { result ≡ packet_at route message.now i }
+{
+    let is_last = i + 1 == message.len().div_ceil(UNIT);
+    PacketRef::new(route, i == 0, is_last, number_at(i), piece_at(message, i)).unwrap()
+}
+
 /// The bytes of packet `i` of a message.
 fn bytes_at(route: Route, message: &[u8], i: usize) -> ArrayVec<u8, MOST_PACKET_BYTES>
     requires { i < piece_count message.now }
     ensures { result.items ≡ written (packet_at route message.now i) }
 {
-    let payload = piece_at(message, i);
-    let is_last = i + 1 == message.len().div_ceil(UNIT);
-    let packet = PacketRef::new(route, i == 0, is_last, number_at(i), payload).unwrap();
+    let packet = packet_of(route, message, i);
     let mut bytes = ArrayVec::new();
     bytes.try_extend_from_slice(&header_of(&packet)).unwrap();
-    bytes.try_extend_from_slice(payload).unwrap();
+    bytes.try_extend_from_slice(packet.payload()).unwrap();
     bytes
 }
 

@@ -17,4 +17,5 @@ pub mod SameHeld
 pub mod ScheduleGlue
 pub mod ShowRows
 pub mod ShownLookingBack
+pub mod WrittenPlaces
 pub mod Numbers

@@ -1,10 +1,10 @@
 -- The run over a schedule, where the input has divided, and where it has not ended.
-use Rattle.std.proofs.Common.{◌≡◌, ◌≢◌, ◌⊎◌, inl, inr, ℕ, ◌++◌, Bool, true, false, nat_lt, if◌then◌else◌, List, [], length, Option, Some, None, option_map, Result, Ok, Err, refl, sym, ap, ◌∙◌, append_assoc, append-nil}
+use Rattle.std.proofs.Common.{◌≡◌, ℕ, ◌++◌, Bool, true, if◌then◌else◌, List, [], Option, Some, None, option_map, Result, Ok, Err, refl, sym, ap, ◌∙◌, append_assoc, append-nil}
 use Rattle.std.specs.Io.KnownBytes.{Appends, Keeps}
 use Rattle.line_words.specs.TextLines.{lines_of}
 use Rattle.mctpctl_engines.specs.AnswerText.{divided_run, run_of}
 use Rattle.mctpctl_engines.specs.DescribedPieces.{begun}
-use Rattle.mctpctl_engines.specs.LineRuns.{Written, stops_at}
+use Rattle.mctpctl_engines.specs.LineRuns.{stops_at}
 use Rattle.mctpctl_engines.specs.Pieces.{GoesOn, WroteOfFront, WroteOfRead}
 use Rattle.mctpctl_engines.specs.RunText.{scheduled_run, schedule_written, spelled_by, text_of, unless_refused}
 use Rattle.mctpctl_engines.specs.SchedulePieces.{cut_writes_nothing, schedule_gives}

@@ -52,12 +52,11 @@ impl LineTask for Responder<SimDevice> {
             Err(CaptureFault::Memory) => return Err(EngineFault::Memory),
         };
         let now = Moment::new(moment).unwrap();
-        let received = self.receive(now, &room.packet);
-        let Ok(outcome) = &received else {
+        let Ok(taken) = self.receive_message(now, &room.packet, &mut room.reply) else {
             return Err(EngineFault::Memory);
         };
         room.text.clear();
-        if push_outcome(&mut room.text, outcome).is_err() {
+        if push_outcome(&mut room.text, &taken, &room.reply).is_err() {
             return Err(EngineFault::Memory);
         }
         if out.extend_from_slice(&room.text).is_err() {

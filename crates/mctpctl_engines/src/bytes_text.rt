@@ -4,8 +4,8 @@ ghost use Rattle.std.specs.Fmt.{decimal};
 ghost use Rattle.std.specs.Prelude.{◌≡◌, ◌++◌, OnOk};
 ghost use Rattle.hex.specs.Hex.{encode_lower};
 
+use itoa::Buffer;
 use mctp_packet::Memory;
-use std::io::Write;
 
 /// Adds text.
 pub fn push_text(out: &mut Vec<u8>, text: &str) -> Result<(), Memory>
@@ -19,10 +19,8 @@ pub fn push_text(out: &mut Vec<u8>, text: &str) -> Result<(), Memory>
 pub fn push_number(out: &mut Vec<u8>, number: u64) -> Result<(), Memory>
     ensures { OnOk result (out.new.items ≡ out.old.items ++ decimal number) }
 {
-    if write!(out, "{number}").is_err() {
-        return Err(Memory);
-    }
-    Ok(())
+    let mut digits = Buffer::new();
+    push_text(out, digits.format(number))
 }
 
 /// Adds bytes in lower-case hex.

@@ -10,6 +10,7 @@ use crate::faults::{EngineFault, LineKind};
 use crate::limits::{MAX_CAPTURE_LINE, MAX_INPUT};
 use crate::stream::Run;
 use line_words::split_line;
+use mctp_packet::Body;
 use pldm_device::FileFault;
 use std::alloc::Global;
 
@@ -18,6 +19,8 @@ use std::alloc::Global;
 pub struct LineRoom {
     /// For the bytes of its packet.
     pub packet: Vec<u8>,
+    /// For the message that answers it.
+    pub reply: Body,
     /// For its text.
     pub text: Vec<u8>,
 }
@@ -26,10 +29,12 @@ impl LineRoom {
     /// Room that holds nothing.
     pub fn new(alloc: Global) -> LineRoom
         ensures packet { result.packet.items ≡ [] }
+        ensures reply { result.reply.items ≡ [] }
         ensures text { result.text.items ≡ [] }
     {
         LineRoom {
             packet: Vec::new(alloc),
+            reply: Body::new(),
             text: Vec::new(alloc),
         }
     }

@@ -1,6 +1,6 @@
 //! The lines that show what came at a moment.
 
-ghost use Rattle.std.specs.Prelude.{◌≡◌, ◌++◌, ◌∷◌, [], OnOk};
+ghost use Rattle.std.specs.Prelude.{◌≡◌, ◌++◌, ◌∷◌, [], OnOk, codes};
 ghost use Rattle.std.specs.Fmt.{decimal};
 ghost use Rattle.mctp_packet.specs.Bits.{bit};
 ghost use Rattle.mctpctl_engines.specs.ShownLines.{completed_text, drop_text, fed_text, packet_line, place_text, route_text, spaced_line};
@@ -9,7 +9,6 @@ use crate::bytes_text::{push_number, push_text};
 use crate::message_line::push_message_line;
 use mctp_assembly::Fed;
 use mctp_packet::{Memory, PacketRef, Reason, Route};
-use std::io::Write;
 
 /// Adds the line of a packet that came at this moment and gave this.
 pub fn push_packet_line(
@@ -41,35 +40,48 @@ fn push_origin(out: &mut Vec<u8>, moment: u64, route: Route) -> Result<(), Memor
 fn push_route(out: &mut Vec<u8>, route: Route) -> Result<(), Memory>
     ensures { OnOk result (out.new.items ≡ out.old.items ++ route_text route) }
 {
-    let source = route.source.get();
-    let destination = route.destination.get();
-    let tag = route.tag.get();
-    let owner = bit(route.owner);
-    if write!(out, "{source}>{destination} tag {tag} to {owner}").is_err() {
-        return Err(Memory);
-    }
-    Ok(())
+    let (source, destination) = (route.source.get(), route.destination.get());
+    push_number(out, source.into())?;
+    push_text(out, ">")?;
+    push_number(out, destination.into())?;
+    push_text(out, " tag ")?;
+    push_number(out, route.tag.get().into())?;
+    push_text(out, " to ")?;
+    push_flag(out, route.owner)
 }
 
 /// Adds a packet's place in its message, and how much of it it carries.
 fn push_place(out: &mut Vec<u8>, packet: &PacketRef<'_>) -> Result<(), Memory>
     ensures { OnOk result (out.new.items ≡ out.old.items ++ place_text packet.now) }
 {
-    let start = bit(packet.start());
-    let end = bit(packet.end());
-    let seq = packet.seq().get();
+    push_ends(out, packet.start(), packet.end())?;
+    push_text(out, " seq ")?;
+    push_number(out, packet.seq().get().into())?;
+    push_text(out, " len ")?;
     let length = packet.payload().len();
-    if write!(out, "som {start} eom {end} seq {seq} len {length}").is_err() {
-        return Err(Memory);
-    }
-    Ok(())
+    push_number(out, length as u64)
 }
 
-/// A flag as 0 or 1.
-fn bit(flag: bool) -> u8
-    ensures { result ≡ bit flag }
+/// Adds whether a packet starts its message, and whether it ends it.
+fn push_ends(out: &mut Vec<u8>, start: bool, end: bool) -> Result<(), Memory>
+    ensures { OnOk result (out.new.items
+        ≡ out.old.items ++ (codes "som " ++ (decimal (bit start) ++ (codes " eom " ++ decimal (bit end))))) }
 {
-    u8::from(flag)
+    push_text(out, "som ")?;
+    push_flag(out, start)?;
+    push_text(out, " eom ")?;
+    push_flag(out, end)
+}
+
+/// Adds a flag as 0 or 1.
+fn push_flag(out: &mut Vec<u8>, flag: bool) -> Result<(), Memory>
+    ensures { OnOk result (out.new.items ≡ out.old.items ++ decimal (bit flag)) }
+{
+    if flag {
+        push_text(out, "1")
+    } else {
+        push_text(out, "0")
+    }
 }
 
 /// Adds what a packet gave: `whole`, `partial` or `drop NAME`.

@@ -1,12 +1,12 @@
 -- Where a fetch is done, the parts joined are the record that was asked for.
-use Rattle.std.proofs.Common.{◌≡◌, ◌⊎◌, inl, inr, ℕ, ◌+◌, ◌≤◌, Bool, true, false, not, ◌||◌, ◌&&◌, ◌==◌, nat_lt, if◌then◌else◌, List, [], ◌∷◌, ◌++◌, length, Option, None, Some, is_some, Result, Ok, Err, IfSome, refl, sym, subst, ap, ◌∙◌, append-nil, arith, eqb-true, ltb-false}
+use Rattle.std.proofs.Common.{◌≡◌, ◌⊎◌, inl, inr, ℕ, ◌+◌, ◌≤◌, Bool, true, false, not, ◌||◌, ◌&&◌, ◌==◌, nat_lt, if◌then◌else◌, List, [], ◌∷◌, ◌++◌, length, Option, None, Some, is_some, Result, Ok, Err, IfSome, refl, sym, subst, ap, ◌∙◌, append-nil, eqb-true, ltb-false}
 use Rattle.std.proofs.lemmas.List.{length-append}
 use Rattle.pldm_wire.specs.Crc.{crc}
 use Rattle.pldm_wire.specs.RecordParts.{Part}
 use Rattle.pldm_wire.specs.TransferFlags.{is_end}
 use Rattle.pldm_wire.specs.declared.answer.Answer.{Answer}
 use Rattle.pldm_wire.specs.declared.answer.Answer.TheVariants.{Refused, GetPdr}
-use Rattle.pldm_device.specs.Fetches.{Fetching, taken_while_going, taken_at, taken, part_taken, part_after, going_after, after_taking, has_room_for, is_going, is_last, is_other_crc, record_at_stage, record_fault, fetched_record, unless_fault}
+use Rattle.pldm_device.specs.Fetches.{Fetching, taken_while_going, taken_at, part_taken, part_after, going_after, has_room_for, is_going, is_last, is_other_crc, record_fault, fetched_record, unless_fault}
 use Rattle.pldm_device.specs.FetchLaws.{fetched, bytes_of, bytes_of_answers, IsWhole, IsAsked, EndsRecord, DoneIsTheRecord}
 use Rattle.pldm_device.specs.Records.{handle_of, data_length_of}
 use Rattle.pldm_device.specs.declared.fetch.FetchState.{FetchState}

@@ -3,15 +3,14 @@ use Rattle.std.proofs.Common.{◌≡◌, ℕ, List, [], ◌∷◌, ◌++◌, if�
 use Rattle.pldm_wire.specs.RecordParts.{Part}
 use Rattle.pldm_wire.specs.declared.answer.Answer.{Answer}
 use Rattle.pldm_wire.specs.declared.answer.Answer.TheVariants.{Refused, GetPdr}
-use Rattle.pldm_device.specs.Fetches.{Fetching, taken, taken_at, taken_while_going, part_taken, part_after, after_taking, going_after, is_going, next_request, request_for, fetched_record, record_at_stage}
+use Rattle.pldm_device.specs.Fetches.{Fetching, taken, part_taken, part_after, after_taking, next_request, request_for, fetched_record}
 use Rattle.pldm_device.specs.FetchLaws.{bytes_of_answers}
-use Rattle.pldm_device.specs.FetchHistories.{last_handle, judged, ending, ending_of_part, ended, earlier, owed, owed_after, record_after, done_with, IsLeft, IsLeftBy, TakingLooksBack, AskingLooksBack}
+use Rattle.pldm_device.specs.FetchHistories.{last_handle, judged, ending, ending_of_part, ended, earlier, owed_after, record_after, done_with, IsLeft, TakingLooksBack, AskingLooksBack}
 use Rattle.pldm_device.specs.declared.fetch.FetchState.{FetchState}
 use Rattle.pldm_device.specs.declared.fetch.FetchState.TheVariants.{More, Done}
 use Rattle.pldm_device.specs.declared.fetch.Stage.{Stage}
 use Rattle.pldm_device.specs.declared.fetch.Stage.TheVariants.{Going, Finished, Failed}
 use Rattle.pldm_device.specs.declared.fetch_fault.FetchFault.{FetchFault}
-use Rattle.pldm_device.specs.declared.fetch_fault.FetchFault.TheVariants as faults
 
 -- a fetch that goes on after these answers
 abbrev going : ℕ → List Answer → Fetching

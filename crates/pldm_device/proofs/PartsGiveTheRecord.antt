@@ -1,6 +1,6 @@
 -- Where a fetch is given the parts of the record in turn, it is done at the last.
-use Rattle.std.proofs.Common.{◌≡◌, ◌⊎◌, inl, inr, ℕ, ◌+◌, ◌<◌, ◌≤◌, Bool, true, false, not, ◌||◌, ◌&&◌, ◌==◌, nat_lt, nat_le, min, if◌then◌else◌, List, [], ◌∷◌, ◌++◌, length, take, drop, slice_index, Option, None, Some, Ok, Err, refl, sym, subst, ap, ◌∙◌, arith}
-use Rattle.std.proofs.lemmas.List.{take_min, take_all, get_or-take, length-take, length-drop, length-append}
+use Rattle.std.proofs.Common.{◌≡◌, ◌⊎◌, inl, inr, ℕ, ◌+◌, ◌<◌, ◌≤◌, Bool, true, false, not, ◌||◌, ◌&&◌, ◌==◌, nat_lt, nat_le, min, if◌then◌else◌, List, [], ◌∷◌, ◌++◌, length, take, drop, slice_index, Option, None, Some, Ok, refl, sym, subst, ap, ◌∙◌, arith}
+use Rattle.std.proofs.lemmas.List.{take_min, take_all, get_or-take, length-take, length-drop}
 use Rattle.std.proofs.Math.Seq.{take-add}
 use Rattle.std.proofs.lemmas.Bool.{eq-eqb, leb-true, ltb-false}
 use Rattle.std.proofs.lemmas.Bool.Decides.{nat_tests}
@@ -8,14 +8,13 @@ use Rattle.pldm_wire.specs.Crc.{crc}
 use Rattle.pldm_wire.specs.TransferFlags.{is_end}
 use Rattle.pldm_wire.specs.declared.command.Command.TheVariants as commands
 use Rattle.pldm_wire.specs.declared.answer.Answer.{Answer}
-use Rattle.pldm_wire.specs.declared.answer.Answer.TheVariants.{GetPdr}
 use Rattle.pldm_wire.specs.declared.limits.TheConstants.{MOST_PART_BYTES, GET_FIRST_PART, GET_NEXT_PART}
-use Rattle.pldm_device.specs.Fetches.{Fetching, taken, part_taken, part_after, after_taking, has_room_for, is_going, is_last, is_other_crc, record_fault, fetched_record, next_request, unless_fault}
+use Rattle.pldm_device.specs.Fetches.{Fetching, taken, part_taken, part_after, after_taking, has_room_for, is_last, is_other_crc, record_fault, fetched_record, next_request, unless_fault}
 use Rattle.pldm_device.proofs.DoneIsTheRecord.{going_recorded}
-use Rattle.pldm_device.specs.FetchLaws.{fetched, IsWhole, IsAsked, part_answer, request_at, HasPart, ArePartsUpto, PartsGiveTheRecord}
+use Rattle.pldm_device.specs.FetchLaws.{fetched, IsWhole, IsAsked, part_answer, request_at, ArePartsUpto, PartsGiveTheRecord}
 use Rattle.pldm_device.specs.Records.{part_bytes, offset_after, is_last_part, flag_of_part, part_flag, part_of, checksum_with, next_data_transfer_handle, handle_of, change_number_of, data_length_of}
 use Rattle.pldm_device.specs.declared.fetch.FetchState.TheVariants.{More, Done}
-use Rattle.pldm_device.specs.declared.fetch.Stage.TheVariants.{Going, Finished}
+use Rattle.pldm_device.specs.declared.fetch.Stage.TheVariants.{Going}
 use Rattle.pldm_device.specs.declared.fetch_fault.FetchFault.TheVariants as faults
 use Rattle.pldm_device.specs.declared.limits.TheConstants.{CHANGE_NUMBER_END, FIRST_RECORD, MOST_RECORD_BYTES, RECORD_HEADER}
 

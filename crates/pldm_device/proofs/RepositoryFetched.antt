@@ -1,14 +1,12 @@
 -- Followed over a repository, a fetch ends with the record that was asked for.
-use Rattle.std.proofs.Common.{◌≡◌, ◌⊎◌, inl, inr, ℕ, zero, suc, ◌+◌, ◌<◌, ◌≤◌, Bool, true, false, ◌||◌, ◌==◌, nat_le, nat_lt, if◌then◌else◌, List, [], ◌∷◌, length, slice_get, Option, None, Some, Ok, refl, sym, ap, subst, ◌∙◌, arith, eqb-true}
-use Rattle.std.proofs.lemmas.List.{length-take, length-drop}
+use Rattle.std.proofs.Common.{◌≡◌, ◌⊎◌, inl, inr, ℕ, zero, suc, ◌+◌, ◌<◌, ◌≤◌, Bool, true, false, ◌==◌, nat_le, nat_lt, if◌then◌else◌, List, ◌∷◌, length, slice_get, None, Some, refl, sym, ap, subst, ◌∙◌, arith, eqb-true}
 use Rattle.std.proofs.lemmas.Bool.Decides.{nat_tests}
 use Rattle.pldm_wire.specs.declared.answer.Answer.{Answer}
-use Rattle.pldm_wire.specs.declared.answer.Answer.TheVariants.{GetPdr}
 use Rattle.pldm_wire.specs.declared.limits.TheConstants.{MOST_PART_BYTES, GET_FIRST_PART, GET_NEXT_PART}
-use Rattle.pldm_device.specs.Fetches.{Fetching, next_request, fetched_record, record_at_stage, request_for}
-use Rattle.pldm_device.specs.FetchLaws.{fetched, IsWhole, IsAsked, part_answer, request_at, ArePartsUpto, with_answer, answered_rounds, RepositoryIsFetched}
+use Rattle.pldm_device.specs.Fetches.{Fetching, next_request, fetched_record, record_at_stage}
+use Rattle.pldm_device.specs.FetchLaws.{fetched, IsWhole, IsAsked, part_answer, ArePartsUpto, with_answer, answered_rounds, RepositoryIsFetched}
 use Rattle.pldm_device.specs.Records.{handle_at, is_last_part, offset_after, part_bytes, position_asked}
-use Rattle.pldm_device.specs.RecordAnswers.{offset_asked, part_answered, record_answer, record_answer_at}
+use Rattle.pldm_device.specs.RecordAnswers.{offset_asked, record_answer}
 use Rattle.pldm_device.specs.declared.fetch.Stage.{Stage}
 use Rattle.pldm_device.specs.declared.fetch.Stage.TheVariants.{Going, Finished, Failed}
 use Rattle.pldm_device.proofs.PartsGiveTheRecord.{parts_give_the_record, some_bytes}

@@ -1,5 +1,5 @@
 -- What a device answers to each command, and the state that follows, computed from the definitions.
-use Rattle.std.proofs.Common.{◌≡◌, ℕ, List, [], ◌∷◌, ◌++◌, Some, None, pos, replicate, refl}
+use Rattle.std.proofs.Common.{◌≡◌, ℕ, List, [], ◌∷◌, pos, replicate, refl}
 use Rattle.pldm_wire.specs.EffecterNumbers.{two_numbers}
 use Rattle.pldm_wire.specs.Numbers.{SizedNumber, sized}
 use Rattle.pldm_wire.specs.declared.answer.Answer.TheVariants as answers

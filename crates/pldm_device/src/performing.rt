@@ -15,6 +15,7 @@ use std::alloc::Global;
 
 impl SimDevice {
     // Performs the command and gives its answer.
+    #[inline(never)]
     fn answer_to(&mut self, command: &Command) -> Answer
         ensures answer { result ≡ answer self.old command.now }
         ensures after { self.new ≡ after self.old command.now }

@@ -1,9 +1,6 @@
 -- How a responder keeps its answers: for each source a row with a slot for each instance ID.
 use Rattle.std.specs.Prelude.{ℕ, ◌<◌, ◌≤◌, List, length, slice_index_or, Option, None, IfSome, option_and_then, refl}
-use Rattle.std.specs.BTreeMap.{is_at}
 use Rattle.std.specs.Coded.{Coded, code_by, coded×, coded_ℕ, coded_list, coded_option}
-use Rattle.std.specs.Map.{lookup}
-use Rattle.std.specs.Ordering.{nat_cmp}
 use Rattle.mctp_packet.specs.Ids.{IsEid}
 use Rattle.mctp_packet.specs.declared.TheConstants.{MOST_MESSAGE_BYTES}
 use Rattle.pldm_wire.specs.declared.assigned.TheConstants.{INSTANCE_IDS}
@@ -14,9 +11,9 @@ use Rattle.pldm_responder.specs.Held.{Entry}
 abbrev pub Row : Type 0
 Row = List (Option Entry)
 
--- each source that has a row, and the row
+-- for each endpoint ID from 0 on its row, if it has one
 abbrev pub Rows : Type 0
-Rows = List (ℕ × Row)
+Rows = List (Option Row)
 
 -- they are stored as their parts
 abbrev pub coded_entry : Coded Entry
@@ -31,14 +28,14 @@ abbrev pub coded_row : Coded Row
 coded_row = coded_list (coded_option coded_entry)
 
 abbrev pub coded_rows : Coded Rows
-coded_rows = coded_list (coded× coded_ℕ coded_row)
+coded_rows = coded_list (coded_option coded_row)
 
 -- the answer in the slot of an instance ID
 abbrev pub in_slot : Row → ℕ → Option Entry
 in_slot row id = slice_index_or row id None
 
 abbrev pub row_of : Rows → ℕ → Option Row
-row_of rows source = lookup (is_at (nat_cmp source)) rows
+row_of rows source = slice_index_or rows source None
 
 -- the answer that is kept for a source and an instance ID
 abbrev pub kept_in : Rows → ℕ → ℕ → Option Entry

@@ -10,15 +10,14 @@ use crate::kept_answer::KeptAnswer;
 use crate::row::Row;
 use mctp_packet::{Eid, Memory, Moment};
 use std::alloc::Global;
-use std::collections::BTreeMap;
 use std::marker::Model;
 
 /// The answers that are kept, by the source of the request and its instance ID.
 #[derive(Debug, Drop)]
 pub(crate) struct KeptAnswers {
     alloc: Global,
-    /// A row for each source of which a fresh message came.
-    rows: BTreeMap<Eid, Row>,
+    /// By endpoint ID, a row for each source of which a fresh message came.
+    rows: Vec<Option<Row>>,
     /// How many slots hold an answer.
     count: usize,
 }
@@ -30,9 +29,9 @@ impl Model for KeptAnswers {
 
     ghost coded = { coded_rows };
 
-    ghost view = { λ k. k.rows.entries };
+    ghost view = { λ k. k.rows.items };
 
-    ghost invariant = { λ k. AreKept k.rows.entries k.count };
+    ghost invariant = { λ k. AreKept k.rows.items k.count };
 }
 
 impl KeptAnswers {
@@ -42,7 +41,7 @@ impl KeptAnswers {
     {
         KeptAnswers {
             alloc,
-            rows: BTreeMap::new(alloc),
+            rows: Vec::new(alloc),
             count: 0,
         }
     }
@@ -52,10 +51,14 @@ impl KeptAnswers {
         requires { id < INSTANCE_IDS }
         ensures { option_copied result ≡ kept_in self.now source id }
     {
-        match self.rows.get(&source) {
-            Some(row) => row.get(id),
-            None => None,
-        }
+        self.row(source)?.get(id)
+    }
+
+    /// The row of a source.
+    fn row(&self, source: Eid) -> Option<&Row>
+        ensures { option_copied result ≡ row_of self.now source }
+    {
+        self.rows.get(usize::from(source.get()))?.as_ref()
     }
 
     /// Takes the room for the answers to a source, where it has none yet.
@@ -64,10 +67,12 @@ impl KeptAnswers {
         ensures ok { OnOk result (IsSome (row_of self.new source)) }
         ensures err { OnErr result (row_of self.old source ≡ None) }
     {
-        if self.rows.contains_key(&source) {
+        if self.row(source).is_some() {
             return Ok(());
         }
-        self.rows.insert(source, Row::new(self.alloc)?)?;
+        let row = Row::new(self.alloc)?;
+        make_place(&mut self.rows, source)?;
+        self.rows[usize::from(source.get())] = Some(row);
         Ok(())
     }
 
@@ -83,7 +88,7 @@ impl KeptAnswers {
             else kept_in self.old other i) }
     {
         let _range = source.get();
-        let is_first = match self.rows.get_mut(&source) {
+        let is_first = match &mut self.rows[usize::from(source.get())] {
             Some(row) => row.put(id, moment, bytes, answer),
             None => unreachable!(),
         };
@@ -99,4 +104,16 @@ impl KeptAnswers {
     {
         self.count
     }
+}
+
+/// Makes a place for the row of a source, where there is none yet.
+fn make_place(rows: &mut Vec<Option<Row>>, source: Eid) -> Result<(), Memory>
+    ensures same { (other : ℕ) → row_of rows.new.items other ≡ row_of rows.old.items other }
+    ensures ok { OnOk result (source < length rows.new.items) }
+{
+    let places = usize::from(source.get()) + 1;
+    for _ in rows.len()..places {
+        rows.push(None)?;
+    }
+    Ok(())
 }

@@ -13,6 +13,7 @@ mod taken;
 
 pub use outcome::Outcome;
 pub use responder::{MOST_KEPT, MOST_PENDING, Responder};
+pub use taken::Taken;
 
 #[cfg(test)]
 mod tests;

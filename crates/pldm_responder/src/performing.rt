@@ -5,7 +5,7 @@ ghost use Rattle.pldm_responder.specs.Performing.{changes_at, commands_at, next_
 
 use mctp_packet::{Body, MOST_MESSAGE_BYTES, Memory};
 use pldm_device::Platform;
-use pldm_wire::{Answer, Code, RequestRef, SUCCESS, read_command, write_answer};
+use pldm_wire::{Answer, Code, RequestRef, SUCCESS, put_answer, read_command};
 use std::alloc::Global;
 
 /// Performs a request: its command where it has one, else it is refused. The message that answers it
@@ -36,7 +36,8 @@ pub(crate) fn perform<P: Platform>(
     };
     match &platform.perform(alloc, &command) {
         Ok(answer) => {
-            *reply = write_answer(request.id(), request.kind(), answer);
+            put_answer(reply, request.id(), request.kind(), answer);
+            let _few = reply.len();
             Ok(command.sets() && succeeded(answer))
         }
         Err(memory) => Err(*memory),
@@ -50,7 +51,7 @@ pub(crate) fn refuse(request: &RequestRef<'_>, code: Code, reply: &mut Body)
     ensures some { 0 < length reply.new.items }
     ensures few { length reply.new.items ≤ MOST_MESSAGE_BYTES }
 {
-    *reply = write_answer(request.id(), request.kind(), &Answer::Refused(code));
+    put_answer(reply, request.id(), request.kind(), &Answer::Refused(code));
 }
 
 /// Whether the answer has the completion code SUCCESS.

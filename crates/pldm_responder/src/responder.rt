@@ -184,30 +184,57 @@ impl<P: Platform> Responder<P> {
         ensures err { OnErr result (IsHeld (held_of self.new) (held_of self.old)) }
         ensures none_performed { OnErr result (P.performed self.old.platform [] self.new.platform) }
     {
+        let mut reply = Body::new();
+        match self.receive_message(now, bytes, &mut reply)? {
+            Taken::Dropped(reason) => Ok(Outcome::Dropped(reason)),
+            Taken::Partial => Ok(Outcome::Partial),
+            Taken::Answered {
+                fresh,
+                changed,
+                route,
+            } => match split(&route, &reply) {
+                Ok(packets) => Ok(Outcome::Answered {
+                    fresh,
+                    changed,
+                    packets,
+                }),
+                Err(_) => unreachable!(),
+            },
+        }
+    }
+
+    /// Takes the bytes of a packet as [`Responder::receive`] does. The message that answers it is put
+    /// into `reply` whole, with no packet made of it.
+    ///
+    /// # Errors
+    ///
+    /// `Memory` as from [`Responder::receive`]; what `reply` then holds is not specified.
+    pub fn receive_message(
+        &mut self,
+        now: Moment,
+        bytes: &[u8],
+        reply: &mut Body,
+    ) -> Result<Taken, Memory>
+        requires { (held_of self.old).last ≤ now }
+        ensures outcome { IfOk result (λ taken. answering reply.new.items taken ≡ received_outcome (rules_of P.answer P.after P.sensed) (held_of self.old) now bytes.now) }
+        ensures some { IfOk result (HasReply reply.new.items) }
+        ensures fits { OnOk result (ReceivedFits (rules_of P.answer P.after P.sensed) (held_of self.old) now bytes.now) }
+        ensures held { OnOk result (IsHeld (held_of self.new) (received_held (rules_of P.answer P.after P.sensed) (held_of self.old) now bytes.now)) }
+        ensures performed { OnOk result (P.performed self.old.platform (received_commands (held_of self.old) now bytes.now) self.new.platform) }
+        ensures memory { OnErr result (WantsMemory (held_of self.old) P.STEADY now bytes.now) }
+        ensures err { OnErr result (IsHeld (held_of self.new) (held_of self.old)) }
+        ensures none_performed { OnErr result (P.performed self.old.platform [] self.new.platform) }
+    {
         let packet = match read_for(self.own, bytes) {
             Ok(packet) => packet,
             Err(reason) => {
                 self.last = now;
-                return Ok(Outcome::Dropped(reason));
+                return Ok(Taken::Dropped(reason));
             }
         };
-        let mut reply = Body::new();
-        let taken = self.take(now, &packet, &mut reply)?;
+        let taken = self.take(now, &packet, reply)?;
         self.last = now;
-        match taken {
-            Taken::Dropped(reason) => Ok(Outcome::Dropped(reason)),
-            Taken::Partial => Ok(Outcome::Partial),
-            Taken::Answered { fresh, changed } => {
-                match split(&way_back(self.own, packet.route()), &reply) {
-                    Ok(packets) => Ok(Outcome::Answered {
-                        fresh,
-                        changed,
-                        packets,
-                    }),
-                    Err(_) => unreachable!(),
-                }
-            }
-        }
+        Ok(taken)
     }
 
     /// Takes a packet that is addressed to the endpoint by another one. The message that answers it is
@@ -220,7 +247,7 @@ impl<P: Platform> Responder<P> {
     ) -> Result<Taken, Memory>
         requires { packet.now.route.source ≢ self.old.own }
         ensures outcome { IfOk result (λ taken.
-            answering self.old.own (message_of packet.now.route.source packet.now.route.tag now []) reply.new.items taken
+            answering reply.new.items taken
             ≡ arrival_outcome (rules_of P.answer P.after P.sensed) (held_of self.old)
             (passed_arrival (answer self.old.open_messages) now (passed is_expected (Ok packet.now)))) }
         ensures some { IfOk result (HasReply reply.new.items) }
@@ -266,7 +293,7 @@ impl<P: Platform> Responder<P> {
         requires owner { packet.now.route.owner ≡ true }
         requires other { packet.now.route.source ≢ self.old.own }
         ensures outcome { IfOk result (λ taken.
-            answering self.old.own (message_of packet.now.route.source packet.now.route.tag now []) reply.new.items taken
+            answering reply.new.items taken
             ≡ arrival_outcome (rules_of P.answer P.after P.sensed) (held_of self.old)
             (passed_arrival (answer self.old.open_messages) now (passed is_expected (Ok packet.now)))) }
         ensures some { IfOk result (HasReply reply.new.items) }
@@ -309,7 +336,7 @@ impl<P: Platform> Responder<P> {
         requires other { source ≢ self.old.own }
         requires few { length message.now ≤ MOST_MESSAGE_BYTES }
         ensures outcome { IfOk result (λ taken.
-            answering self.old.own (message_of source tag now []) reply.new.items taken
+            answering reply.new.items taken
             ≡ arrival_outcome (rules_of P.answer P.after P.sensed) (held_of self.old)
             (headed (message_of source tag now message.now) (request_of message.now))) }
         ensures some { IfOk result (HasReply reply.new.items) }
@@ -324,13 +351,14 @@ impl<P: Platform> Responder<P> {
             Ok(request) => request,
             Err(reason) => return Ok(Taken::Dropped(reason)),
         };
+        let route = way_back(self.own, source, tag);
         if now.get() < self.serves_from {
             refuse(&request, Code::ERROR_NOT_READY, reply);
-            return Ok(not_performed());
+            return Ok(not_performed(route));
         }
         let id = request.id();
         if self.copied(now, source, tag, id, message, reply) {
-            return Ok(not_performed());
+            return Ok(not_performed(route));
         }
         self.kept.make_room(source)?;
         let changed = perform(self.alloc, &mut self.platform, &request, reply)?;
@@ -338,6 +366,7 @@ impl<P: Platform> Responder<P> {
         Ok(Taken::Answered {
             fresh: true,
             changed,
+            route,
         })
     }
 
@@ -403,24 +432,25 @@ fn key_of(packet: &PacketRef<'_>) -> Key
     }
 }
 
-/// What becomes of a message that is answered and not performed.
-fn not_performed() -> Taken
-    ensures { result ≡ Answered false false }
+/// What becomes of a message that is answered on this route and not performed.
+fn not_performed(route: Route) -> Taken
+    ensures { result ≡ Answered false false route }
 {
     Taken::Answered {
         fresh: false,
         changed: false,
+        route,
     }
 }
 
-/// The way back to where packets with this route came from.
-fn way_back(own: Eid, route: Route) -> Route
-    ensures { result ≡ record { destination = route.source; source = own; owner = false; tag = route.tag } }
+/// The way back to the source of packets with this tag.
+fn way_back(own: Eid, source: Eid, tag: Tag) -> Route
+    ensures { result ≡ record { destination = source; source = own; owner = false; tag = tag } }
 {
     Route {
-        destination: route.source,
+        destination: source,
         source: own,
         owner: false,
-        tag: route.tag,
+        tag,
     }
 }

@@ -1,17 +1,20 @@
-use mctp_packet::Reason;
+use mctp_packet::{Reason, Route};
 
-/// What becomes of a packet, but for the packets of its answer.
-#[derive(Drop)]
-pub(crate) enum Taken {
-    /// It is dropped.
+/// What becomes of bytes that were received, where the message that answers them stands beside it.
+#[derive(Debug, Drop)]
+pub enum Taken {
+    /// They are dropped, for one of the reasons 1 to 17.
     Dropped(Reason),
-    /// It begins a message of several packets, or goes on with one.
+    /// They begin a message of several packets, or go on with one.
     Partial,
-    /// It completes a request, which is answered.
+    /// They complete a request, which is answered.
     Answered {
-        /// Whether the request was performed now.
+        /// Whether the request was performed now. Else it is a copy and has its first answer, or the
+        /// responder was busy.
         fresh: bool,
         /// Whether it was performed now, is of a command that sets, and was not refused.
         changed: bool,
+        /// The route of the answer's packets.
+        route: Route,
     },
 }

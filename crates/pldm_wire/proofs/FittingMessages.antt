@@ -1,14 +1,12 @@
 -- A command's message fits one packet, and an answer's fits a message.
-use Rattle.std.proofs.Common.{◌≡◌, ℕ, ◌+◌, ◌*◌, ◌<◌, ◌≤◌, List, [], ◌∷◌, ◌++◌, length, Option, Some, None, length-append, arith}
+use Rattle.std.proofs.Common.{◌≡◌, ℕ, ◌+◌, ◌≤◌, length, Option, Some, None, length-append, arith}
 use Rattle.std.specs.Int.{w64}
 use Rattle.byteorder.specs.Endian.{little_bytes, low_bytes}
 use Rattle.byteorder.specs.Numbers.{length-bytes_low_first}
-use Rattle.mctp_packet.specs.declared.TheConstants.{MOST_MESSAGE_BYTES, UNIT}
+use Rattle.mctp_packet.specs.declared.TheConstants.{MOST_MESSAGE_BYTES}
 use Rattle.pldm_wire.specs.Sizes.{width}
 use Rattle.pldm_wire.specs.Numbers.{SizedNumber, number_bytes}
-use Rattle.pldm_wire.specs.States.{set_bytes, sensor_bytes, effecter_bytes}
 use Rattle.pldm_wire.specs.RecordParts.{checksum_bytes}
-use Rattle.pldm_wire.specs.TransferFlags.{flag_number}
 use Rattle.pldm_wire.specs.Commands.{IsCommand, command_data}
 use Rattle.pldm_wire.specs.Answers.{IsAnswer, answer_data}
 use Rattle.pldm_wire.specs.MessageSizes.{CommandFitsOnePacket, AnswerFitsMessage}

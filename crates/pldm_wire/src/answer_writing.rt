@@ -6,7 +6,7 @@ ghost use Rattle.pldm_wire.specs.Messages.{IsResponse};
 
 use crate::base::push_version_answer;
 use crate::effecters::{push_effecter_states_answer, push_values_answer};
-use crate::header::headed;
+use crate::header::put_head;
 use crate::pushes::push_array;
 use crate::repository::{push_part_answer, push_repository_counts, push_repository_times};
 use crate::sensors::{push_reading_answer, push_sensor_states_answer};
@@ -25,10 +25,23 @@ pub fn write_answer(id: u8, kind: Kind, answer: &Answer) -> Body
     ensures fields { AnswerFields answer.now kind (code_of answer.now) (answer_data answer.now) }
     ensures range { IsAnswer answer.now }
 {
-    let mut body = headed(id, kind);
-    body.push(code_in(answer));
-    push_answer_data(&mut body, answer);
+    let mut body = Body::new();
+    put_answer(&mut body, id, kind, answer);
     body
+}
+
+/// Puts what [`write_answer`] gives in the place of what `body` holds.
+pub fn put_answer(body: &mut Body, id: u8, kind: Kind, answer: &Answer)
+    requires id { id < INSTANCE_IDS }
+    requires variant { IsAnswerTo kind answer.now }
+    ensures spelled { body.new.items ≡ answer_message id kind answer.now }
+    ensures response { IsResponse body.new.items id kind (code_of answer.now) (answer_data answer.now) }
+    ensures fields { AnswerFields answer.now kind (code_of answer.now) (answer_data answer.now) }
+    ensures range { IsAnswer answer.now }
+{
+    put_head(body, id, kind);
+    body.push(code_in(answer));
+    push_answer_data(body, answer);
 }
 
 /// The completion code that the answer is sent with.

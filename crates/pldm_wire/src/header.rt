@@ -63,9 +63,18 @@ pub(crate) fn headed(flags: u8, kind: Kind) -> Body
     ensures type_range { kind.pldm_type < 64 }
 {
     let mut body = Body::new();
+    put_head(&mut body, flags, kind);
+    body
+}
+
+/// Puts a message's first four bytes in the place of what `body` holds.
+pub(crate) fn put_head(body: &mut Body, flags: u8, kind: Kind)
+    ensures items { body.new.items ≡ MESSAGE_TYPE ∷ flags ∷ kind.pldm_type ∷ kind.command ∷ [] }
+    ensures type_range { kind.pldm_type < 64 }
+{
+    body.clear();
     body.push(MESSAGE_TYPE);
     body.push(flags);
     body.push(kind.pldm_type);
     body.push(kind.command);
-    body
 }

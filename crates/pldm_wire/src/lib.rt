@@ -35,7 +35,7 @@ mod version_data;
 pub use answer::Answer;
 pub use answer_fault::AnswerFault;
 pub use answer_reading::read_answer;
-pub use answer_writing::write_answer;
+pub use answer_writing::{put_answer, write_answer};
 pub use assigned::{
     BASE, ERROR, ERROR_INVALID_DATA, ERROR_INVALID_LENGTH, ERROR_INVALID_PLDM_TYPE,
     ERROR_NOT_READY, ERROR_UNSUPPORTED_PLDM_CMD, GET_NUMERIC_EFFECTER_VALUE, GET_PDR,

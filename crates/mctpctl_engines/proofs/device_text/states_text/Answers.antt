@@ -1,5 +1,5 @@
 -- Each place has an ID that is not below it, and the place past the last one ends the text.
-use Rattle.std.proofs.Common.{◌≡◌, ◌<◌, ◌++◌, option_map, string_bytes, sym, ap, ◌∙◌, arith, rules}
+use Rattle.std.proofs.Common.{◌<◌, ◌++◌, option_map, string_bytes, sym, ap, ◌∙◌, arith, rules}
 use Rattle.std.specs.List.{slice_get}
 use Rattle.std.proofs.lemmas.Option.{slice_get_within}
 use Rattle.mctpctl_engines.specs.ReportTexts.{states_line}

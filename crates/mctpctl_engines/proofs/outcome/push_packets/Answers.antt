@@ -1,15 +1,28 @@
 -- A packet further, its line stands in the text.
-use Rattle.std.proofs.Common.{◌≡◌, Some, option_map, sym, ap, ◌∙◌}
+use Rattle.std.proofs.Common.{◌≡◌, ◌++◌, Some, sym, ap, ◌∙◌, arith}
+use Rattle.std.proofs.lemmas.List.{take_all}
 use Rattle.std.specs.List.{slice_get}
-use Rattle.mctpctl_engines.specs.OutcomeTexts.{packet_text}
+use Rattle.mctp_packet.specs.Packets.{written}
+use Rattle.mctp_packet.specs.Pieces.{written_packets}
+use Rattle.mctpctl_engines.specs.OutcomeTexts.{packet_text, packets_text}
 use Rattle.mctpctl_engines.proofs.PlacesTold.{added_further}
+use Rattle.mctpctl_engines.proofs.WrittenPlaces.{as_many, packet_stands}
 use Rattle.mctpctl_engines.proofs.outcome.push_packets.Goals as goal
 
 pub loop-i-preserved : goal.loop-i-preserved
 loop-i-preserved c =
-    let found : slice_get c.args.packets.now c.loop-i.i ≡ Some c.in-Some.packet.now =
-    sym c.get.ensures ∙ ap (option_map (λ packet. packet.now)) c.in-Some.is in
+    let packets = written_packets c.args.route.now c.args.message.now in
+    let found : slice_get packets c.loop-i.i ≡ Some (written c.in-Some.packet) =
+    packet_stands c.args.route.now c.args.message.now c.loop-i.i (omega (arith, c.loop-i-test.true, c.loop-i.invariant.end, as_many c.args.route.now c.args.message.now))
+    ∙ ap (λ packet. Some (written packet)) (sym c.in-Some.ensures.value) in
     record {
-      added = added_further packet_text c.args.packets.now c.loop-i.i c.in-Some.packet.now c.args.out.now.items c.loop-i.out.items _ c.loop-i.invariant.added c.in_ok-push_packet.ensures found;
+      added = added_further packet_text packets c.loop-i.i (written c.in-Some.packet) c.args.out.now.items c.loop-i.out.items _ c.loop-i.invariant.added c.in_ok-push_packet.ensures found;
       end = c.loop-i.invariant.end;
     }
+
+pub returns : goal.returns
+returns c =
+    let packets = written_packets c.args.route.now c.args.message.now in
+    c.loop-i.invariant.added
+    ∙ ap (λ taken. c.args.out.now.items ++ packets_text taken)
+    (take_all c.loop-i.i packets (omega (arith, c.loop-i-test.false, c.loop-i.invariant.end, as_many c.args.route.now c.args.message.now)))

@@ -1,5 +1,5 @@
 -- A step further, its line stands in the text.
-use Rattle.std.proofs.Common.{◌≡◌, ◌<◌, ◌++◌, length, sym, ap, ◌∙◌, append-nil, arith}
+use Rattle.std.proofs.Common.{◌++◌, sym, ap, ◌∙◌, append-nil, arith}
 use Rattle.mctpctl_engines.proofs.ItemTexts.{entries_done, entries_step}
 use Rattle.mctpctl_engines.proofs.report_text.push_entries.Goals as goal
 

@@ -1,5 +1,5 @@
 -- A request further, its line stands in the text.
-use Rattle.std.proofs.Common.{◌≡◌, ◌++◌, ◌∙◌, refl}
+use Rattle.std.proofs.Common.{◌∙◌, refl}
 use Rattle.mctpctl_engines.proofs.ItemTexts.{requests_step}
 use Rattle.mctpctl_engines.proofs.report_text.push_requests.Goals as goal
 

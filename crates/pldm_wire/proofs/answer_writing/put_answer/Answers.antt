@@ -1,6 +1,6 @@
 -- The written code and data have the answer's fields in them.
 use Rattle.pldm_wire.proofs.WrittenAnswers.{written}
-use Rattle.pldm_wire.proofs.answer_writing.write_answer.Goals as goal
+use Rattle.pldm_wire.proofs.answer_writing.put_answer.Goals as goal
 
 pub returns-clause-fields : goal.returns-clause-fields
 returns-clause-fields c =
