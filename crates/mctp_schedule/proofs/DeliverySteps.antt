@@ -23,7 +23,8 @@ use Rattle.pldm_responder.specs.declared.outcome.Outcome.TheVariants.{Answered}
 use Rattle.mctp_schedule.specs.Askers.{Side, packet_bytes}
 use Rattle.mctp_schedule.specs.Entries.{delivery_entry, entries}
 use Rattle.mctp_schedule.specs.FirstArrivals.{fresh_of, order}
-use Rattle.mctp_schedule.specs.Journals.{Carried, answers_at, fresh_numbers, packets_in, packets_of_entry, packets_of_outcome}
+use Rattle.mctp_schedule.specs.Deliveries.{packets_of_outcome}
+use Rattle.mctp_schedule.specs.Journals.{Carried, answers_at, fresh_numbers, packets_in, packets_of_entry}
 use Rattle.mctp_schedule.specs.Logs.{Asked, asked_at, message_at, told, told_of}
 use Rattle.mctp_schedule.specs.OncePerformed.{FitsPackets}
 use Rattle.mctp_schedule.specs.Requests.{Request}

@@ -52,3 +52,4 @@ pub mod ExampleDevice
 pub mod PremiseTests
 pub mod WorkedRuns
 pub mod ExampleRun
+pub mod WrittenPlaces

@@ -5,6 +5,7 @@ use Rattle.std.specs.Coded.{Coded, code_by, coded×, coded_ℕ, coded_list, code
 use Rattle.pldm_requester.specs.Courses as courses
 use Rattle.pldm_responder.specs.declared.outcome.Outcome.{Outcome}
 use Rattle.pldm_responder.specs.declared.outcome.Outcome.TheVariants as outcomes
+use Rattle.mctp_schedule.specs.Deliveries.{packets_of_outcome}
 use Rattle.mctp_schedule.specs.Requests.{Request, with_standing}
 use Rattle.mctp_schedule.specs.declared.askers.Answered.{Answered}
 use Rattle.mctp_schedule.specs.declared.entry.Entry.{Entry}
@@ -29,12 +30,6 @@ coded_carried =
 abbrev pub answers_at : ℕ → Bool → Carried → Carried
 answers_at place true carried = record { packet = carried.packet; reply = carried.reply; busy = Some place }
 answers_at place false carried = record { packet = carried.packet; reply = Some place; busy = carried.busy }
-
--- the packets of an answer
-abbrev pub packets_of_outcome : Outcome → Option (List (List ℕ))
-packets_of_outcome (outcomes.Dropped reason) = None
-packets_of_outcome outcomes.Partial = None
-packets_of_outcome (outcomes.Answered fresh changed packets) = Some packets
 
 abbrev pub packets_of_entry : Entry → Option (List (List ℕ))
 packets_of_entry (Delivered busy outcome) = packets_of_outcome outcome

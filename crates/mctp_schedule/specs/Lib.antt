@@ -1,7 +1,9 @@
 pub mod Askers
 pub mod CommandSpelling
 pub mod CommandWords
+pub mod Deliveries
 pub mod DeviceHalf
+pub mod DueNumbers
 pub mod Entries
 pub mod FirstArrivals
 pub mod HandedPackets

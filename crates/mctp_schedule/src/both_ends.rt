@@ -17,7 +17,7 @@ use crate::laws::{
 };
 use crate::places::{Places, begin_requesters};
 use crate::{Action, Entry, OpenedRequest, RunFault, Schedule, Step};
-use mctp_packet::{Eid, Keep, Memory, Moment, TAGS};
+use mctp_packet::{Body, Eid, Keep, Memory, Moment, TAGS};
 use pldm_device::Platform;
 use pldm_responder::Responder;
 use pldm_wire::Command;
@@ -87,6 +87,7 @@ pub fn run<P: Platform>(
         responder: Responder::new(alloc, eid, keep, device),
         places: begin_requesters(alloc, eid, keep, schedule.requesters())?,
         journal: Journal::new(alloc),
+        reply: Body::new(),
     };
     for step in schedule.steps() {
         let Ok(()) = ends.take(step) else {
@@ -122,6 +123,8 @@ struct Ends<P: Platform> {
     responder: Responder<P>,
     places: Places,
     journal: Journal,
+    /// Where the responder puts the message that answers a packet.
+    reply: Body,
 }
 
 impl<P: Platform> Ends<P> {
@@ -196,8 +199,11 @@ impl<P: Platform> Ends<P> {
         let in_time = now.get() < opening.get() + u64::from(self.keep.get());
         let busy = self.responder.busy(now);
         let packet = self.journal.traffic[number as usize].packet();
-        let outcome = self.responder.receive(now, packet)?;
-        self.journal.deliver(number, in_time, busy, outcome)?;
+        let taken = self
+            .responder
+            .receive_message(now, packet, &mut self.reply)?;
+        self.journal
+            .deliver(number, in_time, busy, taken, &self.reply)?;
         Ok(())
     }
 
@@ -219,7 +225,7 @@ impl<P: Platform> Ends<P> {
         let (in_time, taken) = match &mut self.places[usize::from(request.requester().get())] {
             Some(asker) => {
                 let in_time = asker.count().saturating_sub(u64::from(TAGS)) <= own;
-                (in_time, asker.receive(self.alloc, now, bytes)?)
+                (in_time, asker.receive(self.alloc, now, &bytes)?)
             }
             None => unreachable!(),
         };

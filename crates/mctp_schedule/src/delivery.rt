@@ -1,42 +1,81 @@
 //! What became of a delivered packet.
 
-ghost use Rattle.std.specs.Prelude.{◌≡◌, IfOk};
+ghost use Rattle.std.specs.Prelude.{◌≡◌, IfOk, option_map};
+ghost use Rattle.mctp_packet.specs.Packets.{written};
+ghost use Rattle.pldm_responder.specs.Answering.{answering};
+ghost use Rattle.mctp_schedule.specs.Deliveries.{ComesTo, packet_of_outcome};
 
-use mctp_packet::Memory;
-use pldm_responder::Outcome;
+use arrayvec::ArrayVec;
+use mctp_packet::{MOST_PACKET_BYTES, Memory, PacketRef, packet_at, write};
+use pldm_responder::Taken;
 use std::alloc::Global;
 use std::marker::Model;
 
-/// What became of the packet of a request. It stands apart from the entry that tells it, so that the
-/// entries of other steps need no room for the packets of an answer.
+/// What became of the packet of a request. An answer is kept as one message, of which packets are made
+/// where they are asked for. It stands apart from the entry that tells it, so that the entries of other
+/// steps need no room for it.
 #[derive(Debug, Drop)]
 pub struct Delivery {
-    outcome: Box<Outcome>,
+    kept: Box<Kept>,
+}
+
+/// What is kept of a delivery.
+#[derive(Debug, Drop)]
+struct Kept {
+    taken: Taken,
+    reply: Vec<u8>,
 }
 
 impl Model for Delivery {
+    ghost use Rattle.pldm_responder.specs.Answering.{answering};
     ghost use Rattle.pldm_responder.specs.declared.outcome.Outcome.{Outcome};
 
     ghost Value = { Outcome };
 
-    ghost view = { λ d. d.outcome.value };
+    ghost view = { λ d. answering d.kept.value.reply.items d.kept.value.taken };
 }
 
 impl Delivery {
-    /// The delivery of which this became.
-    pub(crate) fn new(alloc: Global, outcome: Outcome) -> Result<Delivery, Memory>
-        ensures { IfOk result (λ delivery. delivery ≡ outcome) }
+    /// The delivery of which this became, where `reply` is the message that answers it.
+    pub(crate) fn new(alloc: Global, taken: Taken, reply: &[u8]) -> Result<Delivery, Memory>
+        ensures { IfOk result (λ delivery. delivery ≡ answering reply.now taken) }
     {
-        let Ok(outcome) = Box::new(alloc, outcome) else {
-            return Err(Memory);
+        let reply = match &taken {
+            Taken::Answered { .. } => Vec::from_slice(alloc, reply)?,
+            _ => Vec::new(alloc),
         };
-        Ok(Delivery { outcome })
+        let kept = Box::new(alloc, Kept { taken, reply })?;
+        Ok(Delivery { kept })
     }
 
-    /// What became of it.
-    pub fn outcome(&self) -> &Outcome
-        ensures { result.now ≡ self.now }
+    /// What became of it, and whether it was performed, but for the answer.
+    pub fn taken(&self) -> &Taken
+        ensures { ComesTo result.now self.now }
     {
-        &self.outcome
+        &self.kept.taken
     }
+
+    /// The bytes of packet `index` of the answer, counted from 0; `None` past the last, and where it was
+    /// not answered.
+    pub fn packet(&self, index: usize) -> Option<ArrayVec<u8, MOST_PACKET_BYTES>>
+        ensures { option_map (λ bytes. bytes.items) result ≡ packet_of_outcome self.now index }
+    {
+        let Kept { taken, reply } = &*self.kept;
+        let Taken::Answered { route, .. } = taken else {
+            return None;
+        };
+        let packet = packet_at(route, reply, index)?;
+        Some(bytes_of(&packet))
+    }
+}
+
+/// The bytes of a packet.
+fn bytes_of(packet: &PacketRef<'_>) -> ArrayVec<u8, MOST_PACKET_BYTES>
+    ensures { result.items ≡ written packet.now }
+{
+    let mut room = [0; MOST_PACKET_BYTES];
+    let count = write(packet, &mut room);
+    let mut bytes = ArrayVec::new();
+    bytes.try_extend_from_slice(&room[..count]).unwrap();
+    bytes
 }

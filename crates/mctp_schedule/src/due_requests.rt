@@ -7,19 +7,21 @@ use pldm_requester::Due;
 use std::alloc::Global;
 use std::marker::Model;
 
-/// The requests that a tick found due. They stand apart from the entry that tells them, so that the
-/// entries of other steps need no room for their numbers.
+/// The requests that a tick found due, by their numbers, which count the opened requests of all
+/// requesters. Most ticks find none, and are told without memory.
 #[derive(Debug, Drop)]
 pub struct DueRequests {
-    due: Box<Due>,
+    due: Option<Box<Due>>,
 }
 
 impl Model for DueRequests {
+    ghost use Rattle.std.specs.Prelude.{option_map};
+    ghost use Rattle.mctp_schedule.specs.DueNumbers.{due_in};
     ghost use Rattle.pldm_requester.specs.declared.due.Due.{Due};
 
     ghost Value = { Due };
 
-    ghost view = { λ d. d.due.value };
+    ghost view = { λ d. due_in (option_map (λ due. due.value) d.due) };
 }
 
 impl DueRequests {
@@ -27,16 +29,30 @@ impl DueRequests {
     pub(crate) fn new(alloc: Global, due: Due) -> Result<DueRequests, Memory>
         ensures { IfOk result (λ requests. requests ≡ due) }
     {
-        let Ok(due) = Box::new(alloc, due) else {
-            return Err(Memory);
-        };
+        if due.again.is_empty() && due.given_up.is_empty() {
+            return Ok(DueRequests { due: None });
+        }
+        let due = Some(Box::new(alloc, due)?);
         Ok(DueRequests { due })
     }
 
-    /// Their numbers, which count the opened requests of all requesters.
-    pub fn numbers(&self) -> &Due
-        ensures { result.now ≡ self.now }
+    /// Those whose packets are sent again.
+    pub fn again(&self) -> &[u64]
+        ensures { result.now ≡ self.now.again.items }
     {
-        &self.due
+        match &self.due {
+            Some(due) => &due.again,
+            None => &[],
+        }
+    }
+
+    /// Those that are given up.
+    pub fn given_up(&self) -> &[u64]
+        ensures { result.now ≡ self.now.given_up.items }
+    {
+        match &self.due {
+            Some(due) => &due.given_up,
+            None => &[],
+        }
     }
 }

@@ -2,14 +2,16 @@
 
 ghost use Rattle.std.specs.Prelude.{◌≡◌, ◌<◌, ◌++◌, ◌∷◌, [], ◌&&◌, ◌==◌, true, ℕ, None, OnOk, IfSome, length, option_map, slice_get, if◌then◌else◌};
 ghost use Rattle.std.specs.List.{list_any};
-ghost use Rattle.mctp_schedule.specs.Journals.{answered_as, answers_at, fresh_numbers, packet_at, packets_in, packets_of_outcome, place_of, stands_after};
+ghost use Rattle.pldm_responder.specs.Answering.{answering};
+ghost use Rattle.mctp_schedule.specs.Journals.{answered_as, answers_at, fresh_numbers, packet_at, place_of, stands_after};
 ghost use Rattle.mctp_schedule.specs.Requests.{begun};
 
 use crate::askers::{Answered, Sent};
 use crate::{Delivery, DueRequests, Entry, OpenedRequest};
-use mctp_packet::{Eid, Memory, Moment, Packets};
+use arrayvec::ArrayVec;
+use mctp_packet::{Eid, MOST_PACKET_BYTES, Memory, Moment};
 use pldm_requester::{Due, Got};
-use pldm_responder::Outcome;
+use pldm_responder::Taken;
 use std::alloc::Global;
 use std::marker::Model;
 
@@ -101,12 +103,20 @@ impl Journal {
         }
     }
 
-    /// A packet of the latest answer to a request, a busy one or not.
-    pub(crate) fn answer_packet(&self, number: u64, packet: u8, busy: bool) -> Option<&[u8]>
-        ensures { option_map (λ bytes. bytes.now) result ≡ packet_at self.now.entries.items packet busy (slice_get self.now.traffic.items number) }
+    /// The bytes of a packet of the latest answer to a request, a busy one or not.
+    pub(crate) fn answer_packet(
+        &self,
+        number: u64,
+        packet: u8,
+        busy: bool,
+    ) -> Option<ArrayVec<u8, MOST_PACKET_BYTES>>
+        ensures { option_map (λ bytes. bytes.items) result ≡ packet_at self.now.entries.items packet busy (slice_get self.now.traffic.items number) }
     {
         let traffic = self.traffic.get(number as usize)?;
-        packets_in(&self.entries, traffic.place(busy))?.get(usize::from(packet))
+        match self.entries.get(traffic.place(busy)?)? {
+            Entry::Delivered { delivery, .. } => delivery.packet(usize::from(packet)),
+            _ => None,
+        }
     }
 
     /// Writes down what came of a step that told nothing of a request.
@@ -177,23 +187,24 @@ impl Journal {
         number: u64,
         in_time: bool,
         busy: bool,
-        outcome: Outcome,
+        taken: Taken,
+        reply: &[u8],
     ) -> Result<(), Memory>
         requires { number < length self.old.traffic.items }
-        ensures entries { OnOk result (self.new.entries.items ≡ self.old.entries.items ++ Entry.Delivered busy outcome ∷ []) }
+        ensures entries { OnOk result (self.new.entries.items ≡ self.old.entries.items ++ Entry.Delivered busy (answering reply.now taken) ∷ []) }
         ensures requests { OnOk result (self.new.requests.items ≡ self.old.requests.items) }
         ensures all { OnOk result (length self.new.traffic.items ≡ length self.old.traffic.items) }
         ensures traffic { OnOk result ((k : ℕ) → slice_get self.new.traffic.items k ≡ option_map (λ t. if k == number then answers_at (length self.old.entries.items) busy t else t) (slice_get self.old.traffic.items k)) }
-        ensures order { OnOk result (self.new.order.items ≡ self.old.order.items ++ fresh_numbers number outcome) }
+        ensures order { OnOk result (self.new.order.items ≡ self.old.order.items ++ fresh_numbers number (answering reply.now taken)) }
         ensures timely { OnOk result (self.new.timely ≡ (in_time && self.old.timely)) }
     {
         let place = self.entries.len();
         self.traffic[number as usize].answer_at(place, busy);
-        if let Outcome::Answered { fresh: true, .. } = &outcome {
+        if let Taken::Answered { fresh: true, .. } = &taken {
             self.order.push(number)?;
         }
         self.timely = in_time && self.timely;
-        let delivery = Delivery::new(self.alloc, outcome)?;
+        let delivery = Delivery::new(self.alloc, taken, reply)?;
         self.enter(Entry::Delivered { busy, delivery })
     }
 
@@ -217,25 +228,5 @@ impl Journal {
         }
         self.timely = in_time && self.timely;
         self.enter(Entry::Received(got))
-    }
-}
-
-/// The packets of the answer that an entry tells.
-fn packets_in(entries: &[Entry], place: Option<usize>) -> Option<&Packets>
-    ensures { option_map (λ packets. packets.now) result ≡ packets_in entries.now place }
-{
-    match entries.get(place?)? {
-        Entry::Delivered { delivery, .. } => packets_of(delivery.outcome()),
-        _ => None,
-    }
-}
-
-/// The packets of an answer.
-fn packets_of(outcome: &Outcome) -> Option<&Packets>
-    ensures { option_map (λ packets. packets.now) result ≡ packets_of_outcome outcome.now }
-{
-    match outcome {
-        Outcome::Answered { packets, .. } => Some(packets),
-        _ => None,
     }
 }

@@ -10,6 +10,7 @@ pub mod LookingBack
 pub mod ObservedEntries
 pub mod PieceRuns
 pub mod PlacesTold
+pub mod PlainWords
 pub mod RunsOverLines
 pub mod RunsToEnd
 pub mod SameCaptures
@@ -17,5 +18,5 @@ pub mod SameHeld
 pub mod ScheduleGlue
 pub mod ShowRows
 pub mod ShownLookingBack
-pub mod WrittenPlaces
+pub mod TextFronts
 pub mod Numbers

@@ -55,14 +55,10 @@ impl LineTask for Responder<SimDevice> {
         let Ok(taken) = self.receive_message(now, &room.packet, &mut room.reply) else {
             return Err(EngineFault::Memory);
         };
-        room.text.clear();
-        if push_outcome(&mut room.text, &taken, &room.reply).is_err() {
-            return Err(EngineFault::Memory);
+        match push_outcome(out, &taken, &room.reply) {
+            Ok(()) => Ok(()),
+            Err(_) => Err(EngineFault::Memory),
         }
-        if out.extend_from_slice(&room.text).is_err() {
-            return Err(EngineFault::Memory);
-        }
-        Ok(())
     }
 
     ghost refuses_long = { held_refuses };

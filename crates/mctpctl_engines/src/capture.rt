@@ -1,6 +1,6 @@
 //! One line of a capture: `MS`, or `MS HEX`.
 
-ghost use Rattle.std.specs.Prelude.{◌≡◌, ◌≤◌, ℕ, MatchResult, Ok, Err, IfOk, IfErr, IfSome, OnOk};
+ghost use Rattle.std.specs.Prelude.{◌≡◌, ◌≤◌, ℕ, MatchResult, drop, Ok, Err, IfOk, IfErr, IfSome, OnOk, true};
 ghost use Rattle.line_words.specs.Lines.{words_of};
 ghost use Rattle.mctpctl_engines.specs.CaptureLine.{capture_of, packet_in, packet_at, packet_word, timed_packet, moment_of, TellsFault};
 ghost use Rattle.hex.specs.Hex.{decode_of};
@@ -68,10 +68,47 @@ fn read_packet(
     ensures err { IfErr result (λ fault. TellsFault (timed_packet (packet_word (words_of rest.now)) (moment_of moment.now last)) fault) }
     ensures moment { IfOk result (λ read. IfSome (packet_in read packet.new.items) (λ timed. (last ≤ timed.moment) × (timed.moment ≤ LAST_MOMENT))) }
 {
+    if !is_plain(rest, packet) {
+        return read_words(moment, rest, last, packet);
+    }
+    match read_moment(moment, last) {
+        Ok(moment) => Ok(CaptureLine::Packet { moment }),
+        Err(kind) => Err(CaptureFault::Line(kind)),
+    }
+}
+
+/// As `read_packet`, word by word.
+fn read_words(
+    moment: &[u8],
+    rest: &[u8],
+    last: u64,
+    packet: &mut Vec<u8>,
+) -> Result<CaptureLine, CaptureFault>
+    ensures ok { IfOk result (λ read. timed_packet (packet_word (words_of rest.now)) (moment_of moment.now last) ≡ Ok (packet_in read packet.new.items)) }
+    ensures err { IfErr result (λ fault. TellsFault (timed_packet (packet_word (words_of rest.now)) (moment_of moment.now last)) fault) }
+    ensures moment { IfOk result (λ read. IfSome (packet_in read packet.new.items) (λ timed. (last ≤ timed.moment) × (timed.moment ≤ LAST_MOMENT))) }
+{
     let digits = read_packet_word(rest).map_err(CaptureFault::Line)?;
     let moment = read_moment(moment, last).map_err(CaptureFault::Line)?;
     read_hex(digits, packet)?;
     Ok(CaptureLine::Packet { moment })
+}
+
+/// Whether the text is a space and then hex digits alone, as it nearly always is. Their bytes are then
+/// put into `packet`, and no end of a word was looked for.
+#[tactic(auto, using(crate::proofs::PlainWords::plain_text))]
+fn is_plain(text: &[u8], packet: &mut Vec<u8>) -> bool
+    ensures word { result ≡ true → packet_word (words_of text.now) ≡ Ok (drop 1 text.now) }
+    ensures bytes { result ≡ true → decode_of (drop 1 text.now) ≡ Ok packet.new.items }
+{
+    if text.first() != Some(&b' ') {
+        return false;
+    }
+    let (_, digits) = text.split_at(1);
+    match read_hex(digits, packet) {
+        Ok(()) => true,
+        Err(_) => false,
+    }
 }
 
 /// The one word of a text, or no bytes where it has no word.

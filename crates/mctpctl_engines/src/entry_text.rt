@@ -7,10 +7,10 @@ ghost use Rattle.mctpctl_engines.specs.EntryTexts.{again_text, answered_text, de
 use crate::bytes_text::{push_number, push_text};
 use crate::packet_line::push_drop;
 use mctp_packet::Memory;
-use mctp_schedule::Entry;
+use mctp_schedule::{Delivery, Entry};
 use pldm_device::ReadingFault;
 use pldm_requester::{Got, OpenFault};
-use pldm_responder::Outcome;
+use pldm_responder::Taken;
 
 /// Adds the line of a step at this moment: the moment, and what came of the step.
 pub fn push_entry_line(out: &mut Vec<u8>, moment: u64, entry: &Entry) -> Result<(), Memory>
@@ -29,11 +29,8 @@ fn push_entry(out: &mut Vec<u8>, entry: &Entry) -> Result<(), Memory>
         Entry::Nothing => push_text(out, "nothing"),
         Entry::Opened(number) => push_opened(out, *number),
         Entry::NotOpened(fault) => push_text(out, not_opened_text(*fault)),
-        Entry::Due(due) => {
-            let due = due.numbers();
-            push_due(out, &due.again, &due.given_up)
-        }
-        Entry::Delivered { busy, delivery } => push_delivered(out, *busy, delivery.outcome()),
+        Entry::Due(due) => push_due(out, due.again(), due.given_up()),
+        Entry::Delivered { busy, delivery } => push_delivered(out, *busy, delivery),
         Entry::Received(got) => push_received(out, *got),
         Entry::Sensed(sensed) => push_text(out, sensed_text(sensed)),
         Entry::Restarted => push_text(out, "restarted"),
@@ -99,13 +96,13 @@ pub fn push_numbers(out: &mut Vec<u8>, numbers: &[u64]) -> Result<(), Memory>
     Ok(())
 }
 
-fn push_delivered(out: &mut Vec<u8>, busy: bool, outcome: &Outcome) -> Result<(), Memory>
-    ensures { OnOk result (out.new.items ≡ out.old.items ++ delivered_text busy outcome.now) }
+fn push_delivered(out: &mut Vec<u8>, busy: bool, delivery: &Delivery) -> Result<(), Memory>
+    ensures { OnOk result (out.new.items ≡ out.old.items ++ delivered_text busy delivery.now) }
 {
-    match outcome {
-        Outcome::Dropped(reason) => push_drop(out, *reason),
-        Outcome::Partial => push_text(out, "partial"),
-        Outcome::Answered { fresh, changed, .. } => {
+    match delivery.taken() {
+        Taken::Dropped(reason) => push_drop(out, *reason),
+        Taken::Partial => push_text(out, "partial"),
+        Taken::Answered { fresh, changed, .. } => {
             push_text(out, answered_text(busy, *fresh, *changed))
         }
     }

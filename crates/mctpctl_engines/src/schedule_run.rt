@@ -197,6 +197,10 @@ impl Run for ScheduleRun {
             Ok(text) => text,
             Err(fault) => return Err(fault),
         };
+        if out.is_empty() {
+            *out = text;
+            return Ok(());
+        }
         if out.extend_from_slice(&text).is_err() {
             return Err(EngineFault::Memory);
         }

@@ -120,6 +120,28 @@ fn ninth_open_request_has_no_tag(rt: HostRuntime) -> Result<(), Fail> {
     Ok(())
 }
 
+/// Hands over packets that are no answer to the open request 0, then its answer, twice.
+fn answer_at_last(rt: &impl Abort, requester: &mut Requester) -> Result<(), Fail> {
+    let mut not_ready = answer(0, 0);
+    not_ready[8] = 0x04;
+    for (bytes, reason) in [
+        (answer(1, 0), Reason::BadTag),
+        (answer(0, 0x80), Reason::NotResponse),
+        (answer(0, 1), Reason::NotMine),
+        (not_ready, Reason::NotReady),
+    ] {
+        let got = receive(rt, requester, 0, &bytes)?;
+        assert_eq!(rt; got, Ok(Got::Dropped(reason)));
+        assert_eq!(rt; requester.status(0), Some(Status::Open));
+    }
+    for expected in [Got::Answered(0), Got::Dropped(Reason::BadTag)] {
+        let got = receive(rt, requester, 0, &answer(0, 0))?;
+        assert_eq!(rt; got, Ok(expected));
+        assert_eq!(rt; requester.status(0), Some(Status::Answered(TID)));
+    }
+    Ok(())
+}
+
 #[test]
 fn only_its_own_response_answers_a_request(rt: HostRuntime) -> Result<(), Fail> {
     let mut requester = requester(rt.alloc())?;
@@ -129,53 +151,36 @@ fn only_its_own_response_answers_a_request(rt: HostRuntime) -> Result<(), Fail> 
         packet,
         Some(b"\x01\x09\x08\xc8\x01\x80\x00\x02".as_slice())
     );
-    let mut not_ready = answer(0, 0);
-    not_ready[8] = 0x04;
     let hoard = Hoard::take(rt.alloc(), 0)?;
-    for (bytes, expected, is_open) in [
-        (answer(1, 0), Got::Dropped(Reason::BadTag), true),
-        (answer(0, 0x80), Got::Dropped(Reason::NotResponse), true),
-        (answer(0, 1), Got::Dropped(Reason::NotMine), true),
-        (not_ready, Got::Dropped(Reason::NotReady), true),
-        (answer(0, 0), Got::Answered(0), false),
-        (answer(0, 0), Got::Dropped(Reason::BadTag), false),
-    ] {
-        let got = receive(&rt, &mut requester, 0, &bytes)?;
-        let status = if is_open {
-            Status::Open
-        } else {
-            Status::Answered(TID)
-        };
-        assert_eq!(rt; (got, requester.status(0)), (Ok(expected), Some(status)));
-    }
+    let answered = answer_at_last(&rt, &mut requester);
     drop(hoard);
+    answered
+}
+
+/// Ticks a requester whose request 0 is open: which requests are sent again, and which are given up.
+fn tick_in_turn(
+    rt: &impl Abort,
+    requester: &mut Requester,
+    ticks: &[(u64, &[u64], &[u64])],
+) -> Result<(), Fail> {
+    for (milliseconds, again, given_up) in ticks {
+        let now = moment(rt, requester, *milliseconds)?;
+        let due = requester.tick(now);
+        assert!(rt; due.again.as_slice() == *again, "{due:?}");
+        assert!(rt; due.given_up.as_slice() == *given_up, "{due:?}");
+    }
+    assert_eq!(rt; requester.status(0), Some(Status::GaveUp));
     Ok(())
 }
 
-/// Opens a request at 0, and then ticks, with no memory to be had: whether it is sent again, and
-/// whether it is given up.
-fn tick_all(rt: &impl Abort, alloc: Global, ticks: &[(u64, bool, bool)]) -> Result<(), Fail> {
+/// Opens a request at 0, and then ticks, with no memory to be had.
+fn tick_all(rt: &impl Abort, alloc: Global, ticks: &[(u64, &[u64], &[u64])]) -> Result<(), Fail> {
     let mut requester = requester(alloc)?;
     let _ = open(rt, &mut requester, 0)??;
     let hoard = Hoard::take(alloc, 0)?;
-    for (milliseconds, again, given_up) in ticks {
-        let now = moment(rt, &requester, *milliseconds)?;
-        let due = requester.tick(now);
-        assert_eq!(rt;
-            (due.again.as_slice() == [0].as_slice(), due.again.is_empty()),
-            (*again, !*again)
-        );
-        assert_eq!(rt;
-            (
-                due.given_up.as_slice() == [0].as_slice(),
-                due.given_up.is_empty()
-            ),
-            (*given_up, !*given_up)
-        );
-    }
+    let ticked = tick_in_turn(rt, &mut requester, ticks);
     drop(hoard);
-    assert_eq!(rt; requester.status(0), Some(Status::GaveUp));
-    Ok(())
+    ticked
 }
 
 #[test]
@@ -184,19 +189,19 @@ fn request_is_sent_again_and_given_up(rt: HostRuntime) -> Result<(), Fail> {
         &rt,
         rt.alloc(),
         &[
-            (199, false, false),
-            (200, true, false),
-            (399, false, false),
-            (400, true, false),
-            (599, false, false),
-            (600, false, true),
+            (199, &[], &[]),
+            (200, &[0], &[]),
+            (399, &[], &[]),
+            (400, &[0], &[]),
+            (599, &[], &[]),
+            (600, &[], &[0]),
         ],
     )
 }
 
 #[test]
 fn late_tick_gives_up(rt: HostRuntime) -> Result<(), Fail> {
-    tick_all(&rt, rt.alloc(), &[(650, false, true)])
+    tick_all(&rt, rt.alloc(), &[(650, &[], &[0])])
 }
 
 #[test]

@@ -204,7 +204,8 @@ impl<P: Platform> Responder<P> {
     }
 
     /// Takes the bytes of a packet as [`Responder::receive`] does. The message that answers it is put
-    /// into `reply` whole, with no packet made of it.
+    /// into `reply` whole, with no packet made of it. Where nothing is answered, what `reply` then holds
+    /// is not specified.
     ///
     /// # Errors
     ///
@@ -388,7 +389,7 @@ impl<P: Platform> Responder<P> {
         match self.kept.get(source, id) {
             Some(kept) if kept.is_repeated(self.keep, now, message) => {
                 reply.clear();
-                reply.try_extend_from_slice(&kept.answer).unwrap();
+                reply.try_extend_from_slice(kept.answer()).unwrap();
                 true
             }
             _ => false,

@@ -1,9 +1,9 @@
 //! What a run tells, in words: a line for each step, then the requests, the order and whether it was timely.
 
-use crate::{Entry, OpenedRequest, Report, Step};
+use crate::{DueRequests, Entry, OpenedRequest, Report, Step};
 use pldm_device::Platform;
-use pldm_requester::{Due, Got, Status};
-use pldm_responder::Outcome;
+use pldm_requester::{Got, Status};
+use pldm_responder::Taken;
 use std::alloc::{AllocError, Global};
 
 /// The most bytes of an answer that are written out.
@@ -44,9 +44,9 @@ fn entry_words(alloc: Global, entry: &Entry) -> Result<String, AllocError> {
             let number = fault.number();
             format!(in alloc; "not opened, fault {number}")
         }
-        Entry::Due(due) => due_words(alloc, due.numbers()),
+        Entry::Due(due) => due_words(alloc, due),
         Entry::Delivered { busy, delivery } => {
-            String::from_str(alloc, delivered_words(*busy, delivery.outcome()))
+            String::from_str(alloc, delivered_words(*busy, delivery.taken()))
         }
         Entry::Received(Got::Dropped(reason)) => {
             let name = reason.name();
@@ -64,28 +64,28 @@ fn entry_words(alloc: Global, entry: &Entry) -> Result<String, AllocError> {
 }
 
 /// What a tick found due.
-fn due_words(alloc: Global, due: &Due) -> Result<String, AllocError> {
+fn due_words(alloc: Global, due: &DueRequests) -> Result<String, AllocError> {
     let mut text = String::from_str(alloc, "again")?;
-    push_numbers(alloc, &mut text, &due.again)?;
+    push_numbers(alloc, &mut text, due.again())?;
     text.push_str(", gave up")?;
-    push_numbers(alloc, &mut text, &due.given_up)?;
+    push_numbers(alloc, &mut text, due.given_up())?;
     Ok(text)
 }
 
 /// What became of a request's packet.
-fn delivered_words(busy: bool, outcome: &Outcome) -> &'static str {
-    match (busy, outcome) {
-        (true, Outcome::Answered { .. }) => "busy",
+fn delivered_words(busy: bool, taken: &Taken) -> &'static str {
+    match (busy, taken) {
+        (true, Taken::Answered { .. }) => "busy",
         (
             false,
-            Outcome::Answered {
+            Taken::Answered {
                 fresh: true,
                 changed: true,
                 ..
             },
         ) => "fresh changed",
-        (false, Outcome::Answered { fresh: true, .. }) => "fresh unchanged",
-        (false, Outcome::Answered { changed: false, .. }) => "copy",
+        (false, Taken::Answered { fresh: true, .. }) => "fresh unchanged",
+        (false, Taken::Answered { changed: false, .. }) => "copy",
         _ => "no answer",
     }
 }

@@ -3,6 +3,7 @@
 use crate::example::description;
 use crate::{Description, FileFault};
 use std::alloc::Global;
+use std::process::Abort;
 use std::test::Fail;
 
 /// A text of the example, what stands in its place, and the fault.
@@ -19,18 +20,25 @@ fn changed(alloc: Global, text: &str, old: &str, new: &str) -> Result<String, Fa
     Ok(format!(in alloc; "{front}{new}{back}")?)
 }
 
+/// Why a description is refused.
+fn fault_of(alloc: Global, text: &str) -> Option<FileFault> {
+    Description::read(alloc, text.as_bytes()).err()
+}
+
 #[test]
 fn faults_of_changed_descriptions(rt: HostRuntime) -> Result<(), Fail> {
     let example = description(rt.alloc())?;
     for (old, new, fault) in CHANGES {
         let text = changed(rt.alloc(), &example, old, new)?;
-        let read = Description::read(rt.alloc(), text.as_bytes());
-        assert_eq!(rt; read.err(), Some(*fault), "{new} for {old}");
+        assert_eq!(rt;
+            fault_of(rt.alloc(), &text),
+            Some(*fault),
+            "{new} for {old}"
+        );
     }
     let sensor = "[[numeric_sensor]]\nid = 1\nsize = 'sint8'\nstates = [0, 0, 0]\nvalue = 0\n";
     let twice = format!(in rt.alloc(); "{example}{sensor}")?;
-    let read = Description::read(rt.alloc(), twice.as_bytes());
-    assert_eq!(rt; read.err(), Some(FileFault::Duplicate));
+    assert_eq!(rt; fault_of(rt.alloc(), &twice), Some(FileFault::Duplicate));
     Ok(())
 }
 
@@ -65,23 +73,32 @@ fn at_its_limits(alloc: Global) -> Result<String, Fail> {
     Ok(text)
 }
 
+/// Checks the last of what is in a description at its limits.
+fn expect_last(rt: &impl Abort, alloc: Global, text: &str) -> Result<(), Fail> {
+    let device = Description::read(alloc, text.as_bytes())?.device;
+    assert_eq!(rt; device.sensor(999), Some((999, -2_147_483_648)));
+    assert_eq!(rt; device.sensor(1_000), None);
+    let states = [255, 7, 7, 7, 7, 7, 7, 7];
+    assert_eq!(rt; device.state(0), Some((65_535, states.as_slice())));
+    Ok(())
+}
+
 /// With memory at hand nothing is refused at the limits, and what is over one of them is.
 #[test]
 fn a_description_at_its_limits(rt: HostRuntime) -> Result<(), Fail> {
     let text = at_its_limits(rt.alloc())?;
-    let read = Description::read(rt.alloc(), text.as_bytes())?;
-    assert_eq!(rt; read.device.sensor(999), Some((999, -2_147_483_648)));
-    assert_eq!(rt; read.device.sensor(1_000), None);
-    let states = [255, 7, 7, 7, 7, 7, 7, 7];
-    assert_eq!(rt; read.device.state(0), Some((65_535, states.as_slice())));
+    expect_last(&rt, rt.alloc(), &text)?;
     for (old, new) in [
         ("255,],", "255,255],"),
         ("fields = [", "fields = [[0, 0, 0, 0],"),
         ("[[state_sensor]]", "[[numeric_sensor]]\n[[state_sensor]]"),
     ] {
         let over = changed(rt.alloc(), &text, old, new)?;
-        let read = Description::read(rt.alloc(), over.as_bytes());
-        assert_eq!(rt; read.err(), Some(FileFault::OutOfRange), "{new}");
+        assert_eq!(rt;
+            fault_of(rt.alloc(), &over),
+            Some(FileFault::OutOfRange),
+            "{new}"
+        );
     }
     Ok(())
 }

@@ -5,6 +5,8 @@ use crate::{Fetch, FetchFault, FetchState, Platform, RECORD_HEADER};
 use mctp_packet::Memory;
 use memory_hoard::Hoard;
 use pldm_wire::{Answer, Command, RecordPart, TransferFlag};
+use std::alloc::Global;
+use std::process::Abort;
 use std::test::Fail;
 
 /// The bytes of the example's record.
@@ -34,23 +36,62 @@ fn part(flag: TransferFlag, next: u32, bytes: &[u8], checksum: Option<u8>) -> Op
     })
 }
 
-#[test]
-fn the_example_record_is_fetched(rt: HostRuntime) -> Result<(), Fail> {
-    let alloc = rt.alloc();
+/// The first answer of the example device to a fetch.
+fn first_answer(alloc: Global, fetch: &Fetch) -> Result<Answer, Fail> {
     let mut device = example(alloc)?;
-    let mut fetch = Fetch::new(alloc, 1);
-    assert_eq!(rt; fetch.next(), request(1, 0));
-    assert_eq!(rt; fetch.record(), None);
-    let whole = device.perform(alloc, &fetch.next().ok_or(Memory)?)?;
+    Ok(device.perform(alloc, &fetch.next().ok_or(Memory)?)?)
+}
+
+/// A record that came whole is kept, and no further answer is taken.
+fn take_whole(rt: &impl Abort, fetch: &mut Fetch, whole: &Answer) {
     assert_eq!(rt;
-        Some(&whole),
+        Some(whole),
         part(TransferFlag::StartAndEnd, 0, &record(), None).as_ref()
     );
-    assert_eq!(rt; fetch.take(&whole), Ok(FetchState::Done(0)));
+    assert_eq!(rt; fetch.take(whole), Ok(FetchState::Done(0)));
     assert_eq!(rt; fetch.record(), Some(record().as_slice()));
     assert_eq!(rt; fetch.next(), None);
-    assert_eq!(rt; fetch.take(&whole), Err(FetchFault::Unexpected));
+    assert_eq!(rt; fetch.take(whole), Err(FetchFault::Unexpected));
     assert_eq!(rt; fetch.record(), Some(record().as_slice()));
+}
+
+#[test]
+fn the_example_record_is_fetched(rt: HostRuntime) -> Result<(), Fail> {
+    let mut fetch = Fetch::new(rt.alloc(), 1);
+    assert_eq!(rt; fetch.next(), request(1, 0));
+    assert_eq!(rt; fetch.record(), None);
+    let whole = first_answer(rt.alloc(), &fetch)?;
+    take_whole(&rt, &mut fetch, &whole);
+    Ok(())
+}
+
+/// The transfer handle and the record change number of a fetch's next request.
+fn asked(fetch: &Fetch) -> Option<(u32, u16)> {
+    match fetch.next() {
+        Some(
+            Command::GetPdr {
+                data_transfer_handle,
+                record_change_number,
+                ..
+            },
+        ) => Some((data_transfer_handle, record_change_number)),
+        _ => None,
+    }
+}
+
+/// Takes a record of 300 bytes byte by byte.
+fn take_bytes(rt: &impl Abort, fetch: &mut Fetch, record: [u8; 300]) -> Result<(), Fail> {
+    for (place, byte) in (0u32..).zip(record) {
+        let changed = if place < 8 { 0 } else { 0x1234 };
+        assert_eq!(rt; asked(fetch), Some((place, changed)));
+        let (flag, state) = match place {
+            0 => (TransferFlag::Start, FetchState::More),
+            299 => (TransferFlag::StartAndEnd, FetchState::Done(0)),
+            _ => (TransferFlag::Middle, FetchState::More),
+        };
+        let one = part(flag, place.saturating_add(1), &[byte], None).ok_or(Memory)?;
+        assert_eq!(rt; fetch.take(&one), Ok(state), "at {place}");
+    }
     Ok(())
 }
 
@@ -58,52 +99,21 @@ fn the_example_record_is_fetched(rt: HostRuntime) -> Result<(), Fail> {
 /// taken to the last.
 #[test]
 fn a_changed_record_is_fetched_byte_by_byte(rt: HostRuntime) -> Result<(), Fail> {
-    let alloc = rt.alloc();
     let mut record = record();
     record[6..8].copy_from_slice(&[0x34, 0x12]);
-    let mut fetch = Fetch::new(alloc, 1);
-    for (place, byte) in (0u32..).zip(record) {
-        let Some(
-            Command::GetPdr {
-                data_transfer_handle,
-                record_change_number,
-                ..
-            },
-        ) = fetch.next()
-        else {
-            return Err(Fail::from("no request"));
-        };
-        let changed = if place < 8 { 0 } else { 0x1234 };
-        assert_eq!(rt;
-            (data_transfer_handle, record_change_number),
-            (place, changed)
-        );
-        let flag = match place {
-            0 => TransferFlag::Start,
-            299 => TransferFlag::StartAndEnd,
-            _ => TransferFlag::Middle,
-        };
-        let next = place.saturating_add(1);
-        let one = part(flag, next, &[byte], None).ok_or(Memory)?;
-        let state = if place == 299 {
-            FetchState::Done(0)
-        } else {
-            FetchState::More
-        };
-        assert_eq!(rt; fetch.take(&one), Ok(state), "at {place}");
-    }
+    let mut fetch = Fetch::new(rt.alloc(), 1);
+    take_bytes(&rt, &mut fetch, record)?;
     assert_eq!(rt; fetch.record(), Some(record.as_slice()));
     Ok(())
 }
 
 #[test]
 fn a_wrong_checksum_ends_a_fetch(rt: HostRuntime) -> Result<(), Fail> {
-    let alloc = rt.alloc();
     let record = record();
     let (before, after) = record.split_at(239);
     let first = part(TransferFlag::Start, 239, before, None).ok_or(Memory)?;
     let last = part(TransferFlag::End, 0, after, Some(0xf4)).ok_or(Memory)?;
-    let mut fetch = Fetch::new(alloc, 1);
+    let mut fetch = Fetch::new(rt.alloc(), 1);
     assert_eq!(rt; fetch.take(&first), Ok(FetchState::More));
     assert_eq!(rt; fetch.take(&last), Err(FetchFault::Crc));
     assert_eq!(rt; fetch.take(&first), Err(FetchFault::Crc));
@@ -113,6 +123,19 @@ fn a_wrong_checksum_ends_a_fetch(rt: HostRuntime) -> Result<(), Fail> {
     Ok(())
 }
 
+/// Checks what a new fetch makes of an answer.
+fn expect_first(
+    rt: &impl Abort,
+    alloc: Global,
+    handle: u32,
+    answer: &Answer,
+    want: Result<FetchState, FetchFault>,
+) {
+    let mut fetch = Fetch::new(alloc, handle);
+    assert_eq!(rt; fetch.take(answer), want, "of {handle}");
+}
+
+/// An answer to another command leaves a fetch as it was, a refusal and an empty part end it.
 #[test]
 fn answers_that_a_fetch_does_not_take(rt: HostRuntime) -> Result<(), Fail> {
     let alloc = rt.alloc();
@@ -130,13 +153,16 @@ fn answers_that_a_fetch_does_not_take(rt: HostRuntime) -> Result<(), Fail> {
     let mut fetch = Fetch::new(alloc, 1);
     assert_eq!(rt; fetch.take(&empty), Err(FetchFault::Count));
     assert_eq!(rt; fetch.take(&other), Err(FetchFault::Count));
-    let whole = hex::decode(alloc, "01000000010100000000")?;
+    Ok(())
+}
+
+#[test]
+fn a_record_of_another_handle_is_not_taken(rt: HostRuntime) -> Result<(), Fail> {
+    let whole = hex::decode(rt.alloc(), "01000000010100000000")?;
     let whole = part(TransferFlag::StartAndEnd, 0, &whole, None).ok_or(Memory)?;
-    let mut fetch = Fetch::new(alloc, 2);
-    assert_eq!(rt; fetch.take(&whole), Err(FetchFault::Handle));
+    expect_first(&rt, rt.alloc(), 2, &whole, Err(FetchFault::Handle));
     for handle in [0, 1] {
-        let mut fetch = Fetch::new(alloc, handle);
-        assert_eq!(rt; fetch.take(&whole), Ok(FetchState::Done(0)), "of {handle}");
+        expect_first(&rt, rt.alloc(), handle, &whole, Ok(FetchState::Done(0)));
     }
     Ok(())
 }
@@ -147,36 +173,50 @@ const STEP: usize = 16;
 /// More refusals than a part of the example's record meets.
 const MOST_REFUSALS: usize = 250;
 
-/// A record in two parts is fetched with no memory at first, and with a little more after each refusal,
-/// which leaves the fetch as it was.
-#[test]
-fn each_growth_of_a_fetch_is_refused_in_turn(rt: HostRuntime) -> Result<(), Fail> {
-    let alloc = rt.alloc();
-    let record = record();
+/// Has a part taken with a little more memory after each refusal, which leaves the fetch as it was.
+fn take_at_last(
+    rt: &impl Abort,
+    hoard: &mut Hoard,
+    fetch: &mut Fetch,
+    answer: &Answer,
+    asked: Option<Command>,
+) -> Result<FetchState, Fail> {
+    hoard.take_rest()?;
+    for refusals in 0..MOST_REFUSALS {
+        assert_eq!(rt; fetch.next(), asked);
+        let taken = fetch.take(answer);
+        if taken != Err(FetchFault::Memory) {
+            assert!(rt; refusals > 0, "{asked:?}");
+            return Ok(taken?);
+        }
+        hoard.give(STEP);
+    }
+    Err(Fail::from("never taken"))
+}
+
+/// Takes a record in two parts, each with no memory at first.
+fn take_parts(
+    rt: &impl Abort,
+    alloc: Global,
+    fetch: &mut Fetch,
+    record: &[u8; 300],
+) -> Result<(), Fail> {
     let (before, after) = record.split_at(239);
     let first = part(TransferFlag::Start, 239, before, None).ok_or(Memory)?;
     let last = part(TransferFlag::StartAndEnd, 0, after, None).ok_or(Memory)?;
-    let mut fetch = Fetch::new(alloc, 1);
     let mut hoard = Hoard::take(alloc, 0)?;
-    for (asked, answer, state) in [
-        (request(1, 0), first, FetchState::More),
-        (request(0, 239), last, FetchState::Done(0)),
-    ] {
-        hoard.take_rest()?;
-        let mut refusals = 0u32;
-        for _ in 0..MOST_REFUSALS {
-            assert_eq!(rt; fetch.next(), asked);
-            let taken = fetch.take(&answer);
-            if taken != Err(FetchFault::Memory) {
-                assert_eq!(rt; taken, Ok(state));
-                break;
-            }
-            refusals = refusals.saturating_add(1);
-            hoard.give(STEP);
-        }
-        assert!(rt; refusals > 0, "{asked:?}");
-    }
-    drop(hoard);
+    let state = take_at_last(rt, &mut hoard, fetch, &first, request(1, 0))?;
+    assert_eq!(rt; state, FetchState::More);
+    let state = take_at_last(rt, &mut hoard, fetch, &last, request(0, 239))?;
+    assert_eq!(rt; state, FetchState::Done(0));
+    Ok(())
+}
+
+#[test]
+fn each_growth_of_a_fetch_is_refused_in_turn(rt: HostRuntime) -> Result<(), Fail> {
+    let record = record();
+    let mut fetch = Fetch::new(rt.alloc(), 1);
+    take_parts(&rt, rt.alloc(), &mut fetch, &record)?;
     assert_eq!(rt; fetch.record(), Some(record.as_slice()));
     Ok(())
 }

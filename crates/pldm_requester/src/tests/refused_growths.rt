@@ -2,6 +2,8 @@
 //! little more after each refusal.
 
 use super::*;
+use arrayvec::ArrayVec;
+use mctp_packet::MOST_PACKET_BYTES;
 
 /// How many bytes more there are after each refusal.
 const STEP: usize = 32;
@@ -70,19 +72,25 @@ impl Short {
     }
 }
 
-#[test]
-fn each_growth_of_the_openings_is_refused_in_turn(rt: HostRuntime) -> Result<(), Fail> {
-    let mut short = Short::new(rt.alloc())?;
+/// Opens 32 requests, each of which is answered, and then two more.
+fn open_and_answer(rt: &impl Abort, short: &mut Short) -> Result<(), Fail> {
     for number in 0..32u8 {
-        let opened = short.open(&rt, 0, &Command::GetTid)?;
+        let opened = short.open(rt, 0, &Command::GetTid)?;
         assert_eq!(rt; opened, Ok((u64::from(number), number, number % 8)));
-        let got = short.receive(&rt, &answer(number % 8, number))?;
+        let got = short.receive(rt, &answer(number % 8, number))?;
         assert_eq!(rt; got, Got::Answered(u64::from(number)));
     }
     for (milliseconds, expected) in [(1999, Err(OpenFault::IdInUse)), (2000, Ok((32, 0, 0)))] {
-        let opened = short.open(&rt, milliseconds, &Command::GetTid)?;
+        let opened = short.open(rt, milliseconds, &Command::GetTid)?;
         assert_eq!(rt; opened, expected);
     }
+    Ok(())
+}
+
+#[test]
+fn each_growth_of_the_openings_is_refused_in_turn(rt: HostRuntime) -> Result<(), Fail> {
+    let mut short = Short::new(rt.alloc())?;
+    open_and_answer(&rt, &mut short)?;
     assert!(rt; short.refusals > 32, "{} refusals", short.refusals);
     Ok(())
 }
@@ -121,20 +129,30 @@ fn each_growth_before_an_answer_is_refused_in_turn(rt: HostRuntime) -> Result<()
 /// The first part of the example's record: 239 of its 300 bytes, of which only the first ten are not 0.
 const FRONT: &[u8] = b"\x01\x00\x02\x51\0\0\0\0\0\xef\0\0\0\0\xef\0\x01\0\0\0\x01\x01\0\0\x22\x01";
 
-/// An answer of four packets, some early, some twice.
-#[test]
-fn each_growth_of_an_answer_is_refused_in_turn(rt: HostRuntime) -> Result<(), Fail> {
+/// The answer with the first part of the example's record.
+fn first_part() -> [u8; 255] {
     let mut message = [0; 255];
     message[..FRONT.len()].copy_from_slice(FRONT);
-    let record = Command::GetPdr {
-        record_handle: 0,
-        data_transfer_handle: 0,
-        transfer_operation_flag: 1,
-        request_count: 239,
-        record_change_number: 0,
-    };
-    let mut short = Short::new(rt.alloc())?;
-    assert_eq!(rt; short.open(&rt, 0, &record)?, Ok((0, 0, 0)));
+    message
+}
+
+/// What the requester makes of a packet with these flags and a piece of a message.
+fn receive_piece(
+    rt: &impl Abort,
+    short: &mut Short,
+    flags: u8,
+    message: &[u8],
+    piece: usize,
+) -> Result<Got, Fail> {
+    let payload = message.chunks(64).nth(piece).ok_or("no piece")?;
+    let mut packet = ArrayVec::<u8, MOST_PACKET_BYTES>::new();
+    packet.try_extend_from_slice(&[0x01, 0x08, 0x09, flags])?;
+    packet.try_extend_from_slice(payload)?;
+    short.receive(rt, packet.as_slice())
+}
+
+/// An answer of four packets, some early, some twice.
+fn receive_pieces(rt: &impl Abort, short: &mut Short, message: &[u8]) -> Result<(), Fail> {
     for (piece, flags, expected) in [
         (1, 0x10, Got::Dropped(Reason::UnexpectedMiddleOrEnd)),
         (0, 0x80, Got::Partial),
@@ -144,14 +162,24 @@ fn each_growth_of_an_answer_is_refused_in_turn(rt: HostRuntime) -> Result<(), Fa
         (3, 0x70, Got::Answered(0)),
         (3, 0x70, Got::Dropped(Reason::BadTag)),
     ] {
-        let payload = message.chunks(64).nth(piece).ok_or("no piece")?;
-        let mut packet = [0; 68];
-        packet[..4].copy_from_slice(&[0x01, 0x08, 0x09, flags]);
-        packet[4..4 + payload.len()].copy_from_slice(payload);
-        let got = short.receive(&rt, &packet[..4 + payload.len()])?;
+        let got = receive_piece(rt, short, flags, message, piece)?;
         assert_eq!(rt; got, expected, "{piece}");
     }
     assert!(rt; short.refusals > 1, "{} refusals", short.refusals);
-    assert_eq!(rt; short.requester.status(0), Some(Status::Answered(&message)));
+    assert_eq!(rt; short.requester.status(0), Some(Status::Answered(message)));
     Ok(())
+}
+
+#[test]
+fn each_growth_of_an_answer_is_refused_in_turn(rt: HostRuntime) -> Result<(), Fail> {
+    let record = Command::GetPdr {
+        record_handle: 0,
+        data_transfer_handle: 0,
+        transfer_operation_flag: 1,
+        request_count: 239,
+        record_change_number: 0,
+    };
+    let mut short = Short::new(rt.alloc())?;
+    assert_eq!(rt; short.open(&rt, 0, &record)?, Ok((0, 0, 0)));
+    receive_pieces(&rt, &mut short, &first_part())
 }

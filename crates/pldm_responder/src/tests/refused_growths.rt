@@ -12,7 +12,7 @@ use std::alloc::AllocError;
 const STEP: usize = 16;
 
 /// More refusals than one packet meets.
-const MOST_REFUSALS: usize = 4_000;
+const MOST_REFUSALS: u32 = 4_000;
 
 /// What comes of a packet that is handed over with no memory at first, and again after each refusal with
 /// a little more. A refusal leaves what was there, and is counted.
@@ -58,9 +58,8 @@ fn told(alloc: Global, outcomes: &[Outcome]) -> Result<String, AllocError> {
             Outcome::Partial => text.push_str("partial\n")?,
             Outcome::Answered { packets, .. } => {
                 for place in 0..packets.len() {
-                    for byte in packets.get(place).unwrap_or(&[]) {
-                        text.push_str(format!(in alloc; "{byte:02x}")?.as_str())?;
-                    }
+                    let packet = packets.get(place).unwrap_or(&[]);
+                    text.push_str(hex::encode(alloc, packet)?.as_str())?;
                     text.push('\n')?;
                 }
             }
@@ -69,35 +68,70 @@ fn told(alloc: Global, outcomes: &[Outcome]) -> Result<String, AllocError> {
     Ok(text)
 }
 
-/// Packets and the moments at which they come.
-type Capture<'a> = &'a [(u64, &'a [u8])];
+/// The packets of a capture, and the moments at which they come: a line `MILLISECONDS HEX` for each.
+fn packets_of(alloc: Global, capture: &str) -> Result<Vec<(u64, Vec<u8>)>, Fail> {
+    let mut packets = Vec::new(alloc);
+    for line in capture.lines() {
+        let (milliseconds, packet) = line.split_once(' ').ok_or("no packet")?;
+        packets.push((milliseconds.parse()?, hex::decode(alloc, packet)?))?;
+    }
+    Ok(packets)
+}
+
+/// Hands these packets over, each with no memory at first.
+fn receive_all(
+    rt: &impl Abort,
+    alloc: Global,
+    device: &mut Responder<SimDevice>,
+    packets: &[(u64, Vec<u8>)],
+    outcomes: &mut Vec<Outcome>,
+) -> Result<(), Fail> {
+    let mut hoard = Hoard::take(alloc, 0)?;
+    let mut refusals = 0u32;
+    for (moment, packet) in packets {
+        let outcome = receive_at_last(rt, device, &mut hoard, &mut refusals, *moment, packet)?;
+        outcomes.push(outcome)?;
+    }
+    assert!(rt; refusals > 1, "{refusals} refusals");
+    Ok(())
+}
+
+/// What becomes of these packets at the example device.
+fn outcomes_of(
+    rt: &impl Abort,
+    alloc: Global,
+    packets: &[(u64, Vec<u8>)],
+) -> Result<Vec<Outcome>, Fail> {
+    let mut outcomes = Vec::with_capacity(alloc, packets.len())?;
+    receive_all(rt, alloc, &mut example(alloc)?, packets, &mut outcomes)?;
+    Ok(outcomes)
+}
 
 /// Messages of several packets: whole, with one lost, with one of another length, and too long.
-const SEVERAL_PACKETS: Capture<'static> = &[
-    (0, b"\x01\x09\x08\x88\x01\x80"),
-    (0, b"\x01\x09\x08\x88\x01\x82"),
-    (0, b"\x01\x09\x08\x58\x00\x02"),
-    (1, b"\x01\x09\x08\x88\x01\x80"),
-    (1, b"\x01\x09\x08\x68\x05"),
-    (1, b"\x01\x09\x08\x18\x00\x01"),
-    (1, b"\x01\x09\x08\x68\x05"),
-    (2, b"\x01\x09\x08\x88\x01\x80"),
-    (2, b"\x01\x09\x08\x18\x00\x01"),
-    (2, b"\x01\x09\x08\x68\x05"),
-    (3, b"\x01\x09\x08\x88\x01\x80"),
-    (3, b"\x01\x09\x08\x18\x00"),
-    (4, b"\x01\x09\x08\x88\x01"),
-    (4, b"\x01\x09\x08\x18\x80"),
-    (4, b"\x01\x09\x08\x28\x00"),
-    (4, b"\x01\x09\x08\x38\x01"),
-    (4, b"\x01\x09\x08\x48\x05"),
-    (5, b"\x01\x09\x08\x88\x01"),
-    (5, b"\x01\x09\x08\x18\x80"),
-    (5, b"\x01\x09\x08\x28\x00"),
-    (5, b"\x01\x09\x08\x38\x01"),
-    (5, b"\x01\x09\x08\x08\x00"),
-    (5, b"\x01\x09\x08\x58\x05"),
-];
+const SEVERAL_PACKETS: &str = "0 010908880180
+0 010908880182
+0 010908580002
+1 010908880180
+1 0109086805
+1 010908180001
+1 0109086805
+2 010908880180
+2 010908180001
+2 0109086805
+3 010908880180
+3 0109081800
+4 0109088801
+4 0109081880
+4 0109082800
+4 0109083801
+4 0109084805
+5 0109088801
+5 0109081880
+5 0109082800
+5 0109083801
+5 0109080800
+5 0109085805
+";
 
 const SEVERAL_PACKETS_TOLD: &str = "partial
 partial
@@ -125,20 +159,10 @@ drop TooLong
 ";
 
 /// A record in one part, what is left of it from an offset on, and a part past its end.
-const RECORD: Capture<'static> = &[
-    (
-        0,
-        b"\x01\x09\x08\xc8\x01\x80\x02\x51\0\0\0\0\0\0\0\0\x01\xff\xff\0\0",
-    ),
-    (
-        0,
-        b"\x01\x09\x08\xc9\x01\x81\x02\x51\0\0\0\0\xef\0\0\0\0\xff\xff\0\0",
-    ),
-    (
-        0,
-        b"\x01\x09\x08\xca\x01\x82\x02\x51\0\0\0\0\x2c\x01\0\0\0\xff\xff\0\0",
-    ),
-];
+const RECORD: &str = "0 010908c801800251000000000000000001ffff0000
+0 010908c90181025100000000ef00000000ffff0000
+0 010908ca01820251000000002c01000000ffff0000
+";
 
 fn record_told(alloc: Global) -> Result<String, AllocError> {
     format!(in alloc;
@@ -152,13 +176,12 @@ fn record_told(alloc: Global) -> Result<String, AllocError> {
 }
 
 /// A copy, which does not lengthen the keeping, and the effecter's value at the end.
-const COPIES: Capture<'static> = &[
-    (0, SET_40),
-    (600, SET_40),
-    (700, SET_50),
-    (1100, SET_40),
-    (1101, b"\x01\x09\x08\xcb\x01\x83\x02\x32\x01\x00"),
-];
+const COPIES: &str = "0 010908c90181023101000028
+600 010908c90181023101000028
+700 010908ca0182023101000032
+1100 010908c90181023101000028
+1101 010908cb018302320100
+";
 
 const COPIES_TOLD: &str = "010809c10101023100
 010809c10101023100
@@ -167,8 +190,7 @@ const COPIES_TOLD: &str = "010809c10101023100
 010809c3010302320000012828
 ";
 
-/// Captures of the example device, each packet with no memory at first: what is told at last is what is
-/// told with all memory.
+/// Captures of the example device: what is told at last is what is told with all memory.
 #[test]
 fn each_growth_of_a_capture_is_refused_in_turn(rt: HostRuntime) -> Result<(), Fail> {
     let record = record_told(rt.alloc())?;
@@ -177,51 +199,42 @@ fn each_growth_of_a_capture_is_refused_in_turn(rt: HostRuntime) -> Result<(), Fa
         (RECORD, record.as_str()),
         (COPIES, COPIES_TOLD),
     ] {
-        let mut device = example(rt.alloc())?;
-        let mut outcomes = Vec::with_capacity(rt.alloc(), capture.len())?;
-        let mut hoard = Hoard::take(rt.alloc(), 0)?;
-        let mut refusals = 0u32;
-        for (moment, packet) in capture {
-            outcomes.push(receive_at_last(
-                &rt,
-                &mut device,
-                &mut hoard,
-                &mut refusals,
-                *moment,
-                packet,
-            )?)?;
-        }
-        drop(hoard);
-        assert!(rt; refusals > 1, "{refusals} refusals");
+        let packets = packets_of(rt.alloc(), capture)?;
+        let outcomes = outcomes_of(&rt, rt.alloc(), &packets)?;
         assert_eq!(rt; told(rt.alloc(), &outcomes)?.as_str(), want);
     }
     Ok(())
 }
 
-/// A request that sets is refused with the room for its source's answers, and then with the box of the
-/// light, when it is performed: neither refusal leaves anything.
-#[test]
-fn each_growth_of_a_platform_is_refused_in_turn(rt: HostRuntime) -> Result<(), Fail> {
-    let mut light = light(rt.alloc())?;
-    let mut hoard = Hoard::take(rt.alloc(), 0)?;
-    let mut boxes = 0u32;
-    let mut refusals = 0u32;
-    for _ in 0..MOST_REFUSALS {
-        let asked = light.platform().asked();
-        let outcome = receive(&rt, &mut light, 5, SET_40)?;
-        boxes = boxes.saturating_add(light.platform().asked().saturating_sub(asked));
+/// Has the light set with no memory at first, and with a little more after each refusal, which leaves
+/// nothing: how often the light was asked, and how many growths were refused.
+fn set_at_last(
+    rt: &impl Abort,
+    alloc: Global,
+    light: &mut Responder<Dimmer>,
+) -> Result<(u32, u32), Fail> {
+    let mut hoard = Hoard::take(alloc, 0)?;
+    for refusals in 0..MOST_REFUSALS {
+        let outcome = receive(rt, light, 5, SET_40)?;
         if outcome.is_ok() {
             assert!(rt; answers(&outcome, true, true, SET), "{outcome:?}");
-            break;
+            return Ok((light.platform().asked(), refusals));
         }
         assert_eq!(rt; (light.kept(), light.last_moment().get()), (0, 0));
         assert_eq!(rt; light.platform().level(), 0);
-        refusals = refusals.saturating_add(1);
         hoard.give(STEP);
     }
-    drop(hoard);
+    Err(Fail::from("never set"))
+}
+
+/// A request that sets is refused with the room for its source's answers, and then with the box of the
+/// light, when it is performed.
+#[test]
+fn each_growth_of_a_platform_is_refused_in_turn(rt: HostRuntime) -> Result<(), Fail> {
+    let mut light = light(rt.alloc())?;
+    let (asked, refusals) = set_at_last(&rt, rt.alloc(), &mut light)?;
     assert_eq!(rt; (light.kept(), light.last_moment().get()), (1, 5));
-    assert!(rt; boxes > 1 && refusals > boxes, "{boxes} of {refusals}");
+    assert!(rt; asked > 1 && refusals > asked, "{asked} of {refusals}");
     Ok(())
 }
 
@@ -234,14 +247,44 @@ const PIECES: [(usize, &[u8]); 5] = [
     (321, &[]),
 ];
 
+/// Checks the packets that a message of this length is split into.
+fn expect_pieces(rt: &impl Abort, route: &Route, length: usize, flags: &[u8]) -> Result<(), Fail> {
+    let message = [7; 321];
+    let packets = split(route, message.get(..length).ok_or("too long")?);
+    assert_eq!(rt; packets.is_err(), flags.is_empty(), "{length}");
+    let Ok(packets) = packets else {
+        return Ok(());
+    };
+    for (place, flag) in flags.iter().enumerate() {
+        let packet = packets.get(place).ok_or("no packet")?;
+        assert!(rt; packet.starts_with(&[0x01, 0x08, 0x09, *flag]), "{length}");
+    }
+    Ok(())
+}
+
 #[test]
-fn bytes_are_written_without_memory(rt: HostRuntime) -> Result<(), Fail> {
+fn packets_are_written_without_memory(rt: HostRuntime) -> Result<(), Fail> {
     let route = Route {
         destination: Eid::new(8).ok_or("no endpoint ID")?,
         source: Eid::new(9).ok_or("no endpoint ID")?,
         owner: false,
         tag: Tag::new(0).ok_or("no tag")?,
     };
+    let seq = Seq::new(0).ok_or("no number")?;
+    let hoard = Hoard::take(rt.alloc(), 0)?;
+    for (length, flags) in PIECES {
+        expect_pieces(&rt, &route, length, flags)?;
+    }
+    let packet = PacketRef::new(route, true, true, seq, &TID[4..]).ok_or("no packet")?;
+    let mut bytes = [0; MOST_PACKET_BYTES];
+    let count = write(&packet, &mut bytes);
+    assert_eq!(rt; bytes.get(..count), Some(TID));
+    drop(hoard);
+    Ok(())
+}
+
+#[test]
+fn messages_are_written_without_memory(rt: HostRuntime) -> Result<(), Fail> {
     let value = Number::new(Size::Sint16, -2).ok_or("no number")?;
     let set = Command::SetNumericEffecterValue { effecter: 1, value };
     let level = Number::new(Size::Uint8, 40).ok_or("no number")?;
@@ -254,26 +297,7 @@ fn bytes_are_written_without_memory(rt: HostRuntime) -> Result<(), Fail> {
         operational: 1,
         values,
     };
-    let seq = Seq::new(0).ok_or("no number")?;
     let hoard = Hoard::take(rt.alloc(), 0)?;
-    for (length, flags) in PIECES {
-        let message = [7; 321];
-        let packets = split(&route, &message[..length]);
-        assert_eq!(rt; packets.is_err(), flags.is_empty(), "{length}");
-        for (place, flag) in flags.iter().enumerate() {
-            let packet = packets.as_ref().ok().and_then(|packets| packets.get(place));
-            let front = packet.and_then(|packet| packet.get(..4));
-            assert_eq!(rt;
-                front,
-                Some([0x01, 0x08, 0x09, *flag].as_slice()),
-                "{length}"
-            );
-        }
-    }
-    let packet = PacketRef::new(route, true, true, seq, &TID[4..]).ok_or("no packet")?;
-    let mut bytes = [0; MOST_PACKET_BYTES];
-    let count = write(&packet, &mut bytes);
-    assert_eq!(rt; bytes.get(..count), Some(TID));
     assert_eq!(rt;
         write_command(1, &set).as_slice(),
         b"\x01\x81\x02\x31\x01\x00\x03\xfe\xff".as_slice()

@@ -7,6 +7,7 @@ use mctp_packet::{Body, Eid, Memory, Route, Tag, read_for, split};
 use pldm_device::{Fetch, FetchState, MOST_RECORD_BYTES};
 use pldm_wire::{Command, MOST_PART_BYTES, read_answer, read_response, write_command};
 use std::alloc::Global;
+use std::process::Abort;
 use std::test::Fail;
 
 /// The parts of the record.
@@ -71,14 +72,20 @@ fn messages(alloc: Global, lines: &[u8]) -> Result<Vec<Body>, Fail> {
     Ok(messages)
 }
 
-#[test]
-fn the_longest_record_is_fetched(rt: HostRuntime) -> Result<(), Fail> {
-    let alloc = rt.alloc();
-    let record = record(alloc)?;
-    let (result, written) = run(alloc, input(alloc, &record)?.as_bytes())?;
+/// The messages that the engine answers to a request for each part of this record.
+fn answers(rt: &impl Abort, alloc: Global, record: &[u8]) -> Result<Vec<Body>, Fail> {
+    let (result, written) = run(alloc, input(alloc, record)?.as_bytes())?;
     assert_eq!(rt; result, Ok(()));
-    let messages = messages(alloc, written.as_slice())?;
-    assert_eq!(rt; messages.len(), PARTS as usize);
+    messages(alloc, &written)
+}
+
+/// A fetch takes these answers, one for each part, and has this record at the end.
+fn expect_fetched(
+    rt: &impl Abort,
+    alloc: Global,
+    messages: &[Body],
+    record: &[u8],
+) -> Result<(), Fail> {
     let mut fetch = Fetch::new(alloc, 2);
     for (part, message) in (0..PARTS).zip(messages.iter()) {
         let command = request(part);
@@ -91,6 +98,15 @@ fn the_longest_record_is_fetched(rt: HostRuntime) -> Result<(), Fail> {
         };
         assert_eq!(rt; fetch.take(&answer), Ok(want), "part {part}");
     }
-    assert_eq!(rt; fetch.record(), Some(record.as_slice()));
+    assert_eq!(rt; fetch.record(), Some(record));
     Ok(())
+}
+
+#[test]
+fn the_longest_record_is_fetched(rt: HostRuntime) -> Result<(), Fail> {
+    let alloc = rt.alloc();
+    let record = record(alloc)?;
+    let messages = answers(&rt, alloc, &record)?;
+    assert_eq!(rt; messages.len(), PARTS as usize);
+    expect_fetched(&rt, alloc, &messages, &record)
 }

@@ -1,6 +1,7 @@
 -- The packet of a request is one more call of the responder.
 use Rattle.std.proofs.Common.{◌<◌, ◌≤◌, ◌+◌, ap, ◌∙◌, arith}
 use Rattle.std.specs.Prelude.{nat_lt, option_map}
+use Rattle.pldm_responder.specs.Answering.{answering}
 use Rattle.pldm_responder.specs.Performing.{rules_of}
 use Rattle.mctp_schedule.specs.Entries.{as_it_stands}
 use Rattle.mctp_schedule.specs.Journals.{Carried}
@@ -49,13 +50,13 @@ returns-clause-runs g c = λ terms past running may.
     let opening = c.get-2.ensures.value ∙ c.opening-opening.ensures ∙ ap (λ (q : Request). q.asked.opening) (c.index.ensures ∙ stands) in
     let keep = c.from.ensures ∙ c.get-3.ensures.value ∙ running.times in
     delivered_runs setting past c.args.self.now.keep c.args.self.now.responder c.args.self.now.places.items c.args.self.now.journal c.deliver.new.self running c.args.now c.args.number may.later
-    asked.0 asked.1 c.receive.new.self c.packet-packet.result.now c.in_ok-outcome.outcome c.busy-busy.result (nat_lt c.get.result (c.get-2.result + c.from.result))
+    asked.0 asked.1 c.receive_message.new.self c.packet-packet.result.now (answering c.deref.result.now c.in_ok-taken.taken) c.busy-busy.result (nat_lt c.get.result (c.get-2.result + c.from.result))
     c.looks_back.ensures.received c.looks_back.ensures.same c.bytes_spell_one_packet.ensures.written c.reading_is_spelling.ensures.read_for
     (record {
       packet_is = c.packet-packet.ensures ∙ ap (λ (x : Carried). x.packet) carried ∙ t.2.packet;
-      new_held = c.in_ok-outcome.ensures.held;
-      given_outcome = c.in_ok-outcome.ensures.outcome;
-      given_fits = c.in_ok-outcome.ensures.fits;
+      new_held = c.in_ok-taken.ensures.held;
+      given_outcome = ap (λ message. answering message c.in_ok-taken.taken) c.deref.ensures.0 ∙ c.in_ok-taken.ensures.outcome;
+      given_fits = c.in_ok-taken.ensures.fits;
       given_busy = c.busy-busy.ensures;
       given_in_time = ap (λ now. nat_lt now (c.get-2.result + c.from.result)) c.get.ensures.value ∙ ap (λ x. nat_lt c.args.now (x + c.from.result)) opening ∙ ap (λ x. nat_lt c.args.now (asked.0.opening + x)) keep;
       new_entries = entered.entries;

@@ -3,7 +3,7 @@ use Rattle.std.proofs.Common.{◌≡◌, Ok, rules}
 use Rattle.std.proofs.lemmas.Result.{err_from_is_err_and}
 use Rattle.line_words.specs.Lines.{words_of}
 use Rattle.mctpctl_engines.specs.CaptureLine.{packet_word, moment_of}
-use Rattle.mctpctl_engines.proofs.capture.read_packet.Goals as goal
+use Rattle.mctpctl_engines.proofs.capture.read_words.Goals as goal
 
 pub returns-in_err-read_hex-clause-err : goal.returns-in_err-read_hex-clause-err
 returns-in_err-read_hex-clause-err c =
