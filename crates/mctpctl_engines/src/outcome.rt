@@ -1,6 +1,6 @@
 //! The text of what becomes of one packet.
 
-ghost use Rattle.std.specs.Prelude.{◌≡◌, ◌++◌, OnOk, OnErr, length, take};
+ghost use Rattle.std.specs.Prelude.{◌*◌, ◌+◌, ◌≡◌, ◌++◌, OnOk, OnErr, length, take};
 ghost use Rattle.mctp_packet.specs.Packets.{written};
 ghost use Rattle.mctp_packet.specs.Pieces.{written_packets};
 ghost use Rattle.pldm_responder.specs.Answering.{answering};
@@ -66,11 +66,21 @@ fn push_packet(out: &mut Vec<u8>, packet: &PacketRef<'_>) -> Result<(), Memory>
 {
     let mut bytes = [0; MOST_PACKET_BYTES];
     let count = write(packet, &mut bytes);
-    let mut digits = [0; 2 * MOST_PACKET_BYTES];
-    let Ok(()) = hex::encode_to_slice(&bytes[..count], &mut digits[..2 * count]) else {
+    let front = out.len();
+    out.resize(front + 2 * count + 1, 0)?;
+    let (_, line) = out.split_at_mut(front);
+    put_line(line, &bytes[..count]);
+    Ok(())
+}
+
+/// Puts the line of a packet of these bytes, for which there has to be just the room.
+fn put_line(line: &mut [u8], bytes: &[u8])
+    requires { length line.old ≡ 2 * length bytes.now + 1 }
+    ensures { line.new ≡ packet_text bytes.now }
+{
+    let (digits, end) = line.split_at_mut(2 * bytes.len());
+    let Ok(()) = hex::encode_to_slice(bytes, digits) else {
         unreachable!();
     };
-    out.extend_from_slice(&digits[..2 * count])?;
-    out.push(b'\n')?;
-    Ok(())
+    end[0] = b'\n';
 }

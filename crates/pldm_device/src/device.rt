@@ -120,78 +120,97 @@ impl SimDevice {
         Ok(())
     }
 
-    // The answer to GetPLDMVersion.
-    pub(crate) fn version_answer(&self, transfer_operation_flag: u8, pldm_type: u8) -> Answer
-        ensures { result ≡ version_answer transfer_operation_flag pldm_type self.now }
+    // Puts the answer to GetPLDMVersion into `given`.
+    #[inline(never)]
+    pub(crate) fn put_versions(
+        &self,
+        transfer_operation_flag: u8,
+        pldm_type: u8,
+        given: &mut Answer,
+    )
+        ensures { given.new ≡ version_answer transfer_operation_flag pldm_type self.now }
     {
         if transfer_operation_flag > GET_FIRST_PART {
-            return refused(INVALID_TRANSFER_OPERATION);
+            *given = refused(INVALID_TRANSFER_OPERATION);
+            return;
         }
         if transfer_operation_flag == GET_NEXT_PART {
-            return refused(INVALID_DATA_TRANSFER_HANDLE);
+            *given = refused(INVALID_DATA_TRANSFER_HANDLE);
+            return;
         }
         let versions = match pldm_type {
             BASE => &self.base_versions,
             PLATFORM => &self.platform_versions,
-            _ => return refused(INVALID_PLDM_TYPE),
+            _ => {
+                *given = refused(INVALID_PLDM_TYPE);
+                return;
+            }
         };
-        Answer::GetPldmVersion {
+        *given = Answer::GetPldmVersion {
             next_data_transfer_handle: 0,
             versions: VersionData::new(versions.as_slice()).unwrap(),
-        }
+        };
     }
 
-    // The answer to GetSensorReading.
-    pub(crate) fn reading_answer(&self, sensor: u16) -> Answer
-        ensures { result ≡ numeric_sensor_answered (with_id sensor self.now.numeric_sensors) }
+    // Puts the answer to GetSensorReading into `given`.
+    pub(crate) fn put_reading(&self, sensor: u16, given: &mut Answer)
+        ensures { given.new ≡ numeric_sensor_answered (with_id sensor self.now.numeric_sensors) }
     {
         match self.numeric_sensors.get(&sensor) {
-            Some(sensor) => Answer::GetSensorReading {
-                operational: SENSOR_ENABLED,
-                sensor_event_message_enable: NO_EVENTS,
-                present: sensor.present,
-                previous: sensor.previous,
-                event: sensor.event,
-                reading: sensor.reading,
-            },
-            None => refused(INVALID_SENSOR_ID),
+            Some(sensor) => {
+                *given = Answer::GetSensorReading {
+                    operational: SENSOR_ENABLED,
+                    sensor_event_message_enable: NO_EVENTS,
+                    present: sensor.present,
+                    previous: sensor.previous,
+                    event: sensor.event,
+                    reading: sensor.reading,
+                }
+            }
+            None => *given = refused(INVALID_SENSOR_ID),
         }
     }
 
-    // The answer to GetStateSensorReadings.
-    pub(crate) fn state_sensor_answer(&self, sensor: u16) -> Answer
-        ensures { result ≡ state_sensor_answered (with_id sensor self.now.state_sensors) }
+    // Puts the answer to GetStateSensorReadings into `given`.
+    pub(crate) fn put_sensor_states(&self, sensor: u16, given: &mut Answer)
+        ensures { given.new ≡ state_sensor_answered (with_id sensor self.now.state_sensors) }
     {
         match self.state_sensors.get(&sensor) {
-            Some(fields) => Answer::GetStateSensorReadings {
-                fields: StateFields::new(fields.as_slice()).unwrap(),
-            },
-            None => refused(INVALID_SENSOR_ID),
+            Some(fields) => {
+                *given = Answer::GetStateSensorReadings {
+                    fields: StateFields::new(fields.as_slice()).unwrap(),
+                }
+            }
+            None => *given = refused(INVALID_SENSOR_ID),
         }
     }
 
-    // The answer to GetNumericEffecterValue.
-    pub(crate) fn value_answer(&self, effecter: u16) -> Answer
-        ensures { result ≡ numeric_effecter_answered (with_id effecter self.now.numeric_effecters) }
+    // Puts the answer to GetNumericEffecterValue into `given`.
+    pub(crate) fn put_value(&self, effecter: u16, given: &mut Answer)
+        ensures { given.new ≡ numeric_effecter_answered (with_id effecter self.now.numeric_effecters) }
     {
         match self.numeric_effecters.get(&effecter) {
-            Some(effecter) => Answer::GetNumericEffecterValue {
-                operational: EFFECTER_ENABLED,
-                values: EffecterValues::new(effecter.value, effecter.value).unwrap(),
-            },
-            None => refused(INVALID_EFFECTER_ID),
+            Some(effecter) => {
+                *given = Answer::GetNumericEffecterValue {
+                    operational: EFFECTER_ENABLED,
+                    values: EffecterValues::new(effecter.value, effecter.value).unwrap(),
+                }
+            }
+            None => *given = refused(INVALID_EFFECTER_ID),
         }
     }
 
-    // The answer to GetStateEffecterStates.
-    pub(crate) fn states_answer(&self, effecter: u16) -> Answer
-        ensures { result ≡ state_effecter_answered (with_id effecter self.now.state_effecters) }
+    // Puts the answer to GetStateEffecterStates into `given`.
+    pub(crate) fn put_effecter_states(&self, effecter: u16, given: &mut Answer)
+        ensures { given.new ≡ state_effecter_answered (with_id effecter self.now.state_effecters) }
     {
         match self.state_effecters.get(&effecter) {
-            Some(effecter) => Answer::GetStateEffecterStates {
-                fields: effecter.fields(),
-            },
-            None => refused(INVALID_EFFECTER_ID),
+            Some(effecter) => {
+                *given = Answer::GetStateEffecterStates {
+                    fields: effecter.fields(),
+                }
+            }
+            None => *given = refused(INVALID_EFFECTER_ID),
         }
     }
 
@@ -231,10 +250,10 @@ pub(crate) fn types_answer() -> Answer
     Answer::GetPldmTypes { types }
 }
 
-/// The answer to GetPLDMCommands.
+/// Puts the answer to GetPLDMCommands into `given`.
 #[tactic(auto, unfolding(crate::specs::BaseAnswers::base_commands, crate::specs::BaseAnswers::platform_commands))]
-pub(crate) fn commands_answer(pldm_type: u8) -> Answer
-    ensures { result ≡ commands_answer pldm_type }
+pub(crate) fn put_commands(pldm_type: u8, given: &mut Answer)
+    ensures { given.new ≡ commands_answer pldm_type }
 {
     let mut commands = [0; COMMANDS_BYTES];
     match pldm_type {
@@ -246,9 +265,12 @@ pub(crate) fn commands_answer(pldm_type: u8) -> Answer
             commands[7] = 0x06;
             commands[10] = 0x03;
         }
-        _ => return refused(INVALID_PLDM_TYPE),
+        _ => {
+            *given = refused(INVALID_PLDM_TYPE);
+            return;
+        }
     }
-    Answer::GetPldmCommands { commands }
+    *given = Answer::GetPldmCommands { commands };
 }
 
 // Sets the numeric effecter with this ID.

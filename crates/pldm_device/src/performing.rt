@@ -6,67 +6,75 @@ ghost use Rattle.pldm_device.specs.DeviceLaws.{answers_the_command, reads_only, 
 ghost use Rattle.pldm_device.specs.EffecterAnswers.{outcome_answered};
 ghost use Rattle.pldm_device.specs.SensorAnswers.{sensed};
 
-use crate::device::{SimDevice, commands_answer, types_answer};
-use crate::record_answers::record_answer;
+use crate::device::{SimDevice, put_commands, types_answer};
+use crate::record_answers::put_record_part;
 use crate::{Platform, ReadingFault};
 use mctp_packet::Memory;
 use pldm_wire::{Answer, Code, Command};
 use std::alloc::Global;
 
 impl SimDevice {
-    // Performs the command and gives its answer.
+    // Performs the command and puts its answer into `given`.
     #[inline(never)]
-    fn answer_to(&mut self, command: &Command) -> Answer
-        ensures answer { result ≡ answer self.old command.now }
+    fn answer_into(&mut self, command: &Command, given: &mut Answer)
+        ensures answer { given.new ≡ answer self.old command.now }
         ensures after { self.new ≡ after self.old command.now }
     {
         match command {
-            Command::SetTid { tid } => done(Answer::SetTid, self.set_tid(*tid)),
-            Command::GetTid => Answer::GetTid { tid: self.tid() },
+            Command::SetTid { tid } => {
+                *given = Answer::SetTid;
+                put_outcome(given, self.set_tid(*tid));
+            }
+            Command::GetTid => *given = Answer::GetTid { tid: self.tid() },
             Command::GetPldmVersion {
                 transfer_operation_flag,
                 pldm_type,
                 ..
-            } => self.version_answer(*transfer_operation_flag, *pldm_type),
-            Command::GetPldmTypes => types_answer(),
-            Command::GetPldmCommands { pldm_type, .. } => commands_answer(*pldm_type),
-            Command::GetSensorReading { sensor, .. } => self.reading_answer(*sensor),
-            Command::GetStateSensorReadings { sensor, .. } => self.state_sensor_answer(*sensor),
-            Command::SetNumericEffecterValue { effecter, value } => done(
-                Answer::SetNumericEffecterValue,
-                self.set_number(*effecter, *value),
+            } => self.put_versions(*transfer_operation_flag, *pldm_type, given),
+            Command::GetPldmTypes => *given = types_answer(),
+            Command::GetPldmCommands { pldm_type, .. } => put_commands(*pldm_type, given),
+            Command::GetSensorReading { sensor, .. } => self.put_reading(*sensor, given),
+            Command::GetStateSensorReadings { sensor, .. } => self.put_sensor_states(
+                *sensor, given,
             ),
-            Command::GetNumericEffecterValue { effecter } => self.value_answer(*effecter),
-            Command::SetStateEffecterStates { effecter, fields } => done(
-                Answer::SetStateEffecterStates,
-                self.set_states(*effecter, fields),
-            ),
-            Command::GetStateEffecterStates { effecter } => self.states_answer(*effecter),
-            Command::GetPdrRepositoryInfo => self.repository_info(),
+            Command::SetNumericEffecterValue { effecter, value } => {
+                *given = Answer::SetNumericEffecterValue;
+                put_outcome(given, self.set_number(*effecter, *value));
+            }
+            Command::GetNumericEffecterValue { effecter } => self.put_value(*effecter, given),
+            Command::SetStateEffecterStates { effecter, fields } => {
+                *given = Answer::SetStateEffecterStates;
+                put_outcome(given, self.set_states(*effecter, fields));
+            }
+            Command::GetStateEffecterStates { effecter } => {
+                self.put_effecter_states(*effecter, given)
+            }
+            Command::GetPdrRepositoryInfo => *given = self.repository_info(),
             Command::GetPdr {
                 record_handle,
                 data_transfer_handle,
                 transfer_operation_flag,
                 request_count,
                 ..
-            } => record_answer(
+            } => put_record_part(
                 &self.records,
                 *record_handle,
                 *data_transfer_handle,
                 *transfer_operation_flag,
                 *request_count,
+                given,
             ),
         }
     }
 }
 
-// The answer to a command that sets: that it was done, or the refusal.
-fn done(answer: Answer, outcome: Result<(), Code>) -> Answer
-    ensures { result ≡ outcome_answered answer outcome }
+// Puts the refusal into `given`, which holds the answer that a command that sets gets, where it was
+// refused.
+fn put_outcome(given: &mut Answer, outcome: Result<(), Code>)
+    ensures { given.new ≡ outcome_answered given.old outcome }
 {
-    match outcome {
-        Ok(()) => answer,
-        Err(code) => Answer::Refused(code),
+    if let Err(code) = outcome {
+        *given = Answer::Refused(code);
     }
 }
 
@@ -99,7 +107,19 @@ impl Platform for SimDevice {
     ghost performed_in_turn = { λ first second third before after one other. tt };
 
     fn perform(&mut self, _alloc: Global, command: &Command) -> Result<Answer, Memory> {
-        Ok(self.answer_to(command))
+        let mut given = Answer::SetTid;
+        self.answer_into(command, &mut given);
+        Ok(given)
+    }
+
+    fn perform_into(
+        &mut self,
+        _alloc: Global,
+        command: &Command,
+        given: &mut Answer,
+    ) -> Result<(), Memory> {
+        self.answer_into(command, given);
+        Ok(())
     }
 
     fn set_reading(&mut self, id: u16, value: i64) -> Result<(), ReadingFault> {

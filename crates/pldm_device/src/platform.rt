@@ -78,6 +78,26 @@ pub trait Platform: Drop {
         ensures performs_none { OnErr result (performed self.old [] self.new) }
         ensures steady { IsTrue STEADY → IsOk result };
 
+    /// Does what `perform` does, and puts the answer in the place of the one that `given` holds. A
+    /// platform whose answers would else be copied may write it there at once. After Memory the state
+    /// is as before, and what `given` holds is not specified.
+    fn perform_into(
+        &mut self,
+        alloc: Global,
+        command: &Command,
+        given: &mut Answer,
+    ) -> Result<(), Memory>
+        ensures answered { OnOk result (given.new ≡ answer (state self.old) command.now) }
+        ensures changed { OnOk result (state self.new ≡ after (state self.old) command.now) }
+        ensures unchanged { OnErr result (state self.new ≡ state self.old) }
+        ensures performs { OnOk result (performed self.old (command.now ∷ []) self.new) }
+        ensures performs_none { OnErr result (performed self.old [] self.new) }
+        ensures steady { IsTrue STEADY → IsOk result }
+    {
+        *given = self.perform(alloc, command)?;
+        Ok(())
+    }
+
     /// Gives the numeric sensor with this ID the reading `value`. The state is as before where it
     /// answers a fault.
     fn set_reading(&mut self, id: u16, value: i64) -> Result<(), ReadingFault>

@@ -30,8 +30,29 @@ impl SimDevice {
     }
 }
 
+/// Puts the answer to GetPDR into `given`.
+#[inline(never)]
+pub(crate) fn put_record_part(
+    records: &Repository,
+    record_handle: u32,
+    data_transfer_handle: u32,
+    transfer_operation_flag: u8,
+    request_count: u16,
+    given: &mut Answer,
+)
+    ensures { given.new ≡ record_answer record_handle data_transfer_handle transfer_operation_flag request_count records.now }
+{
+    *given = record_answer(
+        records,
+        record_handle,
+        data_transfer_handle,
+        transfer_operation_flag,
+        request_count,
+    );
+}
+
 /// The answer to GetPDR.
-pub(crate) fn record_answer(
+fn record_answer(
     records: &Repository,
     record_handle: u32,
     data_transfer_handle: u32,

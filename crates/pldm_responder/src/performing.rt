@@ -34,14 +34,11 @@ pub(crate) fn perform<P: Platform>(
             return Ok(false);
         }
     };
-    match &platform.perform(alloc, &command) {
-        Ok(answer) => {
-            put_answer(reply, request.id(), request.kind(), answer);
-            let _few = reply.len();
-            Ok(command.sets() && succeeded(answer))
-        }
-        Err(memory) => Err(*memory),
-    }
+    let mut answer = Answer::SetTid;
+    platform.perform_into(alloc, &command, &mut answer)?;
+    put_answer(reply, request.id(), request.kind(), &answer);
+    let _few = reply.len();
+    Ok(command.sets() && succeeded(&answer))
 }
 
 /// Puts the message that refuses a request into `reply`.
