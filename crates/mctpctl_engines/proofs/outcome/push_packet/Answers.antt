@@ -1,5 +1,5 @@
 -- The line of a packet stands past the text that was there.
-use Rattle.std.proofs.Common.{rules, ◌≡◌, ◌++◌, length, take, replicate, ◌-◌, ℕ, ◌+◌, ◌*◌, ◌≤◌, List, sym, ap, ◌∙◌, arith}
+use Rattle.std.proofs.Common.{rules, ◌≡◌, ◌++◌, length, take, replicate, ◌-◌, ◌+◌, ◌*◌, ap, ◌∙◌, arith}
 use Rattle.std.proofs.lemmas.List.{take_at, take_all, length-append}
 use Rattle.mctp_packet.specs.Packets.{written}
 use Rattle.mctpctl_engines.specs.OutcomeTexts.{packet_text}
