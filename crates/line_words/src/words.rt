@@ -3,8 +3,6 @@
 ghost use Rattle.std.specs.Prelude.{◌≡◌, ◌≢◌, ◌==◌, ◌∷◌, [], IfSome, IfNone, position, slice_get, Some};
 ghost use Rattle.line_words.specs.Lines.{said_words, without_cr, words_of};
 
-use memchr::memchr;
-
 /// The line with one CR at its very end dropped.
 pub fn without_cr(line: &[u8]) -> &[u8]
     ensures { result.now ≡ without_cr line.now }
@@ -59,5 +57,5 @@ fn trim_spaces(text: &[u8]) -> &[u8]
 fn first_space(text: &[u8]) -> Option<usize>
     ensures { result ≡ position (λ b. b == 32) text.now }
 {
-    memchr(b' ', text)
+    text.iter().position(|byte| *byte == b' ')
 }

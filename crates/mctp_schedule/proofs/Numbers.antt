@@ -1,6 +1,6 @@
 -- Every constant of the source, told a second time.
 use Rattle.std.proofs.Common.{◌≡◌, refl}
-use Rattle.mctp_schedule.specs.declared.limits.TheConstants.{GREATEST_BYTE, GREATEST_ID, GREATEST_HANDLE, LONGEST_TIMEOUT, MOST_WORDS}
+use Rattle.mctp_schedule.specs.declared.limits.TheConstants.{GREATEST_BYTE, GREATEST_ID, GREATEST_HANDLE, LONGEST_TIMEOUT, MOST_COMMAND_WORDS}
 
 greatest_byte : GREATEST_BYTE ≡ 255
 greatest_byte = refl
@@ -14,5 +14,5 @@ greatest_handle = refl
 longest_timeout_in_milliseconds : LONGEST_TIMEOUT ≡ 60000
 longest_timeout_in_milliseconds = refl
 
-words_of_a_line : MOST_WORDS ≡ 14
-words_of_a_line = refl
+words_of_a_command : MOST_COMMAND_WORDS ≡ 10
+words_of_a_command = refl

@@ -9,7 +9,7 @@ ghost use Rattle.mctp_schedule.specs.Askers.{HasAnswer, HasPacket, IsSent, Tells
 ghost use Rattle.mctp_schedule.specs.Entries.{numbered};
 
 use arrayvec::ArrayVec;
-use mctp_packet::{Memory, Moment};
+use mctp_packet::{MOST_PACKET_BYTES, Memory, Moment, UNIT};
 use pldm_requester::{Due, Got, MOST_OPEN, OpenFault, Requester, Status};
 use pldm_wire::{Command, write_command};
 use std::alloc::Global;
@@ -37,10 +37,10 @@ impl Model for Asker {
 pub(crate) struct Sent {
     /// Its number, counted from 0 over the requests of its requester.
     pub(crate) own: u64,
-    /// Its message.
-    pub(crate) message: Vec<u8>,
+    /// Its message, which one packet carries.
+    pub(crate) message: ArrayVec<u8, UNIT>,
     /// The bytes of its packet.
-    pub(crate) packet: Vec<u8>,
+    pub(crate) packet: ArrayVec<u8, MOST_PACKET_BYTES>,
 }
 
 /// What came of a packet that an asker received.
@@ -74,7 +74,6 @@ impl Asker {
     /// Opens a request, which has the number `number` over all requests.
     pub(crate) fn open(
         &mut self,
-        alloc: Global,
         now: Moment,
         command: &Command,
         number: u64,
@@ -92,14 +91,14 @@ impl Asker {
             Err(OpenFault::Memory) => return Err(Memory),
             Err(fault) => return Ok(Err(fault)),
         };
-        let message = Vec::from_slice(alloc, &write_command(opened.id, command))?;
-        let packet = Vec::from_slice(alloc, self.packet(opened.number))?;
-        self.numbers.push(number)?;
-        Ok(Ok(Sent {
+        let message = write_command(opened.id, command);
+        let sent = Sent {
             own: opened.number,
-            message,
-            packet,
-        }))
+            message: in_place(&message),
+            packet: in_place(self.packet(opened.number)),
+        };
+        self.numbers.push(number)?;
+        Ok(Ok(sent))
     }
 
     /// The packet of a request that is remembered.
@@ -180,6 +179,14 @@ impl Asker {
             _ => unreachable!(),
         }
     }
+}
+
+/// Bytes of which there are at most `MOST`.
+fn in_place<const MOST: usize>(bytes: &[u8]) -> ArrayVec<u8, MOST>
+    requires { length bytes.now ≤ MOST }
+    ensures { result.items ≡ bytes.now }
+{
+    ArrayVec::try_from(bytes).unwrap()
 }
 
 /// Own numbers as numbers over all requests.

@@ -157,7 +157,7 @@ impl<P: Platform> Ends<P> {
         pldm_wire::laws::messages_fit();
         let number = self.journal.requests.len() as u64;
         let opening = match &mut self.places[usize::from(eid.get())] {
-            Some(asker) => asker.open(self.alloc, now, command, number)?,
+            Some(asker) => asker.open(now, command, number)?,
             None => unreachable!(),
         };
         match opening {

@@ -93,7 +93,7 @@ fn read_field_command(name: &Word<'_>, words: &[Word<'_>]) -> Result<Command, Li
 }
 
 /// The one word that there has to be.
-pub(crate) fn only_word<'w, 'a>(words: &'w [Word<'a>]) -> Result<&'w Word<'a>, LineFaultKind>
+fn only_word<'w, 'a>(words: &'w [Word<'a>]) -> Result<&'w Word<'a>, LineFaultKind>
     ensures { MatchResult result (λ word. only_word words.now ≡ Ok word.now) (λ kind. only_word words.now ≡ Err kind) }
 {
     match words {

@@ -12,16 +12,9 @@ use std::alloc::Global;
 use std::marker::Model;
 
 /// What became of the packet of a request. An answer is kept as one message, of which packets are made
-/// where they are asked for. It stands apart from the entry that tells it, so that the entries of other
-/// steps need no room for it.
+/// where they are asked for.
 #[derive(Debug, Drop)]
 pub struct Delivery {
-    kept: Box<Kept>,
-}
-
-/// What is kept of a delivery.
-#[derive(Debug, Drop)]
-struct Kept {
     taken: Taken,
     reply: Vec<u8>,
 }
@@ -32,7 +25,7 @@ impl Model for Delivery {
 
     ghost Value = { Outcome };
 
-    ghost view = { λ d. answering d.kept.value.reply.items d.kept.value.taken };
+    ghost view = { λ d. answering d.reply.items d.taken };
 }
 
 impl Delivery {
@@ -44,15 +37,14 @@ impl Delivery {
             Taken::Answered { .. } => Vec::from_slice(alloc, reply)?,
             _ => Vec::new(alloc),
         };
-        let kept = Box::new(alloc, Kept { taken, reply })?;
-        Ok(Delivery { kept })
+        Ok(Delivery { taken, reply })
     }
 
     /// What became of it, and whether it was performed, but for the answer.
     pub fn taken(&self) -> &Taken
         ensures { ComesTo result.now self.now }
     {
-        &self.kept.taken
+        &self.taken
     }
 
     /// The bytes of packet `index` of the answer, counted from 0; `None` past the last, and where it was
@@ -60,11 +52,10 @@ impl Delivery {
     pub fn packet(&self, index: usize) -> Option<ArrayVec<u8, MOST_PACKET_BYTES>>
         ensures { option_map (λ bytes. bytes.items) result ≡ packet_of_outcome self.now index }
     {
-        let Kept { taken, reply } = &*self.kept;
-        let Taken::Answered { route, .. } = taken else {
+        let Taken::Answered { route, .. } = &self.taken else {
             return None;
         };
-        let packet = packet_at(route, reply, index)?;
+        let packet = packet_at(route, &self.reply, index)?;
         Some(bytes_of(&packet))
     }
 }

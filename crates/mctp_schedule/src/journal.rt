@@ -18,7 +18,7 @@ use std::marker::Model;
 /// The packet of a request, and where the latest answers to it stand among the entries.
 #[derive(Debug, Drop)]
 pub(crate) struct Traffic {
-    packet: Vec<u8>,
+    packet: ArrayVec<u8, MOST_PACKET_BYTES>,
     reply: Option<usize>,
     busy: Option<usize>,
 }
@@ -35,7 +35,7 @@ impl Model for Traffic {
 
 impl Traffic {
     /// A request that has no answer yet.
-    fn new(packet: Vec<u8>) -> Traffic
+    fn new(packet: ArrayVec<u8, MOST_PACKET_BYTES>) -> Traffic
         ensures { result ≡ record { packet = packet.items; reply = None; busy = None } }
     {
         Traffic {
@@ -198,14 +198,27 @@ impl Journal {
         ensures order { OnOk result (self.new.order.items ≡ self.old.order.items ++ fresh_numbers number (answering reply.now taken)) }
         ensures timely { OnOk result (self.new.timely ≡ (in_time && self.old.timely)) }
     {
-        let place = self.entries.len();
-        self.traffic[number as usize].answer_at(place, busy);
+        self.answer_next(number, busy);
         if let Taken::Answered { fresh: true, .. } = &taken {
             self.order.push(number)?;
         }
         self.timely = in_time && self.timely;
         let delivery = Delivery::new(self.alloc, taken, reply)?;
         self.enter(Entry::Delivered { busy, delivery })
+    }
+
+    /// The latest answer to a request, a busy one or not, stands in the next entry.
+    fn answer_next(&mut self, number: u64, busy: bool)
+        requires { number < length self.old.traffic.items }
+        ensures all { length self.new.traffic.items ≡ length self.old.traffic.items }
+        ensures traffic { (k : ℕ) → slice_get self.new.traffic.items k ≡ option_map (λ t. if k == number then answers_at (length self.old.entries.items) busy t else t) (slice_get self.old.traffic.items k) }
+        ensures entries { self.new.entries ≡ self.old.entries }
+        ensures requests { self.new.requests ≡ self.old.requests }
+        ensures order { self.new.order ≡ self.old.order }
+        ensures timely { self.new.timely ≡ self.old.timely }
+    {
+        let place = self.entries.len();
+        self.traffic[number as usize].answer_at(place, busy);
     }
 
     /// Writes down what a requester got.

@@ -20,12 +20,15 @@ mod step;
 #[cfg(test)]
 mod tests;
 mod word;
+mod words;
 
 pub use both_ends::{Report, Setup, run};
 pub use delivery::Delivery;
 pub use due_requests::DueRequests;
 pub use entry::Entry;
-pub use limits::{GREATEST_BYTE, GREATEST_HANDLE, GREATEST_ID, LONGEST_TIMEOUT, MOST_WORDS};
+pub use limits::{
+    GREATEST_BYTE, GREATEST_HANDLE, GREATEST_ID, LONGEST_TIMEOUT, MOST_COMMAND_WORDS,
+};
 pub use line_fault::{LineFault, LineFaultKind};
 pub use opened_request::OpenedRequest;
 pub use run_fault::RunFault;

@@ -1,4 +1,4 @@
-//! How large the numbers of a schedule's line may be, and how many words one may have.
+//! How large the numbers of a schedule's line may be, and how many words a command may have.
 
 /// The greatest number of one byte.
 pub const GREATEST_BYTE: u64 = 255;
@@ -12,5 +12,5 @@ pub const GREATEST_HANDLE: u64 = 4_294_967_295;
 /// The longest timeout of a requester, in milliseconds.
 pub const LONGEST_TIMEOUT: u64 = 60_000;
 
-/// The most words of a line that is well formed: `at MS open EID setstate ID` and eight states.
-pub const MOST_WORDS: usize = 14;
+/// The most words of a command that is well formed: `setstate ID` and eight states.
+pub const MOST_COMMAND_WORDS: usize = 10;

@@ -4,8 +4,9 @@ ghost use Rattle.std.specs.Prelude.{◌≡◌};
 ghost use Rattle.line_words.specs.Lines.{said_words};
 ghost use Rattle.mctp_schedule.specs.LineWords.{action_named, line_of, only_eid, only_number, open_of, reply_of, requester_of, restart_of, sense_of, step_of};
 
-use crate::command_words::{only_word, read_command};
-use crate::word::{Word, words_in};
+use crate::command_words::read_command;
+use crate::word::Word;
+use crate::words::{Words, words_in};
 use crate::{Action, LineFaultKind, RequesterLine, Step};
 use mctp_packet::Eid;
 
@@ -21,37 +22,28 @@ pub(crate) enum Line {
 }
 
 /// What a line says, given without its LF.
-#[tactic(auto, using(crate::proofs::LongLines::line_long))]
 pub(crate) fn read_line(line: &[u8]) -> Result<Line, LineFaultKind>
     ensures { result ≡ line_of (said_words line.now) }
 {
-    let Some(words) = words_in(line) else {
-        return Err(LineFaultKind::Words);
-    };
-    read_words(&words)
-}
-
-/// What a line of these words says.
-fn read_words(words: &[Word<'_>]) -> Result<Line, LineFaultKind>
-    ensures { result ≡ line_of words.now }
-{
-    let [keyword, words @ ..] = words else {
+    let Some((keyword, mut words)) = words_in(line) else {
         return Ok(Line::Nothing);
     };
     if keyword.is(b"requester") {
-        read_requester(words)
+        read_requester(&mut words)
     } else if keyword.is(b"at") {
-        read_step(words)
+        read_step(&mut words)
     } else {
         Err(LineFaultKind::Words)
     }
 }
 
 /// `requester EID timeout MS tries N`, by the words after the first.
-fn read_requester(words: &[Word<'_>]) -> Result<Line, LineFaultKind>
-    ensures { result ≡ requester_of words.now }
+#[tactic(auto, using(crate::proofs::LongLines::requester_long))]
+fn read_requester(words: &mut Words<'_>) -> Result<Line, LineFaultKind>
+    ensures { result ≡ requester_of words.old }
 {
-    let [eid, timeout, limit, tries, count] = words else {
+    let words = words.rest()?;
+    let [eid, timeout, limit, tries, count] = words.as_slice() else {
         return Err(LineFaultKind::Words);
     };
     if !timeout.is(b"timeout") || !tries.is(b"tries") {
@@ -68,20 +60,19 @@ fn read_requester(words: &[Word<'_>]) -> Result<Line, LineFaultKind>
 }
 
 /// `at MS` and an action, by the words after the first.
-fn read_step(words: &[Word<'_>]) -> Result<Line, LineFaultKind>
-    ensures { result ≡ step_of words.now }
+fn read_step(words: &mut Words<'_>) -> Result<Line, LineFaultKind>
+    ensures { result ≡ step_of words.old }
 {
-    let [moment, name, words @ ..] = words else {
-        return Err(LineFaultKind::Words);
-    };
-    let action = read_action(name, words)?;
+    let moment = words.next()?;
+    let name = words.next()?;
+    let action = read_action(&name, words)?;
     let moment = moment.moment()?;
     Ok(Line::Step(Step { moment, action }))
 }
 
 /// The action of this name, with the words after it.
-fn read_action(name: &Word<'_>, words: &[Word<'_>]) -> Result<Action, LineFaultKind>
-    ensures { result ≡ action_named name.now words.now }
+fn read_action(name: &Word<'_>, words: &mut Words<'_>) -> Result<Action, LineFaultKind>
+    ensures { result ≡ action_named name.now words.old }
 {
     if name.is(b"open") {
         read_open(words)
@@ -106,62 +97,56 @@ fn read_action(name: &Word<'_>, words: &[Word<'_>]) -> Result<Action, LineFaultK
 }
 
 /// The one endpoint ID that there has to be.
-fn only_eid(words: &[Word<'_>]) -> Result<Eid, LineFaultKind>
-    ensures { result ≡ only_eid words.now }
+fn only_eid(words: &mut Words<'_>) -> Result<Eid, LineFaultKind>
+    ensures { result ≡ only_eid words.old }
 {
-    only_word(words)?.eid()
+    words.last()?.eid()
 }
 
 /// The one number that there has to be.
-fn only_number(words: &[Word<'_>]) -> Result<u64, LineFaultKind>
-    ensures { result ≡ only_number words.now }
+fn only_number(words: &mut Words<'_>) -> Result<u64, LineFaultKind>
+    ensures { result ≡ only_number words.old }
 {
-    only_word(words)?.any_number()
+    words.last()?.any_number()
 }
 
 /// `EID COMMAND`.
-fn read_open(words: &[Word<'_>]) -> Result<Action, LineFaultKind>
-    ensures { result ≡ open_of words.now }
+#[tactic(auto, using(crate::proofs::LongLines::command_long))]
+fn read_open(words: &mut Words<'_>) -> Result<Action, LineFaultKind>
+    ensures { result ≡ open_of words.old }
 {
-    let [eid, words @ ..] = words else {
-        return Err(LineFaultKind::Words);
-    };
-    let command = read_command(words)?;
+    let eid = words.next()?;
+    let command = read_command(&words.rest()?)?;
     let requester = eid.eid()?;
     Ok(Action::Open { requester, command })
 }
 
 /// `K J`.
-fn read_reply(words: &[Word<'_>]) -> Result<Action, LineFaultKind>
-    ensures { result ≡ reply_of words.now }
+fn read_reply(words: &mut Words<'_>) -> Result<Action, LineFaultKind>
+    ensures { result ≡ reply_of words.old }
 {
-    let [number, packet] = words else {
-        return Err(LineFaultKind::Words);
-    };
+    let number = words.next()?;
+    let packet = words.last()?;
     let number = number.any_number()?;
     let packet = packet.byte()?;
     Ok(Action::Reply { number, packet })
 }
 
 /// `ID VALUE`.
-fn read_sense(words: &[Word<'_>]) -> Result<Action, LineFaultKind>
-    ensures { result ≡ sense_of words.now }
+fn read_sense(words: &mut Words<'_>) -> Result<Action, LineFaultKind>
+    ensures { result ≡ sense_of words.old }
 {
-    let [sensor, value] = words else {
-        return Err(LineFaultKind::Words);
-    };
+    let sensor = words.next()?;
+    let value = words.last()?;
     let sensor = sensor.id()?;
     let value = value.any_value()?;
     Ok(Action::Sense { sensor, value })
 }
 
 /// No word.
-fn read_restart(words: &[Word<'_>]) -> Result<Action, LineFaultKind>
-    ensures { result ≡ restart_of words.now }
+fn read_restart(words: &mut Words<'_>) -> Result<Action, LineFaultKind>
+    ensures { result ≡ restart_of words.old }
 {
-    if words.is_empty() {
-        Ok(Action::Restart)
-    } else {
-        Err(LineFaultKind::Words)
-    }
+    words.end()?;
+    Ok(Action::Restart)
 }

@@ -6,7 +6,8 @@ ghost use Rattle.pldm_requester.specs.Numbering.{id_of, tag_of};
 ghost use Rattle.pldm_requester.specs.Standings.{standing_told};
 ghost use Rattle.mctp_schedule.specs.Requests.{begun, with_standing};
 
-use mctp_packet::{Eid, Moment, TAGS, Tag};
+use arrayvec::ArrayVec;
+use mctp_packet::{Eid, Moment, TAGS, Tag, UNIT};
 use pldm_requester::Status;
 use pldm_wire::INSTANCE_IDS;
 use std::marker::Model;
@@ -17,7 +18,7 @@ pub struct OpenedRequest {
     requester: Eid,
     number: u64,
     opening: Moment,
-    message: Vec<u8>,
+    message: ArrayVec<u8, UNIT>,
     standing: Standing,
 }
 
@@ -51,7 +52,7 @@ impl OpenedRequest {
         requester: Eid,
         number: u64,
         opening: Moment,
-        message: Vec<u8>,
+        message: ArrayVec<u8, UNIT>,
     ) -> OpenedRequest
         ensures { result ≡ begun requester number opening message.items }
     {

@@ -1,15 +1,11 @@
 //! A word of a line, and the numbers that it may spell.
 
-ghost use Rattle.std.specs.Prelude.{◌≡◌, ◌≤◌, ◌<◌, IfOk, IfSome, IfNone, length};
-ghost use Rattle.line_words.specs.Lines.{said_words};
+ghost use Rattle.std.specs.Prelude.{◌≡◌, ◌≤◌, IfOk};
 ghost use Rattle.mctp_schedule.specs.CommandWords.{is};
 ghost use Rattle.mctp_schedule.specs.WordValues.{any_number, any_value, eid_in, moment_in, number_up_to};
 
-use crate::{
-    GREATEST_BYTE, GREATEST_HANDLE, GREATEST_ID, LONGEST_TIMEOUT, LineFaultKind, MOST_WORDS,
-};
-use arrayvec::ArrayVec;
-use line_words::{first_word, read_decimal, read_number, read_value, split_word};
+use crate::{GREATEST_BYTE, GREATEST_HANDLE, GREATEST_ID, LONGEST_TIMEOUT, LineFaultKind};
+use line_words::{read_decimal, read_number, read_value};
 use mctp_packet::{Eid, LAST_EID, LAST_MOMENT, Moment};
 use std::marker::Model;
 
@@ -124,25 +120,4 @@ impl<'a> Word<'a> {
         let number = self.number_up_to(LAST_MOMENT)?;
         Ok(Moment::new(number).unwrap())
     }
-}
-
-/// The words that a line says, given without its LF; `None` where there are more than
-/// [`MOST_WORDS`].
-pub(crate) fn words_in(line: &[u8]) -> Option<ArrayVec<Word<'_>, MOST_WORDS>>
-    ensures some { IfSome result (λ words. words.items ≡ said_words line.now) }
-    ensures none { IfNone result (MOST_WORDS < length (said_words line.now)) }
-{
-    let mut words = ArrayVec::new();
-    let Some((first, mut rest)) = first_word(line) else {
-        return Some(words);
-    };
-    words.push(Word::new(first));
-    while let Some((word, after)) = split_word(rest) {
-        if words.is_full() {
-            return None;
-        }
-        words.push(Word::new(word));
-        rest = after;
-    }
-    Some(words)
 }

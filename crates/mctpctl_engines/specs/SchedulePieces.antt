@@ -5,11 +5,13 @@ use Rattle.line_words.specs.TextLines.{lines_of}
 use Rattle.mctpctl_engines.specs.AnswerText.{described_run, divided_run, run_of}
 use Rattle.mctpctl_engines.specs.LineRuns.{Written, stops_at}
 use Rattle.mctpctl_engines.specs.Pieces.{Gives}
+use Rattle.mctpctl_engines.specs.ReportTexts.{report_text}
 use Rattle.mctpctl_engines.specs.RunText.{scheduled_run}
 use Rattle.mctpctl_engines.specs.TextLines.{capture_lines, description_of}
 use Rattle.mctpctl_engines.specs.declared.faults.EngineFault.{EngineFault}
 use Rattle.mctpctl_engines.specs.declared.faults.EngineFault.TheVariants as faults
 use Rattle.mctpctl_engines.specs.declared.limits.TheConstants.{MAX_DESCRIPTION}
+use Rattle.mctpctl_engines.specs.declared.schedule_run.Ran.{Ran}
 use Rattle.pldm_device.specs.Descriptions.{stated}
 use Rattle.pldm_device.specs.declared.description.Description.{Description}
 use Rattle.pldm_device.specs.declared.description_fault.FileFault.{FileFault}
@@ -27,6 +29,12 @@ Tells owed (Err fault) = (fault ≡ faults.Memory) ⊎ ((fault ≢ faults.Memory
 abbrev pub TellsText : {T : Type 0} → (T → List ℕ) → Written → Result T EngineFault → Type 0
 TellsText bytes written (Ok text) = (written.fault ≡ None) × (written.text ≡ bytes text)
 TellsText bytes written (Err fault) = (fault ≡ faults.Memory) ⊎ ((fault ≢ faults.Memory) × (written ≡ stops_at fault))
+
+-- the text of a schedule and what came of it
+abbrev pub text_of_ran : Ran → List ℕ
+text_of_ran ran =
+    report_text ran.schedule.steps ran.report.entries.items ran.report.requests.items ran.report.order.items
+    ran.report.device ran.report.timely
 
 -- a run whose input is cut off writes nothing
 

@@ -7,7 +7,7 @@ ghost use Rattle.mctpctl_engines.specs.AnswerText.{run_of};
 ghost use Rattle.mctpctl_engines.specs.DescribedPieces.{begun};
 ghost use Rattle.mctpctl_engines.specs.Pieces.{Takes, Finishes};
 ghost use Rattle.mctpctl_engines.specs.RunText.{schedule_written, scheduled_run, spelled_by, stop_of_line, stop_of_run};
-ghost use Rattle.mctpctl_engines.specs.SchedulePieces.{Tells, TellsText, nothing_where_cut, schedule_gives};
+ghost use Rattle.mctpctl_engines.specs.SchedulePieces.{Tells, TellsText, nothing_where_cut, schedule_gives, text_of_ran};
 ghost use Rattle.mctpctl_engines.specs.TextLines.{capture_lines, description_of};
 
 use crate::faults::{EngineFault, LineKind};
@@ -16,9 +16,10 @@ use crate::lines::is_divider;
 use crate::report_text::push_report;
 use crate::stream::Run;
 use line_words::split_line;
-use mctp_schedule::{LineFault, LineFaultKind, RunFault, Schedule, Setup, run};
-use pldm_device::{Description, FileFault};
+use mctp_schedule::{LineFault, LineFaultKind, Report, RunFault, Schedule, Setup, run};
+use pldm_device::{Description, FileFault, SimDevice};
 use std::alloc::Global;
+use std::mem::swap;
 
 /// The run of `run`: what has come of the input, which is looked at once it has ended.
 #[derive(Drop)]
@@ -114,13 +115,20 @@ fn stop_of_run(fault: RunFault) -> EngineFault
     }
 }
 
-/// Runs a schedule over the described device, and tells what came of it.
+/// A schedule, and what came of it.
+#[derive(Drop)]
+struct Ran {
+    schedule: Schedule,
+    report: Report<SimDevice>,
+}
+
+/// Runs a schedule over the described device.
 fn run_schedule(
     alloc: Global,
     description: Description,
     schedule: &[u8],
-) -> Result<Vec<u8>, EngineFault>
-    ensures meets { TellsText (λ text. text.items) (schedule_written description (schedule_of schedule.now)) result }
+) -> Result<Ran, EngineFault>
+    ensures meets { TellsText text_of_ran (schedule_written description (schedule_of schedule.now)) result }
     ensures read { result ≢ Err EngineFault.Read }
     ensures write { result ≢ Err EngineFault.Write }
     ensures device { result ≢ Err (EngineFault.Device FileFault.Memory) }
@@ -131,20 +139,15 @@ fn run_schedule(
     };
     let Description { eid, keep, device } = description;
     let setup = Setup { eid, keep, device };
-    let report = match run(alloc, setup, &schedule) {
-        Ok(report) => report,
-        Err(fault) => return Err(stop_of_run(fault)),
-    };
-    let mut text = Vec::new(alloc);
-    if push_report(alloc, &mut text, schedule.steps(), &report).is_err() {
-        return Err(EngineFault::Memory);
+    match run(alloc, setup, &schedule) {
+        Ok(report) => Ok(Ran { schedule, report }),
+        Err(fault) => Err(stop_of_run(fault)),
     }
-    Ok(text)
 }
 
 /// Runs all of an input, of which there is more where it is cut off.
-fn run_input(alloc: Global, text: &[u8], is_cut: bool) -> Result<Vec<u8>, EngineFault>
-    ensures meets { TellsText (λ text. text.items) (run_of scheduled_run is_cut text.now) result }
+fn run_input(alloc: Global, text: &[u8], is_cut: bool) -> Result<Ran, EngineFault>
+    ensures meets { TellsText text_of_ran (run_of scheduled_run is_cut text.now) result }
     ensures read { result ≢ Err EngineFault.Read }
     ensures write { result ≢ Err EngineFault.Write }
     ensures device { result ≢ Err (EngineFault.Device FileFault.Memory) }
@@ -186,22 +189,27 @@ impl Run for ScheduleRun {
         Ok(())
     }
 
-    /// Takes the end of the input, and tells what came of it.
+    /// Takes the end of the input, and tells what came of it. The text is made in the room of the input,
+    /// which is not wanted any more.
     fn finish(&mut self, alloc: Global, is_cut: bool, out: &mut Vec<u8>) -> Result<(), EngineFault>
         ensures meets { Finishes (schedule_gives self.old.kept.items is_cut []) out.old.items out.new.items result }
         ensures read { result ≢ Err EngineFault.Read }
         ensures write { result ≢ Err EngineFault.Write }
         ensures device { result ≢ Err (EngineFault.Device FileFault.Memory) }
     {
-        let text = match run_input(alloc, &self.kept, is_cut) {
-            Ok(text) => text,
+        let Ran { schedule, report } = match run_input(alloc, &self.kept, is_cut) {
+            Ok(ran) => ran,
             Err(fault) => return Err(fault),
         };
+        self.kept.clear();
+        if push_report(alloc, &mut self.kept, schedule.steps(), &report).is_err() {
+            return Err(EngineFault::Memory);
+        }
         if out.is_empty() {
-            *out = text;
+            swap(out, &mut self.kept);
             return Ok(());
         }
-        if out.extend_from_slice(&text).is_err() {
+        if out.extend_from_slice(&self.kept).is_err() {
             return Err(EngineFault::Memory);
         }
         Ok(())

@@ -7,17 +7,17 @@ use Rattle.mctp_packet.specs.Pieces.{piece_count, written_packets}
 use Rattle.mctp_packet.specs.declared.packet.Route.{Route}
 use Rattle.pldm_responder.specs.Answering.{answering}
 use Rattle.pldm_responder.specs.declared.outcome.Outcome.{Outcome}
+use Rattle.pldm_responder.specs.declared.taken.Taken.{Taken}
 use Rattle.pldm_responder.specs.declared.taken.Taken.TheVariants.{Answered}
 use Rattle.mctp_schedule.specs.Deliveries.{packet_of_outcome}
-use Rattle.mctp_schedule.specs.declared.delivery.Kept.{Kept}
 use Rattle.mctp_schedule.proofs.WrittenPlaces.{packet_past, packet_stands}
 use Rattle.mctp_schedule.proofs.delivery.Delivery.packet.Goals as goal
 
-place_is : (outcome : Outcome) (kept : Kept) (fresh changed : Bool) (route : Route) (message : List ℕ) (i : ℕ)
-    → answering kept.reply.items kept.taken ≡ outcome → kept.taken ≡ Answered fresh changed route → kept.reply.items ≡ message
+place_is : (outcome : Outcome) (reply : List ℕ) (taken : Taken) (fresh changed : Bool) (route : Route) (message : List ℕ) (i : ℕ)
+    → answering reply taken ≡ outcome → taken ≡ Answered fresh changed route → reply ≡ message
     → packet_of_outcome outcome i ≡ slice_get (written_packets route message) i
-place_is outcome kept fresh changed route message i is answered same =
-    ap (λ o. packet_of_outcome o i) (sym is ∙ ap (answering kept.reply.items) answered)
+place_is outcome reply taken fresh changed route message i is answered same =
+    ap (λ o. packet_of_outcome o i) (sym is ∙ ap (answering reply) answered)
     ∙ ap (λ m. slice_get (written_packets route m) i) same
 
 not_below : (i n : ℕ) → (i < n → false ≡ true) → n ≤ i
@@ -29,22 +29,18 @@ not_below i n none = go (cases_lt i n)
 
 pub returns-in_err-packet : goal.returns-in_err-packet
 returns-in_err-packet c =
-    let same = sym c.deref.ensures in
-    let message = c.deref-2.result.now in
+    let message = c.deref.result.now in
     let route = c.in-Answered.route in
     let past = not_below c.args.index (piece_count message) c.in_err-packet.ensures.some.1 in
     ap (option_map (λ bytes. bytes.items)) c.from_residual.ensures ∙ sym (packet_past route message c.args.index past)
-    ∙ sym (place_is c.args.self.now c.self.inside.kept.value c.in-Answered.fresh c.in-Answered.changed route message c.args.index c.self.view_is
-    (ap (λ (kept : Kept). kept.taken) same ∙ c.in-Answered.is)
-    (ap (λ (kept : Kept). kept.reply.items) same ∙ sym c.deref-2.ensures.value))
+    ∙ sym (place_is c.args.self.now c.self.inside.reply.items c.self.inside.taken c.in-Answered.fresh c.in-Answered.changed route message c.args.index c.self.view_is
+    c.in-Answered.is (sym c.deref.ensures.value))
 
 pub returns : goal.returns
 returns c =
-    let same = sym c.deref.ensures in
-    let message = c.deref-2.result.now in
+    let message = c.deref.result.now in
     let route = c.in-Answered.route in
     ap Some (c.bytes_of.ensures ∙ ap written c.in_ok-packet.ensures.value)
     ∙ sym (packet_stands route message c.args.index (c.in_ok-packet.ensures.some.0 refl))
-    ∙ sym (place_is c.args.self.now c.self.inside.kept.value c.in-Answered.fresh c.in-Answered.changed route message c.args.index c.self.view_is
-    (ap (λ (kept : Kept). kept.taken) same ∙ c.in-Answered.is)
-    (ap (λ (kept : Kept). kept.reply.items) same ∙ sym c.deref-2.ensures.value))
+    ∙ sym (place_is c.args.self.now c.self.inside.reply.items c.self.inside.taken c.in-Answered.fresh c.in-Answered.changed route message c.args.index c.self.view_is
+    c.in-Answered.is (sym c.deref.ensures.value))

@@ -1,7 +1,0 @@
--- `memchr` finds the first place of a byte.
-use Rattle.std.proofs.Common.{◌==◌}
-use Rattle.line_words.proofs.FoundPlaces.{found_place}
-use Rattle.line_words.proofs.words.first_space.Goals as goal
-
-pub returns : goal.returns
-returns c = found_place (λ b. b == 32) c.args.text.now c.memchr.result c.memchr.ensures
