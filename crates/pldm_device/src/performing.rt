@@ -68,8 +68,7 @@ impl SimDevice {
     }
 }
 
-// Puts the refusal into `given`, which holds the answer that a command that sets gets, where it was
-// refused.
+/// Puts the refusal into `given` where a change was refused, and leaves `given` as it is where not.
 fn put_outcome(given: &mut Answer, outcome: Result<(), Code>)
     ensures { given.new ≡ outcome_answered given.old outcome }
 {
