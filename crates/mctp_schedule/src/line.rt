@@ -100,14 +100,14 @@ fn read_action(name: &Word<'_>, words: &mut Words<'_>) -> Result<Action, LineFau
 fn only_eid(words: &mut Words<'_>) -> Result<Eid, LineFaultKind>
     ensures { result ≡ only_eid words.old }
 {
-    words.last()?.eid()
+    words.only()?.eid()
 }
 
 /// The one number that there has to be.
 fn only_number(words: &mut Words<'_>) -> Result<u64, LineFaultKind>
     ensures { result ≡ only_number words.old }
 {
-    words.last()?.any_number()
+    words.only()?.any_number()
 }
 
 /// `EID COMMAND`.
@@ -126,7 +126,7 @@ fn read_reply(words: &mut Words<'_>) -> Result<Action, LineFaultKind>
     ensures { result ≡ reply_of words.old }
 {
     let number = words.next()?;
-    let packet = words.last()?;
+    let packet = words.only()?;
     let number = number.any_number()?;
     let packet = packet.byte()?;
     Ok(Action::Reply { number, packet })
@@ -137,7 +137,7 @@ fn read_sense(words: &mut Words<'_>) -> Result<Action, LineFaultKind>
     ensures { result ≡ sense_of words.old }
 {
     let sensor = words.next()?;
-    let value = words.last()?;
+    let value = words.only()?;
     let sensor = sensor.id()?;
     let value = value.any_value()?;
     Ok(Action::Sense { sensor, value })

@@ -1,6 +1,6 @@
 //! The words of a line, one after the other.
 
-ghost use Rattle.std.specs.Prelude.{◌≡◌, ◌≢◌, ◌<◌, ◌++◌, ◌∷◌, [], IfOk, IfErr, IfSome, IfNone, OnOk, OnErr, length};
+ghost use Rattle.std.specs.Prelude.{◌≡◌, ◌≢◌, ◌<◌, ◌∷◌, [], IfOk, IfErr, IfSome, IfNone, OnOk, OnErr, length};
 ghost use Rattle.line_words.specs.Lines.{said_words};
 ghost use Rattle.mctp_schedule.specs.CommandWords.{only_word};
 ghost use Rattle.mctp_schedule.specs.declared.line_fault.LineFaultKind.TheVariants as kinds;
@@ -41,6 +41,7 @@ impl<'a> Words<'a> {
     pub(crate) fn next(&mut self) -> Result<Word<'a>, LineFaultKind>
         ensures ok { IfOk result (λ word. self.old ≡ word ∷ self.new) }
         ensures none { OnErr result (self.old ≡ []) }
+        ensures same { OnErr result (self.new ≡ self.old) }
         ensures err { IfErr result (λ kind. kind ≡ kinds.Words) }
     {
         let Some((word, text)) = split_word(self.text) else {
@@ -51,7 +52,7 @@ impl<'a> Words<'a> {
     }
 
     /// The one word that there has to be.
-    pub(crate) fn last(&mut self) -> Result<Word<'a>, LineFaultKind>
+    pub(crate) fn only(&mut self) -> Result<Word<'a>, LineFaultKind>
         ensures { result ≡ only_word self.old }
     {
         let word = self.next()?;
