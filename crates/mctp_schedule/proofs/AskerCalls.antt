@@ -133,7 +133,7 @@ none_told numbers (Drop reason) h = refl
 none_told numbers Part h = refl
 none_told numbers (Answer number message) h = absurd (h number refl)
 
-pub one_told : (numbers : List ℕ) (arrival : Arrival) (own : ℕ) (a : Answered) → got_of arrival ≡ got.Answered own → a.number ≡ slice_index numbers own → ((m : List ℕ) → arrival ≡ Answer own m → a.message.items ≡ m) → TellsAnswer numbers arrival (Some a)
+pub one_told : (numbers : List ℕ) (arrival : Arrival) (own : ℕ) (a : Answered) → got_of arrival ≡ got.Answered own → a.number ≡ slice_index numbers own → ((m : List ℕ) → arrival ≡ Answer own m → a.message ≡ m) → TellsAnswer numbers arrival (Some a)
 one_told numbers (Drop reason) own a e number message = absurd (cc)
 one_told numbers Part own a e number message = absurd (cc)
 one_told numbers (Answer n m) own a e number message =

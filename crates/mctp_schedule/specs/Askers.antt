@@ -53,4 +53,4 @@ abbrev pub TellsAnswer : List ℕ → Arrival → Option Answered → Type 0
 TellsAnswer numbers (Drop reason) answered = answered ≡ None
 TellsAnswer numbers Part answered = answered ≡ None
 TellsAnswer numbers (Answer number message) answered =
-    (a : Answered) × (answered ≡ Some a) × (a.number ≡ slice_index numbers number) × (a.message.items ≡ message)
+    (a : Answered) × (answered ≡ Some a) × (a.number ≡ slice_index numbers number) × (a.message ≡ message)

@@ -66,4 +66,4 @@ stands_after given_up number request =
 abbrev pub answered_as : Option Answered → ℕ → Request → Request
 answered_as None number request = request
 answered_as (Some answered) number request =
-    if number == answered.number then with_standing (courses.Answered answered.message.items) request else request
+    if number == answered.number then with_standing (courses.Answered answered.message) request else request

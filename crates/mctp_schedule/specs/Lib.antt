@@ -10,6 +10,7 @@ pub mod HandedPackets
 pub mod Headline
 pub mod Journals
 pub mod Laws
+pub mod KeptMessages
 pub mod LineFaults
 pub mod LineSpelling
 pub mod LineWords

@@ -13,7 +13,7 @@ pub record Request : Type 0 where
 
 abbrev pub standing_of : Standing → courses.Standing
 standing_of Waiting = courses.Waiting
-standing_of (Answered message) = courses.Answered message.items
+standing_of (Answered message) = courses.Answered message
 standing_of GaveUp = courses.GaveUp
 
 -- it is stored as its parts

@@ -8,10 +8,12 @@ ghost use Rattle.pldm_requester.specs.Slots.{held_of};
 ghost use Rattle.mctp_schedule.specs.Askers.{HasAnswer, HasPacket, IsSent, TellsAnswer};
 ghost use Rattle.mctp_schedule.specs.Entries.{numbered};
 
+use crate::kept_message::KeptMessage;
+use crate::limits::MOST_REQUEST_PACKET_BYTES;
 use arrayvec::ArrayVec;
-use mctp_packet::{MOST_PACKET_BYTES, Memory, Moment, UNIT};
+use mctp_packet::{Memory, Moment};
 use pldm_requester::{Due, Got, MOST_OPEN, OpenFault, Requester, Status};
-use pldm_wire::{Command, write_command};
+use pldm_wire::{Command, MOST_REQUEST_BYTES, write_command};
 use std::alloc::Global;
 use std::marker::Model;
 
@@ -38,9 +40,9 @@ pub(crate) struct Sent {
     /// Its number, counted from 0 over the requests of its requester.
     pub(crate) own: u64,
     /// Its message, which one packet carries.
-    pub(crate) message: ArrayVec<u8, UNIT>,
+    pub(crate) message: ArrayVec<u8, MOST_REQUEST_BYTES>,
     /// The bytes of its packet.
-    pub(crate) packet: ArrayVec<u8, MOST_PACKET_BYTES>,
+    pub(crate) packet: ArrayVec<u8, MOST_REQUEST_PACKET_BYTES>,
 }
 
 /// What came of a packet that an asker received.
@@ -57,7 +59,7 @@ pub(crate) struct Answered {
     /// Its number over all requests.
     pub(crate) number: u64,
     /// The message that answered it.
-    pub(crate) message: Vec<u8>,
+    pub(crate) message: KeptMessage,
 }
 
 impl Asker {
@@ -135,12 +137,14 @@ impl Asker {
         self.requester.count()
     }
 
-    /// Takes the bytes of a packet.
+    /// Takes the bytes of a packet. An answer that it completes stands where `sent` does, if both are the
+    /// same.
     pub(crate) fn receive(
         &mut self,
         alloc: Global,
         now: Moment,
         bytes: &[u8],
+        sent: Option<&KeptMessage>,
     ) -> Result<Taken, Memory>
         requires moment { (held_of self.old.station).last ≤ now }
         requires all { length self.old.numbers ≡ (held_of self.old.station).count }
@@ -156,24 +160,29 @@ impl Asker {
                 answered: None,
             });
         };
-        let answered = self.answered(alloc, own)?;
+        let answered = self.answered(alloc, own, sent)?;
         Ok(Taken {
             got,
             answered: Some(answered),
         })
     }
 
-    /// A request that has been answered.
-    fn answered(&self, alloc: Global, own: u64) -> Result<Answered, Memory>
+    /// A request that has been answered. The answer stands where `sent` does, if both are the same.
+    fn answered(
+        &self,
+        alloc: Global,
+        own: u64,
+        sent: Option<&KeptMessage>,
+    ) -> Result<Answered, Memory>
         requires answer { HasAnswer (held_of self.now.station) own }
         requires one { own < length self.now.numbers }
         ensures number { IfOk result (λ answered. answered.number ≡ slice_index self.now.numbers own) }
-        ensures message { IfOk result (λ answered. option_map (λ memo. memo.course.standing) ((held_of self.now.station).remembered own) ≡ Some (courses.Answered answered.message.items)) }
+        ensures message { IfOk result (λ answered. option_map (λ memo. memo.course.standing) ((held_of self.now.station).remembered own) ≡ Some (courses.Answered answered.message)) }
     {
         let number = self.numbers[own as usize];
         match self.requester.status(own) {
             Some(Status::Answered(message)) => {
-                let message = Vec::from_slice(alloc, message)?;
+                let message = KeptMessage::new(alloc, message, sent)?;
                 Ok(Answered { number, message })
             }
             _ => unreachable!(),

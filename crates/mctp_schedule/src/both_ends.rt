@@ -220,12 +220,13 @@ impl<P: Platform> Ends<P> {
             self.journal.enter(Entry::Nothing)?;
             return Ok(());
         };
+        let sent = journal.answer(number, busy);
         let request = &journal.requests[number as usize];
         let own = request.number();
         let (in_time, taken) = match &mut self.places[usize::from(request.requester().get())] {
             Some(asker) => {
                 let in_time = asker.count().saturating_sub(u64::from(TAGS)) <= own;
-                (in_time, asker.receive(self.alloc, now, &bytes)?)
+                (in_time, asker.receive(self.alloc, now, &bytes, sent)?)
             }
             None => unreachable!(),
         };

@@ -5,6 +5,7 @@ ghost use Rattle.mctp_packet.specs.Packets.{written};
 ghost use Rattle.pldm_responder.specs.Answering.{answering};
 ghost use Rattle.mctp_schedule.specs.Deliveries.{ComesTo, packet_of_outcome};
 
+use crate::kept_message::KeptMessage;
 use arrayvec::ArrayVec;
 use mctp_packet::{MOST_PACKET_BYTES, Memory, PacketRef, packet_at, write};
 use pldm_responder::Taken;
@@ -16,7 +17,7 @@ use std::marker::Model;
 #[derive(Debug, Drop)]
 pub struct Delivery {
     taken: Taken,
-    reply: Vec<u8>,
+    reply: KeptMessage,
 }
 
 impl Model for Delivery {
@@ -25,17 +26,23 @@ impl Model for Delivery {
 
     ghost Value = { Outcome };
 
-    ghost view = { λ d. answering d.reply.items d.taken };
+    ghost view = { λ d. answering d.reply d.taken };
 }
 
 impl Delivery {
-    /// The delivery of which this became, where `reply` is the message that answers it.
-    pub(crate) fn new(alloc: Global, taken: Taken, reply: &[u8]) -> Result<Delivery, Memory>
+    /// The delivery of which this became, where `reply` is the message that answers it. It stands where
+    /// `last` does if both are the same.
+    pub(crate) fn new(
+        alloc: Global,
+        taken: Taken,
+        reply: &[u8],
+        last: Option<&KeptMessage>,
+    ) -> Result<Delivery, Memory>
         ensures { IfOk result (λ delivery. delivery ≡ answering reply.now taken) }
     {
         let reply = match &taken {
-            Taken::Answered { .. } => Vec::from_slice(alloc, reply)?,
-            _ => Vec::new(alloc),
+            Taken::Answered { .. } => KeptMessage::new(alloc, reply, last)?,
+            _ => KeptMessage::new(alloc, &[], None)?,
         };
         Ok(Delivery { taken, reply })
     }
@@ -47,6 +54,11 @@ impl Delivery {
         &self.taken
     }
 
+    /// The message that answers it, empty where none does.
+    pub(crate) fn reply(&self) -> &KeptMessage {
+        &self.reply
+    }
+
     /// The bytes of packet `index` of the answer, counted from 0; `None` past the last, and where it was
     /// not answered.
     pub fn packet(&self, index: usize) -> Option<ArrayVec<u8, MOST_PACKET_BYTES>>
@@ -55,7 +67,7 @@ impl Delivery {
         let Taken::Answered { route, .. } = &self.taken else {
             return None;
         };
-        let packet = packet_at(route, &self.reply, index)?;
+        let packet = packet_at(route, self.reply.bytes(), index)?;
         Some(bytes_of(&packet))
     }
 }

@@ -7,6 +7,8 @@ ghost use Rattle.mctp_schedule.specs.Journals.{answered_as, answers_at, fresh_nu
 ghost use Rattle.mctp_schedule.specs.Requests.{begun};
 
 use crate::askers::{Answered, Sent};
+use crate::kept_message::KeptMessage;
+use crate::limits::MOST_REQUEST_PACKET_BYTES;
 use crate::{Delivery, DueRequests, Entry, OpenedRequest};
 use arrayvec::ArrayVec;
 use mctp_packet::{Eid, MOST_PACKET_BYTES, Memory, Moment};
@@ -18,7 +20,7 @@ use std::marker::Model;
 /// The packet of a request, and where the latest answers to it stand among the entries.
 #[derive(Debug, Drop)]
 pub(crate) struct Traffic {
-    packet: ArrayVec<u8, MOST_PACKET_BYTES>,
+    packet: ArrayVec<u8, MOST_REQUEST_PACKET_BYTES>,
     reply: Option<usize>,
     busy: Option<usize>,
 }
@@ -35,7 +37,7 @@ impl Model for Traffic {
 
 impl Traffic {
     /// A request that has no answer yet.
-    fn new(packet: ArrayVec<u8, MOST_PACKET_BYTES>) -> Traffic
+    fn new(packet: ArrayVec<u8, MOST_REQUEST_PACKET_BYTES>) -> Traffic
         ensures { result ≡ record { packet = packet.items; reply = None; busy = None } }
     {
         Traffic {
@@ -119,6 +121,15 @@ impl Journal {
         }
     }
 
+    /// The latest answer to a request, a busy one or not, if there is one.
+    pub(crate) fn answer(&self, number: u64, busy: bool) -> Option<&KeptMessage> {
+        let traffic = self.traffic.get(number as usize)?;
+        match self.entries.get(traffic.place(busy)?)? {
+            Entry::Delivered { delivery, .. } => Some(delivery.reply()),
+            _ => None,
+        }
+    }
+
     /// Writes down what came of a step that told nothing of a request.
     pub(crate) fn enter(&mut self, entry: Entry) -> Result<(), Memory>
         ensures entries { OnOk result (self.new.entries.items ≡ self.old.entries.items ++ entry ∷ []) }
@@ -198,12 +209,12 @@ impl Journal {
         ensures order { OnOk result (self.new.order.items ≡ self.old.order.items ++ fresh_numbers number (answering reply.now taken)) }
         ensures timely { OnOk result (self.new.timely ≡ (in_time && self.old.timely)) }
     {
-        self.answer_next(number, busy);
         if let Taken::Answered { fresh: true, .. } = &taken {
             self.order.push(number)?;
         }
         self.timely = in_time && self.timely;
-        let delivery = Delivery::new(self.alloc, taken, reply)?;
+        let delivery = Delivery::new(self.alloc, taken, reply, self.answer(number, busy))?;
+        self.answer_next(number, busy);
         self.enter(Entry::Delivered { busy, delivery })
     }
 

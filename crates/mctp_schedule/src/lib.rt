@@ -8,6 +8,7 @@ mod delivery;
 mod due_requests;
 mod entry;
 mod journal;
+mod kept_message;
 pub mod laws;
 mod limits;
 mod line;
@@ -16,6 +17,7 @@ mod opened_request;
 mod places;
 mod run_fault;
 mod schedule;
+mod short_message;
 mod step;
 #[cfg(test)]
 mod tests;

@@ -1,4 +1,8 @@
-//! How large the numbers of a schedule's line may be, and how many words a command may have.
+//! How large the numbers of a schedule's line may be, how many words a command may have, and
+//! how many bytes its packet.
+
+use mctp_packet::HEADER;
+use pldm_wire::MOST_REQUEST_BYTES;
 
 /// The greatest number of one byte.
 pub const GREATEST_BYTE: u64 = 255;
@@ -14,3 +18,6 @@ pub const LONGEST_TIMEOUT: u64 = 60_000;
 
 /// The most words of a command that is well formed: `setstate ID` and eight states.
 pub const MOST_COMMAND_WORDS: usize = 10;
+
+/// The most bytes of the packet that carries a command.
+pub(crate) const MOST_REQUEST_PACKET_BYTES: usize = HEADER + MOST_REQUEST_BYTES;

@@ -6,10 +6,11 @@ ghost use Rattle.pldm_requester.specs.Numbering.{id_of, tag_of};
 ghost use Rattle.pldm_requester.specs.Standings.{standing_told};
 ghost use Rattle.mctp_schedule.specs.Requests.{begun, with_standing};
 
+use crate::kept_message::KeptMessage;
 use arrayvec::ArrayVec;
-use mctp_packet::{Eid, Moment, TAGS, Tag, UNIT};
+use mctp_packet::{Eid, Moment, TAGS, Tag};
 use pldm_requester::Status;
-use pldm_wire::INSTANCE_IDS;
+use pldm_wire::{INSTANCE_IDS, MOST_REQUEST_BYTES};
 use std::marker::Model;
 
 /// A request that was opened, and how it stands.
@@ -18,7 +19,7 @@ pub struct OpenedRequest {
     requester: Eid,
     number: u64,
     opening: Moment,
-    message: ArrayVec<u8, UNIT>,
+    message: ArrayVec<u8, MOST_REQUEST_BYTES>,
     standing: Standing,
 }
 
@@ -28,7 +29,7 @@ enum Standing {
     /// It is open.
     Waiting,
     /// It was answered, by this message.
-    Answered(Vec<u8>),
+    Answered(KeptMessage),
     /// It was given up.
     GaveUp,
 }
@@ -52,7 +53,7 @@ impl OpenedRequest {
         requester: Eid,
         number: u64,
         opening: Moment,
-        message: ArrayVec<u8, UNIT>,
+        message: ArrayVec<u8, MOST_REQUEST_BYTES>,
     ) -> OpenedRequest
         ensures { result ≡ begun requester number opening message.items }
     {
@@ -113,7 +114,7 @@ impl OpenedRequest {
     {
         match &self.standing {
             Standing::Waiting => Status::Open,
-            Standing::Answered(message) => Status::Answered(message),
+            Standing::Answered(message) => Status::Answered(message.bytes()),
             Standing::GaveUp => Status::GaveUp,
         }
     }
@@ -126,8 +127,8 @@ impl OpenedRequest {
     }
 
     /// It is answered.
-    pub(crate) fn answer(&mut self, message: Vec<u8>)
-        ensures { self.new ≡ with_standing (Answered message.items) self.old }
+    pub(crate) fn answer(&mut self, message: KeptMessage)
+        ensures { self.new ≡ with_standing (Answered message) self.old }
     {
         self.standing = Standing::Answered(message);
     }

@@ -1,14 +1,16 @@
 -- How a request stands, as the code keeps it and as it tells it.
+use Rattle.std.specs.Prelude.{ℕ, List}
 use Rattle.pldm_requester.specs.Courses as courses
 use Rattle.pldm_requester.specs.declared.remembered.Standing.{Standing}
 use Rattle.pldm_requester.specs.declared.remembered.Standing.TheVariants.{Waiting, Answered, GaveUp}
 use Rattle.pldm_requester.specs.declared.status.Status.{Status}
 use Rattle.pldm_requester.specs.declared.status.Status.TheVariants as status
 
-abbrev pub standing_of : Standing → courses.Standing
-standing_of Waiting = courses.Waiting
-standing_of (Answered message) = courses.Answered message.items
-standing_of GaveUp = courses.GaveUp
+-- with this answer, where there is one
+abbrev pub standing_of : Standing → List ℕ → courses.Standing
+standing_of Waiting answer = courses.Waiting
+standing_of Answered answer = courses.Answered answer
+standing_of GaveUp answer = courses.GaveUp
 
 abbrev pub standing_told : Status → courses.Standing
 standing_told status.Open = courses.Waiting

@@ -3,17 +3,17 @@ ghost use Rattle.pldm_requester.specs.Courses.{ticked};
 ghost use Rattle.pldm_requester.specs.Steps.{with_course};
 
 use crate::{Status, Timing};
-use mctp_packet::{Body, Moment, Packets};
+use mctp_packet::{Body, MOST_MESSAGE_BYTES, Moment, Packets};
 use pldm_wire::Kind;
 use std::marker::Model;
 
 /// How a request stands.
-#[derive(Debug, Drop)]
+#[derive(Clone, Copy, Debug)]
 pub(crate) enum Standing {
     /// It is open.
     Waiting,
-    /// It was answered, by this message.
-    Answered(Body),
+    /// It was answered.
+    Answered,
     /// It was given up.
     GaveUp,
 }
@@ -31,6 +31,8 @@ pub(crate) struct Remembered {
     pub(crate) last_sent: Moment,
     /// How it stands.
     pub(crate) standing: Standing,
+    /// The message that answered it, where one did.
+    pub(crate) answer: Body,
 }
 
 impl Model for Remembered {
@@ -43,12 +45,12 @@ impl Model for Remembered {
 
     ghost use Rattle.pldm_requester.specs.Standings.{standing_of};
 
-    ghost view = { λ r. record { kind = r.kind; packets = r.packets; course = record { opening = r.opening; last_sent = r.last_sent; standing = standing_of r.standing } } };
+    ghost view = { λ r. record { kind = r.kind; packets = r.packets; course = record { opening = r.opening; last_sent = r.last_sent; standing = standing_of r.standing r.answer.items } } };
 }
 
 impl Remembered {
-    ghost use Rattle.std.specs.Prelude.{◌≡◌};
-    ghost use Rattle.pldm_requester.specs.Courses.{is_open, is_over, is_given_up, is_sent_again, ticked};
+    ghost use Rattle.std.specs.Prelude.{◌≡◌, ◌≤◌, length};
+    ghost use Rattle.pldm_requester.specs.Courses.{answered, is_open, is_over, is_given_up, is_sent_again, ticked};
     ghost use Rattle.pldm_requester.specs.Steps.{with_course};
     ghost use Rattle.pldm_requester.specs.Standings.{standing_told};
 
@@ -93,13 +95,23 @@ impl Remembered {
         }
     }
 
+    /// It is answered by this message.
+    pub(crate) fn take(&mut self, message: &[u8])
+        requires { length message.now ≤ MOST_MESSAGE_BYTES }
+        ensures { self.new ≡ with_course (answered message.now) self.old }
+    {
+        self.answer.clear();
+        self.answer.try_extend_from_slice(message).unwrap();
+        self.standing = Standing::Answered;
+    }
+
     /// How it stands, as callers see it.
     pub(crate) fn status(&self) -> Status<'_>
         ensures { standing_told result ≡ self.now.course.standing }
     {
         match &self.standing {
             Standing::Waiting => Status::Open,
-            Standing::Answered(message) => Status::Answered(message),
+            Standing::Answered => Status::Answered(&self.answer),
             Standing::GaveUp => Status::GaveUp,
         }
     }

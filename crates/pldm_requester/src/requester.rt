@@ -1,10 +1,12 @@
-ghost use Rattle.std.specs.Prelude.{◌≡◌, ◌⊎◌, ◌+◌, ◌%◌, ◌^◌, ◌<◌, ◌≤◌, true, [], ◌∷◌, ◌++◌, if◌then◌else◌, None, Some, Ok, Err, option_map, vec_len, vec_capacity, IfOk, IfErr, IsErrOf, OnOk, OnErr};
+ghost use Rattle.std.specs.Prelude.{◌≡◌, ◌⊎◌, ◌+◌, ◌%◌, ◌^◌, ◌<◌, ◌≤◌, true, [], ◌∷◌, ◌++◌, length, IfSome, if◌then◌else◌, None, Some, Ok, Err, option_map, vec_len, vec_capacity, IfOk, IfErr, IsErrOf, OnOk, OnErr};
 ghost use Rattle.std.specs.Bool.{OnFalse};
 ghost use Rattle.std.specs.Option.{option_copied};
 ghost use Rattle.arrayvec.specs.ArrayVec.{array_vec_len};
 ghost use Rattle.mctp_packet.specs.Ids.{IsTag};
 ghost use Rattle.mctp_packet.specs.Passing.{passed as where_expected};
 ghost use Rattle.mctp_packet.specs.Pieces.{written_packets};
+ghost use Rattle.mctp_assembly.specs.Steps.{answer};
+ghost use Rattle.mctp_assembly.specs.declared.fed.Fed.TheVariants.{Whole};
 ghost use Rattle.pldm_wire.specs.Commands.{command_message};
 ghost use Rattle.pldm_wire.specs.Responses.{response_of};
 ghost use Rattle.pldm_requester.specs.Arrivals.{got_of, is_response_to, response_arrival};
@@ -21,7 +23,8 @@ use crate::{Due, Got, OpenFault, Opened, Status, Timing, TimingFault};
 use arrayvec::ArrayVec;
 use mctp_assembly::{Assembler, Fed, Key};
 use mctp_packet::{
-    Body, Eid, Memory, Moment, PacketRef, Packets, Reason, Route, TAGS, Tag, read_for, split,
+    Body, Eid, MOST_MESSAGE_BYTES, Memory, Moment, PacketRef, Packets, Reason, Route, TAGS, Tag,
+    read_for, split,
 };
 use pldm_wire::{
     Command, ERROR_NOT_READY, INSTANCE_IDS, Kind, ResponseRef, read_response, write_command,
@@ -212,6 +215,7 @@ impl Requester {
                 opening: now,
                 last_sent: now,
                 standing: Standing::Waiting,
+                answer: Body::new(),
             },
         );
         self.assembler.forget(answer_key(self.device, tag));
@@ -321,10 +325,27 @@ impl Requester {
         let Some(number) = self.goes_to(packet) else {
             return Ok(Got::Dropped(Reason::BadTag));
         };
+        if let Some(message) = self.alone(packet) {
+            let got = self.answer(number, message);
+            self.assembler.forget(Key::of(packet));
+            return Ok(got);
+        }
         match self.assembler.feed(packet)? {
-            Fed::Whole(message) => Ok(self.answer(number, message)),
+            Fed::Whole(message) => Ok(self.answer(number, &message)),
             Fed::Partial => Ok(Got::Partial),
             Fed::Dropped(reason) => Ok(Got::Dropped(reason)),
+        }
+    }
+
+    /// The message of a packet that is both a start and an end packet: its payload, whatever is open.
+    fn alone<'a>(&self, packet: &PacketRef<'a>) -> Option<&'a [u8]>
+        ensures whole { IfSome result (λ message. Whole (record { items = message.now }) ≡ answer self.now.open_messages packet.now) }
+        ensures few { IfSome result (λ message. length message.now ≤ MOST_MESSAGE_BYTES) }
+    {
+        if packet.start() && packet.end() {
+            Some(packet.payload())
+        } else {
+            None
         }
     }
 
@@ -347,11 +368,12 @@ impl Requester {
     }
 
     /// Takes a whole message that came to an open request.
-    fn answer(&mut self, number: u64, message: Body) -> Got
-        ensures got { result ≡ got_of (response_arrival (is_mine (held_of self.old)) number message.items (response_of message.items)) }
-        ensures held { IsHeld (held_of self.new) (record (held_of self.old) { remembered = remembered_after (held_of self.old) (response_arrival (is_mine (held_of self.old)) number message.items (response_of message.items)) }) }
+    fn answer(&mut self, number: u64, message: &[u8]) -> Got
+        requires { length message.now ≤ MOST_MESSAGE_BYTES }
+        ensures got { result ≡ got_of (response_arrival (is_mine (held_of self.old)) number message.now (response_of message.now)) }
+        ensures held { IsHeld (held_of self.new) (record (held_of self.old) { remembered = remembered_after (held_of self.old) (response_arrival (is_mine (held_of self.old)) number message.now (response_of message.now)) }) }
     {
-        let response = match read_response(&message) {
+        let response = match read_response(message) {
             Ok(response) => response,
             Err(reason) => return Got::Dropped(reason),
         };
@@ -363,7 +385,7 @@ impl Requester {
         }
         let place = (number % MOST_REMEMBERED as u64) as usize;
         let slot = &mut self.slots[place];
-        slot.standing = Standing::Answered(message);
+        slot.take(message);
         Got::Answered(number)
     }
 

@@ -9,7 +9,7 @@ use Rattle.pldm_wire.specs.Numbers.{SizedNumber, number_bytes}
 use Rattle.pldm_wire.specs.RecordParts.{checksum_bytes}
 use Rattle.pldm_wire.specs.Commands.{IsCommand, command_data}
 use Rattle.pldm_wire.specs.Answers.{IsAnswer, answer_data}
-use Rattle.pldm_wire.specs.MessageSizes.{CommandFitsOnePacket, AnswerFitsMessage}
+use Rattle.pldm_wire.specs.MessageSizes.{CommandFitsOnePacket, CommandIsShort, AnswerFitsMessage}
 use Rattle.pldm_wire.specs.declared.size.Size.{Size}
 use Rattle.pldm_wire.specs.declared.size.Size.TheVariants.{Uint8, Sint8, Uint16, Sint16, Uint32, Sint32}
 use Rattle.pldm_wire.specs.declared.command.Command.{Command}
@@ -55,6 +55,9 @@ short_command (GetPdr record_handle handle flag count change) h =
 
 pub command_fits : CommandFitsOnePacket
 command_fits id command h = (omega arith, omega (arith, short_command command h))
+
+pub command_is_short : CommandIsShort
+command_is_short id command h = omega (arith, short_command command h)
 
 -- an answer's data is short enough
 short_answer : (answer : Answer) → IsAnswer answer → 5 + length (answer_data answer) ≤ MOST_MESSAGE_BYTES

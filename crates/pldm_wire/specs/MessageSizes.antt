@@ -5,6 +5,7 @@ use Rattle.pldm_wire.specs.Commands.{IsCommand, command_message}
 use Rattle.pldm_wire.specs.Answers.{IsAnswer, answer_message}
 use Rattle.pldm_wire.specs.Kinds.{TypeAndCommand}
 use Rattle.pldm_wire.specs.declared.command.Command.{Command}
+use Rattle.pldm_wire.specs.declared.limits.TheConstants.{MOST_REQUEST_BYTES}
 use Rattle.pldm_wire.specs.declared.answer.Answer.{Answer}
 
 -- the message of a command has a header at least, and no more than one packet carries
@@ -12,6 +13,11 @@ abbrev pub CommandFitsOnePacket : Type 0
 CommandFitsOnePacket =
     (id : ℕ) (command : Command) → IsCommand command
     → (0 < length (command_message id command)) × (length (command_message id command) ≤ UNIT)
+
+-- and no more than that of a command with all eight states
+abbrev pub CommandIsShort : Type 0
+CommandIsShort =
+    (id : ℕ) (command : Command) → IsCommand command → length (command_message id command) ≤ MOST_REQUEST_BYTES
 
 -- the message of an answer has a header at least, and no more bytes than a message may have
 abbrev pub AnswerFitsMessage : Type 0

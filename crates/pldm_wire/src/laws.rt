@@ -1,7 +1,7 @@
 //! Laws over the definitions alone. Nothing is computed: each function's contract is its law.
 
 ghost use Rattle.pldm_wire.specs.Laws.{AnswerReadBack, AnswerWritten, CommandReadBack, CommandWritten, CrcIsRemainder, OneAnswer, OneCommand, OneRemainder, OneRequest, OneResponse, OnlyCrc, RequestOrResponse, RequestReadBack, ResponseReadBack, WrittenAnswerReadBack, WrittenCommandReadBack};
-ghost use Rattle.pldm_wire.specs.MessageSizes.{CommandFitsOnePacket, AnswerFitsMessage};
+ghost use Rattle.pldm_wire.specs.MessageSizes.{CommandFitsOnePacket, CommandIsShort, AnswerFitsMessage};
 
 /// Bytes are one request at most, one response at most, and not both; and each is read as itself.
 pub fn messages_are_told_apart()
@@ -43,9 +43,10 @@ pub fn checksums_are_remainders()
     ensures only { OnlyCrc }
 {}
 
-/// The message of a command has at most the bytes of one packet, and that of an answer at most those
-/// of a message; both have some.
+/// The message of a command has at most the bytes of one packet, and at most `MOST_REQUEST_BYTES`; that
+/// of an answer has at most the bytes of a message; both have some.
 pub fn messages_fit()
     ensures command { CommandFitsOnePacket }
+    ensures short { CommandIsShort }
     ensures answer { AnswerFitsMessage }
 {}

@@ -1,6 +1,6 @@
 //! How much the fields of a message may hold.
 
-use crate::RESPONSE_HEADER;
+use crate::{REQUEST_HEADER, RESPONSE_HEADER};
 use mctp_packet::MOST_MESSAGE_BYTES;
 
 /// The most fields of a composite state sensor or effecter (DSP0248, "compositeSensorCount" and
@@ -27,6 +27,9 @@ pub const MOST_PART_BYTES: usize = MOST_MESSAGE_BYTES - RESPONSE_HEADER - PART_F
 /// The bytes of SetStateEffecterStates' data where it has all eight fields, whatever their count
 /// (DSP0248, "SetStateEffecterStates command").
 pub const ALL_FIELDS_FORM: usize = 19;
+
+/// The most bytes of a command's message: SetStateEffecterStates with all eight fields.
+pub const MOST_REQUEST_BYTES: usize = REQUEST_HEADER + ALL_FIELDS_FORM;
 
 /// The bytes in which GetPLDMTypes' answer tells the PLDM types, a bit each (DSP0240, "GetPLDMTypes
 /// command").

@@ -32,9 +32,9 @@ packet-requires c =
 
 pub in_place-requires : goal.in_place-requires
 in_place-requires c =
-    let fits = c.messages_fit.ensures.command c.in-Ok.opened.id c.args.command.now c.write_command-message.ensures.range in
+    let short = c.messages_fit.ensures.short c.in-Ok.opened.id c.args.command.now c.write_command-message.ensures.range in
     let same = ap (λ (bytes : List ℕ). length bytes) (c.deref.ensures.0 ∙ c.write_command-message.ensures.spelled) in
-    omega (arith, same, fits)
+    omega (arith, same, short)
 
 pub in_place-requires-2 : goal.in_place-requires-2
 in_place-requires-2 c =
@@ -51,7 +51,8 @@ in_place-requires-2 c =
     here ∙ ap Some (one_packet (route_of held.own held.device held.count) message fits.0 fits.1) in
     let bytes : c.packet.result.now ≡ packet_bytes held.own held.device held.count message = cc in
     let same = ap (λ (bytes : List ℕ). length bytes) bytes in
-    omega (arith, same, fits)
+    let short = c.messages_fit.ensures.short (held.count % 32) c.args.command.now c.write_command-message.ensures.range in
+    omega (arith, same, short)
 
 pub returns-clause-sent : goal.returns-clause-sent
 returns-clause-sent c =

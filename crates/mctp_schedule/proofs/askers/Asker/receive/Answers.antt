@@ -40,7 +40,7 @@ returns-clause-answered c =
     let standing = option_map (λ (memo : Memo). memo.course.standing) ((held_of c.receive.new.self).remembered own) in
     subst (λ (s : Side). TellsAnswer s.numbers (arrived_by (held_of s.station) (passed (held_of s.station) c.args.bytes.now)) (Some answered)) c.self.view_is
     (one_told c.self.inside.numbers.items (arrived_by held (passed held c.args.bytes.now)) own answered (sym c.in_ok-got.ensures.got ∙ c.in-Answered.is) c.in_ok-answered.ensures.number
-    (λ m e. same_answer standing answered.message.items m c.in_ok-answered.ensures.message (standing_after held (held_of c.receive.new.self) c.args.now c.args.bytes.now own m c.in_ok-got.ensures.held e)))
+    (λ m e. same_answer standing answered.message m c.in_ok-answered.ensures.message (standing_after held (held_of c.receive.new.self) c.args.now c.args.bytes.now own m c.in_ok-got.ensures.held e)))
 
 pub returns-clause-held : goal.returns-clause-held
 returns-clause-held c =

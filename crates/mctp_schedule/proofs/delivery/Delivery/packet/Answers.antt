@@ -29,18 +29,18 @@ not_below i n none = go (cases_lt i n)
 
 pub returns-in_err-packet : goal.returns-in_err-packet
 returns-in_err-packet c =
-    let message = c.deref.result.now in
+    let message = c.bytes.result.now in
     let route = c.in-Answered.route in
     let past = not_below c.args.index (piece_count message) c.in_err-packet.ensures.some.1 in
     ap (option_map (λ bytes. bytes.items)) c.from_residual.ensures ∙ sym (packet_past route message c.args.index past)
-    ∙ sym (place_is c.args.self.now c.self.inside.reply.items c.self.inside.taken c.in-Answered.fresh c.in-Answered.changed route message c.args.index c.self.view_is
-    c.in-Answered.is (sym c.deref.ensures.value))
+    ∙ sym (place_is c.args.self.now c.self.inside.reply c.self.inside.taken c.in-Answered.fresh c.in-Answered.changed route message c.args.index c.self.view_is
+    c.in-Answered.is (sym c.bytes.ensures))
 
 pub returns : goal.returns
 returns c =
-    let message = c.deref.result.now in
+    let message = c.bytes.result.now in
     let route = c.in-Answered.route in
     ap Some (c.bytes_of.ensures ∙ ap written c.in_ok-packet.ensures.value)
     ∙ sym (packet_stands route message c.args.index (c.in_ok-packet.ensures.some.0 refl))
-    ∙ sym (place_is c.args.self.now c.self.inside.reply.items c.self.inside.taken c.in-Answered.fresh c.in-Answered.changed route message c.args.index c.self.view_is
-    c.in-Answered.is (sym c.deref.ensures.value))
+    ∙ sym (place_is c.args.self.now c.self.inside.reply c.self.inside.taken c.in-Answered.fresh c.in-Answered.changed route message c.args.index c.self.view_is
+    c.in-Answered.is (sym c.bytes.ensures))
