@@ -2,5 +2,6 @@ pub mod Keys
 pub mod Opened
 pub mod Rows
 pub mod Steps
+pub mod Givens
 pub mod Histories
 pub mod Laws

@@ -1,12 +1,13 @@
 ghost use Rattle.std.specs.FinMap as map;
 ghost use Rattle.std.specs.Prelude.{◌≡◌, ◌≤◌, true, length, IfOk, OnOk, OnErr, IfSome};
+ghost use Rattle.mctp_assembly.specs.Givens.{fed_with};
 ghost use Rattle.mctp_assembly.specs.Steps.{answer, after};
 ghost use Rattle.mctp_assembly.specs.declared.key.Key.{Key};
 ghost use Rattle.mctp_assembly.specs.declared.fed.Fed.TheVariants.{Partial};
 
 use crate::buffer::{Buffer, look_alone};
-use crate::{Fed, Key};
-use mctp_packet::{FIRST_EID, LAST_EID, MOST_MESSAGE_BYTES, Memory, PacketRef, TAGS};
+use crate::{Fed, Given, Key};
+use mctp_packet::{Body, FIRST_EID, LAST_EID, MOST_MESSAGE_BYTES, Memory, PacketRef, TAGS};
 use std::alloc::Global;
 use std::collections::BTreeMap;
 use std::marker::Model;
@@ -65,22 +66,49 @@ impl Assembler {
         ensures at_start { OnErr result (packet.now.start ≡ true) }
         ensures err { OnErr result (self.new ≡ self.old) }
     {
-        let fed = self.look(packet);
-        if let Fed::Partial = fed {
+        let mut message = Body::new();
+        let given = self.feed_into(packet, &mut message)?;
+        Ok(given.with(message))
+    }
+
+    /// As [`Assembler::feed`], with a message that the packet completes in `message`, which else holds
+    /// nothing of use.
+    ///
+    /// # Errors
+    ///
+    /// As [`Assembler::feed`].
+    pub fn feed_into(&mut self, packet: &PacketRef<'_>, message: &mut Body) -> Result<Given, Memory>
+        ensures fed { IfOk result (λ given. fed_with message.new.items given ≡ answer self.old packet.now) }
+        ensures ok { OnOk result (self.new ≡ after self.old packet.now) }
+        ensures memory { OnErr result (answer self.old packet.now ≡ Partial) }
+        ensures at_start { OnErr result (packet.now.start ≡ true) }
+        ensures err { OnErr result (self.new ≡ self.old) }
+    {
+        let given = self.look_into(packet, message);
+        if let Given::Partial = given {
             self.keep(packet)?;
-            return Ok(Fed::Partial);
+        } else {
+            self.forget(Key::of(packet));
         }
-        self.forget(Key::of(packet));
-        Ok(fed)
+        Ok(given)
     }
 
     /// What [`Assembler::feed`] would give for this packet; nothing is changed.
     pub fn look(&self, packet: &PacketRef<'_>) -> Fed
         ensures { result ≡ answer self.now packet.now }
     {
+        let mut message = Body::new();
+        let given = self.look_into(packet, &mut message);
+        given.with(message)
+    }
+
+    /// What a packet gives, with a message that it completes in `message`.
+    fn look_into(&self, packet: &PacketRef<'_>, message: &mut Body) -> Given
+        ensures { fed_with message.new.items result ≡ answer self.now packet.now }
+    {
         match self.buffers.get(&Key::of(packet)) {
-            Some(buffer) => buffer.look(packet),
-            None => look_alone(packet),
+            Some(buffer) => buffer.look_into(packet, message),
+            None => look_alone(packet, message),
         }
     }
 

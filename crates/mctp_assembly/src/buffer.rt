@@ -1,9 +1,10 @@
 ghost use Rattle.std.specs.Prelude.{◌≡◌, ◌+◌, ◌≤◌, ◌++◌, length, Some, IfOk, OnOk, OnErr, false};
 ghost use Rattle.mctp_assembly.specs.Opened.{IsOpened};
+ghost use Rattle.mctp_assembly.specs.Givens.{fed_with};
 ghost use Rattle.mctp_assembly.specs.Steps.{answer_alone, answer_to, begun_by, carried_on};
 ghost use Rattle.mctp_assembly.specs.declared.fed.Fed.TheVariants.{Partial};
 
-use crate::Fed;
+use crate::Given;
 use mctp_packet::{
     Body, MOST_MESSAGE_BYTES, MOST_PACKETS, PacketRef, Reason, SEQUENCE_NUMBERS, Seq,
 };
@@ -41,38 +42,41 @@ impl Buffer {
         ensures range { IsOpened result }
     {
         let payload = packet.payload();
+        let mut bytes = Body::new();
+        bytes.try_extend_from_slice(payload).unwrap();
         Buffer {
             unit: payload.len(),
             last: packet.seq(),
             count: 1,
-            bytes: joined(&[], payload),
+            bytes,
         }
     }
 
-    /// What a packet gives after the packets here.
-    pub(crate) fn look(&self, packet: &PacketRef<'_>) -> Fed
-        ensures { result ≡ answer_to MOST_PACKETS (Some self.now) packet.now }
+    /// What a packet gives after the packets here, with a message that it completes in `message`.
+    pub(crate) fn look_into(&self, packet: &PacketRef<'_>, message: &mut Body) -> Given
+        ensures { fed_with message.new.items result ≡ answer_to MOST_PACKETS (Some self.now) packet.now }
     {
         if packet.start() {
-            return look_alone(packet);
+            return look_alone(packet, message);
         }
         if packet.seq().get() != (self.last.get() + 1) % SEQUENCE_NUMBERS {
-            return Fed::Dropped(Reason::OutOfSequence);
+            return Given::Dropped(Reason::OutOfSequence);
         }
         if self.count == MOST_PACKETS {
-            return Fed::Dropped(Reason::TooLong);
+            return Given::Dropped(Reason::TooLong);
         }
         let payload = packet.payload();
         if packet.end() {
             if payload.len() > self.unit {
-                return Fed::Dropped(Reason::WrongUnit);
+                return Given::Dropped(Reason::WrongUnit);
             }
-            return Fed::Whole(joined(&self.bytes, payload));
+            join(message, &self.bytes, payload);
+            return Given::Whole;
         }
         if payload.len() != self.unit {
-            return Fed::Dropped(Reason::WrongUnit);
+            return Given::Dropped(Reason::WrongUnit);
         }
-        Fed::Partial
+        Given::Partial
     }
 
     /// Adds a middle packet of the message.
@@ -88,26 +92,27 @@ impl Buffer {
     }
 }
 
-/// What a packet gives where nothing is open on its key, and what a start packet gives in any case.
-pub(crate) fn look_alone(packet: &PacketRef<'_>) -> Fed
-    ensures { result ≡ answer_alone packet.now }
+/// What a packet gives where nothing is open on its key, and what a start packet gives in any case, with
+/// a message that it completes in `message`.
+pub(crate) fn look_alone(packet: &PacketRef<'_>, message: &mut Body) -> Given
+    ensures { fed_with message.new.items result ≡ answer_alone packet.now }
 {
     if !packet.start() {
-        return Fed::Dropped(Reason::UnexpectedMiddleOrEnd);
+        return Given::Dropped(Reason::UnexpectedMiddleOrEnd);
     }
     if packet.end() {
-        return Fed::Whole(joined(&[], packet.payload()));
+        join(message, &[], packet.payload());
+        return Given::Whole;
     }
-    Fed::Partial
+    Given::Partial
 }
 
-/// The bytes of a message: those that came before its last packet, and that one's payload.
-fn joined(before: &[u8], payload: &[u8]) -> Body
+/// Puts a message in its place: the bytes that came before its last packet, and that one's payload.
+fn join(message: &mut Body, before: &[u8], payload: &[u8])
     requires { length before.now + length payload.now ≤ MOST_MESSAGE_BYTES }
-    ensures { result ≡ record { items = before.now ++ payload.now } }
+    ensures { message.new ≡ record { items = before.now ++ payload.now } }
 {
-    let mut body = Body::new();
-    body.try_extend_from_slice(before).unwrap();
-    body.try_extend_from_slice(payload).unwrap();
-    body
+    message.clear();
+    message.try_extend_from_slice(before).unwrap();
+    message.try_extend_from_slice(payload).unwrap();
 }

@@ -17,7 +17,7 @@ pub struct Key {
 
 impl Key {
     /// The key of a packet.
-    pub fn of(packet: &PacketRef<'_>) -> Key
+    pub(crate) fn of(packet: &PacketRef<'_>) -> Key
         ensures value { result ≡ key_of packet.now }
         ensures range { IsKey result }
     {

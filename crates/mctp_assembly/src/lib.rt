@@ -4,11 +4,13 @@
 mod assembler;
 mod buffer;
 mod fed;
+mod given;
 mod key;
 pub mod laws;
 
 pub use assembler::{Assembler, MOST_ASSEMBLIES};
 pub use fed::Fed;
+pub use given::Given;
 pub use key::Key;
 
 #[cfg(test)]

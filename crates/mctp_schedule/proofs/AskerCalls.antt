@@ -19,13 +19,13 @@ use Rattle.pldm_requester.specs.Arrivals.{Arrival, Drop, Part, Answer, fed_arriv
 use Rattle.pldm_requester.specs.Calls.{is_from_device, open_answer}
 use Rattle.pldm_requester.specs.Courses as courses
 use Rattle.pldm_requester.specs.Courses.{Course, is_open}
-use Rattle.pldm_requester.specs.Numbering.{opened_as}
+use Rattle.pldm_requester.specs.Numbering.{message_of, opened_as, route_of}
 use Rattle.pldm_requester.specs.Slots.{remembered_in}
 use Rattle.pldm_requester.specs.declared.requester.TheConstants.{MOST_OPEN, MOST_REMEMBERED}
 use Rattle.pldm_requester.specs.Steps.{Held, IsHeld, Memo, arrived_by, goes_to, is_mine, is_open_in, latest_on, new_memo, opened_held, passed, passes, received_held, recent_numbers, remembered_after, where_open, with_course}
 use Rattle.pldm_requester.specs.declared.got.Got.TheVariants as got
 use Rattle.pldm_requester.specs.declared.opened.Opened.{Opened}
-use Rattle.mctp_schedule.specs.Askers.{TellsAnswer}
+use Rattle.mctp_schedule.specs.Askers.{TellsAnswer, packet_bytes}
 use Rattle.mctp_schedule.specs.declared.askers.Answered.{Answered}
 use Rattle.mctp_schedule.proofs.ListPlaces.{take_all}
 
@@ -47,6 +47,24 @@ accepted_as false false number opened e = cc
 
 pub opened_memo : (new held : Held) (moment : ℕ) (command : Command) → IsHeld new (opened_held held moment command) → new.remembered held.count ≡ Some (new_memo held moment command)
 opened_memo new held moment command h = h.remembered held.count ∙ cond-true (held.count == held.count) _ _ (eq-eqb held.count held.count refl)
+
+-- it is the one packet of the request
+pub opened_packet : (new held : Held) (moment number : ℕ) (command : Command) → IsHeld new (opened_held held moment command) → number ≡ held.count
+    → 0 < length (message_of held.count command) → length (message_of held.count command) ≤ UNIT
+    → option_map (λ (memo : Memo). memo.packets) (new.remembered number) ≡ Some (packet_bytes held.own held.device held.count (message_of held.count command) ∷ [])
+opened_packet new held moment number command h same some few =
+    ap (λ n. option_map (λ (memo : Memo). memo.packets) (new.remembered n)) same
+    ∙ ap (option_map (λ (memo : Memo). memo.packets)) (opened_memo new held moment command h)
+    ∙ ap Some (one_packet (route_of held.own held.device held.count) (message_of held.count command) some few)
+
+pub sent_packet : (new held : Held) (moment number : ℕ) (command : Command) (bytes : List ℕ) → IsHeld new (opened_held held moment command) → number ≡ held.count
+    → 0 < length (message_of held.count command) → length (message_of held.count command) ≤ UNIT
+    → option_map (λ (memo : Memo). memo.packets) (new.remembered number) ≡ Some (bytes ∷ [])
+    → bytes ≡ packet_bytes held.own held.device held.count (message_of held.count command)
+sent_packet new held moment number command bytes h same some few here =
+    let both : Some (bytes ∷ []) ≡ Some (packet_bytes held.own held.device held.count (message_of held.count command) ∷ []) =
+    sym here ∙ opened_packet new held moment number command h same some few in
+    cc
 
 -- ---- an answer
 response_number : (mine : ℕ → Response → Bool) (number : ℕ) (message : List ℕ) (read : Result Response Reason) (n : ℕ) (m : List ℕ) → response_arrival mine number message read ≡ Answer n m → number ≡ n

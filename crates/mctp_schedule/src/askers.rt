@@ -1,6 +1,6 @@
 //! The requesters of a run.
 
-ghost use Rattle.std.specs.Prelude.{◌≡◌, ◌≤◌, ◌<◌, ◌∷◌, ◌++◌, [], Ok, Err, Some, IfOk, IfErr, OnOk, slice_index, length, option_map};
+ghost use Rattle.std.specs.Prelude.{◌≡◌, ◌≤◌, ◌<◌, ◌∷◌, ◌++◌, [], Ok, Err, Some, IfOk, IfErr, OnOk, drop, slice_index, length, option_map};
 ghost use Rattle.std.specs.List.{AllByRecursion};
 ghost use Rattle.pldm_requester.specs.Courses as courses;
 ghost use Rattle.pldm_requester.specs.Steps.{IsHeld, again_at, arrived_by, given_up_at, got_at, opened_held, opening_answer, passed, received_held, ticked_held};
@@ -11,9 +11,9 @@ ghost use Rattle.mctp_schedule.specs.Entries.{numbered};
 use crate::kept_message::KeptMessage;
 use crate::limits::MOST_REQUEST_PACKET_BYTES;
 use arrayvec::ArrayVec;
-use mctp_packet::{Memory, Moment};
+use mctp_packet::{HEADER, Memory, Moment};
 use pldm_requester::{Due, Got, MOST_OPEN, OpenFault, Requester, Status};
-use pldm_wire::{Command, MOST_REQUEST_BYTES, write_command};
+use pldm_wire::{Command, MOST_REQUEST_BYTES};
 use std::alloc::Global;
 use std::marker::Model;
 
@@ -93,11 +93,11 @@ impl Asker {
             Err(OpenFault::Memory) => return Err(Memory),
             Err(fault) => return Ok(Err(fault)),
         };
-        let message = write_command(opened.id, command);
+        let packet = self.packet(opened.number);
         let sent = Sent {
             own: opened.number,
-            message: in_place(&message),
-            packet: in_place(self.packet(opened.number)),
+            message: in_place(payload_of(packet)),
+            packet: in_place(packet),
         };
         self.numbers.push(number)?;
         Ok(Ok(sent))
@@ -188,6 +188,14 @@ impl Asker {
             _ => unreachable!(),
         }
     }
+}
+
+/// The payload of a packet of these bytes.
+fn payload_of(packet: &[u8]) -> &[u8]
+    requires { HEADER ≤ length packet.now }
+    ensures { result.now ≡ drop HEADER packet.now }
+{
+    &packet[HEADER..]
 }
 
 /// Bytes of which there are at most `MOST`.

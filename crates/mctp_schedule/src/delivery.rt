@@ -78,7 +78,7 @@ fn bytes_of(packet: &PacketRef<'_>) -> ArrayVec<u8, MOST_PACKET_BYTES>
 {
     let mut room = [0; MOST_PACKET_BYTES];
     let count = write(packet, &mut room);
-    let mut bytes = ArrayVec::new();
-    bytes.try_extend_from_slice(&room[..count]).unwrap();
+    let mut bytes = ArrayVec::from(room);
+    bytes.truncate(count);
     bytes
 }

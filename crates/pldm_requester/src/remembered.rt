@@ -9,7 +9,7 @@ use std::marker::Model;
 
 /// How a request stands.
 #[derive(Clone, Copy, Debug)]
-pub(crate) enum Standing {
+enum Standing {
     /// It is open.
     Waiting,
     /// It was answered.
@@ -28,11 +28,11 @@ pub(crate) struct Remembered {
     /// When it was opened.
     pub(crate) opening: Moment,
     /// When it was last sent: its opening, or the last tick that sent it again.
-    pub(crate) last_sent: Moment,
+    last_sent: Moment,
     /// How it stands.
-    pub(crate) standing: Standing,
+    standing: Standing,
     /// The message that answered it, where one did.
-    pub(crate) answer: Body,
+    answer: Body,
 }
 
 impl Model for Remembered {
@@ -50,9 +50,34 @@ impl Model for Remembered {
 
 impl Remembered {
     ghost use Rattle.std.specs.Prelude.{◌≡◌, ◌≤◌, length};
-    ghost use Rattle.pldm_requester.specs.Courses.{answered, is_open, is_over, is_given_up, is_sent_again, ticked};
+    ghost use Rattle.pldm_requester.specs.Courses.{answered, begun, is_open, is_over, is_given_up, is_sent_again, ticked};
     ghost use Rattle.pldm_requester.specs.Steps.{with_course};
     ghost use Rattle.pldm_requester.specs.Standings.{standing_told};
+
+    /// A request that is opened now.
+    pub(crate) fn new(kind: Kind, packets: Packets, now: Moment) -> Remembered
+        ensures { result ≡ record { kind = kind; packets = packets; course = begun now } }
+    {
+        Remembered {
+            kind,
+            packets,
+            opening: now,
+            last_sent: now,
+            standing: Standing::Waiting,
+            answer: Body::new(),
+        }
+    }
+
+    /// Another request takes its place.
+    pub(crate) fn begin(&mut self, kind: Kind, packets: Packets, now: Moment)
+        ensures { self.new ≡ record { kind = kind; packets = packets; course = begun now } }
+    {
+        self.kind = kind;
+        self.packets = packets;
+        self.opening = now;
+        self.last_sent = now;
+        self.standing = Standing::Waiting;
+    }
 
     /// Whether it is open.
     pub(crate) fn is_open(&self) -> bool

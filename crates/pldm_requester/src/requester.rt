@@ -1,27 +1,25 @@
-ghost use Rattle.std.specs.Prelude.{◌≡◌, ◌⊎◌, ◌+◌, ◌%◌, ◌^◌, ◌<◌, ◌≤◌, true, [], ◌∷◌, ◌++◌, length, IfSome, if◌then◌else◌, None, Some, Ok, Err, option_map, vec_len, vec_capacity, IfOk, IfErr, IsErrOf, OnOk, OnErr};
+ghost use Rattle.std.specs.Prelude.{◌≡◌, ◌⊎◌, ◌+◌, ◌%◌, ◌^◌, ◌<◌, ◌≤◌, true, [], ◌∷◌, ◌++◌, length, if◌then◌else◌, None, Some, Ok, Err, option_map, vec_len, vec_capacity, IfOk, IfErr, IsErrOf, OnOk, OnErr};
 ghost use Rattle.std.specs.Bool.{OnFalse};
 ghost use Rattle.std.specs.Option.{option_copied};
 ghost use Rattle.arrayvec.specs.ArrayVec.{array_vec_len};
 ghost use Rattle.mctp_packet.specs.Ids.{IsTag};
 ghost use Rattle.mctp_packet.specs.Passing.{passed as where_expected};
 ghost use Rattle.mctp_packet.specs.Pieces.{written_packets};
-ghost use Rattle.mctp_assembly.specs.Steps.{answer};
-ghost use Rattle.mctp_assembly.specs.declared.fed.Fed.TheVariants.{Whole};
-ghost use Rattle.pldm_wire.specs.Commands.{command_message};
+ghost use Rattle.pldm_wire.specs.Commands.{IsCommand, command_message};
 ghost use Rattle.pldm_wire.specs.Responses.{response_of};
 ghost use Rattle.pldm_requester.specs.Arrivals.{got_of, is_response_to, response_arrival};
 ghost use Rattle.pldm_requester.specs.Calls.{answer_key};
-ghost use Rattle.pldm_requester.specs.Courses.{is_given_up, is_sent_again};
+ghost use Rattle.pldm_requester.specs.Courses.{begun, is_given_up, is_sent_again};
 ghost use Rattle.pldm_requester.specs.Numbering.{id_of, tag_of};
 ghost use Rattle.pldm_requester.specs.Slots.{held_of, most_opened, remembered_in, put_slot};
 ghost use Rattle.pldm_requester.specs.Standings.{standing_told};
 ghost use Rattle.pldm_requester.specs.Steps.{IsHeld, accepts, again_at, arrived_by, begins_message, expects, given_up_at, goes_to, got_at, held_at_first, held_by, is_id_in_use, is_mine, is_open_in, is_tag_in_use, opened_held, opening_answer, passed, passes, received_held, remembered_after, ticked_held};
 ghost use Rattle.pldm_requester.specs.Timings.{timing_fault};
 
-use crate::remembered::{Remembered, Standing, tick_all};
+use crate::remembered::{Remembered, tick_all};
 use crate::{Due, Got, OpenFault, Opened, Status, Timing, TimingFault};
 use arrayvec::ArrayVec;
-use mctp_assembly::{Assembler, Fed, Key};
+use mctp_assembly::{Assembler, Given, Key};
 use mctp_packet::{
     Body, Eid, MOST_MESSAGE_BYTES, Memory, Moment, PacketRef, Packets, Reason, Route, TAGS, Tag,
     read_for, split,
@@ -190,6 +188,7 @@ impl Requester {
         ensures answer { IfOk result (λ opened. opening_answer (held_of self.old) now ≡ Ok opened) }
         ensures fault { IfErr result (λ fault. ((fault ≡ OpenFault.Memory) × (accepts (held_of self.old) now ≡ true)) ⊎ (opening_answer (held_of self.old) now ≡ Err fault)) }
         ensures room { IsErrOf result OpenFault.Memory → (held_of self.old).count < MOST_REMEMBERED }
+        ensures readable { OnOk result (IsCommand command.now) }
         ensures held { OnOk result (IsHeld (held_of self.new) (opened_held (held_of self.old) now command.now)) }
         ensures err { OnErr result (IsHeld (held_of self.new) (held_of self.old)) }
     {
@@ -206,18 +205,7 @@ impl Requester {
         let id = id_of(number);
         let tag = tag_of(number);
         let packets = packets_of(self.own, self.device, tag, id, command);
-        put(
-            &mut self.slots,
-            number,
-            Remembered {
-                kind: command.kind(),
-                packets,
-                opening: now,
-                last_sent: now,
-                standing: Standing::Waiting,
-                answer: Body::new(),
-            },
-        );
+        put(&mut self.slots, number, command.kind(), packets, now);
         self.assembler.forget(answer_key(self.device, tag));
         self.count = number + 1;
         self.last = now;
@@ -325,27 +313,11 @@ impl Requester {
         let Some(number) = self.goes_to(packet) else {
             return Ok(Got::Dropped(Reason::BadTag));
         };
-        if let Some(message) = self.alone(packet) {
-            let got = self.answer(number, message);
-            self.assembler.forget(Key::of(packet));
-            return Ok(got);
-        }
-        match self.assembler.feed(packet)? {
-            Fed::Whole(message) => Ok(self.answer(number, &message)),
-            Fed::Partial => Ok(Got::Partial),
-            Fed::Dropped(reason) => Ok(Got::Dropped(reason)),
-        }
-    }
-
-    /// The message of a packet that is both a start and an end packet: its payload, whatever is open.
-    fn alone<'a>(&self, packet: &PacketRef<'a>) -> Option<&'a [u8]>
-        ensures whole { IfSome result (λ message. Whole (record { items = message.now }) ≡ answer self.now.open_messages packet.now) }
-        ensures few { IfSome result (λ message. length message.now ≤ MOST_MESSAGE_BYTES) }
-    {
-        if packet.start() && packet.end() {
-            Some(packet.payload())
-        } else {
-            None
+        let mut message = Body::new();
+        match self.assembler.feed_into(packet, &mut message)? {
+            Given::Whole => Ok(self.answer(number, &message)),
+            Given::Partial => Ok(Got::Partial),
+            Given::Dropped(reason) => Ok(Got::Dropped(reason)),
         }
     }
 
@@ -429,7 +401,8 @@ fn tag_of(number: u64) -> Tag
 /// The packets of a command's request: its message is one packet.
 fn packets_of(own: Eid, device: Eid, tag: Tag, id: u8, command: &Command) -> Packets
     requires { id < INSTANCE_IDS }
-    ensures { result ≡ written_packets (record { destination = device; source = own; owner = true; tag = tag }) (command_message id command.now) }
+    ensures readable { IsCommand command.now }
+    ensures packets { result ≡ written_packets (record { destination = device; source = own; owner = true; tag = tag }) (command_message id command.now) }
 {
     pldm_wire::laws::messages_fit();
     let route = Route {
@@ -465,16 +438,17 @@ fn list(numbers: &mut ArrayVec<u64, MOST_OPEN>, number: u64, is_due: bool)
     }
 }
 
-/// Puts a request in the slot of its number, or at the end, where there has to be room.
-fn put(slots: &mut Vec<Remembered>, number: u64, request: Remembered)
+/// Puts a request that is opened now in the slot of its number, or at the end, where there has to be
+/// room.
+fn put(slots: &mut Vec<Remembered>, number: u64, kind: Kind, packets: Packets, now: Moment)
     requires room { number < MOST_REMEMBERED → vec_len slots.old < vec_capacity slots.old }
     requires slot { MOST_REMEMBERED ≤ number → vec_len slots.old ≡ MOST_REMEMBERED }
-    ensures { slots.new.items ≡ put_slot number slots.old.items request }
+    ensures { slots.new.items ≡ put_slot number slots.old.items (record { kind = kind; packets = packets; course = begun now }) }
 {
     if number < MOST_REMEMBERED as u64 {
-        slots.push(request).unwrap();
+        slots.push(Remembered::new(kind, packets, now)).unwrap();
     } else {
-        slots[(number % MOST_REMEMBERED as u64) as usize] = request;
+        slots[(number % MOST_REMEMBERED as u64) as usize].begin(kind, packets, now);
     }
 }
 

@@ -21,7 +21,7 @@ returns-clause-held c =
     let station : Station = record { own = c.self.inside.own; device = c.self.inside.device; timing = c.self.inside.timing; count = c.self.inside.count; slots = c.self.inside.slots.items; open_messages = c.self.inside.assembler; last = c.self.inside.last } in
     let memo : Memo = record { kind = c.kind.result; packets = c.packets_of-packets.result; course = begun c.args.now } in
     let tag = c.tag_of-tag.ensures.value in
-    let new = memo_is station c.args.now c.id_of-id.result c.tag_of-tag.result c.args.command.now c.kind.result c.packets_of-packets.result c.kind.ensures c.packets_of-packets.ensures c.id_of-id.ensures.value tag in
+    let new = memo_is station c.args.now c.id_of-id.result c.tag_of-tag.result c.args.command.now c.kind.result c.packets_of-packets.result c.kind.ensures c.packets_of-packets.ensures.packets c.id_of-id.ensures.value tag in
     subst (λ (s : Station). IsHeld (held_of (record station { count = station.count + 1; slots = c.put.new.slots.items; open_messages = c.forget.new.self; last = c.args.now })) (opened_held (held_of s) c.args.now c.args.command.now)) c.self.view_is
     (opened_is_held station c.args.now c.args.command.now c.put.new.slots.items c.forget.new.self c.self.invariant.slots
     (c.put.ensures ∙ ap (λ xs. put_slot station.count xs memo) c.make_room.ensures.items ∙ ap (put_slot station.count station.slots) new)

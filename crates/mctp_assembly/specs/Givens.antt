@@ -1,0 +1,12 @@
+-- What a packet gives, where the message stands apart.
+use Rattle.std.specs.Prelude.{ℕ, List}
+use Rattle.mctp_assembly.specs.declared.fed.Fed.{Fed}
+use Rattle.mctp_assembly.specs.declared.fed.Fed.TheVariants as feds
+use Rattle.mctp_assembly.specs.declared.given.Given.{Given}
+use Rattle.mctp_assembly.specs.declared.given.Given.TheVariants.{Whole, Partial, Dropped}
+
+-- with the bytes of the message
+abbrev pub fed_with : List ℕ → Given → Fed
+fed_with message Whole = feds.Whole (record { items = message })
+fed_with message Partial = feds.Partial
+fed_with message (Dropped reason) = feds.Dropped reason
