@@ -24,7 +24,7 @@ pub use keep::Keep;
 pub use memory::Memory;
 pub use moment::Moment;
 pub use packet::{PacketRef, Route};
-pub use pieces::{Packets, SplitFault, packet_at, split};
+pub use pieces::{Packets, SplitFault, packet_at, split, split_into};
 pub use reason::Reason;
 pub use seq::Seq;
 pub use tag::Tag;

@@ -1,4 +1,4 @@
-ghost use Rattle.std.specs.Prelude.{◌≡◌, ◌<◌, ◌%◌, ◌↔◌, [], length, slice_get, option_map, IfOk, IfSome, IsErrOf, IsSome};
+ghost use Rattle.std.specs.Prelude.{◌≡◌, ◌<◌, ◌%◌, ◌↔◌, [], length, slice_get, option_map, IfOk, IfSome, IsErrOf, IsSome, OnErr, OnOk, ◌≤◌, map};
 ghost use Rattle.mctp_packet.specs.Packets.{written, HasPayloadSize};
 ghost use Rattle.mctp_packet.specs.Pieces.{piece, piece_count, packet_at, written_packets};
 ghost use Rattle.mctp_packet.specs.SplitFaults.{number_of_split_fault};
@@ -79,17 +79,58 @@ pub fn split(route: &Route, message: &[u8]) -> Result<Packets, SplitFault>
     ensures empty { IsErrOf result SplitFault.Empty ↔ (message.now ≡ []) }
     ensures too_long { IsErrOf result SplitFault.TooLong ↔ (MOST_MESSAGE_BYTES < length message.now) }
 {
+    check_size(message)?;
+    let mut packets = ArrayVec::new();
+    put_packets(&mut packets, route, message);
+    Ok(Packets { packets })
+}
+
+/// As [`split`], with the packets in the place of those that stand in `packets`.
+///
+/// # Errors
+///
+/// As [`split`]. The packets are then as before.
+pub fn split_into(route: &Route, message: &[u8], packets: &mut Packets) -> Result<(), SplitFault>
+    ensures packets { OnOk result (packets.new ≡ written_packets route.now message.now) }
+    ensures empty { IsErrOf result SplitFault.Empty ↔ (message.now ≡ []) }
+    ensures too_long { IsErrOf result SplitFault.TooLong ↔ (MOST_MESSAGE_BYTES < length message.now) }
+    ensures err { OnErr result (packets.new ≡ packets.old) }
+{
+    check_size(message)?;
+    put_packets(&mut packets.packets, route, message);
+    Ok(())
+}
+
+/// Whether a message has a size that can be split.
+fn check_size(message: &[u8]) -> Result<(), SplitFault>
+    ensures ok { OnOk result ((0 < length message.now) × (length message.now ≤ MOST_MESSAGE_BYTES)) }
+    ensures empty { IsErrOf result SplitFault.Empty ↔ (message.now ≡ []) }
+    ensures too_long { IsErrOf result SplitFault.TooLong ↔ (MOST_MESSAGE_BYTES < length message.now) }
+{
     if message.is_empty() {
         return Err(SplitFault::Empty);
     }
     if message.len() > MOST_MESSAGE_BYTES {
         return Err(SplitFault::TooLong);
     }
-    let mut packets = ArrayVec::new();
+    Ok(())
+}
+
+/// Puts the packets of a message on this route in the place of those that stand there.
+fn put_packets(
+    packets: &mut ArrayVec<ArrayVec<u8, MOST_PACKET_BYTES>, MOST_PACKETS>,
+    route: &Route,
+    message: &[u8],
+)
+    requires some { 0 < length message.now }
+    requires few { length message.now ≤ MOST_MESSAGE_BYTES }
+    ensures count { length packets.new.items ≡ piece_count message.now }
+    ensures written { map (λ packet. packet.items) packets.new.items ≡ written_packets route.now message.now }
+{
+    packets.clear();
     for i in 0..message.len().div_ceil(UNIT) {
         packets.push(bytes_at(*route, message, i));
     }
-    Ok(Packets { packets })
 }
 
 /// Packet `index` of a message on this route, counted from 0 and not copied; `None` past the last.

@@ -3,7 +3,7 @@ ghost use Rattle.pldm_requester.specs.Courses.{ticked};
 ghost use Rattle.pldm_requester.specs.Steps.{with_course};
 
 use crate::{Status, Timing};
-use mctp_packet::{Body, MOST_MESSAGE_BYTES, Moment, Packets};
+use mctp_packet::{Body, MOST_MESSAGE_BYTES, Moment, Packets, Route, split_into};
 use pldm_wire::Kind;
 use std::marker::Model;
 
@@ -49,7 +49,8 @@ impl Model for Remembered {
 }
 
 impl Remembered {
-    ghost use Rattle.std.specs.Prelude.{◌≡◌, ◌≤◌, length};
+    ghost use Rattle.std.specs.Prelude.{◌≡◌, ◌<◌, ◌≤◌, length};
+    ghost use Rattle.mctp_packet.specs.Pieces.{written_packets};
     ghost use Rattle.pldm_requester.specs.Courses.{answered, begun, is_open, is_over, is_given_up, is_sent_again, ticked};
     ghost use Rattle.pldm_requester.specs.Steps.{with_course};
     ghost use Rattle.pldm_requester.specs.Standings.{standing_told};
@@ -68,12 +69,14 @@ impl Remembered {
         }
     }
 
-    /// Another request takes its place.
-    pub(crate) fn begin(&mut self, kind: Kind, packets: Packets, now: Moment)
-        ensures { self.new ≡ record { kind = kind; packets = packets; course = begun now } }
+    /// Another request takes its place: its message goes on this route.
+    pub(crate) fn begin(&mut self, kind: Kind, route: &Route, message: &[u8], now: Moment)
+        requires some { 0 < length message.now }
+        requires few { length message.now ≤ MOST_MESSAGE_BYTES }
+        ensures { self.new ≡ record { kind = kind; packets = written_packets route.now message.now; course = begun now } }
     {
         self.kind = kind;
-        self.packets = packets;
+        split_into(route, message, &mut self.packets).unwrap();
         self.opening = now;
         self.last_sent = now;
         self.standing = Standing::Waiting;

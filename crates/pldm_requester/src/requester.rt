@@ -5,7 +5,7 @@ ghost use Rattle.arrayvec.specs.ArrayVec.{array_vec_len};
 ghost use Rattle.mctp_packet.specs.Ids.{IsTag};
 ghost use Rattle.mctp_packet.specs.Passing.{passed as where_expected};
 ghost use Rattle.mctp_packet.specs.Pieces.{written_packets};
-ghost use Rattle.pldm_wire.specs.Commands.{IsCommand, command_message};
+ghost use Rattle.pldm_wire.specs.Commands.{IsCommand};
 ghost use Rattle.pldm_wire.specs.Responses.{response_of};
 ghost use Rattle.pldm_requester.specs.Arrivals.{got_of, is_response_to, response_arrival};
 ghost use Rattle.pldm_requester.specs.Calls.{answer_key};
@@ -192,6 +192,7 @@ impl Requester {
         ensures held { OnOk result (IsHeld (held_of self.new) (opened_held (held_of self.old) now command.now)) }
         ensures err { OnErr result (IsHeld (held_of self.new) (held_of self.old)) }
     {
+        pldm_wire::laws::messages_fit();
         if self.is_tag_in_use() {
             return Err(OpenFault::TagInUse);
         }
@@ -204,8 +205,21 @@ impl Requester {
         let number = self.count;
         let id = id_of(number);
         let tag = tag_of(number);
-        let packets = packets_of(self.own, self.device, tag, id, command);
-        put(&mut self.slots, number, command.kind(), packets, now);
+        let route = Route {
+            destination: self.device,
+            source: self.own,
+            owner: true,
+            tag,
+        };
+        let message = write_command(id, command);
+        put(
+            &mut self.slots,
+            number,
+            command.kind(),
+            &route,
+            &message,
+            now,
+        );
         self.assembler.forget(answer_key(self.device, tag));
         self.count = number + 1;
         self.last = now;
@@ -398,23 +412,6 @@ fn tag_of(number: u64) -> Tag
     Tag::new((number % u64::from(TAGS)) as u8).unwrap()
 }
 
-/// The packets of a command's request: its message is one packet.
-fn packets_of(own: Eid, device: Eid, tag: Tag, id: u8, command: &Command) -> Packets
-    requires { id < INSTANCE_IDS }
-    ensures readable { IsCommand command.now }
-    ensures packets { result ≡ written_packets (record { destination = device; source = own; owner = true; tag = tag }) (command_message id command.now) }
-{
-    pldm_wire::laws::messages_fit();
-    let route = Route {
-        destination: device,
-        source: own,
-        owner: true,
-        tag,
-    };
-    let message = write_command(id, command);
-    split(&route, &message).unwrap()
-}
-
 /// Takes the room for one more request and its answer, where there are not all slots yet.
 fn make_room(slots: &mut Vec<Remembered>) -> Result<(), Memory>
     ensures items { slots.new.items ≡ slots.old.items }
@@ -439,16 +436,26 @@ fn list(numbers: &mut ArrayVec<u64, MOST_OPEN>, number: u64, is_due: bool)
 }
 
 /// Puts a request that is opened now in the slot of its number, or at the end, where there has to be
-/// room.
-fn put(slots: &mut Vec<Remembered>, number: u64, kind: Kind, packets: Packets, now: Moment)
+/// room. Its message goes on this route.
+fn put(
+    slots: &mut Vec<Remembered>,
+    number: u64,
+    kind: Kind,
+    route: &Route,
+    message: &[u8],
+    now: Moment,
+)
+    requires some { 0 < length message.now }
+    requires few { length message.now ≤ MOST_MESSAGE_BYTES }
     requires room { number < MOST_REMEMBERED → vec_len slots.old < vec_capacity slots.old }
     requires slot { MOST_REMEMBERED ≤ number → vec_len slots.old ≡ MOST_REMEMBERED }
-    ensures { slots.new.items ≡ put_slot number slots.old.items (record { kind = kind; packets = packets; course = begun now }) }
+    ensures { slots.new.items ≡ put_slot number slots.old.items (record { kind = kind; packets = written_packets route.now message.now; course = begun now }) }
 {
     if number < MOST_REMEMBERED as u64 {
+        let packets = split(route, message).unwrap();
         slots.push(Remembered::new(kind, packets, now)).unwrap();
     } else {
-        slots[(number % MOST_REMEMBERED as u64) as usize].begin(kind, packets, now);
+        slots[(number % MOST_REMEMBERED as u64) as usize].begin(kind, route, message, now);
     }
 }
 

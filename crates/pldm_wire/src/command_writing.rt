@@ -6,7 +6,7 @@ ghost use Rattle.pldm_wire.specs.Messages.{IsRequest};
 
 use crate::base::{push_get_pldm_commands, push_get_pldm_version};
 use crate::effecters::{push_set_numeric_effecter_value, push_set_state_effecter_states};
-use crate::header::headed;
+use crate::header::put_head;
 use crate::pushes::push_u16;
 use crate::repository::push_get_pdr;
 use crate::sensors::{push_get_sensor_reading, push_get_state_sensor_readings};
@@ -22,7 +22,8 @@ pub fn write_command(id: u8, command: &Command) -> Body
     ensures fields { CommandFields command.now (kind_of command.now) (command_data command.now) }
     ensures range { IsCommand command.now }
 {
-    let mut body = headed(0x80 | id, command.kind());
+    let mut body = Body::new();
+    put_head(&mut body, 0x80 | id, command.kind());
     push_command_data(&mut body, command);
     body
 }

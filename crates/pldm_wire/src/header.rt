@@ -56,18 +56,8 @@ pub(crate) fn header_in(bytes: &[u8], size: usize, rq: u8, wrong: Reason) -> Res
     })
 }
 
-/// A body with a message's first four bytes: message type, flags with the instance ID, PLDM type,
-/// command (DSP0240, "PLDM message fields").
-pub(crate) fn headed(flags: u8, kind: Kind) -> Body
-    ensures items { result.items ≡ MESSAGE_TYPE ∷ flags ∷ kind.pldm_type ∷ kind.command ∷ [] }
-    ensures type_range { kind.pldm_type < 64 }
-{
-    let mut body = Body::new();
-    put_head(&mut body, flags, kind);
-    body
-}
-
-/// Puts a message's first four bytes in the place of what `body` holds.
+/// Puts a message's first four bytes in the place of what `body` holds: message type, flags with the
+/// instance ID, PLDM type, command (DSP0240, "PLDM message fields").
 pub(crate) fn put_head(body: &mut Body, flags: u8, kind: Kind)
     ensures items { body.new.items ≡ MESSAGE_TYPE ∷ flags ∷ kind.pldm_type ∷ kind.command ∷ [] }
     ensures type_range { kind.pldm_type < 64 }

@@ -1,5 +1,7 @@
 use Rattle.std.specs.FinMap as map
-use Rattle.std.proofs.Common.{◌∙◌, ◌+◌, ◌<◌, ap, subst, refl, arith}
+use Rattle.std.proofs.Common.{◌∙◌, ◌+◌, ◌<◌, true, ap, subst, refl, arith}
+use Rattle.mctp_packet.specs.Pieces.{written_packets}
+use Rattle.mctp_packet.specs.declared.packet.Route.{Route}
 use Rattle.pldm_requester.specs.Courses.{begun}
 use Rattle.pldm_requester.specs.Calls.{answer_key}
 use Rattle.pldm_requester.specs.Slots.{Station, held_of, put_slot, most_opened}
@@ -10,7 +12,8 @@ use Rattle.pldm_requester.proofs.requester.Requester.open.Goals as goal
 pub invariant_of-self-2 : goal.invariant_of-self-2
 invariant_of-self-2 c =
     let station : Station = record { own = c.self.inside.own; device = c.self.inside.device; timing = c.self.inside.timing; count = c.self.inside.count; slots = c.self.inside.slots.items; open_messages = c.self.inside.assembler; last = c.self.inside.last } in
-    let memo : Memo = record { kind = c.kind.result; packets = c.packets_of-packets.result; course = begun c.args.now } in
+    let route : Route = record { destination = station.device; source = station.own; owner = true; tag = c.tag_of-tag.result } in
+    let memo : Memo = record { kind = c.kind.result; packets = written_packets route c.deref.result.now; course = begun c.args.now } in
     let count = ap (λ (s : Station). s.count) c.self.view_is in
     let paced = c.if-is_id_in_use.ensures.paced in
     let few : station.count < most_opened c.args.now = omega (arith, paced, count) in
@@ -19,9 +22,12 @@ invariant_of-self-2 c =
 pub returns-clause-held : goal.returns-clause-held
 returns-clause-held c =
     let station : Station = record { own = c.self.inside.own; device = c.self.inside.device; timing = c.self.inside.timing; count = c.self.inside.count; slots = c.self.inside.slots.items; open_messages = c.self.inside.assembler; last = c.self.inside.last } in
-    let memo : Memo = record { kind = c.kind.result; packets = c.packets_of-packets.result; course = begun c.args.now } in
     let tag = c.tag_of-tag.ensures.value in
-    let new = memo_is station c.args.now c.id_of-id.result c.tag_of-tag.result c.args.command.now c.kind.result c.packets_of-packets.result c.kind.ensures c.packets_of-packets.ensures.packets c.id_of-id.ensures.value tag in
+    let route : Route = record { destination = station.device; source = station.own; owner = true; tag = c.tag_of-tag.result } in
+    let packets = written_packets route c.deref.result.now in
+    let sent = ap (written_packets route) (c.deref.ensures.0 ∙ c.write_command-message.ensures.spelled) in
+    let memo : Memo = record { kind = c.kind.result; packets = packets; course = begun c.args.now } in
+    let new = memo_is station c.args.now c.id_of-id.result c.tag_of-tag.result c.args.command.now c.kind.result packets c.kind.ensures sent c.id_of-id.ensures.value tag in
     subst (λ (s : Station). IsHeld (held_of (record station { count = station.count + 1; slots = c.put.new.slots.items; open_messages = c.forget.new.self; last = c.args.now })) (opened_held (held_of s) c.args.now c.args.command.now)) c.self.view_is
     (opened_is_held station c.args.now c.args.command.now c.put.new.slots.items c.forget.new.self c.self.invariant.slots
     (c.put.ensures ∙ ap (λ xs. put_slot station.count xs memo) c.make_room.ensures.items ∙ ap (put_slot station.count station.slots) new)

@@ -1,7 +1,7 @@
 -- One packet more is that of one piece more.
 use Rattle.std.proofs.Common.{arith}
 use Rattle.mctp_packet.proofs.Joined.{map_more}
-use Rattle.mctp_packet.proofs.pieces.split.Goals as goal
+use Rattle.mctp_packet.proofs.pieces.put_packets.Goals as goal
 
 pub loop-i-preserved : goal.loop-i-preserved
 loop-i-preserved c = record {

@@ -3,7 +3,7 @@ use Rattle.std.proofs.Common.{◌≡◌, length, map}
 use Rattle.std.specs.List.{range_with_len}
 use Rattle.mctp_packet.specs.Packets.{written}
 use Rattle.mctp_packet.specs.Pieces.{packet_at, piece_count}
-use Rattle.mctp_packet.proofs.pieces.split.Given as goal
+use Rattle.mctp_packet.proofs.pieces.put_packets.Given as goal
 
 abbrev pub invariant-loop-i : goal.invariant-loop-i
 invariant-loop-i l = record {
