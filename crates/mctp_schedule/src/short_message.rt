@@ -16,12 +16,13 @@ pub(crate) struct ShortMessage {
 
 impl Model for ShortMessage {
     ghost use Rattle.std.specs.Prelude.{ℕ, ◌≤◌, List, take};
+    ghost use Rattle.mctp_schedule.specs.declared.short_message.TheConstants.{MOST_SHORT};
 
     ghost Value = { List ℕ };
 
     ghost view = { λ m. take m.count m.room };
 
-    ghost invariant = { λ m. m.count ≤ 15 };
+    ghost invariant = { λ m. m.count ≤ MOST_SHORT };
 }
 
 impl ShortMessage {
