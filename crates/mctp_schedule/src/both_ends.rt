@@ -17,7 +17,7 @@ use crate::laws::{
 };
 use crate::places::{Places, begin_requesters};
 use crate::{Action, Entry, OpenedRequest, RunFault, Schedule, Step};
-use mctp_packet::{Body, Eid, Keep, Memory, Moment, TAGS};
+use mctp_packet::{Body, Eid, Keep, MOST_PACKET_BYTES, Memory, Moment, TAGS};
 use pldm_device::Platform;
 use pldm_responder::Responder;
 use pldm_wire::Command;
@@ -215,8 +215,9 @@ impl<P: Platform> Ends<P> {
         ensures keep { self.new.keep ≡ self.old.keep }
     {
         pldm_requester::laws::looks_back();
+        let mut room = [0; MOST_PACKET_BYTES];
         let journal = &self.journal;
-        let Some(bytes) = journal.answer_packet(number, packet, busy) else {
+        let Some(bytes) = journal.answer_packet(number, packet, busy, &mut room) else {
             self.journal.enter(Entry::Nothing)?;
             return Ok(());
         };
@@ -226,7 +227,7 @@ impl<P: Platform> Ends<P> {
         let (in_time, taken) = match &mut self.places[usize::from(request.requester().get())] {
             Some(asker) => {
                 let in_time = asker.count().saturating_sub(u64::from(TAGS)) <= own;
-                (in_time, asker.receive(self.alloc, now, &bytes, sent)?)
+                (in_time, asker.receive(self.alloc, now, bytes, sent)?)
             }
             None => unreachable!(),
         };

@@ -6,7 +6,6 @@ ghost use Rattle.pldm_responder.specs.Answering.{answering};
 ghost use Rattle.mctp_schedule.specs.Deliveries.{ComesTo, packet_of_outcome};
 
 use crate::kept_message::KeptMessage;
-use arrayvec::ArrayVec;
 use mctp_packet::{MOST_PACKET_BYTES, Memory, PacketRef, packet_at, write};
 use pldm_responder::Taken;
 use std::alloc::Global;
@@ -59,26 +58,27 @@ impl Delivery {
         &self.reply
     }
 
-    /// The bytes of packet `index` of the answer, counted from 0; `None` past the last, and where it was
-    /// not answered.
-    pub fn packet(&self, index: usize) -> Option<ArrayVec<u8, MOST_PACKET_BYTES>>
-        ensures { option_map (λ bytes. bytes.items) result ≡ packet_of_outcome self.now index }
+    /// The bytes of packet `index` of the answer, counted from 0, which are written in front of `room`;
+    /// `None` past the last, and where it was not answered.
+    pub fn packet<'a>(
+        &self,
+        index: usize,
+        room: &'a mut [u8; MOST_PACKET_BYTES],
+    ) -> Option<&'a [u8]>
+        ensures { option_map (λ bytes. bytes.now) result ≡ packet_of_outcome self.now index }
     {
         let Taken::Answered { route, .. } = &self.taken else {
             return None;
         };
         let packet = packet_at(route, self.reply.bytes(), index)?;
-        Some(bytes_of(&packet))
+        Some(bytes_of(&packet, room))
     }
 }
 
-/// The bytes of a packet.
-fn bytes_of(packet: &PacketRef<'_>) -> ArrayVec<u8, MOST_PACKET_BYTES>
-    ensures { result.items ≡ written packet.now }
+/// The bytes of a packet, which are written in front of `room`.
+fn bytes_of<'a>(packet: &PacketRef<'_>, room: &'a mut [u8; MOST_PACKET_BYTES]) -> &'a [u8]
+    ensures { result.now ≡ written packet.now }
 {
-    let mut room = [0; MOST_PACKET_BYTES];
-    let count = write(packet, &mut room);
-    let mut bytes = ArrayVec::from(room);
-    bytes.truncate(count);
-    bytes
+    let count = write(packet, room);
+    &room[..count]
 }

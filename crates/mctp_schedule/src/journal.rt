@@ -105,18 +105,20 @@ impl Journal {
         }
     }
 
-    /// The bytes of a packet of the latest answer to a request, a busy one or not.
-    pub(crate) fn answer_packet(
+    /// The bytes of a packet of the latest answer to a request, a busy one or not, which are written in
+    /// front of `room`.
+    pub(crate) fn answer_packet<'a>(
         &self,
         number: u64,
         packet: u8,
         busy: bool,
-    ) -> Option<ArrayVec<u8, MOST_PACKET_BYTES>>
-        ensures { option_map (λ bytes. bytes.items) result ≡ packet_at self.now.entries.items packet busy (slice_get self.now.traffic.items number) }
+        room: &'a mut [u8; MOST_PACKET_BYTES],
+    ) -> Option<&'a [u8]>
+        ensures { option_map (λ bytes. bytes.now) result ≡ packet_at self.now.entries.items packet busy (slice_get self.now.traffic.items number) }
     {
         let traffic = self.traffic.get(number as usize)?;
         match self.entries.get(traffic.place(busy)?)? {
-            Entry::Delivered { delivery, .. } => delivery.packet(usize::from(packet)),
+            Entry::Delivered { delivery, .. } => delivery.packet(usize::from(packet), room),
             _ => None,
         }
     }

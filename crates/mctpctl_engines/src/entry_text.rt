@@ -5,6 +5,7 @@ ghost use Rattle.std.specs.Fmt.{decimal};
 ghost use Rattle.mctpctl_engines.specs.EntryTexts.{again_text, answered_text, delivered_text, due_text, entry_line, entry_text, gave_up_text, not_opened_text, numbers_text, received_text, sensed_text};
 
 use crate::bytes_text::{push_number, push_text};
+use crate::decimal::Decimal;
 use crate::packet_line::push_drop;
 use mctp_packet::Memory;
 use mctp_schedule::{Delivery, Entry};
@@ -13,10 +14,10 @@ use pldm_requester::{Got, OpenFault};
 use pldm_responder::Taken;
 
 /// Adds the line of a step at this moment: the moment, and what came of the step.
-pub fn push_entry_line(out: &mut Vec<u8>, moment: u64, entry: &Entry) -> Result<(), Memory>
-    ensures { OnOk result (out.new.items ≡ out.old.items ++ entry_line moment entry.now) }
+pub fn push_entry_line(out: &mut Vec<u8>, moment: &Decimal, entry: &Entry) -> Result<(), Memory>
+    ensures { OnOk result (out.new.items ≡ out.old.items ++ entry_line moment.now entry.now) }
 {
-    push_number(out, moment)?;
+    out.extend_from_slice(moment.digits())?;
     push_text(out, " ")?;
     push_entry(out, entry)?;
     push_text(out, "\n")

@@ -5,6 +5,7 @@ mod answer;
 mod answer_run;
 mod bytes_text;
 mod capture;
+mod decimal;
 mod device_text;
 mod entry_text;
 #[cfg(test)]

@@ -6,6 +6,7 @@ ghost use Rattle.mctpctl_engines.specs.ReportTexts.{order_line, report_text, req
 ghost use Rattle.pldm_requester.specs.Standings.{standing_told};
 
 use crate::bytes_text::{push_hex, push_number, push_text};
+use crate::decimal::Decimal;
 use crate::device_text::device_text;
 use crate::entry_text::{push_entry_line, push_numbers};
 use mctp_packet::Memory;
@@ -38,8 +39,10 @@ fn push_entries(out: &mut Vec<u8>, steps: &[Step], entries: &[Entry]) -> Result<
     ensures { OnOk result (out.new.items ≡ out.old.items ++ entries_text steps.now entries.now) }
 {
     let count = steps.len().min(entries.len());
+    let mut moment = Decimal::new(0);
     for i in 0..count {
-        push_entry_line(out, steps[i].moment.get(), &entries[i])?;
+        moment.set(steps[i].moment.get());
+        push_entry_line(out, &moment, &entries[i])?;
     }
     Ok(())
 }

@@ -5,9 +5,9 @@ use Rattle.mctpctl_engines.proofs.report_text.push_entries.Goals as goal
 
 pub loop-i-preserved : goal.loop-i-preserved
 loop-i-preserved c = record {
-  text = entries_step c.loop-i.out.items _ c.args.steps.now c.args.entries.now c.loop-i.i c.index-steps-i.result c.index-entries-i.result c.get.result
+  text = entries_step c.loop-i.out.items _ c.args.steps.now c.args.entries.now c.loop-i.i c.index-steps-i.result c.index-entries-i.result c.set.new.self
       (omega (arith, c.loop-i-test.true, c.loop-i.invariant.end)) (omega (arith, c.loop-i-test.true, c.loop-i.invariant.end))
-      c.index-steps-i.is c.index-entries-i.is (c.get.ensures.value ∙ ap (λ s. s.moment) (sym c.index-steps-i.is))
+      c.index-steps-i.is c.index-entries-i.is (c.set.ensures ∙ c.get.ensures.value ∙ ap (λ s. s.moment) (sym c.index-steps-i.is))
       c.in_ok-push_entry_line.ensures
       ∙ c.loop-i.invariant.text;
   end = c.loop-i.invariant.end;

@@ -25,7 +25,7 @@ returns-in_default-clause-runs g c = λ terms past running may.
     let k = c.args.number in
     let journal = c.args.self.now.journal in
     let nothing = not_some c.answer_packet.result c.in_default.not-Some in
-    let brings = sym (written setting past c.args.self.now.keep c.args.self.now.responder c.args.self.now.places.items journal running c.args.busy k c.args.packet c.requires.first) ∙ sym c.answer_packet.ensures ∙ ap (option_map (λ bytes. bytes.items)) nothing in
+    let brings = sym (written setting past c.args.self.now.keep c.args.self.now.responder c.args.self.now.places.items journal running c.args.busy k c.args.packet c.requires.first) ∙ sym c.answer_packet.ensures ∙ ap (option_map (λ bytes. bytes.now)) nothing in
     let entered = c.in_ok-enter.ensures in
     nothing_runs setting past c.args.self.now.keep c.args.self.now.responder c.args.self.now.places.items journal c.enter.new.self running c.args.now may.later (answer_action c.args.busy k c.args.packet)
     (done_is setting w c.args.busy c.args.now k c.args.packet ∙ ap (handed setting w c.args.now (source_of (asked_at w.log k))) brings)
@@ -48,7 +48,7 @@ index-request-requires g c =
     let k = c.args.number in
     let journal = c.args.self.now.journal in
     let brings = sym (written setting past c.args.self.now.keep c.args.self.now.responder c.args.self.now.places.items journal running c.args.busy k c.args.packet c.requires.first) ∙ sym c.in-Some.ensures in
-    let asked = asked_of setting w c.args.busy k c.args.packet c.in-Some.bytes.items brings in
+    let asked = asked_of setting w c.args.busy k c.args.packet c.in-Some.bytes.now brings in
     let q = asked.0 in
     let below = asked_below w.log k q asked.1 in
     let count = running.counted in
@@ -64,7 +64,7 @@ index_mut-requires g c =
     let k = c.args.number in
     let journal = c.args.self.now.journal in
     let brings = sym (written setting past c.args.self.now.keep c.args.self.now.responder c.args.self.now.places.items journal running c.args.busy k c.args.packet c.requires.first) ∙ sym c.in-Some.ensures in
-    let asked = asked_of setting w c.args.busy k c.args.packet c.in-Some.bytes.items brings in
+    let asked = asked_of setting w c.args.busy k c.args.packet c.in-Some.bytes.now brings in
     let q = asked.0 in
     let stands = or_get journal.requests.items k c.index-request.result.now (as_it_stands setting w q) (running.requests k ∙ ap (option_map (as_it_stands setting w)) asked.1) in
     let request = c.index-request.ensures ∙ stands in
@@ -83,7 +83,7 @@ receive-requires-clause-moment g c =
     let k = c.args.number in
     let journal = c.args.self.now.journal in
     let brings = sym (written setting past c.args.self.now.keep c.args.self.now.responder c.args.self.now.places.items journal running c.args.busy k c.args.packet c.requires.first) ∙ sym c.in-Some.ensures in
-    let asked = asked_of setting w c.args.busy k c.args.packet c.in-Some.bytes.items brings in
+    let asked = asked_of setting w c.args.busy k c.args.packet c.in-Some.bytes.now brings in
     let q = asked.0 in
     let stands = or_get journal.requests.items k c.index-request.result.now (as_it_stands setting w q) (running.requests k ∙ ap (option_map (as_it_stands setting w)) asked.1) in
     let request = c.index-request.ensures ∙ stands in
@@ -107,7 +107,7 @@ receive-requires-clause-all g c =
     let k = c.args.number in
     let journal = c.args.self.now.journal in
     let brings = sym (written setting past c.args.self.now.keep c.args.self.now.responder c.args.self.now.places.items journal running c.args.busy k c.args.packet c.requires.first) ∙ sym c.in-Some.ensures in
-    let asked = asked_of setting w c.args.busy k c.args.packet c.in-Some.bytes.items brings in
+    let asked = asked_of setting w c.args.busy k c.args.packet c.in-Some.bytes.now brings in
     let q = asked.0 in
     let stands = or_get journal.requests.items k c.index-request.result.now (as_it_stands setting w q) (running.requests k ∙ ap (option_map (as_it_stands setting w)) asked.1) in
     let request = c.index-request.ensures ∙ stands in
@@ -128,7 +128,7 @@ unreachable-requires g c =
     let k = c.args.number in
     let journal = c.args.self.now.journal in
     let brings = sym (written setting past c.args.self.now.keep c.args.self.now.responder c.args.self.now.places.items journal running c.args.busy k c.args.packet c.requires.first) ∙ sym c.in-Some.ensures in
-    let asked = asked_of setting w c.args.busy k c.args.packet c.in-Some.bytes.items brings in
+    let asked = asked_of setting w c.args.busy k c.args.packet c.in-Some.bytes.now brings in
     let q = asked.0 in
     let stands = or_get journal.requests.items k c.index-request.result.now (as_it_stands setting w q) (running.requests k ∙ ap (option_map (as_it_stands setting w)) asked.1) in
     let request = c.index-request.ensures ∙ stands in
@@ -149,8 +149,8 @@ receive-requires-2 g c =
     let w = world setting past in
     let k = c.args.number in
     let journal = c.args.self.now.journal in
-    let brings = sym (written setting past c.args.self.now.keep c.args.self.now.responder c.args.self.now.places.items journal running c.args.busy k c.args.packet c.requires.first) ∙ sym c.in-Some.ensures ∙ ap Some (sym c.deref.ensures.0) in
-    let asked = asked_of setting w c.args.busy k c.args.packet c.deref.result.now brings in
+    let brings = sym (written setting past c.args.self.now.keep c.args.self.now.responder c.args.self.now.places.items journal running c.args.busy k c.args.packet c.requires.first) ∙ sym c.in-Some.ensures in
+    let asked = asked_of setting w c.args.busy k c.args.packet c.in-Some.bytes.now brings in
     let q = asked.0 in
     let stands = or_get journal.requests.items k c.index-request.result.now (as_it_stands setting w q) (running.requests k ∙ ap (option_map (as_it_stands setting w)) asked.1) in
     let request = c.index-request.ensures ∙ stands in
@@ -161,8 +161,8 @@ receive-requires-2 g c =
     let same = place_holds c.args.self.now.places.items q.source c.from.result found s.0 asker at c.index_mut.ensures.value s.1 c.in-Some-index_mut.is in
     let received = c.in_ok-receive-in-Some-index_mut.ensures in
     let taken = c.in_ok-receive-in-Some-index_mut.field-0 in
-    told_below setting w (time_now past) q.source s.0 s.2 c.deref.result.now taken.answered (length journal.requests.items) (sym running.counted)
-    (subst (λ (x : Side). TellsAnswer x.numbers (arrived_by (held_of x.station) (passed (held_of x.station) c.deref.result.now)) taken.answered) same received.answered)
+    told_below setting w (time_now past) q.source s.0 s.2 c.in-Some.bytes.now taken.answered (length journal.requests.items) (sym running.counted)
+    (subst (λ (x : Side). TellsAnswer x.numbers (arrived_by (held_of x.station) (passed (held_of x.station) c.in-Some.bytes.now)) taken.answered) same received.answered)
 
 pub returns-clause-runs : goal.returns-clause-runs
 returns-clause-runs g c = λ terms past running may.
@@ -170,8 +170,8 @@ returns-clause-runs g c = λ terms past running may.
     let w = world setting past in
     let k = c.args.number in
     let journal = c.args.self.now.journal in
-    let brings = sym (written setting past c.args.self.now.keep c.args.self.now.responder c.args.self.now.places.items journal running c.args.busy k c.args.packet c.requires.first) ∙ sym c.in-Some.ensures ∙ ap Some (sym c.deref.ensures.0) in
-    let asked = asked_of setting w c.args.busy k c.args.packet c.deref.result.now brings in
+    let brings = sym (written setting past c.args.self.now.keep c.args.self.now.responder c.args.self.now.places.items journal running c.args.busy k c.args.packet c.requires.first) ∙ sym c.in-Some.ensures in
+    let asked = asked_of setting w c.args.busy k c.args.packet c.in-Some.bytes.now brings in
     let q = asked.0 in
     let stands = or_get journal.requests.items k c.index-request.result.now (as_it_stands setting w q) (running.requests k ∙ ap (option_map (as_it_stands setting w)) asked.1) in
     let request = c.index-request.ensures ∙ stands in
@@ -188,13 +188,13 @@ returns-clause-runs g c = λ terms past running may.
     let before : c.saturating_sub.result ≡ c.count.result - 8 = (let sub = c.saturating_sub.ensures in let eight = c.from-in-Some-index_mut.ensures in omega (arith, sub, eight)) in
     subst (λ i. IsRunning setting (record { moment = c.args.now; action = answer_action c.args.busy k c.args.packet } ∷ past) c.args.self.now.keep c.args.self.now.responder (slice_set c.args.self.now.places.items i (Some c.receive.new.self)) c.receive-2.new.self) (sym at)
     (hand_runs setting past c.args.self.now.keep c.args.self.now.responder c.args.self.now.places.items journal c.receive-2.new.self running c.args.now may.later
-    c.args.busy k c.args.packet c.deref.result.now q asked.1 brings c.receive.new.self taken.got taken.answered (nat_le c.saturating_sub.result c.number-own.result)
+    c.args.busy k c.args.packet c.in-Some.bytes.now q asked.1 brings c.receive.new.self taken.got taken.answered (nat_le c.saturating_sub.result c.number-own.result)
     c.looks_back.ensures.receive c.looks_back.ensures.same
     (record {
       same_numbers = received.numbers ∙ ap (λ (x : Side). x.numbers) same;
-      new_held = subst (λ (x : Side). IsHeld (held_of c.receive.new.self.station) (received_held (held_of x.station) c.args.now c.deref.result.now)) same received.held;
-      got_is = received.got ∙ ap (λ (x : Side). got_at (held_of x.station) c.deref.result.now) same;
-      tells = subst (λ (x : Side). TellsAnswer x.numbers (arrived_by (held_of x.station) (passed (held_of x.station) c.deref.result.now)) taken.answered) same received.answered;
+      new_held = subst (λ (x : Side). IsHeld (held_of c.receive.new.self.station) (received_held (held_of x.station) c.args.now c.in-Some.bytes.now)) same received.held;
+      got_is = received.got ∙ ap (λ (x : Side). got_at (held_of x.station) c.in-Some.bytes.now) same;
+      tells = subst (λ (x : Side). TellsAnswer x.numbers (arrived_by (held_of x.station) (passed (held_of x.station) c.in-Some.bytes.now)) taken.answered) same received.answered;
       time_is = ap (λ n. nat_le n c.number-own.result) before ∙ ap (nat_le (c.count.result - 8)) own ∙ tag_kept c.count.result q.own ∙ ap (λ n. nat_le n (q.own + 8)) count;
       requests = entered.requests;
       counted = entered.all;

@@ -32,7 +32,7 @@ returns-in_err-packet c =
     let message = c.bytes.result.now in
     let route = c.in-Answered.route in
     let past = not_below c.args.index (piece_count message) c.in_err-packet.ensures.some.1 in
-    ap (option_map (λ bytes. bytes.items)) c.from_residual.ensures ∙ sym (packet_past route message c.args.index past)
+    ap (option_map (λ bytes. bytes.now)) c.from_residual.ensures ∙ sym (packet_past route message c.args.index past)
     ∙ sym (place_is c.args.self.now c.self.inside.reply c.self.inside.taken c.in-Answered.fresh c.in-Answered.changed route message c.args.index c.self.view_is
     c.in-Answered.is (sym c.bytes.ensures))
 
