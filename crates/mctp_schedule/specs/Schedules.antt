@@ -107,6 +107,6 @@ schedule_of text = spelled_from 1 none_spelled (lines_of text)
 abbrev pub TellsFault : Result Spelled LineFault → LineFault → Type 0
 TellsFault spelled fault = (fault.kind ≡ Memory) ⊎ (spelled ≡ Err fault)
 
--- the same of one line, or of a part of it
-abbrev pub TellsKind : {A : Type 0} → Result A LineFaultKind → LineFaultKind → Type 0
+-- the same of one line
+abbrev pub TellsKind : Result Spelled LineFaultKind → LineFaultKind → Type 0
 TellsKind spelled kind = (kind ≡ Memory) ⊎ (spelled ≡ Err kind)

@@ -19,7 +19,6 @@ mod run_fault;
 mod schedule;
 mod short_message;
 mod step;
-mod step_command;
 #[cfg(test)]
 mod tests;
 mod word;
@@ -37,4 +36,3 @@ pub use opened_request::OpenedRequest;
 pub use run_fault::RunFault;
 pub use schedule::Schedule;
 pub use step::{Action, RequesterLine, Step};
-pub use step_command::StepCommand;

@@ -1,7 +1,7 @@
 //! What a schedule tells both ends to do.
 
-use crate::StepCommand;
 use mctp_packet::{Eid, Moment};
+use pldm_wire::Command;
 
 /// A requester of a schedule, with what it takes for its retries.
 #[derive(Clone, Copy, Debug, PartialEq, Eq)]
@@ -15,7 +15,7 @@ pub struct RequesterLine {
 }
 
 /// One step of a schedule.
-#[derive(Debug, Drop)]
+#[derive(Debug, PartialEq, Eq, Drop)]
 pub struct Step {
     /// When it happens.
     pub moment: Moment,
@@ -24,14 +24,14 @@ pub struct Step {
 }
 
 /// What happens at a step.
-#[derive(Debug, Drop)]
+#[derive(Debug, PartialEq, Eq, Drop)]
 pub enum Action {
     /// A requester opens a request.
     Open {
         /// The requester's endpoint ID.
         requester: Eid,
         /// The command that it asks for.
-        command: StepCommand,
+        command: Command,
     },
     /// A requester sends again and gives up what is due.
     Tick {
