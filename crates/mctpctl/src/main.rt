@@ -8,8 +8,11 @@ mod help;
 use crate::choose::{ChooseFault, Task, choose};
 use mctpctl_engines::{EngineFault, Port, answer_all, fault_line, run_all, show_all, status_of};
 use std::env;
-use std::io::ErrorKind;
+use std::io::{BufWriter, ErrorKind};
 use std::process::ExitCode;
+
+/// How many bytes of the text of a run are gathered before they are written.
+const GATHERED: usize = 65_536;
 
 fn main(rt: HostRuntime) -> ExitCode {
     let status = match chosen(&rt) {
@@ -59,12 +62,17 @@ fn chosen(rt: &HostRuntime) -> Result<Task, ChooseFault> {
 
 /// Does the task over standard input, on standard output.
 fn perform(rt: &HostRuntime, task: Task) -> Result<(), EngineFault> {
+    let alloc = rt.alloc();
     let mut reader = Port::new(rt.stdin());
-    let mut writer = Port::new(rt.stdout());
     match task {
-        Task::Answer => answer_all(rt.alloc(), &mut reader, &mut writer),
-        Task::Run => run_all(rt.alloc(), &mut reader, &mut writer),
-        Task::Show => show_all(rt.alloc(), &mut reader, &mut writer),
+        Task::Answer => answer_all(alloc, &mut reader, &mut Port::new(rt.stdout())),
+        Task::Run => {
+            let Ok(gathering) = BufWriter::with_capacity(alloc, GATHERED, rt.stdout()) else {
+                return Err(EngineFault::Memory);
+            };
+            run_all(alloc, &mut reader, &mut Port::new(gathering))
+        }
+        Task::Show => show_all(alloc, &mut reader, &mut Port::new(rt.stdout())),
     }
 }
 

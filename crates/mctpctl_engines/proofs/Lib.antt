@@ -19,4 +19,5 @@ pub mod ScheduleGlue
 pub mod ShowRows
 pub mod ShownLookingBack
 pub mod TextFronts
+pub mod WrittenParts
 pub mod Numbers

@@ -62,8 +62,7 @@ abbrev pub timely_line : Bool → List ℕ
 timely_line true = codes "timely: yes\n"
 timely_line false = codes "timely: no\n"
 
--- all that is written of a run
-abbrev pub report_text : List Step → List Entry → List Request → List ℕ → Device → Bool → List ℕ
+-- all that is written of a run; the lines of the device are told as they are
+abbrev pub report_text : List Step → List Entry → List Request → List ℕ → (device : List ℕ) → Bool → List ℕ
 report_text steps entries requests order device timely =
-    entries_text steps entries
-    ++ (requests_text 0 requests ++ (order_line order ++ (device_text device ++ timely_line timely)))
+    entries_text steps entries ++ (requests_text 0 requests ++ (order_line order ++ (device ++ timely_line timely)))

@@ -13,7 +13,7 @@ use Rattle.mctp_schedule.specs.declared.run_fault.RunFault.{RunFault}
 use Rattle.mctp_schedule.specs.declared.run_fault.RunFault.TheVariants as runs
 use Rattle.mctpctl_engines.specs.AnswerText.{run_of, simulated}
 use Rattle.mctpctl_engines.specs.LineRuns.{Written, stops_at}
-use Rattle.mctpctl_engines.specs.ReportTexts.{report_text}
+use Rattle.mctpctl_engines.specs.ReportTexts.{device_text, report_text}
 use Rattle.mctpctl_engines.specs.declared.faults.EngineFault.{EngineFault}
 use Rattle.mctpctl_engines.specs.declared.faults.EngineFault.TheVariants as faults
 use Rattle.mctpctl_engines.specs.declared.faults.LineKind.TheVariants as kinds
@@ -49,7 +49,7 @@ text_of description schedule =
     let setting = setting_of description schedule in
     report_text schedule.steps (entries setting (newest_first schedule))
     (requests_after setting (final_world setting schedule)) (order description.keep (final_world setting schedule).log)
-    (final_state setting schedule) (is_timely setting (newest_first schedule))
+    (device_text (final_state setting schedule)) (is_timely setting (newest_first schedule))
 
 -- a run is not begun where a requester is refused
 abbrev pub unless_refused : Option RunFault → List ℕ → Written

@@ -1,6 +1,6 @@
 -- The run of `run` in pieces: all input is kept, and nothing is written before its end.
 use Rattle.std.specs.Prelude.{◌≡◌, ◌≢◌, ◌⊎◌, ℕ, nat_lt, Bool, true, false, if◌then◌else◌}
-use Rattle.std.specs.Prelude.{List, [], ◌++◌, length, Option, None, Some, Result, Ok, Err, refl}
+use Rattle.std.specs.Prelude.{List, [], ◌++◌, length, Option, None, Some, Result, Ok, Err, refl, string_bytes}
 use Rattle.line_words.specs.TextLines.{lines_of}
 use Rattle.mctpctl_engines.specs.AnswerText.{described_run, divided_run, run_of}
 use Rattle.mctpctl_engines.specs.LineRuns.{Written, stops_at}
@@ -34,7 +34,7 @@ TellsText bytes written (Err fault) = (fault ≡ faults.Memory) ⊎ ((fault ≢ 
 abbrev pub text_of_ran : Ran → List ℕ
 text_of_ran ran =
     report_text ran.schedule.steps ran.report.entries.items ran.report.requests.items ran.report.order.items
-    ran.report.device ran.report.timely
+    (string_bytes ran.device) ran.report.timely
 
 -- a run whose input is cut off writes nothing
 

@@ -1,13 +1,14 @@
 //! The engine of `mctpctl answer`, over an input that comes in pieces.
 
-ghost use Rattle.std.specs.Prelude.{◌≡◌, ◌≢◌, ◌≤◌, ◌<◌, ◌+◌, ◌++◌, ◌∷◌, ℕ, List, [], Ok, Result, Err, IfOk, IfSome, length, None};
+ghost use Rattle.std.specs.Prelude.{◌≡◌, ◌≢◌, ◌≤◌, ◌<◌, ◌+◌, ◌++◌, ◌∷◌, ◌↔◌, ℕ, List, [], Ok, Result, Err, IfOk, IfSome, IsErrOf, length, None, true, false};
 ghost use Rattle.line_words.specs.TextLines.{HasNoFeed};
 ghost use Rattle.mctpctl_engines.specs.DescribedPieces.{description_gives, described_gives, described_count, Begins, Describes};
 ghost use Rattle.mctpctl_engines.specs.AnswerPieces.{past_gives, past_count, nothing_where_cut};
 ghost use Rattle.mctpctl_engines.specs.LongLines.{held_refuses};
 ghost use Rattle.mctpctl_engines.specs.HeldRuns.{held_step, held_run};
 ghost use Rattle.mctpctl_engines.specs.LinePieces.{line_gives, AddsLine};
-ghost use Rattle.mctpctl_engines.specs.Pieces.{GoesOn, Takes, Finishes};
+ghost use Rattle.mctpctl_engines.specs.Pieces.{GoesOn, Takes, Finishes, FinishesTo};
+ghost use Rattle.mctpctl_engines.specs.Ports.{inner_of, has_failed};
 ghost use Rattle.pldm_responder.specs.Stations.{held_of};
 ghost use Rattle.pldm_responder.specs.Held.{Held};
 ghost use Rattle.pldm_device.specs.Devices.{Device};
@@ -18,12 +19,14 @@ use crate::limits::{LONGEST_DIVIDER, MAX_DESCRIPTION, MAX_INPUT};
 use crate::line_run::{LineRoom, LineRun, LineTask};
 use crate::lines::is_divider;
 use crate::outcome::push_outcome;
+use crate::port::Port;
 use crate::stream::Run;
 use line_words::split_line;
 use mctp_packet::Moment;
 use pldm_device::{Description, FileFault, SimDevice};
 use pldm_responder::Responder;
 use std::alloc::Global;
+use std::io::Write;
 
 impl LineTask for Responder<SimDevice> {
     ghost State = { Held Device };
@@ -249,15 +252,24 @@ impl Run for AnswerRun {
     }
 
     /// Takes the end of the input.
-    fn finish(&mut self, alloc: Global, is_cut: bool, out: &mut Vec<u8>) -> Result<(), EngineFault>
-        requires { described_count past_count self.old.lines ≤ MAX_INPUT }
-        ensures meets { Finishes (described_gives past_gives (description_gives held_run self.old.text.items self.old.kept.items) self.old.lines is_cut []) out.old.items out.new.items result }
+    fn finish<W: Write>(
+        &mut self,
+        alloc: Global,
+        is_cut: bool,
+        out: &mut Vec<u8>,
+        writer: &mut Port<W>,
+    ) -> Result<(), EngineFault>
+        requires size { described_count past_count self.old.lines ≤ MAX_INPUT }
+        requires works { has_failed writer.old ≡ false }
+        requires empty { out.old.items ≡ [] }
+        ensures meets { FinishesTo (described_gives past_gives (description_gives held_run self.old.text.items self.old.kept.items) self.old.lines is_cut [])
+            (W.contents (inner_of writer.old)) (W.contents (inner_of writer.new)) result }
         ensures read { result ≢ Err EngineFault.Read }
-        ensures write { result ≢ Err EngineFault.Write }
+        ensures write { IsErrOf result EngineFault.Write ↔ (has_failed writer.new ≡ true) }
         ensures device { result ≢ Err (EngineFault.Device FileFault.Memory) }
     {
         match &mut self.lines {
-            Some(lines) => lines.finish(alloc, is_cut, out),
+            Some(lines) => lines.finish(alloc, is_cut, out, writer),
             None => self.finish_description(alloc, is_cut),
         }
     }

@@ -1,7 +1,7 @@
-//! A number with its digits.
+//! A number with its digits and a space.
 
 ghost use Rattle.std.specs.Fmt.{decimal};
-ghost use Rattle.std.specs.Prelude.{◌≡◌};
+ghost use Rattle.std.specs.Prelude.{◌≡◌, ◌++◌, ◌∷◌, []};
 
 use itoa::Buffer;
 use std::marker::Model;
@@ -9,24 +9,27 @@ use std::marker::Model;
 /// The most decimal digits of a number of 64 bits.
 const MOST_DIGITS: usize = 20;
 
-/// A number and its decimal digits, which are made once for lines that begin with the same number.
+/// A number, its decimal digits and a space, which are made once for lines that begin with the same
+/// number.
 #[derive(Drop)]
 pub struct Decimal {
     number: u64,
-    room: [u8; MOST_DIGITS],
+    /// The digits, and spaces after them.
+    room: [u8; MOST_DIGITS + 1],
+    /// How many digits there are.
     count: u8,
 }
 
 impl Model for Decimal {
     ghost use Rattle.std.specs.Fmt.{decimal};
-    ghost use Rattle.std.specs.Prelude.{◌≡◌, ◌≤◌, ℕ, take};
+    ghost use Rattle.std.specs.Prelude.{◌≡◌, ◌≤◌, ◌+◌, ◌++◌, ◌∷◌, [], ℕ, take};
     ghost use Rattle.mctpctl_engines.specs.declared.decimal.TheConstants.{MOST_DIGITS};
 
     ghost Value = { ℕ };
 
     ghost view = { λ d. d.number };
 
-    ghost invariant = { λ d. (d.count ≤ MOST_DIGITS) × (take d.count d.room ≡ decimal d.number) };
+    ghost invariant = { λ d. (d.count ≤ MOST_DIGITS) × (take (d.count + 1) d.room ≡ decimal d.number ++ 32 ∷ []) };
 }
 
 impl Decimal {
@@ -36,7 +39,7 @@ impl Decimal {
     {
         let mut buffer = Buffer::new();
         let digits = buffer.format(number).as_bytes();
-        let mut room = [0; MOST_DIGITS];
+        let mut room = [b' '; MOST_DIGITS + 1];
         room[..digits.len()].copy_from_slice(digits);
         Decimal {
             number,
@@ -54,10 +57,10 @@ impl Decimal {
         }
     }
 
-    /// Its digits.
-    pub fn digits(&self) -> &[u8]
-        ensures { result.now ≡ decimal self.now }
+    /// Its digits, and a space.
+    pub fn spaced(&self) -> &[u8]
+        ensures { result.now ≡ decimal self.now ++ 32 ∷ [] }
     {
-        &self.room[..usize::from(self.count)]
+        &self.room[..usize::from(self.count) + 1]
     }
 }

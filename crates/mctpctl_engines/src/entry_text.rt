@@ -1,144 +1,161 @@
 //! The text of what came of a step.
 
-ghost use Rattle.std.specs.Prelude.{◌≡◌, ◌++◌, OnOk, codes};
+ghost use Rattle.std.specs.Io.KnownBytes.{Appends};
+ghost use Rattle.std.specs.Prelude.{◌≡◌, ◌++◌, ◌∷◌, [], OnOk, codes};
 ghost use Rattle.std.specs.Fmt.{decimal};
 ghost use Rattle.mctpctl_engines.specs.EntryTexts.{again_text, answered_text, delivered_text, due_text, entry_line, entry_text, gave_up_text, not_opened_text, numbers_text, received_text, sensed_text};
+ghost use Rattle.mctpctl_engines.specs.ShownLines.{drop_text};
 
-use crate::bytes_text::{push_number, push_text};
 use crate::decimal::Decimal;
-use crate::packet_line::push_drop;
-use mctp_packet::Memory;
+use crate::written_text::{NotWritten, write_bytes, write_number, write_text};
+use mctp_packet::Reason;
 use mctp_schedule::{Delivery, Entry};
 use pldm_device::ReadingFault;
 use pldm_requester::{Got, OpenFault};
 use pldm_responder::Taken;
+use std::io::Write;
 
-/// Adds the line of a step at this moment: the moment, and what came of the step.
-pub fn push_entry_line(out: &mut Vec<u8>, moment: &Decimal, entry: &Entry) -> Result<(), Memory>
-    ensures { OnOk result (out.new.items ≡ out.old.items ++ entry_line moment.now entry.now) }
+/// Writes the line of a step at this moment: the moment, and what came of the step.
+pub fn write_entry_line<W: Write>(
+    out: &mut W,
+    moment: &Decimal,
+    entry: &Entry,
+) -> Result<(), NotWritten>
+    ensures { OnOk result (Appends (W.contents out.old) (W.contents out.new) (entry_line moment.now entry.now)) }
 {
-    out.extend_from_slice(moment.digits())?;
-    push_text(out, " ")?;
-    push_entry(out, entry)?;
-    push_text(out, "\n")
+    write_bytes(out, moment.spaced())?;
+    write_entry(out, entry)
 }
 
-fn push_entry(out: &mut Vec<u8>, entry: &Entry) -> Result<(), Memory>
-    ensures { OnOk result (out.new.items ≡ out.old.items ++ entry_text entry.now) }
+/// Writes what came of a step, and the end of its line. Where that is a few words, they are written with
+/// the end of the line at once.
+fn write_entry<W: Write>(out: &mut W, entry: &Entry) -> Result<(), NotWritten>
+    ensures { OnOk result (Appends (W.contents out.old) (W.contents out.new) (entry_text entry.now ++ 10 ∷ [])) }
 {
     match entry {
-        Entry::Nothing => push_text(out, "nothing"),
-        Entry::Opened(number) => push_opened(out, *number),
-        Entry::NotOpened(fault) => push_text(out, not_opened_text(*fault)),
-        Entry::Due(due) => push_due(out, due.again(), due.given_up()),
-        Entry::Delivered { busy, delivery } => push_delivered(out, *busy, delivery),
-        Entry::Received(got) => push_received(out, *got),
-        Entry::Sensed(sensed) => push_text(out, sensed_text(sensed)),
-        Entry::Restarted => push_text(out, "restarted"),
+        Entry::Nothing => write_text(out, "nothing\n"),
+        Entry::Opened(number) => write_opened(out, *number),
+        Entry::NotOpened(fault) => write_text(out, not_opened_text(*fault)),
+        Entry::Due(due) => write_due(out, due.again(), due.given_up()),
+        Entry::Delivered { busy, delivery } => write_delivered(out, *busy, delivery),
+        Entry::Received(got) => write_received(out, *got),
+        Entry::Sensed(sensed) => write_text(out, sensed_text(sensed)),
+        Entry::Restarted => write_text(out, "restarted\n"),
     }
 }
 
-fn push_opened(out: &mut Vec<u8>, number: u64) -> Result<(), Memory>
-    ensures { OnOk result (out.new.items ≡ out.old.items ++ (codes "opened " ++ decimal number)) }
+fn write_opened<W: Write>(out: &mut W, number: u64) -> Result<(), NotWritten>
+    ensures { OnOk result (Appends (W.contents out.old) (W.contents out.new) (codes "opened " ++ (decimal number ++ 10 ∷ []))) }
 {
-    push_text(out, "opened ")?;
-    push_number(out, number)
+    write_text(out, "opened ")?;
+    write_number(out, number)?;
+    write_text(out, "\n")
 }
 
 fn not_opened_text(fault: OpenFault) -> &'static str
-    ensures { result.now ≡ not_opened_text fault }
+    ensures { result.now ≡ not_opened_text fault ++ 10 ∷ [] }
 {
     match fault {
-        OpenFault::TagInUse => "tag in use",
-        OpenFault::IdInUse => "id in use",
-        OpenFault::Memory => "out of memory",
+        OpenFault::TagInUse => "tag in use\n",
+        OpenFault::IdInUse => "id in use\n",
+        OpenFault::Memory => "out of memory\n",
     }
 }
 
-fn push_due(out: &mut Vec<u8>, again: &[u64], given_up: &[u64]) -> Result<(), Memory>
-    ensures { OnOk result (out.new.items ≡ out.old.items ++ due_text again.now given_up.now) }
+fn write_due<W: Write>(out: &mut W, again: &[u64], given_up: &[u64]) -> Result<(), NotWritten>
+    ensures { OnOk result (Appends (W.contents out.old) (W.contents out.new) (due_text again.now given_up.now ++ 10 ∷ [])) }
 {
     if again.is_empty() && given_up.is_empty() {
-        return push_text(out, "nothing due");
+        return write_text(out, "nothing due\n");
     }
     if given_up.is_empty() {
-        return push_again(out, again);
+        write_again(out, again)?;
+        return write_text(out, "\n");
     }
-    if again.is_empty() {
-        return push_gave_up(out, given_up);
+    if !again.is_empty() {
+        write_again(out, again)?;
+        write_text(out, " ")?;
     }
-    push_again(out, again)?;
-    push_text(out, " ")?;
-    push_gave_up(out, given_up)
+    write_gave_up(out, given_up)?;
+    write_text(out, "\n")
 }
 
-fn push_again(out: &mut Vec<u8>, numbers: &[u64]) -> Result<(), Memory>
-    ensures { OnOk result (out.new.items ≡ out.old.items ++ again_text numbers.now) }
+fn write_again<W: Write>(out: &mut W, numbers: &[u64]) -> Result<(), NotWritten>
+    ensures { OnOk result (Appends (W.contents out.old) (W.contents out.new) (again_text numbers.now)) }
 {
-    push_text(out, "again")?;
-    push_numbers(out, numbers)
+    write_text(out, "again")?;
+    write_numbers(out, numbers)
 }
 
-fn push_gave_up(out: &mut Vec<u8>, numbers: &[u64]) -> Result<(), Memory>
-    ensures { OnOk result (out.new.items ≡ out.old.items ++ gave_up_text numbers.now) }
+fn write_gave_up<W: Write>(out: &mut W, numbers: &[u64]) -> Result<(), NotWritten>
+    ensures { OnOk result (Appends (W.contents out.old) (W.contents out.new) (gave_up_text numbers.now)) }
 {
-    push_text(out, "gave up")?;
-    push_numbers(out, numbers)
+    write_text(out, "gave up")?;
+    write_numbers(out, numbers)
 }
 
-/// Adds numbers in decimal, a space before each.
-pub fn push_numbers(out: &mut Vec<u8>, numbers: &[u64]) -> Result<(), Memory>
-    ensures { OnOk result (out.new.items ≡ out.old.items ++ numbers_text numbers.now) }
+/// Writes numbers in decimal, a space before each.
+pub fn write_numbers<W: Write>(out: &mut W, numbers: &[u64]) -> Result<(), NotWritten>
+    ensures { OnOk result (Appends (W.contents out.old) (W.contents out.new) (numbers_text numbers.now)) }
 {
     for i in 0..numbers.len() {
-        push_text(out, " ")?;
-        push_number(out, numbers[i])?;
+        write_text(out, " ")?;
+        write_number(out, numbers[i])?;
     }
     Ok(())
 }
 
-fn push_delivered(out: &mut Vec<u8>, busy: bool, delivery: &Delivery) -> Result<(), Memory>
-    ensures { OnOk result (out.new.items ≡ out.old.items ++ delivered_text busy delivery.now) }
+fn write_delivered<W: Write>(out: &mut W, busy: bool, delivery: &Delivery) -> Result<(), NotWritten>
+    ensures { OnOk result (Appends (W.contents out.old) (W.contents out.new) (delivered_text busy delivery.now ++ 10 ∷ [])) }
 {
     match delivery.taken() {
-        Taken::Dropped(reason) => push_drop(out, *reason),
-        Taken::Partial => push_text(out, "partial"),
+        Taken::Dropped(reason) => write_dropped(out, *reason),
+        Taken::Partial => write_text(out, "partial\n"),
         Taken::Answered { fresh, changed, .. } => {
-            push_text(out, answered_text(busy, *fresh, *changed))
+            write_text(out, answered_text(busy, *fresh, *changed))
         }
     }
 }
 
+/// Writes that bytes are dropped, and why.
+fn write_dropped<W: Write>(out: &mut W, reason: Reason) -> Result<(), NotWritten>
+    ensures { OnOk result (Appends (W.contents out.old) (W.contents out.new) (drop_text reason ++ 10 ∷ [])) }
+{
+    write_text(out, "drop ")?;
+    write_text(out, reason.name())?;
+    write_text(out, "\n")
+}
+
 fn answered_text(busy: bool, fresh: bool, changed: bool) -> &'static str
-    ensures { result.now ≡ answered_text busy fresh changed }
+    ensures { result.now ≡ answered_text busy fresh changed ++ 10 ∷ [] }
 {
     if busy {
-        "busy"
+        "busy\n"
     } else if !fresh {
-        "copy"
+        "copy\n"
     } else if changed {
-        "fresh changed"
+        "fresh changed\n"
     } else {
-        "fresh unchanged"
+        "fresh unchanged\n"
     }
 }
 
-fn push_received(out: &mut Vec<u8>, got: Got) -> Result<(), Memory>
-    ensures { OnOk result (out.new.items ≡ out.old.items ++ received_text got) }
+fn write_received<W: Write>(out: &mut W, got: Got) -> Result<(), NotWritten>
+    ensures { OnOk result (Appends (W.contents out.old) (W.contents out.new) (received_text got ++ 10 ∷ [])) }
 {
     match got {
-        Got::Dropped(reason) => push_drop(out, reason),
-        Got::Partial => push_text(out, "partial"),
-        Got::Answered(_) => push_text(out, "answered"),
+        Got::Dropped(reason) => write_dropped(out, reason),
+        Got::Partial => write_text(out, "partial\n"),
+        Got::Answered(_) => write_text(out, "answered\n"),
     }
 }
 
 fn sensed_text(sensed: &Result<(), ReadingFault>) -> &'static str
-    ensures { result.now ≡ sensed_text sensed.now }
+    ensures { result.now ≡ sensed_text sensed.now ++ 10 ∷ [] }
 {
     match sensed {
-        Ok(()) => "set",
-        Err(ReadingFault::NoSuchSensor) => "no such sensor",
-        Err(ReadingFault::OutOfSize) => "out of size",
+        Ok(()) => "set\n",
+        Err(ReadingFault::NoSuchSensor) => "no such sensor\n",
+        Err(ReadingFault::OutOfSize) => "out of size\n",
     }
 }

@@ -28,6 +28,7 @@ mod show;
 mod stream;
 #[cfg(test)]
 mod tests;
+mod written_text;
 
 pub use answer::answer_all;
 pub use faults::{EngineFault, LineKind, fault_line, status_of};

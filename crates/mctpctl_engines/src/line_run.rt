@@ -1,18 +1,21 @@
 //! A run over lines, which keeps what has come of a line that has not ended.
 
-ghost use Rattle.std.specs.Prelude.{◌≡◌, ◌≢◌, ◌≤◌, ◌<◌, ◌+◌, ◌++◌, ◌∷◌, ℕ, List, [], Result, Err, length, refl};
+ghost use Rattle.std.specs.Prelude.{◌≡◌, ◌≢◌, ◌≤◌, ◌<◌, ◌+◌, ◌++◌, ◌∷◌, ◌↔◌, ℕ, List, [], Result, Err, IsErrOf, length, refl, true, false};
 ghost use Rattle.line_words.specs.TextLines.{HasNoFeed};
 ghost use Rattle.mctpctl_engines.specs.declared.faults.LineKind.{LineKind};
 ghost use Rattle.mctpctl_engines.specs.LinePieces.{RefusesLong, line_gives, AddsLine};
-ghost use Rattle.mctpctl_engines.specs.Pieces.{Takes, Finishes};
+ghost use Rattle.mctpctl_engines.specs.Pieces.{Takes, Finishes, FinishesTo};
+ghost use Rattle.mctpctl_engines.specs.Ports.{inner_of, has_failed};
 
 use crate::faults::{EngineFault, LineKind};
 use crate::limits::{MAX_CAPTURE_LINE, MAX_INPUT};
+use crate::port::Port;
 use crate::stream::Run;
 use line_words::split_line;
 use mctp_packet::Body;
 use pldm_device::FileFault;
 use std::alloc::Global;
+use std::io::Write;
 
 /// Room for what comes of one line, which is used again for the next.
 #[derive(Drop)]
@@ -129,6 +132,31 @@ impl<T: LineTask> LineRun<T> {
         }
         Ok(())
     }
+
+    /// Takes the end of the input, and adds to `out` what is left to give.
+    fn end_input(
+        &mut self,
+        alloc: Global,
+        is_cut: bool,
+        out: &mut Vec<u8>,
+    ) -> Result<(), EngineFault>
+        requires { self.old.ended ≤ MAX_INPUT }
+        ensures meets { Finishes (line_gives T.step (self.old.ended + 1) (T.state_of self.old.task) self.old.kept.items is_cut []) out.old.items out.new.items result }
+        ensures read { result ≢ Err EngineFault.Read }
+        ensures write { result ≢ Err EngineFault.Write }
+        ensures device { result ≢ Err (EngineFault.Device FileFault.Memory) }
+    {
+        let number = self.ended + 1;
+        if is_cut {
+            return Err(if self.kept.len() > MAX_CAPTURE_LINE {
+                EngineFault::Line(number, LineKind::LongLine)
+            } else {
+                EngineFault::TooLarge
+            });
+        }
+        self.task
+            .answer(alloc, number, &self.kept, &mut self.room, out)
+    }
 }
 
 impl<T: LineTask> Run for LineRun<T> {
@@ -156,23 +184,27 @@ impl<T: LineTask> Run for LineRun<T> {
         self.keep(rest)
     }
 
-    fn finish(&mut self, alloc: Global, is_cut: bool, out: &mut Vec<u8>) -> Result<(), EngineFault>
-        requires { self.old.ended ≤ MAX_INPUT }
-        ensures meets { Finishes (line_gives T.step (self.old.ended + 1) (T.state_of self.old.task) self.old.kept.items is_cut []) out.old.items out.new.items result }
+    fn finish<W: Write>(
+        &mut self,
+        alloc: Global,
+        is_cut: bool,
+        out: &mut Vec<u8>,
+        writer: &mut Port<W>,
+    ) -> Result<(), EngineFault>
+        requires size { self.old.ended ≤ MAX_INPUT }
+        requires works { has_failed writer.old ≡ false }
+        requires empty { out.old.items ≡ [] }
+        ensures meets { FinishesTo (line_gives T.step (self.old.ended + 1) (T.state_of self.old.task) self.old.kept.items is_cut [])
+            (W.contents (inner_of writer.old)) (W.contents (inner_of writer.new)) result }
         ensures read { result ≢ Err EngineFault.Read }
-        ensures write { result ≢ Err EngineFault.Write }
+        ensures write { IsErrOf result EngineFault.Write ↔ (has_failed writer.new ≡ true) }
         ensures device { result ≢ Err (EngineFault.Device FileFault.Memory) }
     {
-        let number = self.ended + 1;
-        if is_cut {
-            return Err(if self.kept.len() > MAX_CAPTURE_LINE {
-                EngineFault::Line(number, LineKind::LongLine)
-            } else {
-                EngineFault::TooLarge
-            });
+        let result = self.end_input(alloc, is_cut, out);
+        if writer.write_all(out).is_err() {
+            return Err(EngineFault::Write);
         }
-        self.task
-            .answer(alloc, number, &self.kept, &mut self.room, out)
+        result
     }
 
     ghost none_where_cut = { λ run. refl };

@@ -25,7 +25,8 @@ mod tests;
 /// Of several faults `Device` comes before `TooLarge`, then `Line`, then `Timing`. `Read` is for a read
 /// port that has failed, `Write` for a write port; what a failed writer took is not known.
 ///
-/// It holds all of the input, what came of each step, and the text that tells it.
+/// It holds all of the input and what came of each step. The text is written part by part, and much of
+/// it in parts of a few bytes: give it a writer that gathers them, as `BufWriter` does.
 pub fn run_all<R: Read, W: Write>(
     alloc: Global,
     reader: &mut Port<R>,

@@ -1,25 +1,29 @@
 //! The engine of `mctpctl run`, over an input that comes in pieces.
 
-ghost use Rattle.std.specs.Prelude.{◌≡◌, ◌≢◌, ◌≤◌, ◌++◌, ◌+◌, ◌⊎◌, [], Err, Some, IfOk, IfSome, IfNone, None, length, option_map};
+ghost use Rattle.std.specs.Io.KnownBytes.{Appends};
+ghost use Rattle.std.specs.Prelude.{◌≡◌, ◌≢◌, ◌≤◌, ◌++◌, ◌+◌, ◌⊎◌, ◌↔◌, [], Err, Some, IfErr, IfOk, IfSome, IfNone, IsErrOf, None, OnOk, length, option_map, true, false};
 ghost use Rattle.line_words.specs.TextLines.{lines_of};
 ghost use Rattle.mctp_schedule.specs.Schedules.{schedule_of};
 ghost use Rattle.mctpctl_engines.specs.AnswerText.{run_of};
 ghost use Rattle.mctpctl_engines.specs.DescribedPieces.{begun};
-ghost use Rattle.mctpctl_engines.specs.Pieces.{Takes, Finishes};
+ghost use Rattle.mctpctl_engines.specs.Pieces.{Takes, FinishesTo};
+ghost use Rattle.mctpctl_engines.specs.Ports.{inner_of, has_failed};
 ghost use Rattle.mctpctl_engines.specs.RunText.{schedule_written, scheduled_run, spelled_by, stop_of_line, stop_of_run};
 ghost use Rattle.mctpctl_engines.specs.SchedulePieces.{Tells, TellsText, nothing_where_cut, schedule_gives, text_of_ran};
 ghost use Rattle.mctpctl_engines.specs.TextLines.{capture_lines, description_of};
 
+use crate::device_text::device_text;
 use crate::faults::{EngineFault, LineKind};
 use crate::limits::{MAX_DESCRIPTION, MAX_INPUT};
 use crate::lines::is_divider;
-use crate::report_text::push_report;
+use crate::port::Port;
+use crate::report_text::write_report;
 use crate::stream::Run;
 use line_words::split_line;
 use mctp_schedule::{LineFault, LineFaultKind, Report, RunFault, Schedule, Setup, run};
 use pldm_device::{Description, FileFault, SimDevice};
 use std::alloc::Global;
-use std::mem::swap;
+use std::io::Write;
 
 /// The run of `run`: what has come of the input, which is looked at once it has ended.
 #[derive(Drop)]
@@ -115,11 +119,12 @@ fn stop_of_run(fault: RunFault) -> EngineFault
     }
 }
 
-/// A schedule, and what came of it.
+/// A schedule, what came of it, and the lines of the device at the end.
 #[derive(Drop)]
 struct Ran {
     schedule: Schedule,
     report: Report<SimDevice>,
+    device: String,
 }
 
 /// Runs a schedule over the described device.
@@ -139,10 +144,18 @@ fn run_schedule(
     };
     let Description { eid, keep, device } = description;
     let setup = Setup { eid, keep, device };
-    match run(alloc, setup, &schedule) {
-        Ok(report) => Ok(Ran { schedule, report }),
-        Err(fault) => Err(stop_of_run(fault)),
-    }
+    let report = match run(alloc, setup, &schedule) {
+        Ok(report) => report,
+        Err(fault) => return Err(stop_of_run(fault)),
+    };
+    let Ok(device) = device_text(alloc, &report.device) else {
+        return Err(EngineFault::Memory);
+    };
+    Ok(Ran {
+        schedule,
+        report,
+        device,
+    })
 }
 
 /// Runs all of an input, of which there is more where it is cut off.
@@ -169,6 +182,23 @@ fn run_input(alloc: Global, text: &[u8], is_cut: bool) -> Result<Ran, EngineFaul
     run_schedule(alloc, description, divided.schedule)
 }
 
+/// Writes the text of a run, part by part, which takes no memory.
+fn tell<W: Write>(writer: &mut Port<W>, ran: &Ran) -> Result<(), EngineFault>
+    requires { has_failed writer.old ≡ false }
+    ensures text { OnOk result (Appends (W.contents (inner_of writer.old)) (W.contents (inner_of writer.new)) (text_of_ran ran.now)) }
+    ensures fault { IfErr result (λ fault. fault ≡ EngineFault.Write) }
+    ensures write { IsErrOf result EngineFault.Write ↔ (has_failed writer.new ≡ true) }
+{
+    let steps = ran.schedule.steps();
+    if write_report(writer, steps, &ran.report, ran.device.as_str()).is_err() {
+        writer.fail();
+    }
+    if writer.failed() {
+        return Err(EngineFault::Write);
+    }
+    Ok(())
+}
+
 impl Run for ScheduleRun {
     ghost gives = { λ run. schedule_gives run.kept.items };
 
@@ -189,30 +219,25 @@ impl Run for ScheduleRun {
         Ok(())
     }
 
-    /// Takes the end of the input, and tells what came of it. The text is made in the room of the input,
-    /// which is not wanted any more.
-    fn finish(&mut self, alloc: Global, is_cut: bool, out: &mut Vec<u8>) -> Result<(), EngineFault>
-        ensures meets { Finishes (schedule_gives self.old.kept.items is_cut []) out.old.items out.new.items result }
+    /// Takes the end of the input, and tells what came of it.
+    fn finish<W: Write>(
+        &mut self,
+        alloc: Global,
+        is_cut: bool,
+        out: &mut Vec<u8>,
+        writer: &mut Port<W>,
+    ) -> Result<(), EngineFault>
+        requires works { has_failed writer.old ≡ false }
+        requires empty { out.old.items ≡ [] }
+        ensures meets { FinishesTo (schedule_gives self.old.kept.items is_cut []) (W.contents (inner_of writer.old)) (W.contents (inner_of writer.new)) result }
         ensures read { result ≢ Err EngineFault.Read }
-        ensures write { result ≢ Err EngineFault.Write }
+        ensures write { IsErrOf result EngineFault.Write ↔ (has_failed writer.new ≡ true) }
         ensures device { result ≢ Err (EngineFault.Device FileFault.Memory) }
     {
-        let Ran { schedule, report } = match run_input(alloc, &self.kept, is_cut) {
-            Ok(ran) => ran,
-            Err(fault) => return Err(fault),
-        };
-        self.kept.clear();
-        if push_report(alloc, &mut self.kept, schedule.steps(), &report).is_err() {
-            return Err(EngineFault::Memory);
+        match run_input(alloc, &self.kept, is_cut) {
+            Ok(ran) => tell(writer, &ran),
+            Err(fault) => Err(fault),
         }
-        if out.is_empty() {
-            swap(out, &mut self.kept);
-            return Ok(());
-        }
-        if out.extend_from_slice(&self.kept).is_err() {
-            return Err(EngineFault::Memory);
-        }
-        Ok(())
     }
 
     ghost none_where_cut = { λ run. nothing_where_cut run.kept.items };

@@ -3,7 +3,7 @@
 
 ghost use Rattle.std.specs.Prelude.{◌≡◌, ◌≢◌, ◌≤◌, ◌<◌, ◌+◌, ◌↔◌, ℕ, Bool, List, [], Err, OnOk, IfOk, IfSome, IsErrOf, length, nat_lt, take, vec_len, true, false};
 ghost use Rattle.mctpctl_engines.specs.LineRuns.{Written, Writes};
-ghost use Rattle.mctpctl_engines.specs.Pieces.{Takes, Finishes, TakesTo, FinishesTo, WroteOfRead, WroteOfFront};
+ghost use Rattle.mctpctl_engines.specs.Pieces.{Takes, TakesTo, FinishesTo, WroteOfRead, WroteOfFront};
 ghost use Rattle.mctpctl_engines.specs.Ports.{inner_of, has_failed};
 
 use crate::faults::EngineFault;
@@ -36,12 +36,21 @@ pub trait Run {
         ensures write { result ≢ Err EngineFault.Write }
         ensures device { result ≢ Err (EngineFault.Device FileFault.Memory) };
 
-    /// Takes the end of the input, and adds to `out` what is left to give.
-    fn finish(&mut self, alloc: Global, is_cut: bool, out: &mut Vec<u8>) -> Result<(), EngineFault>
-        requires { counted self.old ≤ MAX_INPUT }
-        ensures meets { Finishes (gives self.old is_cut []) out.old.items out.new.items result }
+    /// Takes the end of the input, and writes what is left to give before its fault is told. `out` is
+    /// room for a text.
+    fn finish<W: Write>(
+        &mut self,
+        alloc: Global,
+        is_cut: bool,
+        out: &mut Vec<u8>,
+        writer: &mut Port<W>,
+    ) -> Result<(), EngineFault>
+        requires size { counted self.old ≤ MAX_INPUT }
+        requires works { has_failed writer.old ≡ false }
+        requires empty { out.old.items ≡ [] }
+        ensures meets { FinishesTo (gives self.old is_cut []) (W.contents (inner_of writer.old)) (W.contents (inner_of writer.new)) result }
         ensures read { result ≢ Err EngineFault.Read }
-        ensures write { result ≢ Err EngineFault.Write }
+        ensures write { IsErrOf result EngineFault.Write ↔ (has_failed writer.new ≡ true) }
         ensures device { result ≢ Err (EngineFault.Device FileFault.Memory) };
 
     ghost none_where_cut: { (run : Self) → (gives run true []).text ≡ [] };
@@ -80,29 +89,6 @@ fn take_piece<T: Run, W: Write>(
     result
 }
 
-/// Writes what the end of the input gave, before its fault is told.
-fn finish_run<T: Run, W: Write>(
-    alloc: Global,
-    run: &mut T,
-    is_cut: bool,
-    out: &mut Vec<u8>,
-    writer: &mut Port<W>,
-) -> Result<(), EngineFault>
-    requires works { has_failed writer.old ≡ false }
-    requires empty { out.old.items ≡ [] }
-    requires size { T.counted run.old ≤ MAX_INPUT }
-    ensures meets { FinishesTo (T.gives run.old is_cut []) (W.contents (inner_of writer.old)) (W.contents (inner_of writer.new)) result }
-    ensures read { result ≢ Err EngineFault.Read }
-    ensures write { IsErrOf result EngineFault.Write ↔ (has_failed writer.new ≡ true) }
-    ensures device { result ≢ Err (EngineFault.Device FileFault.Memory) }
-{
-    let result = run.finish(alloc, is_cut, out);
-    if writer.write_all(out).is_err() {
-        return Err(EngineFault::Write);
-    }
-    result
-}
-
 /// Reads to the end of input, or past `MAX_INPUT` bytes of it, in pieces that `room` has room for, and
 /// writes what each piece gives before the next one is asked for.
 fn run_pieces<T: Run, R: Read, W: Write>(
@@ -133,7 +119,7 @@ fn run_pieces<T: Run, R: Read, W: Write>(
             return Err(EngineFault::Read);
         };
         if count == 0 {
-            return finish_run(alloc, run, false, &mut out, writer);
+            return run.finish(alloc, false, &mut out, writer);
         }
         let is_cut = count > left;
         let taken = count.min(left);
@@ -142,7 +128,7 @@ fn run_pieces<T: Run, R: Read, W: Write>(
             Err(fault) => return Err(fault),
         }
         if is_cut {
-            return finish_run(alloc, run, true, &mut out, writer);
+            return run.finish(alloc, true, &mut out, writer);
         }
         left -= taken;
     }

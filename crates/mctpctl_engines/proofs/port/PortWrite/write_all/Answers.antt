@@ -1,12 +1,8 @@
 -- The bytes that this write took come after those that were taken before.
-use Rattle.std.proofs.Common.{◌≡◌, ℕ, ◌-◌, ◌<◌, List, ◌++◌, length, take, drop, sym, ap, ◌∙◌, append_assoc, take-append-drop, arith}
-use Rattle.std.proofs.lemmas.List.{take_rest}
+use Rattle.std.proofs.Common.{◌<◌, ◌++◌, take, ◌∙◌, arith}
 use Rattle.std.proofs.KnownBytes.{Appends-trans}
+use Rattle.mctpctl_engines.proofs.WrittenParts.{moves_front}
 use Rattle.mctpctl_engines.proofs.port.PortWrite.write_all.Goals as goal
-
-moves_front : (all done rest : List ℕ) (n : ℕ) → all ≡ done ++ rest → all ≡ (done ++ take n rest) ++ take (length rest - n) (drop n rest)
-moves_front all done rest n e =
-    e ∙ ap (λ l. done ++ l) (sym (take-append-drop n rest)) ∙ sym (append_assoc done (take n rest) (drop n rest)) ∙ ap (λ l. (done ++ take n rest) ++ l) (sym (take_rest rest n))
 
 pub loop-rest-preserved : goal.loop-rest-preserved
 loop-rest-preserved g c =
