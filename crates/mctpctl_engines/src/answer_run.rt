@@ -1,13 +1,13 @@
 //! The engine of `mctpctl answer`, over an input that comes in pieces.
 
-ghost use Rattle.std.specs.Prelude.{◌≡◌, ◌≢◌, ◌≤◌, ◌<◌, ◌+◌, ◌++◌, ◌∷◌, ◌↔◌, ℕ, List, [], Ok, Result, Err, IfOk, IfSome, IsErrOf, length, None, true, false};
+ghost use Rattle.std.specs.Prelude.{◌≡◌, ◌≢◌, ◌≤◌, ◌<◌, ◌+◌, ◌++◌, ◌∷◌, ◌↔◌, [], Ok, Result, Err, IfOk, IfSome, IsErrOf, length, None, true, false};
 ghost use Rattle.line_words.specs.TextLines.{HasNoFeed};
 ghost use Rattle.mctpctl_engines.specs.DescribedPieces.{description_gives, described_gives, described_count, Begins, Describes};
 ghost use Rattle.mctpctl_engines.specs.AnswerPieces.{past_gives, past_count, nothing_where_cut};
 ghost use Rattle.mctpctl_engines.specs.LongLines.{held_refuses};
 ghost use Rattle.mctpctl_engines.specs.HeldRuns.{held_step, held_run};
-ghost use Rattle.mctpctl_engines.specs.LinePieces.{line_gives, AddsLine};
-ghost use Rattle.mctpctl_engines.specs.Pieces.{GoesOn, Takes, Finishes, FinishesTo};
+ghost use Rattle.mctpctl_engines.specs.LinePieces.{AddsLine};
+ghost use Rattle.mctpctl_engines.specs.Pieces.{Takes, Finishes, FinishesTo};
 ghost use Rattle.mctpctl_engines.specs.Ports.{inner_of, has_failed};
 ghost use Rattle.pldm_responder.specs.Stations.{held_of};
 ghost use Rattle.pldm_responder.specs.Held.{Held};

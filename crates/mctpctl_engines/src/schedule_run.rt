@@ -1,7 +1,7 @@
 //! The engine of `mctpctl run`, over an input that comes in pieces.
 
 ghost use Rattle.std.specs.Io.KnownBytes.{Appends};
-ghost use Rattle.std.specs.Prelude.{◌≡◌, ◌≢◌, ◌≤◌, ◌++◌, ◌+◌, ◌⊎◌, ◌↔◌, [], Err, Some, IfErr, IfOk, IfSome, IfNone, IsErrOf, None, OnOk, length, option_map, true, false};
+ghost use Rattle.std.specs.Prelude.{◌≡◌, ◌≢◌, ◌≤◌, ◌+◌, ◌↔◌, [], Err, Some, IfErr, IfSome, IfNone, IsErrOf, None, OnOk, length, option_map, true, false};
 ghost use Rattle.line_words.specs.TextLines.{lines_of};
 ghost use Rattle.mctp_schedule.specs.Schedules.{schedule_of};
 ghost use Rattle.mctpctl_engines.specs.AnswerText.{run_of};
