@@ -12,7 +12,7 @@ ROOT = Path(__file__).resolve().parent.parent
 DEVICE = (ROOT / "examples" / "device.toml").read_bytes()
 DESCRIBED = DEVICE + b"%%\n"
 MOST_INPUT = 16 * 1024 * 1024
-RUNS = 21
+RUNS = 9
 
 
 def begin(program, task, given, taken):
