@@ -94,8 +94,8 @@ def bench(document, task, unit, head, rules):
     chosen = arguments.parse_args()
     sizes = chosen.sizes or [1, 4, 16]
     with tempfile.TemporaryDirectory() as room:
-        # builds the program where it is not built yet, and runs it over no line
-        subprocess.run([ROOT / "mctpctl", "answer"], input=DESCRIBED, check=True)
+        # proves and builds the program where it does not stand yet
+        subprocess.run([ROOT / "prove"], check=True)
         programs = [ROOT / "crates" / "mctpctl" / "out" / "mctpctl"]
         if chosen.peer:
             programs.append(build_peer(chosen.peer, room + "/peer"))

@@ -12,6 +12,3 @@ pub use assembler::{Assembler, MOST_ASSEMBLIES};
 pub use fed::Fed;
 pub use given::Given;
 pub use key::Key;
-
-#[cfg(test)]
-mod tests;

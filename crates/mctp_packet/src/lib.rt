@@ -14,8 +14,6 @@ mod pieces;
 mod reason;
 mod seq;
 mod tag;
-#[cfg(test)]
-mod tests;
 
 use arrayvec::ArrayVec;
 pub use codec::{read, read_for, write};

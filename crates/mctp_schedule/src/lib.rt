@@ -19,8 +19,6 @@ mod run_fault;
 mod schedule;
 mod short_message;
 mod step;
-#[cfg(test)]
-mod tests;
 mod word;
 mod words;
 

@@ -127,39 +127,3 @@ fn refusal(alloc: Global, error: &clap::Error) -> ChooseFault
         Err(_) => ChooseFault::Memory,
     }
 }
-
-#[cfg(test)]
-mod tests {
-    use super::*;
-    use std::test::Fail;
-
-    #[test]
-    fn takes_the_subcommand(rt: HostRuntime) {
-        let task = choose(rt.alloc(), &["mctpctl", "answer"]);
-        assert!(rt; matches!(task, Ok(Task::Answer)));
-        let task = choose(rt.alloc(), &["mctpctl", "run"]);
-        assert!(rt; matches!(task, Ok(Task::Run)));
-        let task = choose(rt.alloc(), &["mctpctl", "show"]);
-        assert!(rt; matches!(task, Ok(Task::Show)));
-    }
-
-    #[test]
-    fn tells_help_from_a_refusal(rt: HostRuntime) -> Result<(), Fail> {
-        let alloc = rt.alloc();
-        let no_word: &[&str] = &["mctpctl"];
-        for words in [no_word, &["mctpctl", "other"], &["mctpctl", "answer", "x"]] {
-            let Err(ChooseFault::Refused(text)) = choose(alloc, words) else {
-                return Err(Fail::from("not refused"));
-            };
-            assert!(rt; text.as_str().contains("Usage: mctpctl"));
-        }
-        let Err(ChooseFault::Help(text)) = choose(alloc, &["mctpctl", "--help"]) else {
-            return Err(Fail::from("no help"));
-        };
-        assert!(rt; text.as_str().contains("Usage: mctpctl <COMMAND>"));
-        assert!(rt; text.as_str().contains("answer"));
-        assert!(rt; text.as_str().contains("run"));
-        assert!(rt; text.as_str().contains("show"));
-        Ok(())
-    }
-}

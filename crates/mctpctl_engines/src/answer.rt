@@ -15,9 +15,6 @@ use pldm_responder::laws;
 use std::alloc::Global;
 use std::io::{Read, Write};
 
-#[cfg(test)]
-mod tests;
-
 /// Answers a capture as the described device would, as it comes: what the lines of a piece of input
 /// give is written before more is asked for. It writes the text of each packet's outcome: `drop NAME`,
 /// `partial`, or the answer's packets in lower-case hex, one a line. A request that comes again within

@@ -151,26 +151,3 @@ fn read_moment(word: &[u8], last: u64) -> Result<u64, LineKind>
     }
     Ok(moment)
 }
-
-#[cfg(test)]
-mod tests {
-    use super::*;
-    use std::test::Fail;
-
-    #[test]
-    fn reads_a_packet_and_skips_a_comment(rt: HostRuntime) -> Result<(), Fail> {
-        let mut packet = Vec::new(rt.alloc());
-        let line = b"  0 010908C801800002\r";
-        let CaptureLine::Packet { moment } = read_capture_line(line, 0, &mut packet)? else {
-            return Err(Fail::from("skipped"));
-        };
-        assert_eq!(rt; moment, 0);
-        assert_eq!(rt;
-            packet.as_slice(),
-            b"\x01\x09\x08\xc8\x01\x80\x00\x02".as_slice()
-        );
-        let comment = read_capture_line(b" # 0 00", 0, &mut packet)?;
-        assert!(rt; matches!(comment, CaptureLine::Skipped));
-        Ok(())
-    }
-}

@@ -8,10 +8,6 @@ mod capture;
 mod decimal;
 mod device_text;
 mod entry_text;
-#[cfg(test)]
-mod example;
-#[cfg(test)]
-mod fakes;
 mod faults;
 mod limits;
 mod line_run;
@@ -26,8 +22,6 @@ mod run;
 mod schedule_run;
 mod show;
 mod stream;
-#[cfg(test)]
-mod tests;
 mod written_text;
 
 pub use answer::answer_all;

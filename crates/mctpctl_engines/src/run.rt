@@ -14,9 +14,6 @@ use pldm_device::FileFault;
 use std::alloc::Global;
 use std::io::{Read, Write};
 
-#[cfg(test)]
-mod tests;
-
 /// Runs the requesters of a schedule and the described device over its steps. It writes what came of
 /// each step, how each request stands, the order in which requests were performed, the device, and
 /// whether the schedule was timely.

@@ -16,9 +16,6 @@ use pldm_device::FileFault;
 use std::alloc::Global;
 use std::io::{Read, Write};
 
-#[cfg(test)]
-mod tests;
-
 /// Shows a capture of packets between any endpoints, as it comes: what the lines of a piece of input
 /// give is written before more is asked for. For each packet it writes a line with its header and with
 /// what it gave (`whole`, `partial` or `drop NAME`), and after `whole` a line with the message.

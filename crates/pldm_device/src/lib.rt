@@ -8,8 +8,6 @@ mod device;
 mod document;
 mod effecter_entries;
 mod entries;
-#[cfg(test)]
-mod example;
 mod fetch;
 mod fetch_fault;
 mod hex_values;
@@ -30,8 +28,6 @@ mod repository;
 mod sensor_entries;
 mod size_names;
 mod state_effecter;
-#[cfg(test)]
-mod tests;
 
 pub use description::Description;
 pub use description_fault::FileFault;

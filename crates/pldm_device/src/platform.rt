@@ -31,7 +31,7 @@ use std::alloc::Global;
 ///
 /// # Example
 ///
-/// `Recorder`, the platform of this crate's tests, is in `crates/pldm_device/src/tests/recorder.rt` and
+/// `Recorder`, a platform of the tests, is in `crates/device_tests/src/recorder.rt` and
 /// is proved with them. It keeps each terminus ID that it is given, tells the last one, or 0 before the
 /// first, and refuses any other command; its answers, the state that follows and the laws over them
 /// are in `crates/pldm_device/specs/Recorders.antt`. To keep an ID takes memory, so its `STEADY` is

@@ -18,6 +18,3 @@ pub use opened::{OpenFault, Opened};
 pub use requester::{MOST_OPEN, MOST_REMEMBERED, Requester};
 pub use status::Status;
 pub use timing::{MOST_TRIES, Timing, TimingFault};
-
-#[cfg(test)]
-mod tests;

@@ -14,6 +14,3 @@ mod taken;
 pub use outcome::Outcome;
 pub use responder::{MOST_KEPT, MOST_PENDING, Responder};
 pub use taken::Taken;
-
-#[cfg(test)]
-mod tests;

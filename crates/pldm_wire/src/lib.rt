@@ -64,6 +64,3 @@ pub use size::Size;
 pub use state_fields::{EffecterStateField, SensorStateField, SetStateField, StateFields};
 pub use transfer_flag::TransferFlag;
 pub use version_data::VersionData;
-
-#[cfg(test)]
-mod tests;

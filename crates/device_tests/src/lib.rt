@@ -1,0 +1,15 @@
+//! Tests of platforms, of descriptions, and of records that are fetched, over public calls.
+#![tactic(auto)]
+
+#[cfg(test)]
+mod faults;
+#[cfg(test)]
+mod fetch;
+#[cfg(test)]
+mod memory;
+#[cfg(test)]
+mod platforms;
+#[cfg(test)]
+mod recorder;
+#[cfg(test)]
+mod records;

@@ -1,0 +1,7 @@
+//! Tests of the two ends, each by itself, over public calls.
+#![tactic(auto)]
+
+#[cfg(test)]
+mod requester;
+#[cfg(test)]
+mod responder;

@@ -1,0 +1,112 @@
+//! A record of the greatest length, fetched part by part through the engine.
+
+use super::run;
+use example_device::description;
+use mctp_assembly::{Assembler, Fed};
+use mctp_packet::{Body, Eid, Memory, Route, Tag, read_for, split};
+use pldm_device::{Fetch, FetchState, MOST_RECORD_BYTES};
+use pldm_wire::{Command, MOST_PART_BYTES, read_answer, read_response, write_command};
+use std::alloc::Global;
+use std::process::Abort;
+use std::test::Fail;
+
+/// The parts of the record.
+const PARTS: u32 = ((MOST_RECORD_BYTES + MOST_PART_BYTES - 1) / MOST_PART_BYTES) as u32;
+
+/// A record of the greatest length, with the handle 2 and the change number 0x1234.
+fn record(alloc: Global) -> Result<Vec<u8>, Fail> {
+    let mut record = hex::decode(alloc, "0200000001013412ffff")?;
+    for place in record.len()..MOST_RECORD_BYTES {
+        record.push((place % 251) as u8)?;
+    }
+    Ok(record)
+}
+
+/// The request for a part of record 2.
+fn request(part: u32) -> Command {
+    Command::GetPdr {
+        record_handle: 2,
+        data_transfer_handle: part.saturating_mul(MOST_PART_BYTES as u32),
+        transfer_operation_flag: u8::from(part == 0),
+        request_count: MOST_PART_BYTES as u16,
+        record_change_number: if part == 0 { 0 } else { 0x1234 },
+    }
+}
+
+/// The example device with this record as its second, and a request for each part.
+fn input(alloc: Global, record: &[u8]) -> Result<String, Fail> {
+    let device = description(alloc)?;
+    let digits = hex::encode(alloc, record)?;
+    let mut text = format!(in alloc; "{device}[[pdr]]\nhex = \"{digits}\"\n%%\n")?;
+    let route = Route {
+        destination: Eid::new(9).ok_or(Memory)?,
+        source: Eid::new(8).ok_or(Memory)?,
+        owner: true,
+        tag: Tag::new(3).ok_or(Memory)?,
+    };
+    for part in 0..PARTS {
+        let message = write_command((part % 32) as u8, &request(part));
+        let packets = split(&route, &message)?;
+        let packet = hex::encode(alloc, packets.get(0).ok_or(Memory)?)?;
+        let line = format!(in alloc; "{part} {packet}\n")?;
+        text.push_str(line.as_str())?;
+    }
+    Ok(text)
+}
+
+/// The messages whose packets stand in these lines.
+fn messages(alloc: Global, lines: &[u8]) -> Result<Vec<Body>, Fail> {
+    let own = Eid::new(8).ok_or(Memory)?;
+    let mut assembler = Assembler::new(alloc);
+    let mut messages = Vec::new(alloc);
+    for line in lines.split(|byte| *byte == b'\n') {
+        if line.is_empty() {
+            continue;
+        }
+        let bytes = hex::decode(alloc, line)?;
+        let packet = read_for(own, bytes.as_slice())?;
+        if let Fed::Whole(message) = assembler.feed(&packet)? {
+            messages.push(message)?;
+        }
+    }
+    Ok(messages)
+}
+
+/// The messages that the engine answers to a request for each part of this record.
+fn answers(rt: &impl Abort, alloc: Global, record: &[u8]) -> Result<Vec<Body>, Fail> {
+    let (result, written) = run(alloc, input(alloc, record)?.as_bytes())?;
+    assert_eq!(rt; result, Ok(()));
+    messages(alloc, &written)
+}
+
+/// A fetch takes these answers, one for each part, and has this record at the end.
+fn expect_fetched(
+    rt: &impl Abort,
+    alloc: Global,
+    messages: &[Body],
+    record: &[u8],
+) -> Result<(), Fail> {
+    let mut fetch = Fetch::new(alloc, 2);
+    for (part, message) in (0..PARTS).zip(messages.iter()) {
+        let command = request(part);
+        assert_eq!(rt; fetch.next(), Some(request(part)), "part {part}");
+        let answer = read_answer(&command, &read_response(message)?)?;
+        let want = if part == PARTS - 1 {
+            FetchState::Done(0)
+        } else {
+            FetchState::More
+        };
+        assert_eq!(rt; fetch.take(&answer), Ok(want), "part {part}");
+    }
+    assert_eq!(rt; fetch.record(), Some(record));
+    Ok(())
+}
+
+#[test]
+fn the_longest_record_is_fetched(rt: HostRuntime) -> Result<(), Fail> {
+    let alloc = rt.alloc();
+    let record = record(alloc)?;
+    let messages = answers(&rt, alloc, &record)?;
+    assert_eq!(rt; messages.len(), PARTS as usize);
+    expect_fetched(&rt, alloc, &messages, &record)
+}

@@ -1,0 +1,56 @@
+//! The lines that tell faults, and their exit statuses.
+
+use mctp_packet::Eid;
+use mctpctl_engines::{EngineFault, LineKind, fault_line, status_of};
+use pldm_device::FileFault;
+use pldm_requester::TimingFault;
+use std::test::Fail;
+
+#[test]
+fn tells_each_fault(rt: HostRuntime) -> Result<(), Fail> {
+    let requester = Eid::new(8).expect(&rt, "an endpoint ID");
+    let rows = [
+        (
+            EngineFault::Device(FileFault::OutOfRange),
+            "device: OutOfRange",
+            1,
+        ),
+        (EngineFault::NoDivider, "no %% line", 1),
+        (
+            EngineFault::Line(3, LineKind::BackInTime),
+            "line 3: BackInTime",
+            1,
+        ),
+        (EngineFault::Line(1, LineKind::BadHex), "line 1: BadHex", 1),
+        (
+            EngineFault::Line(1, LineKind::LongLine),
+            "line 1: LongLine",
+            1,
+        ),
+        (
+            EngineFault::Line(2, LineKind::SameRequester),
+            "line 2: SameRequester",
+            1,
+        ),
+        (
+            EngineFault::Line(7, LineKind::NoSuchRequester),
+            "line 7: NoSuchRequester",
+            1,
+        ),
+        (
+            EngineFault::Timing(requester, TimingFault::TooLate),
+            "requester 8: TooLate",
+            1,
+        ),
+        (EngineFault::TooLarge, "input too large", 1),
+        (EngineFault::Read, "read fault", 3),
+        (EngineFault::Write, "write fault", 3),
+        (EngineFault::Memory, "out of memory", 3),
+    ];
+    for (fault, text, status) in rows {
+        let line = fault_line(rt.alloc(), &fault)?;
+        assert_eq!(rt; line.as_str(), text);
+        assert_eq!(rt; status_of(&fault), status, "{text}");
+    }
+    Ok(())
+}

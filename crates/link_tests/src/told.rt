@@ -1,0 +1,118 @@
+//! What a run tells, in words: a line for each step, then the requests, the order and whether it was timely.
+
+use mctp_schedule::{DueRequests, Entry, OpenedRequest, Report, Step};
+use pldm_device::Platform;
+use pldm_requester::{Got, Status};
+use pldm_responder::Taken;
+use std::alloc::{AllocError, Global};
+
+/// The most bytes of an answer that are written out.
+const MOST_WRITTEN: usize = 32;
+
+/// What a report tells, but for the device at the end.
+pub fn told<P: Platform>(
+    alloc: Global,
+    steps: &[Step],
+    report: &Report<P>,
+) -> Result<String, AllocError> {
+    let mut text = String::new(alloc);
+    for (step, entry) in steps.iter().zip(report.entries.iter()) {
+        let moment = step.moment.get();
+        let words = entry_words(alloc, entry)?;
+        text.push_str(format!(in alloc; "{moment} {words}\n")?.as_str())?;
+    }
+    for (number, request) in report.requests.iter().enumerate() {
+        let words = request_words(alloc, request)?;
+        text.push_str(format!(in alloc; "request {number} {words}\n")?.as_str())?;
+    }
+    text.push_str("order")?;
+    push_numbers(alloc, &mut text, &report.order)?;
+    text.push_str(if report.timely {
+        "\ntimely\n"
+    } else {
+        "\nnot timely\n"
+    })?;
+    Ok(text)
+}
+
+/// What came of a step.
+fn entry_words(alloc: Global, entry: &Entry) -> Result<String, AllocError> {
+    match entry {
+        Entry::Nothing => String::from_str(alloc, "nothing"),
+        Entry::Opened(number) => format!(in alloc; "opened {number}"),
+        Entry::NotOpened(fault) => {
+            let number = fault.number();
+            format!(in alloc; "not opened, fault {number}")
+        }
+        Entry::Due(due) => due_words(alloc, due),
+        Entry::Delivered { busy, delivery } => {
+            String::from_str(alloc, delivered_words(*busy, delivery.taken()))
+        }
+        Entry::Received(Got::Dropped(reason)) => {
+            let name = reason.name();
+            format!(in alloc; "drop {name}")
+        }
+        Entry::Received(Got::Partial) => String::from_str(alloc, "partial"),
+        Entry::Received(Got::Answered(own)) => format!(in alloc; "answered {own}"),
+        Entry::Sensed(Ok(())) => String::from_str(alloc, "set"),
+        Entry::Sensed(Err(fault)) => {
+            let number = fault.number();
+            format!(in alloc; "not set, fault {number}")
+        }
+        Entry::Restarted => String::from_str(alloc, "restarted"),
+    }
+}
+
+/// What a tick found due.
+fn due_words(alloc: Global, due: &DueRequests) -> Result<String, AllocError> {
+    let mut text = String::from_str(alloc, "again")?;
+    push_numbers(alloc, &mut text, due.again())?;
+    text.push_str(", gave up")?;
+    push_numbers(alloc, &mut text, due.given_up())?;
+    Ok(text)
+}
+
+/// What became of a request's packet.
+fn delivered_words(busy: bool, taken: &Taken) -> &'static str {
+    match (busy, taken) {
+        (true, Taken::Answered { .. }) => "busy",
+        (
+            false,
+            Taken::Answered {
+                fresh: true,
+                changed: true,
+                ..
+            },
+        ) => "fresh changed",
+        (false, Taken::Answered { fresh: true, .. }) => "fresh unchanged",
+        (false, Taken::Answered { changed: false, .. }) => "copy",
+        _ => "no answer",
+    }
+}
+
+/// A request, and how it stands.
+fn request_words(alloc: Global, request: &OpenedRequest) -> Result<String, AllocError> {
+    let source = request.requester().get();
+    match request.status() {
+        Status::Open => format!(in alloc; "from {source} open"),
+        Status::GaveUp => format!(in alloc; "from {source} gave up"),
+        Status::Answered(message) if message.len() > MOST_WRITTEN => {
+            let length = message.len();
+            format!(in alloc; "from {source} answered by {length} bytes")
+        }
+        Status::Answered(message) => {
+            let mut text = format!(in alloc; "from {source} answered ")?;
+            for byte in message {
+                text.push_str(format!(in alloc; "{byte:02x}")?.as_str())?;
+            }
+            Ok(text)
+        }
+    }
+}
+
+fn push_numbers(alloc: Global, text: &mut String, numbers: &[u64]) -> Result<(), AllocError> {
+    for number in numbers {
+        text.push_str(format!(in alloc; " {number}")?.as_str())?;
+    }
+    Ok(())
+}
