@@ -1,12 +1,14 @@
 //! The text of what came of a step.
 
 ghost use Rattle.std.specs.Io.KnownBytes.{Appends};
-ghost use Rattle.std.specs.Prelude.{◌≡◌, ◌++◌, ◌∷◌, [], OnOk, codes};
+ghost use Rattle.std.specs.Prelude.{◌≡◌, ◌++◌, ◌∷◌, [], true, OnOk, OnErr, codes};
 ghost use Rattle.std.specs.Fmt.{decimal};
 ghost use Rattle.mctpctl_engines.specs.EntryTexts.{again_text, answered_text, delivered_text, due_text, entry_line, entry_text, gave_up_text, not_opened_text, numbers_text, received_text, sensed_text};
+ghost use Rattle.mctpctl_engines.specs.Ports.{inner_of, has_failed};
 ghost use Rattle.mctpctl_engines.specs.ShownLines.{drop_text};
 
 use crate::decimal::Decimal;
+use crate::port::Port;
 use crate::written_text::{NotWritten, write_bytes, write_number, write_text};
 use mctp_packet::Reason;
 use mctp_schedule::{Delivery, Entry};
@@ -17,11 +19,13 @@ use std::io::Write;
 
 /// Writes the line of a step at this moment: the moment, and what came of the step.
 pub fn write_entry_line<W: Write>(
-    out: &mut W,
+    out: &mut Port<W>,
     moment: &Decimal,
     entry: &Entry,
 ) -> Result<(), NotWritten>
-    ensures { OnOk result (Appends (W.contents out.old) (W.contents out.new) (entry_line moment.now entry.now)) }
+    ensures text { OnOk result (Appends (W.contents (inner_of out.old)) (W.contents (inner_of out.new)) (entry_line moment.now entry.now)) }
+    ensures ok { OnOk result (has_failed out.new ≡ has_failed out.old) }
+    ensures err { OnErr result (has_failed out.new ≡ true) }
 {
     write_bytes(out, moment.spaced())?;
     write_entry(out, entry)
@@ -29,8 +33,10 @@ pub fn write_entry_line<W: Write>(
 
 /// Writes what came of a step, and the end of its line. Where that is a few words, they are written with
 /// the end of the line at once.
-fn write_entry<W: Write>(out: &mut W, entry: &Entry) -> Result<(), NotWritten>
-    ensures { OnOk result (Appends (W.contents out.old) (W.contents out.new) (entry_text entry.now ++ 10 ∷ [])) }
+fn write_entry<W: Write>(out: &mut Port<W>, entry: &Entry) -> Result<(), NotWritten>
+    ensures text { OnOk result (Appends (W.contents (inner_of out.old)) (W.contents (inner_of out.new)) (entry_text entry.now ++ 10 ∷ [])) }
+    ensures ok { OnOk result (has_failed out.new ≡ has_failed out.old) }
+    ensures err { OnErr result (has_failed out.new ≡ true) }
 {
     match entry {
         Entry::Nothing => write_text(out, "nothing\n"),
@@ -44,8 +50,10 @@ fn write_entry<W: Write>(out: &mut W, entry: &Entry) -> Result<(), NotWritten>
     }
 }
 
-fn write_opened<W: Write>(out: &mut W, number: u64) -> Result<(), NotWritten>
-    ensures { OnOk result (Appends (W.contents out.old) (W.contents out.new) (codes "opened " ++ (decimal number ++ 10 ∷ []))) }
+fn write_opened<W: Write>(out: &mut Port<W>, number: u64) -> Result<(), NotWritten>
+    ensures text { OnOk result (Appends (W.contents (inner_of out.old)) (W.contents (inner_of out.new)) (codes "opened " ++ (decimal number ++ 10 ∷ []))) }
+    ensures ok { OnOk result (has_failed out.new ≡ has_failed out.old) }
+    ensures err { OnErr result (has_failed out.new ≡ true) }
 {
     write_text(out, "opened ")?;
     write_number(out, number)?;
@@ -62,8 +70,10 @@ fn not_opened_text(fault: OpenFault) -> &'static str
     }
 }
 
-fn write_due<W: Write>(out: &mut W, again: &[u64], given_up: &[u64]) -> Result<(), NotWritten>
-    ensures { OnOk result (Appends (W.contents out.old) (W.contents out.new) (due_text again.now given_up.now ++ 10 ∷ [])) }
+fn write_due<W: Write>(out: &mut Port<W>, again: &[u64], given_up: &[u64]) -> Result<(), NotWritten>
+    ensures text { OnOk result (Appends (W.contents (inner_of out.old)) (W.contents (inner_of out.new)) (due_text again.now given_up.now ++ 10 ∷ [])) }
+    ensures ok { OnOk result (has_failed out.new ≡ has_failed out.old) }
+    ensures err { OnErr result (has_failed out.new ≡ true) }
 {
     if again.is_empty() && given_up.is_empty() {
         return write_text(out, "nothing due\n");
@@ -80,23 +90,29 @@ fn write_due<W: Write>(out: &mut W, again: &[u64], given_up: &[u64]) -> Result<(
     write_text(out, "\n")
 }
 
-fn write_again<W: Write>(out: &mut W, numbers: &[u64]) -> Result<(), NotWritten>
-    ensures { OnOk result (Appends (W.contents out.old) (W.contents out.new) (again_text numbers.now)) }
+fn write_again<W: Write>(out: &mut Port<W>, numbers: &[u64]) -> Result<(), NotWritten>
+    ensures text { OnOk result (Appends (W.contents (inner_of out.old)) (W.contents (inner_of out.new)) (again_text numbers.now)) }
+    ensures ok { OnOk result (has_failed out.new ≡ has_failed out.old) }
+    ensures err { OnErr result (has_failed out.new ≡ true) }
 {
     write_text(out, "again")?;
     write_numbers(out, numbers)
 }
 
-fn write_gave_up<W: Write>(out: &mut W, numbers: &[u64]) -> Result<(), NotWritten>
-    ensures { OnOk result (Appends (W.contents out.old) (W.contents out.new) (gave_up_text numbers.now)) }
+fn write_gave_up<W: Write>(out: &mut Port<W>, numbers: &[u64]) -> Result<(), NotWritten>
+    ensures text { OnOk result (Appends (W.contents (inner_of out.old)) (W.contents (inner_of out.new)) (gave_up_text numbers.now)) }
+    ensures ok { OnOk result (has_failed out.new ≡ has_failed out.old) }
+    ensures err { OnErr result (has_failed out.new ≡ true) }
 {
     write_text(out, "gave up")?;
     write_numbers(out, numbers)
 }
 
 /// Writes numbers in decimal, a space before each.
-pub fn write_numbers<W: Write>(out: &mut W, numbers: &[u64]) -> Result<(), NotWritten>
-    ensures { OnOk result (Appends (W.contents out.old) (W.contents out.new) (numbers_text numbers.now)) }
+pub fn write_numbers<W: Write>(out: &mut Port<W>, numbers: &[u64]) -> Result<(), NotWritten>
+    ensures text { OnOk result (Appends (W.contents (inner_of out.old)) (W.contents (inner_of out.new)) (numbers_text numbers.now)) }
+    ensures ok { OnOk result (has_failed out.new ≡ has_failed out.old) }
+    ensures err { OnErr result (has_failed out.new ≡ true) }
 {
     for i in 0..numbers.len() {
         write_text(out, " ")?;
@@ -105,8 +121,10 @@ pub fn write_numbers<W: Write>(out: &mut W, numbers: &[u64]) -> Result<(), NotWr
     Ok(())
 }
 
-fn write_delivered<W: Write>(out: &mut W, busy: bool, delivery: &Delivery) -> Result<(), NotWritten>
-    ensures { OnOk result (Appends (W.contents out.old) (W.contents out.new) (delivered_text busy delivery.now ++ 10 ∷ [])) }
+fn write_delivered<W: Write>(out: &mut Port<W>, busy: bool, delivery: &Delivery) -> Result<(), NotWritten>
+    ensures text { OnOk result (Appends (W.contents (inner_of out.old)) (W.contents (inner_of out.new)) (delivered_text busy delivery.now ++ 10 ∷ [])) }
+    ensures ok { OnOk result (has_failed out.new ≡ has_failed out.old) }
+    ensures err { OnErr result (has_failed out.new ≡ true) }
 {
     match delivery.taken() {
         Taken::Dropped(reason) => write_dropped(out, *reason),
@@ -118,8 +136,10 @@ fn write_delivered<W: Write>(out: &mut W, busy: bool, delivery: &Delivery) -> Re
 }
 
 /// Writes that bytes are dropped, and why.
-fn write_dropped<W: Write>(out: &mut W, reason: Reason) -> Result<(), NotWritten>
-    ensures { OnOk result (Appends (W.contents out.old) (W.contents out.new) (drop_text reason ++ 10 ∷ [])) }
+fn write_dropped<W: Write>(out: &mut Port<W>, reason: Reason) -> Result<(), NotWritten>
+    ensures text { OnOk result (Appends (W.contents (inner_of out.old)) (W.contents (inner_of out.new)) (drop_text reason ++ 10 ∷ [])) }
+    ensures ok { OnOk result (has_failed out.new ≡ has_failed out.old) }
+    ensures err { OnErr result (has_failed out.new ≡ true) }
 {
     write_text(out, "drop ")?;
     write_text(out, reason.name())?;
@@ -140,8 +160,10 @@ fn answered_text(busy: bool, fresh: bool, changed: bool) -> &'static str
     }
 }
 
-fn write_received<W: Write>(out: &mut W, got: Got) -> Result<(), NotWritten>
-    ensures { OnOk result (Appends (W.contents out.old) (W.contents out.new) (received_text got ++ 10 ∷ [])) }
+fn write_received<W: Write>(out: &mut Port<W>, got: Got) -> Result<(), NotWritten>
+    ensures text { OnOk result (Appends (W.contents (inner_of out.old)) (W.contents (inner_of out.new)) (received_text got ++ 10 ∷ [])) }
+    ensures ok { OnOk result (has_failed out.new ≡ has_failed out.old) }
+    ensures err { OnErr result (has_failed out.new ≡ true) }
 {
     match got {
         Got::Dropped(reason) => write_dropped(out, reason),

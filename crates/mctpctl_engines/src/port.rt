@@ -36,7 +36,7 @@ impl<T> Port<T> {
     }
 
     /// From now on the port has failed.
-    pub(crate) fn fail(&mut self)
+    fn fail(&mut self)
         ensures inner { inner_of self.new ≡ inner_of self.old }
         ensures failed { has_failed self.new ≡ true }
     {

@@ -1,13 +1,15 @@
 //! The text of a run's report.
 
 ghost use Rattle.std.specs.Io.KnownBytes.{Appends};
-ghost use Rattle.std.specs.Prelude.{◌≡◌, OnOk};
+ghost use Rattle.std.specs.Prelude.{◌≡◌, true, OnOk, OnErr};
 ghost use Rattle.mctpctl_engines.specs.EntryTexts.{entries_text};
+ghost use Rattle.mctpctl_engines.specs.Ports.{inner_of, has_failed};
 ghost use Rattle.mctpctl_engines.specs.ReportTexts.{order_line, report_text, request_line, requests_text, standing_text, timely_line};
 ghost use Rattle.pldm_requester.specs.Standings.{standing_told};
 
 use crate::decimal::Decimal;
 use crate::entry_text::{write_entry_line, write_numbers};
+use crate::port::Port;
 use crate::written_text::{NotWritten, write_hex, write_number, write_text};
 use mctp_schedule::{Entry, OpenedRequest, Report, Step};
 use pldm_device::SimDevice;
@@ -18,13 +20,15 @@ use std::io::Write;
 /// which requests were performed, those of the device, which are told as `device`, and whether the
 /// schedule was timely.
 pub fn write_report<W: Write>(
-    out: &mut W,
+    out: &mut Port<W>,
     steps: &[Step],
     report: &Report<SimDevice>,
     device: &str,
 ) -> Result<(), NotWritten>
-    ensures { OnOk result (Appends (W.contents out.old) (W.contents out.new)
+    ensures text { OnOk result (Appends (W.contents (inner_of out.old)) (W.contents (inner_of out.new))
         (report_text steps.now report.now.entries.items report.now.requests.items report.now.order.items device.now report.now.timely)) }
+    ensures ok { OnOk result (has_failed out.new ≡ has_failed out.old) }
+    ensures err { OnErr result (has_failed out.new ≡ true) }
 {
     write_entries(out, steps, &report.entries)?;
     write_requests(out, &report.requests)?;
@@ -34,8 +38,10 @@ pub fn write_report<W: Write>(
 }
 
 /// Writes a line for each of these steps, by what came of it.
-fn write_entries<W: Write>(out: &mut W, steps: &[Step], entries: &[Entry]) -> Result<(), NotWritten>
-    ensures { OnOk result (Appends (W.contents out.old) (W.contents out.new) (entries_text steps.now entries.now)) }
+fn write_entries<W: Write>(out: &mut Port<W>, steps: &[Step], entries: &[Entry]) -> Result<(), NotWritten>
+    ensures text { OnOk result (Appends (W.contents (inner_of out.old)) (W.contents (inner_of out.new)) (entries_text steps.now entries.now)) }
+    ensures ok { OnOk result (has_failed out.new ≡ has_failed out.old) }
+    ensures err { OnErr result (has_failed out.new ≡ true) }
 {
     let count = steps.len().min(entries.len());
     let mut moment = Decimal::new(0);
@@ -47,8 +53,10 @@ fn write_entries<W: Write>(out: &mut W, steps: &[Step], entries: &[Entry]) -> Re
 }
 
 /// Writes a line for each of these requests, which have the numbers from 0 on.
-fn write_requests<W: Write>(out: &mut W, requests: &[OpenedRequest]) -> Result<(), NotWritten>
-    ensures { OnOk result (Appends (W.contents out.old) (W.contents out.new) (requests_text 0 requests.now)) }
+fn write_requests<W: Write>(out: &mut Port<W>, requests: &[OpenedRequest]) -> Result<(), NotWritten>
+    ensures text { OnOk result (Appends (W.contents (inner_of out.old)) (W.contents (inner_of out.new)) (requests_text 0 requests.now)) }
+    ensures ok { OnOk result (has_failed out.new ≡ has_failed out.old) }
+    ensures err { OnErr result (has_failed out.new ≡ true) }
 {
     for i in 0..requests.len() {
         write_request_line(out, i as u64, &requests[i])?;
@@ -57,11 +65,13 @@ fn write_requests<W: Write>(out: &mut W, requests: &[OpenedRequest]) -> Result<(
 }
 
 fn write_request_line<W: Write>(
-    out: &mut W,
+    out: &mut Port<W>,
     number: u64,
     request: &OpenedRequest,
 ) -> Result<(), NotWritten>
-    ensures { OnOk result (Appends (W.contents out.old) (W.contents out.new) (request_line number request.now)) }
+    ensures text { OnOk result (Appends (W.contents (inner_of out.old)) (W.contents (inner_of out.new)) (request_line number request.now)) }
+    ensures ok { OnOk result (has_failed out.new ≡ has_failed out.old) }
+    ensures err { OnErr result (has_failed out.new ≡ true) }
 {
     write_text(out, "request ")?;
     write_number(out, number)?;
@@ -72,8 +82,10 @@ fn write_request_line<W: Write>(
     write_text(out, "\n")
 }
 
-fn write_standing<W: Write>(out: &mut W, status: Status<'_>) -> Result<(), NotWritten>
-    ensures { OnOk result (Appends (W.contents out.old) (W.contents out.new) (standing_text (standing_told status.entry))) }
+fn write_standing<W: Write>(out: &mut Port<W>, status: Status<'_>) -> Result<(), NotWritten>
+    ensures text { OnOk result (Appends (W.contents (inner_of out.old)) (W.contents (inner_of out.new)) (standing_text (standing_told status.entry))) }
+    ensures ok { OnOk result (has_failed out.new ≡ has_failed out.old) }
+    ensures err { OnErr result (has_failed out.new ≡ true) }
 {
     match status {
         Status::Open => write_text(out, "open"),
@@ -86,8 +98,10 @@ fn write_standing<W: Write>(out: &mut W, status: Status<'_>) -> Result<(), NotWr
 }
 
 /// Writes the numbers of the requests that were performed, in that order, or `-` where there are none.
-fn write_order<W: Write>(out: &mut W, order: &[u64]) -> Result<(), NotWritten>
-    ensures { OnOk result (Appends (W.contents out.old) (W.contents out.new) (order_line order.now)) }
+fn write_order<W: Write>(out: &mut Port<W>, order: &[u64]) -> Result<(), NotWritten>
+    ensures text { OnOk result (Appends (W.contents (inner_of out.old)) (W.contents (inner_of out.new)) (order_line order.now)) }
+    ensures ok { OnOk result (has_failed out.new ≡ has_failed out.old) }
+    ensures err { OnErr result (has_failed out.new ≡ true) }
 {
     if order.is_empty() {
         return write_text(out, "order -\n");

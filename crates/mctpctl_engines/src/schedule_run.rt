@@ -19,6 +19,7 @@ use crate::lines::is_divider;
 use crate::port::Port;
 use crate::report_text::write_report;
 use crate::stream::Run;
+use crate::written_text::NotWritten;
 use line_words::split_line;
 use mctp_schedule::{LineFault, LineFaultKind, Report, RunFault, Schedule, Setup, run};
 use pldm_device::{Description, FileFault, SimDevice};
@@ -190,13 +191,10 @@ fn tell<W: Write>(writer: &mut Port<W>, ran: &Ran) -> Result<(), EngineFault>
     ensures write { IsErrOf result EngineFault.Write ↔ (has_failed writer.new ≡ true) }
 {
     let steps = ran.schedule.steps();
-    if write_report(writer, steps, &ran.report, ran.device.as_str()).is_err() {
-        writer.fail();
+    match write_report(writer, steps, &ran.report, ran.device.as_str()) {
+        Ok(()) => Ok(()),
+        Err(NotWritten) => Err(EngineFault::Write),
     }
-    if writer.failed() {
-        return Err(EngineFault::Write);
-    }
-    Ok(())
 }
 
 impl Run for ScheduleRun {

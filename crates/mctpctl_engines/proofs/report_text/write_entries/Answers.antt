@@ -12,7 +12,8 @@ loop-i-preserved g c =
     let line = entry_line c.set.new.self c.index-entries-i.result in
     record {
       text = i.text ++ line;
-      written = Appends-trans _ _ _ _ _ i.written c.in_ok-write_entry_line.ensures;
+      written = Appends-trans _ _ _ _ _ i.written c.in_ok-write_entry_line.ensures.text;
+      works = c.in_ok-write_entry_line.ensures.ok ∙ i.works;
       whole = entries_step i.text (i.text ++ line) c.args.steps.now c.args.entries.now c.loop-i.i c.index-steps-i.result c.index-entries-i.result c.set.new.self
           (omega (arith, c.loop-i-test.true, i.end)) (omega (arith, c.loop-i-test.true, i.end))
           c.index-steps-i.is c.index-entries-i.is (c.set.ensures ∙ c.get.ensures.value ∙ ap (λ s. s.moment) (sym c.index-steps-i.is))
@@ -21,8 +22,8 @@ loop-i-preserved g c =
       end = i.end;
     }
 
-pub returns : goal.returns
-returns g c =
+pub returns-clause-text : goal.returns-clause-text
+returns-clause-text g c =
     let i = c.loop-i.invariant in
     let all =
     sym (append-nil i.text)

@@ -11,7 +11,8 @@ loop-i-preserved g c =
     let line = request_line c.loop-i.i c.index-requests-i.result in
     record {
       text = i.text ++ line;
-      written = Appends-trans _ _ _ _ _ i.written c.in_ok-write_request_line.ensures;
+      written = Appends-trans _ _ _ _ _ i.written c.in_ok-write_request_line.ensures.text;
+      works = c.in_ok-write_request_line.ensures.ok ∙ i.works;
       whole = requests_step i.text (i.text ++ line) c.args.requests.now c.loop-i.i c.index-requests-i.result c.loop-i-test.true c.index-requests-i.is refl
           ∙ i.whole;
       end = refl;
