@@ -95,6 +95,18 @@ FAULTS = [
     ('"00f0f0f1"', '"00f0f0fg"', "BadHex"),
     ("[[pdr]]\n", f'[[pdr]]\nhex = "{RECORD.hex()}"\n[[pdr]]\n', "Duplicate"),
     ('"01000000', '"00000000', "BadRecord"),
+    ("[[pdr]]\n", "[[numeric_sensor]]\n" * 1_001 + "[[pdr]]\n", "OutOfRange"),
+]
+
+STATES = f"[[state_effecter]]\nid = 1\nallowed = [{list(range(201))}]\nvalues = [200]\n"
+START = "0 01090888" + "01" * 64 + "\n"
+LONG = "0 010908c8" + "01" * 300 + "\n"
+
+# What is taken, and what is written then: as many states as there are, a start packet of a full payload, a long packet.
+TAKEN = [
+    ("201 allowed states", STATES, "0 010908c801800002\n", "010809c0010000020001\n"),
+    ("a start packet of a full payload", "", START, "partial\n"),
+    ("a packet of 304 bytes", "", LONG, "drop UnsupportedUnit\n"),
 ]
 
 
@@ -114,3 +126,6 @@ def check(rows, run):
         ran = run(["answer"], DEVICE.replace(old, new) + "%%\n")
         well = (ran.returncode, ran.stdout, ran.stderr) == (1, b"", f"mctpctl: device: {fault}\n".encode())
         rows.check(f"a description that is refused as {fault}", well, repr(ran.stderr))
+    for name, more, packets, text in TAKEN:
+        ran = run(["answer"], DEVICE + more + "%%\n" + packets)
+        rows.check(name, (ran.returncode, ran.stdout.decode()) == (0, text), repr(ran))

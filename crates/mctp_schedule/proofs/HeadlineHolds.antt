@@ -5,14 +5,16 @@ use Rattle.pldm_device.specs.Changes.{made_of}
 use Rattle.pldm_responder.specs.Events.{is_busy}
 use Rattle.pldm_responder.specs.Performing.{performed}
 use Rattle.pldm_responder.specs.Stations as responder_stations
+use Rattle.pldm_wire.specs.declared.command.Command.{Command}
 use Rattle.mctp_schedule.specs.Askers.{Side}
-use Rattle.mctp_schedule.specs.DeviceHalf.{DeliveryIsOwed, FreshInOrderOfFirsts, StateIsOnce}
+use Rattle.mctp_schedule.specs.DeviceHalf.{DeliveryIsOwed, FreshInOrderOfFirsts, FreshWhereFirst, StateIsOnce}
 use Rattle.mctp_schedule.specs.Entries.{as_it_stands, delivery_entry, entries, entry_of, got_entry}
 use Rattle.mctp_schedule.specs.FirstArrivals.{order}
 use Rattle.mctp_schedule.specs.Headline.{Headline, delivery_owes, entries_owed, entry_owes}
 use Rattle.mctp_schedule.specs.Laws.{LogIsTimely, TimelyIsTested}
 use Rattle.mctp_schedule.specs.Logs.{Asked, IsTimelyLog, asked_at, told}
 use Rattle.mctp_schedule.specs.RequesterHalf.{AnsweredWasPerformed, AnsweredWhereTaken, BusyIsOwed, IsSound, IsTimelySchedule, ReplyIsOwed}
+use Rattle.mctp_schedule.specs.PerformedCommands.{commands_performed}
 use Rattle.mctp_schedule.specs.Requests.{Request as EndedRequest}
 use Rattle.mctp_schedule.specs.Running.{IsRunning}
 use Rattle.mctp_schedule.specs.Worlds.{NeverWentBack, Setting, world}
@@ -21,6 +23,7 @@ use Rattle.mctp_schedule.specs.declared.journal.Journal.{Journal}
 use Rattle.mctp_schedule.specs.declared.step.Action.{Action}
 use Rattle.mctp_schedule.specs.declared.step.Action.TheVariants as actions
 use Rattle.mctp_schedule.specs.declared.step.Step.{Step}
+use Rattle.mctp_schedule.proofs.CommandsPerformed.{performed_once_each}
 use Rattle.mctp_schedule.proofs.TakenReplies.{sound_before}
 
 -- the laws of both halves
@@ -30,6 +33,7 @@ pub record Halves {S : Type 0} (setting : Setting S) : Type 0 where
   pub state : StateIsOnce setting.device
   pub delivery : DeliveryIsOwed setting.device
   pub order : FreshInOrderOfFirsts
+  pub fresh : FreshWhereFirst
   pub reply : ReplyIsOwed setting
   pub busy : BusyIsOwed setting
   pub answered : AnsweredWhereTaken setting
@@ -66,9 +70,9 @@ module _ {S : Type 0} (setting : Setting S) (laws : Halves setting) where
       ap (λ es. es ++ entry_of setting (world setting past) step.moment step.action ∷ []) (entries_are past (before step past s))
       ∙ ap (λ x. entries_owed setting past ++ x ∷ []) (entry_is past step.moment step.action s)
 
-  pub headline_holds : (steps : List Step) (requests : List EndedRequest) → IsTimelySchedule setting steps → ((k : ℕ) → slice_get requests k ≡ option_map (as_it_stands setting (world setting steps)) (asked_at (world setting steps).log k))
-      → Headline setting steps (entries setting steps) requests (order setting.keep (world setting steps).log) (performed setting.device setting.keep setting.start (told (world setting steps).log))
-  headline_holds steps requests s each = record {
+  pub headline_holds : (Performed : List Command → Type 0) (steps : List Step) (requests : List EndedRequest) → Performed (commands_performed setting.keep (world setting steps).log) → IsTimelySchedule setting steps → ((k : ℕ) → slice_get requests k ≡ option_map (as_it_stands setting (world setting steps)) (asked_at (world setting steps).log k))
+      → Headline setting steps (entries setting steps) requests (order setting.keep (world setting steps).log) (performed setting.device setting.keep setting.start (told (world setting steps).log)) Performed
+  headline_holds Performed steps requests given s each = record {
     each_step = entries_are steps s;
     each_request = λ k r is. record {
       standing = (as_it_stands setting (world setting steps) r).standing;
@@ -78,6 +82,7 @@ module _ {S : Type 0} (setting : Setting S) (laws : Halves setting) where
     };
     performed_in_order = laws.order setting.keep (world setting steps).log (log_of steps s);
     performed_once = laws.state setting.keep setting.start (world setting steps).log (log_of steps s);
+    each_command_once = subst Performed (performed_once_each laws.fresh setting.keep (world setting steps).log (log_of steps s)) given;
   }
 
 -- ---- a run discharges the premises
@@ -89,11 +94,12 @@ module _ {P S : Type 0} (setting : Setting S) (past : List Step) (keep : ℕ) (s
     fit = running.fit;
   }
 
-  pub run_is_headline : Halves setting → NeverWentBack past → journal.timely ≡ true → Headline setting past journal.entries.items journal.requests.items journal.order.items (responder_stations.held_of station).state
-  run_is_headline laws in_order timely =
+  pub run_is_headline : Halves setting → (Performed : List Command → Type 0) → Performed (commands_performed setting.keep (world setting past).log) → NeverWentBack past → journal.timely ≡ true
+      → Headline setting past journal.entries.items journal.requests.items journal.order.items (responder_stations.held_of station).state Performed
+  run_is_headline laws Performed given in_order timely =
       let schedule : IsTimelySchedule setting past = record { order = in_order; timely = (laws.tested past).0 (sym running.timely ∙ timely); sound = is_sound } in
       let state = running.device.left.state ∙ ap (performed setting.device setting.keep setting.start) running.device.events in
-      subst (λ s. Headline setting past journal.entries.items journal.requests.items journal.order.items s) (sym state)
-      (subst (λ os. Headline setting past journal.entries.items journal.requests.items os (performed setting.device setting.keep setting.start (told (world setting past).log))) (sym running.order)
-      (subst (λ es. Headline setting past es journal.requests.items (order setting.keep (world setting past).log) (performed setting.device setting.keep setting.start (told (world setting past).log))) (sym running.entries)
-      (headline_holds setting laws past journal.requests.items schedule running.requests)))
+      subst (λ s. Headline setting past journal.entries.items journal.requests.items journal.order.items s Performed) (sym state)
+      (subst (λ os. Headline setting past journal.entries.items journal.requests.items os (performed setting.device setting.keep setting.start (told (world setting past).log)) Performed) (sym running.order)
+      (subst (λ es. Headline setting past es journal.requests.items (order setting.keep (world setting past).log) (performed setting.device setting.keep setting.start (told (world setting past).log)) Performed) (sym running.entries)
+      (headline_holds setting laws Performed past journal.requests.items given schedule running.requests)))

@@ -9,6 +9,7 @@ pub mod GivenReplies
 pub mod HandedAnswers
 pub mod JoinedLogs
 pub mod KnownRequests
+pub mod LinesReached
 pub mod LongLines
 pub mod Numbers
 pub mod ReadLines
@@ -39,6 +40,7 @@ pub mod RunningFrames
 pub mod QuietSteps
 pub mod DeliveredPackets
 pub mod DeliverySteps
+pub mod CommandsPerformed
 pub mod CalledSteps
 pub mod NumberedRequests
 pub mod TickedSteps

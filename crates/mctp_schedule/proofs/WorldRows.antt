@@ -6,13 +6,15 @@ use Rattle.pldm_wire.specs.Numbers.{sized}
 use Rattle.pldm_wire.specs.Requests.{request_of}
 use Rattle.pldm_wire.specs.Responses.{response_of}
 use Rattle.pldm_wire.specs.declared.size.Size.TheVariants.{Uint8}
-use Rattle.pldm_wire.specs.declared.command.Command.TheVariants.{SetNumericEffecterValue}
+use Rattle.pldm_wire.specs.declared.command.Command.{Command}
+use Rattle.pldm_wire.specs.declared.command.Command.TheVariants.{GetTid, GetPdr, SetNumericEffecterValue}
 use Rattle.pldm_responder.specs.Dimmers.{dimmer_answer, dimmer_after, dimmer_sensed}
 use Rattle.pldm_responder.specs.Performing.{rules_of}
 use Rattle.pldm_requester.specs.Courses.{Standing, Waiting, Answered, GaveUp}
 use Rattle.mctp_schedule.specs.FirstArrivals.{order}
 use Rattle.mctp_schedule.specs.Logs.{count_of}
 use Rattle.mctp_schedule.specs.OncePerformed.{once}
+use Rattle.mctp_schedule.specs.PerformedCommands.{commands_once, commands_performed}
 use Rattle.mctp_schedule.specs.Worlds.{Setting, busy_packet, is_timely, reply_packet, requests_of, world}
 use Rattle.mctp_schedule.specs.declared.step.Action.{Action}
 use Rattle.mctp_schedule.specs.declared.step.Action.TheVariants.{Open, Tick, Request, Reply, Restart, Busy}
@@ -41,6 +43,13 @@ performed_in steps = order 1000 (world setting steps).log
 
 abbrev level : List Step → ℤ
 level steps = once (setting.device) 1000 (pos 10) (world setting steps).log
+
+-- the commands that the platform performs, the newest first, and those of the first arrivals
+abbrev commands_in : List Step → List Command
+commands_in steps = commands_performed 1000 (world setting steps).log
+
+abbrev first_commands : List Step → List Command
+first_commands steps = commands_once 1000 (world setting steps).log
 
 -- a request is sent again, and its answer comes
 abbrev a_retry : List Step
@@ -115,3 +124,38 @@ given_up = refl
 -- an open that is refused opens nothing: no ninth request while the first is open
 nine_opens : count_of (world setting (at 0 set_40 ∷ at 0 set_40 ∷ at 0 set_40 ∷ at 0 set_40 ∷ at 0 set_40 ∷ at 0 set_40 ∷ at 0 set_40 ∷ at 0 set_40 ∷ at 0 set_40 ∷ [])).log ≡ 8
 nine_opens = refl
+
+-- a copy performs nothing
+retry_performs_its_command : commands_in a_retry ≡ SetNumericEffecterValue 1 (sized Uint8 (pos 40)) ∷ []
+unfolding request_of command_of response_of
+retry_performs_its_command = refl
+
+busy_deliveries_perform_none : commands_in busy_first ≡ []
+unfolding request_of command_of response_of
+busy_deliveries_perform_none = refl
+
+-- a request that the light refuses and one that only reads are performed too, each once, the later one standing first
+abbrev refused_and_read : List Step
+refused_and_read =
+    at 9 (Request 1) ∷ at 8 (Request 0) ∷ at 7 (Request 1) ∷ at 6 (Open 8 GetTid) ∷ at 5 (Request 0)
+    ∷ at 5 (Open 8 (GetPdr 0 0 1 1 0)) ∷ []
+
+each_is_performed : commands_in refused_and_read ≡ GetTid ∷ GetPdr 0 0 1 1 0 ∷ []
+unfolding request_of command_of response_of
+each_is_performed = refl
+
+each_at_its_first_arrival : first_commands refused_and_read ≡ GetTid ∷ GetPdr 0 0 1 1 0 ∷ []
+unfolding request_of command_of response_of
+each_at_its_first_arrival = refl
+
+-- a copy that comes at the keeping time is performed again; its first arrival is one
+abbrev too_late : List Step
+too_late = at 1000 (Request 0) ∷ at 0 (Request 0) ∷ at 0 (Open 8 GetTid) ∷ []
+
+late_copy_is_performed_again : commands_in too_late ≡ GetTid ∷ GetTid ∷ []
+unfolding request_of command_of response_of
+late_copy_is_performed_again = refl
+
+late_copy_is_no_first_arrival : first_commands too_late ≡ GetTid ∷ []
+unfolding request_of command_of response_of
+late_copy_is_no_first_arrival = refl

@@ -1,15 +1,18 @@
 -- The headline: over a timely schedule of losses, repeats and reorderings, with restarts, the device's state and each
 -- reply are those of performing, once each, the requests that arrived, in the order of their first arrivals; all copies
 -- of a request get the same message; and each answer that a requester took is that message, of a request that was
--- performed exactly once. Steps have the newest first.
+-- performed exactly once. The platform itself has performed the command of each request that arrived once, at its first
+-- arrival, a reading or refused one too, and no other. Steps have the newest first.
 use Rattle.std.specs.Prelude.{◌≡◌, ℕ, List, [], ◌∷◌, ◌++◌, Option, Some, None, slice_get}
 use Rattle.pldm_device.specs.Changes.{made_of}
 use Rattle.pldm_requester.specs.Courses.{Standing, Answered}
+use Rattle.pldm_wire.specs.declared.command.Command.{Command}
 use Rattle.pldm_responder.specs.Events.{is_busy}
 use Rattle.mctp_schedule.specs.Entries.{entry_of, got_entry}
 use Rattle.mctp_schedule.specs.FirstArrivals.{IsOrderOfFirsts}
 use Rattle.mctp_schedule.specs.Logs.{Asked, asked_at, told}
 use Rattle.mctp_schedule.specs.OncePerformed.{delivery_owed, once}
+use Rattle.mctp_schedule.specs.PerformedCommands.{commands_once}
 use Rattle.mctp_schedule.specs.Requests.{Request as EndedRequest}
 use Rattle.mctp_schedule.specs.RequesterHalf.{StandingIs, WasPerformedOnce}
 use Rattle.mctp_schedule.specs.Taken.{busy_owed, reply_owed}
@@ -62,8 +65,10 @@ module _ {S : Type 0} (setting : Setting S) where
   -- what a run over these steps tells is this
   pub record Headline
       (steps : List Step) (entries : List Entry) (requests : List EndedRequest) (order : List ℕ) (state : S)
+      (Performed : List Command → Type 0)
       : Type 0 where
     pub each_step : entries ≡ entries_owed steps
     pub each_request : (k : ℕ) (r : Asked) → asked_at (world setting steps).log k ≡ Some r → IsTold steps k r requests
     pub performed_in_order : IsOrderOfFirsts setting.keep (world setting steps).log order
     pub performed_once : state ≡ state_once steps
+    pub each_command_once : Performed (commands_once setting.keep (world setting steps).log)

@@ -16,6 +16,7 @@ pub mod LineSpelling
 pub mod LineWords
 pub mod Logs
 pub mod OncePerformed
+pub mod PerformedCommands
 pub mod Places
 pub mod RequesterHalf
 pub mod Requests

@@ -6,6 +6,7 @@ use Rattle.pldm_responder.specs.Calls as responder
 use Rattle.pldm_responder.specs.Laws as responder_laws
 use Rattle.pldm_responder.specs.Performing.{Rules, busy_reply}
 use Rattle.pldm_responder.specs.Stations as responder_stations
+use Rattle.pldm_wire.specs.declared.command.Command.{Command}
 use Rattle.pldm_requester.specs.Laws as requester_laws
 use Rattle.pldm_requester.specs.Slots.{held_of}
 use Rattle.mctp_schedule.specs.Askers.{Side, packet_bytes}
@@ -14,6 +15,7 @@ use Rattle.mctp_schedule.specs.FirstArrivals.{order}
 use Rattle.mctp_schedule.specs.Journals.{Carried, packets_in}
 use Rattle.mctp_schedule.specs.Logs.{Asked, Happening, Opened, Delivered, Sensed, WentDown, asked_at, count_of, told}
 use Rattle.mctp_schedule.specs.OncePerformed.{AreRequests, IsReadable, RepliesFit, given, was_busy}
+use Rattle.mctp_schedule.specs.PerformedCommands.{commands_at_step}
 use Rattle.mctp_schedule.specs.Places.{side_at}
 use Rattle.mctp_schedule.specs.Schedules.{has_requester, is_known}
 use Rattle.mctp_schedule.specs.Worlds.{Setting, World, answer_packets, is_timely, requests_of, time_now, timing_of, world}
@@ -152,3 +154,15 @@ module _ {P S : Type 0} (device : Rules S) (keep : ℕ) where
       → IsRunning (setting_of device terms) past keep old_station old_places old_journal
       → MayCome terms.requesters past step
       → IsRunning (setting_of device terms) (step ∷ past) keep station places journal
+
+  -- whatever steps led to what was held, from the platform that was held to the one that is held now the commands of
+  -- this step were performed
+  abbrev pub Performs :
+      (P → List Command → P → Type 0) → Step → responder_stations.Station P S → List (Option Side) → Journal
+      → responder_stations.Station P S → Type 0
+  Performs performed step old_station old_places old_journal station =
+      (terms : Terms S) (past : List Step)
+      → IsRunning (setting_of device terms) past keep old_station old_places old_journal
+      → MayCome terms.requesters past step
+      → performed old_station.platform
+      (commands_at_step terms.keep (world (setting_of device terms) past).log step.moment step.action) station.platform

@@ -1,5 +1,5 @@
 -- The schedule that a text spells, or its first faulty line.
-use Rattle.std.specs.Prelude.{◌≡◌, ℕ, ◌+◌, ◌≤◌, ◌==◌, nat_lt, Bool, true, false, List, [], ◌∷◌, ◌++◌, Result, Ok, Err, ◌⊎◌, if◌then◌else◌}
+use Rattle.std.specs.Prelude.{◌≡◌, ℕ, ◌+◌, ◌-◌, ◌≤◌, ◌==◌, nat_lt, Bool, true, false, List, [], ◌∷◌, ◌++◌, length, take, Result, Ok, Err, ◌⊎◌, if◌then◌else◌}
 use Rattle.std.specs.List.{list_any}
 use Rattle.line_words.specs.Lines.{said_words}
 use Rattle.line_words.specs.TextLines.{lines_of}
@@ -110,3 +110,10 @@ TellsFault spelled fault = (fault.kind ≡ Memory) ⊎ (spelled ≡ Err fault)
 -- the same of one line
 abbrev pub TellsKind : Result Spelled LineFaultKind → LineFaultKind → Type 0
 TellsKind spelled kind = (kind ≡ Memory) ⊎ (spelled ≡ Err kind)
+
+-- line n is one of these, and all lines before it are good, so that the first faulty one is not before it
+pub record IsReached (lines : List (List ℕ)) (n : ℕ) : Type 0 where
+  pub first : 1 ≤ n
+  pub there : n ≤ length lines
+  pub spelled : Spelled
+  pub good : spelled_from 1 none_spelled (take (n - 1) lines) ≡ Ok spelled

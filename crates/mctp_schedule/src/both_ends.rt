@@ -1,12 +1,13 @@
 //! Both ends over a schedule.
 
-ghost use Rattle.std.specs.Prelude.{◌≡◌, ◌⊎◌, true, None, Some, IfOk, IfErr, OnOk};
+ghost use Rattle.std.specs.Prelude.{◌≡◌, ◌⊎◌, [], true, None, Some, IfOk, IfErr, OnOk};
 ghost use Rattle.pldm_responder.specs.Performing.{rules_of};
 ghost use Rattle.mctp_schedule.specs.Entries.{entries, requests_after};
 ghost use Rattle.mctp_schedule.specs.FirstArrivals.{order};
 ghost use Rattle.mctp_schedule.specs.Headline.{Headline};
+ghost use Rattle.mctp_schedule.specs.PerformedCommands.{commands_performed};
 ghost use Rattle.mctp_schedule.specs.RunFaults.{refusal};
-ghost use Rattle.mctp_schedule.specs.Running.{CanGoOn, GoesOn, answer_action};
+ghost use Rattle.mctp_schedule.specs.Running.{CanGoOn, GoesOn, Performs, answer_action};
 ghost use Rattle.mctp_schedule.specs.Runs.{final_state, final_world, newest_first, setting_of_run};
 ghost use Rattle.mctp_schedule.specs.Worlds.{is_timely};
 ghost use Rattle.mctp_schedule.specs.declared.step.Action.TheVariants as actions;
@@ -70,8 +71,9 @@ pub fn run<P: Platform>(
     ensures requests { IfOk result (λ report. report.requests.items ≡ requests_after (setting_of_run (rules_of P.answer P.after P.sensed) (P.state setup.device) setup.eid setup.keep schedule.now) (final_world (setting_of_run (rules_of P.answer P.after P.sensed) (P.state setup.device) setup.eid setup.keep schedule.now) schedule.now)) }
     ensures order { IfOk result (λ report. report.order.items ≡ order setup.keep (final_world (setting_of_run (rules_of P.answer P.after P.sensed) (P.state setup.device) setup.eid setup.keep schedule.now) schedule.now).log) }
     ensures device { IfOk result (λ report. P.state report.device ≡ final_state (setting_of_run (rules_of P.answer P.after P.sensed) (P.state setup.device) setup.eid setup.keep schedule.now) schedule.now) }
+    ensures performed { IfOk result (λ report. P.performed setup.device (commands_performed setup.keep (final_world (setting_of_run (rules_of P.answer P.after P.sensed) (P.state setup.device) setup.eid setup.keep schedule.now) schedule.now).log) report.device) }
     ensures timely { IfOk result (λ report. report.timely ≡ is_timely (setting_of_run (rules_of P.answer P.after P.sensed) (P.state setup.device) setup.eid setup.keep schedule.now) (newest_first schedule.now)) }
-    ensures headline { IfOk result (λ report. report.timely ≡ true → Headline (setting_of_run (rules_of P.answer P.after P.sensed) (P.state setup.device) setup.eid setup.keep schedule.now) (newest_first schedule.now) report.entries.items report.requests.items report.order.items (P.state report.device)) }
+    ensures headline { IfOk result (λ report. report.timely ≡ true → Headline (setting_of_run (rules_of P.answer P.after P.sensed) (P.state setup.device) setup.eid setup.keep schedule.now) (newest_first schedule.now) report.entries.items report.requests.items report.order.items (P.state report.device) (λ commands. P.performed setup.device commands report.device)) }
 {
     pldm_responder::laws::looks_back::<P>();
     pldm_requester::laws::looks_back();
@@ -106,11 +108,12 @@ pub fn run<P: Platform>(
         timely,
         ..
     } = journal;
+    let device = responder.into_platform();
     Ok(Report {
         entries,
         requests,
         order,
-        device: responder.into_platform(),
+        device,
         timely,
     })
 }
@@ -132,6 +135,7 @@ impl<P: Platform> Ends<P> {
     fn take(&mut self, step: &Step) -> Result<(), Memory>
         requires { CanGoOn (rules_of P.answer P.after P.sensed) self.old.keep self.old.responder self.old.places.items self.old.journal step.now }
         ensures runs { OnOk result (GoesOn (rules_of P.answer P.after P.sensed) self.old.keep step.now self.old.responder self.old.places.items self.old.journal self.new.responder self.new.places.items self.new.journal) }
+        ensures performs { OnOk result (Performs (rules_of P.answer P.after P.sensed) self.old.keep P.performed step.now self.old.responder self.old.places.items self.old.journal self.new.responder) }
         ensures keep { self.new.keep ≡ self.old.keep }
     {
         let now = step.moment;
@@ -150,6 +154,7 @@ impl<P: Platform> Ends<P> {
     fn open(&mut self, now: Moment, eid: Eid, command: &Command) -> Result<(), Memory>
         requires { CanGoOn (rules_of P.answer P.after P.sensed) self.old.keep self.old.responder self.old.places.items self.old.journal (record { moment = now; action = actions.Open eid command.now }) }
         ensures runs { OnOk result (GoesOn (rules_of P.answer P.after P.sensed) self.old.keep (record { moment = now; action = actions.Open eid command.now }) self.old.responder self.old.places.items self.old.journal self.new.responder self.new.places.items self.new.journal) }
+        ensures platform { self.new.responder.platform ≡ self.old.responder.platform }
         ensures keep { self.new.keep ≡ self.old.keep }
     {
         pldm_requester::laws::looks_back();
@@ -171,6 +176,7 @@ impl<P: Platform> Ends<P> {
     fn tick(&mut self, now: Moment, eid: Eid) -> Result<(), Memory>
         requires { CanGoOn (rules_of P.answer P.after P.sensed) self.old.keep self.old.responder self.old.places.items self.old.journal (record { moment = now; action = actions.Tick eid }) }
         ensures runs { OnOk result (GoesOn (rules_of P.answer P.after P.sensed) self.old.keep (record { moment = now; action = actions.Tick eid }) self.old.responder self.old.places.items self.old.journal self.new.responder self.new.places.items self.new.journal) }
+        ensures platform { self.new.responder.platform ≡ self.old.responder.platform }
         ensures keep { self.new.keep ≡ self.old.keep }
     {
         pldm_requester::laws::looks_back();
@@ -186,6 +192,7 @@ impl<P: Platform> Ends<P> {
     fn deliver(&mut self, now: Moment, number: u64) -> Result<(), Memory>
         requires { CanGoOn (rules_of P.answer P.after P.sensed) self.old.keep self.old.responder self.old.places.items self.old.journal (record { moment = now; action = actions.Request number }) }
         ensures runs { OnOk result (GoesOn (rules_of P.answer P.after P.sensed) self.old.keep (record { moment = now; action = actions.Request number }) self.old.responder self.old.places.items self.old.journal self.new.responder self.new.places.items self.new.journal) }
+        ensures performs { OnOk result (Performs (rules_of P.answer P.after P.sensed) self.old.keep P.performed (record { moment = now; action = actions.Request number }) self.old.responder self.old.places.items self.old.journal self.new.responder) }
         ensures keep { self.new.keep ≡ self.old.keep }
     {
         pldm_responder::laws::looks_back::<P>();
@@ -212,6 +219,7 @@ impl<P: Platform> Ends<P> {
         requires first { busy ≡ true → packet ≡ 0 }
         requires steps { CanGoOn (rules_of P.answer P.after P.sensed) self.old.keep self.old.responder self.old.places.items self.old.journal (record { moment = now; action = answer_action busy number packet }) }
         ensures runs { OnOk result (GoesOn (rules_of P.answer P.after P.sensed) self.old.keep (record { moment = now; action = answer_action busy number packet }) self.old.responder self.old.places.items self.old.journal self.new.responder self.new.places.items self.new.journal) }
+        ensures platform { self.new.responder.platform ≡ self.old.responder.platform }
         ensures keep { self.new.keep ≡ self.old.keep }
     {
         pldm_requester::laws::looks_back();
@@ -239,6 +247,7 @@ impl<P: Platform> Ends<P> {
     fn sense(&mut self, now: Moment, sensor: u16, value: i64) -> Result<(), Memory>
         requires { CanGoOn (rules_of P.answer P.after P.sensed) self.old.keep self.old.responder self.old.places.items self.old.journal (record { moment = now; action = actions.Sense sensor value }) }
         ensures runs { OnOk result (GoesOn (rules_of P.answer P.after P.sensed) self.old.keep (record { moment = now; action = actions.Sense sensor value }) self.old.responder self.old.places.items self.old.journal self.new.responder self.new.places.items self.new.journal) }
+        ensures performs { P.performed self.old.responder.platform [] self.new.responder.platform }
         ensures keep { self.new.keep ≡ self.old.keep }
     {
         pldm_responder::laws::looks_back::<P>();
@@ -251,6 +260,7 @@ impl<P: Platform> Ends<P> {
     fn restart(&mut self, now: Moment) -> Result<(), Memory>
         requires { CanGoOn (rules_of P.answer P.after P.sensed) self.old.keep self.old.responder self.old.places.items self.old.journal (record { moment = now; action = actions.Restart }) }
         ensures runs { OnOk result (GoesOn (rules_of P.answer P.after P.sensed) self.old.keep (record { moment = now; action = actions.Restart }) self.old.responder self.old.places.items self.old.journal self.new.responder self.new.places.items self.new.journal) }
+        ensures platform { self.new.responder.platform ≡ self.old.responder.platform }
         ensures keep { self.new.keep ≡ self.old.keep }
     {
         pldm_responder::laws::looks_back::<P>();

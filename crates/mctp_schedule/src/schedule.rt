@@ -1,7 +1,8 @@
 //! A whole schedule.
 
 ghost use Rattle.std.specs.Prelude.{◌≡◌, Ok, IfOk, IfErr, OnOk};
-ghost use Rattle.mctp_schedule.specs.Schedules.{IsSchedule, TellsFault, TellsKind, after_line, has_requester, is_known, last_moment, none_spelled, schedule_of, with_line, with_requester, with_step};
+ghost use Rattle.line_words.specs.TextLines.{lines_of};
+ghost use Rattle.mctp_schedule.specs.Schedules.{IsReached, IsSchedule, TellsFault, TellsKind, after_line, has_requester, is_known, last_moment, none_spelled, schedule_of, with_line, with_requester, with_step};
 
 use crate::line::{Line, read_line};
 use crate::{Action, LineFault, LineFaultKind, RequesterLine, Step};
@@ -34,10 +35,12 @@ impl Schedule {
     ///
     /// # Errors
     ///
-    /// The first line that is refused, with its number from 1 on; `Memory` may come at any line.
+    /// The first line that is refused, with its number from 1 on. `Memory` may come at any line of which
+    /// all lines before are good.
     pub fn read(alloc: Global, text: &[u8]) -> Result<Schedule, LineFault>
         ensures ok { IfOk result (λ schedule. schedule_of text.now ≡ Ok schedule) }
         ensures err { IfErr result (λ fault. TellsFault (schedule_of text.now) fault) }
+        ensures reached { IfErr result (λ fault. IsReached (lines_of text.now) fault.line) }
     {
         let mut schedule = Schedule::new(alloc);
         let mut number = 1;

@@ -1,5 +1,5 @@
 -- Step by step, until there is none.
-use Rattle.std.proofs.Common.{◌<◌, ◌+◌, List, length, take, Some, sym, ap, subst, ◌∙◌, arith}
+use Rattle.std.proofs.Common.{◌<◌, ◌+◌, List, [], ◌∷◌, length, take, Some, sym, ap, subst, ◌∙◌, arith}
 use Rattle.std.specs.Prelude.{reverse, slice_get, slice_index_or}
 use Rattle.pldm_responder.specs.Performing.{rules_of}
 use Rattle.mctp_schedule.specs.Entries.{requests_after}
@@ -7,9 +7,12 @@ use Rattle.pldm_responder.specs.Stations.{held_of}
 use Rattle.mctp_schedule.specs.Headline.{Headline}
 use Rattle.mctp_schedule.specs.Places.{BeginEach}
 use Rattle.mctp_schedule.specs.Running.{IsRunning, Terms}
+use Rattle.mctp_schedule.specs.PerformedCommands.{commands_at_step, commands_performed}
 use Rattle.mctp_schedule.specs.Runs.{newest_first, setting_of_run}
 use Rattle.mctp_schedule.specs.Worlds.{NeverWentBack, world}
 use Rattle.mctp_schedule.specs.declared.step.Step.{Step}
+use Rattle.pldm_wire.specs.declared.command.Command.{Command}
+use Rattle.mctp_schedule.proofs.CommandsPerformed.{commands_added}
 use Rattle.mctp_schedule.proofs.HeadlineHolds.{Halves, run_is_headline}
 use Rattle.mctp_schedule.proofs.ListPlaces.{get_or, take_all}
 use Rattle.mctp_schedule.proofs.ReportedRequests.{requests_are}
@@ -27,6 +30,7 @@ loop-step-init g c =
       runs = begins setting c.new.result c.in_ok-begin_requesters.field-0.items c.new-2.result c.get-range.ensures.range c.looks_back.ensures.new c.looks_back.ensures.same c.looks_back-2.ensures.new c.looks_back-2.ensures.same c.new.ensures.held
           (subst (λ lines. BeginEach c.args.setup.eid c.args.setup.keep lines c.in_ok-begin_requesters.field-0.items) c.requesters.ensures.value begun)
           (record { entries = empty.entries; requests = empty.requests; traffic = empty.traffic; order = empty.order; timely = empty.timely });
+      performed = subst (λ p. g.P.Platform.performed c.args.setup.device [] p) (sym c.new.ensures.platform) (g.met.P.Platform.none_performed c.args.setup.device);
     }
 
 pub take-requires : goal.take-requires
@@ -59,6 +63,12 @@ loop-step-preserved g c =
       in_order = subst NeverWentBack (sym (taken_more schedule.steps i step within at)) (may.later, c.loop-step.invariant.in_order);
       runs = subst (λ keep. IsRunning setting (reverse (take (i + 1) schedule.steps)) keep c.take.new.self.responder c.take.new.self.places.items c.take.new.self.journal) (sym c.in-Ok.ensures.keep)
           (subst (λ past. IsRunning setting past c.loop-step.ends.keep c.take.new.self.responder c.take.new.self.places.items c.take.new.self.journal) (sym (taken_more schedule.steps i step within at)) runs);
+      performed = subst (λ past. g.P.Platform.performed c.args.setup.device (commands_performed c.args.setup.keep (world setting past).log) c.take.new.self.responder.platform) (sym (taken_more schedule.steps i step within at))
+          (subst (λ (cs : List Command). g.P.Platform.performed c.args.setup.device cs c.take.new.self.responder.platform) (sym (commands_added setting (world setting (reverse (take i schedule.steps))) step.moment step.action))
+          (g.met.P.Platform.performed_in_turn c.args.setup.device c.loop-step.ends.responder.platform c.take.new.self.responder.platform
+              (commands_performed c.args.setup.keep (world setting (reverse (take i schedule.steps))).log)
+              (commands_at_step c.args.setup.keep (world setting (reverse (take i schedule.steps))).log step.moment step.action)
+              c.loop-step.invariant.performed (c.in-Ok.ensures.performs terms (reverse (take i schedule.steps)) c.loop-step.invariant.runs may)));
     }
 
 pub returns-clause-requests : goal.returns-clause-requests
@@ -88,13 +98,27 @@ returns-clause-headline g c =
       state = once.state;
       delivery = once.delivery;
       order = c.fresh_deliveries_are_first.ensures.order;
+      fresh = c.fresh_deliveries_are_first.ensures.fresh;
       reply = both.reply setting;
       busy = both.busy setting;
       answered = both.answered setting;
       performed = both.performed setting;
     } in
     let journal = c.loop-step.ends.journal in
+    let performed = λ (cs : List Command). g.P.Platform.performed c.args.setup.device cs c.into_platform-device.result in
+    let given = subst (λ p. g.P.Platform.performed c.args.setup.device (commands_performed c.args.setup.keep (world setting (reverse (take i schedule.steps))).log) p) (sym c.into_platform-device.ensures.value) c.loop-step.invariant.performed in
     λ timely.
-    subst (λ s. Headline setting (newest_first schedule) journal.entries.items journal.requests.items journal.order.items s) (sym c.into_platform.ensures.state)
-    (subst (λ past. Headline setting past journal.entries.items journal.requests.items journal.order.items (held_of c.loop-step.ends.responder).state) all
-    (run_is_headline setting (reverse (take i schedule.steps)) c.loop-step.ends.keep c.loop-step.ends.responder c.loop-step.ends.places.items journal c.loop-step.invariant.runs halves c.loop-step.invariant.in_order timely))
+    subst (λ s. Headline setting (newest_first schedule) journal.entries.items journal.requests.items journal.order.items s performed) (sym c.into_platform-device.ensures.state)
+    (subst (λ past. Headline setting past journal.entries.items journal.requests.items journal.order.items (held_of c.loop-step.ends.responder).state performed) all
+    (run_is_headline setting (reverse (take i schedule.steps)) c.loop-step.ends.keep c.loop-step.ends.responder c.loop-step.ends.places.items journal c.loop-step.invariant.runs halves performed given c.loop-step.invariant.in_order timely))
+
+pub returns-clause-performed : goal.returns-clause-performed
+returns-clause-performed g c =
+    let schedule = c.args.schedule.now in
+    let setting = setting_of_run (rules_of g.P.Platform.answer g.P.Platform.after g.P.Platform.sensed) (g.P.Platform.state c.args.setup.device) c.args.setup.eid c.args.setup.keep schedule in
+    let i = c.loop-step.step-index in
+    let done = c.loop-step-test.false in
+    let l = ap (λ (xs : List Step). length xs) c.steps-step-items.ensures.value in
+    let all = ap reverse (take_all i schedule.steps (omega (arith, done, l))) in
+    subst (λ p. g.P.Platform.performed c.args.setup.device (commands_performed c.args.setup.keep (world setting (newest_first schedule)).log) p) (sym c.into_platform-device.ensures.value)
+    (subst (λ past. g.P.Platform.performed c.args.setup.device (commands_performed c.args.setup.keep (world setting past).log) c.loop-step.ends.responder.platform) all c.loop-step.invariant.performed)

@@ -2,9 +2,10 @@
 use Rattle.std.proofs.Common.{◌≡◌, take}
 use Rattle.std.specs.Prelude.{reverse}
 use Rattle.pldm_responder.specs.Performing.{rules_of}
+use Rattle.mctp_schedule.specs.PerformedCommands.{commands_performed}
 use Rattle.mctp_schedule.specs.Running.{IsRunning}
 use Rattle.mctp_schedule.specs.Runs.{setting_of_run}
-use Rattle.mctp_schedule.specs.Worlds.{NeverWentBack}
+use Rattle.mctp_schedule.specs.Worlds.{NeverWentBack, world}
 use Rattle.mctp_schedule.proofs.both_ends.run.Given as goal
 
 abbrev pub invariant-loop-step : goal.invariant-loop-step
@@ -13,4 +14,9 @@ invariant-loop-step g l = record {
   in_order : NeverWentBack (reverse (take l.step-index l.fn.schedule.steps));
   runs : IsRunning (setting_of_run (rules_of g.P.Platform.answer g.P.Platform.after g.P.Platform.sensed) (g.P.Platform.state l.fn.setup.device) l.fn.setup.eid l.fn.setup.keep l.fn.schedule)
       (reverse (take l.step-index l.fn.schedule.steps)) l.ends.keep l.ends.responder l.ends.places.items l.ends.journal;
+  performed : g.P.Platform.performed l.fn.setup.device
+      (commands_performed l.fn.setup.keep
+          (world (setting_of_run (rules_of g.P.Platform.answer g.P.Platform.after g.P.Platform.sensed) (g.P.Platform.state l.fn.setup.device) l.fn.setup.eid l.fn.setup.keep l.fn.schedule)
+              (reverse (take l.step-index l.fn.schedule.steps))).log)
+      l.ends.responder.platform;
 }

@@ -1,15 +1,19 @@
 -- The packet of a request is one more call of the responder.
-use Rattle.std.proofs.Common.{◌<◌, ◌≤◌, ◌+◌, ap, ◌∙◌, arith}
+use Rattle.std.proofs.Common.{◌≡◌, ◌<◌, ◌≤◌, ◌+◌, List, None, sym, ap, subst, ◌∙◌, arith}
 use Rattle.std.specs.Prelude.{nat_lt, option_map}
 use Rattle.pldm_responder.specs.Answering.{answering}
 use Rattle.pldm_responder.specs.Performing.{rules_of}
+use Rattle.pldm_wire.specs.declared.command.Command.{Command}
 use Rattle.mctp_schedule.specs.Entries.{as_it_stands}
 use Rattle.mctp_schedule.specs.Journals.{Carried}
 use Rattle.mctp_schedule.specs.Requests.{Request}
-use Rattle.mctp_schedule.specs.Logs.{count_of}
+use Rattle.mctp_schedule.specs.FirstArrivals.{fresh_of}
+use Rattle.mctp_schedule.specs.Logs.{asked_at, count_of, told}
+use Rattle.mctp_schedule.specs.PerformedCommands.{commands_if}
 use Rattle.mctp_schedule.specs.Running.{setting_of}
 use Rattle.mctp_schedule.specs.Worlds.{world}
 use Rattle.mctp_schedule.proofs.AskedRequests.{asked_some, none_past}
+use Rattle.mctp_schedule.proofs.CommandsPerformed.{delivery_performs}
 use Rattle.mctp_schedule.proofs.DeliverySteps.{delivered_runs, never_opened}
 use Rattle.mctp_schedule.proofs.ListPlaces.{or_get}
 use Rattle.mctp_schedule.proofs.both_ends.Ends.deliver.Goals as goal
@@ -66,3 +70,30 @@ returns-clause-runs g c = λ terms past running may.
       new_order = entered.order;
       new_timely = entered.timely;
     })
+
+pub returns-then-number-len-clause-performs : goal.returns-then-number-len-clause-performs
+returns-then-number-len-clause-performs g c = λ terms past running may.
+    let log = (world (setting_of (rules_of g.P.Platform.answer g.P.Platform.after g.P.Platform.sensed) terms) past).log in
+    let len = c.len.ensures in
+    let above = c.if-number-len.true in
+    let count = running.counted in
+    let past_all : count_of log ≤ c.args.number = omega (arith, len, above, count) in
+    let platform = c.args.self.now.responder.platform in
+    subst (λ o. g.P.Platform.performed platform (commands_if (fresh_of terms.keep (told log) c.args.now o) o) platform) (sym (none_past log c.args.number past_all))
+    (g.met.P.Platform.none_performed platform)
+
+pub returns-clause-performs : goal.returns-clause-performs
+returns-clause-performs g c = λ terms past running may.
+    let setting = setting_of (rules_of g.P.Platform.answer g.P.Platform.after g.P.Platform.sensed) terms in
+    let len = c.len.ensures in
+    let below = c.if-number-len.false in
+    let count = running.counted in
+    let within : c.args.number < count_of (world setting past).log = omega (arith, len, below, count) in
+    let asked = asked_some (world setting past).log c.args.number within in
+    let t = running.traffic c.args.number asked.0 asked.1 in
+    let carried = c.index-2.ensures ∙ or_get c.args.self.now.journal.traffic.items c.args.number c.index-2.result.now t.0 t.1 in
+    subst (λ (cs : List Command). g.P.Platform.performed c.args.self.now.responder.platform cs c.receive_message.new.self.platform)
+    (delivery_performs setting past c.args.self.now.keep c.args.self.now.responder c.args.self.now.places.items c.args.self.now.journal running c.args.now c.args.number
+        asked.0 asked.1 c.packet-packet.result.now (c.packet-packet.ensures ∙ ap (λ (x : Carried). x.packet) carried ∙ t.2.packet)
+        c.bytes_spell_one_packet.ensures.written c.reading_is_spelling.ensures.read_for)
+    c.in_ok-taken.ensures.performed

@@ -1,0 +1,48 @@
+-- Which commands the device performs, the newest first: that of each request, where it carries one, at each of its
+-- deliveries that is fresh at the responder; and, where each is performed once, at its first arrival alone.
+use Rattle.std.specs.Prelude.{ℕ, List, [], ◌∷◌, ◌++◌, Bool, true, false, Option, Some, None}
+use Rattle.pldm_responder.specs.Performing.{commands_of}
+use Rattle.pldm_wire.specs.declared.command.Command.{Command}
+use Rattle.mctp_schedule.specs.FirstArrivals.{fresh_of, is_first}
+use Rattle.mctp_schedule.specs.Logs.{Asked, Happening, Opened, Delivered, Sensed, WentDown, asked_at, told}
+use Rattle.mctp_schedule.specs.declared.step.Action.{Action}
+use Rattle.mctp_schedule.specs.declared.step.Action.TheVariants.{Open, Tick, Request, Reply, Sense, Restart, Busy}
+
+-- the command of a request that was opened, if it is performed
+abbrev pub commands_if : Bool → Option Asked → List Command
+commands_if performed None = []
+commands_if false (Some r) = []
+commands_if true (Some r) = commands_of r.message
+
+-- the commands that the device performs at a delivery of request k
+abbrev pub commands_at_delivery : ℕ → List Happening → ℕ → ℕ → List Command
+commands_at_delivery keep past moment k =
+    commands_if (fresh_of keep (told past) moment (asked_at past k)) (asked_at past k)
+
+-- all that it performed
+abbrev pub commands_performed : ℕ → List Happening → List Command
+commands_performed keep [] = []
+commands_performed keep (Delivered moment k ∷ past) =
+    commands_at_delivery keep past moment k ++ commands_performed keep past
+commands_performed keep (Opened _ ∷ past) = commands_performed keep past
+commands_performed keep (Sensed _ _ _ ∷ past) = commands_performed keep past
+commands_performed keep (WentDown _ ∷ past) = commands_performed keep past
+
+-- what it performs where each request that arrived is performed once, at its first arrival
+abbrev pub commands_once : ℕ → List Happening → List Command
+commands_once keep [] = []
+commands_once keep (Delivered moment k ∷ past) =
+    commands_if (is_first keep past moment k) (asked_at past k) ++ commands_once keep past
+commands_once keep (Opened _ ∷ past) = commands_once keep past
+commands_once keep (Sensed _ _ _ ∷ past) = commands_once keep past
+commands_once keep (WentDown _ ∷ past) = commands_once keep past
+
+-- the commands that a step has performed after what happened on the link: a delivery alone performs any
+abbrev pub commands_at_step : ℕ → List Happening → ℕ → Action → List Command
+commands_at_step keep log moment (Request k) = commands_at_delivery keep log moment k
+commands_at_step keep log moment (Open e command) = []
+commands_at_step keep log moment (Tick e) = []
+commands_at_step keep log moment (Reply k j) = []
+commands_at_step keep log moment (Sense id value) = []
+commands_at_step keep log moment Restart = []
+commands_at_step keep log moment (Busy k) = []
