@@ -1,6 +1,7 @@
 //! Readers that never end are stopped, and what has the most bytes that are allowed is read.
 
 use crate::engines::{Engine, QUESTION_SHOWN, RUNS};
+use crate::fakes::OneByteWriter;
 use example_device::description;
 use mctpctl_engines::{EngineFault, LineKind, Port};
 use std::alloc::{AllocError, Global};
@@ -127,5 +128,25 @@ fn limits_of_an_input(rt: HostRuntime) -> Result<(), Fail> {
         let text = if engine.waits() { "" } else { text };
         expect(&rt, alloc, engine, parts, Err(EngineFault::TooLarge), text)?;
     }
+    Ok(())
+}
+
+/// What was answered before a passed limit is flushed, once.
+#[test]
+fn a_passed_limit_is_flushed(rt: HostRuntime) -> Result<(), Fail> {
+    let first = Engine::Answer.input(rt.alloc(), "0 010908c801800002\n")?;
+    let mut reader = Port::new(first.as_bytes().chain(io::repeat(b'\n')));
+    let mut writer = Port::new(OneByteWriter {
+        taken: Vec::new(rt.alloc()),
+        flushes: 0,
+    });
+    let result = Engine::Answer.run(rt.alloc(), &mut reader, &mut writer);
+    assert_eq!(rt; result, Err(EngineFault::TooLarge));
+    let writer = writer.into_inner();
+    assert_eq!(rt;
+        writer.taken.as_slice(),
+        b"010809c0010000020001\n".as_slice()
+    );
+    assert_eq!(rt; writer.flushes, 1);
     Ok(())
 }

@@ -1,6 +1,7 @@
 //! Each growth of an engine is refused in turn.
 
 use crate::engines::{Engine, RUNS, is_front};
+use crate::fakes::OneByteWriter;
 use mctpctl_engines::{EngineFault, Port};
 use memory_hoard::Hoard;
 use std::alloc::Global;
@@ -13,22 +14,22 @@ const STEP: usize = 32;
 /// More refusals than a run meets.
 const MOST_REFUSALS: usize = 12_000;
 
-/// What a run gives, and what it writes into this room.
+/// What a run gives, and its writer.
 fn run_once(
     alloc: Global,
     engine: Engine,
     input: &str,
-    room: Vec<u8>,
-) -> (Result<(), EngineFault>, Vec<u8>) {
+    writer: OneByteWriter,
+) -> (Result<(), EngineFault>, OneByteWriter) {
     let mut reader = Port::new(input.as_bytes());
-    let mut writer = Port::new(room);
+    let mut writer = Port::new(writer);
     let result = engine.run(alloc, &mut reader, &mut writer);
     (result, writer.into_inner())
 }
 
 /// Runs an engine over an input with no memory at first, and anew with a little more after each refusal.
 /// A refusal has written a front of the text that ends with a whole line, `run` nothing; the run that
-/// meets none writes the text.
+/// meets none writes the text. What was written is flushed, once.
 pub fn refuse_each_growth(
     rt: &impl Abort,
     alloc: Global,
@@ -36,20 +37,26 @@ pub fn refuse_each_growth(
     input: &str,
     text: &str,
 ) -> Result<(), Fail> {
-    let mut written = Vec::with_capacity(alloc, 4_096)?;
+    let mut writer = OneByteWriter {
+        taken: Vec::with_capacity(alloc, 4_096)?,
+        flushes: 0,
+    };
     let mut hoard = Hoard::take(alloc, 0)?;
     for refusals in 0..MOST_REFUSALS {
-        let (result, taken) = run_once(alloc, engine, input, written);
-        written = taken;
+        let (result, written) = run_once(alloc, engine, input, writer);
+        writer = written;
+        assert_eq!(rt; writer.flushes, 1);
         if result.is_ok() {
             drop(hoard);
-            assert_eq!(rt; written.as_slice(), text.as_bytes());
+            assert_eq!(rt; writer.taken.as_slice(), text.as_bytes());
             assert!(rt; refusals > 100, "{refusals} refusals");
             return Ok(());
         }
         assert_eq!(rt; result, Err(EngineFault::Memory), "after {refusals}");
-        assert!(rt; is_front(&written, text) && !(engine.waits() && !written.is_empty()));
-        written.clear();
+        let is_empty = writer.taken.is_empty();
+        assert!(rt; is_front(&writer.taken, text) && (is_empty || !engine.waits()));
+        writer.taken.clear();
+        writer.flushes = 0;
         hoard.give(STEP);
     }
     Err(Fail::from("never run"))

@@ -170,8 +170,8 @@ fn receive_pieces(rt: &impl Abort, short: &mut Short, message: &[u8]) -> Result<
     Ok(())
 }
 
-#[test]
-fn each_growth_of_an_answer_is_refused_in_turn(rt: HostRuntime) -> Result<(), Fail> {
+/// A requester that has asked for the first part of the example's record.
+fn asked(rt: &impl Abort, alloc: Global) -> Result<Short, Fail> {
     let record = Command::GetPdr {
         record_handle: 0,
         data_transfer_handle: 0,
@@ -179,7 +179,28 @@ fn each_growth_of_an_answer_is_refused_in_turn(rt: HostRuntime) -> Result<(), Fa
         request_count: 239,
         record_change_number: 0,
     };
-    let mut short = Short::new(rt.alloc())?;
-    assert_eq!(rt; short.open(&rt, 0, &record)?, Ok((0, 0, 0)));
-    receive_pieces(&rt, &mut short, &first_part())
+    let mut short = Short::new(alloc)?;
+    assert_eq!(rt; short.open(rt, 0, &record)?, Ok((0, 0, 0)));
+    Ok(short)
+}
+
+#[test]
+fn each_growth_of_an_answer_is_refused_in_turn(rt: HostRuntime) -> Result<(), Fail> {
+    receive_pieces(&rt, &mut asked(&rt, rt.alloc())?, &first_part())
+}
+
+/// A device may number the packets of an answer from any number on.
+#[test]
+fn answer_that_is_numbered_from_three_is_taken(rt: HostRuntime) -> Result<(), Fail> {
+    let mut short = asked(&rt, rt.alloc())?;
+    for (piece, flags, expected) in [
+        (0, 0xb0, Got::Partial),
+        (1, 0x00, Got::Partial),
+        (2, 0x10, Got::Partial),
+        (3, 0x60, Got::Answered(0)),
+    ] {
+        let got = receive_piece(&rt, &mut short, flags, &first_part(), piece)?;
+        assert_eq!(rt; got, expected, "{piece}");
+    }
+    Ok(())
 }

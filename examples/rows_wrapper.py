@@ -1,0 +1,78 @@
+"""The wrapper `mctpctl` and `install`, in a folder of their own in which the given program stands as the proved one."""
+import os
+import shutil
+import subprocess
+import tempfile
+
+TOP = os.path.join(os.path.dirname(os.path.realpath(__file__)), "..")
+TAKEN = ("mctpctl", "prove", "install", "crates.txt", "HANDLES", "contrib/proved.sh", "docs/mctpctl.1", "examples/device.toml")
+STAMP = 'root=$1; . "$root/contrib/proved.sh"; printf "%s\\n%s\\n" "$(content_of_sources)" "$(times_of_sources)" >"$stamp"'
+SOURCE = "crates/mctpctl/src/main.rt"
+
+
+def call(words, text="", **how):
+    return subprocess.run(words, input=text, stdout=subprocess.PIPE, stderr=subprocess.PIPE, text=True, timeout=60, **how)
+
+
+def make(top, program):
+    """A folder with the scripts, one source, the program, and the stamp that says it is of that source."""
+    for name in TAKEN:
+        os.makedirs(os.path.dirname(os.path.join(top, name)), exist_ok=True)
+        shutil.copy2(os.path.join(TOP, name), os.path.join(top, name))
+    for name in (SOURCE, "crates/mctpctl/out/mctpctl"):
+        os.makedirs(os.path.dirname(os.path.join(top, name)), exist_ok=True)
+    with open(os.path.join(top, SOURCE), "w") as source:
+        source.write("// a source\n")
+    shutil.copy2(program, os.path.join(top, "crates/mctpctl/out/mctpctl"))
+    call(["bash", "-c", STAMP, "stamp", top])
+
+
+def files(rows, top):
+    """Files in place of standard input."""
+    with open(os.path.join(top, "capture"), "w") as capture:
+        capture.write("0 010908c801800002\n")
+    with open(os.path.join(top, "schedule"), "w") as schedule:
+        schedule.write("requester 8 timeout 200 tries 3\nat 0 open 8 gettid\nat 0 req 0\n")
+    device, capture, schedule = (os.path.join(top, name) for name in ("examples/device.toml", "capture", "schedule"))
+    wrapper = os.path.join(top, "mctpctl")
+    ran = call([wrapper, "answer", device, capture])
+    rows.check("a description and a capture as files", (ran.returncode, ran.stdout) == (0, "010809c0010000020001\n"), repr(ran))
+    ran = call([wrapper, "run", device, schedule])
+    rows.check("a description and a schedule as files", ran.returncode == 0 and ran.stdout.startswith("0 opened 0\n"), repr(ran))
+    ran = call([wrapper, "show", capture])
+    rows.check("a capture as a file", ran.returncode == 0 and "request 0 GetTID - ok" in ran.stdout, repr(ran))
+    ran = call([wrapper, "answer", device, os.path.join(top, "none")])
+    rows.check("a file that is not there", ran.returncode == 3 and ran.stdout == "" and "cannot be read" in ran.stderr, repr(ran))
+    ran = call([wrapper, "other"])
+    rows.check("the wrapper's refused word", ran.returncode == 2 and "Usage: mctpctl" in ran.stderr, repr(ran))
+
+
+def stamps(rows, top):
+    """A source whose time alone has changed builds nothing anew; one whose content has changed is no longer proved."""
+    source = os.path.join(top, SOURCE)
+    test = ["bash", "-c", 'root=$1; . "$root/contrib/proved.sh"; is_proved', "test", top]
+    rows.check("the program is that of its sources", call(test).returncode == 0)
+    os.utime(source, (1, 1))
+    rows.check("a source with another time", call(test).returncode == 0)
+    with open(source, "a") as text:
+        text.write("// more\n")
+    rows.check("a source with other content", call(test).returncode != 0)
+
+
+def installs(rows, top):
+    """The program and its page are put below a prefix, and taken away."""
+    prefix = os.path.join(top, "prefix")
+    put = [os.path.join(prefix, name) for name in ("bin/mctpctl", "share/man/man1/mctpctl.1")]
+    ran = call([os.path.join(top, "install"), prefix])
+    rows.check("installed", ran.returncode == 0 and all(map(os.path.isfile, put)) and ran.stdout.count("installed ") == 2, repr(ran))
+    ran = call([put[0], "--help"])
+    rows.check("the installed program runs", ran.returncode == 0 and "Usage: mctpctl" in ran.stdout, repr(ran))
+    ran = call([os.path.join(top, "install"), "--remove", prefix])
+    rows.check("removed", ran.returncode == 0 and not any(map(os.path.exists, put)), repr(ran))
+
+
+def check(rows, program):
+    with tempfile.TemporaryDirectory() as top:
+        make(top, program)
+        for part in (files, installs, stamps):
+            part(rows, top)
