@@ -121,7 +121,11 @@ pub fn write_numbers<W: Write>(out: &mut Port<W>, numbers: &[u64]) -> Result<(),
     Ok(())
 }
 
-fn write_delivered<W: Write>(out: &mut Port<W>, busy: bool, delivery: &Delivery) -> Result<(), NotWritten>
+fn write_delivered<W: Write>(
+    out: &mut Port<W>,
+    busy: bool,
+    delivery: &Delivery,
+) -> Result<(), NotWritten>
     ensures text { OnOk result (Appends (W.contents (inner_of out.old)) (W.contents (inner_of out.new)) (delivered_text busy delivery.now ++ 10 ∷ [])) }
     ensures ok { OnOk result (has_failed out.new ≡ has_failed out.old) }
     ensures err { OnErr result (has_failed out.new ≡ true) }

@@ -38,7 +38,11 @@ pub fn write_report<W: Write>(
 }
 
 /// Writes a line for each of these steps, by what came of it.
-fn write_entries<W: Write>(out: &mut Port<W>, steps: &[Step], entries: &[Entry]) -> Result<(), NotWritten>
+fn write_entries<W: Write>(
+    out: &mut Port<W>,
+    steps: &[Step],
+    entries: &[Entry],
+) -> Result<(), NotWritten>
     ensures text { OnOk result (Appends (W.contents (inner_of out.old)) (W.contents (inner_of out.new)) (entries_text steps.now entries.now)) }
     ensures ok { OnOk result (has_failed out.new ≡ has_failed out.old) }
     ensures err { OnErr result (has_failed out.new ≡ true) }

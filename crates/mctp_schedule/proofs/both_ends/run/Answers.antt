@@ -66,9 +66,9 @@ loop-step-preserved g c =
       performed = subst (λ past. g.P.Platform.performed c.args.setup.device (commands_performed c.args.setup.keep (world setting past).log) c.take.new.self.responder.platform) (sym (taken_more schedule.steps i step within at))
           (subst (λ (cs : List Command). g.P.Platform.performed c.args.setup.device cs c.take.new.self.responder.platform) (sym (commands_added setting (world setting (reverse (take i schedule.steps))) step.moment step.action))
           (g.met.P.Platform.performed_in_turn c.args.setup.device c.loop-step.ends.responder.platform c.take.new.self.responder.platform
-              (commands_performed c.args.setup.keep (world setting (reverse (take i schedule.steps))).log)
-              (commands_at_step c.args.setup.keep (world setting (reverse (take i schedule.steps))).log step.moment step.action)
-              c.loop-step.invariant.performed (c.in-Ok.ensures.performs terms (reverse (take i schedule.steps)) c.loop-step.invariant.runs may)));
+          (commands_performed c.args.setup.keep (world setting (reverse (take i schedule.steps))).log)
+          (commands_at_step c.args.setup.keep (world setting (reverse (take i schedule.steps))).log step.moment step.action)
+          c.loop-step.invariant.performed (c.in-Ok.ensures.performs terms (reverse (take i schedule.steps)) c.loop-step.invariant.runs may)));
     }
 
 pub returns-clause-requests : goal.returns-clause-requests

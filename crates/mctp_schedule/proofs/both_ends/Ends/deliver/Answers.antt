@@ -94,6 +94,6 @@ returns-clause-performs g c = λ terms past running may.
     let carried = c.index-2.ensures ∙ or_get c.args.self.now.journal.traffic.items c.args.number c.index-2.result.now t.0 t.1 in
     subst (λ (cs : List Command). g.P.Platform.performed c.args.self.now.responder.platform cs c.receive_message.new.self.platform)
     (delivery_performs setting past c.args.self.now.keep c.args.self.now.responder c.args.self.now.places.items c.args.self.now.journal running c.args.now c.args.number
-        asked.0 asked.1 c.packet-packet.result.now (c.packet-packet.ensures ∙ ap (λ (x : Carried). x.packet) carried ∙ t.2.packet)
-        c.bytes_spell_one_packet.ensures.written c.reading_is_spelling.ensures.read_for)
+    asked.0 asked.1 c.packet-packet.result.now (c.packet-packet.ensures ∙ ap (λ (x : Carried). x.packet) carried ∙ t.2.packet)
+    c.bytes_spell_one_packet.ensures.written c.reading_is_spelling.ensures.read_for)
     c.in_ok-taken.ensures.performed
