@@ -1,6 +1,7 @@
 """The help of the program: whole, as `crates/mctpctl/src/help.rt` and clap's layout have it, and its examples run."""
 import os
 import re
+import subprocess
 
 ABOUT = {
     "answer": "Answers the packets of a capture as the described device does",
@@ -8,12 +9,13 @@ ABOUT = {
     "show": "Shows the packets of a capture and the messages that they complete",
 }
 OPTIONS = "Options:\n  -h, --help  Print help\n"
+TOP_OPTIONS = "Options:\n  -h, --help     Print help\n  -V, --version  Print version\n"
 
 
 def constants(here):
     """The texts of the source file, by their names."""
     with open(os.path.join(here, "..", "crates", "mctpctl", "src", "help.rt")) as source:
-        found = re.findall(r'pub const (\w+): &str = "\\\n(.*?)";', source.read(), re.S)
+        found = re.findall(r'pub const (\w+): &str = "(?:\\\n)?(.*?)";', source.read(), re.S)
     return {name: text.replace('\\"', '"').replace("\\n", "\n") for name, text in found}
 
 
@@ -28,7 +30,9 @@ def whole(texts):
     commands = "".join(f"  {name:<8}{about}\n" for name, about in ABOUT.items())
     commands += "  help    Print this message or the help of the given subcommand(s)\n"
     first = "A simulated PLDM device behind MCTP, on standard input and output\n\nUsage: mctpctl <COMMAND>\n\n"
-    top = f"{first}Commands:\n{commands}\n{OPTIONS}\n{texts['STATUSES']}\n"
+    top = f"{first}Commands:\n{commands}\n{TOP_OPTIONS}\n{texts['STATUSES']}\n"
+    yield ["--version"], f"mctpctl {texts['VERSION']}\n"
+    yield ["-V"], f"mctpctl {texts['VERSION']}\n"
     yield ["--help"], top
     yield ["-h"], top
     yield ["help"], top
@@ -45,6 +49,8 @@ def check(rows, run, here):
         ran = run(arguments, "")
         well = (ran.returncode, ran.stdout.decode(), ran.stderr) == (0, text, b"")
         rows.check(f"the whole help of {arguments}", well, repr(ran.stdout[:80]))
+    kit = subprocess.run(["rt", "version"], stdout=subprocess.PIPE, text=True).stdout.strip()
+    rows.check("the version names the toolchain", kit != "" and f"({kit})" in texts["VERSION"], kit)
     given, answered = examples_in(texts["ANSWER"])[:2]
     device = given[: given.index("%%")]
     _, schedule, report = examples_in(texts["RUN"])[:3]

@@ -3,9 +3,9 @@
 ghost use Rattle.std.specs.Prelude.{◌≡◌, IfOk, IfErr, Some, map, option_and_then};
 ghost use Rattle.clap.specs.Words.{app_of, kind_of, subcommand_name_of};
 ghost use Rattle.mctpctl.specs.FaultNumbers.{number_of_choose_fault};
-ghost use Rattle.mctpctl.specs.Choice.{command as the_command, device_command as the_device_command, task_named, task_of, TellsKind, TellsRefusal};
+ghost use Rattle.mctpctl.specs.Choice.{command as the_command, device_command as the_device_command, program as the_program, task_named, task_of, TellsKind, TellsRefusal};
 
-use crate::help::{ANSWER, RUN, SHOW, STATUSES};
+use crate::help::{ANSWER, RUN, SHOW, STATUSES, VERSION};
 use clap::error::ErrorKind;
 use clap::{ArgMatches, Command};
 use std::alloc::{AllocError, Global};
@@ -25,7 +25,7 @@ pub enum Task {
 /// Why there is no task.
 #[derive(Debug, Drop, Error)]
 pub enum ChooseFault {
-    /// Help was asked for: this is its text, and the exit status is 0.
+    /// Help or the version was asked for: this is its text, and the exit status is 0.
     #[error("{0}")]
     Help(String),
     /// The line was refused: this says why, and the exit status is 2.
@@ -86,12 +86,18 @@ fn device_command<'a>(alloc: Global) -> Result<Command<'a>, AllocError>
     let run = Command::new(alloc, "run")
         .about("Runs requesters and the described device over a schedule of what is delivered")
         .after_help(RUN);
+    program(alloc).subcommand(answer)?.subcommand(run)
+}
+
+/// The program, which requires a subcommand and has a version.
+fn program<'a>(alloc: Global) -> Command<'a>
+    ensures { app_of result ≡ the_program }
+{
     Command::new(alloc, "mctpctl")
         .about("A simulated PLDM device behind MCTP, on standard input and output")
+        .version(VERSION)
         .after_help(STATUSES)
         .subcommand_required(true)
-        .subcommand(answer)?
-        .subcommand(run)
 }
 
 /// The task of the subcommand that `clap` found.
@@ -122,7 +128,9 @@ fn refusal(alloc: Global, error: &clap::Error) -> ChooseFault
         return ChooseFault::Memory;
     }
     match error.to_string(alloc) {
-        Ok(text) if kind == ErrorKind::DisplayHelp => ChooseFault::Help(text),
+        Ok(text) if kind == ErrorKind::DisplayHelp || kind == ErrorKind::DisplayVersion => {
+            ChooseFault::Help(text)
+        }
         Ok(text) => ChooseFault::Refused(text),
         Err(_) => ChooseFault::Memory,
     }

@@ -8,7 +8,7 @@ mod help;
 use crate::choose::{ChooseFault, Task, choose};
 use mctpctl_engines::{EngineFault, Port, answer_all, fault_line, run_all, show_all, status_of};
 use std::env;
-use std::io::{BufWriter, ErrorKind};
+use std::io::{BufWriter, ErrorKind, IsTerminal};
 use std::process::ExitCode;
 
 /// How many bytes of the text of a run are gathered before they are written.
@@ -63,6 +63,9 @@ fn chosen(rt: &HostRuntime) -> Result<Task, ChooseFault> {
 /// Does the task over standard input, on standard output.
 fn perform(rt: &HostRuntime, task: Task) -> Result<(), EngineFault> {
     let alloc = rt.alloc();
+    if rt.stdin().is_terminal() {
+        let _ = eprintln!(rt; "mctpctl: reading standard input; Ctrl-D ends it");
+    }
     let mut reader = Port::new(rt.stdin());
     match task {
         Task::Answer => answer_all(alloc, &mut reader, &mut Port::new(rt.stdout())),

@@ -5,7 +5,7 @@ use Rattle.clap.proofs.OnLiterals.{clap_on_literals}
 use Rattle.clap.specs.Words.{App, app_of, fault_of, is_simple_and_free, kind_of, HasKind, IsAmong, Kinds}
 use Rattle.clap.specs.declared.error.Error.{Error}
 use Rattle.clap.specs.declared.error.kind.ErrorKind.{ErrorKind}
-use Rattle.clap.specs.declared.error.kind.ErrorKind.TheVariants.{DisplayHelp, OutOfMemory}
+use Rattle.clap.specs.declared.error.kind.ErrorKind.TheVariants.{DisplayHelp, DisplayVersion, OutOfMemory}
 use Rattle.mctpctl.specs.Choice.{command as the_command}
 use Rattle.mctpctl.specs.Choice.{TellsKind, TellsRefusal}
 use Rattle.mctpctl.specs.declared.choose.Task.{Task}
@@ -25,15 +25,21 @@ only_kind kind only (inl same) = same
 only_kind kind only (inr none) = absurd none
 
 refused : (words : List (List ℕ)) (error : Error) (fault : ChooseFault) → HasKind (fault_of the_command words) error → TellsKind (kind_of error) fault → TellsRefusal words fault
-refused words error (Help text) (inl memory) tells = let same : DisplayHelp ≡ OutOfMemory = cc in cc
-refused words error (Help text) (inr among) tells = (
+refused words error (Help text) (inl memory) (inl help) = let same : DisplayHelp ≡ OutOfMemory = cc in cc
+refused words error (Help text) (inl memory) (inr version) = let same : DisplayVersion ≡ OutOfMemory = cc in cc
+refused words error (Help text) (inr among) (inl help) = (
   not_taken (fault_of the_command words) (kind_of error) _ among,
-  subst (λ (kind : ErrorKind). IsAmong kind (fault_of the_command words)) tells among,
+  inl (subst (λ (kind : ErrorKind). IsAmong kind (fault_of the_command words)) help among),
 )
-refused words error (Refused text) (inl memory) tells = absurd (tells.1 memory)
+refused words error (Help text) (inr among) (inr version) = (
+  not_taken (fault_of the_command words) (kind_of error) _ among,
+  inr (subst (λ (kind : ErrorKind). IsAmong kind (fault_of the_command words)) version among),
+)
+refused words error (Refused text) (inl memory) tells = absurd (tells.2 memory)
 refused words error (Refused text) (inr among) tells = (
   not_taken (fault_of the_command words) (kind_of error) _ among,
   λ alone. tells.0 (only_kind (kind_of error) DisplayHelp (subst (λ (faults : Kinds). IsAmong (kind_of error) faults) alone among)),
+  λ alone. tells.1 (only_kind (kind_of error) DisplayVersion (subst (λ (faults : Kinds). IsAmong (kind_of error) faults) alone among)),
 )
 refused words error Memory kinds tells = tt
 
