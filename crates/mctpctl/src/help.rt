@@ -2,7 +2,7 @@
 
 /// What `--version` says after the program's name: its own version, and the toolchain that it is proved
 /// and built with.
-pub const VERSION: &str = "1.0.0 (rattle-kit-13b logic dac8208d650f15bf)";
+pub const VERSION: &str = "1.0.0 (rattle-kit-13f logic dac8208d650f15bf)";
 
 /// What each subcommand reads, and the exit statuses.
 pub const STATUSES: &str = "\
