@@ -29,7 +29,7 @@ use Rattle.mctp_schedule.specs.OncePerformed.{FitsPackets, bytes_of, given_once,
 use Rattle.mctp_schedule.specs.RequesterHalf.{IsSound}
 use Rattle.mctp_schedule.specs.Taken.{brought, came, completes, completes_for, is_ready, is_waiting, part_count, replies, reply_of, row, way_to}
 use Rattle.mctp_schedule.specs.Worlds.{Setting, World, answer_packets, busy_from, busy_packet, packet_of, reply_packet, requests_of, timing_of, world}
-use Rattle.mctp_schedule.specs.declared.step.Step.{Step}
+use Rattle.schedule_text.specs.declared.step.Step.{Step}
 use Rattle.mctp_schedule.proofs.AnswersRead.{AnswersRequest, answer_arrives, busy_refuses, reply_answers, whole_arrival}
 use Rattle.mctp_schedule.proofs.DeliveriesOwed.{given_is_the_reply, the_reply_fits}
 use Rattle.mctp_schedule.proofs.HandedAnswers.{IsOf, packet_past}

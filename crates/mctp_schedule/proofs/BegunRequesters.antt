@@ -15,9 +15,9 @@ use Rattle.pldm_requester.specs.declared.timing.TheConstants.{MOST_TRIES}
 use Rattle.mctp_schedule.specs.Askers.{Side}
 use Rattle.mctp_schedule.specs.Places.{Begins, side_at}
 use Rattle.mctp_schedule.specs.RunFaults.{refusal, refusal_of}
-use Rattle.mctp_schedule.specs.Schedules.{AreDistinct, has_requester, is_requester}
+use Rattle.schedule_text.specs.Schedules.{AreDistinct, has_requester, is_requester}
 use Rattle.mctp_schedule.specs.Worlds.{timing_from}
-use Rattle.mctp_schedule.specs.declared.step.RequesterLine.{RequesterLine}
+use Rattle.schedule_text.specs.declared.step.RequesterLine.{RequesterLine}
 use Rattle.mctp_schedule.proofs.ListPlaces.{drop_at, or_set_at, or_set_other}
 
 -- ---- a line's requester is found by its endpoint ID

@@ -16,12 +16,12 @@ use Rattle.mctp_schedule.specs.OncePerformed.{AreRequests, RepliesFit}
 use Rattle.mctp_schedule.specs.Places.{side_at}
 use Rattle.mctp_schedule.specs.Requests.{Request}
 use Rattle.mctp_schedule.specs.Running.{IsCarried, IsDevice, IsOpened, IsRunning, IsSide}
-use Rattle.mctp_schedule.specs.Schedules.{has_requester}
+use Rattle.schedule_text.specs.Schedules.{has_requester}
 use Rattle.mctp_schedule.specs.Worlds.{Setting, World, is_timely, requests_of, time_now, timing_of, with_call, world}
 use Rattle.mctp_schedule.specs.declared.entry.Entry.{Entry}
 use Rattle.mctp_schedule.specs.declared.journal.Journal.{Journal}
-use Rattle.mctp_schedule.specs.declared.step.Action.{Action}
-use Rattle.mctp_schedule.specs.declared.step.Step.{Step}
+use Rattle.schedule_text.specs.declared.step.Action.{Action}
+use Rattle.schedule_text.specs.declared.step.Step.{Step}
 use Rattle.mctp_schedule.proofs.JoinedLogs.{call_grows}
 use Rattle.mctp_schedule.proofs.ListPlaces.{get_or, or_get, or_set_at, or_set_other}
 use Rattle.mctp_schedule.proofs.QuietSteps.{Enters}

@@ -19,9 +19,9 @@ use Rattle.mctp_schedule.specs.PerformedCommands.{commands_at_delivery, commands
 use Rattle.mctp_schedule.specs.Running.{IsRunning, answer_action, device_calls}
 use Rattle.mctp_schedule.specs.Worlds.{Setting, World, done, handed, log_opened, world}
 use Rattle.mctp_schedule.specs.declared.journal.Journal.{Journal}
-use Rattle.mctp_schedule.specs.declared.step.Action.{Action}
-use Rattle.mctp_schedule.specs.declared.step.Action.TheVariants as actions
-use Rattle.mctp_schedule.specs.declared.step.Step.{Step}
+use Rattle.schedule_text.specs.declared.step.Action.{Action}
+use Rattle.schedule_text.specs.declared.step.Action.TheVariants as actions
+use Rattle.schedule_text.specs.declared.step.Step.{Step}
 use Rattle.mctp_schedule.proofs.DeliveredPackets.{brings_message, held_whole}
 use Rattle.mctp_schedule.proofs.DeliverySteps.{performs_is}
 

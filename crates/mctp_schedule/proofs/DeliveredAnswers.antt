@@ -11,7 +11,7 @@ use Rattle.mctp_schedule.specs.OncePerformed.{given, was_busy}
 use Rattle.mctp_schedule.specs.Running.{IsRunning, answer_action, busy_packets}
 use Rattle.mctp_schedule.specs.Worlds.{Setting, World, answer_packets, busy_from, busy_packet, done, handed, is_timely_action, packet_of, reply_packet, source_of, tag_is_own, world}
 use Rattle.mctp_schedule.specs.declared.journal.Journal.{Journal}
-use Rattle.mctp_schedule.specs.declared.step.Step.{Step}
+use Rattle.schedule_text.specs.declared.step.Step.{Step}
 use Rattle.mctp_schedule.proofs.AskedRequests.{none_above}
 use Rattle.mctp_schedule.proofs.ListPlaces.{get_past}
 

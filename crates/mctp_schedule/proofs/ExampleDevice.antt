@@ -10,9 +10,9 @@ use Rattle.pldm_device.specs.SensorAnswers.{sensed}
 use Rattle.pldm_device.specs.StateEffecters.{fields_of_states}
 use Rattle.pldm_responder.specs.Performing.{rules_of}
 use Rattle.mctp_schedule.specs.Worlds.{Setting}
-use Rattle.mctp_schedule.specs.declared.step.Action.{Action}
-use Rattle.mctp_schedule.specs.declared.step.Action.TheVariants.{Open}
-use Rattle.mctp_schedule.specs.declared.step.Step.{Step}
+use Rattle.schedule_text.specs.declared.step.Action.{Action}
+use Rattle.schedule_text.specs.declared.step.Action.TheVariants.{Open}
+use Rattle.schedule_text.specs.declared.step.Step.{Step}
 
 -- the device, with this reading of sensor 1 and this value of numeric effecter 1
 abbrev pub with_values : ℤ → ℤ → Device

@@ -18,11 +18,11 @@ use Rattle.mctp_schedule.specs.Logs.{Asked, IsTimelyLog, asked_at, told}
 use Rattle.mctp_schedule.specs.OncePerformed.{AreRequests}
 use Rattle.mctp_schedule.specs.RequesterHalf.{IsTimelySchedule}
 use Rattle.mctp_schedule.specs.Runs.{newest_first}
-use Rattle.mctp_schedule.specs.Schedules.{IsSchedule, Spelled}
+use Rattle.schedule_text.specs.Schedules.{IsSchedule, Spelled}
 use Rattle.mctp_schedule.specs.Taken.{is_waiting, replies, taken}
 use Rattle.mctp_schedule.specs.Worlds.{Setting, is_timely, requests_of, world}
-use Rattle.mctp_schedule.specs.declared.step.Action.TheVariants.{Open, Tick, Request, Reply, Sense, Restart, Busy}
-use Rattle.mctp_schedule.specs.declared.step.Step.{Step}
+use Rattle.schedule_text.specs.declared.step.Action.TheVariants.{Open, Tick, Request, Reply, Sense, Restart, Busy}
+use Rattle.schedule_text.specs.declared.step.Step.{Step}
 use Rattle.mctp_schedule.proofs.DeliveriesOwed.{state_is_once}
 use Rattle.mctp_schedule.proofs.ExampleDevice.{at, set_to, with_tries, with_values}
 use Rattle.mctp_schedule.proofs.OpenedSources.{each_known_opens_at, sources_of}

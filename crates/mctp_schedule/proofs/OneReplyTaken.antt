@@ -24,8 +24,8 @@ use Rattle.mctp_schedule.specs.OncePerformed.{given, was_busy}
 use Rattle.mctp_schedule.specs.RequesterHalf.{AnsweredWasPerformed, AnsweredWhereTaken, BusyIsOwed, IsTimelySchedule, OwnAssembly, OwnDeliveries, ReplyIsOwed, StandingIs, TakenOnce}
 use Rattle.mctp_schedule.specs.Taken.{brought, busy_owed, busy_owed_to, came, completes, completes_for, got_by, if_waiting, is_waiting, part_count, reply_of, reply_owed, reply_owed_to, taken, way_to}
 use Rattle.mctp_schedule.specs.Worlds.{IsTimelyAction, Setting, TagIsOwn, World, answer_packets, busy_from, busy_packet, packet_of, reply_packet, source_of, timing_of, world}
-use Rattle.mctp_schedule.specs.declared.step.Action.TheVariants.{Reply, Busy}
-use Rattle.mctp_schedule.specs.declared.step.Step.{Step}
+use Rattle.schedule_text.specs.declared.step.Action.TheVariants.{Reply, Busy}
+use Rattle.schedule_text.specs.declared.step.Step.{Step}
 use Rattle.mctp_schedule.proofs.AnswersOwed.{Lower, arrival_by, arrival_owed, busy_brings, busy_is, busy_is_one, mine, packet_is, performed_at, reads_back, reply_brings}
 use Rattle.mctp_schedule.proofs.DeliveriesOwed.{fresh_in_order_of_firsts}
 use Rattle.mctp_schedule.proofs.HandedAnswers.{bad_tag, comes_in, packet_past, packet_there}

@@ -5,12 +5,12 @@ use Rattle.std.specs.Prelude.{◌||◌, ◌==◌, if◌then◌else◌}
 use Rattle.std.specs.List.{AllByRecursion}
 use Rattle.pldm_requester.specs.Calls.{accepts}
 use Rattle.mctp_schedule.specs.Logs.{Asked, Happening, Opened, asked_at, count_of}
-use Rattle.mctp_schedule.specs.Schedules.{has_requester, is_known}
+use Rattle.schedule_text.specs.Schedules.{has_requester, is_known}
 use Rattle.mctp_schedule.specs.Worlds.{Setting, World, asked_by, busy_packet, done, reply_packet, requests_of, source_of, timing_of, world}
-use Rattle.mctp_schedule.specs.declared.step.RequesterLine.{RequesterLine}
-use Rattle.mctp_schedule.specs.declared.step.Action.{Action}
-use Rattle.mctp_schedule.specs.declared.step.Action.TheVariants as actions
-use Rattle.mctp_schedule.specs.declared.step.Step.{Step}
+use Rattle.schedule_text.specs.declared.step.RequesterLine.{RequesterLine}
+use Rattle.schedule_text.specs.declared.step.Action.{Action}
+use Rattle.schedule_text.specs.declared.step.Action.TheVariants as actions
+use Rattle.schedule_text.specs.declared.step.Step.{Step}
 use Rattle.mctp_schedule.proofs.FirstPerformed.{request_opened}
 use Rattle.mctp_schedule.proofs.KnownRequests.{handed_log}
 

@@ -27,13 +27,13 @@ use Rattle.mctp_schedule.specs.OncePerformed.{AreRequests, RepliesFit, given, wa
 use Rattle.mctp_schedule.specs.Places.{side_at}
 use Rattle.mctp_schedule.specs.Requests.{Request, begun}
 use Rattle.mctp_schedule.specs.Running.{IsCarried, IsDevice, IsOpened, IsRunning, IsSide, busy_packets}
-use Rattle.mctp_schedule.specs.Schedules.{has_requester}
+use Rattle.schedule_text.specs.Schedules.{has_requester}
 use Rattle.mctp_schedule.specs.Worlds.{Setting, World, answer_packets, asked_by, requests_of, time_now, timing_of, with_call, world}
 use Rattle.mctp_schedule.specs.declared.askers.Sent.{Sent}
 use Rattle.mctp_schedule.specs.declared.entry.Entry.TheVariants as entry
 use Rattle.mctp_schedule.specs.declared.journal.Journal.{Journal}
-use Rattle.mctp_schedule.specs.declared.step.Action.TheVariants as actions
-use Rattle.mctp_schedule.specs.declared.step.Step.{Step}
+use Rattle.schedule_text.specs.declared.step.Action.TheVariants as actions
+use Rattle.schedule_text.specs.declared.step.Step.{Step}
 use Rattle.mctp_schedule.proofs.AskedRequests.{asked_before, asked_below, asked_here, none_past}
 use Rattle.mctp_schedule.proofs.CalledSteps.{Writes, called_runs, new_side, or_within}
 use Rattle.mctp_schedule.proofs.ListPlaces.{get_front, get_last, get_past, get_pushed, get_within, length_pushed, or_set_at, or_set_other}

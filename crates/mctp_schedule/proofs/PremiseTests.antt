@@ -11,10 +11,10 @@ use Rattle.pldm_responder.specs.Performing.{Rules, performed, reply}
 use Rattle.pldm_responder.specs.Events.{is_fresh}
 use Rattle.mctp_schedule.specs.Logs.{Asked, Happening, Opened, Delivered, Sensed, WentDown, Apart, ComesLate, InOrder, InTime, IsTimelyLog, asked_at, count_of, last_of, message_at, moment_of, told}
 use Rattle.mctp_schedule.specs.OncePerformed.{AreRequests, FitsPackets, RepliesFit}
-use Rattle.mctp_schedule.specs.Schedules.{AreDistinct, AreKnown, IsSchedule, NeverGoBack, is_known}
+use Rattle.schedule_text.specs.Schedules.{AreDistinct, AreKnown, IsSchedule, NeverGoBack, is_known}
 use Rattle.mctp_schedule.specs.Worlds.{NeverWentBack, time_now}
-use Rattle.mctp_schedule.specs.declared.step.RequesterLine.{RequesterLine}
-use Rattle.mctp_schedule.specs.declared.step.Step.{Step}
+use Rattle.schedule_text.specs.declared.step.RequesterLine.{RequesterLine}
+use Rattle.schedule_text.specs.declared.step.Step.{Step}
 use Rattle.mctp_schedule.proofs.FirstPerformed.{request_opened}
 
 same : (P : Asked → Type 0) (q : Asked) → P q → (r : Asked) → Some q ≡ Some r → P r

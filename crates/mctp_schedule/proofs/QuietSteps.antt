@@ -14,8 +14,8 @@ use Rattle.mctp_schedule.specs.Running.{IsCarried, IsRunning, device_calls}
 use Rattle.mctp_schedule.specs.Worlds.{Setting, World, time_now, world}
 use Rattle.mctp_schedule.specs.declared.entry.Entry.{Entry}
 use Rattle.mctp_schedule.specs.declared.journal.Journal.{Journal}
-use Rattle.mctp_schedule.specs.declared.step.Action.TheVariants as actions
-use Rattle.mctp_schedule.specs.declared.step.Step.{Step}
+use Rattle.schedule_text.specs.declared.step.Action.TheVariants as actions
+use Rattle.schedule_text.specs.declared.step.Step.{Step}
 use Rattle.mctp_schedule.proofs.RunningFrames.{still_carried, still_opened, still_side}
 
 -- one more entry, and nothing else

@@ -23,12 +23,12 @@ use Rattle.mctp_schedule.specs.HandedPackets.{got_from}
 use Rattle.mctp_schedule.specs.Journals.{answered_as}
 use Rattle.mctp_schedule.specs.Logs.{Asked, asked_at, count_of}
 use Rattle.mctp_schedule.specs.Running.{IsOpened, IsRunning, IsSide, answer_action}
-use Rattle.mctp_schedule.specs.Schedules.{has_requester}
+use Rattle.schedule_text.specs.Schedules.{has_requester}
 use Rattle.mctp_schedule.specs.Worlds.{Setting, World, handed, is_timely, requests_of, source_of, tag_is_own, time_now, timing_of, with_call, world}
 use Rattle.mctp_schedule.specs.declared.askers.Answered.{Answered}
 use Rattle.mctp_schedule.specs.declared.entry.Entry.TheVariants as entry
 use Rattle.mctp_schedule.specs.declared.journal.Journal.{Journal}
-use Rattle.mctp_schedule.specs.declared.step.Step.{Step}
+use Rattle.schedule_text.specs.declared.step.Step.{Step}
 use Rattle.mctp_schedule.proofs.AskerCalls.{answer_of_got, answer_remembered, own_below, standing_after}
 use Rattle.mctp_schedule.proofs.AskedRequests.{asked_below}
 use Rattle.mctp_schedule.proofs.CalledSteps.{Writes, called_runs, new_side}

@@ -12,9 +12,9 @@ use Rattle.mctp_schedule.specs.OncePerformed.{bytes_of, given_once, reply_at_fir
 use Rattle.mctp_schedule.specs.RequesterHalf.{StandingIs}
 use Rattle.mctp_schedule.specs.Taken.{brought, came, completes_for, is_waiting, part_count, replies, reply_of, taken, takes, with_delivery}
 use Rattle.mctp_schedule.specs.Worlds.{Setting, World, requests_of, world}
-use Rattle.mctp_schedule.specs.declared.step.Action.{Action}
-use Rattle.mctp_schedule.specs.declared.step.Action.TheVariants as actions
-use Rattle.mctp_schedule.specs.declared.step.Step.{Step}
+use Rattle.schedule_text.specs.declared.step.Action.{Action}
+use Rattle.schedule_text.specs.declared.step.Action.TheVariants as actions
+use Rattle.schedule_text.specs.declared.step.Step.{Step}
 use Rattle.mctp_schedule.proofs.FirstPerformed.{first_stays}
 use Rattle.mctp_schedule.proofs.GivenReplies.{busy_opened, once_stays}
 use Rattle.mctp_schedule.proofs.KnownRequests.{asked_stays_done, stays_done}

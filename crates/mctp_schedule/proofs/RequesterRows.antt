@@ -21,9 +21,9 @@ use Rattle.pldm_requester.specs.declared.got.Got.TheVariants.{Dropped, Partial, 
 use Rattle.mctp_schedule.specs.HandedPackets.{got_of_reply, got_of_busy}
 use Rattle.mctp_schedule.specs.Taken.{busy_owed, replies, reply_of, reply_owed, taken}
 use Rattle.mctp_schedule.specs.Worlds.{Setting, requests_of, world}
-use Rattle.mctp_schedule.specs.declared.step.Action.{Action}
-use Rattle.mctp_schedule.specs.declared.step.Action.TheVariants.{Open, Tick, Request, Reply, Sense, Restart, Busy}
-use Rattle.mctp_schedule.specs.declared.step.Step.{Step}
+use Rattle.schedule_text.specs.declared.step.Action.{Action}
+use Rattle.schedule_text.specs.declared.step.Action.TheVariants.{Open, Tick, Request, Reply, Sense, Restart, Busy}
+use Rattle.schedule_text.specs.declared.step.Step.{Step}
 
 abbrev at : ℕ → Action → Step
 at moment action = record { moment = moment; action = action }

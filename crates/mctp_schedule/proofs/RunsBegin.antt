@@ -12,11 +12,11 @@ use Rattle.pldm_requester.specs.Steps.{held_at_first}
 use Rattle.mctp_schedule.specs.Askers.{Side}
 use Rattle.mctp_schedule.specs.Places.{BeginEach, Begins}
 use Rattle.mctp_schedule.specs.Running.{IsRunning, IsSide, MayCome}
-use Rattle.mctp_schedule.specs.Schedules.{AreKnown, NeverGoBack, is_known}
+use Rattle.schedule_text.specs.Schedules.{AreKnown, NeverGoBack, is_known}
 use Rattle.mctp_schedule.specs.Worlds.{Setting, time_now, timing_of, world}
 use Rattle.mctp_schedule.specs.declared.journal.Journal.{Journal}
-use Rattle.mctp_schedule.specs.declared.step.RequesterLine.{RequesterLine}
-use Rattle.mctp_schedule.specs.declared.step.Step.{Step}
+use Rattle.schedule_text.specs.declared.step.RequesterLine.{RequesterLine}
+use Rattle.schedule_text.specs.declared.step.Step.{Step}
 
 -- a journal of no step
 pub record IsEmpty (journal : Journal) : Type 0 where

@@ -19,9 +19,9 @@ use Rattle.mctp_schedule.specs.OncePerformed.{RepliesFit, given, was_busy}
 use Rattle.mctp_schedule.specs.RequesterHalf.{IsSound, StandingIs}
 use Rattle.mctp_schedule.specs.Taken.{brought, came, completes, completes_for, is_waiting, part_count, replies, reply_of, taken, way_to}
 use Rattle.mctp_schedule.specs.Worlds.{IsTimely, IsTimelyAction, NeverWentBack, Setting, TagIsOwn, World, answer_packets, asked_by, busy_from, busy_packet, handed, packet_of, reply_packet, requests_of, source_of, timing_of, world}
-use Rattle.mctp_schedule.specs.declared.step.Action.{Action}
-use Rattle.mctp_schedule.specs.declared.step.Action.TheVariants as actions
-use Rattle.mctp_schedule.specs.declared.step.Step.{Step}
+use Rattle.schedule_text.specs.declared.step.Action.{Action}
+use Rattle.schedule_text.specs.declared.step.Action.TheVariants as actions
+use Rattle.schedule_text.specs.declared.step.Step.{Step}
 use Rattle.mctp_schedule.proofs.AnswersOwed.{Lower, arrival_by, arrival_owed, busy_brings, busy_is, busy_is_one, has_arrived, mine, owed_is_own, packet_is, reads_back, reply_brings}
 use Rattle.mctp_schedule.proofs.FirstPerformed.{request_opened}
 use Rattle.mctp_schedule.proofs.FittingReplies.{fits_before}

@@ -18,12 +18,12 @@ use Rattle.mctp_schedule.specs.Entries.{as_it_stands, numbered, numbers_of}
 use Rattle.mctp_schedule.specs.Journals.{stands_after}
 use Rattle.mctp_schedule.specs.Logs.{Asked, asked_at}
 use Rattle.mctp_schedule.specs.Running.{IsOpened, IsRunning}
-use Rattle.mctp_schedule.specs.Schedules.{has_requester}
+use Rattle.schedule_text.specs.Schedules.{has_requester}
 use Rattle.mctp_schedule.specs.Worlds.{Setting, World, requests_of, time_now, timing_of, with_call, world}
 use Rattle.mctp_schedule.specs.declared.entry.Entry.TheVariants as entry
 use Rattle.mctp_schedule.specs.declared.journal.Journal.{Journal}
-use Rattle.mctp_schedule.specs.declared.step.Action.TheVariants as actions
-use Rattle.mctp_schedule.specs.declared.step.Step.{Step}
+use Rattle.schedule_text.specs.declared.step.Action.TheVariants as actions
+use Rattle.schedule_text.specs.declared.step.Step.{Step}
 use Rattle.mctp_schedule.proofs.CalledSteps.{Writes, called_runs, new_side}
 use Rattle.mctp_schedule.proofs.NumberedRequests.{among_none, among_one, get_index, index_get}
 use Rattle.mctp_schedule.proofs.RunningFrames.{call_here, call_other}

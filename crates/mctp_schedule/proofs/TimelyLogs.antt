@@ -10,10 +10,10 @@ use Rattle.pldm_requester.specs.Numbering.{id_of, message_of}
 use Rattle.mctp_schedule.specs.Laws.{LogIsTimely}
 use Rattle.mctp_schedule.specs.Logs.{Asked, Happening, Opened, Delivered, Sensed, WentDown, Apart, ComesLate, InOrder, InTime, asked_at, count_of, last_of}
 use Rattle.mctp_schedule.specs.Worlds.{IsTimely, IsTimelyAction, NeverWentBack, Setting, World, asked_by, busy_packet, done, handed, log_opened, reply_packet, requests_of, source_of, time_now, timing_from, timing_of, with_call, world}
-use Rattle.mctp_schedule.specs.declared.step.RequesterLine.{RequesterLine}
-use Rattle.mctp_schedule.specs.declared.step.Step.{Step}
-use Rattle.mctp_schedule.specs.declared.step.Action.{Action}
-use Rattle.mctp_schedule.specs.declared.step.Action.TheVariants as actions
+use Rattle.schedule_text.specs.declared.step.RequesterLine.{RequesterLine}
+use Rattle.schedule_text.specs.declared.step.Step.{Step}
+use Rattle.schedule_text.specs.declared.step.Action.{Action}
+use Rattle.schedule_text.specs.declared.step.Action.TheVariants as actions
 use Rattle.mctp_schedule.proofs.FirstPerformed.{request_opened}
 use Rattle.mctp_schedule.proofs.JoinedLogs.{Grows, call_grows, call_last}
 

@@ -6,9 +6,9 @@ use Rattle.mctp_packet.specs.declared.TheConstants.{TAGS}
 use Rattle.mctp_schedule.specs.Laws.{TimelyIsTested}
 use Rattle.mctp_schedule.specs.Logs.{Asked, asked_at}
 use Rattle.mctp_schedule.specs.Worlds.{IsTimely, IsTimelyAction, Setting, TagIsOwn, World, busy_packet, comes_in_time, is_timely, is_timely_action, reply_packet, requests_of, tag_is_own, world}
-use Rattle.mctp_schedule.specs.declared.step.Action.{Action}
-use Rattle.mctp_schedule.specs.declared.step.Action.TheVariants.{Open, Tick, Request, Reply, Sense, Restart, Busy}
-use Rattle.mctp_schedule.specs.declared.step.Step.{Step}
+use Rattle.schedule_text.specs.declared.step.Action.{Action}
+use Rattle.schedule_text.specs.declared.step.Action.TheVariants.{Open, Tick, Request, Reply, Sense, Restart, Busy}
+use Rattle.schedule_text.specs.declared.step.Step.{Step}
 
 same : (P : Asked → Type 0) (q : Asked) → P q → (r : Asked) → Some q ≡ Some r → P r
 same P q x r e = subst P (let y : q ≡ r = cc in y) x

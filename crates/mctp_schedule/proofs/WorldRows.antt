@@ -16,9 +16,9 @@ use Rattle.mctp_schedule.specs.Logs.{count_of}
 use Rattle.mctp_schedule.specs.OncePerformed.{once}
 use Rattle.mctp_schedule.specs.PerformedCommands.{commands_once, commands_performed}
 use Rattle.mctp_schedule.specs.Worlds.{Setting, busy_packet, is_timely, reply_packet, requests_of, world}
-use Rattle.mctp_schedule.specs.declared.step.Action.{Action}
-use Rattle.mctp_schedule.specs.declared.step.Action.TheVariants.{Open, Tick, Request, Reply, Restart, Busy}
-use Rattle.mctp_schedule.specs.declared.step.Step.{Step}
+use Rattle.schedule_text.specs.declared.step.Action.{Action}
+use Rattle.schedule_text.specs.declared.step.Action.TheVariants.{Open, Tick, Request, Reply, Restart, Busy}
+use Rattle.schedule_text.specs.declared.step.Step.{Step}
 
 abbrev at : ℕ → Action → Step
 at moment action = record { moment = moment; action = action }

@@ -16,9 +16,9 @@ use Rattle.mctp_schedule.specs.Requests.{Request as EndedRequest}
 use Rattle.mctp_schedule.specs.Worlds.{Setting, World, requests_of, timing_of, world}
 use Rattle.mctp_schedule.specs.declared.entry.Entry.{Entry}
 use Rattle.mctp_schedule.specs.declared.entry.Entry.TheVariants.{Nothing, Opened, NotOpened, Due, Delivered, Received, Sensed, Restarted}
-use Rattle.mctp_schedule.specs.declared.step.Action.{Action}
-use Rattle.mctp_schedule.specs.declared.step.Action.TheVariants as actions
-use Rattle.mctp_schedule.specs.declared.step.Step.{Step}
+use Rattle.schedule_text.specs.declared.step.Action.{Action}
+use Rattle.schedule_text.specs.declared.step.Action.TheVariants as actions
+use Rattle.schedule_text.specs.declared.step.Step.{Step}
 
 -- the numbers, over all requests, of the requests of one endpoint, in the order of their openings
 abbrev pub numbers_of : List Happening → ℕ → List ℕ

@@ -19,9 +19,9 @@ use Rattle.mctp_schedule.specs.Taken.{busy_owed, reply_owed}
 use Rattle.mctp_schedule.specs.Worlds.{Setting, world}
 use Rattle.mctp_schedule.specs.declared.entry.Entry.{Entry}
 use Rattle.mctp_schedule.specs.declared.entry.Entry.TheVariants.{Nothing, Delivered, Sensed}
-use Rattle.mctp_schedule.specs.declared.step.Action.{Action}
-use Rattle.mctp_schedule.specs.declared.step.Action.TheVariants as actions
-use Rattle.mctp_schedule.specs.declared.step.Step.{Step}
+use Rattle.schedule_text.specs.declared.step.Action.{Action}
+use Rattle.schedule_text.specs.declared.step.Action.TheVariants as actions
+use Rattle.schedule_text.specs.declared.step.Step.{Step}
 
 module _ {S : Type 0} (setting : Setting S) where
   -- the device's state where each request that arrived is performed once, at its first arrival

@@ -1,6 +1,4 @@
 pub mod Askers
-pub mod CommandSpelling
-pub mod CommandWords
 pub mod Deliveries
 pub mod DeviceHalf
 pub mod DueNumbers
@@ -11,9 +9,6 @@ pub mod Headline
 pub mod Journals
 pub mod Laws
 pub mod KeptMessages
-pub mod LineFaults
-pub mod LineSpelling
-pub mod LineWords
 pub mod Logs
 pub mod OncePerformed
 pub mod PerformedCommands
@@ -23,7 +18,5 @@ pub mod Requests
 pub mod RunFaults
 pub mod Running
 pub mod Runs
-pub mod Schedules
 pub mod Taken
-pub mod WordValues
 pub mod Worlds

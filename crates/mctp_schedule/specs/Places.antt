@@ -4,9 +4,9 @@ use Rattle.mctp_packet.specs.Ids.{IsEid}
 use Rattle.pldm_requester.specs.Slots.{held_of}
 use Rattle.pldm_requester.specs.Steps.{IsHeld, held_at_first}
 use Rattle.mctp_schedule.specs.Askers.{Side}
-use Rattle.mctp_schedule.specs.Schedules.{has_requester, is_requester}
+use Rattle.schedule_text.specs.Schedules.{has_requester, is_requester}
 use Rattle.mctp_schedule.specs.Worlds.{timing_from}
-use Rattle.mctp_schedule.specs.declared.step.RequesterLine.{RequesterLine}
+use Rattle.schedule_text.specs.declared.step.RequesterLine.{RequesterLine}
 
 abbrev pub side_at : List (Option Side) → ℕ → Option Side
 side_at places e = slice_index_or places e None

@@ -13,8 +13,8 @@ use Rattle.mctp_schedule.specs.OncePerformed.{RepliesFit, once}
 use Rattle.mctp_schedule.specs.HandedPackets.{got_of_busy, got_of_reply}
 use Rattle.mctp_schedule.specs.Taken.{busy_owed, came, completes, is_waiting, reply_of, reply_owed, taken}
 use Rattle.mctp_schedule.specs.Worlds.{IsTimely, IsTimelyAction, NeverWentBack, Setting, requests_of, timing_of, world}
-use Rattle.mctp_schedule.specs.declared.step.Action.TheVariants.{Reply, Busy}
-use Rattle.mctp_schedule.specs.declared.step.Step.{Step}
+use Rattle.schedule_text.specs.declared.step.Action.TheVariants.{Reply, Busy}
+use Rattle.schedule_text.specs.declared.step.Step.{Step}
 
 -- the device and each requester that opened a request have endpoint IDs, not the same one, and each reply that the
 -- device made fits packets

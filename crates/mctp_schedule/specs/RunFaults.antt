@@ -3,7 +3,7 @@ use Rattle.std.specs.Prelude.{ℕ, List, [], ◌∷◌, Option, Some, None}
 use Rattle.pldm_requester.specs.Timings.{timing_fault}
 use Rattle.pldm_requester.specs.declared.timing.TimingFault.{TimingFault}
 use Rattle.mctp_schedule.specs.Worlds.{timing_from}
-use Rattle.mctp_schedule.specs.declared.step.RequesterLine.{RequesterLine}
+use Rattle.schedule_text.specs.declared.step.RequesterLine.{RequesterLine}
 use Rattle.mctp_schedule.specs.declared.run_fault.RunFault.{RunFault}
 use Rattle.mctp_schedule.specs.declared.run_fault.RunFault.TheVariants.{Timing, Memory}
 

@@ -17,14 +17,14 @@ use Rattle.mctp_schedule.specs.Logs.{Asked, Happening, Opened, Delivered, Sensed
 use Rattle.mctp_schedule.specs.OncePerformed.{AreRequests, IsReadable, RepliesFit, given, was_busy}
 use Rattle.mctp_schedule.specs.PerformedCommands.{commands_at_step}
 use Rattle.mctp_schedule.specs.Places.{side_at}
-use Rattle.mctp_schedule.specs.Schedules.{has_requester, is_known}
+use Rattle.schedule_text.specs.Schedules.{has_requester, is_known}
 use Rattle.mctp_schedule.specs.Worlds.{Setting, World, answer_packets, is_timely, requests_of, time_now, timing_of, world}
 use Rattle.mctp_schedule.specs.declared.entry.Entry.{Entry}
 use Rattle.mctp_schedule.specs.declared.journal.Journal.{Journal}
-use Rattle.mctp_schedule.specs.declared.step.RequesterLine.{RequesterLine}
-use Rattle.mctp_schedule.specs.declared.step.Action.{Action}
-use Rattle.mctp_schedule.specs.declared.step.Action.TheVariants.{Busy, Reply}
-use Rattle.mctp_schedule.specs.declared.step.Step.{Step}
+use Rattle.schedule_text.specs.declared.step.RequesterLine.{RequesterLine}
+use Rattle.schedule_text.specs.declared.step.Action.{Action}
+use Rattle.schedule_text.specs.declared.step.Action.TheVariants.{Busy, Reply}
+use Rattle.schedule_text.specs.declared.step.Step.{Step}
 
 -- the packet of a request comes to the responder; a request that was never opened has none
 abbrev pub received : ℕ → ℕ → Option Asked → List responder.Call → List responder.Call

@@ -2,9 +2,9 @@
 use Rattle.std.specs.Prelude.{ℕ, List, reverse}
 use Rattle.pldm_responder.specs.Performing.{Rules, performed}
 use Rattle.mctp_schedule.specs.Logs.{told}
-use Rattle.mctp_schedule.specs.Schedules.{Spelled}
+use Rattle.schedule_text.specs.Schedules.{Spelled}
 use Rattle.mctp_schedule.specs.Worlds.{Setting, World, world}
-use Rattle.mctp_schedule.specs.declared.step.Step.{Step}
+use Rattle.schedule_text.specs.declared.step.Step.{Step}
 
 -- a device with these rules, in its first state, at the endpoint `eid`; both ends keep for `keep`
 abbrev pub setting_of_run : {S : Type 0} → Rules S → S → ℕ → ℕ → Spelled → Setting S

@@ -11,11 +11,11 @@ use Rattle.pldm_requester.specs.Numbering.{message_of}
 use Rattle.pldm_requester.specs.declared.timing.Timing.{Timing}
 use Rattle.mctp_schedule.specs.Logs.{Asked, Happening, Opened, Delivered, Sensed, WentDown, asked_at, message_at}
 use Rattle.mctp_schedule.specs.OncePerformed.{given, was_busy}
-use Rattle.mctp_schedule.specs.Schedules.{is_requester}
-use Rattle.mctp_schedule.specs.declared.step.RequesterLine.{RequesterLine}
-use Rattle.mctp_schedule.specs.declared.step.Action.{Action}
-use Rattle.mctp_schedule.specs.declared.step.Action.TheVariants.{Open, Tick, Request, Reply, Sense, Restart, Busy}
-use Rattle.mctp_schedule.specs.declared.step.Step.{Step}
+use Rattle.schedule_text.specs.Schedules.{is_requester}
+use Rattle.schedule_text.specs.declared.step.RequesterLine.{RequesterLine}
+use Rattle.schedule_text.specs.declared.step.Action.{Action}
+use Rattle.schedule_text.specs.declared.step.Action.TheVariants.{Open, Tick, Request, Reply, Sense, Restart, Busy}
+use Rattle.schedule_text.specs.declared.step.Step.{Step}
 
 -- the calls of each endpoint's requester, and what happened on the link, the newest first
 pub record World : Type 0 where

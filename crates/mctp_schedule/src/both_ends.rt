@@ -10,7 +10,7 @@ ghost use Rattle.mctp_schedule.specs.RunFaults.{refusal};
 ghost use Rattle.mctp_schedule.specs.Running.{CanGoOn, GoesOn, Performs, answer_action};
 ghost use Rattle.mctp_schedule.specs.Runs.{final_state, final_world, newest_first, setting_of_run};
 ghost use Rattle.mctp_schedule.specs.Worlds.{is_timely};
-ghost use Rattle.mctp_schedule.specs.declared.step.Action.TheVariants as actions;
+ghost use Rattle.schedule_text.specs.declared.step.Action.TheVariants as actions;
 
 use crate::journal::Journal;
 use crate::laws::{

@@ -1,12 +1,13 @@
 //! Laws of both ends, over the definitions alone: each function does nothing and ensures its law.
 
 ghost use Rattle.pldm_responder.specs.Performing.{rules_of};
-ghost use Rattle.mctp_schedule.specs.Laws.{LogIsTimely, ReadAsSpelled, TimelyIsTested};
+ghost use Rattle.mctp_schedule.specs.Laws.{LogIsTimely, TimelyIsTested};
 ghost use Rattle.mctp_schedule.specs.Worlds.{Setting};
 ghost use Rattle.mctp_schedule.specs.RequesterHalf.{AnsweredWasPerformed, AnsweredWhereTaken, BusyIsOwed, OwnAssembly, OwnDeliveries, ReplyIsOwed, TakenOnce};
 ghost use Rattle.mctp_schedule.specs.DeviceHalf.{DeliveryIsOwed, FreshInOrderOfFirsts, FreshWhereFirst, GivenIsTheReply, NoneOpenedSince, NotPerformedAgain, StateIsOnce, TheReplyFits};
 
 use pldm_device::Platform;
+pub use schedule_text::laws::lines_are_read_as_spelled;
 
 /// Over a timely log a request's deliveries end before its instance ID is used again, each is fresh
 /// exactly where it is the first, and the fresh ones come in the order of first arrivals.
@@ -24,11 +25,6 @@ pub fn performs_once<P: Platform>()
     ensures delivery { DeliveryIsOwed (rules_of P.answer P.after P.sensed) }
     ensures given { GivenIsTheReply (rules_of P.answer P.after P.sensed) }
     ensures fits { TheReplyFits (rules_of P.answer P.after P.sensed) }
-{}
-
-/// A line of a schedule is read as something exactly where its words spell that.
-pub fn lines_are_read_as_spelled()
-    ensures { ReadAsSpelled }
 {}
 
 /// Over a timely schedule the log of what happened on the link is timely, so the laws of

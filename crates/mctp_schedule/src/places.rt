@@ -6,7 +6,7 @@ ghost use Rattle.pldm_requester.specs.Steps.{IsHeld, held_at_first};
 ghost use Rattle.pldm_requester.specs.Timings.{timing_fault};
 ghost use Rattle.mctp_schedule.specs.Places.{BeginEach};
 ghost use Rattle.mctp_schedule.specs.RunFaults.{refusal};
-ghost use Rattle.mctp_schedule.specs.Schedules.{AreDistinct};
+ghost use Rattle.schedule_text.specs.Schedules.{AreDistinct};
 ghost use Rattle.mctp_schedule.specs.Worlds.{timing_from};
 
 use crate::askers::Asker;

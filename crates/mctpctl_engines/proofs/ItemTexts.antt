@@ -2,7 +2,7 @@
 use Rattle.std.proofs.Common.{◌≡◌, ℕ, zero, suc, ◌+◌, ◌<◌, ◌≤◌, List, [], ◌∷◌, ◌++◌, drop, get_or, length, min, refl, sym, ap, ◌∙◌, append_assoc, arith, drop-cons}
 use Rattle.mctp_schedule.specs.Requests.{Request}
 use Rattle.mctp_schedule.specs.declared.entry.Entry.{Entry}
-use Rattle.mctp_schedule.specs.declared.step.Step.{Step}
+use Rattle.schedule_text.specs.declared.step.Step.{Step}
 use Rattle.mctpctl_engines.specs.EntryTexts.{entries_text, entry_line}
 use Rattle.mctpctl_engines.specs.ReportTexts.{requests_text, request_line}
 

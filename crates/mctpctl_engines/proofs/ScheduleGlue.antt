@@ -13,8 +13,8 @@ use Rattle.mctpctl_engines.specs.declared.faults.EngineFault.{EngineFault}
 use Rattle.mctpctl_engines.specs.declared.faults.EngineFault.TheVariants as faults
 use Rattle.mctpctl_engines.proofs.DescribedGlue.{begun_device, begun_fault}
 use Rattle.mctp_schedule.specs.RunFaults.{refusal}
-use Rattle.mctp_schedule.specs.Schedules.{Spelled}
-use Rattle.mctp_schedule.specs.declared.line_fault.LineFault.{LineFault}
+use Rattle.schedule_text.specs.Schedules.{Spelled}
+use Rattle.schedule_text.specs.declared.line_fault.LineFault.{LineFault}
 use Rattle.mctp_schedule.specs.declared.run_fault.RunFault.{RunFault}
 use Rattle.pldm_device.specs.declared.description.Description.{Description}
 

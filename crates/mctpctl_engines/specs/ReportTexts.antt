@@ -6,7 +6,7 @@ use Rattle.std.specs.List.{flat_map}
 use Rattle.hex.specs.Hex.{encode_lower}
 use Rattle.mctp_schedule.specs.Requests.{Request}
 use Rattle.mctp_schedule.specs.declared.entry.Entry.{Entry}
-use Rattle.mctp_schedule.specs.declared.step.Step.{Step}
+use Rattle.schedule_text.specs.declared.step.Step.{Step}
 use Rattle.mctpctl_engines.specs.EntryTexts.{entries_text, numbers_text}
 use Rattle.mctpctl_engines.specs.ShownLines.{spaced_line}
 use Rattle.pldm_device.specs.Devices.{Device}

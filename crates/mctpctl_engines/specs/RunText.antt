@@ -4,11 +4,11 @@ use Rattle.mctp_schedule.specs.Entries.{entries, requests_after}
 use Rattle.mctp_schedule.specs.FirstArrivals.{order}
 use Rattle.mctp_schedule.specs.RunFaults.{refusal}
 use Rattle.mctp_schedule.specs.Runs.{final_state, final_world, newest_first, setting_of_run}
-use Rattle.mctp_schedule.specs.Schedules.{Spelled, none_spelled, spelled_from}
+use Rattle.schedule_text.specs.Schedules.{Spelled, none_spelled, spelled_from}
 use Rattle.mctp_schedule.specs.Worlds.{Setting, is_timely}
-use Rattle.mctp_schedule.specs.declared.line_fault.LineFault.{LineFault}
-use Rattle.mctp_schedule.specs.declared.line_fault.LineFaultKind.{LineFaultKind}
-use Rattle.mctp_schedule.specs.declared.line_fault.LineFaultKind.TheVariants as told
+use Rattle.schedule_text.specs.declared.line_fault.LineFault.{LineFault}
+use Rattle.schedule_text.specs.declared.line_fault.LineFaultKind.{LineFaultKind}
+use Rattle.schedule_text.specs.declared.line_fault.LineFaultKind.TheVariants as told
 use Rattle.mctp_schedule.specs.declared.run_fault.RunFault.{RunFault}
 use Rattle.mctp_schedule.specs.declared.run_fault.RunFault.TheVariants as runs
 use Rattle.mctpctl_engines.specs.AnswerText.{run_of, simulated}

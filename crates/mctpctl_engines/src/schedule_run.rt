@@ -3,7 +3,7 @@
 ghost use Rattle.std.specs.Io.KnownBytes.{Appends};
 ghost use Rattle.std.specs.Prelude.{◌≡◌, ◌≢◌, ◌≤◌, ◌+◌, ◌↔◌, [], Err, Some, IfErr, IfSome, IfNone, IsErrOf, None, OnOk, length, option_map, true, false};
 ghost use Rattle.line_words.specs.TextLines.{lines_of};
-ghost use Rattle.mctp_schedule.specs.Schedules.{schedule_of};
+ghost use Rattle.schedule_text.specs.Schedules.{schedule_of};
 ghost use Rattle.mctpctl_engines.specs.AnswerText.{run_of};
 ghost use Rattle.mctpctl_engines.specs.DescribedPieces.{begun};
 ghost use Rattle.mctpctl_engines.specs.Pieces.{Takes, FinishesTo};

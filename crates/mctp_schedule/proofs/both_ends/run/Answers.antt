@@ -10,7 +10,7 @@ use Rattle.mctp_schedule.specs.Running.{IsRunning, Terms}
 use Rattle.mctp_schedule.specs.PerformedCommands.{commands_at_step, commands_performed}
 use Rattle.mctp_schedule.specs.Runs.{newest_first, setting_of_run}
 use Rattle.mctp_schedule.specs.Worlds.{NeverWentBack, world}
-use Rattle.mctp_schedule.specs.declared.step.Step.{Step}
+use Rattle.schedule_text.specs.declared.step.Step.{Step}
 use Rattle.pldm_wire.specs.declared.command.Command.{Command}
 use Rattle.mctp_schedule.proofs.CommandsPerformed.{commands_added}
 use Rattle.mctp_schedule.proofs.HeadlineHolds.{Halves, run_is_headline}

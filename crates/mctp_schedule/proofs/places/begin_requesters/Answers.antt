@@ -6,7 +6,7 @@ use Rattle.pldm_requester.specs.Steps.{IsHeld, held_at_first}
 use Rattle.mctp_schedule.specs.Askers.{Side}
 use Rattle.mctp_schedule.specs.Places.{Begins, side_at}
 use Rattle.mctp_schedule.specs.Worlds.{timing_from}
-use Rattle.mctp_schedule.specs.Schedules.{has_requester}
+use Rattle.schedule_text.specs.Schedules.{has_requester}
 use Rattle.mctp_schedule.proofs.BegunRequesters.{accepted_more, begun_more}
 use Rattle.mctp_schedule.proofs.ListPlaces.{get_or, length_set, take_all}
 use Rattle.mctp_schedule.proofs.places.begin_requesters.Goals as goal

@@ -4,7 +4,7 @@ use Rattle.mctp_packet.specs.declared.TheConstants.{LAST_EID}
 use Rattle.mctp_schedule.specs.Askers.{Side}
 use Rattle.mctp_schedule.specs.Places.{Begins, side_at}
 use Rattle.mctp_schedule.specs.RunFaults.{refusal}
-use Rattle.mctp_schedule.specs.Schedules.{has_requester}
+use Rattle.schedule_text.specs.Schedules.{has_requester}
 use Rattle.mctp_schedule.proofs.places.begin_requesters.Given as goal
 
 abbrev pub invariant-loop-line : goal.invariant-loop-line

@@ -1,7 +1,7 @@
 -- A line that does not divide goes to the front, with its line feed.
 use Rattle.std.proofs.Common.{◌≡◌, ℕ, List, [], ◌∷◌, ◌++◌, true, false, Some, option_map, refl, sym, ap, ◌∙◌, append_assoc}
 use Rattle.line_words.specs.TextLines.{lines_of}
-use Rattle.mctp_schedule.specs.Schedules.{schedule_of}
+use Rattle.schedule_text.specs.Schedules.{schedule_of}
 use Rattle.mctpctl_engines.specs.RunText.{spelled_by}
 use Rattle.mctpctl_engines.specs.TextLines.{capture_lines, description_of, is_divider}
 use Rattle.mctpctl_engines.proofs.DescribedGlue.{description_more}

@@ -6,7 +6,7 @@ use Rattle.pldm_requester.specs.Slots.{held_of}
 use Rattle.pldm_requester.specs.Steps.{IsHeld, opened_held, opening_answer}
 use Rattle.mctp_schedule.specs.Askers.{IsSent, Side}
 use Rattle.mctp_schedule.specs.Running.{IsRunning, setting_of}
-use Rattle.mctp_schedule.specs.declared.step.Action.TheVariants as actions
+use Rattle.schedule_text.specs.declared.step.Action.TheVariants as actions
 use Rattle.mctp_schedule.proofs.CalledSteps.{place_holds}
 use Rattle.mctp_schedule.proofs.OpenedSteps.{opened_runs, refused_runs}
 use Rattle.mctp_schedule.proofs.both_ends.Ends.open.Goals as goal

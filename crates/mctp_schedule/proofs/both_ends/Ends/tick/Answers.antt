@@ -10,7 +10,7 @@ use Rattle.mctp_schedule.specs.Askers.{Side}
 use Rattle.mctp_schedule.specs.Entries.{numbered, numbers_of}
 use Rattle.mctp_schedule.specs.Running.{IsRunning, setting_of}
 use Rattle.mctp_schedule.specs.Worlds.{world}
-use Rattle.mctp_schedule.specs.declared.step.Action.TheVariants as actions
+use Rattle.schedule_text.specs.declared.step.Action.TheVariants as actions
 use Rattle.mctp_schedule.proofs.AskedRequests.{asked_below}
 use Rattle.mctp_schedule.proofs.AskerCalls.{recent_below}
 use Rattle.mctp_schedule.proofs.CalledSteps.{place_holds}

@@ -1,0 +1,12 @@
+pub mod FoundCommands
+pub mod LinesReached
+pub mod LongLines
+pub mod ReadLines
+pub mod ScheduleRows
+pub mod SizeWords
+pub mod SpelledCommands
+pub mod SpelledLines
+pub mod SpelledWords
+pub mod StateWords
+pub mod ScheduleKept
+pub mod Numbers

@@ -1,0 +1,236 @@
+//! The command that words say.
+
+ghost use Rattle.std.specs.Prelude.{◌≡◌, MatchResult, Ok, Err, codes};
+ghost use Rattle.schedule_text.specs.CommandWords.{bare, byte_command_named, byte_of, command_of, field_command_named, getpdr_of, id_command_named, id_of, only_word, part_in, setnum_of, setstate_of, size_in, sized_in, state_in, states_in};
+ghost use Rattle.pldm_wire.specs.States.{IsComposite};
+
+use crate::LineFaultKind;
+use crate::word::Word;
+use arrayvec::ArrayVec;
+use pldm_wire::{
+    Command, GET_FIRST_PART, GET_NEXT_PART, MOST_STATES, Number, SetStateField, Size, StateFields,
+    VERSION_BYTES,
+};
+
+/// The command of these words: its name, and the words after it. A wrong word or count of words is
+/// told before a wrong number.
+pub(crate) fn read_command(words: &[Word<'_>]) -> Result<Command, LineFaultKind>
+    ensures { result ≡ command_of words.now }
+{
+    let [name, words @ ..] = words else {
+        return Err(LineFaultKind::Words);
+    };
+    if name.is(b"gettid") {
+        bare(Command::GetTid, words)
+    } else if name.is(b"gettypes") {
+        bare(Command::GetPldmTypes, words)
+    } else if name.is(b"pdrinfo") {
+        bare(Command::GetPdrRepositoryInfo, words)
+    } else {
+        read_byte_command(name, words)
+    }
+}
+
+/// A command of one byte or more, by its name and the words after it.
+fn read_byte_command(name: &Word<'_>, words: &[Word<'_>]) -> Result<Command, LineFaultKind>
+    ensures { result ≡ byte_command_named name.now words.now }
+{
+    if name.is(b"settid") {
+        let tid = byte_of(words)?;
+        Ok(Command::SetTid { tid })
+    } else if name.is(b"getversion") {
+        let pldm_type = byte_of(words)?;
+        Ok(Command::GetPldmVersion {
+            data_transfer_handle: 0,
+            transfer_operation_flag: GET_FIRST_PART,
+            pldm_type,
+        })
+    } else if name.is(b"getcommands") {
+        let pldm_type = byte_of(words)?;
+        Ok(Command::GetPldmCommands {
+            pldm_type,
+            version: [0; VERSION_BYTES],
+        })
+    } else {
+        read_id_command(name, words)
+    }
+}
+
+/// A command of one ID or more, by its name and the words after it.
+fn read_id_command(name: &Word<'_>, words: &[Word<'_>]) -> Result<Command, LineFaultKind>
+    ensures { result ≡ id_command_named name.now words.now }
+{
+    if name.is(b"sensor") {
+        let sensor = id_of(words)?;
+        Ok(Command::GetSensorReading { sensor, rearm: 0 })
+    } else if name.is(b"statesensors") {
+        let sensor = id_of(words)?;
+        Ok(Command::GetStateSensorReadings { sensor, rearm: 0 })
+    } else if name.is(b"getnum") {
+        let effecter = id_of(words)?;
+        Ok(Command::GetNumericEffecterValue { effecter })
+    } else if name.is(b"getstate") {
+        let effecter = id_of(words)?;
+        Ok(Command::GetStateEffecterStates { effecter })
+    } else {
+        read_field_command(name, words)
+    }
+}
+
+/// A command of several fields, by its name and the words after it.
+fn read_field_command(name: &Word<'_>, words: &[Word<'_>]) -> Result<Command, LineFaultKind>
+    ensures { result ≡ field_command_named name.now words.now }
+{
+    if name.is(b"setnum") {
+        read_setnum(words)
+    } else if name.is(b"setstate") {
+        read_setstate(words)
+    } else if name.is(b"getpdr") {
+        read_getpdr(words)
+    } else {
+        Err(LineFaultKind::Words)
+    }
+}
+
+/// The one word that there has to be.
+fn only_word<'w, 'a>(words: &'w [Word<'a>]) -> Result<&'w Word<'a>, LineFaultKind>
+    ensures { MatchResult result (λ word. only_word words.now ≡ Ok word.now) (λ kind. only_word words.now ≡ Err kind) }
+{
+    match words {
+        [word] => Ok(word),
+        _ => Err(LineFaultKind::Words),
+    }
+}
+
+/// A command with no words after its name.
+fn bare(command: Command, words: &[Word<'_>]) -> Result<Command, LineFaultKind>
+    ensures { result ≡ bare command words.now }
+{
+    if words.is_empty() {
+        Ok(command)
+    } else {
+        Err(LineFaultKind::Words)
+    }
+}
+
+/// The one number of a byte that there has to be.
+fn byte_of(words: &[Word<'_>]) -> Result<u8, LineFaultKind>
+    ensures { result ≡ byte_of words.now }
+{
+    only_word(words)?.byte()
+}
+
+/// The one ID that there has to be.
+fn id_of(words: &[Word<'_>]) -> Result<u16, LineFaultKind>
+    ensures { result ≡ id_of words.now }
+{
+    only_word(words)?.id()
+}
+
+/// `ID SIZE VALUE`.
+fn read_setnum(words: &[Word<'_>]) -> Result<Command, LineFaultKind>
+    ensures { result ≡ setnum_of words.now }
+{
+    let [id, size, value] = words else {
+        return Err(LineFaultKind::Words);
+    };
+    let size = size_of_word(size)?;
+    let effecter = id.id()?;
+    let value = value.any_value()?;
+    let value = sized(size, value)?;
+    Ok(Command::SetNumericEffecterValue { effecter, value })
+}
+
+/// The data size that a word names.
+fn size_of_word(word: &Word<'_>) -> Result<Size, LineFaultKind>
+    ensures { result ≡ size_in word.now }
+{
+    let Ok(name) = str::from_utf8(word.bytes()) else {
+        return Err(LineFaultKind::Words);
+    };
+    Size::named(name).ok_or(LineFaultKind::Words)
+}
+
+/// The value with its size, where it fits.
+fn sized(size: Size, value: i64) -> Result<Number, LineFaultKind>
+    ensures { result ≡ sized_in size value }
+{
+    Number::new(size, value).ok_or(LineFaultKind::Number)
+}
+
+/// `ID S ..`.
+fn read_setstate(words: &[Word<'_>]) -> Result<Command, LineFaultKind>
+    ensures { result ≡ setstate_of words.now }
+{
+    let [id, states @ ..] = words else {
+        return Err(LineFaultKind::Words);
+    };
+    if states.is_empty() || states.len() > MOST_STATES {
+        return Err(LineFaultKind::Words);
+    }
+    let effecter = id.id()?;
+    let fields = read_states(states)?;
+    Ok(Command::SetStateEffecterStates { effecter, fields })
+}
+
+/// What is asked of each field.
+fn read_states(words: &[Word<'_>]) -> Result<StateFields<SetStateField>, LineFaultKind>
+    requires { IsComposite words.now }
+    ensures { result ≡ states_in words.now }
+{
+    let mut fields = ArrayVec::<SetStateField, MOST_STATES>::new();
+    for word in words {
+        fields.push(read_state(word)?);
+    }
+    Ok(StateFields::new(&fields).unwrap())
+}
+
+/// `-` leaves a field as it is, a number asks for that state.
+fn read_state(word: &Word<'_>) -> Result<SetStateField, LineFaultKind>
+    ensures { result ≡ state_in word.now }
+{
+    if word.is(b"-") {
+        return Ok(SetStateField {
+            set_request: 0,
+            state: 0,
+        });
+    }
+    let state = word.byte()?;
+    Ok(SetStateField {
+        set_request: 1,
+        state,
+    })
+}
+
+/// `RECORD TRANSFER OP COUNT`.
+fn read_getpdr(words: &[Word<'_>]) -> Result<Command, LineFaultKind>
+    ensures { result ≡ getpdr_of words.now }
+{
+    let [handle, transfer, part, count] = words else {
+        return Err(LineFaultKind::Words);
+    };
+    let transfer_operation_flag = read_part(part)?;
+    let record_handle = handle.handle()?;
+    let data_transfer_handle = transfer.handle()?;
+    let request_count = count.id()?;
+    Ok(Command::GetPdr {
+        record_handle,
+        data_transfer_handle,
+        transfer_operation_flag,
+        request_count,
+        record_change_number: 0,
+    })
+}
+
+/// Which part of a record is asked for: `first` or `next`.
+fn read_part(word: &Word<'_>) -> Result<u8, LineFaultKind>
+    ensures { result ≡ part_in word.now }
+{
+    if word.is(b"first") {
+        Ok(GET_FIRST_PART)
+    } else if word.is(b"next") {
+        Ok(GET_NEXT_PART)
+    } else {
+        Err(LineFaultKind::Words)
+    }
+}

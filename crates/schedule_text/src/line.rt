@@ -1,0 +1,152 @@
+//! One line of a schedule.
+
+ghost use Rattle.std.specs.Prelude.{◌≡◌};
+ghost use Rattle.line_words.specs.Lines.{said_words};
+ghost use Rattle.schedule_text.specs.LineWords.{action_named, line_of, only_eid, only_number, open_of, reply_of, requester_of, restart_of, sense_of, step_of};
+
+use crate::command_words::read_command;
+use crate::word::Word;
+use crate::words::{Words, words_in};
+use crate::{Action, LineFaultKind, RequesterLine, Step};
+use mctp_packet::Eid;
+
+/// What a line says.
+#[derive(Debug, Drop)]
+pub(crate) enum Line {
+    /// Nothing: the line is blank, or a comment.
+    Nothing,
+    /// That there is a requester.
+    Requester(RequesterLine),
+    /// That a step is to be done.
+    Step(Step),
+}
+
+/// What a line says, given without its LF.
+pub(crate) fn read_line(line: &[u8]) -> Result<Line, LineFaultKind>
+    ensures { result ≡ line_of (said_words line.now) }
+{
+    let Some((keyword, mut words)) = words_in(line) else {
+        return Ok(Line::Nothing);
+    };
+    if keyword.is(b"requester") {
+        read_requester(&mut words)
+    } else if keyword.is(b"at") {
+        read_step(&mut words)
+    } else {
+        Err(LineFaultKind::Words)
+    }
+}
+
+/// `requester EID timeout MS tries N`, by the words after the first.
+#[tactic(auto, using(crate::proofs::LongLines::requester_long))]
+fn read_requester(words: &mut Words<'_>) -> Result<Line, LineFaultKind>
+    ensures { result ≡ requester_of words.old }
+{
+    let words = words.rest()?;
+    let [eid, timeout, limit, tries, count] = words.as_slice() else {
+        return Err(LineFaultKind::Words);
+    };
+    if !timeout.is(b"timeout") || !tries.is(b"tries") {
+        return Err(LineFaultKind::Words);
+    }
+    let eid = eid.eid()?;
+    let timeout = limit.timeout()?;
+    let tries = count.byte()?;
+    Ok(Line::Requester(RequesterLine {
+        eid,
+        timeout,
+        tries,
+    }))
+}
+
+/// `at MS` and an action, by the words after the first.
+fn read_step(words: &mut Words<'_>) -> Result<Line, LineFaultKind>
+    ensures { result ≡ step_of words.old }
+{
+    let moment = words.next()?;
+    let name = words.next()?;
+    let action = read_action(&name, words)?;
+    let moment = moment.moment()?;
+    Ok(Line::Step(Step { moment, action }))
+}
+
+/// The action of this name, with the words after it.
+fn read_action(name: &Word<'_>, words: &mut Words<'_>) -> Result<Action, LineFaultKind>
+    ensures { result ≡ action_named name.now words.old }
+{
+    if name.is(b"open") {
+        read_open(words)
+    } else if name.is(b"tick") {
+        let requester = only_eid(words)?;
+        Ok(Action::Tick { requester })
+    } else if name.is(b"req") {
+        let number = only_number(words)?;
+        Ok(Action::Request { number })
+    } else if name.is(b"rep") {
+        read_reply(words)
+    } else if name.is(b"sense") {
+        read_sense(words)
+    } else if name.is(b"restart") {
+        read_restart(words)
+    } else if name.is(b"busy") {
+        let number = only_number(words)?;
+        Ok(Action::Busy { number })
+    } else {
+        Err(LineFaultKind::Words)
+    }
+}
+
+/// The one endpoint ID that there has to be.
+fn only_eid(words: &mut Words<'_>) -> Result<Eid, LineFaultKind>
+    ensures { result ≡ only_eid words.old }
+{
+    words.only()?.eid()
+}
+
+/// The one number that there has to be.
+fn only_number(words: &mut Words<'_>) -> Result<u64, LineFaultKind>
+    ensures { result ≡ only_number words.old }
+{
+    words.only()?.any_number()
+}
+
+/// `EID COMMAND`.
+#[tactic(auto, using(crate::proofs::LongLines::command_long))]
+fn read_open(words: &mut Words<'_>) -> Result<Action, LineFaultKind>
+    ensures { result ≡ open_of words.old }
+{
+    let eid = words.next()?;
+    let command = read_command(&words.rest()?)?;
+    let requester = eid.eid()?;
+    Ok(Action::Open { requester, command })
+}
+
+/// `K J`.
+fn read_reply(words: &mut Words<'_>) -> Result<Action, LineFaultKind>
+    ensures { result ≡ reply_of words.old }
+{
+    let number = words.next()?;
+    let packet = words.only()?;
+    let number = number.any_number()?;
+    let packet = packet.byte()?;
+    Ok(Action::Reply { number, packet })
+}
+
+/// `ID VALUE`.
+fn read_sense(words: &mut Words<'_>) -> Result<Action, LineFaultKind>
+    ensures { result ≡ sense_of words.old }
+{
+    let sensor = words.next()?;
+    let value = words.only()?;
+    let sensor = sensor.id()?;
+    let value = value.any_value()?;
+    Ok(Action::Sense { sensor, value })
+}
+
+/// No word.
+fn read_restart(words: &mut Words<'_>) -> Result<Action, LineFaultKind>
+    ensures { result ≡ restart_of words.old }
+{
+    words.end()?;
+    Ok(Action::Restart)
+}

@@ -1,0 +1,65 @@
+//! Why a schedule was refused.
+
+ghost use Rattle.std.specs.Prelude.{◌≡◌};
+ghost use Rattle.schedule_text.specs.LineFaults.{name_of_fault, number_of_fault};
+
+use thiserror::Error;
+
+/// The first line of a schedule that is refused, and why.
+#[derive(Clone, Copy, Debug, PartialEq, Eq, Error)]
+#[error("line {}: {}", self.line, self.kind)]
+pub struct LineFault {
+    /// The line's number, counted from 1.
+    pub line: u64,
+    /// Why it is refused.
+    pub kind: LineFaultKind,
+}
+
+/// Why a line of a schedule is refused. Of several faults of one line the first in this order is told,
+/// but want of memory may come at any line.
+#[derive(Clone, Copy, Debug, PartialEq, Eq, Error)]
+#[error("{}", self.name())]
+pub enum LineFaultKind {
+    /// A fixed word is another one, or the count of words is wrong.
+    Words,
+    /// A number is no decimal number, or is outside its range.
+    Number,
+    /// The moment is before that of an earlier line.
+    BackInTime,
+    /// No earlier line is of the requester at this endpoint ID.
+    NoSuchRequester,
+    /// An earlier line is of the requester at this endpoint ID.
+    SameRequester,
+    /// No memory was left.
+    Memory,
+}
+
+impl LineFaultKind {
+    /// The fault's number.
+    pub fn number(self) -> u8
+        ensures { result ≡ number_of_fault self }
+    {
+        match self {
+            LineFaultKind::Words => 1,
+            LineFaultKind::Number => 2,
+            LineFaultKind::BackInTime => 3,
+            LineFaultKind::NoSuchRequester => 4,
+            LineFaultKind::SameRequester => 5,
+            LineFaultKind::Memory => 6,
+        }
+    }
+
+    /// The fault's name, as it is spelled in this type.
+    pub fn name(self) -> &'static str
+        ensures { result.now ≡ name_of_fault self }
+    {
+        match self {
+            LineFaultKind::Words => "Words",
+            LineFaultKind::Number => "Number",
+            LineFaultKind::BackInTime => "BackInTime",
+            LineFaultKind::NoSuchRequester => "NoSuchRequester",
+            LineFaultKind::SameRequester => "SameRequester",
+            LineFaultKind::Memory => "Memory",
+        }
+    }
+}

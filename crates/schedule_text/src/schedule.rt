@@ -1,0 +1,165 @@
+//! A whole schedule.
+
+ghost use Rattle.std.specs.Prelude.{◌≡◌, Ok, IfOk, IfErr, OnOk};
+ghost use Rattle.line_words.specs.TextLines.{lines_of};
+ghost use Rattle.schedule_text.specs.Schedules.{IsReached, IsSchedule, TellsFault, TellsKind, after_line, has_requester, is_known, last_moment, none_spelled, schedule_of, with_line, with_requester, with_step};
+
+use crate::line::{Line, read_line};
+use crate::{Action, LineFault, LineFaultKind, RequesterLine, Step};
+use line_words::split_line;
+use mctp_packet::Eid;
+use std::alloc::Global;
+use std::marker::Model;
+
+/// A schedule: its requesters, and what is to happen, step by step. Moments never go back, no two
+/// requesters have one endpoint ID, and each step names a requester of the schedule.
+#[derive(Debug, Drop)]
+pub struct Schedule {
+    requesters: Vec<RequesterLine>,
+    steps: Vec<Step>,
+}
+
+impl Model for Schedule {
+    ghost use Rattle.schedule_text.specs.Schedules.{Spelled, IsSchedule};
+
+    ghost Value = { Spelled };
+
+    ghost view = { λ s. record { requesters = s.requesters.items; steps = s.steps.items } };
+
+    ghost invariant = { λ s. IsSchedule (record { requesters = s.requesters.items; steps = s.steps.items }) };
+}
+
+impl Schedule {
+    /// Reads the schedule that a text spells, line by line. Lines end with LF, the last one may end
+    /// without; a CR at a line's end is dropped. Blank lines and comments (`#`) are skipped but counted.
+    ///
+    /// # Errors
+    ///
+    /// The first line that is refused, with its number from 1 on. `Memory` may come at any line of which
+    /// all lines before are good.
+    pub fn read(alloc: Global, text: &[u8]) -> Result<Schedule, LineFault>
+        ensures ok { IfOk result (λ schedule. schedule_of text.now ≡ Ok schedule) }
+        ensures err { IfErr result (λ fault. TellsFault (schedule_of text.now) fault) }
+        ensures reached { IfErr result (λ fault. IsReached (lines_of text.now) fault.line) }
+    {
+        let mut schedule = Schedule::new(alloc);
+        let mut number = 1;
+        let mut rest = text;
+        while let Some((line, after)) = split_line(rest) {
+            schedule.add_numbered(number, line)?;
+            number += 1;
+            rest = after;
+        }
+        schedule.add_numbered(number, rest)?;
+        Ok(schedule)
+    }
+
+    /// The requesters, in the order of their lines.
+    pub fn requesters(&self) -> &[RequesterLine]
+        ensures value { result.now ≡ self.now.requesters }
+        ensures valid { IsSchedule self.now }
+    {
+        &self.requesters
+    }
+
+    /// The steps, in the order of their lines.
+    pub fn steps(&self) -> &[Step]
+        ensures value { result.now ≡ self.now.steps }
+        ensures valid { IsSchedule self.now }
+    {
+        &self.steps
+    }
+
+    /// The schedule of no line.
+    fn new(alloc: Global) -> Schedule
+        ensures { result ≡ none_spelled }
+    {
+        Schedule {
+            requesters: Vec::new(alloc),
+            steps: Vec::new(alloc),
+        }
+    }
+
+    /// Adds what the line with this number says.
+    fn add_numbered(&mut self, number: u64, line: &[u8]) -> Result<(), LineFault>
+        ensures ok { OnOk result (after_line self.old line.now ≡ Ok self.new) }
+        ensures err { IfErr result (λ fault. (fault.line ≡ number) × TellsKind (after_line self.old line.now) fault.kind) }
+    {
+        match self.add_line(line) {
+            Ok(()) => Ok(()),
+            Err(kind) => Err(LineFault { line: number, kind }),
+        }
+    }
+
+    /// Adds what a line says.
+    fn add_line(&mut self, line: &[u8]) -> Result<(), LineFaultKind>
+        ensures ok { OnOk result (after_line self.old line.now ≡ Ok self.new) }
+        ensures err { IfErr result (λ kind. TellsKind (after_line self.old line.now) kind) }
+    {
+        match read_line(line)? {
+            Line::Nothing => Ok(()),
+            Line::Requester(line) => self.add_requester(line),
+            Line::Step(step) => self.add_step(step),
+        }
+    }
+
+    /// Adds a requester, where none has its endpoint ID yet.
+    fn add_requester(&mut self, line: RequesterLine) -> Result<(), LineFaultKind>
+        ensures ok { OnOk result (with_requester self.old line ≡ Ok self.new) }
+        ensures err { IfErr result (λ kind. TellsKind (with_requester self.old line) kind) }
+    {
+        if has_requester(&self.requesters, line.eid) {
+            return Err(LineFaultKind::SameRequester);
+        }
+        let Ok(()) = self.requesters.push(line) else {
+            return Err(LineFaultKind::Memory);
+        };
+        Ok(())
+    }
+
+    /// Adds a step, where its moment does not go back and its requester has a line.
+    fn add_step(&mut self, step: Step) -> Result<(), LineFaultKind>
+        ensures ok { OnOk result (with_step self.old step ≡ Ok self.new) }
+        ensures err { IfErr result (λ kind. TellsKind (with_step self.old step) kind) }
+    {
+        if step.moment.get() < last_moment(&self.steps) {
+            return Err(LineFaultKind::BackInTime);
+        }
+        if !is_known(&self.requesters, &step.action) {
+            return Err(LineFaultKind::NoSuchRequester);
+        }
+        let Ok(()) = self.steps.push(step) else {
+            return Err(LineFaultKind::Memory);
+        };
+        Ok(())
+    }
+}
+
+/// Whether one of these lines is of the requester at this endpoint: there are at most 247.
+fn has_requester(lines: &[RequesterLine], eid: Eid) -> bool
+    ensures { result ≡ has_requester lines.now eid }
+{
+    lines.iter().any(|line| line.eid == eid)
+}
+
+/// Whether the requester of an action has a line.
+fn is_known(requesters: &[RequesterLine], action: &Action) -> bool
+    ensures { result ≡ is_known requesters.now action.now }
+{
+    match action {
+        Action::Open { requester, .. } | Action::Tick { requester } => {
+            has_requester(requesters, *requester)
+        }
+        _ => true,
+    }
+}
+
+/// The moment of the last step, 0 where there is none.
+fn last_moment(steps: &[Step]) -> u64
+    ensures { result ≡ last_moment steps.now }
+{
+    match steps.last() {
+        Some(step) => step.moment.get(),
+        None => 0,
+    }
+}

@@ -1,0 +1,123 @@
+//! A word of a line, and the numbers that it may spell.
+
+ghost use Rattle.std.specs.Prelude.{◌≡◌, ◌≤◌, IfOk};
+ghost use Rattle.schedule_text.specs.CommandWords.{is};
+ghost use Rattle.schedule_text.specs.WordValues.{any_number, any_value, eid_in, moment_in, number_up_to};
+
+use crate::{GREATEST_BYTE, GREATEST_HANDLE, GREATEST_ID, LONGEST_TIMEOUT, LineFaultKind};
+use line_words::{read_decimal, read_number, read_value};
+use mctp_packet::{Eid, LAST_EID, LAST_MOMENT, Moment};
+use std::marker::Model;
+
+/// A word of a line.
+#[derive(Drop)]
+pub(crate) struct Word<'a> {
+    bytes: &'a [u8],
+}
+
+impl<'a> Model for Word<'a> {
+    ghost use Rattle.std.specs.Prelude.{List, ℕ};
+
+    ghost Value = { List ℕ };
+
+    ghost view = { λ word. word.bytes.now };
+}
+
+impl Default for Word<'_> {
+    fn default() -> Self {
+        Word { bytes: b"" }
+    }
+}
+
+impl<'a> Word<'a> {
+    /// The word of these bytes.
+    pub(crate) fn new(bytes: &'a [u8]) -> Word<'a>
+        ensures { result ≡ bytes.now }
+    {
+        Word { bytes }
+    }
+
+    /// Its bytes.
+    pub(crate) fn bytes(&self) -> &'a [u8]
+        ensures { result.now ≡ self.now }
+    {
+        self.bytes
+    }
+
+    /// Whether it is this fixed word.
+    pub(crate) fn is(&self, spelling: &[u8]) -> bool
+        ensures { result ≡ is self.now spelling.now }
+    {
+        self.bytes == spelling
+    }
+
+    /// The number that it spells, where it is at most `most`.
+    fn number_up_to(&self, most: u64) -> Result<u64, LineFaultKind>
+        ensures value { result ≡ number_up_to most self.now }
+        ensures range { IfOk result (λ number. number ≤ most) }
+    {
+        read_number(self.bytes, most).ok_or(LineFaultKind::Number)
+    }
+
+    /// The number of at most 16 digits that it spells.
+    pub(crate) fn any_number(&self) -> Result<u64, LineFaultKind>
+        ensures { result ≡ any_number self.now }
+    {
+        read_decimal(self.bytes).ok_or(LineFaultKind::Number)
+    }
+
+    /// The value of at most 16 digits that it spells, with a sign or without.
+    pub(crate) fn any_value(&self) -> Result<i64, LineFaultKind>
+        ensures { result ≡ any_value self.now }
+    {
+        read_value(self.bytes).ok_or(LineFaultKind::Number)
+    }
+
+    /// The number of one byte that it spells.
+    pub(crate) fn byte(&self) -> Result<u8, LineFaultKind>
+        ensures { result ≡ number_up_to GREATEST_BYTE self.now }
+    {
+        let number = self.number_up_to(GREATEST_BYTE)?;
+        Ok(number as u8)
+    }
+
+    /// The ID of a sensor or an effecter, or the count of bytes, that it spells.
+    pub(crate) fn id(&self) -> Result<u16, LineFaultKind>
+        ensures { result ≡ number_up_to GREATEST_ID self.now }
+    {
+        let number = self.number_up_to(GREATEST_ID)?;
+        Ok(number as u16)
+    }
+
+    /// The handle that it spells.
+    pub(crate) fn handle(&self) -> Result<u32, LineFaultKind>
+        ensures { result ≡ number_up_to GREATEST_HANDLE self.now }
+    {
+        let number = self.number_up_to(GREATEST_HANDLE)?;
+        Ok(number as u32)
+    }
+
+    /// The timeout in milliseconds that it spells.
+    pub(crate) fn timeout(&self) -> Result<u32, LineFaultKind>
+        ensures { result ≡ number_up_to LONGEST_TIMEOUT self.now }
+    {
+        let number = self.number_up_to(LONGEST_TIMEOUT)?;
+        Ok(number as u32)
+    }
+
+    /// The endpoint ID that it spells.
+    pub(crate) fn eid(&self) -> Result<Eid, LineFaultKind>
+        ensures { result ≡ eid_in self.now }
+    {
+        let number = self.number_up_to(u64::from(LAST_EID))?;
+        Eid::new(number as u8).ok_or(LineFaultKind::Number)
+    }
+
+    /// The moment that it spells.
+    pub(crate) fn moment(&self) -> Result<Moment, LineFaultKind>
+        ensures { result ≡ moment_in self.now }
+    {
+        let number = self.number_up_to(LAST_MOMENT)?;
+        Ok(Moment::new(number).unwrap())
+    }
+}

@@ -1,0 +1,90 @@
+//! The words of a line, one after the other.
+
+ghost use Rattle.std.specs.Prelude.{◌≡◌, ◌≢◌, ◌<◌, ◌∷◌, [], IfOk, IfErr, IfSome, IfNone, OnOk, OnErr, length};
+ghost use Rattle.line_words.specs.Lines.{said_words};
+ghost use Rattle.schedule_text.specs.CommandWords.{only_word};
+ghost use Rattle.schedule_text.specs.declared.line_fault.LineFaultKind.TheVariants as kinds;
+
+use crate::word::Word;
+use crate::{LineFaultKind, MOST_COMMAND_WORDS};
+use arrayvec::ArrayVec;
+use line_words::{first_word, split_word};
+use std::marker::Model;
+
+/// The words of a line that are not read yet.
+#[derive(Drop)]
+pub(crate) struct Words<'a> {
+    text: &'a [u8],
+}
+
+impl<'a> Model for Words<'a> {
+    ghost use Rattle.std.specs.Prelude.{List, ℕ};
+    ghost use Rattle.line_words.specs.Lines.{words_of};
+
+    ghost Value = { List (List ℕ) };
+
+    ghost view = { λ words. words_of words.text.now };
+}
+
+/// The first word that a line says, given without its LF, and the words after it; `None` where it says
+/// none.
+pub(crate) fn words_in(line: &[u8]) -> Option<(Word<'_>, Words<'_>)>
+    ensures some { IfSome result (λ p. said_words line.now ≡ p.0 ∷ p.1) }
+    ensures none { IfNone result (said_words line.now ≡ []) }
+{
+    let (first, text) = first_word(line)?;
+    Some((Word::new(first), Words { text }))
+}
+
+impl<'a> Words<'a> {
+    /// The next word, which there has to be.
+    pub(crate) fn next(&mut self) -> Result<Word<'a>, LineFaultKind>
+        ensures ok { IfOk result (λ word. self.old ≡ word ∷ self.new) }
+        ensures none { OnErr result (self.old ≡ []) }
+        ensures same { OnErr result (self.new ≡ self.old) }
+        ensures err { IfErr result (λ kind. kind ≡ kinds.Words) }
+    {
+        let Some((word, text)) = split_word(self.text) else {
+            return Err(LineFaultKind::Words);
+        };
+        self.text = text;
+        Ok(Word::new(word))
+    }
+
+    /// The one word that there has to be.
+    pub(crate) fn only(&mut self) -> Result<Word<'a>, LineFaultKind>
+        ensures { result ≡ only_word self.old }
+    {
+        let word = self.next()?;
+        self.end()?;
+        Ok(word)
+    }
+
+    /// There has to be no word.
+    pub(crate) fn end(&self) -> Result<(), LineFaultKind>
+        ensures ok { OnOk result (self.now ≡ []) }
+        ensures more { OnErr result (self.now ≢ []) }
+        ensures err { IfErr result (λ kind. kind ≡ kinds.Words) }
+    {
+        match split_word(self.text) {
+            Some(_) => Err(LineFaultKind::Words),
+            None => Ok(()),
+        }
+    }
+
+    /// All of them, of which there have to be at most [`MOST_COMMAND_WORDS`].
+    pub(crate) fn rest(&mut self) -> Result<ArrayVec<Word<'a>, MOST_COMMAND_WORDS>, LineFaultKind>
+        ensures ok { IfOk result (λ words. words.items ≡ self.old) }
+        ensures many { OnErr result (MOST_COMMAND_WORDS < length self.old) }
+        ensures err { IfErr result (λ kind. kind ≡ kinds.Words) }
+    {
+        let mut words = ArrayVec::new();
+        while let Ok(word) = self.next() {
+            if words.is_full() {
+                return Err(LineFaultKind::Words);
+            }
+            words.push(word);
+        }
+        Ok(words)
+    }
+}
