@@ -4,7 +4,7 @@ ghost use Rattle.std.specs.Prelude.{◌≡◌, false, OnOk};
 ghost use Rattle.pldm_device.specs.Recorders.{recorder_after, recorder_answer, recorder_answers, recorder_reads_only, recorder_refusal, recorder_sensed};
 
 use mctp_packet::Memory;
-use pldm_device::{Platform, ReadingFault};
+use pldm_platform::{Platform, ReadingFault};
 use pldm_wire::{Answer, Code, Command};
 use std::alloc::Global;
 

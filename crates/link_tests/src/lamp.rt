@@ -4,7 +4,7 @@ ghost use Rattle.std.specs.Prelude.{true};
 ghost use Rattle.pldm_responder.specs.Dimmers.{dimmer_after, dimmer_answer, dimmer_answers, dimmer_reads_only, dimmer_refusal, dimmer_sensed};
 
 use mctp_packet::Memory;
-use pldm_device::{Platform, ReadingFault};
+use pldm_platform::{Platform, ReadingFault};
 use pldm_wire::{Answer, Code, Command};
 use std::alloc::Global;
 

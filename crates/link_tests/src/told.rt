@@ -1,7 +1,7 @@
 //! What a run tells, in words: a line for each step, then the requests, the order and whether it was timely.
 
 use mctp_schedule::{DueRequests, Entry, OpenedRequest, Report, Step};
-use pldm_device::Platform;
+use pldm_platform::Platform;
 use pldm_requester::{Got, Status};
 use pldm_responder::Taken;
 use std::alloc::{AllocError, Global};

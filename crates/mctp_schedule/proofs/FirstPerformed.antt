@@ -3,7 +3,7 @@ use Rattle.std.proofs.Common.{◌≡◌, ◌≢◌, ◌⊎◌, ℕ, ◌+◌, ◌
 use Rattle.std.specs.Prelude.{not, ◌&&◌, ◌==◌, if◌then◌else◌}
 use Rattle.std.proofs.lemmas.Bool.{and_left, and_right, and_from, and_parts, not_from_true, not_from_false, ltb-false, eqb-false, ne_eqb, cases_Bool, cases_eq, cond-true, cond-false}
 use Rattle.pldm_wire.specs.Headers.{id_at}
-use Rattle.pldm_device.specs.Changes.{changed_or}
+use Rattle.pldm_platform.specs.Changes.{changed_or}
 use Rattle.pldm_responder.specs.Events.{Message, Event, Came, Place, is_of, is_busy, is_copy, is_copy_of, is_fresh, origin, busy_until}
 use Rattle.pldm_responder.specs.Performing.{Rules, performed, answered, reply_at, next, reply}
 use Rattle.mctp_schedule.specs.Logs.{Asked, Happening, Opened, Delivered, Sensed, WentDown, last_of, count_of, asked_at, message_at, told_of, told, InOrder, Apart, InTime}

@@ -1,7 +1,7 @@
 -- What a run tells of a timely schedule is the headline.
 use Rattle.std.proofs.Common.{◌≡◌, ℕ, true, List, [], ◌∷◌, ◌++◌, Option, Some, None, refl, sym, ap, subst, ◌∙◌}
 use Rattle.std.specs.Prelude.{option_map, slice_get}
-use Rattle.pldm_device.specs.Changes.{made_of}
+use Rattle.pldm_platform.specs.Changes.{made_of}
 use Rattle.pldm_responder.specs.Events.{is_busy}
 use Rattle.pldm_responder.specs.Performing.{performed}
 use Rattle.pldm_responder.specs.Stations as responder_stations

@@ -4,7 +4,7 @@
 -- performed exactly once. The platform itself has performed the command of each request that arrived once, at its first
 -- arrival, a reading or refused one too, and no other. Steps have the newest first.
 use Rattle.std.specs.Prelude.{◌≡◌, ℕ, List, [], ◌∷◌, ◌++◌, Option, Some, None, slice_get}
-use Rattle.pldm_device.specs.Changes.{made_of}
+use Rattle.pldm_platform.specs.Changes.{made_of}
 use Rattle.pldm_requester.specs.Courses.{Standing, Answered}
 use Rattle.pldm_wire.specs.declared.command.Command.{Command}
 use Rattle.pldm_responder.specs.Events.{is_busy}

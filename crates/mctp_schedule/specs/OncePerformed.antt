@@ -2,7 +2,7 @@
 use Rattle.std.specs.Prelude.{◌≡◌, ℕ, ◌<◌, ◌≤◌, true, false, not, List, [], ◌∷◌, length, Bool, ◌&&◌, ◌==◌, Option, Some, None, Ok, if◌then◌else◌}
 use Rattle.mctp_packet.specs.declared.TheConstants.{MOST_MESSAGE_BYTES}
 use Rattle.pldm_wire.specs.Requests as requests
-use Rattle.pldm_device.specs.Changes.{changed_or}
+use Rattle.pldm_platform.specs.Changes.{changed_or}
 use Rattle.pldm_responder.specs.Events.{is_busy, is_fresh}
 use Rattle.pldm_responder.specs.Performing.{Rules, reply, next, changes, busy_reply, performed, answered}
 use Rattle.pldm_responder.specs.Arrivals.{packets_back}

@@ -19,7 +19,7 @@ use crate::laws::{
 use crate::places::{Places, begin_requesters};
 use crate::{Action, Entry, OpenedRequest, RunFault, Schedule, Step};
 use mctp_packet::{Body, Eid, Keep, MOST_PACKET_BYTES, Memory, Moment, TAGS};
-use pldm_device::Platform;
+use pldm_platform::Platform;
 use pldm_responder::Responder;
 use pldm_wire::Command;
 use std::alloc::Global;

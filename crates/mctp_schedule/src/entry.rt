@@ -1,5 +1,5 @@
 use crate::{Delivery, DueRequests};
-use pldm_device::ReadingFault;
+use pldm_platform::ReadingFault;
 use pldm_requester::{Got, OpenFault};
 
 /// What came of a step.

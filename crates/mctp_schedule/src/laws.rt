@@ -6,7 +6,7 @@ ghost use Rattle.mctp_schedule.specs.Worlds.{Setting};
 ghost use Rattle.mctp_schedule.specs.RequesterHalf.{AnsweredWasPerformed, AnsweredWhereTaken, BusyIsOwed, OwnAssembly, OwnDeliveries, ReplyIsOwed, TakenOnce};
 ghost use Rattle.mctp_schedule.specs.DeviceHalf.{DeliveryIsOwed, FreshInOrderOfFirsts, FreshWhereFirst, GivenIsTheReply, NoneOpenedSince, NotPerformedAgain, StateIsOnce, TheReplyFits};
 
-use pldm_device::Platform;
+use pldm_platform::Platform;
 pub use schedule_text::laws::lines_are_read_as_spelled;
 
 /// Over a timely log a request's deliveries end before its instance ID is used again, each is fresh

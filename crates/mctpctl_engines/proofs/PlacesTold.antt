@@ -6,7 +6,7 @@ use Rattle.std.specs.Ordering.{nat_cmp}
 use Rattle.std.specs.Map.{keys_of}
 use Rattle.std.proofs.lemmas.Map.Keys.{below_from_sorted}
 use Rattle.std.proofs.lemmas.Option.{slice_get-map, slice_get_within, get_or_from_slice_get}
-use Rattle.pldm_device.specs.ById.{ById}
+use Rattle.pldm_records.specs.ById.{ById}
 use Rattle.pldm_device.specs.Getters.{AscendingIds}
 
 -- what was found, where something made of it is told

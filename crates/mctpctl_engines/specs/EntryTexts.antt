@@ -6,8 +6,8 @@ use Rattle.mctp_schedule.specs.declared.entry.Entry.{Entry}
 use Rattle.mctp_schedule.specs.declared.entry.Entry.TheVariants as entries
 use Rattle.schedule_text.specs.declared.step.Step.{Step}
 use Rattle.mctpctl_engines.specs.ShownLines.{drop_text, spaced, spaced_line}
-use Rattle.pldm_device.specs.declared.reading_fault.ReadingFault.{ReadingFault}
-use Rattle.pldm_device.specs.declared.reading_fault.ReadingFault.TheVariants.{NoSuchSensor, OutOfSize}
+use Rattle.pldm_platform.specs.declared.reading_fault.ReadingFault.{ReadingFault}
+use Rattle.pldm_platform.specs.declared.reading_fault.ReadingFault.TheVariants.{NoSuchSensor, OutOfSize}
 use Rattle.pldm_requester.specs.declared.got.Got.{Got}
 use Rattle.pldm_requester.specs.declared.got.Got.TheVariants as gots
 use Rattle.pldm_requester.specs.declared.opened.OpenFault.{OpenFault}

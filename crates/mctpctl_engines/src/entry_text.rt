@@ -12,7 +12,7 @@ use crate::port::Port;
 use crate::written_text::{NotWritten, write_bytes, write_number, write_text};
 use mctp_packet::Reason;
 use mctp_schedule::{Delivery, Entry};
-use pldm_device::ReadingFault;
+use pldm_platform::ReadingFault;
 use pldm_requester::{Got, OpenFault};
 use pldm_responder::Taken;
 use std::io::Write;

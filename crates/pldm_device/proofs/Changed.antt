@@ -2,8 +2,8 @@
 use Rattle.std.proofs.Common.{◌≡◌, ℕ, Bool, true, false, cond, List, [], ◌∷◌, Some, Result, Ok, Err, ap, sym, ◌∙◌, refl}
 use Rattle.std.specs.Map.{lookup, set_value}
 use Rattle.pldm_wire.specs.declared.answer.Answer.{Answer}
-use Rattle.pldm_device.specs.ById.{ById, with_id, replace, replaced, change_at}
-use Rattle.pldm_device.specs.Changes.{Changes, changed_or}
+use Rattle.pldm_records.specs.ById.{ById, with_id, replace, replaced, change_at}
+use Rattle.pldm_platform.specs.Changes.{Changes, changed_or}
 use Rattle.pldm_device.specs.EffecterAnswers.{outcome_answered}
 
 some_is : {X : Type 0} (x y : X) → Some x ≡ Some y → x ≡ y

@@ -6,8 +6,9 @@ use Rattle.pldm_wire.specs.declared.limits.TheConstants.{TYPES_BYTES, COMMANDS_B
 use Rattle.pldm_wire.specs.declared.answer.Answer.{Answer}
 use Rattle.pldm_wire.specs.declared.answer.Answer.TheVariants.{Refused, GetPldmVersion, GetPldmCommands}
 use Rattle.pldm_device.specs.Devices.{Device}
-use Rattle.pldm_device.specs.declared.limits.TheConstants.{UNASSIGNED_TID, RESERVED_TID, INVALID_DATA_TRANSFER_HANDLE}
-use Rattle.pldm_device.specs.declared.limits.TheConstants.{INVALID_TRANSFER_OPERATION, INVALID_PLDM_TYPE}
+use Rattle.pldm_device.specs.declared.limits.TheConstants.{UNASSIGNED_TID, RESERVED_TID}
+use Rattle.pldm_platform.specs.declared.refusals.TheConstants.{INVALID_DATA_TRANSFER_HANDLE}
+use Rattle.pldm_platform.specs.declared.refusals.TheConstants.{INVALID_TRANSFER_OPERATION, INVALID_PLDM_TYPE}
 
 -- the device with the terminus ID, or the refusal of an ID that no terminus has
 abbrev pub tid_set : ℕ → Device → Result Device ℕ

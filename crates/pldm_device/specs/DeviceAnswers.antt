@@ -3,14 +3,14 @@ use Rattle.pldm_wire.specs.declared.command.Command.{Command}
 use Rattle.pldm_wire.specs.declared.command.Command.TheVariants.{SetTid, GetTid, GetPldmVersion, GetPldmTypes, GetPldmCommands, GetSensorReading, GetStateSensorReadings, SetNumericEffecterValue, GetNumericEffecterValue, SetStateEffecterStates, GetStateEffecterStates, GetPdrRepositoryInfo, GetPdr}
 use Rattle.pldm_wire.specs.declared.answer.Answer.{Answer}
 use Rattle.pldm_wire.specs.declared.answer.Answer.TheVariants as answers
-use Rattle.pldm_device.specs.ById.{with_id}
-use Rattle.pldm_device.specs.Changes.{changed_or}
+use Rattle.pldm_records.specs.ById.{with_id}
+use Rattle.pldm_platform.specs.Changes.{changed_or}
 use Rattle.pldm_device.specs.Devices.{Device}
 use Rattle.pldm_device.specs.BaseAnswers.{tid_set, version_answer, types, commands_answer}
 use Rattle.pldm_device.specs.SensorAnswers.{numeric_sensor_answered, state_sensor_answered}
 use Rattle.pldm_device.specs.EffecterAnswers.{number_set, states_set, outcome_answered}
 use Rattle.pldm_device.specs.EffecterAnswers.{numeric_effecter_answered, state_effecter_answered}
-use Rattle.pldm_device.specs.RecordAnswers.{record_answer, repository_info}
+use Rattle.pldm_records.specs.RecordAnswers.{record_answer, repository_info}
 
 abbrev pub answer : Device → Command → Answer
 answer device (SetTid tid) = outcome_answered answers.SetTid (tid_set tid device)
@@ -27,7 +27,7 @@ answer device (GetNumericEffecterValue effecter) = numeric_effecter_answered (wi
 answer device (SetStateEffecterStates effecter fields) =
     outcome_answered answers.SetStateEffecterStates (states_set effecter fields device)
 answer device (GetStateEffecterStates effecter) = state_effecter_answered (with_id effecter device.state_effecters)
-answer device GetPdrRepositoryInfo = repository_info device
+answer device GetPdrRepositoryInfo = repository_info device.update_time device.oem_update_time device.records
 answer device (GetPdr record_handle data_transfer_handle transfer_operation_flag request_count record_change_number) =
     record_answer record_handle data_transfer_handle transfer_operation_flag request_count device.records
 

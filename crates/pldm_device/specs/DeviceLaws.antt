@@ -9,18 +9,18 @@ use Rattle.pldm_wire.specs.declared.command.Command.TheVariants.{SetTid, GetTid,
 use Rattle.pldm_wire.specs.declared.answer.Answer.{Answer}
 use Rattle.pldm_wire.specs.declared.answer.Answer.TheVariants as answers
 use Rattle.pldm_wire.specs.declared.assigned.TheConstants.{BASE, PLATFORM, ERROR_INVALID_DATA}
-use Rattle.pldm_device.specs.declared.limits.TheConstants.{INVALID_TRANSFER_OPERATION}
-use Rattle.pldm_device.specs.declared.limits.TheConstants.{INVALID_DATA_TRANSFER_HANDLE, INVALID_PLDM_TYPE}
+use Rattle.pldm_platform.specs.declared.refusals.TheConstants.{INVALID_TRANSFER_OPERATION}
+use Rattle.pldm_platform.specs.declared.refusals.TheConstants.{INVALID_DATA_TRANSFER_HANDLE, INVALID_PLDM_TYPE}
 use Rattle.pldm_wire.specs.declared.limits.TheConstants.{GET_FIRST_PART, GET_NEXT_PART}
-use Rattle.pldm_device.specs.ById.{with_id}
-use Rattle.pldm_device.specs.Changes.{changed_or}
+use Rattle.pldm_records.specs.ById.{with_id}
+use Rattle.pldm_platform.specs.Changes.{changed_or}
 use Rattle.pldm_device.specs.Devices.{Device}
 use Rattle.pldm_device.specs.BaseAnswers.{tid_set, versions_answered, versions_of, base_commands, platform_commands}
 use Rattle.pldm_device.specs.SensorAnswers.{numeric_sensor_answered, state_sensor_answered}
 use Rattle.pldm_device.specs.EffecterAnswers.{number_set, states_set, outcome_answered}
 use Rattle.pldm_device.specs.EffecterAnswers.{numeric_effecter_answered, state_effecter_answered}
-use Rattle.pldm_device.specs.Records.{handle_at, position_asked}
-use Rattle.pldm_device.specs.RecordAnswers.{offset_asked, part_answered, record_answered, record_answer_at}
+use Rattle.pldm_records.specs.Records.{handle_at, position_asked}
+use Rattle.pldm_records.specs.RecordAnswers.{offset_asked, part_answered, record_answered, record_answer_at}
 use Rattle.pldm_device.specs.DeviceAnswers.{answer, after}
 
 pub reads_only : (device : Device) (command : Command) → sets command ≡ false → after device command ≡ device

@@ -10,11 +10,11 @@ use Rattle.pldm_wire.specs.declared.state_fields.SetStateField.{SetStateField}
 use Rattle.pldm_wire.specs.declared.state_fields.EffecterStateField.{EffecterStateField}
 use Rattle.pldm_wire.specs.declared.answer.Answer.{Answer}
 use Rattle.pldm_wire.specs.declared.answer.Answer.TheVariants.{Refused, GetNumericEffecterValue, GetStateEffecterStates}
-use Rattle.pldm_device.specs.ById.{change_at}
-use Rattle.pldm_device.specs.Changes.{made_of}
+use Rattle.pldm_records.specs.ById.{change_at}
+use Rattle.pldm_platform.specs.Changes.{made_of}
 use Rattle.pldm_device.specs.Devices.{Device}
 use Rattle.pldm_device.specs.declared.limits.TheConstants.{EFFECTER_ENABLED, REQUEST_SET}
-use Rattle.pldm_device.specs.declared.limits.TheConstants.{INVALID_EFFECTER_ID, INVALID_STATE_VALUE}
+use Rattle.pldm_platform.specs.declared.refusals.TheConstants.{INVALID_EFFECTER_ID, INVALID_STATE_VALUE}
 use Rattle.pldm_device.specs.declared.numeric_effecter.NumericEffecter.{NumericEffecter}
 use Rattle.pldm_device.specs.StateEffecters.{FieldsOfStates}
 

@@ -5,7 +5,7 @@ use Rattle.std.specs.List.{list_any}
 use Rattle.toml.specs.Data.{Data, Items, no_items, item, Members}
 use Rattle.pldm_wire.specs.Numbers.{SizedNumber}
 use Rattle.pldm_wire.specs.declared.size.Size.{Size}
-use Rattle.pldm_device.specs.ById.{ById, has_id}
+use Rattle.pldm_records.specs.ById.{ById, has_id}
 use Rattle.pldm_device.specs.KeyValues.{◌>>=◌, value_at, table_in}
 use Rattle.pldm_device.specs.NumberLists.{integers_in, numbers_upto, few_numbers, few_lists, composite_of}
 use Rattle.pldm_device.specs.SizeNames.{size_in, sized_in}

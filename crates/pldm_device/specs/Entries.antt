@@ -1,7 +1,7 @@
 -- The lists of sensors, effecters and records in a description.
 use Rattle.std.specs.Prelude.{ℕ, nat_le, Bool, ◌||◌, codes, List, Option, Some, None, Result, Ok, Err, if◌then◌else◌}
 use Rattle.toml.specs.Data.{Data, Items, no_items, item, Members, get_member}
-use Rattle.pldm_device.specs.ById.{ById, has_id, add}
+use Rattle.pldm_records.specs.ById.{ById, has_id, add}
 use Rattle.pldm_device.specs.KeyValues.{◌>>=◌, array_in, number_at}
 use Rattle.pldm_device.specs.NumberLists.{count}
 use Rattle.pldm_device.specs.declared.limits.TheConstants.{MOST_ENTRIES, MOST_ID}

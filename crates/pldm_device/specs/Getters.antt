@@ -4,7 +4,7 @@ use Rattle.std.specs.Ordering.{nat_cmp}
 use Rattle.std.specs.List.Sorted.{IsStrictlySortedBy}
 use Rattle.std.specs.Map.{keys_of}
 use Rattle.std.specs.Borrow.{Bor}
-use Rattle.pldm_device.specs.ById.{ById}
+use Rattle.pldm_records.specs.ById.{ById}
 use Rattle.pldm_device.specs.StateEffecters.{FieldsOfStates}
 use Rattle.pldm_device.specs.declared.numeric_sensor.NumericSensor.{NumericSensor}
 use Rattle.pldm_device.specs.declared.numeric_effecter.NumericEffecter.{NumericEffecter}

@@ -4,7 +4,7 @@ use Rattle.toml.specs.Data.{Data, Items, no_items, item, Members}
 use Rattle.pldm_device.specs.Entries.{entries_at}
 use Rattle.pldm_device.specs.HexValues.{bytes_in}
 use Rattle.pldm_device.specs.KeyValues.{◌>>=◌, value_at, table_in}
-use Rattle.pldm_device.specs.Records.{handle_of, is_record, position_of}
+use Rattle.pldm_records.specs.Records.{handle_of, is_record, position_of}
 use Rattle.pldm_device.specs.declared.description_fault.FileFault.{FileFault}
 use Rattle.pldm_device.specs.declared.description_fault.FileFault.TheVariants.{BadRecord, Duplicate}
 

@@ -5,13 +5,14 @@ use Rattle.pldm_wire.specs.Sizes.{fits}
 use Rattle.pldm_wire.specs.declared.state_fields.SensorStateField.{SensorStateField}
 use Rattle.pldm_wire.specs.declared.answer.Answer.{Answer}
 use Rattle.pldm_wire.specs.declared.answer.Answer.TheVariants.{Refused, GetSensorReading, GetStateSensorReadings}
-use Rattle.pldm_device.specs.ById.{change_at}
-use Rattle.pldm_device.specs.Changes.{made_of}
+use Rattle.pldm_records.specs.ById.{change_at}
+use Rattle.pldm_platform.specs.Changes.{made_of}
 use Rattle.pldm_device.specs.Devices.{Device}
-use Rattle.pldm_device.specs.declared.limits.TheConstants.{SENSOR_ENABLED, NO_EVENTS, INVALID_SENSOR_ID}
+use Rattle.pldm_device.specs.declared.limits.TheConstants.{SENSOR_ENABLED, NO_EVENTS}
+use Rattle.pldm_platform.specs.declared.refusals.TheConstants.{INVALID_SENSOR_ID}
 use Rattle.pldm_device.specs.declared.numeric_sensor.NumericSensor.{NumericSensor}
-use Rattle.pldm_device.specs.declared.reading_fault.ReadingFault.{ReadingFault}
-use Rattle.pldm_device.specs.declared.reading_fault.ReadingFault.TheVariants.{NoSuchSensor, OutOfSize}
+use Rattle.pldm_platform.specs.declared.reading_fault.ReadingFault.{ReadingFault}
+use Rattle.pldm_platform.specs.declared.reading_fault.ReadingFault.TheVariants.{NoSuchSensor, OutOfSize}
 
 abbrev pub numeric_sensor_answered : Option NumericSensor → Answer
 numeric_sensor_answered None = Refused INVALID_SENSOR_ID

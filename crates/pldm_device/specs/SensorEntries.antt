@@ -2,7 +2,7 @@
 use Rattle.std.specs.Prelude.{ℕ, false, codes, List, [], ◌∷◌, ◌++◌, Result, Ok, Err}
 use Rattle.toml.specs.Data.{Data, Items, no_items, item, Members}
 use Rattle.pldm_wire.specs.declared.state_fields.SensorStateField.{SensorStateField}
-use Rattle.pldm_device.specs.ById.{ById, has_id}
+use Rattle.pldm_records.specs.ById.{ById, has_id}
 use Rattle.pldm_device.specs.KeyValues.{◌>>=◌, value_at, table_in}
 use Rattle.pldm_device.specs.NumberLists.{few_numbers, few_lists, composite_of}
 use Rattle.pldm_device.specs.SizeNames.{size_in, sized_in}

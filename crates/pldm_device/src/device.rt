@@ -3,19 +3,18 @@
 ghost use Rattle.std.specs.Prelude.{◌≡◌, option_copied, option_map, slice_get};
 ghost use Rattle.pldm_device.specs.Getters.{AscendingIds, reading_of, shown, states_of, value_of};
 ghost use Rattle.pldm_device.specs.BaseAnswers.{base_commands, commands_answer, platform_commands, tid_set, types, version_answer};
-ghost use Rattle.pldm_device.specs.ById.{change_at, with_id};
-ghost use Rattle.pldm_device.specs.Changes.{Changes};
+ghost use Rattle.pldm_records.specs.ById.{change_at, with_id};
+ghost use Rattle.pldm_platform.specs.Changes.{Changes};
 ghost use Rattle.pldm_device.specs.EffecterAnswers.{number_set, numeric_effecter_answered, set_number, set_states, state_effecter_answered, states_set};
 ghost use Rattle.pldm_device.specs.SensorAnswers.{numeric_sensor_answered, sense, sensed, state_sensor_answered};
 
-use crate::limits::{
-    EFFECTER_ENABLED, INVALID_DATA_TRANSFER_HANDLE, INVALID_EFFECTER_ID, INVALID_PLDM_TYPE,
-    INVALID_SENSOR_ID, INVALID_TRANSFER_OPERATION, NO_EVENTS, RESERVED_TID, SENSOR_ENABLED,
-    UNASSIGNED_TID,
+use crate::limits::{EFFECTER_ENABLED, NO_EVENTS, RESERVED_TID, SENSOR_ENABLED, UNASSIGNED_TID};
+use crate::{NumericEffecter, NumericSensor, StateEffecter};
+use pldm_platform::{
+    INVALID_DATA_TRANSFER_HANDLE, INVALID_EFFECTER_ID, INVALID_PLDM_TYPE, INVALID_SENSOR_ID,
+    INVALID_TRANSFER_OPERATION, ReadingFault, code, refused,
 };
-use crate::refusals::{code, refused};
-use crate::repository::Repository;
-use crate::{NumericEffecter, NumericSensor, ReadingFault, StateEffecter};
+use pldm_records::Repository;
 use pldm_wire::{
     Answer, BASE, COMMANDS_BYTES, Code, EffecterValues, GET_FIRST_PART, GET_NEXT_PART, Number,
     PLATFORM, SensorStateField, SetStateField, StateFields, TIME_BYTES, TYPES_BYTES, VersionData,

@@ -1,7 +1,7 @@
 //! Numeric effecters (DSP0248, "SetNumericEffecterValue command").
 
 ghost use Rattle.pldm_device.specs.EffecterAnswers.{set_number};
-ghost use Rattle.pldm_device.specs.Changes.{Changes};
+ghost use Rattle.pldm_platform.specs.Changes.{Changes};
 
 use pldm_wire::{Code, Number};
 

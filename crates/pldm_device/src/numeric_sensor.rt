@@ -1,9 +1,9 @@
 //! Numeric sensors (DSP0248, "GetSensorReading command").
 
-ghost use Rattle.pldm_device.specs.Changes.{Changes};
+ghost use Rattle.pldm_platform.specs.Changes.{Changes};
 ghost use Rattle.pldm_device.specs.SensorAnswers.{sense};
 
-use crate::ReadingFault;
+use pldm_platform::ReadingFault;
 use pldm_wire::Number;
 
 /// A numeric sensor: its states, 0 to 10, and its reading with its data size.

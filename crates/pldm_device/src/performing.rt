@@ -7,9 +7,9 @@ ghost use Rattle.pldm_device.specs.EffecterAnswers.{outcome_answered};
 ghost use Rattle.pldm_device.specs.SensorAnswers.{sensed};
 
 use crate::device::{SimDevice, put_commands, types_answer};
-use crate::record_answers::put_record_part;
-use crate::{Platform, ReadingFault};
 use mctp_packet::Memory;
+use pldm_platform::{Platform, ReadingFault};
+use pldm_records::{put_record_part, repository_info};
 use pldm_wire::{Answer, Code, Command};
 use std::alloc::Global;
 
@@ -49,7 +49,11 @@ impl SimDevice {
             Command::GetStateEffecterStates { effecter } => {
                 self.put_effecter_states(*effecter, given)
             }
-            Command::GetPdrRepositoryInfo => *given = self.repository_info(),
+            Command::GetPdrRepositoryInfo => *given = repository_info(
+                &self.records,
+                self.update_time,
+                self.oem_update_time,
+            ),
             Command::GetPdr {
                 record_handle,
                 data_transfer_handle,

@@ -10,8 +10,7 @@ use crate::entries::entries_at;
 use crate::hex_values::bytes_in;
 use crate::keys::{table_in, value_at};
 use crate::limits::MOST_ENTRIES;
-use crate::record::Record;
-use crate::repository::Repository;
+use pldm_records::{Record, Repository};
 use std::alloc::Global;
 use toml::{Table, Value};
 

@@ -3,11 +3,11 @@
 ghost use Rattle.std.specs.Prelude.{◌≡◌, ◌≤◌, length, map};
 ghost use Rattle.pldm_wire.specs.States.{IsComposite};
 ghost use Rattle.pldm_device.specs.EffecterAnswers.{are_allowed, effecter_field, has_other_request, set_states, states_after, states_refusal};
-ghost use Rattle.pldm_device.specs.Changes.{Changes};
+ghost use Rattle.pldm_platform.specs.Changes.{Changes};
 ghost use Rattle.pldm_device.specs.StateEffecters.{fields_of_states};
 
-use crate::limits::{EFFECTER_ENABLED, INVALID_STATE_VALUE, REQUEST_SET};
-use crate::refusals::code;
+use crate::limits::{EFFECTER_ENABLED, REQUEST_SET};
+use pldm_platform::{INVALID_STATE_VALUE, code};
 use arrayvec::ArrayVec;
 use pldm_wire::{Code, EffecterStateField, MOST_STATES, SetStateField, StateFields};
 use std::marker::Model;

@@ -8,8 +8,8 @@ use Rattle.pldm_wire.specs.declared.command.Command.{Command}
 use Rattle.pldm_wire.specs.declared.command.Command.TheVariants.{GetTid, SetNumericEffecterValue}
 use Rattle.pldm_wire.specs.declared.answer.Answer.{Answer}
 use Rattle.pldm_wire.specs.declared.answer.Answer.TheVariants as answers
-use Rattle.pldm_device.specs.declared.reading_fault.ReadingFault.{ReadingFault}
-use Rattle.pldm_device.specs.declared.reading_fault.ReadingFault.TheVariants.{NoSuchSensor}
+use Rattle.pldm_platform.specs.declared.reading_fault.ReadingFault.{ReadingFault}
+use Rattle.pldm_platform.specs.declared.reading_fault.ReadingFault.TheVariants.{NoSuchSensor}
 
 abbrev pub dimmer_answer : ℤ → Command → Answer
 dimmer_answer level (SetNumericEffecterValue effecter value) = answers.SetNumericEffecterValue

@@ -6,7 +6,7 @@ use Rattle.mctp_packet.specs.declared.reason.Reason.{Reason}
 use Rattle.mctp_assembly.specs.Steps as assembly
 use Rattle.pldm_wire.specs.Headers.{id_at}
 use Rattle.pldm_wire.specs.declared.command.Command.{Command}
-use Rattle.pldm_device.specs.Changes.{changed_or}
+use Rattle.pldm_platform.specs.Changes.{changed_or}
 use Rattle.pldm_responder.specs.Events.{Message, is_of}
 use Rattle.pldm_responder.specs.Held.{Entry, Held}
 use Rattle.pldm_responder.specs.Performing.{Rules, reply, next, changes, busy_reply, commands_of}

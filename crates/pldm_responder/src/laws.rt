@@ -3,7 +3,7 @@
 ghost use Rattle.pldm_responder.specs.Laws.{BusyAnswersAreOnePacket, KeptWhereFresh, NewLooksBack, OneCount, ReceivedLooksBack, RestartedLooksBack, SameIsLeft, SensedLooksBack};
 ghost use Rattle.pldm_responder.specs.Performing.{rules_of};
 
-use pldm_device::Platform;
+use pldm_platform::Platform;
 
 /// What a responder holds after any list of calls, and what it answers then, is read by looking back
 /// over the list.

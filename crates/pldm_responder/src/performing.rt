@@ -4,7 +4,7 @@ ghost use Rattle.pldm_wire.specs.declared.answer.Answer.TheVariants.{Refused};
 ghost use Rattle.pldm_responder.specs.Performing.{changes_at, commands_at, next_after, reply_to, rules_of};
 
 use mctp_packet::{Body, MOST_MESSAGE_BYTES, Memory};
-use pldm_device::Platform;
+use pldm_platform::Platform;
 use pldm_wire::{Answer, Code, RequestRef, SUCCESS, put_answer, read_command};
 use std::alloc::Global;
 

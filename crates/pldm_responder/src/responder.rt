@@ -5,7 +5,7 @@ ghost use Rattle.mctp_assembly.specs.Keys.{IsKey, key_of};
 ghost use Rattle.mctp_assembly.specs.Steps.{answer};
 ghost use Rattle.mctp_assembly.specs.declared.fed.Fed.TheVariants.{Whole};
 ghost use Rattle.mctp_assembly.specs.declared.key.Key.{Key as KeyValue};
-ghost use Rattle.pldm_device.specs.Changes.{made_of};
+ghost use Rattle.pldm_platform.specs.Changes.{made_of};
 ghost use Rattle.pldm_wire.specs.Requests.{request_of};
 ghost use Rattle.pldm_wire.specs.declared.assigned.TheConstants.{INSTANCE_IDS as ids};
 ghost use Rattle.pldm_responder.specs.Answering.{HasReply, answering, packets_if};
@@ -29,7 +29,7 @@ use mctp_packet::{
     Body, Eid, FIRST_EID, Keep, LAST_EID, MOST_MESSAGE_BYTES, Memory, Moment, PacketRef, Packets,
     Reason, Route, TAGS, Tag, read_for, split,
 };
-use pldm_device::{Platform, ReadingFault};
+use pldm_platform::{Platform, ReadingFault};
 use pldm_wire::{Code, INSTANCE_IDS, read_request};
 use std::alloc::Global;
 use std::marker::Model;

@@ -2,7 +2,7 @@
 use Rattle.std.proofs.Common.{sym, ap, ◌∙◌}
 use Rattle.std.specs.Option.{option_copied_mut}
 use Rattle.pldm_device.specs.EffecterAnswers.{set_number}
-use Rattle.pldm_device.specs.declared.limits.TheConstants.{INVALID_EFFECTER_ID}
+use Rattle.pldm_platform.specs.declared.refusals.TheConstants.{INVALID_EFFECTER_ID}
 use Rattle.pldm_device.proofs.Changed.{change_at-written}
 use Rattle.pldm_device.proofs.device.set_number_in.Goals as goal
 

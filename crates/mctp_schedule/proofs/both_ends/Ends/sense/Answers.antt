@@ -7,7 +7,7 @@ use Rattle.pldm_responder.specs.Steps.{sensed_held}
 use Rattle.pldm_responder.specs.Performing.{performed, rules_of}
 use Rattle.mctp_schedule.specs.Running.{setting_of}
 use Rattle.mctp_schedule.specs.declared.entry.Entry.TheVariants.{Sensed}
-use Rattle.pldm_device.specs.Changes.{made_of}
+use Rattle.pldm_platform.specs.Changes.{made_of}
 use Rattle.mctp_schedule.proofs.QuietSteps.{sensed_runs}
 use Rattle.mctp_schedule.proofs.both_ends.Ends.sense.Goals as goal
 

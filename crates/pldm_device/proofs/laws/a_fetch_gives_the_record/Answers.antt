@@ -1,8 +1,0 @@
--- A fetch gives the record that was asked for, and the parts in turn give it.
-use Rattle.pldm_device.proofs.DoneIsTheRecord.{done_is_the_record}
-use Rattle.pldm_device.proofs.PartsGiveTheRecord.{parts_give_the_record}
-use Rattle.pldm_device.proofs.RepositoryFetched.{repository_is_fetched}
-use Rattle.pldm_device.proofs.laws.a_fetch_gives_the_record.Goals as goal
-
-pub returns : goal.returns
-returns c = record { done = done_is_the_record; parts = parts_give_the_record; repository = repository_is_fetched }

@@ -1,0 +1,10 @@
+pub mod ById
+pub mod Records
+pub mod Repositories
+pub mod RecordAnswers
+pub mod Transfers
+pub mod Fetches
+pub mod FetchLaws
+pub mod FetchHistories
+pub mod Laws
+pub mod FetchFaults
