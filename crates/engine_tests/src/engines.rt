@@ -1,7 +1,7 @@
 //! The three engines, and an input of each with all that it writes.
 
 ghost use Rattle.std.specs.Prelude.{◌≡◌, false};
-ghost use Rattle.mctpctl_engines.specs.Ports.{has_failed};
+ghost use Rattle.mctpctl_input.specs.Ports.{has_failed};
 
 use example_device::input;
 use mctpctl_engines::{EngineFault, Port, answer_all, run_all, show_all};

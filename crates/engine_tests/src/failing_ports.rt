@@ -1,7 +1,7 @@
 //! Readers and writers that fail at each of their calls in turn, and such as move one byte at a call.
 
 ghost use Rattle.std.specs.Prelude.{◌≡◌, false};
-ghost use Rattle.mctpctl_engines.specs.Ports.{has_failed};
+ghost use Rattle.mctpctl_input.specs.Ports.{has_failed};
 
 use crate::engines::{Engine, RUNS, is_front};
 use crate::fakes::{FailsAt, OneByteWriter, PieceReader};

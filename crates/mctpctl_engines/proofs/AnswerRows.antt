@@ -2,9 +2,9 @@
 use Rattle.std.proofs.Common.{◌≡◌, ℕ, List, [], ◌∷◌, codes, replicate, pos, None, Some, false, refl}
 use Rattle.hex.proofs.OnLiterals.{hex_on_literals}
 use Rattle.mctpctl_engines.specs.AnswerText.{called_run, answer_text}
-use Rattle.mctpctl_engines.specs.CaptureLine.{capture_of}
-use Rattle.mctpctl_engines.specs.declared.faults.EngineFault.TheVariants.{Line}
-use Rattle.mctpctl_engines.specs.declared.faults.LineKind.TheVariants.{BackInTime}
+use Rattle.mctpctl_input.specs.CaptureLine.{capture_of}
+use Rattle.mctpctl_input.specs.declared.faults.EngineFault.TheVariants.{Line}
+use Rattle.mctpctl_input.specs.declared.faults.LineKind.TheVariants.{BackInTime}
 use Rattle.pldm_device.specs.declared.description.Description.{Description}
 use Rattle.pldm_device.proofs.DescriptionLiterals.{description_on_literals}
 use Rattle.pldm_wire.specs.CommandReading.{command_of}

@@ -3,13 +3,13 @@ use Rattle.std.proofs.Common.{◌≡◌, ℕ, Bool, if◌then◌else◌, List, [
 use Rattle.line_words.specs.TextLines.{lines_of}
 use Rattle.mctpctl_engines.specs.AnswerText.{described_run, divided_run, run_of, simulated, with_packet, called_step, called_run}
 use Rattle.mctpctl_engines.specs.HeldRuns.{held_step, held_run}
-use Rattle.mctpctl_engines.specs.LineRuns.{stops_at}
-use Rattle.mctpctl_engines.specs.OutcomeTexts.{outcome_text}
-use Rattle.mctpctl_engines.specs.TextLines.{capture_lines, description_of}
-use Rattle.mctpctl_engines.specs.declared.faults.EngineFault.TheVariants.{TooLarge}
-use Rattle.mctpctl_engines.specs.declared.limits.TheConstants.{MAX_DESCRIPTION}
-use Rattle.mctpctl_engines.proofs.RunsOverLines.{SameStep, same_run}
-use Rattle.mctpctl_engines.proofs.SameCaptures.{same_capture_step}
+use Rattle.mctpctl_input.specs.LineRuns.{stops_at}
+use Rattle.mctpctl_texts.specs.OutcomeTexts.{outcome_text}
+use Rattle.mctpctl_input.specs.TextLines.{capture_lines, description_of}
+use Rattle.mctpctl_input.specs.declared.faults.EngineFault.TheVariants.{TooLarge}
+use Rattle.mctpctl_input.specs.declared.limits.TheConstants.{MAX_DESCRIPTION}
+use Rattle.mctpctl_input.proofs.RunsOverLines.{SameStep, same_run}
+use Rattle.mctpctl_input.proofs.SameCaptures.{same_capture_step}
 use Rattle.pldm_device.specs.Descriptions.{stated}
 use Rattle.pldm_device.specs.Devices.{Device}
 use Rattle.pldm_device.specs.declared.description.Description.{Description}

@@ -4,13 +4,13 @@ use Rattle.std.specs.Io.KnownBytes.{Appends, Keeps}
 use Rattle.line_words.specs.TextLines.{lines_of}
 use Rattle.mctpctl_engines.specs.AnswerText.{divided_run, run_of}
 use Rattle.mctpctl_engines.specs.DescribedPieces.{begun}
-use Rattle.mctpctl_engines.specs.LineRuns.{stops_at}
-use Rattle.mctpctl_engines.specs.Pieces.{GoesOn, WroteOfFront, WroteOfRead}
+use Rattle.mctpctl_input.specs.LineRuns.{stops_at}
+use Rattle.mctpctl_input.specs.Pieces.{GoesOn, WroteOfFront, WroteOfRead}
 use Rattle.mctpctl_engines.specs.RunText.{scheduled_run, schedule_written, spelled_by, text_of, unless_refused}
 use Rattle.mctpctl_engines.specs.SchedulePieces.{cut_writes_nothing, schedule_gives}
-use Rattle.mctpctl_engines.specs.TextLines.{capture_lines, description_of}
-use Rattle.mctpctl_engines.specs.declared.faults.EngineFault.{EngineFault}
-use Rattle.mctpctl_engines.specs.declared.faults.EngineFault.TheVariants as faults
+use Rattle.mctpctl_input.specs.TextLines.{capture_lines, description_of}
+use Rattle.mctpctl_input.specs.declared.faults.EngineFault.{EngineFault}
+use Rattle.mctpctl_input.specs.declared.faults.EngineFault.TheVariants as faults
 use Rattle.mctpctl_engines.proofs.DescribedGlue.{begun_device, begun_fault}
 use Rattle.mctp_schedule.specs.RunFaults.{refusal}
 use Rattle.schedule_text.specs.Schedules.{Spelled}

@@ -2,11 +2,11 @@
 use Rattle.std.proofs.Common.{◌≡◌, List, ℕ, [], ◌∷◌, codes, None, Some, false, refl}
 use Rattle.std.specs.Fmt.{digits}
 use Rattle.hex.proofs.OnLiterals.{hex_on_literals}
-use Rattle.mctpctl_engines.specs.CaptureLine.{capture_of}
-use Rattle.mctpctl_engines.specs.LineRuns.{lines_written}
+use Rattle.mctpctl_input.specs.CaptureLine.{capture_of}
+use Rattle.mctpctl_input.specs.LineRuns.{lines_written}
 use Rattle.mctpctl_engines.specs.ShowText.{seen_step, show_text}
-use Rattle.mctpctl_engines.specs.declared.faults.EngineFault.TheVariants.{Line}
-use Rattle.mctpctl_engines.specs.declared.faults.LineKind.TheVariants.{BackInTime}
+use Rattle.mctpctl_input.specs.declared.faults.EngineFault.TheVariants.{Line}
+use Rattle.mctpctl_input.specs.declared.faults.LineKind.TheVariants.{BackInTime}
 use Rattle.pldm_wire.specs.CommandNames.{name_of_kind}
 use Rattle.pldm_wire.specs.CommandReading.{command_of}
 use Rattle.pldm_wire.specs.Requests.{request_of}

@@ -2,13 +2,13 @@
 use Rattle.std.specs.Prelude.{ℕ, nat_lt, Bool, if◌then◌else◌, List, [], ◌∷◌, length, take}
 use Rattle.std.specs.Prelude.{Option, None, Some, Result, Ok, Err}
 use Rattle.line_words.specs.TextLines.{lines_of}
-use Rattle.mctpctl_engines.specs.CaptureRuns.{capture_step}
-use Rattle.mctpctl_engines.specs.LineRuns.{Written, stops_at, lines_written}
-use Rattle.mctpctl_engines.specs.OutcomeTexts.{outcome_text}
-use Rattle.mctpctl_engines.specs.TextLines.{capture_lines, description_of}
-use Rattle.mctpctl_engines.specs.declared.faults.EngineFault.TheVariants as faults
-use Rattle.mctpctl_engines.specs.declared.faults.LineKind.{LineKind}
-use Rattle.mctpctl_engines.specs.declared.limits.TheConstants.{MAX_INPUT, MAX_DESCRIPTION}
+use Rattle.mctpctl_input.specs.CaptureRuns.{capture_step}
+use Rattle.mctpctl_input.specs.LineRuns.{Written, stops_at, lines_written}
+use Rattle.mctpctl_texts.specs.OutcomeTexts.{outcome_text}
+use Rattle.mctpctl_input.specs.TextLines.{capture_lines, description_of}
+use Rattle.mctpctl_input.specs.declared.faults.EngineFault.TheVariants as faults
+use Rattle.mctpctl_input.specs.declared.faults.LineKind.{LineKind}
+use Rattle.mctpctl_input.specs.declared.limits.TheConstants.{MAX_INPUT, MAX_DESCRIPTION}
 use Rattle.pldm_device.specs.Descriptions.{stated}
 use Rattle.pldm_device.specs.DeviceAnswers.{answer, after}
 use Rattle.pldm_device.specs.Devices.{Device}

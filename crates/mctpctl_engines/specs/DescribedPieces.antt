@@ -3,13 +3,13 @@ use Rattle.std.specs.Prelude.{◌≡◌, ◌≢◌, ◌⊎◌, [], Result, Ok, E
 use Rattle.std.specs.Prelude.{Bool, if◌then◌else◌, List, ◌++◌, length, Option, None, Some}
 use Rattle.line_words.specs.TextLines.{lines_of}
 use Rattle.mctpctl_engines.specs.AnswerText.{described_run}
-use Rattle.mctpctl_engines.specs.LinePieces.{glued}
-use Rattle.mctpctl_engines.specs.LineRuns.{Written, stops_at}
-use Rattle.mctpctl_engines.specs.Pieces.{Gives, GoesOn, StopsWith}
-use Rattle.mctpctl_engines.specs.TextLines.{capture_lines, description_of}
-use Rattle.mctpctl_engines.specs.declared.faults.EngineFault.{EngineFault}
-use Rattle.mctpctl_engines.specs.declared.faults.EngineFault.TheVariants as faults
-use Rattle.mctpctl_engines.specs.declared.limits.TheConstants.{MAX_DESCRIPTION}
+use Rattle.mctpctl_input.specs.LinePieces.{glued}
+use Rattle.mctpctl_input.specs.LineRuns.{Written, stops_at}
+use Rattle.mctpctl_input.specs.Pieces.{Gives, GoesOn, StopsWith}
+use Rattle.mctpctl_input.specs.TextLines.{capture_lines, description_of}
+use Rattle.mctpctl_input.specs.declared.faults.EngineFault.{EngineFault}
+use Rattle.mctpctl_input.specs.declared.faults.EngineFault.TheVariants as faults
+use Rattle.mctpctl_input.specs.declared.limits.TheConstants.{MAX_DESCRIPTION}
 use Rattle.pldm_device.specs.Descriptions.{stated}
 use Rattle.pldm_device.specs.declared.description.Description.{Description}
 use Rattle.pldm_device.specs.declared.description_fault.FileFault.{FileFault}

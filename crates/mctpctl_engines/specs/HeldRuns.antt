@@ -1,8 +1,8 @@
 -- What a responder of the simulated device makes of the lines of a capture, over what it holds.
 use Rattle.std.specs.Prelude.{List, ℕ, Bool, Result}
 use Rattle.mctpctl_engines.specs.AnswerText.{step, simulated}
-use Rattle.mctpctl_engines.specs.LineRuns.{Written, lines_written}
-use Rattle.mctpctl_engines.specs.declared.faults.LineKind.{LineKind}
+use Rattle.mctpctl_input.specs.LineRuns.{Written, lines_written}
+use Rattle.mctpctl_input.specs.declared.faults.LineKind.{LineKind}
 use Rattle.pldm_device.specs.Devices.{Device}
 use Rattle.pldm_device.specs.declared.description.Description.{Description}
 use Rattle.pldm_responder.specs.Held.{Held, held_at_first}

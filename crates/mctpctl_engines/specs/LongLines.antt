@@ -1,11 +1,11 @@
 -- A line over the limit is refused, whatever came before it.
 use Rattle.std.specs.Prelude.{length, refl}
 use borrow.Author.Tests.{lt-ltb}
-use Rattle.mctpctl_engines.specs.CaptureLine.{capture_of}
+use Rattle.mctpctl_input.specs.CaptureLine.{capture_of}
 use Rattle.mctpctl_engines.specs.HeldRuns.{held_step}
-use Rattle.mctpctl_engines.specs.LinePieces.{RefusesLong}
+use Rattle.mctpctl_input.specs.LinePieces.{RefusesLong}
 use Rattle.mctpctl_engines.specs.ObservedRuns.{observed_step}
-use Rattle.mctpctl_engines.specs.declared.limits.TheConstants.{MAX_CAPTURE_LINE}
+use Rattle.mctpctl_input.specs.declared.limits.TheConstants.{MAX_CAPTURE_LINE}
 
 pub held_refuses : RefusesLong held_step
 unfolding capture_of

@@ -9,9 +9,9 @@ use Rattle.mctp_assembly.specs.declared.fed.Fed.{Fed}
 use Rattle.mctp_packet.specs.Packets.{Packet}
 use Rattle.mctp_packet.specs.Reading.{reading}
 use Rattle.mctp_packet.specs.declared.reason.Reason.{Reason}
-use Rattle.mctpctl_engines.specs.CaptureRuns.{capture_step}
-use Rattle.mctpctl_engines.specs.ShownLines.{shown_text}
-use Rattle.mctpctl_engines.specs.declared.faults.LineKind.{LineKind}
+use Rattle.mctpctl_input.specs.CaptureRuns.{capture_step}
+use Rattle.mctpctl_texts.specs.ShownLines.{shown_text}
+use Rattle.mctpctl_input.specs.declared.faults.LineKind.{LineKind}
 use Rattle.mctpctl_engines.specs.declared.observer.Observer.{Observer}
 
 -- the moment of the last packet, and what is open at each destination

@@ -12,12 +12,12 @@ use Rattle.schedule_text.specs.declared.line_fault.LineFaultKind.TheVariants as 
 use Rattle.mctp_schedule.specs.declared.run_fault.RunFault.{RunFault}
 use Rattle.mctp_schedule.specs.declared.run_fault.RunFault.TheVariants as runs
 use Rattle.mctpctl_engines.specs.AnswerText.{run_of, simulated}
-use Rattle.mctpctl_engines.specs.LineRuns.{Written, stops_at}
-use Rattle.mctpctl_engines.specs.ReportTexts.{device_text, report_text}
-use Rattle.mctpctl_engines.specs.declared.faults.EngineFault.{EngineFault}
-use Rattle.mctpctl_engines.specs.declared.faults.EngineFault.TheVariants as faults
-use Rattle.mctpctl_engines.specs.declared.faults.LineKind.TheVariants as kinds
-use Rattle.mctpctl_engines.specs.declared.limits.TheConstants.{MAX_INPUT}
+use Rattle.mctpctl_input.specs.LineRuns.{Written, stops_at}
+use Rattle.mctpctl_texts.specs.ReportTexts.{device_text, report_text}
+use Rattle.mctpctl_input.specs.declared.faults.EngineFault.{EngineFault}
+use Rattle.mctpctl_input.specs.declared.faults.EngineFault.TheVariants as faults
+use Rattle.mctpctl_input.specs.declared.faults.LineKind.TheVariants as kinds
+use Rattle.mctpctl_input.specs.declared.limits.TheConstants.{MAX_INPUT}
 use Rattle.pldm_device.specs.Devices.{Device}
 use Rattle.pldm_device.specs.declared.description.Description.{Description}
 

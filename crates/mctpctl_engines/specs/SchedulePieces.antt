@@ -3,14 +3,14 @@ use Rattle.std.specs.Prelude.{◌≡◌, ◌≢◌, ◌⊎◌, ℕ, nat_lt, Bool
 use Rattle.std.specs.Prelude.{List, [], ◌++◌, length, Option, None, Some, Result, Ok, Err, refl, string_bytes}
 use Rattle.line_words.specs.TextLines.{lines_of}
 use Rattle.mctpctl_engines.specs.AnswerText.{described_run, divided_run, run_of}
-use Rattle.mctpctl_engines.specs.LineRuns.{Written, stops_at}
-use Rattle.mctpctl_engines.specs.Pieces.{Gives}
-use Rattle.mctpctl_engines.specs.ReportTexts.{report_text}
+use Rattle.mctpctl_input.specs.LineRuns.{Written, stops_at}
+use Rattle.mctpctl_input.specs.Pieces.{Gives}
+use Rattle.mctpctl_texts.specs.ReportTexts.{report_text}
 use Rattle.mctpctl_engines.specs.RunText.{scheduled_run}
-use Rattle.mctpctl_engines.specs.TextLines.{capture_lines, description_of}
-use Rattle.mctpctl_engines.specs.declared.faults.EngineFault.{EngineFault}
-use Rattle.mctpctl_engines.specs.declared.faults.EngineFault.TheVariants as faults
-use Rattle.mctpctl_engines.specs.declared.limits.TheConstants.{MAX_DESCRIPTION}
+use Rattle.mctpctl_input.specs.TextLines.{capture_lines, description_of}
+use Rattle.mctpctl_input.specs.declared.faults.EngineFault.{EngineFault}
+use Rattle.mctpctl_input.specs.declared.faults.EngineFault.TheVariants as faults
+use Rattle.mctpctl_input.specs.declared.limits.TheConstants.{MAX_DESCRIPTION}
 use Rattle.mctpctl_engines.specs.declared.schedule_run.Ran.{Ran}
 use Rattle.pldm_device.specs.Descriptions.{stated}
 use Rattle.pldm_device.specs.declared.description.Description.{Description}

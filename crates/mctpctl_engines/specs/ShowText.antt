@@ -9,12 +9,12 @@ use Rattle.mctp_assembly.specs.declared.fed.Fed.{Fed}
 use Rattle.mctp_packet.specs.Packets.{Packet}
 use Rattle.mctp_packet.specs.Reading.{reading}
 use Rattle.mctp_packet.specs.declared.reason.Reason.{Reason}
-use Rattle.mctpctl_engines.specs.CaptureLine.{TimedPacket}
-use Rattle.mctpctl_engines.specs.CaptureRuns.{capture_step}
-use Rattle.mctpctl_engines.specs.LineRuns.{Written, lines_written}
-use Rattle.mctpctl_engines.specs.ShownLines.{shown_text}
-use Rattle.mctpctl_engines.specs.declared.faults.LineKind.{LineKind}
-use Rattle.mctpctl_engines.specs.declared.limits.TheConstants.{MAX_INPUT}
+use Rattle.mctpctl_input.specs.CaptureLine.{TimedPacket}
+use Rattle.mctpctl_input.specs.CaptureRuns.{capture_step}
+use Rattle.mctpctl_input.specs.LineRuns.{Written, lines_written}
+use Rattle.mctpctl_texts.specs.ShownLines.{shown_text}
+use Rattle.mctpctl_input.specs.declared.faults.LineKind.{LineKind}
+use Rattle.mctpctl_input.specs.declared.limits.TheConstants.{MAX_INPUT}
 
 -- the moment of the newest packet, 0 before the first
 abbrev pub last_seen : List TimedPacket → ℕ

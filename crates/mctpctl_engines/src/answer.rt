@@ -2,14 +2,12 @@
 
 ghost use Rattle.std.specs.Prelude.{◌≡◌, ◌≢◌, ◌↔◌, Err, IfSome, IsErrOf, true, false};
 ghost use Rattle.mctpctl_engines.specs.AnswerText.{answer_text, called_run, run_of};
-ghost use Rattle.mctpctl_engines.specs.LineRuns.{Writes};
-ghost use Rattle.mctpctl_engines.specs.Pieces.{WroteOfFront, WroteOfRead};
-ghost use Rattle.mctpctl_engines.specs.Ports.{inner_of, has_failed};
+ghost use Rattle.mctpctl_input.specs.LineRuns.{Writes};
+ghost use Rattle.mctpctl_input.specs.Pieces.{WroteOfFront, WroteOfRead};
+ghost use Rattle.mctpctl_input.specs.Ports.{inner_of, has_failed};
 
 use crate::answer_run::AnswerRun;
-use crate::faults::EngineFault;
-use crate::port::Port;
-use crate::stream::run_to_end;
+use mctpctl_input::{EngineFault, Port, run_to_end};
 use pldm_device::{FileFault, SimDevice};
 use pldm_responder::laws;
 use std::alloc::Global;

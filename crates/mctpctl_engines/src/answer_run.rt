@@ -6,21 +6,15 @@ ghost use Rattle.mctpctl_engines.specs.DescribedPieces.{description_gives, descr
 ghost use Rattle.mctpctl_engines.specs.AnswerPieces.{past_gives, past_count, nothing_where_cut};
 ghost use Rattle.mctpctl_engines.specs.LongLines.{held_refuses};
 ghost use Rattle.mctpctl_engines.specs.HeldRuns.{held_step, held_run};
-ghost use Rattle.mctpctl_engines.specs.LinePieces.{AddsLine};
-ghost use Rattle.mctpctl_engines.specs.Pieces.{Takes, Finishes, FinishesTo};
-ghost use Rattle.mctpctl_engines.specs.Ports.{inner_of, has_failed};
+ghost use Rattle.mctpctl_input.specs.LinePieces.{AddsLine};
+ghost use Rattle.mctpctl_input.specs.Pieces.{Takes, Finishes, FinishesTo};
+ghost use Rattle.mctpctl_input.specs.Ports.{inner_of, has_failed};
 ghost use Rattle.pldm_responder.specs.Stations.{held_of};
 ghost use Rattle.pldm_responder.specs.Held.{Held};
 ghost use Rattle.pldm_device.specs.Devices.{Device};
 
-use crate::capture::{CaptureFault, CaptureLine, read_capture_line};
-use crate::faults::EngineFault;
-use crate::limits::{LONGEST_DIVIDER, MAX_DESCRIPTION, MAX_INPUT};
-use crate::line_run::{LineRoom, LineRun, LineTask};
-use crate::lines::is_divider;
-use crate::outcome::push_outcome;
-use crate::port::Port;
-use crate::stream::Run;
+use mctpctl_input::{CaptureFault, CaptureLine, EngineFault, LONGEST_DIVIDER, LineRoom, LineRun, LineTask, MAX_DESCRIPTION, MAX_INPUT, Port, Run, is_divider, read_capture_line};
+use mctpctl_texts::push_outcome;
 use line_words::split_line;
 use mctp_packet::Moment;
 use pldm_device::{Description, FileFault, SimDevice};

@@ -3,30 +3,15 @@
 
 mod answer;
 mod answer_run;
-mod bytes_text;
-mod capture;
-mod decimal;
-mod device_text;
-mod entry_text;
-mod faults;
-mod limits;
-mod line_run;
-mod lines;
-mod message_line;
 mod observer;
-mod outcome;
-mod packet_line;
-mod port;
-mod report_text;
 mod run;
 mod schedule_run;
 mod show;
-mod stream;
-mod written_text;
 
 pub use answer::answer_all;
-pub use faults::{EngineFault, LineKind, fault_line, status_of};
-pub use limits::{LONGEST_DIVIDER, MAX_CAPTURE_LINE, MAX_DESCRIPTION, MAX_INPUT};
-pub use port::Port;
+pub use mctpctl_input::{
+    EngineFault, LONGEST_DIVIDER, LineKind, MAX_CAPTURE_LINE, MAX_DESCRIPTION, MAX_INPUT, Port,
+    fault_line, status_of,
+};
 pub use run::run_all;
 pub use show::show_all;

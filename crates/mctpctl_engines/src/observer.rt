@@ -1,16 +1,14 @@
 //! What `mctpctl show` makes of the packets of a capture.
 
 ghost use Rattle.std.specs.Prelude.{◌≡◌, ◌≢◌, ◌++◌, Err, IfOk, OnOk};
-ghost use Rattle.mctpctl_engines.specs.LinePieces.{AddsLine};
+ghost use Rattle.mctpctl_input.specs.LinePieces.{AddsLine};
 ghost use Rattle.mctpctl_engines.specs.LongLines.{observed_refuses};
 ghost use Rattle.mctpctl_engines.specs.ObservedRuns.{Observed, given_at, none_observed, observed_of, observed_step, open_after, open_in, open_with};
-ghost use Rattle.mctpctl_engines.specs.ShownLines.{shown_text};
+ghost use Rattle.mctpctl_texts.specs.ShownLines.{shown_text};
 ghost use Rattle.mctp_packet.specs.Reading.{reading};
 
-use crate::capture::{CaptureFault, CaptureLine, read_capture_line};
-use crate::faults::EngineFault;
-use crate::line_run::{LineRoom, LineTask};
-use crate::packet_line::{push_completed, push_no_packet_line, push_packet_line};
+use mctpctl_input::{CaptureFault, CaptureLine, EngineFault, LineRoom, LineTask, read_capture_line};
+use mctpctl_texts::{push_completed, push_no_packet_line, push_packet_line};
 use mctp_assembly::{Assembler, Fed};
 use mctp_packet::{Eid, Memory, PacketRef, read};
 use pldm_device::FileFault;

@@ -2,14 +2,12 @@
 
 ghost use Rattle.std.specs.Prelude.{◌≡◌, ◌≢◌, ◌↔◌, Err, IfSome, IsErrOf, true, false};
 ghost use Rattle.std.specs.Io.KnownBytes.{Keeps};
-ghost use Rattle.mctpctl_engines.specs.LineRuns.{Writes};
-ghost use Rattle.mctpctl_engines.specs.Ports.{inner_of, has_failed};
+ghost use Rattle.mctpctl_input.specs.LineRuns.{Writes};
+ghost use Rattle.mctpctl_input.specs.Ports.{inner_of, has_failed};
 ghost use Rattle.mctpctl_engines.specs.RunText.{run_text};
 
-use crate::faults::EngineFault;
-use crate::port::Port;
 use crate::schedule_run::ScheduleRun;
-use crate::stream::run_to_end;
+use mctpctl_input::{EngineFault, Port, run_to_end};
 use pldm_device::FileFault;
 use std::alloc::Global;
 use std::io::{Read, Write};

@@ -1,16 +1,13 @@
 //! The engine of `mctpctl show`: a capture, and what its packets and messages say.
 
 ghost use Rattle.std.specs.Prelude.{◌≡◌, ◌≢◌, ◌↔◌, Err, IfSome, IsErrOf, true, false};
-ghost use Rattle.mctpctl_engines.specs.LineRuns.{Writes};
-ghost use Rattle.mctpctl_engines.specs.Pieces.{WroteOfFront, WroteOfRead};
-ghost use Rattle.mctpctl_engines.specs.Ports.{inner_of, has_failed};
+ghost use Rattle.mctpctl_input.specs.LineRuns.{Writes};
+ghost use Rattle.mctpctl_input.specs.Pieces.{WroteOfFront, WroteOfRead};
+ghost use Rattle.mctpctl_input.specs.Ports.{inner_of, has_failed};
 ghost use Rattle.mctpctl_engines.specs.ShowText.{seen_run, show_text};
 
-use crate::faults::EngineFault;
-use crate::line_run::{LineRoom, LineRun};
 use crate::observer::Observer;
-use crate::port::Port;
-use crate::stream::run_to_end;
+use mctpctl_input::{EngineFault, LineRoom, LineRun, Port, run_to_end};
 use mctp_assembly::laws;
 use pldm_device::FileFault;
 use std::alloc::Global;

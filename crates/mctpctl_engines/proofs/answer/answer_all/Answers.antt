@@ -4,10 +4,10 @@ use Rattle.mctpctl_engines.specs.AnswerPieces.{past_gives}
 use Rattle.mctpctl_engines.specs.AnswerText.{run_of, called_run}
 use Rattle.mctpctl_engines.specs.DescribedPieces.{description_gives, described_gives}
 use Rattle.mctpctl_engines.specs.HeldRuns.{held_run}
-use Rattle.mctpctl_engines.specs.Pieces.{Gives}
+use Rattle.mctpctl_input.specs.Pieces.{Gives}
 use Rattle.mctpctl_engines.proofs.AnswersOfRuns.{first_gives}
 use Rattle.mctpctl_engines.proofs.LookingBack.{run_looks_back}
-use Rattle.mctpctl_engines.proofs.RunsToEnd.{same_text, same_read, same_front}
+use Rattle.mctpctl_input.proofs.RunsToEnd.{same_text, same_read, same_front}
 use Rattle.mctpctl_engines.proofs.answer.answer_all.Goals as goal
 
 pub returns-clause-text : goal.returns-clause-text

@@ -1,10 +1,10 @@
 -- The run is that over all that the reader gives, and before its end nothing is written.
 use Rattle.std.proofs.Common.{◌≡◌}
 use Rattle.mctpctl_engines.specs.AnswerText.{run_of}
-use Rattle.mctpctl_engines.specs.Pieces.{Gives}
+use Rattle.mctpctl_input.specs.Pieces.{Gives}
 use Rattle.mctpctl_engines.specs.RunText.{scheduled_run}
 use Rattle.mctpctl_engines.specs.SchedulePieces.{schedule_gives}
-use Rattle.mctpctl_engines.proofs.RunsToEnd.{same_text}
+use Rattle.mctpctl_input.proofs.RunsToEnd.{same_text}
 use Rattle.mctpctl_engines.proofs.ScheduleGlue.{first_gives, nothing_at_memory, nothing_at_read}
 use Rattle.mctpctl_engines.proofs.run.run_all.Goals as goal
 

@@ -3,9 +3,9 @@ use Rattle.std.proofs.Common.{◌≡◌, ℕ, List, [], ◌∷◌, ◌++◌, tru
 use Rattle.line_words.specs.TextLines.{lines_of}
 use Rattle.schedule_text.specs.Schedules.{schedule_of}
 use Rattle.mctpctl_engines.specs.RunText.{spelled_by}
-use Rattle.mctpctl_engines.specs.TextLines.{capture_lines, description_of, is_divider}
+use Rattle.mctpctl_input.specs.TextLines.{capture_lines, description_of, is_divider}
 use Rattle.mctpctl_engines.proofs.DescribedGlue.{description_more}
-use Rattle.mctpctl_engines.proofs.RunsOverLines.{some_line}
+use Rattle.mctpctl_input.proofs.RunsOverLines.{some_line}
 use Rattle.mctpctl_engines.proofs.schedule_run.divide.Goals as goal
 
 capture_more : (line : List ℕ) (more : List (List ℕ)) → is_divider line ≡ false → capture_lines (line ∷ more) ≡ capture_lines more

@@ -1,7 +1,7 @@
 -- No line before `rest` divides.
 use Rattle.std.proofs.Common.{◌≡◌, ℕ, List, ◌++◌, length}
 use Rattle.line_words.specs.TextLines.{lines_of}
-use Rattle.mctpctl_engines.specs.TextLines.{capture_lines, description_of}
+use Rattle.mctpctl_input.specs.TextLines.{capture_lines, description_of}
 use Rattle.mctpctl_engines.proofs.schedule_run.divide.Given as goal
 
 abbrev pub invariant-loop-line : goal.invariant-loop-line

@@ -1,10 +1,10 @@
 -- The run is that over all that the reader gives.
 use Rattle.std.proofs.Common.{◌≡◌}
-use Rattle.mctpctl_engines.specs.LinePieces.{line_gives}
+use Rattle.mctpctl_input.specs.LinePieces.{line_gives}
 use Rattle.mctpctl_engines.specs.ObservedRuns.{observed_of, observed_step}
-use Rattle.mctpctl_engines.specs.Pieces.{Gives}
+use Rattle.mctpctl_input.specs.Pieces.{Gives}
 use Rattle.mctpctl_engines.specs.ShowText.{seen_run}
-use Rattle.mctpctl_engines.proofs.RunsToEnd.{same_text, same_read, same_front}
+use Rattle.mctpctl_input.proofs.RunsToEnd.{same_text, same_read, same_front}
 use Rattle.mctpctl_engines.proofs.ShownLookingBack.{first_shows}
 use Rattle.mctpctl_engines.proofs.show.show_all.Goals as goal
 

@@ -1,7 +1,7 @@
 -- A line of the description extends it, and the line that divides begins the run over the capture.
 use Rattle.std.proofs.Common.{◌≡◌, ◌++◌, ◌∷◌, [], true, false, rules}
 use Rattle.mctpctl_engines.specs.HeldRuns.{held_run}
-use Rattle.mctpctl_engines.specs.TextLines.{is_divider}
+use Rattle.mctpctl_input.specs.TextLines.{is_divider}
 use Rattle.mctpctl_engines.proofs.DescribedGlue.{stays_described, starts_past, divider_ends}
 use Rattle.mctpctl_engines.proofs.answer_run.AnswerRun.describe.Goals as goal
 use Rattle.pldm_responder.specs.Stations.{held_of}

@@ -1,6 +1,6 @@
 -- What is kept is the front of a line of the description, which ends the run where it is too long.
 use Rattle.std.proofs.Common.{◌≡◌, ◌<◌, ◌+◌, ◌++◌, length, rules}
-use Rattle.mctpctl_engines.specs.declared.limits.TheConstants.{LONGEST_DIVIDER, MAX_DESCRIPTION}
+use Rattle.mctpctl_input.specs.declared.limits.TheConstants.{LONGEST_DIVIDER, MAX_DESCRIPTION}
 use Rattle.mctpctl_engines.specs.DescribedPieces.{description_gives}
 use Rattle.mctpctl_engines.specs.HeldRuns.{held_run}
 use Rattle.mctpctl_engines.proofs.DescribedGlue.{front_keeps_described, front_too_long_described}

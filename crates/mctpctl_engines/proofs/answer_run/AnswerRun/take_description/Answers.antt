@@ -3,10 +3,10 @@ use Rattle.std.proofs.Common.{◌≡◌, ◌++◌, ◌∷◌, [], Ok, None, ap, 
 use Rattle.mctpctl_engines.specs.AnswerPieces.{past_gives, nothing_where_cut}
 use Rattle.mctpctl_engines.specs.DescribedPieces.{description_gives, described_gives, Describes}
 use Rattle.mctpctl_engines.specs.HeldRuns.{held_run}
-use Rattle.mctpctl_engines.specs.Pieces.{Gives, GoesOn}
+use Rattle.mctpctl_input.specs.Pieces.{Gives, GoesOn}
 use Rattle.mctpctl_engines.proofs.DescribedGlue.{described_fault, described_front, described_past}
-use Rattle.mctpctl_engines.proofs.LineGlue.{feed_split}
-use Rattle.mctpctl_engines.proofs.PieceRuns.{goes_after}
+use Rattle.mctpctl_input.proofs.LineGlue.{feed_split}
+use Rattle.mctpctl_input.proofs.PieceRuns.{goes_after}
 use Rattle.mctpctl_engines.proofs.answer_run.AnswerRun.take_description.Goals as goal
 
 pub returns-in-Ok-Some-clause-meets : goal.returns-in-Ok-Some-clause-meets

@@ -2,7 +2,7 @@
 use Rattle.std.proofs.Common.{◌≡◌, ◌++◌, List, ℕ, [], length, None}
 use Rattle.mctpctl_engines.specs.DescribedPieces.{description_gives}
 use Rattle.mctpctl_engines.specs.HeldRuns.{held_run}
-use Rattle.mctpctl_engines.specs.Pieces.{GoesOn}
+use Rattle.mctpctl_input.specs.Pieces.{GoesOn}
 use Rattle.mctpctl_engines.proofs.answer_run.AnswerRun.take_description.Given as goal
 
 abbrev pub invariant-loop-line : goal.invariant-loop-line

@@ -1,0 +1,11 @@
+pub mod CaptureRows
+pub mod DividerRows
+pub mod KnownInputs
+pub mod LineGlue
+pub mod PieceRuns
+pub mod PlainWords
+pub mod RunsOverLines
+pub mod RunsToEnd
+pub mod SameCaptures
+pub mod WrittenFronts
+pub mod Numbers

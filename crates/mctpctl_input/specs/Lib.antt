@@ -1,0 +1,11 @@
+pub mod BoundedRead
+pub mod CaptureLine
+pub mod CaptureRuns
+pub mod FaultNumbers
+pub mod FaultTexts
+pub mod LinePieces
+pub mod LineRuns
+pub mod Pieces
+pub mod Ports
+pub mod Statuses
+pub mod TextLines

@@ -1,0 +1,153 @@
+//! One line of a capture: `MS`, or `MS HEX`.
+
+ghost use Rattle.std.specs.Prelude.{◌≡◌, ◌≤◌, ℕ, MatchResult, drop, Ok, Err, IfOk, IfErr, IfSome, OnOk, true};
+ghost use Rattle.line_words.specs.Lines.{words_of};
+ghost use Rattle.mctpctl_input.specs.CaptureLine.{capture_of, packet_in, packet_at, packet_word, timed_packet, moment_of, TellsFault};
+ghost use Rattle.hex.specs.Hex.{decode_of};
+
+use crate::faults::LineKind;
+use crate::limits::MAX_CAPTURE_LINE;
+use line_words::{first_word, read_number, split_word};
+use mctp_packet::LAST_MOMENT;
+use thiserror::Error;
+
+/// What a line of a capture says.
+#[derive(Clone, Copy, Debug)]
+pub enum CaptureLine {
+    /// Nothing: the line is blank, or a comment.
+    Skipped,
+    /// That a packet came.
+    Packet {
+        /// When it came, in milliseconds.
+        moment: u64,
+    },
+}
+
+/// Why a line of a capture was not read.
+#[derive(Clone, Copy, Debug, PartialEq, Eq, Error)]
+pub enum CaptureFault {
+    /// The line is faulty.
+    #[error("{0}")]
+    Line(LineKind),
+    /// No memory was left.
+    #[error("out of memory")]
+    Memory,
+}
+
+/// What one line says, given without its LF, where `last` is the moment of an earlier line, in
+/// milliseconds. The bytes of a packet, of which there may be none, are put into `packet`. Of several
+/// faults it tells the first of `LongLine`, `Words`, `Number`, `BackInTime` and `BadHex`; a line that is
+/// too long is refused even where it says nothing.
+#[tactic(auto, unfolding(crate::specs::CaptureLine::capture_of))]
+pub fn read_capture_line(
+    line: &[u8],
+    last: u64,
+    packet: &mut Vec<u8>,
+) -> Result<CaptureLine, CaptureFault>
+    ensures ok { IfOk result (λ read. capture_of line.now last ≡ Ok (packet_in read packet.new.items)) }
+    ensures err { IfErr result (λ fault. TellsFault (capture_of line.now last) fault) }
+    ensures moment { IfOk result (λ read. IfSome (packet_in read packet.new.items) (λ timed. (last ≤ timed.moment) × (timed.moment ≤ LAST_MOMENT))) }
+{
+    if line.len() > MAX_CAPTURE_LINE {
+        return Err(CaptureFault::Line(LineKind::LongLine));
+    }
+    let Some((first, rest)) = first_word(line) else {
+        return Ok(CaptureLine::Skipped);
+    };
+    read_packet(first, rest, last, packet)
+}
+
+/// The packet of a line whose first word is `moment`, before `rest`.
+fn read_packet(
+    moment: &[u8],
+    rest: &[u8],
+    last: u64,
+    packet: &mut Vec<u8>,
+) -> Result<CaptureLine, CaptureFault>
+    ensures ok { IfOk result (λ read. timed_packet (packet_word (words_of rest.now)) (moment_of moment.now last) ≡ Ok (packet_in read packet.new.items)) }
+    ensures err { IfErr result (λ fault. TellsFault (timed_packet (packet_word (words_of rest.now)) (moment_of moment.now last)) fault) }
+    ensures moment { IfOk result (λ read. IfSome (packet_in read packet.new.items) (λ timed. (last ≤ timed.moment) × (timed.moment ≤ LAST_MOMENT))) }
+{
+    if !is_plain(rest, packet) {
+        return read_words(moment, rest, last, packet);
+    }
+    match read_moment(moment, last) {
+        Ok(moment) => Ok(CaptureLine::Packet { moment }),
+        Err(kind) => Err(CaptureFault::Line(kind)),
+    }
+}
+
+/// As `read_packet`, word by word.
+fn read_words(
+    moment: &[u8],
+    rest: &[u8],
+    last: u64,
+    packet: &mut Vec<u8>,
+) -> Result<CaptureLine, CaptureFault>
+    ensures ok { IfOk result (λ read. timed_packet (packet_word (words_of rest.now)) (moment_of moment.now last) ≡ Ok (packet_in read packet.new.items)) }
+    ensures err { IfErr result (λ fault. TellsFault (timed_packet (packet_word (words_of rest.now)) (moment_of moment.now last)) fault) }
+    ensures moment { IfOk result (λ read. IfSome (packet_in read packet.new.items) (λ timed. (last ≤ timed.moment) × (timed.moment ≤ LAST_MOMENT))) }
+{
+    let digits = read_packet_word(rest).map_err(CaptureFault::Line)?;
+    let moment = read_moment(moment, last).map_err(CaptureFault::Line)?;
+    read_hex(digits, packet)?;
+    Ok(CaptureLine::Packet { moment })
+}
+
+/// Whether the text is a space and then hex digits alone, as it nearly always is. Their bytes are then
+/// put into `packet`, and no end of a word was looked for.
+#[tactic(auto, using(crate::proofs::PlainWords::plain_text))]
+fn is_plain(text: &[u8], packet: &mut Vec<u8>) -> bool
+    ensures word { result ≡ true → packet_word (words_of text.now) ≡ Ok (drop 1 text.now) }
+    ensures bytes { result ≡ true → decode_of (drop 1 text.now) ≡ Ok packet.new.items }
+{
+    if text.first() != Some(&b' ') {
+        return false;
+    }
+    let (_, digits) = text.split_at(1);
+    match read_hex(digits, packet) {
+        Ok(()) => true,
+        Err(_) => false,
+    }
+}
+
+/// The one word of a text, or no bytes where it has no word.
+fn read_packet_word(text: &[u8]) -> Result<&[u8], LineKind>
+    ensures { MatchResult result (λ word. packet_word (words_of text.now) ≡ Ok word.now) (λ kind. packet_word (words_of text.now) ≡ Err kind) }
+{
+    let Some((word, rest)) = split_word(text) else {
+        return Ok(b"");
+    };
+    if split_word(rest).is_some() {
+        return Err(LineKind::Words);
+    }
+    Ok(word)
+}
+
+/// Puts the bytes that hex digits of either case spell into `packet`.
+fn read_hex(digits: &[u8], packet: &mut Vec<u8>) -> Result<(), CaptureFault>
+    ensures ok { OnOk result (decode_of digits.now ≡ Ok packet.new.items) }
+    ensures err { IfErr result (λ fault. (moment : ℕ) → TellsFault (packet_at moment (decode_of digits.now)) fault) }
+{
+    if packet.resize(digits.len() / 2, 0).is_err() {
+        return Err(CaptureFault::Memory);
+    }
+    match hex::decode_to_slice(digits, packet.as_mut_slice()) {
+        Ok(()) => Ok(()),
+        Err(_) => Err(CaptureFault::Line(LineKind::BadHex)),
+    }
+}
+
+/// The moment that a word spells, where it is in its range and not before the last one.
+fn read_moment(word: &[u8], last: u64) -> Result<u64, LineKind>
+    ensures value { result ≡ moment_of word.now last }
+    ensures range { IfOk result (λ moment. (last ≤ moment) × (moment ≤ LAST_MOMENT)) }
+{
+    let Some(moment) = read_number(word, LAST_MOMENT) else {
+        return Err(LineKind::Number);
+    };
+    if moment < last {
+        return Err(LineKind::BackInTime);
+    }
+    Ok(moment)
+}

@@ -1,0 +1,151 @@
+//! What ends a run before its time, the text that tells it, and the program's exit status.
+
+ghost use Rattle.std.specs.Prelude.{◌≡◌, IfOk, Some, string_bytes};
+ghost use Rattle.mctpctl_input.specs.FaultNumbers.{number_of_engine_fault, number_of_line_kind};
+ghost use Rattle.mctpctl_input.specs.FaultTexts.{fault_text, name_of_line_kind, name_of_timing_fault};
+ghost use Rattle.mctpctl_input.specs.Statuses.{status_of_fault};
+
+use mctp_packet::{Eid, Memory};
+use pldm_device::FileFault;
+use pldm_requester::TimingFault;
+use std::alloc::Global;
+use std::{error, fmt};
+use thiserror::Error;
+
+/// Why a line was refused.
+#[derive(Clone, Copy, Debug, PartialEq, Eq, Error)]
+#[error("{}", self.name())]
+pub enum LineKind {
+    /// The line is over the limit of a capture line.
+    LongLine = 1,
+    /// The count of words is wrong, or a word of a schedule is not one that may stand there.
+    Words = 2,
+    /// The moment, or a number of a schedule, is no decimal number or is outside its range.
+    Number = 3,
+    /// The moment is before that of an earlier line.
+    BackInTime = 4,
+    /// The packet has an odd number of hex digits, or a character that is none.
+    BadHex = 5,
+    /// No earlier line of the schedule is of the requester at this endpoint ID.
+    NoSuchRequester = 6,
+    /// An earlier line of the schedule is of the requester at this endpoint ID.
+    SameRequester = 7,
+}
+
+impl LineKind {
+    /// The fault's number in this program's list.
+    pub fn number(self) -> u8
+        ensures { result ≡ number_of_line_kind self }
+    {
+        self as u8
+    }
+
+    /// The fault's name, as it is spelled in this type.
+    pub fn name(self) -> &'static str
+        ensures { result.now ≡ name_of_line_kind self }
+    {
+        match self {
+            LineKind::LongLine => "LongLine",
+            LineKind::Words => "Words",
+            LineKind::Number => "Number",
+            LineKind::BackInTime => "BackInTime",
+            LineKind::BadHex => "BadHex",
+            LineKind::NoSuchRequester => "NoSuchRequester",
+            LineKind::SameRequester => "SameRequester",
+        }
+    }
+}
+
+/// Why a run ended before all of its input was answered.
+#[derive(Clone, Copy, Debug, PartialEq, Eq)]
+pub enum EngineFault {
+    /// The device description was refused. Its `Memory` is told as this type's own.
+    Device(FileFault),
+    /// No line of the input is `%%`.
+    NoDivider,
+    /// The line with this number, counted from 1 after the divider, was refused.
+    Line(u64, LineKind),
+    /// The timing of the requester at this endpoint was refused.
+    Timing(Eid, TimingFault),
+    /// The description or the whole input is over its limit.
+    TooLarge,
+    /// The reader failed.
+    Read,
+    /// The writer failed.
+    Write,
+    /// No memory was left.
+    Memory,
+}
+
+impl fmt::Display for EngineFault {
+    ghost output = { λ fault. Some (fault_text fault) };
+
+    fn fmt<W: fmt::Write>(&self, f: &mut fmt::Formatter<W>) -> fmt::Result {
+        match self {
+            EngineFault::Device(fault) => write!(f, "device: {}", fault.name()),
+            EngineFault::NoDivider => write!(f, "no %% line"),
+            EngineFault::Line(number, kind) => write!(f, "line {number}: {}", kind.name()),
+            EngineFault::Timing(eid, fault) => {
+                write!(f, "requester {}: {}", eid.get(), timing_name(*fault))
+            }
+            EngineFault::TooLarge => write!(f, "input too large"),
+            EngineFault::Read => write!(f, "read fault"),
+            EngineFault::Write => write!(f, "write fault"),
+            EngineFault::Memory => write!(f, "out of memory"),
+        }
+    }
+}
+
+impl error::Error for EngineFault {}
+
+impl EngineFault {
+    /// The fault's number in this program's list.
+    pub fn number(&self) -> u8
+        ensures { result ≡ number_of_engine_fault self.now }
+    {
+        match self {
+            EngineFault::Device(_) => 1,
+            EngineFault::NoDivider => 2,
+            EngineFault::Line(_, _) => 3,
+            EngineFault::Timing(_, _) => 4,
+            EngineFault::TooLarge => 5,
+            EngineFault::Read => 6,
+            EngineFault::Write => 7,
+            EngineFault::Memory => 8,
+        }
+    }
+}
+
+/// The name of a timing's fault, as it is spelled in its type.
+fn timing_name(fault: TimingFault) -> &'static str
+    ensures { result.now ≡ name_of_timing_fault fault }
+{
+    match fault {
+        TimingFault::Timeout => "Timeout",
+        TimingFault::Tries => "Tries",
+        TimingFault::TooLate => "TooLate",
+        TimingFault::SameEid => "SameEid",
+    }
+}
+
+/// The exit status of a run that ended in the fault: 1 where the input was refused, 3 where the run
+/// could not be done.
+pub fn status_of(fault: &EngineFault) -> u8
+    ensures { result ≡ status_of_fault fault.now }
+{
+    match fault {
+        EngineFault::Device(_)
+        | EngineFault::NoDivider
+        | EngineFault::Line(_, _)
+        | EngineFault::Timing(_, _)
+        | EngineFault::TooLarge => 1,
+        EngineFault::Read | EngineFault::Write | EngineFault::Memory => 3,
+    }
+}
+
+/// The text that the program prints of the fault after `mctpctl: `, with no line end.
+pub fn fault_line(alloc: Global, fault: &EngineFault) -> Result<String, Memory>
+    ensures { IfOk result (λ text. string_bytes text ≡ fault_text fault.now) }
+{
+    Ok(fault.to_string(alloc)?)
+}

@@ -1,0 +1,192 @@
+//! The loop of a run: a piece of input is read, its ended lines are answered, and their text is
+//! written before more input is asked for.
+
+ghost use Rattle.std.specs.Prelude.{◌≡◌, ◌≢◌, ◌≤◌, ◌<◌, ◌+◌, ◌↔◌, ℕ, Bool, List, [], Err, OnOk, IfOk, IfSome, IsErrOf, length, nat_lt, take, vec_len, true, false};
+ghost use Rattle.mctpctl_input.specs.LineRuns.{Written, Writes};
+ghost use Rattle.mctpctl_input.specs.Pieces.{Takes, TakesTo, FinishesTo, WroteOfRead, WroteOfFront};
+ghost use Rattle.mctpctl_input.specs.Ports.{inner_of, has_failed};
+
+use crate::faults::EngineFault;
+use crate::limits::MAX_INPUT;
+use crate::port::Port;
+use pldm_device::FileFault;
+use std::alloc::{AllocError, Global};
+use std::io::{Read, Write};
+
+/// How many bytes are asked for at once.
+const PIECE: usize = 65_536;
+
+/// A run over an input that comes in pieces. `gives` says what it writes of the bytes to come, which are
+/// all or are cut off, and `counted` how many lines have ended.
+///
+/// The law `none_where_cut`: a run whose input is cut off at once writes nothing more.
+pub trait Run {
+    // what the run writes of the bytes to come, if they are cut off or all
+    ghost gives: { Self → Bool → List ℕ → Written };
+
+    // how many lines have ended
+    ghost counted: { Self → ℕ };
+
+    /// Takes a piece of the input, and adds to `out` what the lines that end in it give.
+    fn take(&mut self, alloc: Global, piece: &[u8], out: &mut Vec<u8>) -> Result<(), EngineFault>
+        requires { counted self.old + length piece.now ≤ MAX_INPUT }
+        ensures meets { Takes (gives self.old) piece.now (gives self.new) out.old.items out.new.items result }
+        ensures counted { counted self.new ≤ counted self.old + length piece.now }
+        ensures read { result ≢ Err EngineFault.Read }
+        ensures write { result ≢ Err EngineFault.Write }
+        ensures device { result ≢ Err (EngineFault.Device FileFault.Memory) };
+
+    /// Takes the end of the input, and writes what is left to give before its fault is told. `out` is
+    /// room for a text.
+    fn finish<W: Write>(
+        &mut self,
+        alloc: Global,
+        is_cut: bool,
+        out: &mut Vec<u8>,
+        writer: &mut Port<W>,
+    ) -> Result<(), EngineFault>
+        requires size { counted self.old ≤ MAX_INPUT }
+        requires works { has_failed writer.old ≡ false }
+        requires empty { out.old.items ≡ [] }
+        ensures meets { FinishesTo (gives self.old is_cut []) (W.contents (inner_of writer.old)) (W.contents (inner_of writer.new)) result }
+        ensures read { result ≢ Err EngineFault.Read }
+        ensures write { IsErrOf result EngineFault.Write ↔ (has_failed writer.new ≡ true) }
+        ensures device { result ≢ Err (EngineFault.Device FileFault.Memory) };
+
+    ghost none_where_cut: { (run : Self) → (gives run true []).text ≡ [] };
+}
+
+/// Where a piece is read to.
+fn room_for_a_piece(alloc: Global) -> Result<Vec<u8>, AllocError>
+    ensures { IfOk result (λ piece. 0 < vec_len piece) }
+{
+    vec![in alloc; 0u8; PIECE]
+}
+
+/// Writes what a piece gave, before its fault is told.
+fn take_piece<T: Run, W: Write>(
+    alloc: Global,
+    run: &mut T,
+    piece: &[u8],
+    out: &mut Vec<u8>,
+    writer: &mut Port<W>,
+) -> Result<(), EngineFault>
+    requires works { has_failed writer.old ≡ false }
+    requires empty { out.old.items ≡ [] }
+    requires size { T.counted run.old + length piece.now ≤ MAX_INPUT }
+    ensures meets { TakesTo (T.gives run.old) piece.now (T.gives run.new) (W.contents (inner_of writer.old)) (W.contents (inner_of writer.new)) result }
+    ensures counted { T.counted run.new ≤ T.counted run.old + length piece.now }
+    ensures empty { OnOk result (out.new.items ≡ []) }
+    ensures read { result ≢ Err EngineFault.Read }
+    ensures write { IsErrOf result EngineFault.Write ↔ (has_failed writer.new ≡ true) }
+    ensures device { result ≢ Err (EngineFault.Device FileFault.Memory) }
+{
+    let result = run.take(alloc, piece, out);
+    if writer.write_all(out).is_err() {
+        return Err(EngineFault::Write);
+    }
+    out.clear();
+    result
+}
+
+/// Reads to the end of input, or past `MAX_INPUT` bytes of it, in pieces that `room` has room for, and
+/// writes what each piece gives before the next one is asked for.
+fn run_pieces<T: Run, R: Read, W: Write>(
+    alloc: Global,
+    run: &mut T,
+    reader: &mut Port<R>,
+    writer: &mut Port<W>,
+    room: &mut [u8],
+) -> Result<(), EngineFault>
+    requires reads { has_failed reader.old ≡ false }
+    requires writes { has_failed writer.old ≡ false }
+    requires fresh { T.counted run.old ≡ 0 }
+    requires room { 0 < length room.old }
+    ensures text { IfSome (R.remaining (inner_of reader.old))
+        (λ all. Writes (T.gives run.old (nat_lt MAX_INPUT (length all)) (take MAX_INPUT all)) (W.contents (inner_of writer.old)) (W.contents (inner_of writer.new)) result) }
+    ensures at_read { IsErrOf result EngineFault.Read
+        → WroteOfRead (T.gives run.old) (R.remaining (inner_of reader.old)) (R.remaining (inner_of reader.new)) (W.contents (inner_of writer.old)) (W.contents (inner_of writer.new)) }
+    ensures at_memory { IsErrOf result EngineFault.Memory
+        → WroteOfFront (T.gives run.old) (R.remaining (inner_of reader.old)) (W.contents (inner_of writer.old)) (W.contents (inner_of writer.new)) }
+    ensures read { IsErrOf result EngineFault.Read ↔ (has_failed reader.new ≡ true) }
+    ensures write { IsErrOf result EngineFault.Write ↔ (has_failed writer.new ≡ true) }
+    ensures device { result ≢ Err (EngineFault.Device FileFault.Memory) }
+{
+    let mut out = Vec::new(alloc);
+    let mut left = MAX_INPUT;
+    loop {
+        let Ok(count) = reader.read(room) else {
+            return Err(EngineFault::Read);
+        };
+        if count == 0 {
+            return run.finish(alloc, false, &mut out, writer);
+        }
+        let is_cut = count > left;
+        let taken = count.min(left);
+        match take_piece(alloc, run, &room[..taken], &mut out, writer) {
+            Ok(()) => {}
+            Err(fault) => return Err(fault),
+        }
+        if is_cut {
+            return run.finish(alloc, true, &mut out, writer);
+        }
+        left -= taken;
+    }
+}
+
+/// Runs over all that a reader gives.
+fn run_all<T: Run, R: Read, W: Write>(
+    alloc: Global,
+    run: &mut T,
+    reader: &mut Port<R>,
+    writer: &mut Port<W>,
+) -> Result<(), EngineFault>
+    requires reads { has_failed reader.old ≡ false }
+    requires writes { has_failed writer.old ≡ false }
+    requires fresh { T.counted run.old ≡ 0 }
+    ensures text { IfSome (R.remaining (inner_of reader.old))
+        (λ all. Writes (T.gives run.old (nat_lt MAX_INPUT (length all)) (take MAX_INPUT all)) (W.contents (inner_of writer.old)) (W.contents (inner_of writer.new)) result) }
+    ensures at_read { IsErrOf result EngineFault.Read
+        → WroteOfRead (T.gives run.old) (R.remaining (inner_of reader.old)) (R.remaining (inner_of reader.new)) (W.contents (inner_of writer.old)) (W.contents (inner_of writer.new)) }
+    ensures at_memory { IsErrOf result EngineFault.Memory
+        → WroteOfFront (T.gives run.old) (R.remaining (inner_of reader.old)) (W.contents (inner_of writer.old)) (W.contents (inner_of writer.new)) }
+    ensures read { IsErrOf result EngineFault.Read ↔ (has_failed reader.new ≡ true) }
+    ensures write { IsErrOf result EngineFault.Write ↔ (has_failed writer.new ≡ true) }
+    ensures device { result ≢ Err (EngineFault.Device FileFault.Memory) }
+{
+    let Ok(mut piece) = room_for_a_piece(alloc) else {
+        return Err(EngineFault::Memory);
+    };
+    run_pieces(alloc, run, reader, writer, &mut piece)
+}
+
+/// Runs over all that a reader gives, and flushes what was written. Where a port has failed nothing is
+/// flushed.
+pub fn run_to_end<T: Run, R: Read, W: Write>(
+    alloc: Global,
+    run: &mut T,
+    reader: &mut Port<R>,
+    writer: &mut Port<W>,
+) -> Result<(), EngineFault>
+    requires reads { has_failed reader.old ≡ false }
+    requires writes { has_failed writer.old ≡ false }
+    requires fresh { T.counted run.old ≡ 0 }
+    ensures text { IfSome (R.remaining (inner_of reader.old))
+        (λ all. Writes (T.gives run.old (nat_lt MAX_INPUT (length all)) (take MAX_INPUT all)) (W.contents (inner_of writer.old)) (W.contents (inner_of writer.new)) result) }
+    ensures at_read { IsErrOf result EngineFault.Read
+        → WroteOfRead (T.gives run.old) (R.remaining (inner_of reader.old)) (R.remaining (inner_of reader.new)) (W.contents (inner_of writer.old)) (W.contents (inner_of writer.new)) }
+    ensures at_memory { IsErrOf result EngineFault.Memory
+        → WroteOfFront (T.gives run.old) (R.remaining (inner_of reader.old)) (W.contents (inner_of writer.old)) (W.contents (inner_of writer.new)) }
+    ensures read { IsErrOf result EngineFault.Read ↔ (has_failed reader.new ≡ true) }
+    ensures write { IsErrOf result EngineFault.Write ↔ (has_failed writer.new ≡ true) }
+    ensures device { result ≢ Err (EngineFault.Device FileFault.Memory) }
+{
+    let result = run_all(alloc, run, reader, writer);
+    if reader.failed() || writer.failed() {
+        return result;
+    }
+    if writer.flush().is_err() {
+        return Err(EngineFault::Write);
+    }
+    result
+}

@@ -1,0 +1,44 @@
+-- The text of items, one further: of steps with their entries, and of requests.
+use Rattle.std.proofs.Common.{◌≡◌, ℕ, zero, suc, ◌+◌, ◌<◌, ◌≤◌, List, [], ◌∷◌, ◌++◌, drop, get_or, length, min, refl, sym, ap, ◌∙◌, append_assoc, arith, drop-cons}
+use Rattle.mctp_schedule.specs.Requests.{Request}
+use Rattle.mctp_schedule.specs.declared.entry.Entry.{Entry}
+use Rattle.schedule_text.specs.declared.step.Step.{Step}
+use Rattle.mctpctl_texts.specs.EntryTexts.{entries_text, entry_line}
+use Rattle.mctpctl_texts.specs.ReportTexts.{requests_text, request_line}
+
+next_dropped : {A : Type 0} (things : List A) (i : ℕ) (thing : A) → i < length things → thing ≡ get_or things i thing
+    → drop i things ≡ thing ∷ drop (i + 1) things
+next_dropped things i thing within is =
+    let one : suc i ≡ i + 1 = omega arith in
+    drop-cons things i thing within ∙ ap (λ t. t ∷ drop (suc i) things) (sym is) ∙ ap (λ n. thing ∷ drop n things) one
+
+pub entries_step : (before after : List ℕ) (steps : List Step) (entries : List Entry) (i : ℕ) (step : Step) (entry : Entry) (moment : ℕ)
+    → i < length steps → i < length entries → step ≡ get_or steps i step → entry ≡ get_or entries i entry → moment ≡ step.moment
+    → after ≡ before ++ entry_line moment entry
+    → after ++ entries_text (drop (i + 1) steps) (drop (i + 1) entries) ≡ before ++ entries_text (drop i steps) (drop i entries)
+entries_step before after steps entries i step entry moment within also step_is entry_is at added =
+    ap (λ (t : List ℕ). t ++ entries_text (drop (i + 1) steps) (drop (i + 1) entries)) (added ∙ ap (λ m. before ++ entry_line m entry) at)
+    ∙ append_assoc before (entry_line step.moment entry) (entries_text (drop (i + 1) steps) (drop (i + 1) entries))
+    ∙ ap (λ (s : List Entry). before ++ entries_text (step ∷ drop (i + 1) steps) s) (sym (next_dropped entries i entry also entry_is))
+    ∙ ap (λ (s : List Step). before ++ entries_text s (drop i entries)) (sym (next_dropped steps i step within step_is))
+
+no_entries : (steps : List Step) → entries_text steps [] ≡ []
+no_entries [] = refl
+no_entries (step ∷ steps) = refl
+
+pub entries_done : (steps : List Step) (entries : List Entry) (i : ℕ) → min (length steps) (length entries) ≤ i
+    → entries_text (drop i steps) (drop i entries) ≡ []
+entries_done [] entries zero past = refl
+entries_done [] entries (suc i) past = refl
+entries_done (step ∷ steps) [] zero past = refl
+entries_done (step ∷ steps) [] (suc i) past = no_entries (drop i steps)
+entries_done (step ∷ steps) (entry ∷ entries) zero past = absurd (omega (arith, past))
+entries_done (step ∷ steps) (entry ∷ entries) (suc i) past = entries_done steps entries i (omega (arith, past))
+
+pub requests_step : (before after : List ℕ) (requests : List Request) (i : ℕ) (request : Request)
+    → i < length requests → request ≡ get_or requests i request → after ≡ before ++ request_line i request
+    → after ++ requests_text (i + 1) (drop (i + 1) requests) ≡ before ++ requests_text i (drop i requests)
+requests_step before after requests i request within is added =
+    ap (λ (t : List ℕ). t ++ requests_text (i + 1) (drop (i + 1) requests)) added
+    ∙ append_assoc before (request_line i request) (requests_text (i + 1) (drop (i + 1) requests))
+    ∙ ap (λ (s : List Request). before ++ requests_text i s) (sym (next_dropped requests i request within is))

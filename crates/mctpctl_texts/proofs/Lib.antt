@@ -1,0 +1,5 @@
+pub mod ItemTexts
+pub mod PlacesTold
+pub mod TextFronts
+pub mod WrittenParts
+pub mod Numbers

@@ -1,0 +1,4 @@
+pub mod EntryTexts
+pub mod OutcomeTexts
+pub mod ReportTexts
+pub mod ShownLines

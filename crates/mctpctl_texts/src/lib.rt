@@ -1,0 +1,18 @@
+//! The texts that `mctpctl` writes: the outcome of a packet, a packet and a message that are shown, the report of a run.
+#![tactic(auto)]
+
+mod bytes_text;
+mod decimal;
+mod device_text;
+mod entry_text;
+mod message_line;
+mod outcome;
+mod packet_line;
+mod report_text;
+mod written_text;
+
+pub use device_text::device_text;
+pub use outcome::push_outcome;
+pub use packet_line::{push_completed, push_no_packet_line, push_packet_line};
+pub use report_text::write_report;
+pub use written_text::NotWritten;
