@@ -4,7 +4,7 @@ use Rattle.mctpctl_engines.specs.AnswerPieces.{past_gives}
 use Rattle.mctpctl_engines.specs.AnswerText.{run_of, called_run}
 use Rattle.mctpctl_engines.specs.DescribedPieces.{description_gives, described_gives}
 use Rattle.mctpctl_engines.specs.HeldRuns.{held_run}
-use Rattle.mctpctl_input.specs.declared.line_run.LineRun.{LineRun}
+use Rattle.mctpctl_engines.specs.declared.line_run.LineRun.{LineRun}
 use Rattle.mctpctl_engines.proofs.DescribedGlue.{run_of_all}
 use Rattle.pldm_device.specs.Devices.{Device}
 use Rattle.pldm_responder.specs.Stations.{Station}

@@ -8,7 +8,7 @@ use Rattle.line_words.specs.TextLines.{HasNoFeed, lines_of}
 use Rattle.mctpctl_engines.specs.AnswerText.{described_run, divided_run, run_of}
 use Rattle.mctpctl_engines.specs.DescribedPieces.{run_described, description_gives, begun, device_begun}
 use Rattle.mctpctl_engines.specs.HeldRuns.{held_step, held_run}
-use Rattle.mctpctl_input.specs.LinePieces.{glued, line_gives}
+use Rattle.mctpctl_engines.specs.LinePieces.{glued, line_gives}
 use Rattle.mctpctl_input.specs.LineRuns.{Written, stops_at, lines_written}
 use Rattle.mctpctl_input.specs.Pieces.{Gives, GoesOn, StopsWith, Takes, Finishes}
 use Rattle.mctpctl_engines.specs.AnswerPieces.{nothing_where_cut}
@@ -18,7 +18,7 @@ use Rattle.mctpctl_input.specs.declared.faults.EngineFault.{EngineFault}
 use Rattle.mctpctl_input.specs.declared.faults.EngineFault.TheVariants as faults
 use Rattle.line_words.specs.Lines.{without_cr}
 use Rattle.mctpctl_input.specs.declared.limits.TheConstants.{LONGEST_DIVIDER, MAX_DESCRIPTION}
-use Rattle.mctpctl_input.proofs.LineGlue.{lines_glued, line_ended, glued_glued, glued_nil, feed_split, takes_after}
+use Rattle.mctpctl_engines.proofs.LineGlue.{lines_glued, line_ended, glued_glued, glued_nil, feed_split, takes_after}
 use Rattle.mctpctl_input.proofs.RunsOverLines.{some_line}
 use Rattle.pldm_device.specs.Descriptions.{stated}
 use Rattle.pldm_device.specs.Devices.{Device}

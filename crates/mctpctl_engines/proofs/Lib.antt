@@ -7,3 +7,4 @@ pub mod SameHeld
 pub mod ScheduleGlue
 pub mod ShowRows
 pub mod ShownLookingBack
+pub mod LineGlue

@@ -10,12 +10,12 @@ use Rattle.mctp_packet.specs.Reading.{reading}
 use Rattle.mctp_packet.specs.declared.TheConstants.{MOST_PACKETS}
 use Rattle.mctp_packet.specs.declared.reason.Reason.{Reason}
 use Rattle.mctpctl_input.specs.CaptureLine.{TimedPacket}
-use Rattle.mctpctl_input.specs.LinePieces.{line_gives}
+use Rattle.mctpctl_engines.specs.LinePieces.{line_gives}
 use Rattle.mctpctl_input.specs.LineRuns.{lines_written}
 use Rattle.mctpctl_engines.specs.ObservedRuns.{Observed, none_observed, given_at, open_with, observed_text, observed_with, observed_step}
 use Rattle.mctpctl_engines.specs.ShowText.{last_seen, fed_more, fed_to, gives_after, seen_text, seen_with, seen_step, seen_run}
 use Rattle.mctpctl_texts.specs.ShownLines.{packet_line, completed_text, shown_text}
-use Rattle.mctpctl_input.proofs.LineGlue.{glued_nil}
+use Rattle.mctpctl_engines.proofs.LineGlue.{glued_nil}
 use Rattle.mctpctl_input.proofs.RunsOverLines.{SameStep, same_run, some_line}
 use Rattle.mctpctl_input.proofs.SameCaptures.{same_capture_step}
 

@@ -4,13 +4,13 @@ use Rattle.std.specs.Prelude.{List, [], ◌++◌, length, Option, None, Some, Re
 use Rattle.mctpctl_engines.specs.AnswerText.{described_run}
 use Rattle.mctpctl_engines.specs.DescribedPieces.{run_described, description_gives, described_gives}
 use Rattle.mctpctl_engines.specs.HeldRuns.{held_step, held_run}
-use Rattle.mctpctl_input.specs.LinePieces.{line_gives}
+use Rattle.mctpctl_engines.specs.LinePieces.{line_gives}
 use Rattle.mctpctl_input.specs.LineRuns.{stops_at}
 use Rattle.mctpctl_input.specs.Pieces.{Gives}
 use Rattle.mctpctl_input.specs.TextLines.{is_divider}
 use Rattle.mctpctl_input.specs.declared.faults.EngineFault.TheVariants as faults
 use Rattle.mctpctl_input.specs.declared.limits.TheConstants.{MAX_DESCRIPTION}
-use Rattle.mctpctl_input.specs.declared.line_run.LineRun.{LineRun}
+use Rattle.mctpctl_engines.specs.declared.line_run.LineRun.{LineRun}
 use Rattle.pldm_device.specs.Descriptions.{stated}
 use Rattle.pldm_device.specs.Devices.{Device}
 use Rattle.pldm_device.specs.declared.description.Description.{Description}

@@ -3,7 +3,7 @@ use Rattle.std.specs.Prelude.{◌≡◌, ◌≢◌, ◌⊎◌, [], Result, Ok, E
 use Rattle.std.specs.Prelude.{Bool, if◌then◌else◌, List, ◌++◌, length, Option, None, Some}
 use Rattle.line_words.specs.TextLines.{lines_of}
 use Rattle.mctpctl_engines.specs.AnswerText.{described_run}
-use Rattle.mctpctl_input.specs.LinePieces.{glued}
+use Rattle.mctpctl_engines.specs.LinePieces.{glued}
 use Rattle.mctpctl_input.specs.LineRuns.{Written, stops_at}
 use Rattle.mctpctl_input.specs.Pieces.{Gives, GoesOn, StopsWith}
 use Rattle.mctpctl_input.specs.TextLines.{capture_lines, description_of}
@@ -58,6 +58,11 @@ device_begun (Err fault) = Err (faults.Device fault)
 
 abbrev pub begun : List ℕ → Result Description EngineFault
 begun text = if nat_lt MAX_DESCRIPTION (length text) then Err faults.TooLarge else device_begun (stated text)
+
+-- the result is the value or the fault that there is; memory may run out at any input
+abbrev pub Tells : {T : Type 0} → Result T EngineFault → Result T EngineFault → Type 0
+Tells owed (Ok value) = owed ≡ Ok value
+Tells owed (Err fault) = (fault ≡ faults.Memory) ⊎ ((fault ≢ faults.Memory) × (owed ≡ Err fault))
 
 -- what is begun is held as by a new responder of the described device
 abbrev pub Begins : {T : Type 0} → (T → Held Device) → List ℕ → Result T EngineFault → Type 0

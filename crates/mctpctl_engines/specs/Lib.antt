@@ -7,3 +7,4 @@ pub mod ObservedRuns
 pub mod RunText
 pub mod SchedulePieces
 pub mod ShowText
+pub mod LinePieces

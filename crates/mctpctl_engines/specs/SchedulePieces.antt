@@ -20,11 +20,6 @@ use Rattle.pldm_device.specs.declared.description_fault.FileFault.{FileFault}
 abbrev pub schedule_gives : List ℕ → Gives
 schedule_gives kept = λ is_cut bytes. run_of scheduled_run is_cut (kept ++ bytes)
 
--- what is told is so; memory may be wanting at any input
-abbrev pub Tells : {T : Type 0} → Result T EngineFault → Result T EngineFault → Type 0
-Tells owed (Ok value) = owed ≡ Ok value
-Tells owed (Err fault) = (fault ≡ faults.Memory) ⊎ ((fault ≢ faults.Memory) × (owed ≡ Err fault))
-
 -- the text of a run that has no fault, or its fault, before which there is no text
 abbrev pub TellsText : {T : Type 0} → (T → List ℕ) → Written → Result T EngineFault → Type 0
 TellsText bytes written (Ok text) = (written.fault ≡ None) × (written.text ≡ bytes text)

@@ -8,7 +8,7 @@ ghost use Rattle.mctpctl_input.specs.Ports.{inner_of, has_failed};
 
 use crate::answer_run::AnswerRun;
 use mctpctl_input::{EngineFault, Port, run_to_end};
-use pldm_device::{FileFault, SimDevice};
+use pldm_device::SimDevice;
 use pldm_responder::laws;
 use std::alloc::Global;
 use std::io::{Read, Write};
@@ -41,7 +41,6 @@ pub fn answer_all<R: Read, W: Write>(
         → WroteOfFront (run_of called_run) (R.remaining (inner_of reader.old)) (W.contents (inner_of writer.old)) (W.contents (inner_of writer.new)) }
     ensures read { IsErrOf result EngineFault.Read ↔ (has_failed reader.new ≡ true) }
     ensures write { IsErrOf result EngineFault.Write ↔ (has_failed writer.new ≡ true) }
-    ensures device { result ≢ Err (EngineFault.Device FileFault.Memory) }
 {
     laws::looks_back::<SimDevice>();
     let mut run = AnswerRun::new(alloc);

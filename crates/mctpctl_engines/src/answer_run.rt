@@ -6,18 +6,23 @@ ghost use Rattle.mctpctl_engines.specs.DescribedPieces.{description_gives, descr
 ghost use Rattle.mctpctl_engines.specs.AnswerPieces.{past_gives, past_count, nothing_where_cut};
 ghost use Rattle.mctpctl_engines.specs.LongLines.{held_refuses};
 ghost use Rattle.mctpctl_engines.specs.HeldRuns.{held_step, held_run};
-ghost use Rattle.mctpctl_input.specs.LinePieces.{AddsLine};
+ghost use Rattle.mctpctl_engines.specs.LinePieces.{AddsLine};
 ghost use Rattle.mctpctl_input.specs.Pieces.{Takes, Finishes, FinishesTo};
 ghost use Rattle.mctpctl_input.specs.Ports.{inner_of, has_failed};
 ghost use Rattle.pldm_responder.specs.Stations.{held_of};
 ghost use Rattle.pldm_responder.specs.Held.{Held};
 ghost use Rattle.pldm_device.specs.Devices.{Device};
 
-use mctpctl_input::{CaptureFault, CaptureLine, EngineFault, LONGEST_DIVIDER, LineRoom, LineRun, LineTask, MAX_DESCRIPTION, MAX_INPUT, Port, Run, is_divider, read_capture_line};
+use crate::described::read_description;
+use crate::line_run::{LineRoom, LineRun, LineTask};
+use mctpctl_input::{
+    CaptureFault, CaptureLine, EngineFault, LONGEST_DIVIDER, MAX_DESCRIPTION, MAX_INPUT, Port, Run,
+    is_divider, read_capture_line,
+};
 use mctpctl_texts::push_outcome;
 use line_words::split_line;
 use mctp_packet::Moment;
-use pldm_device::{Description, FileFault, SimDevice};
+use pldm_device::SimDevice;
 use pldm_responder::Responder;
 use std::alloc::Global;
 use std::io::Write;
@@ -39,7 +44,6 @@ impl LineTask for Responder<SimDevice> {
         out: &mut Vec<u8>,
     ) -> Result<(), EngineFault>
         ensures meets { AddsLine number (held_step (held_of self.old) line.now) (held_of self.new) out.old.items out.new.items result }
-        ensures device { result ≢ Err (EngineFault.Device FileFault.Memory) }
     {
         let last = self.last_moment();
         let moment = match read_capture_line(line, last.get(), &mut room.packet) {
@@ -77,15 +81,10 @@ fn begin(alloc: Global, text: &[u8]) -> Result<Responder<SimDevice>, EngineFault
     ensures meets { Begins held_of text.now result }
     ensures read { result ≢ Err EngineFault.Read }
     ensures write { result ≢ Err EngineFault.Write }
-    ensures device { result ≢ Err (EngineFault.Device FileFault.Memory) }
 {
-    if text.len() > MAX_DESCRIPTION {
-        return Err(EngineFault::TooLarge);
-    }
-    let description = match Description::read(alloc, text) {
+    let description = match read_description(alloc, text) {
         Ok(description) => description,
-        Err(FileFault::Memory) => return Err(EngineFault::Memory),
-        Err(fault) => return Err(EngineFault::Device(fault)),
+        Err(fault) => return Err(fault),
     };
     Ok(Responder::new(alloc, description.eid, description.keep, description.device))
 }
@@ -118,7 +117,6 @@ impl AnswerRun {
         ensures ended { IfOk result (λ begun. IfSome begun (λ run. run.ended ≡ 0)) }
         ensures read { result ≢ Err EngineFault.Read }
         ensures write { result ≢ Err EngineFault.Write }
-        ensures device { result ≢ Err (EngineFault.Device FileFault.Memory) }
     {
         if self.kept.extend_from_slice(line).is_err() {
             return Err(EngineFault::Memory);
@@ -152,7 +150,6 @@ impl AnswerRun {
         ensures lines { self.new.lines ≡ self.old.lines }
         ensures read { result ≢ Err EngineFault.Read }
         ensures write { result ≢ Err EngineFault.Write }
-        ensures device { result ≢ Err (EngineFault.Device FileFault.Memory) }
     {
         if self.kept.extend_from_slice(front).is_err() {
             return Err(EngineFault::Memory);
@@ -181,7 +178,6 @@ impl AnswerRun {
         ensures counted { described_count past_count self.new.lines ≤ length piece.now }
         ensures read { result ≢ Err EngineFault.Read }
         ensures write { result ≢ Err EngineFault.Write }
-        ensures device { result ≢ Err (EngineFault.Device FileFault.Memory) }
     {
         let mut rest = piece;
         while let Some((line, after)) = split_line(rest) {
@@ -205,7 +201,6 @@ impl AnswerRun {
         ensures meets { Finishes (description_gives held_run self.now.text.items self.now.kept.items is_cut []) [] [] result }
         ensures read { result ≢ Err EngineFault.Read }
         ensures write { result ≢ Err EngineFault.Write }
-        ensures device { result ≢ Err (EngineFault.Device FileFault.Memory) }
     {
         if !is_divider(&self.kept) {
             let length = self.text.len().saturating_add(self.kept.len());
@@ -237,7 +232,6 @@ impl Run for AnswerRun {
         ensures counted { described_count past_count self.new.lines ≤ described_count past_count self.old.lines + length piece.now }
         ensures read { result ≢ Err EngineFault.Read }
         ensures write { result ≢ Err EngineFault.Write }
-        ensures device { result ≢ Err (EngineFault.Device FileFault.Memory) }
     {
         match &mut self.lines {
             Some(lines) => lines.take(alloc, piece, out),
@@ -260,7 +254,6 @@ impl Run for AnswerRun {
             (W.contents (inner_of writer.old)) (W.contents (inner_of writer.new)) result }
         ensures read { result ≢ Err EngineFault.Read }
         ensures write { IsErrOf result EngineFault.Write ↔ (has_failed writer.new ≡ true) }
-        ensures device { result ≢ Err (EngineFault.Device FileFault.Memory) }
     {
         match &mut self.lines {
             Some(lines) => lines.finish(alloc, is_cut, out, writer),

@@ -3,6 +3,8 @@
 
 mod answer;
 mod answer_run;
+mod described;
+mod line_run;
 mod observer;
 mod run;
 mod schedule_run;
@@ -10,7 +12,7 @@ mod show;
 
 pub use answer::answer_all;
 pub use mctpctl_input::{
-    EngineFault, LONGEST_DIVIDER, LineKind, MAX_CAPTURE_LINE, MAX_DESCRIPTION, MAX_INPUT, Port,
+    DescriptionFault, EngineFault, LONGEST_DIVIDER, LineKind, MAX_CAPTURE_LINE, MAX_DESCRIPTION, MAX_INPUT, Port,
     fault_line, status_of,
 };
 pub use run::run_all;

@@ -1,17 +1,17 @@
 //! What `mctpctl show` makes of the packets of a capture.
 
 ghost use Rattle.std.specs.Prelude.{◌≡◌, ◌≢◌, ◌++◌, Err, IfOk, OnOk};
-ghost use Rattle.mctpctl_input.specs.LinePieces.{AddsLine};
+ghost use Rattle.mctpctl_engines.specs.LinePieces.{AddsLine};
 ghost use Rattle.mctpctl_engines.specs.LongLines.{observed_refuses};
 ghost use Rattle.mctpctl_engines.specs.ObservedRuns.{Observed, given_at, none_observed, observed_of, observed_step, open_after, open_in, open_with};
 ghost use Rattle.mctpctl_texts.specs.ShownLines.{shown_text};
 ghost use Rattle.mctp_packet.specs.Reading.{reading};
 
-use mctpctl_input::{CaptureFault, CaptureLine, EngineFault, LineRoom, LineTask, read_capture_line};
+use crate::line_run::{LineRoom, LineTask};
+use mctpctl_input::{CaptureFault, CaptureLine, EngineFault, read_capture_line};
 use mctpctl_texts::{push_completed, push_no_packet_line, push_packet_line};
 use mctp_assembly::{Assembler, Fed};
 use mctp_packet::{Eid, Memory, PacketRef, read};
-use pldm_device::FileFault;
 use std::alloc::Global;
 use std::collections::BTreeMap;
 
@@ -96,7 +96,6 @@ impl LineTask for Observer {
     ) -> Result<(), EngineFault>
         ensures meets { AddsLine number (observed_step (observed_of self.old) line.now) (observed_of self.new)
             out.old.items out.new.items result }
-        ensures device { result ≢ Err (EngineFault.Device FileFault.Memory) }
     {
         let moment = match read_capture_line(line, self.last, &mut room.packet) {
             Ok(CaptureLine::Packet { moment }) => moment,

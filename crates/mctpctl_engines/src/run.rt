@@ -8,7 +8,6 @@ ghost use Rattle.mctpctl_engines.specs.RunText.{run_text};
 
 use crate::schedule_run::ScheduleRun;
 use mctpctl_input::{EngineFault, Port, run_to_end};
-use pldm_device::FileFault;
 use std::alloc::Global;
 use std::io::{Read, Write};
 
@@ -37,7 +36,6 @@ pub fn run_all<R: Read, W: Write>(
         → Keeps (W.contents (inner_of writer.old)) (W.contents (inner_of writer.new)) }
     ensures read { IsErrOf result EngineFault.Read ↔ (has_failed reader.new ≡ true) }
     ensures write { IsErrOf result EngineFault.Write ↔ (has_failed writer.new ≡ true) }
-    ensures device { result ≢ Err (EngineFault.Device FileFault.Memory) }
 {
     let mut run = ScheduleRun::new(alloc);
     run_to_end(alloc, &mut run, reader, writer)

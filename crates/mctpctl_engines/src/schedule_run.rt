@@ -9,14 +9,15 @@ ghost use Rattle.mctpctl_engines.specs.DescribedPieces.{begun};
 ghost use Rattle.mctpctl_input.specs.Pieces.{Takes, FinishesTo};
 ghost use Rattle.mctpctl_input.specs.Ports.{inner_of, has_failed};
 ghost use Rattle.mctpctl_engines.specs.RunText.{schedule_written, scheduled_run, spelled_by, stop_of_line, stop_of_run};
-ghost use Rattle.mctpctl_engines.specs.SchedulePieces.{Tells, TellsText, nothing_where_cut, schedule_gives, text_of_ran};
+ghost use Rattle.mctpctl_engines.specs.SchedulePieces.{TellsText, nothing_where_cut, schedule_gives, text_of_ran};
 ghost use Rattle.mctpctl_input.specs.TextLines.{capture_lines, description_of};
 
+use crate::described::read_description;
 use mctpctl_input::{EngineFault, LineKind, MAX_DESCRIPTION, MAX_INPUT, Port, Run, is_divider};
 use mctpctl_texts::{NotWritten, device_text, write_report};
 use line_words::split_line;
 use mctp_schedule::{LineFault, LineFaultKind, Report, RunFault, Schedule, Setup, run};
-use pldm_device::{Description, FileFault, SimDevice};
+use pldm_device::{Description, SimDevice};
 use std::alloc::Global;
 use std::io::Write;
 
@@ -72,23 +73,6 @@ fn divide(text: &[u8]) -> Option<Divided<'_>>
     None
 }
 
-/// The device that the text before the divider describes.
-fn describe(alloc: Global, text: &[u8]) -> Result<Description, EngineFault>
-    ensures meets { Tells (begun text.now) result }
-    ensures read { result ≢ Err EngineFault.Read }
-    ensures write { result ≢ Err EngineFault.Write }
-    ensures device { result ≢ Err (EngineFault.Device FileFault.Memory) }
-{
-    if text.len() > MAX_DESCRIPTION {
-        return Err(EngineFault::TooLarge);
-    }
-    match Description::read(alloc, text) {
-        Ok(description) => Ok(description),
-        Err(FileFault::Memory) => Err(EngineFault::Memory),
-        Err(fault) => Err(EngineFault::Device(fault)),
-    }
-}
-
 /// What ends the run at a refused line of the schedule.
 fn stop_of_line(fault: LineFault) -> EngineFault
     ensures { result ≡ stop_of_line fault }
@@ -131,7 +115,6 @@ fn run_schedule(
     ensures meets { TellsText text_of_ran (schedule_written description (schedule_of schedule.now)) result }
     ensures read { result ≢ Err EngineFault.Read }
     ensures write { result ≢ Err EngineFault.Write }
-    ensures device { result ≢ Err (EngineFault.Device FileFault.Memory) }
 {
     let schedule = match Schedule::read(alloc, schedule) {
         Ok(schedule) => schedule,
@@ -158,7 +141,6 @@ fn run_input(alloc: Global, text: &[u8], is_cut: bool) -> Result<Ran, EngineFaul
     ensures meets { TellsText text_of_ran (run_of scheduled_run is_cut text.now) result }
     ensures read { result ≢ Err EngineFault.Read }
     ensures write { result ≢ Err EngineFault.Write }
-    ensures device { result ≢ Err (EngineFault.Device FileFault.Memory) }
 {
     let Some(divided) = divide(text) else {
         return Err(if text.len() > MAX_DESCRIPTION {
@@ -167,7 +149,7 @@ fn run_input(alloc: Global, text: &[u8], is_cut: bool) -> Result<Ran, EngineFaul
             EngineFault::NoDivider
         });
     };
-    let description = match describe(alloc, divided.description) {
+    let description = match read_description(alloc, divided.description) {
         Ok(description) => description,
         Err(fault) => return Err(fault),
     };
@@ -203,7 +185,6 @@ impl Run for ScheduleRun {
         ensures counted { 0 ≤ 0 + length piece.now }
         ensures read { result ≢ Err EngineFault.Read }
         ensures write { result ≢ Err EngineFault.Write }
-        ensures device { result ≢ Err (EngineFault.Device FileFault.Memory) }
     {
         if self.kept.extend_from_slice(piece).is_err() {
             return Err(EngineFault::Memory);
@@ -224,7 +205,6 @@ impl Run for ScheduleRun {
         ensures meets { FinishesTo (schedule_gives self.old.kept.items is_cut []) (W.contents (inner_of writer.old)) (W.contents (inner_of writer.new)) result }
         ensures read { result ≢ Err EngineFault.Read }
         ensures write { IsErrOf result EngineFault.Write ↔ (has_failed writer.new ≡ true) }
-        ensures device { result ≢ Err (EngineFault.Device FileFault.Memory) }
     {
         match run_input(alloc, &self.kept, is_cut) {
             Ok(ran) => tell(writer, &ran),

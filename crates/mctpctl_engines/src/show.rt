@@ -7,9 +7,9 @@ ghost use Rattle.mctpctl_input.specs.Ports.{inner_of, has_failed};
 ghost use Rattle.mctpctl_engines.specs.ShowText.{seen_run, show_text};
 
 use crate::observer::Observer;
-use mctpctl_input::{EngineFault, LineRoom, LineRun, Port, run_to_end};
+use crate::line_run::{LineRoom, LineRun};
+use mctpctl_input::{EngineFault, Port, run_to_end};
 use mctp_assembly::laws;
-use pldm_device::FileFault;
 use std::alloc::Global;
 use std::io::{Read, Write};
 
@@ -41,7 +41,6 @@ pub fn show_all<R: Read, W: Write>(
         (W.contents (inner_of writer.old)) (W.contents (inner_of writer.new)) }
     ensures read { IsErrOf result EngineFault.Read ↔ (has_failed reader.new ≡ true) }
     ensures write { IsErrOf result EngineFault.Write ↔ (has_failed writer.new ≡ true) }
-    ensures device { result ≢ Err (EngineFault.Device FileFault.Memory) }
 {
     laws::looks_back();
     let task = Observer::new(alloc);

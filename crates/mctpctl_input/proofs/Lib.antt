@@ -1,7 +1,6 @@
 pub mod CaptureRows
 pub mod DividerRows
 pub mod KnownInputs
-pub mod LineGlue
 pub mod PieceRuns
 pub mod PlainWords
 pub mod RunsOverLines

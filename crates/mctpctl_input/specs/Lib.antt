@@ -3,7 +3,6 @@ pub mod CaptureLine
 pub mod CaptureRuns
 pub mod FaultNumbers
 pub mod FaultTexts
-pub mod LinePieces
 pub mod LineRuns
 pub mod Pieces
 pub mod Ports

@@ -1,6 +1,6 @@
 //! What ends a run before its time, the text that tells it, and the program's exit status.
 
-ghost use Rattle.std.specs.Prelude.{◌≡◌, IfOk, Some, string_bytes};
+ghost use Rattle.std.specs.Prelude.{◌≡◌, ◌≢◌, IfOk, IfSome, IfNone, Some, string_bytes};
 ghost use Rattle.mctpctl_input.specs.FaultNumbers.{number_of_engine_fault, number_of_line_kind};
 ghost use Rattle.mctpctl_input.specs.FaultTexts.{fault_text, name_of_line_kind, name_of_timing_fault};
 ghost use Rattle.mctpctl_input.specs.Statuses.{status_of_fault};
@@ -9,6 +9,7 @@ use mctp_packet::{Eid, Memory};
 use pldm_device::FileFault;
 use pldm_requester::TimingFault;
 use std::alloc::Global;
+use std::marker::Model;
 use std::{error, fmt};
 use thiserror::Error;
 
@@ -56,11 +57,52 @@ impl LineKind {
     }
 }
 
+/// Why a device description was refused: any [`FileFault`] but `Memory`, which is the engine's own.
+#[derive(Clone, Copy, Debug, PartialEq, Eq)]
+pub struct DescriptionFault {
+    fault: FileFault,
+}
+
+impl Model for DescriptionFault {
+    ghost use Rattle.std.specs.Prelude.{◌≢◌};
+    ghost use Rattle.pldm_device.specs.declared.description_fault.FileFault.{FileFault};
+    ghost use Rattle.pldm_device.specs.declared.description_fault.FileFault.TheVariants as faults;
+
+    ghost Value = { FileFault };
+
+    ghost view = { λ refusal. refusal.fault };
+
+    ghost invariant = { λ refusal. refusal.fault ≢ faults.Memory };
+
+    ghost inverse = { λ fault. record { fault = fault } };
+}
+
+impl DescriptionFault {
+    /// The fault of a description that was refused; `None` where memory ran out.
+    pub fn new(fault: FileFault) -> Option<DescriptionFault>
+        ensures some { IfSome result (λ refusal. refusal ≡ fault) }
+        ensures none { IfNone result (fault ≡ FileFault.Memory) }
+    {
+        match fault {
+            FileFault::Memory => None,
+            _ => Some(DescriptionFault { fault }),
+        }
+    }
+
+    /// The fault of the description.
+    pub fn fault(&self) -> FileFault
+        ensures value { result ≡ self.now }
+        ensures no_memory { result ≢ FileFault.Memory }
+    {
+        self.fault
+    }
+}
+
 /// Why a run ended before all of its input was answered.
 #[derive(Clone, Copy, Debug, PartialEq, Eq)]
 pub enum EngineFault {
-    /// The device description was refused. Its `Memory` is told as this type's own.
-    Device(FileFault),
+    /// The device description was refused.
+    Device(DescriptionFault),
     /// No line of the input is `%%`.
     NoDivider,
     /// The line with this number, counted from 1 after the divider, was refused.
@@ -82,7 +124,7 @@ impl fmt::Display for EngineFault {
 
     fn fmt<W: fmt::Write>(&self, f: &mut fmt::Formatter<W>) -> fmt::Result {
         match self {
-            EngineFault::Device(fault) => write!(f, "device: {}", fault.name()),
+            EngineFault::Device(fault) => write!(f, "device: {}", fault.fault().name()),
             EngineFault::NoDivider => write!(f, "no %% line"),
             EngineFault::Line(number, kind) => write!(f, "line {number}: {}", kind.name()),
             EngineFault::Timing(eid, fault) => {

@@ -4,15 +4,13 @@
 mod capture;
 mod faults;
 mod limits;
-mod line_run;
 mod lines;
 mod port;
 mod stream;
 
 pub use capture::{CaptureFault, CaptureLine, read_capture_line};
-pub use faults::{EngineFault, LineKind, fault_line, status_of};
+pub use faults::{DescriptionFault, EngineFault, LineKind, fault_line, status_of};
 pub use limits::{LONGEST_DIVIDER, MAX_CAPTURE_LINE, MAX_DESCRIPTION, MAX_INPUT};
-pub use line_run::{LineRoom, LineRun, LineTask};
 pub use lines::is_divider;
 pub use port::Port;
 pub use stream::{Run, run_to_end};

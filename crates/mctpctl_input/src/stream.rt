@@ -9,7 +9,6 @@ ghost use Rattle.mctpctl_input.specs.Ports.{inner_of, has_failed};
 use crate::faults::EngineFault;
 use crate::limits::MAX_INPUT;
 use crate::port::Port;
-use pldm_device::FileFault;
 use std::alloc::{AllocError, Global};
 use std::io::{Read, Write};
 
@@ -33,8 +32,7 @@ pub trait Run {
         ensures meets { Takes (gives self.old) piece.now (gives self.new) out.old.items out.new.items result }
         ensures counted { counted self.new ≤ counted self.old + length piece.now }
         ensures read { result ≢ Err EngineFault.Read }
-        ensures write { result ≢ Err EngineFault.Write }
-        ensures device { result ≢ Err (EngineFault.Device FileFault.Memory) };
+        ensures write { result ≢ Err EngineFault.Write };
 
     /// Takes the end of the input, and writes what is left to give before its fault is told. `out` is
     /// room for a text.
@@ -50,8 +48,7 @@ pub trait Run {
         requires empty { out.old.items ≡ [] }
         ensures meets { FinishesTo (gives self.old is_cut []) (W.contents (inner_of writer.old)) (W.contents (inner_of writer.new)) result }
         ensures read { result ≢ Err EngineFault.Read }
-        ensures write { IsErrOf result EngineFault.Write ↔ (has_failed writer.new ≡ true) }
-        ensures device { result ≢ Err (EngineFault.Device FileFault.Memory) };
+        ensures write { IsErrOf result EngineFault.Write ↔ (has_failed writer.new ≡ true) };
 
     ghost none_where_cut: { (run : Self) → (gives run true []).text ≡ [] };
 }
@@ -79,7 +76,6 @@ fn take_piece<T: Run, W: Write>(
     ensures empty { OnOk result (out.new.items ≡ []) }
     ensures read { result ≢ Err EngineFault.Read }
     ensures write { IsErrOf result EngineFault.Write ↔ (has_failed writer.new ≡ true) }
-    ensures device { result ≢ Err (EngineFault.Device FileFault.Memory) }
 {
     let result = run.take(alloc, piece, out);
     if writer.write_all(out).is_err() {
@@ -110,7 +106,6 @@ fn run_pieces<T: Run, R: Read, W: Write>(
         → WroteOfFront (T.gives run.old) (R.remaining (inner_of reader.old)) (W.contents (inner_of writer.old)) (W.contents (inner_of writer.new)) }
     ensures read { IsErrOf result EngineFault.Read ↔ (has_failed reader.new ≡ true) }
     ensures write { IsErrOf result EngineFault.Write ↔ (has_failed writer.new ≡ true) }
-    ensures device { result ≢ Err (EngineFault.Device FileFault.Memory) }
 {
     let mut out = Vec::new(alloc);
     let mut left = MAX_INPUT;
@@ -152,7 +147,6 @@ fn run_all<T: Run, R: Read, W: Write>(
         → WroteOfFront (T.gives run.old) (R.remaining (inner_of reader.old)) (W.contents (inner_of writer.old)) (W.contents (inner_of writer.new)) }
     ensures read { IsErrOf result EngineFault.Read ↔ (has_failed reader.new ≡ true) }
     ensures write { IsErrOf result EngineFault.Write ↔ (has_failed writer.new ≡ true) }
-    ensures device { result ≢ Err (EngineFault.Device FileFault.Memory) }
 {
     let Ok(mut piece) = room_for_a_piece(alloc) else {
         return Err(EngineFault::Memory);
@@ -179,7 +173,6 @@ pub fn run_to_end<T: Run, R: Read, W: Write>(
         → WroteOfFront (T.gives run.old) (R.remaining (inner_of reader.old)) (W.contents (inner_of writer.old)) (W.contents (inner_of writer.new)) }
     ensures read { IsErrOf result EngineFault.Read ↔ (has_failed reader.new ≡ true) }
     ensures write { IsErrOf result EngineFault.Write ↔ (has_failed writer.new ≡ true) }
-    ensures device { result ≢ Err (EngineFault.Device FileFault.Memory) }
 {
     let result = run_all(alloc, run, reader, writer);
     if reader.failed() || writer.failed() {

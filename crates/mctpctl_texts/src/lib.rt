@@ -3,7 +3,7 @@
 
 mod bytes_text;
 mod decimal;
-mod device_text;
+mod device_lines;
 mod entry_text;
 mod message_line;
 mod outcome;
@@ -11,7 +11,7 @@ mod packet_line;
 mod report_text;
 mod written_text;
 
-pub use device_text::device_text;
+pub use device_lines::device_text;
 pub use outcome::push_outcome;
 pub use packet_line::{push_completed, push_no_packet_line, push_packet_line};
 pub use report_text::write_report;

@@ -1,6 +1,6 @@
 -- The run is that over all that the reader gives.
 use Rattle.std.proofs.Common.{◌≡◌}
-use Rattle.mctpctl_input.specs.LinePieces.{line_gives}
+use Rattle.mctpctl_engines.specs.LinePieces.{line_gives}
 use Rattle.mctpctl_engines.specs.ObservedRuns.{observed_of, observed_step}
 use Rattle.mctpctl_input.specs.Pieces.{Gives}
 use Rattle.mctpctl_engines.specs.ShowText.{seen_run}

@@ -5,7 +5,7 @@ use Rattle.mctpctl_engines.specs.DescribedPieces.{description_gives, described_g
 use Rattle.mctpctl_engines.specs.HeldRuns.{held_run}
 use Rattle.mctpctl_input.specs.Pieces.{Gives, GoesOn}
 use Rattle.mctpctl_engines.proofs.DescribedGlue.{described_fault, described_front, described_past}
-use Rattle.mctpctl_input.proofs.LineGlue.{feed_split}
+use Rattle.mctpctl_engines.proofs.LineGlue.{feed_split}
 use Rattle.mctpctl_input.proofs.PieceRuns.{goes_after}
 use Rattle.mctpctl_engines.proofs.answer_run.AnswerRun.take_description.Goals as goal
 

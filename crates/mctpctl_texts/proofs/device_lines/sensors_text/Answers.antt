@@ -4,7 +4,7 @@ use Rattle.std.specs.List.{slice_get}
 use Rattle.std.proofs.lemmas.Option.{slice_get_within}
 use Rattle.mctpctl_texts.specs.ReportTexts.{value_line}
 use Rattle.mctpctl_texts.proofs.PlacesTold.{made_of, place_below, told_further, told_to_end}
-use Rattle.mctpctl_texts.proofs.device_text.sensors_text.Goals as goal
+use Rattle.mctpctl_texts.proofs.device_lines.sensors_text.Goals as goal
 use Rattle.pldm_device.specs.Getters.{reading_of}
 
 pub overflow_add-place : goal.overflow_add-place

@@ -2,7 +2,7 @@
 use Rattle.std.proofs.Common.{◌≡◌, ◌≤◌, ◌-◌, codes, flat_map, length, take, string_bytes}
 use Rattle.mctpctl_texts.specs.ReportTexts.{value_line}
 use Rattle.pldm_device.specs.Getters.{reading_of}
-use Rattle.mctpctl_texts.proofs.device_text.sensors_text.Given as goal
+use Rattle.mctpctl_texts.proofs.device_lines.sensors_text.Given as goal
 
 abbrev pub invariant-loop-id : goal.invariant-loop-id
 invariant-loop-id l = record {

@@ -3,17 +3,13 @@
 ghost use Rattle.std.specs.Prelude.{◌≡◌, ◌≢◌, ◌≤◌, ◌<◌, ◌+◌, ◌++◌, ◌∷◌, ◌↔◌, ℕ, List, [], Result, Err, IsErrOf, length, refl, true, false};
 ghost use Rattle.line_words.specs.TextLines.{HasNoFeed};
 ghost use Rattle.mctpctl_input.specs.declared.faults.LineKind.{LineKind};
-ghost use Rattle.mctpctl_input.specs.LinePieces.{RefusesLong, line_gives, AddsLine};
+ghost use Rattle.mctpctl_engines.specs.LinePieces.{RefusesLong, line_gives, AddsLine};
 ghost use Rattle.mctpctl_input.specs.Pieces.{Takes, Finishes, FinishesTo};
 ghost use Rattle.mctpctl_input.specs.Ports.{inner_of, has_failed};
 
-use crate::faults::{EngineFault, LineKind};
-use crate::limits::{MAX_CAPTURE_LINE, MAX_INPUT};
-use crate::port::Port;
-use crate::stream::Run;
 use line_words::split_line;
 use mctp_packet::Body;
-use pldm_device::FileFault;
+use mctpctl_input::{EngineFault, LineKind, MAX_CAPTURE_LINE, MAX_INPUT, Port, Run};
 use std::alloc::Global;
 use std::io::Write;
 
@@ -65,8 +61,7 @@ pub trait LineTask {
         room: &mut LineRoom,
         out: &mut Vec<u8>,
     ) -> Result<(), EngineFault>
-        ensures meets { AddsLine number (step (state_of self.old) line.now) (state_of self.new) out.old.items out.new.items result }
-        ensures device { result ≢ Err (EngineFault.Device FileFault.Memory) };
+        ensures meets { AddsLine number (step (state_of self.old) line.now) (state_of self.new) out.old.items out.new.items result };
 
     ghost refuses_long: { RefusesLong step };
 }
@@ -94,7 +89,6 @@ impl<T: LineTask> LineRun<T> {
         ensures counted { self.new.ended ≤ self.old.ended + 1 }
         ensures read { result ≢ Err EngineFault.Read }
         ensures write { result ≢ Err EngineFault.Write }
-        ensures device { result ≢ Err (EngineFault.Device FileFault.Memory) }
     {
         let number = self.ended + 1;
         if self.kept.is_empty() {
@@ -122,7 +116,6 @@ impl<T: LineTask> LineRun<T> {
         ensures counted { self.new.ended ≡ self.old.ended }
         ensures read { result ≢ Err EngineFault.Read }
         ensures write { result ≢ Err EngineFault.Write }
-        ensures device { result ≢ Err (EngineFault.Device FileFault.Memory) }
     {
         if self.kept.extend_from_slice(front).is_err() {
             return Err(EngineFault::Memory);
@@ -144,7 +137,6 @@ impl<T: LineTask> LineRun<T> {
         ensures meets { Finishes (line_gives T.step (self.old.ended + 1) (T.state_of self.old.task) self.old.kept.items is_cut []) out.old.items out.new.items result }
         ensures read { result ≢ Err EngineFault.Read }
         ensures write { result ≢ Err EngineFault.Write }
-        ensures device { result ≢ Err (EngineFault.Device FileFault.Memory) }
     {
         let number = self.ended + 1;
         if is_cut {
@@ -171,7 +163,6 @@ impl<T: LineTask> Run for LineRun<T> {
         ensures counted { self.new.ended ≤ self.old.ended + length piece.now }
         ensures read { result ≢ Err EngineFault.Read }
         ensures write { result ≢ Err EngineFault.Write }
-        ensures device { result ≢ Err (EngineFault.Device FileFault.Memory) }
     {
         let mut rest = piece;
         while let Some((line, after)) = split_line(rest) {
@@ -198,7 +189,6 @@ impl<T: LineTask> Run for LineRun<T> {
             (W.contents (inner_of writer.old)) (W.contents (inner_of writer.new)) result }
         ensures read { result ≢ Err EngineFault.Read }
         ensures write { IsErrOf result EngineFault.Write ↔ (has_failed writer.new ≡ true) }
-        ensures device { result ≢ Err (EngineFault.Device FileFault.Memory) }
     {
         let result = self.end_input(alloc, is_cut, out);
         if writer.write_all(out).is_err() {

@@ -4,7 +4,7 @@ use Rattle.std.specs.List.{slice_get}
 use Rattle.std.proofs.lemmas.Option.{slice_get_within}
 use Rattle.mctpctl_texts.specs.ReportTexts.{states_line}
 use Rattle.mctpctl_texts.proofs.PlacesTold.{made_of, place_below, told_further, told_to_end}
-use Rattle.mctpctl_texts.proofs.device_text.states_text.Goals as goal
+use Rattle.mctpctl_texts.proofs.device_lines.states_text.Goals as goal
 use Rattle.pldm_device.specs.Getters.{shown, states_of}
 
 pub overflow_add-place : goal.overflow_add-place

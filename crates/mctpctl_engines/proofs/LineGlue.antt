@@ -4,7 +4,7 @@ use Rattle.std.specs.List.{onto_first}
 use Rattle.std.proofs.lemmas.List.Splits.{slice_split_at, slice_split-cons_no}
 use Rattle.std.proofs.lemmas.Bool.Decides.{nat_tests}
 use Rattle.line_words.specs.TextLines.{HasNoFeed, lines_of}
-use Rattle.mctpctl_input.specs.LinePieces.{RefusesLong, AddsLine, glued, line_gives}
+use Rattle.mctpctl_engines.specs.LinePieces.{RefusesLong, AddsLine, glued, line_gives}
 use Rattle.mctpctl_input.specs.LineRuns.{Written, ends, stops_at, after_text, line_then, lines_from, lines_written}
 use Rattle.mctpctl_input.specs.Pieces.{Gives, GoesOn, StopsWith, Takes, Finishes}
 use Rattle.mctpctl_input.specs.declared.faults.EngineFault.{EngineFault}

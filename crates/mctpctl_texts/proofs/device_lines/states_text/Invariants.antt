@@ -2,7 +2,7 @@
 use Rattle.std.proofs.Common.{◌≡◌, ◌≤◌, ◌-◌, flat_map, length, take, string_bytes}
 use Rattle.mctpctl_texts.specs.ReportTexts.{states_line}
 use Rattle.pldm_device.specs.Getters.{states_of}
-use Rattle.mctpctl_texts.proofs.device_text.states_text.Given as goal
+use Rattle.mctpctl_texts.proofs.device_lines.states_text.Given as goal
 
 abbrev pub invariant-loop-id : goal.invariant-loop-id
 invariant-loop-id l = record {

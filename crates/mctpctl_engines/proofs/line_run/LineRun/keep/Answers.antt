@@ -1,9 +1,9 @@
 -- What is kept is the front of a line, which is refused where it is too long.
 use Rattle.std.proofs.Common.{◌≡◌, ◌<◌, ◌+◌, ◌++◌, length, rules}
 use Rattle.mctpctl_input.specs.declared.limits.TheConstants.{MAX_CAPTURE_LINE}
-use Rattle.mctpctl_input.specs.LinePieces.{line_gives}
-use Rattle.mctpctl_input.proofs.LineGlue.{front_keeps, front_too_long}
-use Rattle.mctpctl_input.proofs.line_run.LineRun.keep.Goals as goal
+use Rattle.mctpctl_engines.specs.LinePieces.{line_gives}
+use Rattle.mctpctl_engines.proofs.LineGlue.{front_keeps, front_too_long}
+use Rattle.mctpctl_engines.proofs.line_run.LineRun.keep.Goals as goal
 
 pub returns-then-len-gt-MAX_CAPTURE_LINE-clause-meets : goal.returns-then-len-gt-MAX_CAPTURE_LINE-clause-meets
 returns-then-len-gt-MAX_CAPTURE_LINE-clause-meets g c =

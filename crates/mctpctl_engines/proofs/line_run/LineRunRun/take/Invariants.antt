@@ -1,8 +1,8 @@
 -- The bytes before `rest` gave the text that was added, and whatever comes later is what the run goes on with.
 use Rattle.std.proofs.Common.{◌≡◌, ◌≤◌, ◌+◌, ◌++◌, ℕ, List, length}
-use Rattle.mctpctl_input.specs.LinePieces.{line_gives}
+use Rattle.mctpctl_engines.specs.LinePieces.{line_gives}
 use Rattle.mctpctl_input.specs.Pieces.{GoesOn}
-use Rattle.mctpctl_input.proofs.line_run.LineRunRun.take.Given as goal
+use Rattle.mctpctl_engines.proofs.line_run.LineRunRun.take.Given as goal
 
 abbrev pub invariant-loop-line : goal.invariant-loop-line
 invariant-loop-line g l = record {

@@ -1,10 +1,10 @@
 -- Each line that ends extends what the piece gave, or ends the run.
 use Rattle.std.proofs.Common.{◌+◌, ◌++◌, ◌∷◌, [], ◌∙◌, ap, sym, append_assoc, arith}
-use Rattle.mctpctl_input.specs.LinePieces.{line_gives}
+use Rattle.mctpctl_engines.specs.LinePieces.{line_gives}
 use Rattle.mctpctl_input.specs.Pieces.{Gives}
-use Rattle.mctpctl_input.proofs.LineGlue.{ends_after_split, feed_split}
+use Rattle.mctpctl_engines.proofs.LineGlue.{ends_after_split, feed_split}
 use Rattle.mctpctl_input.proofs.PieceRuns.{goes_after}
-use Rattle.mctpctl_input.proofs.line_run.LineRunRun.take.Goals as goal
+use Rattle.mctpctl_engines.proofs.line_run.LineRunRun.take.Goals as goal
 
 pub returns-in-Err-clause-meets : goal.returns-in-Err-clause-meets
 returns-in-Err-clause-meets g c =

@@ -1,8 +1,8 @@
 -- The line that ends is what was kept, and this.
 use Rattle.std.proofs.Common.{◌≡◌, ◌+◌, ◌++◌, [], ap, sym, rules}
 use Rattle.std.proofs.lemmas.List.{nil_from_length}
-use Rattle.mctpctl_input.proofs.LineGlue.{line_takes_kept}
-use Rattle.mctpctl_input.proofs.line_run.LineRun.end_line.Goals as goal
+use Rattle.mctpctl_engines.proofs.LineGlue.{line_takes_kept}
+use Rattle.mctpctl_engines.proofs.line_run.LineRun.end_line.Goals as goal
 
 pub returns-then-is_empty-clause-meets : goal.returns-then-is_empty-clause-meets
 returns-then-is_empty-clause-meets g c =
