@@ -15,13 +15,13 @@ ghost use Rattle.pldm_device.specs.Devices.{Device};
 
 use crate::described::read_description;
 use crate::line_run::{LineRoom, LineRun, LineTask};
+use line_words::split_line;
+use mctp_packet::Moment;
 use mctpctl_input::{
     CaptureFault, CaptureLine, EngineFault, LONGEST_DIVIDER, MAX_DESCRIPTION, MAX_INPUT, Port, Run,
     is_divider, read_capture_line,
 };
 use mctpctl_texts::push_outcome;
-use line_words::split_line;
-use mctp_packet::Moment;
 use pldm_device::SimDevice;
 use pldm_responder::Responder;
 use std::alloc::Global;

@@ -12,8 +12,8 @@ mod show;
 
 pub use answer::answer_all;
 pub use mctpctl_input::{
-    DescriptionFault, EngineFault, LONGEST_DIVIDER, LineKind, MAX_CAPTURE_LINE, MAX_DESCRIPTION, MAX_INPUT, Port,
-    fault_line, status_of,
+    DescriptionFault, EngineFault, LONGEST_DIVIDER, LineKind, MAX_CAPTURE_LINE, MAX_DESCRIPTION,
+    MAX_INPUT, Port, fault_line, status_of,
 };
 pub use run::run_all;
 pub use show::show_all;

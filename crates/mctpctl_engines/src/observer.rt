@@ -8,10 +8,10 @@ ghost use Rattle.mctpctl_texts.specs.ShownLines.{shown_text};
 ghost use Rattle.mctp_packet.specs.Reading.{reading};
 
 use crate::line_run::{LineRoom, LineTask};
-use mctpctl_input::{CaptureFault, CaptureLine, EngineFault, read_capture_line};
-use mctpctl_texts::{push_completed, push_no_packet_line, push_packet_line};
 use mctp_assembly::{Assembler, Fed};
 use mctp_packet::{Eid, Memory, PacketRef, read};
+use mctpctl_input::{CaptureFault, CaptureLine, EngineFault, read_capture_line};
+use mctpctl_texts::{push_completed, push_no_packet_line, push_packet_line};
 use std::alloc::Global;
 use std::collections::BTreeMap;
 

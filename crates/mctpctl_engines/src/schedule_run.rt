@@ -13,10 +13,10 @@ ghost use Rattle.mctpctl_engines.specs.SchedulePieces.{TellsText, nothing_where_
 ghost use Rattle.mctpctl_input.specs.TextLines.{capture_lines, description_of};
 
 use crate::described::read_description;
-use mctpctl_input::{EngineFault, LineKind, MAX_DESCRIPTION, MAX_INPUT, Port, Run, is_divider};
-use mctpctl_texts::{NotWritten, device_text, write_report};
 use line_words::split_line;
 use mctp_schedule::{LineFault, LineFaultKind, Report, RunFault, Schedule, Setup, run};
+use mctpctl_input::{EngineFault, LineKind, MAX_DESCRIPTION, MAX_INPUT, Port, Run, is_divider};
+use mctpctl_texts::{NotWritten, device_text, write_report};
 use pldm_device::{Description, SimDevice};
 use std::alloc::Global;
 use std::io::Write;

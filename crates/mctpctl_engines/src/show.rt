@@ -6,10 +6,10 @@ ghost use Rattle.mctpctl_input.specs.Pieces.{WroteOfFront, WroteOfRead};
 ghost use Rattle.mctpctl_input.specs.Ports.{inner_of, has_failed};
 ghost use Rattle.mctpctl_engines.specs.ShowText.{seen_run, show_text};
 
-use crate::observer::Observer;
 use crate::line_run::{LineRoom, LineRun};
-use mctpctl_input::{EngineFault, Port, run_to_end};
+use crate::observer::Observer;
 use mctp_assembly::laws;
+use mctpctl_input::{EngineFault, Port, run_to_end};
 use std::alloc::Global;
 use std::io::{Read, Write};
 

@@ -9,9 +9,9 @@ ghost use Rattle.mctpctl_texts.specs.ShownLines.{drop_text};
 
 use crate::decimal::Decimal;
 use crate::written_text::{NotWritten, write_bytes, write_number, write_text};
-use mctpctl_input::Port;
 use mctp_packet::Reason;
 use mctp_schedule::{Delivery, Entry};
+use mctpctl_input::Port;
 use pldm_platform::ReadingFault;
 use pldm_requester::{Got, OpenFault};
 use pldm_responder::Taken;

@@ -6,8 +6,8 @@ ghost use Rattle.std.specs.Prelude.{◌≡◌, true, OnOk, OnErr};
 ghost use Rattle.hex.specs.Hex.{encode_lower};
 ghost use Rattle.mctpctl_input.specs.Ports.{inner_of, has_failed};
 
-use mctpctl_input::Port;
 use itoa::Buffer;
+use mctpctl_input::Port;
 use std::io::Write;
 
 /// How many bytes are spelled in hex at once.

@@ -7,8 +7,8 @@ ghost use Rattle.pldm_platform.specs.Changes.{Changes};
 ghost use Rattle.pldm_device.specs.StateEffecters.{fields_of_states};
 
 use crate::limits::{EFFECTER_ENABLED, REQUEST_SET};
-use pldm_platform::{INVALID_STATE_VALUE, code};
 use arrayvec::ArrayVec;
+use pldm_platform::{INVALID_STATE_VALUE, code};
 use pldm_wire::{Code, EffecterStateField, MOST_STATES, SetStateField, StateFields};
 use std::marker::Model;
 
