@@ -16,7 +16,7 @@ use Rattle.mctp_schedule.specs.DeviceHalf.{NoneOpenedSince, FreshInOrderOfFirsts
 use Rattle.mctp_schedule.proofs.Origins.{performed_stays}
 use Rattle.mctp_schedule.proofs.FirstPerformed.{apart, opened_before, copies, holds, entry}
 use Rattle.mctp_schedule.proofs.FreshOrder.{idle_device, order_is}
-use Rattle.mctp_schedule.proofs.GivenReplies.{given_is}
+use Rattle.mctp_schedule.proofs.OneReplyGiven.{given_is}
 use Rattle.mctp_schedule.proofs.FittingReplies.{reply_fits}
 
 pub none_opened_since : NoneOpenedSince

@@ -24,7 +24,7 @@ use Rattle.schedule_text.specs.declared.step.Action.{Action}
 use Rattle.schedule_text.specs.declared.step.Action.TheVariants as actions
 use Rattle.schedule_text.specs.declared.step.Step.{Step}
 use Rattle.mctp_schedule.proofs.CommandsPerformed.{performed_once_each}
-use Rattle.mctp_schedule.proofs.TakenReplies.{sound_before}
+use Rattle.mctp_schedule.proofs.AnsweredWhereTaken.{sound_before}
 
 -- the laws of both halves
 pub record Halves {S : Type 0} (setting : Setting S) : Type 0 where

@@ -26,13 +26,13 @@ use Rattle.mctp_schedule.specs.Taken.{brought, busy_owed, busy_owed_to, came, co
 use Rattle.mctp_schedule.specs.Worlds.{IsTimelyAction, Setting, TagIsOwn, World, answer_packets, busy_from, busy_packet, packet_of, reply_packet, source_of, timing_of, world}
 use Rattle.schedule_text.specs.declared.step.Action.TheVariants.{Reply, Busy}
 use Rattle.schedule_text.specs.declared.step.Step.{Step}
-use Rattle.mctp_schedule.proofs.AnswersOwed.{Lower, arrival_by, arrival_owed, busy_brings, busy_is, busy_is_one, mine, packet_is, performed_at, reads_back, reply_brings}
+use Rattle.mctp_schedule.proofs.AnswerPacketOutcomes.{Lower, arrival_by, arrival_owed, busy_brings, busy_is, busy_is_one, mine, packet_is, performed_at, reads_back, reply_brings}
 use Rattle.mctp_schedule.proofs.DeliveriesOwed.{fresh_in_order_of_firsts}
-use Rattle.mctp_schedule.proofs.HandedAnswers.{bad_tag, comes_in, packet_past, packet_there}
+use Rattle.mctp_schedule.proofs.AnswerPacketsAtRequester.{bad_tag, comes_in, packet_past, packet_there}
 use Rattle.mctp_schedule.proofs.KnownRequests.{Known, all_known}
-use Rattle.mctp_schedule.proofs.RepliesKept.{Stands}
+use Rattle.mctp_schedule.proofs.UntouchedRequests.{Stands}
 use Rattle.mctp_schedule.proofs.StepsOnRequests.{waits_so}
-use Rattle.mctp_schedule.proofs.TakenReplies.{AllHold, all_hold}
+use Rattle.mctp_schedule.proofs.AnsweredWhereTaken.{AllHold, all_hold}
 use Rattle.mctp_schedule.proofs.TimelyLogs.{log_is_timely}
 
 by_got : (f : Fed) → got_of (arrival_by f) ≡ got_by f

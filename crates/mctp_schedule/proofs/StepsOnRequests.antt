@@ -14,9 +14,9 @@ use Rattle.pldm_requester.specs.Numbering.{tag_of}
 use Rattle.pldm_requester.specs.declared.timing.Timing.{Timing}
 use Rattle.mctp_schedule.specs.Logs.{Asked, Happening}
 use Rattle.mctp_schedule.specs.Worlds.{Setting, World, requests_of, timing_of, with_call}
-use Rattle.mctp_schedule.proofs.HandedAnswers.{IsOf, Moved, nothing_moves, one_moves, put_here, put_other, with_arrival}
+use Rattle.mctp_schedule.proofs.AnswerPacketsAtRequester.{IsOf, Moved, nothing_moves, one_moves, put_here, put_other, with_arrival}
 use Rattle.mctp_schedule.proofs.KnownRequests.{Known}
-use Rattle.mctp_schedule.proofs.RepliesKept.{Kept, same_kept}
+use Rattle.mctp_schedule.proofs.UntouchedRequests.{Kept, same_kept}
 
 pub waits_so : (x : Standing) → waits x ≡ true → x ≡ Waiting
 waits_so Waiting e = refl

@@ -25,9 +25,7 @@ abbrev pub numbers_of : List Happening → ℕ → List ℕ
 numbers_of [] e = []
 numbers_of (logs.Opened r ∷ past) e =
     if r.source == e then numbers_of past e ++ count_of past ∷ [] else numbers_of past e
-numbers_of (logs.Delivered _ _ ∷ past) e = numbers_of past e
-numbers_of (logs.Sensed _ _ _ ∷ past) e = numbers_of past e
-numbers_of (logs.WentDown _ ∷ past) e = numbers_of past e
+numbers_of (_ ∷ past) e = numbers_of past e
 
 -- an endpoint's own numbers as numbers over all requests
 abbrev pub numbered : List ℕ → List ℕ → List ℕ
@@ -92,9 +90,7 @@ module _ {S : Type 0} (setting : Setting S) where
   abbrev pub requests_in : World → List Happening → List EndedRequest
   requests_in world [] = []
   requests_in world (logs.Opened r ∷ past) = requests_in world past ++ as_it_stands world r ∷ []
-  requests_in world (logs.Delivered _ _ ∷ past) = requests_in world past
-  requests_in world (logs.Sensed _ _ _ ∷ past) = requests_in world past
-  requests_in world (logs.WentDown _ ∷ past) = requests_in world past
+  requests_in world (_ ∷ past) = requests_in world past
 
   -- all requests
   abbrev pub requests_after : World → List EndedRequest

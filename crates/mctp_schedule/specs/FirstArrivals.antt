@@ -18,11 +18,9 @@ earlier None false past = None
 -- what had happened before the first arrival of request k; `None` where it never arrived
 abbrev pub first : ℕ → List Happening → ℕ → Option (List Happening)
 first keep [] k = None
-first keep (Opened _ ∷ past) k = first keep past k
-first keep (Sensed _ _ _ ∷ past) k = first keep past k
-first keep (WentDown _ ∷ past) k = first keep past k
 first keep (Delivered moment j ∷ past) k =
     earlier (first keep past k) (j == k && arrives (asked_at past k) (is_busy keep (told past) moment)) past
+first keep (_ ∷ past) k = first keep past k
 
 -- a delivered request that arrives now, and did not before
 abbrev pub is_first_of : Option Asked → Option (List Happening) → Bool → Bool
@@ -42,20 +40,16 @@ fresh_of keep events moment (Some r) = is_fresh keep events (message_at moment r
 -- the requests whose deliveries were fresh at the responder, the oldest first
 abbrev pub order : ℕ → List Happening → List ℕ
 order keep [] = []
-order keep (Opened _ ∷ past) = order keep past
-order keep (Sensed _ _ _ ∷ past) = order keep past
-order keep (WentDown _ ∷ past) = order keep past
 order keep (Delivered moment k ∷ past) =
     if fresh_of keep (told past) moment (asked_at past k) then order keep past ++ k ∷ [] else order keep past
+order keep (_ ∷ past) = order keep past
 
 -- the requests that arrived, each at its first arrival, the oldest first
 abbrev pub firsts : ℕ → List Happening → List ℕ
 firsts keep [] = []
-firsts keep (Opened _ ∷ past) = firsts keep past
-firsts keep (Sensed _ _ _ ∷ past) = firsts keep past
-firsts keep (WentDown _ ∷ past) = firsts keep past
 firsts keep (Delivered moment k ∷ past) =
     if is_first keep past moment k then firsts keep past ++ k ∷ [] else firsts keep past
+firsts keep (_ ∷ past) = firsts keep past
 
 -- one first arrival came before another
 abbrev pub IsSooner : Option (List Happening) → Option (List Happening) → Type 0

@@ -14,6 +14,7 @@ pub mod OncePerformed
 pub mod PerformedCommands
 pub mod Places
 pub mod RequesterHalf
+pub mod Reports
 pub mod Requests
 pub mod RunFaults
 pub mod Running

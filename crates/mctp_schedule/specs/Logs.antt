@@ -35,17 +35,13 @@ last_of (newest ∷ past) = moment_of newest
 abbrev pub count_of : List Happening → ℕ
 count_of [] = 0
 count_of (Opened r ∷ past) = suc (count_of past)
-count_of (Delivered _ _ ∷ past) = count_of past
-count_of (Sensed _ _ _ ∷ past) = count_of past
-count_of (WentDown _ ∷ past) = count_of past
+count_of (_ ∷ past) = count_of past
 
 -- the request of this number, counted from 0 over all requesters
 abbrev pub asked_at : List Happening → ℕ → Option Asked
 asked_at [] k = None
 asked_at (Opened r ∷ past) k = if k == count_of past then Some r else asked_at past k
-asked_at (Delivered _ _ ∷ past) k = asked_at past k
-asked_at (Sensed _ _ _ ∷ past) k = asked_at past k
-asked_at (WentDown _ ∷ past) k = asked_at past k
+asked_at (_ ∷ past) k = asked_at past k
 
 -- the message of a request as it comes to the device at a moment: its packet has the requester's own number as its tag
 abbrev pub message_at : ℕ → Asked → Message
@@ -79,18 +75,14 @@ ComesLate keep r past =
 abbrev pub Apart : ℕ → List Happening → Type 0
 Apart keep [] = Unit {0}
 Apart keep (Opened r ∷ past) = ComesLate keep r past × Apart keep past
-Apart keep (Delivered _ _ ∷ past) = Apart keep past
-Apart keep (Sensed _ _ _ ∷ past) = Apart keep past
-Apart keep (WentDown _ ∷ past) = Apart keep past
+Apart keep (_ ∷ past) = Apart keep past
 
 -- each request is delivered less than the keeping time after it was opened
 abbrev pub InTime : ℕ → List Happening → Type 0
 InTime keep [] = Unit {0}
-InTime keep (Opened _ ∷ past) = InTime keep past
-InTime keep (Sensed _ _ _ ∷ past) = InTime keep past
-InTime keep (WentDown _ ∷ past) = InTime keep past
 InTime keep (Delivered moment k ∷ past) =
     ((r : Asked) → asked_at past k ≡ Some r → moment < r.opening + keep) × InTime keep past
+InTime keep (_ ∷ past) = InTime keep past
 
 -- all three
 pub record IsTimelyLog (keep : ℕ) (log : List Happening) : Type 0 where

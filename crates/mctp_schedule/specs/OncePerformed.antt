@@ -24,9 +24,7 @@ IsReadable message = (request : requests.Request) × (requests.request_of messag
 abbrev pub AreRequests : List Happening → Type 0
 AreRequests [] = Unit {0}
 AreRequests (Opened r ∷ past) = IsReadable r.message × AreRequests past
-AreRequests (Delivered _ _ ∷ past) = AreRequests past
-AreRequests (Sensed _ _ _ ∷ past) = AreRequests past
-AreRequests (WentDown _ ∷ past) = AreRequests past
+AreRequests (_ ∷ past) = AreRequests past
 
 -- packets can carry this message
 pub record FitsPackets (message : List ℕ) : Type 0 where
@@ -38,11 +36,10 @@ module _ {S : Type 0} (device : Rules S) (keep : ℕ) (start : S) where
   -- order
   abbrev pub once : List Happening → S
   once [] = start
-  once (Opened _ ∷ past) = once past
   once (Sensed _ id value ∷ past) = changed_or (once past) (device.sensed (once past) id value)
-  once (WentDown _ ∷ past) = once past
   once (Delivered moment k ∷ past) =
       if is_first keep past moment k then next device (once past) (bytes_of (asked_at past k)) else once past
+  once (_ ∷ past) = once past
 
   abbrev pub reply_from : List ℕ → Option (List Happening) → List ℕ
   reply_from bytes None = []
@@ -55,13 +52,11 @@ module _ {S : Type 0} (device : Rules S) (keep : ℕ) (start : S) where
   -- each reply that the device made fits packets: those to fresh deliveries, in the states that it was in
   abbrev pub RepliesFit : List Happening → Type 0
   RepliesFit [] = Unit {0}
-  RepliesFit (Opened _ ∷ past) = RepliesFit past
-  RepliesFit (Sensed _ _ _ ∷ past) = RepliesFit past
-  RepliesFit (WentDown _ ∷ past) = RepliesFit past
   RepliesFit (Delivered moment k ∷ past) =
       ((r : Asked) → asked_at past k ≡ Some r → is_fresh keep (told past) (message_at moment r) ≡ true
       → FitsPackets (reply device (performed device keep start (told past)) r.message))
       × RepliesFit past
+  RepliesFit (_ ∷ past) = RepliesFit past
 
   abbrev pub answered_to : ℕ → List Happening → Option Asked → List ℕ
   answered_to moment past None = []
@@ -70,13 +65,11 @@ module _ {S : Type 0} (device : Rules S) (keep : ℕ) (start : S) where
   -- the latest reply that the responder gave to request k, busy answers aside
   abbrev pub given : List Happening → ℕ → Option (List ℕ)
   given [] k = None
-  given (Opened _ ∷ past) k = given past k
-  given (Sensed _ _ _ ∷ past) k = given past k
-  given (WentDown _ ∷ past) k = given past k
   given (Delivered moment j ∷ past) k =
       if j == k && arrives (asked_at past k) (is_busy keep (told past) moment)
       then Some (answered_to moment past (asked_at past k))
       else given past k
+  given (_ ∷ past) k = given past k
 
   abbrev pub reply_at_first : List Happening → ℕ → Option (List Happening) → Option (List ℕ)
   reply_at_first log k None = None
@@ -100,8 +93,6 @@ module _ {S : Type 0} (device : Rules S) (keep : ℕ) (start : S) where
 -- a busy answer was given to request k
 abbrev pub was_busy : ℕ → List Happening → ℕ → Bool
 was_busy keep [] k = false
-was_busy keep (Opened _ ∷ past) k = was_busy keep past k
-was_busy keep (Sensed _ _ _ ∷ past) k = was_busy keep past k
-was_busy keep (WentDown _ ∷ past) k = was_busy keep past k
 was_busy keep (Delivered moment j ∷ past) k =
     if j == k && arrives (asked_at past k) (not (is_busy keep (told past) moment)) then true else was_busy keep past k
+was_busy keep (_ ∷ past) k = was_busy keep past k

@@ -24,18 +24,14 @@ abbrev pub commands_performed : ℕ → List Happening → List Command
 commands_performed keep [] = []
 commands_performed keep (Delivered moment k ∷ past) =
     commands_at_delivery keep past moment k ++ commands_performed keep past
-commands_performed keep (Opened _ ∷ past) = commands_performed keep past
-commands_performed keep (Sensed _ _ _ ∷ past) = commands_performed keep past
-commands_performed keep (WentDown _ ∷ past) = commands_performed keep past
+commands_performed keep (_ ∷ past) = commands_performed keep past
 
 -- what it performs where each request that arrived is performed once, at its first arrival
 abbrev pub commands_once : ℕ → List Happening → List Command
 commands_once keep [] = []
 commands_once keep (Delivered moment k ∷ past) =
     commands_if (is_first keep past moment k) (asked_at past k) ++ commands_once keep past
-commands_once keep (Opened _ ∷ past) = commands_once keep past
-commands_once keep (Sensed _ _ _ ∷ past) = commands_once keep past
-commands_once keep (WentDown _ ∷ past) = commands_once keep past
+commands_once keep (_ ∷ past) = commands_once keep past
 
 -- the commands that a step has performed after what happened on the link: a delivery alone performs any
 abbrev pub commands_at_step : ℕ → List Happening → ℕ → Action → List Command

@@ -45,9 +45,9 @@ pub(crate) struct Sent {
     pub(crate) packet: ArrayVec<u8, MOST_REQUEST_PACKET_BYTES>,
 }
 
-/// What came of a packet that an asker received.
+/// What a packet that came to an asker gave.
 #[derive(Drop)]
-pub(crate) struct Taken {
+pub(crate) struct Received {
     pub(crate) got: Got,
     /// The request that it answered.
     pub(crate) answered: Option<Answered>,
@@ -82,10 +82,13 @@ impl Asker {
     ) -> Result<Result<Sent, OpenFault>, Memory>
         requires { (held_of self.old.station).last ≤ now }
         ensures sent { IfOk result (λ opening. IfOk opening (IsSent (held_of self.old.station) now command.now)) }
-        ensures held { IfOk result (λ opening. OnOk opening (IsHeld (held_of self.new.station) (opened_held (held_of self.old.station) now command.now))) }
+        ensures held { IfOk result (λ opening. OnOk opening (IsHeld (held_of self.new.station)
+            (opened_held (held_of self.old.station) now command.now))) }
         ensures numbers { IfOk result (λ opening. OnOk opening (self.new.numbers ≡ self.old.numbers ++ number ∷ [])) }
-        ensures refused { IfOk result (λ opening. IfErr opening (λ fault. opening_answer (held_of self.old.station) now ≡ Err fault)) }
-        ensures same { IfOk result (λ opening. IfErr opening (λ fault. IsHeld (held_of self.new.station) (held_of self.old.station) × (self.new.numbers ≡ self.old.numbers))) }
+        ensures refused { IfOk result (λ opening. IfErr opening (λ fault. opening_answer (held_of self.old.station)
+            now ≡ Err fault)) }
+        ensures same { IfOk result (λ opening. IfErr opening (λ fault. IsHeld (held_of self.new.station)
+            (held_of self.old.station) × (self.new.numbers ≡ self.old.numbers))) }
     {
         pldm_wire::laws::messages_fit();
         let opened = match self.requester.open(now, command) {
@@ -106,7 +109,8 @@ impl Asker {
     /// The packet of a request that is remembered.
     fn packet(&self, own: u64) -> &[u8]
         requires { HasPacket (held_of self.now.station) own }
-        ensures { option_map (λ memo. memo.packets) ((held_of self.now.station).remembered own) ≡ Some (result.now ∷ []) }
+        ensures { option_map (λ memo. memo.packets) ((held_of self.now.station).remembered own)
+            ≡ Some (result.now ∷ []) }
     {
         match self.requester.packets(own) {
             Some(packets) => packets.get(0).unwrap(),
@@ -119,7 +123,8 @@ impl Asker {
         requires moment { (held_of self.old.station).last ≤ now }
         requires all { length self.old.numbers ≡ (held_of self.old.station).count }
         ensures again { result.again.items ≡ numbered self.old.numbers (again_at (held_of self.old.station) now) }
-        ensures given_up { result.given_up.items ≡ numbered self.old.numbers (given_up_at (held_of self.old.station) now) }
+        ensures given_up { result.given_up.items ≡ numbered self.old.numbers (given_up_at (held_of self.old.station)
+            now) }
         ensures held { IsHeld (held_of self.new.station) (ticked_held (held_of self.old.station) now) }
         ensures numbers { self.new.numbers ≡ self.old.numbers }
     {
@@ -145,23 +150,25 @@ impl Asker {
         now: Moment,
         bytes: &[u8],
         sent: Option<&KeptMessage>,
-    ) -> Result<Taken, Memory>
+    ) -> Result<Received, Memory>
         requires moment { (held_of self.old.station).last ≤ now }
         requires all { length self.old.numbers ≡ (held_of self.old.station).count }
         ensures got { IfOk result (λ taken. taken.got ≡ got_at (held_of self.old.station) bytes.now) }
-        ensures answered { IfOk result (λ taken. TellsAnswer self.old.numbers (arrived_by (held_of self.old.station) (passed (held_of self.old.station) bytes.now)) taken.answered) }
-        ensures held { OnOk result (IsHeld (held_of self.new.station) (received_held (held_of self.old.station) now bytes.now)) }
+        ensures answered { IfOk result (λ taken. TellsAnswer self.old.numbers (arrived_by (held_of self.old.station)
+            (passed (held_of self.old.station) bytes.now)) taken.answered) }
+        ensures held { OnOk result (IsHeld (held_of self.new.station) (received_held (held_of self.old.station) now
+            bytes.now)) }
         ensures numbers { OnOk result (self.new.numbers ≡ self.old.numbers) }
     {
         let got = self.requester.receive(now, bytes)?;
         let Got::Answered(own) = got else {
-            return Ok(Taken {
+            return Ok(Received {
                 got,
                 answered: None,
             });
         };
         let answered = self.answered(alloc, own, sent)?;
-        Ok(Taken {
+        Ok(Received {
             got,
             answered: Some(answered),
         })
@@ -177,7 +184,8 @@ impl Asker {
         requires answer { HasAnswer (held_of self.now.station) own }
         requires one { own < length self.now.numbers }
         ensures number { IfOk result (λ answered. answered.number ≡ slice_index self.now.numbers own) }
-        ensures message { IfOk result (λ answered. option_map (λ memo. memo.course.standing) ((held_of self.now.station).remembered own) ≡ Some (courses.Answered answered.message)) }
+        ensures message { IfOk result (λ answered. option_map (λ memo. memo.course.standing)
+            ((held_of self.now.station).remembered own) ≡ Some (courses.Answered answered.message)) }
     {
         let number = self.numbers[own as usize];
         match self.requester.status(own) {

@@ -2,14 +2,10 @@
 
 ghost use Rattle.std.specs.Prelude.{◌≡◌, ◌⊎◌, [], true, None, Some, IfOk, IfErr, OnOk};
 ghost use Rattle.pldm_responder.specs.Performing.{rules_of};
-ghost use Rattle.mctp_schedule.specs.Entries.{entries, requests_after};
-ghost use Rattle.mctp_schedule.specs.FirstArrivals.{order};
-ghost use Rattle.mctp_schedule.specs.Headline.{Headline};
-ghost use Rattle.mctp_schedule.specs.PerformedCommands.{commands_performed};
+ghost use Rattle.mctp_schedule.specs.Reports.{IsReport};
 ghost use Rattle.mctp_schedule.specs.RunFaults.{refusal};
 ghost use Rattle.mctp_schedule.specs.Running.{CanGoOn, GoesOn, Performs, answer_action};
-ghost use Rattle.mctp_schedule.specs.Runs.{final_state, final_world, newest_first, setting_of_run};
-ghost use Rattle.mctp_schedule.specs.Worlds.{is_timely};
+ghost use Rattle.mctp_schedule.specs.Runs.{newest_first, setting_of_run};
 ghost use Rattle.schedule_text.specs.declared.step.Action.TheVariants as actions;
 
 use crate::journal::Journal;
@@ -57,6 +53,11 @@ pub struct Report<P: Platform> {
 /// Nothing is lost, repeated or reordered but by the schedule: what is never delivered is lost, and
 /// what is delivered again is a repeat.
 ///
+/// The clause `report` says all of the report: what came of each step and request, in which order
+/// requests were performed, the device's state, which commands its platform performed, and whether the
+/// schedule was timely. Where it was, it has the headline too: each request that arrived was performed
+/// once, at its first arrival, and each answer that a requester took is its own.
+///
 /// # Errors
 ///
 /// `Timing` for the first requester whose timing is refused, or `Memory` where a growth was refused.
@@ -66,14 +67,18 @@ pub fn run<P: Platform>(
     schedule: &Schedule,
 ) -> Result<Report<P>, RunFault>
     ensures ok { IfOk result (λ report. refusal setup.eid setup.keep schedule.now.requesters ≡ None) }
-    ensures err { IfErr result (λ fault. (fault ≡ RunFault.Memory) ⊎ (refusal setup.eid setup.keep schedule.now.requesters ≡ Some fault)) }
-    ensures entries { IfOk result (λ report. report.entries.items ≡ entries (setting_of_run (rules_of P.answer P.after P.sensed) (P.state setup.device) setup.eid setup.keep schedule.now) (newest_first schedule.now)) }
-    ensures requests { IfOk result (λ report. report.requests.items ≡ requests_after (setting_of_run (rules_of P.answer P.after P.sensed) (P.state setup.device) setup.eid setup.keep schedule.now) (final_world (setting_of_run (rules_of P.answer P.after P.sensed) (P.state setup.device) setup.eid setup.keep schedule.now) schedule.now)) }
-    ensures order { IfOk result (λ report. report.order.items ≡ order setup.keep (final_world (setting_of_run (rules_of P.answer P.after P.sensed) (P.state setup.device) setup.eid setup.keep schedule.now) schedule.now).log) }
-    ensures device { IfOk result (λ report. P.state report.device ≡ final_state (setting_of_run (rules_of P.answer P.after P.sensed) (P.state setup.device) setup.eid setup.keep schedule.now) schedule.now) }
-    ensures performed { IfOk result (λ report. P.performed setup.device (commands_performed setup.keep (final_world (setting_of_run (rules_of P.answer P.after P.sensed) (P.state setup.device) setup.eid setup.keep schedule.now) schedule.now).log) report.device) }
-    ensures timely { IfOk result (λ report. report.timely ≡ is_timely (setting_of_run (rules_of P.answer P.after P.sensed) (P.state setup.device) setup.eid setup.keep schedule.now) (newest_first schedule.now)) }
-    ensures headline { IfOk result (λ report. report.timely ≡ true → Headline (setting_of_run (rules_of P.answer P.after P.sensed) (P.state setup.device) setup.eid setup.keep schedule.now) (newest_first schedule.now) report.entries.items report.requests.items report.order.items (P.state report.device) (λ commands. P.performed setup.device commands report.device)) }
+    ensures err { IfErr result (λ fault. (fault ≡ RunFault.Memory) ⊎ (refusal setup.eid setup.keep
+        schedule.now.requesters ≡ Some fault)) }
+    ensures report { IfOk result (λ report. IsReport
+        (setting_of_run (rules_of P.answer P.after P.sensed) (P.state setup.device) setup.eid setup.keep schedule.now)
+        (newest_first schedule.now) (λ commands. P.performed setup.device commands report.device)
+        (record {
+          entries = report.entries.items;
+          requests = report.requests.items;
+          order = report.order.items;
+          device = P.state report.device;
+          timely = report.timely;
+        })) }
 {
     pldm_responder::laws::looks_back::<P>();
     pldm_requester::laws::looks_back();
@@ -133,9 +138,13 @@ struct Ends<P: Platform> {
 impl<P: Platform> Ends<P> {
     /// Takes a step.
     fn take(&mut self, step: &Step) -> Result<(), Memory>
-        requires { CanGoOn (rules_of P.answer P.after P.sensed) self.old.keep self.old.responder self.old.places.items self.old.journal step.now }
-        ensures runs { OnOk result (GoesOn (rules_of P.answer P.after P.sensed) self.old.keep step.now self.old.responder self.old.places.items self.old.journal self.new.responder self.new.places.items self.new.journal) }
-        ensures performs { OnOk result (Performs (rules_of P.answer P.after P.sensed) self.old.keep P.performed step.now self.old.responder self.old.places.items self.old.journal self.new.responder) }
+        requires { CanGoOn (rules_of P.answer P.after P.sensed) self.old.keep self.old.responder self.old.places.items
+            self.old.journal step.now }
+        ensures runs { OnOk result (GoesOn (rules_of P.answer P.after P.sensed) self.old.keep step.now
+            self.old.responder self.old.places.items self.old.journal self.new.responder self.new.places.items
+            self.new.journal) }
+        ensures performs { OnOk result (Performs (rules_of P.answer P.after P.sensed) self.old.keep P.performed
+            step.now self.old.responder self.old.places.items self.old.journal self.new.responder) }
         ensures keep { self.new.keep ≡ self.old.keep }
     {
         let now = step.moment;
@@ -152,8 +161,11 @@ impl<P: Platform> Ends<P> {
 
     /// A requester opens a request.
     fn open(&mut self, now: Moment, eid: Eid, command: &Command) -> Result<(), Memory>
-        requires { CanGoOn (rules_of P.answer P.after P.sensed) self.old.keep self.old.responder self.old.places.items self.old.journal (record { moment = now; action = actions.Open eid command.now }) }
-        ensures runs { OnOk result (GoesOn (rules_of P.answer P.after P.sensed) self.old.keep (record { moment = now; action = actions.Open eid command.now }) self.old.responder self.old.places.items self.old.journal self.new.responder self.new.places.items self.new.journal) }
+        requires { CanGoOn (rules_of P.answer P.after P.sensed) self.old.keep self.old.responder self.old.places.items
+            self.old.journal (record { moment = now; action = actions.Open eid command.now }) }
+        ensures runs { OnOk result (GoesOn (rules_of P.answer P.after P.sensed) self.old.keep
+            (record { moment = now; action = actions.Open eid command.now }) self.old.responder self.old.places.items
+            self.old.journal self.new.responder self.new.places.items self.new.journal) }
         ensures platform { self.new.responder.platform ≡ self.old.responder.platform }
         ensures keep { self.new.keep ≡ self.old.keep }
     {
@@ -174,8 +186,11 @@ impl<P: Platform> Ends<P> {
 
     /// A requester sends again and gives up what is due.
     fn tick(&mut self, now: Moment, eid: Eid) -> Result<(), Memory>
-        requires { CanGoOn (rules_of P.answer P.after P.sensed) self.old.keep self.old.responder self.old.places.items self.old.journal (record { moment = now; action = actions.Tick eid }) }
-        ensures runs { OnOk result (GoesOn (rules_of P.answer P.after P.sensed) self.old.keep (record { moment = now; action = actions.Tick eid }) self.old.responder self.old.places.items self.old.journal self.new.responder self.new.places.items self.new.journal) }
+        requires { CanGoOn (rules_of P.answer P.after P.sensed) self.old.keep self.old.responder self.old.places.items
+            self.old.journal (record { moment = now; action = actions.Tick eid }) }
+        ensures runs { OnOk result (GoesOn (rules_of P.answer P.after P.sensed) self.old.keep
+            (record { moment = now; action = actions.Tick eid }) self.old.responder self.old.places.items
+            self.old.journal self.new.responder self.new.places.items self.new.journal) }
         ensures platform { self.new.responder.platform ≡ self.old.responder.platform }
         ensures keep { self.new.keep ≡ self.old.keep }
     {
@@ -190,9 +205,14 @@ impl<P: Platform> Ends<P> {
 
     /// The packet of a request comes to the device.
     fn deliver(&mut self, now: Moment, number: u64) -> Result<(), Memory>
-        requires { CanGoOn (rules_of P.answer P.after P.sensed) self.old.keep self.old.responder self.old.places.items self.old.journal (record { moment = now; action = actions.Request number }) }
-        ensures runs { OnOk result (GoesOn (rules_of P.answer P.after P.sensed) self.old.keep (record { moment = now; action = actions.Request number }) self.old.responder self.old.places.items self.old.journal self.new.responder self.new.places.items self.new.journal) }
-        ensures performs { OnOk result (Performs (rules_of P.answer P.after P.sensed) self.old.keep P.performed (record { moment = now; action = actions.Request number }) self.old.responder self.old.places.items self.old.journal self.new.responder) }
+        requires { CanGoOn (rules_of P.answer P.after P.sensed) self.old.keep self.old.responder self.old.places.items
+            self.old.journal (record { moment = now; action = actions.Request number }) }
+        ensures runs { OnOk result (GoesOn (rules_of P.answer P.after P.sensed) self.old.keep
+            (record { moment = now; action = actions.Request number }) self.old.responder self.old.places.items
+            self.old.journal self.new.responder self.new.places.items self.new.journal) }
+        ensures performs { OnOk result (Performs (rules_of P.answer P.after P.sensed) self.old.keep P.performed
+            (record { moment = now; action = actions.Request number }) self.old.responder self.old.places.items
+            self.old.journal self.new.responder) }
         ensures keep { self.new.keep ≡ self.old.keep }
     {
         pldm_responder::laws::looks_back::<P>();
@@ -217,8 +237,15 @@ impl<P: Platform> Ends<P> {
     /// A packet of the latest answer to a request, a busy one or not, comes to its requester.
     fn hand(&mut self, now: Moment, number: u64, packet: u8, busy: bool) -> Result<(), Memory>
         requires first { busy ≡ true → packet ≡ 0 }
-        requires steps { CanGoOn (rules_of P.answer P.after P.sensed) self.old.keep self.old.responder self.old.places.items self.old.journal (record { moment = now; action = answer_action busy number packet }) }
-        ensures runs { OnOk result (GoesOn (rules_of P.answer P.after P.sensed) self.old.keep (record { moment = now; action = answer_action busy number packet }) self.old.responder self.old.places.items self.old.journal self.new.responder self.new.places.items self.new.journal) }
+        requires steps { CanGoOn (rules_of P.answer P.after P.sensed) self.old.keep self.old.responder
+            self.old.places.items self.old.journal (record {
+              moment = now;
+              action = answer_action busy number
+                  packet;
+            }) }
+        ensures runs { OnOk result (GoesOn (rules_of P.answer P.after P.sensed) self.old.keep
+            (record { moment = now; action = answer_action busy number packet }) self.old.responder
+            self.old.places.items self.old.journal self.new.responder self.new.places.items self.new.journal) }
         ensures platform { self.new.responder.platform ≡ self.old.responder.platform }
         ensures keep { self.new.keep ≡ self.old.keep }
     {
@@ -245,8 +272,11 @@ impl<P: Platform> Ends<P> {
 
     /// A sensor of the device gets a reading.
     fn sense(&mut self, now: Moment, sensor: u16, value: i64) -> Result<(), Memory>
-        requires { CanGoOn (rules_of P.answer P.after P.sensed) self.old.keep self.old.responder self.old.places.items self.old.journal (record { moment = now; action = actions.Sense sensor value }) }
-        ensures runs { OnOk result (GoesOn (rules_of P.answer P.after P.sensed) self.old.keep (record { moment = now; action = actions.Sense sensor value }) self.old.responder self.old.places.items self.old.journal self.new.responder self.new.places.items self.new.journal) }
+        requires { CanGoOn (rules_of P.answer P.after P.sensed) self.old.keep self.old.responder self.old.places.items
+            self.old.journal (record { moment = now; action = actions.Sense sensor value }) }
+        ensures runs { OnOk result (GoesOn (rules_of P.answer P.after P.sensed) self.old.keep
+            (record { moment = now; action = actions.Sense sensor value }) self.old.responder self.old.places.items
+            self.old.journal self.new.responder self.new.places.items self.new.journal) }
         ensures performs { P.performed self.old.responder.platform [] self.new.responder.platform }
         ensures keep { self.new.keep ≡ self.old.keep }
     {
@@ -258,8 +288,11 @@ impl<P: Platform> Ends<P> {
 
     /// The device's end restarts.
     fn restart(&mut self, now: Moment) -> Result<(), Memory>
-        requires { CanGoOn (rules_of P.answer P.after P.sensed) self.old.keep self.old.responder self.old.places.items self.old.journal (record { moment = now; action = actions.Restart }) }
-        ensures runs { OnOk result (GoesOn (rules_of P.answer P.after P.sensed) self.old.keep (record { moment = now; action = actions.Restart }) self.old.responder self.old.places.items self.old.journal self.new.responder self.new.places.items self.new.journal) }
+        requires { CanGoOn (rules_of P.answer P.after P.sensed) self.old.keep self.old.responder self.old.places.items
+            self.old.journal (record { moment = now; action = actions.Restart }) }
+        ensures runs { OnOk result (GoesOn (rules_of P.answer P.after P.sensed) self.old.keep
+            (record { moment = now; action = actions.Restart }) self.old.responder self.old.places.items
+            self.old.journal self.new.responder self.new.places.items self.new.journal) }
         ensures platform { self.new.responder.platform ≡ self.old.responder.platform }
         ensures keep { self.new.keep ≡ self.old.keep }
     {

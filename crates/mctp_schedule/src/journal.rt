@@ -114,7 +114,8 @@ impl Journal {
         busy: bool,
         room: &'a mut [u8; MOST_PACKET_BYTES],
     ) -> Option<&'a [u8]>
-        ensures { option_map (λ bytes. bytes.now) result ≡ packet_at self.now.entries.items packet busy (slice_get self.now.traffic.items number) }
+        ensures { option_map (λ bytes. bytes.now) result ≡ packet_at self.now.entries.items packet busy
+            (slice_get self.now.traffic.items number) }
     {
         let traffic = self.traffic.get(number as usize)?;
         match self.entries.get(traffic.place(busy)?)? {
@@ -146,9 +147,12 @@ impl Journal {
 
     /// Writes down that a request was opened.
     pub(crate) fn open(&mut self, requester: Eid, opening: Moment, sent: Sent) -> Result<(), Memory>
-        ensures entries { OnOk result (self.new.entries.items ≡ self.old.entries.items ++ Entry.Opened (length self.old.requests.items) ∷ []) }
-        ensures requests { OnOk result (self.new.requests.items ≡ self.old.requests.items ++ begun requester sent.own opening sent.message.items ∷ []) }
-        ensures traffic { OnOk result (self.new.traffic.items ≡ self.old.traffic.items ++ (record { packet = sent.packet.items; reply = None; busy = None }) ∷ []) }
+        ensures entries { OnOk result (self.new.entries.items ≡ self.old.entries.items ++ Entry.Opened
+            (length self.old.requests.items) ∷ []) }
+        ensures requests { OnOk result (self.new.requests.items ≡ self.old.requests.items ++ begun requester sent.own
+            opening sent.message.items ∷ []) }
+        ensures traffic { OnOk result (self.new.traffic.items ≡ self.old.traffic.items
+            ++ (record { packet = sent.packet.items; reply = None; busy = None }) ∷ []) }
         ensures order { OnOk result (self.new.order.items ≡ self.old.order.items) }
         ensures timely { OnOk result (self.new.timely ≡ self.old.timely) }
     {
@@ -166,10 +170,12 @@ impl Journal {
 
     /// Writes down what a tick found due.
     pub(crate) fn tick(&mut self, due: Due) -> Result<(), Memory>
-        requires { (number : ℕ) → list_any (λ n. n == number) due.given_up.items ≡ true → number < length self.old.requests.items }
+        requires { (number : ℕ) → list_any (λ n. n == number) due.given_up.items ≡ true → number < length
+            self.old.requests.items }
         ensures entries { OnOk result (self.new.entries.items ≡ self.old.entries.items ++ Entry.Due due ∷ []) }
         ensures all { OnOk result (length self.new.requests.items ≡ length self.old.requests.items) }
-        ensures requests { OnOk result ((number : ℕ) → slice_get self.new.requests.items number ≡ option_map (stands_after due.given_up.items number) (slice_get self.old.requests.items number)) }
+        ensures requests { OnOk result ((number : ℕ) → slice_get self.new.requests.items number ≡ option_map
+            (stands_after due.given_up.items number) (slice_get self.old.requests.items number)) }
         ensures traffic { OnOk result (self.new.traffic.items ≡ self.old.traffic.items) }
         ensures order { OnOk result (self.new.order.items ≡ self.old.order.items) }
         ensures timely { OnOk result (self.new.timely ≡ self.old.timely) }
@@ -181,9 +187,11 @@ impl Journal {
 
     /// The requests of these numbers are given up.
     fn give_up(&mut self, numbers: &[u64])
-        requires { (number : ℕ) → list_any (λ n. n == number) numbers.now ≡ true → number < length self.old.requests.items }
+        requires { (number : ℕ) → list_any (λ n. n == number) numbers.now ≡ true → number < length
+            self.old.requests.items }
         ensures all { length self.new.requests.items ≡ length self.old.requests.items }
-        ensures requests { (number : ℕ) → slice_get self.new.requests.items number ≡ option_map (stands_after numbers.now number) (slice_get self.old.requests.items number) }
+        ensures requests { (number : ℕ) → slice_get self.new.requests.items number ≡ option_map
+            (stands_after numbers.now number) (slice_get self.old.requests.items number) }
         ensures entries { self.new.entries ≡ self.old.entries }
         ensures traffic { self.new.traffic ≡ self.old.traffic }
         ensures order { self.new.order ≡ self.old.order }
@@ -204,11 +212,14 @@ impl Journal {
         reply: &[u8],
     ) -> Result<(), Memory>
         requires { number < length self.old.traffic.items }
-        ensures entries { OnOk result (self.new.entries.items ≡ self.old.entries.items ++ Entry.Delivered busy (answering reply.now taken) ∷ []) }
+        ensures entries { OnOk result (self.new.entries.items ≡ self.old.entries.items ++ Entry.Delivered busy
+            (answering reply.now taken) ∷ []) }
         ensures requests { OnOk result (self.new.requests.items ≡ self.old.requests.items) }
         ensures all { OnOk result (length self.new.traffic.items ≡ length self.old.traffic.items) }
-        ensures traffic { OnOk result ((k : ℕ) → slice_get self.new.traffic.items k ≡ option_map (λ t. if k == number then answers_at (length self.old.entries.items) busy t else t) (slice_get self.old.traffic.items k)) }
-        ensures order { OnOk result (self.new.order.items ≡ self.old.order.items ++ fresh_numbers number (answering reply.now taken)) }
+        ensures traffic { OnOk result ((k : ℕ) → slice_get self.new.traffic.items k ≡ option_map (λ t. if k == number
+            then answers_at (length self.old.entries.items) busy t else t) (slice_get self.old.traffic.items k)) }
+        ensures order { OnOk result (self.new.order.items ≡ self.old.order.items ++ fresh_numbers number
+            (answering reply.now taken)) }
         ensures timely { OnOk result (self.new.timely ≡ (in_time && self.old.timely)) }
     {
         if let Taken::Answered { fresh: true, .. } = &taken {
@@ -224,7 +235,8 @@ impl Journal {
     fn answer_next(&mut self, number: u64, busy: bool)
         requires { number < length self.old.traffic.items }
         ensures all { length self.new.traffic.items ≡ length self.old.traffic.items }
-        ensures traffic { (k : ℕ) → slice_get self.new.traffic.items k ≡ option_map (λ t. if k == number then answers_at (length self.old.entries.items) busy t else t) (slice_get self.old.traffic.items k) }
+        ensures traffic { (k : ℕ) → slice_get self.new.traffic.items k ≡ option_map (λ t. if k == number then
+            answers_at (length self.old.entries.items) busy t else t) (slice_get self.old.traffic.items k) }
         ensures entries { self.new.entries ≡ self.old.entries }
         ensures requests { self.new.requests ≡ self.old.requests }
         ensures order { self.new.order ≡ self.old.order }
@@ -244,7 +256,8 @@ impl Journal {
         requires { IfSome answered (λ a. a.number < length self.old.requests.items) }
         ensures entries { OnOk result (self.new.entries.items ≡ self.old.entries.items ++ Entry.Received got ∷ []) }
         ensures all { OnOk result (length self.new.requests.items ≡ length self.old.requests.items) }
-        ensures requests { OnOk result ((k : ℕ) → slice_get self.new.requests.items k ≡ option_map (answered_as answered k) (slice_get self.old.requests.items k)) }
+        ensures requests { OnOk result ((k : ℕ) → slice_get self.new.requests.items k ≡ option_map
+            (answered_as answered k) (slice_get self.old.requests.items k)) }
         ensures traffic { OnOk result (self.new.traffic.items ≡ self.old.traffic.items) }
         ensures order { OnOk result (self.new.order.items ≡ self.old.order.items) }
         ensures timely { OnOk result (self.new.timely ≡ (in_time && self.old.timely)) }

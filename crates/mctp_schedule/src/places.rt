@@ -64,7 +64,8 @@ fn begin_requester(
     keep: Keep,
     line: &RequesterLine,
 ) -> Result<Requester, RunFault>
-    ensures held { IfOk result (λ requester. IsHeld (held_of requester) (held_at_first line.now.eid device (timing_from keep (Some line.now)))) }
+    ensures held { IfOk result (λ requester. IsHeld (held_of requester) (held_at_first line.now.eid device
+        (timing_from keep (Some line.now)))) }
     ensures ok { IfOk result (λ requester. timing_fault line.now.eid device (timing_from keep (Some line.now)) ≡ None) }
     ensures err { IfErr result (λ fault. refusal device keep (line.now ∷ []) ≡ Some fault) }
 {

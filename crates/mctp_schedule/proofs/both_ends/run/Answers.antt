@@ -2,14 +2,17 @@
 use Rattle.std.proofs.Common.{◌<◌, ◌+◌, List, [], ◌∷◌, length, take, Some, sym, ap, subst, ◌∙◌, arith}
 use Rattle.std.specs.Prelude.{reverse, slice_get, slice_index_or}
 use Rattle.pldm_responder.specs.Performing.{rules_of}
-use Rattle.mctp_schedule.specs.Entries.{requests_after}
+use Rattle.mctp_schedule.specs.Entries.{entries, requests_after}
+use Rattle.mctp_schedule.specs.FirstArrivals.{order}
+use Rattle.mctp_schedule.specs.Logs.{told}
+use Rattle.pldm_responder.specs.Performing.{performed}
 use Rattle.pldm_responder.specs.Stations.{held_of}
 use Rattle.mctp_schedule.specs.Headline.{Headline}
 use Rattle.mctp_schedule.specs.Places.{BeginEach}
 use Rattle.mctp_schedule.specs.Running.{IsRunning, Terms}
 use Rattle.mctp_schedule.specs.PerformedCommands.{commands_at_step, commands_performed}
 use Rattle.mctp_schedule.specs.Runs.{newest_first, setting_of_run}
-use Rattle.mctp_schedule.specs.Worlds.{NeverWentBack, world}
+use Rattle.mctp_schedule.specs.Worlds.{NeverWentBack, is_timely, world}
 use Rattle.schedule_text.specs.declared.step.Step.{Step}
 use Rattle.pldm_wire.specs.declared.command.Command.{Command}
 use Rattle.mctp_schedule.proofs.CommandsPerformed.{commands_added}
@@ -71,25 +74,17 @@ loop-step-preserved g c =
           c.loop-step.invariant.performed (c.in-Ok.ensures.performs terms (reverse (take i schedule.steps)) c.loop-step.invariant.runs may)));
     }
 
-pub returns-clause-requests : goal.returns-clause-requests
-returns-clause-requests g c =
+pub returns-clause-report : goal.returns-clause-report
+returns-clause-report g c =
     let schedule = c.args.schedule.now in
     let setting = setting_of_run (rules_of g.P.Platform.answer g.P.Platform.after g.P.Platform.sensed) (g.P.Platform.state c.args.setup.device) c.args.setup.eid c.args.setup.keep schedule in
     let i = c.loop-step.step-index in
     let done = c.loop-step-test.false in
     let l = ap (λ (xs : List Step). length xs) c.steps-step-items.ensures.value in
     let all = ap reverse (take_all i schedule.steps (omega (arith, done, l))) in
-    let w = world setting (reverse (take i schedule.steps)) in
-    requests_are setting w c.loop-step.ends.journal.requests.items c.loop-step.invariant.runs.requests ∙ ap (λ past. requests_after setting (world setting past)) all
-
-pub returns-clause-headline : goal.returns-clause-headline
-returns-clause-headline g c =
-    let schedule = c.args.schedule.now in
-    let setting = setting_of_run (rules_of g.P.Platform.answer g.P.Platform.after g.P.Platform.sensed) (g.P.Platform.state c.args.setup.device) c.args.setup.eid c.args.setup.keep schedule in
-    let i = c.loop-step.step-index in
-    let done = c.loop-step-test.false in
-    let l = ap (λ (xs : List Step). length xs) c.steps-step-items.ensures.value in
-    let all = ap reverse (take_all i schedule.steps (omega (arith, done, l))) in
+    let past = reverse (take i schedule.steps) in
+    let runs = c.loop-step.invariant.runs in
+    let journal = c.loop-step.ends.journal in
     let both = c.requesters_take_the_one_reply.ensures in
     let once = c.performs_once.ensures in
     let halves : Halves setting = record {
@@ -104,21 +99,17 @@ returns-clause-headline g c =
       answered = both.answered setting;
       performed = both.performed setting;
     } in
-    let journal = c.loop-step.ends.journal in
-    let performed = λ (cs : List Command). g.P.Platform.performed c.args.setup.device cs c.into_platform-device.result in
-    let given = subst (λ p. g.P.Platform.performed c.args.setup.device (commands_performed c.args.setup.keep (world setting (reverse (take i schedule.steps))).log) p) (sym c.into_platform-device.ensures.value) c.loop-step.invariant.performed in
-    λ timely.
-    subst (λ s. Headline setting (newest_first schedule) journal.entries.items journal.requests.items journal.order.items s performed) (sym c.into_platform-device.ensures.state)
-    (subst (λ past. Headline setting past journal.entries.items journal.requests.items journal.order.items (held_of c.loop-step.ends.responder).state performed) all
-    (run_is_headline setting (reverse (take i schedule.steps)) c.loop-step.ends.keep c.loop-step.ends.responder c.loop-step.ends.places.items journal c.loop-step.invariant.runs halves performed given c.loop-step.invariant.in_order timely))
-
-pub returns-clause-performed : goal.returns-clause-performed
-returns-clause-performed g c =
-    let schedule = c.args.schedule.now in
-    let setting = setting_of_run (rules_of g.P.Platform.answer g.P.Platform.after g.P.Platform.sensed) (g.P.Platform.state c.args.setup.device) c.args.setup.eid c.args.setup.keep schedule in
-    let i = c.loop-step.step-index in
-    let done = c.loop-step-test.false in
-    let l = ap (λ (xs : List Step). length xs) c.steps-step-items.ensures.value in
-    let all = ap reverse (take_all i schedule.steps (omega (arith, done, l))) in
-    subst (λ p. g.P.Platform.performed c.args.setup.device (commands_performed c.args.setup.keep (world setting (newest_first schedule)).log) p) (sym c.into_platform-device.ensures.value)
-    (subst (λ past. g.P.Platform.performed c.args.setup.device (commands_performed c.args.setup.keep (world setting past).log) c.loop-step.ends.responder.platform) all c.loop-step.invariant.performed)
+    let has_performed = λ (cs : List Command). g.P.Platform.performed c.args.setup.device cs c.into_platform-device.result in
+    let given = subst (λ p. g.P.Platform.performed c.args.setup.device (commands_performed c.args.setup.keep (world setting past).log) p) (sym c.into_platform-device.ensures.value) c.loop-step.invariant.performed in
+    record {
+      each_step = runs.entries ∙ ap (λ steps. entries setting steps) all;
+      each_request = requests_are setting (world setting past) journal.requests.items runs.requests ∙ ap (λ steps. requests_after setting (world setting steps)) all;
+      in_order = runs.order ∙ ap (λ steps. order setting.keep (world setting steps).log) all;
+      state = c.into_platform-device.ensures.state ∙ runs.device.left.state ∙ ap (performed setting.device setting.keep setting.start) runs.device.events ∙ ap (λ steps. performed setting.device setting.keep setting.start (told (world setting steps).log)) all;
+      commands = subst (λ steps. has_performed (commands_performed c.args.setup.keep (world setting steps).log)) all given;
+      tested = runs.timely ∙ ap (λ steps. is_timely setting steps) all;
+      headline = λ timely.
+          subst (λ s. Headline setting (newest_first schedule) journal.entries.items journal.requests.items journal.order.items s has_performed) (sym c.into_platform-device.ensures.state)
+          (subst (λ steps. Headline setting steps journal.entries.items journal.requests.items journal.order.items (held_of c.loop-step.ends.responder).state has_performed) all
+          (run_is_headline setting past c.loop-step.ends.keep c.loop-step.ends.responder c.loop-step.ends.places.items journal runs halves has_performed given c.loop-step.invariant.in_order timely));
+    }

@@ -1,5 +1,5 @@
 -- The laws are proved in OneReplyTaken, by those of packets, messages and a requester.
-use Rattle.mctp_schedule.proofs.AnswersOwed.{Lower}
+use Rattle.mctp_schedule.proofs.AnswerPacketOutcomes.{Lower}
 use Rattle.mctp_schedule.proofs.OneReplyTaken.{answered_was_performed, answered_where_taken, busy_is_owed, own_assembly, own_deliveries, reply_is_owed, taken_once}
 use Rattle.mctp_schedule.proofs.laws.requesters_take_the_one_reply.Goals as goal
 

@@ -32,9 +32,9 @@ use Rattle.mctp_schedule.specs.Worlds.{Setting, World, answer_packets, busy_from
 use Rattle.schedule_text.specs.declared.step.Step.{Step}
 use Rattle.mctp_schedule.proofs.AnswersRead.{AnswersRequest, answer_arrives, busy_refuses, reply_answers, whole_arrival}
 use Rattle.mctp_schedule.proofs.DeliveriesOwed.{given_is_the_reply, the_reply_fits}
-use Rattle.mctp_schedule.proofs.HandedAnswers.{IsOf, packet_past}
+use Rattle.mctp_schedule.proofs.AnswerPacketsAtRequester.{IsOf, packet_past}
 use Rattle.mctp_schedule.proofs.KnownRequests.{Known, all_known}
-use Rattle.mctp_schedule.proofs.RepliesKept.{no_parts}
+use Rattle.mctp_schedule.proofs.UntouchedRequests.{no_parts}
 use Rattle.mctp_schedule.proofs.RowsOfReplies.{Below, given_alone, given_else, given_in_row}
 
 -- what the crates below promise

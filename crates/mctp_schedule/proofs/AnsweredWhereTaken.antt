@@ -22,13 +22,13 @@ use Rattle.mctp_schedule.specs.Worlds.{IsTimely, IsTimelyAction, NeverWentBack, 
 use Rattle.schedule_text.specs.declared.step.Action.{Action}
 use Rattle.schedule_text.specs.declared.step.Action.TheVariants as actions
 use Rattle.schedule_text.specs.declared.step.Step.{Step}
-use Rattle.mctp_schedule.proofs.AnswersOwed.{Lower, arrival_by, arrival_owed, busy_brings, busy_is, busy_is_one, has_arrived, mine, owed_is_own, packet_is, reads_back, reply_brings}
+use Rattle.mctp_schedule.proofs.AnswerPacketOutcomes.{Lower, arrival_by, arrival_owed, busy_brings, busy_is, busy_is_one, has_arrived, mine, owed_is_own, packet_is, reads_back, reply_brings}
 use Rattle.mctp_schedule.proofs.FirstPerformed.{request_opened}
 use Rattle.mctp_schedule.proofs.FittingReplies.{fits_before}
-use Rattle.mctp_schedule.proofs.GivenReplies.{busy_opened}
-use Rattle.mctp_schedule.proofs.HandedAnswers.{IsOf, comes_in, course_after, packet_past, packet_there, with_arrival}
+use Rattle.mctp_schedule.proofs.OneReplyGiven.{busy_opened}
+use Rattle.mctp_schedule.proofs.AnswerPacketsAtRequester.{IsOf, comes_in, course_after, packet_past, packet_there, with_arrival}
 use Rattle.mctp_schedule.proofs.KnownRequests.{Known, all_known, asked_stays_done, held_before}
-use Rattle.mctp_schedule.proofs.RepliesKept.{Holds, Stands, arrived_stays, claim_moves, first_unopened, holds_kept, no_parts, quiet, reply_stays, same_kept, still_below, still_brought}
+use Rattle.mctp_schedule.proofs.UntouchedRequests.{Holds, Stands, arrived_stays, claim_moves, first_unopened, holds_kept, no_parts, quiet, reply_stays, same_kept, still_below, still_brought}
 use Rattle.mctp_schedule.proofs.RowsOfReplies.{Below}
 use Rattle.mctp_schedule.proofs.StepsOnRequests.{called, comes_to_it, comes_to_none, open_keeps, opens_new, others_rest, tick_keeps}
 use Rattle.mctp_schedule.proofs.TimelyLogs.{log_is_timely}

@@ -16,7 +16,7 @@ use Rattle.schedule_text.specs.declared.step.Action.{Action}
 use Rattle.schedule_text.specs.declared.step.Action.TheVariants as actions
 use Rattle.schedule_text.specs.declared.step.Step.{Step}
 use Rattle.mctp_schedule.proofs.FirstPerformed.{first_stays}
-use Rattle.mctp_schedule.proofs.GivenReplies.{busy_opened, once_stays}
+use Rattle.mctp_schedule.proofs.OneReplyGiven.{busy_opened, once_stays}
 use Rattle.mctp_schedule.proofs.KnownRequests.{asked_stays_done, stays_done}
 use Rattle.mctp_schedule.proofs.RowsOfReplies.{Below}
 
