@@ -4,7 +4,7 @@ mod transfer;
 
 use crate::fakes::OneByteWriter;
 use example_device::{description, input};
-use mctpctl_engines::{EngineFault, LineKind, Port, answer_all};
+use mctpctl_engines::{DescriptionFault, EngineFault, LineKind, Port, answer_all};
 use pldm_device::FileFault;
 use std::alloc::{AllocError, Global};
 use std::io::Read;
@@ -242,7 +242,8 @@ fn refused_inputs(rt: HostRuntime) -> Result<(), Fail> {
     assert_eq!(rt; written.len(), 0);
     let text = b"eid = 9\nkeep_ms = 1000\ntid = 255\n%%\n0 010908c801800002\n".as_slice();
     let (result, written) = run(alloc, text)?;
-    assert_eq!(rt; result, Err(EngineFault::Device(FileFault::OutOfRange)));
+    let refusal = DescriptionFault::new(FileFault::OutOfRange).expect(&rt, "a refusal");
+    assert_eq!(rt; result, Err(EngineFault::Device(refusal)));
     assert_eq!(rt; written.len(), 0);
     Ok(())
 }

@@ -1,7 +1,7 @@
 //! The lines that tell faults, and their exit statuses.
 
 use mctp_packet::Eid;
-use mctpctl_engines::{EngineFault, LineKind, fault_line, status_of};
+use mctpctl_engines::{DescriptionFault, EngineFault, LineKind, fault_line, status_of};
 use pldm_device::FileFault;
 use pldm_requester::TimingFault;
 use std::test::Fail;
@@ -9,12 +9,9 @@ use std::test::Fail;
 #[test]
 fn tells_each_fault(rt: HostRuntime) -> Result<(), Fail> {
     let requester = Eid::new(8).expect(&rt, "an endpoint ID");
+    let refusal = DescriptionFault::new(FileFault::OutOfRange).expect(&rt, "a refusal");
     let rows = [
-        (
-            EngineFault::Device(FileFault::OutOfRange),
-            "device: OutOfRange",
-            1,
-        ),
+        (EngineFault::Device(refusal), "device: OutOfRange", 1),
         (EngineFault::NoDivider, "no %% line", 1),
         (
             EngineFault::Line(3, LineKind::BackInTime),

@@ -17,4 +17,3 @@ pub mod SensorEntries
 pub mod EffecterEntries
 pub mod RecordEntries
 pub mod Getters
-pub mod Recorders

@@ -34,7 +34,7 @@ use std::alloc::Global;
 /// `Recorder`, a platform of the tests, is in `crates/device_tests/src/recorder.rt` and
 /// is proved with them. It keeps each terminus ID that it is given, tells the last one, or 0 before the
 /// first, and refuses any other command; its answers, the state that follows and the laws over them
-/// are in `crates/pldm_device/specs/Recorders.antt`. To keep an ID takes memory, so its `STEADY` is
+/// are in `crates/device_tests/specs/Recorders.antt`. To keep an ID takes memory, so its `STEADY` is
 /// false; and it keeps no account of the commands, so its `performed` holds of all values.
 pub trait Platform: Drop {
     ghost use Rattle.std.specs.Prelude.{◌≡◌, ℕ, ℤ, Bool, false, List, [], ◌∷◌, ◌++◌, Result, IfOk, IsOk, OnOk, OnErr, IsTrue};
