@@ -28,6 +28,7 @@ returns-clause-held g c =
     let new : Station g.row.P.Denot g.row.P-State.Denot = record {
       own = c.self.inside.own;
       keep = c.self.inside.keep;
+      bounds = c.self.inside.bounds;
       open_messages = c.self.inside.assembler;
       rows = c.put.new.self;
       platform = c.perform.new.platform;
@@ -43,7 +44,7 @@ returns-clause-held g c =
     (no_copy c.copied.result _ (copied c.id-id.result) c.copied.ensures.packets c.if-copied.false ∙ ap copied c.id-id.ensures.value)
     device new c.perform.new.reply.items
     (◌∙◌ {b = reply_to device (g.P.Platform.state c.self.inside.platform) (Ok request)} c.in_ok-changed.ensures.answer (ap (λ s. reply_to device s (Ok request)) state))
-    (λ other i. c.put.ensures other i
+    (λ other i. c.put.ensures.kept other i
     ∙ ap (λ answer. cond (c.args.source == other && c.id-id.result == i) (Some (record { moment = c.args.now; bytes = c.args.message.now; answer = answer })) (kept_in c.make_room.new.self other i)) c.deref.ensures.0
     ∙ ap (λ id. cond (c.args.source == other && id == i) (Some entry) (kept_in c.make_room.new.self other i)) c.id-id.ensures.value
     ∙ ap (λ o. cond (c.args.source == other && request.id == i) (Some entry) o) (c.make_room.ensures.same other i ∙ ap (λ (s : Station g.row.P.Denot g.row.P-State.Denot). kept_in s.rows other i) view))
