@@ -94,7 +94,8 @@ impl KeptAnswers {
         requires some { 0 < length answer.now }
         requires few { length answer.now ≤ MOST_MESSAGE_BYTES }
         ensures kept { (other i : ℕ) → kept_in self.new other i ≡
-            (if source == other && id == i then Some (record { moment = moment; bytes = bytes.now; answer = answer.now })
+            (if source == other && id == i
+            then Some (record { moment = moment; bytes = bytes.now; answer = answer.now })
             else kept_in self.old other i) }
         ensures sources { source_count self.new ≡ source_count self.old }
     {

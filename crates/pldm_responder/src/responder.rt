@@ -10,7 +10,7 @@ ghost use Rattle.pldm_wire.specs.Requests.{request_of};
 ghost use Rattle.pldm_wire.specs.declared.assigned.TheConstants.{INSTANCE_IDS as ids};
 ghost use Rattle.pldm_responder.specs.Answering.{HasReply, answering, packets_if};
 ghost use Rattle.pldm_responder.specs.Asked.{listed};
-ghost use Rattle.pldm_responder.specs.Arrivals.{headed, is_expected, message_of, packets_back, passed_arrival};
+ghost use Rattle.pldm_responder.specs.Arrivals.{is_expected, message_arrival, message_of, packet_arrival, packets_back};
 ghost use Rattle.pldm_responder.specs.Counts.{CountsKept};
 ghost use Rattle.pldm_responder.specs.Fitting.{ArrivalFits, ReceivedFits};
 ghost use Rattle.pldm_responder.specs.Held.{IsHeld, held_at_first};
@@ -151,7 +151,8 @@ impl<P: Platform> Responder<P> {
     /// was.
     pub fn set_reading(&mut self, id: u16, value: i64) -> Result<(), ReadingFault>
         ensures answer { result ≡ made_of (λ _. tt) (P.sensed (held_of self.old).state id value) }
-        ensures held { IsHeld (held_of self.new) (sensed_held (rules_of P.answer P.after P.sensed) (held_of self.old) id value) }
+        ensures held { IsHeld (held_of self.new)
+            (sensed_held (rules_of P.answer P.after P.sensed) (held_of self.old) id value) }
         ensures performed { P.performed self.old.platform [] self.new.platform }
     {
         self.platform.set_reading(id, value)
@@ -227,7 +228,7 @@ impl<P: Platform> Responder<P> {
     /// one.
     fn packet_command(&self, now: Moment, packet: &PacketRef<'_>) -> Option<Command>
         ensures { listed result ≡ arrival_commands (held_of self.now)
-            (passed_arrival (answer self.now.open_messages) now (passed is_expected (Ok packet.now))) }
+            (packet_arrival (answer self.now.open_messages) now packet.now) }
     {
         let route = packet.route();
         if !route.owner {
@@ -242,12 +243,12 @@ impl<P: Platform> Responder<P> {
     /// The command that a whole message would have the platform perform.
     fn message_command(&self, now: Moment, source: Eid, tag: Tag, message: &[u8]) -> Option<Command>
         ensures { listed result ≡ arrival_commands (held_of self.now)
-            (headed (message_of source tag now message.now) (request_of message.now)) }
+            (message_arrival source tag now message.now) }
     {
         let Ok(request) = read_request(message) else {
             return None;
         };
-        if now.get() < self.serves_from || self.is_copy(now, source, tag, request.id(), message) {
+        if self.is_busy(now) || self.is_copy(now, source, tag, request.id(), message) {
             return None;
         }
         match read_command(&request) {
@@ -259,7 +260,8 @@ impl<P: Platform> Responder<P> {
     /// Whether a message of this instance ID is a copy.
     fn is_copy(&self, now: Moment, source: Eid, tag: Tag, id: u8, message: &[u8]) -> bool
         requires { id < ids }
-        ensures { result ≡ repeats self.now.keep (message_of source tag now message.now) (kept_in self.now.rows source id) }
+        ensures { result
+            ≡ repeats self.now.keep (message_of source tag now message.now) (kept_in self.now.rows source id) }
     {
         let _tag = tag.get();
         match self.kept.get(source, id) {
@@ -272,6 +274,13 @@ impl<P: Platform> Responder<P> {
     /// [`Responder::last_moment`]: it restarted less than the keeping time before.
     pub fn busy(&self, now: Moment) -> bool
         requires { (held_of self.now).last ≤ now }
+        ensures { result ≡ nat_lt now (held_of self.now).serves_from }
+    {
+        self.is_busy(now)
+    }
+
+    /// Whether the responder does not serve yet at the moment `now`.
+    fn is_busy(&self, now: Moment) -> bool
         ensures { result ≡ nat_lt now (held_of self.now).serves_from }
     {
         self.serves_from > now.get()
@@ -295,10 +304,16 @@ impl<P: Platform> Responder<P> {
     /// is performed by a platform that is not steady want memory.
     pub fn receive(&mut self, now: Moment, bytes: &[u8]) -> Result<Outcome, Memory>
         requires { (held_of self.old).last ≤ now }
-        ensures outcome { IfOk result (λ outcome. outcome ≡ received_outcome (rules_of P.answer P.after P.sensed) (held_of self.old) now bytes.now) }
-        ensures fits { OnOk result (ReceivedFits (rules_of P.answer P.after P.sensed) (held_of self.old) now bytes.now) }
-        ensures held { OnOk result (IsHeld (held_of self.new) (received_held (rules_of P.answer P.after P.sensed) (held_of self.old) now bytes.now)) }
-        ensures performed { OnOk result (P.performed self.old.platform (received_commands (held_of self.old) now bytes.now) self.new.platform) }
+        ensures outcome { IfOk result
+            (λ outcome. outcome ≡ received_outcome (rules_of P.answer P.after P.sensed)
+            (held_of self.old) now bytes.now) }
+        ensures fits { OnOk result
+            (ReceivedFits (rules_of P.answer P.after P.sensed) (held_of self.old) now bytes.now) }
+        ensures held { OnOk result
+            (IsHeld (held_of self.new)
+            (received_held (rules_of P.answer P.after P.sensed) (held_of self.old) now bytes.now)) }
+        ensures performed { OnOk result
+            (P.performed self.old.platform (received_commands (held_of self.old) now bytes.now) self.new.platform) }
         ensures memory { OnErr result (WantsMemory (held_of self.old) P.STEADY now bytes.now) }
         ensures err { OnErr result (IsHeld (held_of self.new) (held_of self.old)) }
         ensures none_performed { OnErr result (P.performed self.old.platform [] self.new.platform) }
@@ -338,11 +353,17 @@ impl<P: Platform> Responder<P> {
         reply: &mut Body,
     ) -> Result<Taken, Memory>
         requires { (held_of self.old).last ≤ now }
-        ensures outcome { IfOk result (λ taken. answering reply.new.items taken ≡ received_outcome (rules_of P.answer P.after P.sensed) (held_of self.old) now bytes.now) }
+        ensures outcome { IfOk result
+            (λ taken. answering reply.new.items taken ≡ received_outcome (rules_of P.answer P.after P.sensed)
+            (held_of self.old) now bytes.now) }
         ensures some { IfOk result (HasReply reply.new.items) }
-        ensures fits { OnOk result (ReceivedFits (rules_of P.answer P.after P.sensed) (held_of self.old) now bytes.now) }
-        ensures held { OnOk result (IsHeld (held_of self.new) (received_held (rules_of P.answer P.after P.sensed) (held_of self.old) now bytes.now)) }
-        ensures performed { OnOk result (P.performed self.old.platform (received_commands (held_of self.old) now bytes.now) self.new.platform) }
+        ensures fits { OnOk result
+            (ReceivedFits (rules_of P.answer P.after P.sensed) (held_of self.old) now bytes.now) }
+        ensures held { OnOk result
+            (IsHeld (held_of self.new)
+            (received_held (rules_of P.answer P.after P.sensed) (held_of self.old) now bytes.now)) }
+        ensures performed { OnOk result
+            (P.performed self.old.platform (received_commands (held_of self.old) now bytes.now) self.new.platform) }
         ensures memory { OnErr result (WantsMemory (held_of self.old) P.STEADY now bytes.now) }
         ensures err { OnErr result (IsHeld (held_of self.new) (held_of self.old)) }
         ensures none_performed { OnErr result (P.performed self.old.platform [] self.new.platform) }
@@ -373,16 +394,23 @@ impl<P: Platform> Responder<P> {
         ensures outcome { IfOk result (λ taken.
             answering reply.new.items taken
             ≡ arrival_outcome (rules_of P.answer P.after P.sensed) (held_of self.old)
-            (passed_arrival (answer self.old.open_messages) now (passed is_expected (Ok packet.now)))) }
+            (packet_arrival (answer self.old.open_messages) now packet.now)) }
         ensures some { IfOk result (HasReply reply.new.items) }
-        ensures fits { OnOk result (ArrivalFits (rules_of P.answer P.after P.sensed) (held_of self.old) (passed_arrival (answer self.old.open_messages) now (passed is_expected (Ok packet.now)))) }
-        ensures held { OnOk result (IsHeld (held_of self.new) (passed_held (rules_of P.answer P.after P.sensed) (held_of self.old) now (passed is_expected (Ok packet.now)))) }
-        ensures performed { OnOk result (P.performed self.old.platform (arrival_commands (held_of self.old) (passed_arrival (answer self.old.open_messages) now (passed is_expected (Ok packet.now)))) self.new.platform) }
-        ensures memory { OnErr result (PassedWants (held_of self.old) P.STEADY now (passed is_expected (Ok packet.now))) }
+        ensures fits { OnOk result
+            (ArrivalFits (rules_of P.answer P.after P.sensed)
+            (held_of self.old) (packet_arrival (answer self.old.open_messages) now packet.now)) }
+        ensures held { OnOk result
+            (IsHeld (held_of self.new) (passed_held (rules_of P.answer P.after P.sensed)
+            (held_of self.old) now (passed is_expected (Ok packet.now)))) }
+        ensures performed { OnOk result
+            (P.performed self.old.platform (arrival_commands
+            (held_of self.old) (packet_arrival (answer self.old.open_messages) now packet.now)) self.new.platform) }
+        ensures memory { OnErr result
+            (PassedWants (held_of self.old) P.STEADY now (passed is_expected (Ok packet.now))) }
         ensures err { OnErr result (IsHeld (held_of self.new) (held_of self.old)) }
         ensures none_performed { OnErr result (P.performed self.old.platform [] self.new.platform) }
         ensures no_row { OnErr result (P.STEADY ≡ true → ArrivalLacksRow self.old.rows
-            (passed_arrival (answer self.old.open_messages) now (passed is_expected (Ok packet.now)))) }
+            (packet_arrival (answer self.old.open_messages) now packet.now)) }
         ensures bounds { self.new.bounds ≡ self.old.bounds }
     {
         let route = packet.route();
@@ -399,7 +427,8 @@ impl<P: Platform> Responder<P> {
 
     /// The message of a packet that is both a start and an end packet: its payload, whatever is open.
     fn alone<'a>(&self, packet: &PacketRef<'a>) -> Option<&'a [u8]>
-        ensures whole { IfSome result (λ message. Whole (record { items = message.now }) ≡ answer self.now.open_messages packet.now) }
+        ensures whole { IfSome result
+            (λ message. Whole (record { items = message.now }) ≡ answer self.now.open_messages packet.now) }
         ensures few { IfSome result (λ message. length message.now ≤ MOST_MESSAGE_BYTES) }
     {
         if packet.start() && packet.end() {
@@ -422,16 +451,23 @@ impl<P: Platform> Responder<P> {
         ensures outcome { IfOk result (λ taken.
             answering reply.new.items taken
             ≡ arrival_outcome (rules_of P.answer P.after P.sensed) (held_of self.old)
-            (passed_arrival (answer self.old.open_messages) now (passed is_expected (Ok packet.now)))) }
+            (packet_arrival (answer self.old.open_messages) now packet.now)) }
         ensures some { IfOk result (HasReply reply.new.items) }
-        ensures fits { OnOk result (ArrivalFits (rules_of P.answer P.after P.sensed) (held_of self.old) (passed_arrival (answer self.old.open_messages) now (passed is_expected (Ok packet.now)))) }
-        ensures held { OnOk result (IsHeld (held_of self.new) (passed_held (rules_of P.answer P.after P.sensed) (held_of self.old) now (passed is_expected (Ok packet.now)))) }
-        ensures performed { OnOk result (P.performed self.old.platform (arrival_commands (held_of self.old) (passed_arrival (answer self.old.open_messages) now (passed is_expected (Ok packet.now)))) self.new.platform) }
-        ensures memory { OnErr result (PassedWants (held_of self.old) P.STEADY now (passed is_expected (Ok packet.now))) }
+        ensures fits { OnOk result
+            (ArrivalFits (rules_of P.answer P.after P.sensed)
+            (held_of self.old) (packet_arrival (answer self.old.open_messages) now packet.now)) }
+        ensures held { OnOk result
+            (IsHeld (held_of self.new) (passed_held (rules_of P.answer P.after P.sensed)
+            (held_of self.old) now (passed is_expected (Ok packet.now)))) }
+        ensures performed { OnOk result
+            (P.performed self.old.platform (arrival_commands
+            (held_of self.old) (packet_arrival (answer self.old.open_messages) now packet.now)) self.new.platform) }
+        ensures memory { OnErr result
+            (PassedWants (held_of self.old) P.STEADY now (passed is_expected (Ok packet.now))) }
         ensures err { OnErr result (IsHeld (held_of self.new) (held_of self.old)) }
         ensures none_performed { OnErr result (P.performed self.old.platform [] self.new.platform) }
         ensures no_row { OnErr result (P.STEADY ≡ true → ArrivalLacksRow self.old.rows
-            (passed_arrival (answer self.old.open_messages) now (passed is_expected (Ok packet.now)))) }
+            (packet_arrival (answer self.old.open_messages) now packet.now)) }
         ensures bounds { self.new.bounds ≡ self.old.bounds }
     {
         let route = packet.route();
@@ -480,16 +516,24 @@ impl<P: Platform> Responder<P> {
         ensures outcome { IfOk result (λ taken.
             answering reply.new.items taken
             ≡ arrival_outcome (rules_of P.answer P.after P.sensed) (held_of self.old)
-            (headed (message_of source tag now message.now) (request_of message.now))) }
+            (message_arrival source tag now message.now)) }
         ensures some { IfOk result (HasReply reply.new.items) }
-        ensures fits { OnOk result (ArrivalFits (rules_of P.answer P.after P.sensed) (held_of self.old) (headed (message_of source tag now message.now) (request_of message.now))) }
-        ensures held { OnOk result (IsHeld (held_of self.new) (arrival_held (rules_of P.answer P.after P.sensed) (held_of self.old) (headed (message_of source tag now message.now) (request_of message.now)))) }
-        ensures performed { OnOk result (P.performed self.old.platform (arrival_commands (held_of self.old) (headed (message_of source tag now message.now) (request_of message.now))) self.new.platform) }
-        ensures memory { OnErr result ((start : Bool) → ArrivalWants (held_of self.old) P.STEADY start (headed (message_of source tag now message.now) (request_of message.now))) }
+        ensures fits { OnOk result
+            (ArrivalFits (rules_of P.answer P.after P.sensed)
+            (held_of self.old) (message_arrival source tag now message.now)) }
+        ensures held { OnOk result
+            (IsHeld (held_of self.new) (arrival_held (rules_of P.answer P.after P.sensed)
+            (held_of self.old) (message_arrival source tag now message.now))) }
+        ensures performed { OnOk result
+            (P.performed self.old.platform
+            (arrival_commands (held_of self.old) (message_arrival source tag now message.now)) self.new.platform) }
+        ensures memory { OnErr result
+            ((start : Bool)
+            → ArrivalWants (held_of self.old) P.STEADY start (message_arrival source tag now message.now)) }
         ensures err { OnErr result (IsHeld (held_of self.new) (held_of self.old)) }
         ensures none_performed { OnErr result (P.performed self.old.platform [] self.new.platform) }
         ensures no_row { OnErr result (P.STEADY ≡ true → ArrivalLacksRow self.old.rows
-            (headed (message_of source tag now message.now) (request_of message.now))) }
+            (message_arrival source tag now message.now)) }
         ensures bounds { self.new.bounds ≡ self.old.bounds }
     {
         let request = match read_request(message) {
@@ -497,7 +541,7 @@ impl<P: Platform> Responder<P> {
             Err(reason) => return Ok(Taken::Dropped(reason)),
         };
         let route = way_back(self.own, source, tag);
-        if now.get() < self.serves_from {
+        if self.is_busy(now) {
             refuse(&request, Code::ERROR_NOT_READY, reply);
             return Ok(not_performed(route));
         }
@@ -526,7 +570,8 @@ impl<P: Platform> Responder<P> {
         reply: &mut Body,
     ) -> bool
         requires { id < ids }
-        ensures packets { copied_packets self.now.own self.now.keep (message_of source tag now message.now) (kept_in self.now.rows source id)
+        ensures packets { copied_packets self.now.own self.now.keep
+            (message_of source tag now message.now) (kept_in self.now.rows source id)
             ≡ packets_if result (packets_back self.now.own (message_of source tag now []) reply.new.items) }
         ensures some { result ≡ true → 0 < length reply.new.items }
     {
@@ -546,7 +591,8 @@ impl<P: Platform> Responder<P> {
         ensures value { CountsKept (held_of self.now).kept result }
         ensures few { result ≤ MOST_KEPT }
         ensures bounded { result ≤ INSTANCE_IDS * self.now.bounds.sources }
-        ensures small { (source id : ℕ) → IfSome ((held_of self.now).kept source id) (λ entry. length entry.answer ≤ MOST_MESSAGE_BYTES) }
+        ensures small { (source id : ℕ) → IfSome ((held_of self.now).kept source id)
+            (λ entry. length entry.answer ≤ MOST_MESSAGE_BYTES) }
     {
         let _range = self.own.get();
         self.kept.count()
@@ -558,7 +604,8 @@ impl<P: Platform> Responder<P> {
         ensures value { result ≡ map.len (held_of self.now).open_messages }
         ensures few { result ≤ MOST_PENDING }
         ensures bounded { result ≤ self.now.bounds.open_messages }
-        ensures small { (key : KeyValue) → IfSome (map.get (held_of self.now).open_messages key) (λ o. length o.bytes ≤ MOST_MESSAGE_BYTES) }
+        ensures small { (key : KeyValue) → IfSome (map.get (held_of self.now).open_messages key)
+            (λ o. length o.bytes ≤ MOST_MESSAGE_BYTES) }
     {
         let _range = self.own.get();
         self.assembler.pending()

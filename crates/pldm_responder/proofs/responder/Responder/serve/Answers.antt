@@ -1,4 +1,5 @@
 use Rattle.std.proofs.Common.{◌∙◌, ℕ, cond, ◌&&◌, ◌==◌, Some, Ok, ap, sym, arith}
+use borrow.Author.Tests.{ltb-false}
 use Rattle.pldm_responder.specs.Arrivals.{message_of}
 use Rattle.pldm_responder.specs.Held.{Entry}
 use Rattle.pldm_responder.specs.Performing.{rules_of, reply_to, next_after}
@@ -14,7 +15,7 @@ returns-in_err-changed-clause-memory g c =
     let copied = λ (id : ℕ). copied_packets before.own before.keep (message_of c.args.source c.args.tag c.args.now c.args.message.now) (kept_in before.rows c.args.source id) in
     at_error _ (wants_once_performed before (message_of c.args.source c.args.tag c.args.now c.args.message.now) c.in-Ok.request
     (sym c.in-Ok.ensures.exact)
-    (omega (arith, c.if-get-self.false, c.get.ensures.value, ap (λ (s : Station g.row.P.Denot g.row.P-State.Denot). s.serves_from) c.self.view_is))
+    (ltb-false c.args.now before.serves_from (sym c.is_busy.ensures ∙ c.if-is_busy.false))
     (no_copy c.copied.result _ (copied c.id-id.result) c.copied.ensures.packets c.if-copied.false ∙ ap copied c.id-id.ensures.value)
     g.P.Platform.STEADY (λ steady id. cc (c.in_err-changed.ensures.steady steady)))
 
@@ -40,7 +41,7 @@ returns-clause-held g c =
     let copied = λ (id : ℕ). copied_packets before.own before.keep (message_of c.args.source c.args.tag c.args.now c.args.message.now) (kept_in before.rows c.args.source id) in
     held_once_performed before (message_of c.args.source c.args.tag c.args.now c.args.message.now) request
     (sym c.in-Ok.ensures.exact)
-    (omega (arith, c.if-get-self.false, c.get.ensures.value, ap (λ (s : Station g.row.P.Denot g.row.P-State.Denot). s.serves_from) view))
+    (ltb-false c.args.now before.serves_from (sym c.is_busy.ensures ∙ c.if-is_busy.false))
     (no_copy c.copied.result _ (copied c.id-id.result) c.copied.ensures.packets c.if-copied.false ∙ ap copied c.id-id.ensures.value)
     device new c.perform.new.reply.items
     (◌∙◌ {b = reply_to device (g.P.Platform.state c.self.inside.platform) (Ok request)} c.in_ok-changed.ensures.answer (ap (λ s. reply_to device s (Ok request)) state))
