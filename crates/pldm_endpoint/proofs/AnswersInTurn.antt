@@ -13,7 +13,7 @@ use Rattle.pldm_responder.specs.Held.{Held, IsHeld}
 use Rattle.pldm_responder.specs.Laws.{IsLeftBy}
 use Rattle.pldm_responder.specs.Performing.{Rules, after_command, commands_at, commands_in, next_after}
 use Rattle.pldm_responder.specs.Steps.{arrival_commands, arrival_held, performs, received_arrival, received_commands, received_held, received_outcome, restarted_held}
-use Rattle.pldm_responder.proofs.AnswersFromOutside.{answer_tells_all, none_is_asked}
+use Rattle.pldm_responder.proofs.AnswersFromOutside.{answer_decides, none_is_asked}
 use Rattle.pldm_responder.proofs.CallsLookBack.{new_looks_back, received_looks_back, restarted_looks_back, same_is_left}
 use Rattle.pldm_endpoint.specs.Histories.{AnsweredLooksBack, ForgottenInTurn, IsLeftInTurn, NewInTurn, RestartedInTurn, SameInTurn, UnaskedLooksBack, in_turn, rest_of}
 use Rattle.pldm_endpoint.specs.TwoSteps.{unasked}
@@ -78,7 +78,7 @@ unasked_looks_back looks own keep answers coming held calls moment bytes left as
 pub answered_looks_back : assembly.FeedLooksBack → AnsweredLooksBack
 answered_looks_back looks own keep answers coming held calls moment bytes command given left asked =
     taken own keep answers looks (over (given ∷ coming) held) given coming calls moment bytes left
-    (answer_tells_all in_turn (over (given ∷ coming) held) moment bytes command given asked refl).0
+    (answer_decides in_turn (over (given ∷ coming) held) moment bytes command given asked refl).0
     (one_taken (given ∷ coming) ∙ coming_after (over (given ∷ coming) held) moment bytes (command ∷ []) asked)
 
 pub restarted_in_turn : assembly.NewLooksBack → RestartedInTurn

@@ -10,7 +10,7 @@ use Rattle.pldm_wire.specs.declared.answer.Answer.TheVariants.{Refused}
 use Rattle.pldm_wire.specs.declared.assigned.TheConstants.{ERROR_NOT_READY}
 use Rattle.pldm_wire.specs.declared.command.Command.{Command}
 use Rattle.pldm_responder.specs.Arrivals.{Arrival, Drop, Part, Whole}
-use Rattle.pldm_responder.specs.Asked.{AnswerTellsAll, NoneIsAsked, gives, listed}
+use Rattle.pldm_responder.specs.Asked.{AnswerDecides, NoneIsAsked, gives, listed}
 use Rattle.pldm_responder.specs.Held.{Held, IsHeld}
 use Rattle.pldm_responder.specs.Performing.{Rules, rules_of}
 use Rattle.pldm_responder.specs.Rooms.{ArrivalHasRow, ArrivalLacksRow}
@@ -96,7 +96,7 @@ abbrev pub device : Rules (List ℕ)
 device = rules_of outside_answer outside_after outside_sensed
 
 -- ---- the kept packet is received over the platform that gives the answer
-module _ (law : AnswerTellsAll device) (held : Held (List ℕ)) (response : List ℕ)
+module _ (law : AnswerDecides device) (held : Held (List ℕ)) (response : List ℕ)
     (moment : ℕ) (bytes : List ℕ) (command : Command) (given : Answer)
     (asked : received_commands held moment bytes ≡ command ∷ []) (gave : outside_answer response command ≡ given) where
   pub answered_outcome : (o : Outcome) → o ≡ received_outcome device (record held { state = response }) moment bytes → o ≡ received_outcome (gives given) (bare held) moment bytes

@@ -1,6 +1,6 @@
 //! Laws of a responder, over the definitions alone: each function does nothing and ensures its law.
 
-ghost use Rattle.pldm_responder.specs.Asked.{AnswerTellsAll, NoneIsAsked};
+ghost use Rattle.pldm_responder.specs.Asked.{AnswerDecides, NoneIsAsked};
 ghost use Rattle.pldm_responder.specs.Askings.{AskedApart, CommandsLookBack};
 ghost use Rattle.pldm_responder.specs.Laws.{BusyAnswersAreOnePacket, KeptWhereFresh, NewLooksBack, OneCount, ReceivedLooksBack, RestartedLooksBack, SameIsLeft, SensedLooksBack};
 ghost use Rattle.pldm_responder.specs.Performing.{rules_of};
@@ -33,7 +33,7 @@ pub fn busy_answers_are_one_packet()
 /// Where bytes have the platform perform a command, its answer to that command says what they give and what
 /// they leave, and the request is fresh. Where they have it perform none, no answer of the platform does.
 pub fn answers_come_from_outside<P: Platform>()
-    ensures asked { AnswerTellsAll (rules_of P.answer P.after P.sensed) }
+    ensures asked { AnswerDecides (rules_of P.answer P.after P.sensed) }
     ensures none { NoneIsAsked (rules_of P.answer P.after P.sensed) }
 {}
 
