@@ -1,5 +1,5 @@
 -- The two steps of the endpoint, one right after the other, are what a responder does.
-use Rattle.std.proofs.Common.{◌≡◌, ℕ, List, [], ◌∷◌, Option, Some, None, refl, sym, ap, ◌∙◌, subst}
+use Rattle.std.proofs.Common.{◌≡◌, ℕ, List, [], ◌∷◌, Option, ap, ◌∙◌, subst}
 use Rattle.pldm_wire.specs.declared.answer.Answer.{Answer}
 use Rattle.pldm_wire.specs.declared.command.Command.{Command}
 use Rattle.pldm_responder.specs.Asked.{gives}

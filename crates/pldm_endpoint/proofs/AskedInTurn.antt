@@ -1,20 +1,19 @@
 -- The device is asked the command of each fresh request, and its answers are used one for each asking.
-use Rattle.std.proofs.Common.{◌≡◌, ℕ, ◌+◌, Bool, true, false, not, ◌&&◌, List, [], ◌∷◌, ◌++◌, length, drop, Option, Some, None, Result, Ok, Err, if◌then◌else◌, refl, sym, ap, ◌∙◌, subst, arith}
+use Rattle.std.proofs.Common.{◌≡◌, ℕ, ◌+◌, Bool, true, false, List, [], ◌∷◌, ◌++◌, length, drop, Some, Result, Ok, Err, if◌then◌else◌, refl, sym, ap, ◌∙◌, arith}
 use Rattle.std.proofs.lemmas.List.{drop-drop}
 use Rattle.mctp_packet.specs.declared.reason.Reason.{Reason}
 use Rattle.mctp_assembly.specs.Laws as assembly
 use Rattle.pldm_wire.specs.Answers.{answer_message}
 use Rattle.pldm_wire.specs.CommandReading.{command_of}
-use Rattle.pldm_wire.specs.Headers.{id_at}
 use Rattle.pldm_wire.specs.Requests.{Request, request_of}
 use Rattle.pldm_wire.specs.declared.answer.Answer.{Answer}
 use Rattle.pldm_wire.specs.declared.command.Command.{Command}
 use Rattle.pldm_responder.specs.Arrivals.{packets_back}
 use Rattle.pldm_responder.specs.Asked.{gives, over}
 use Rattle.pldm_responder.specs.Askings.{askings}
-use Rattle.pldm_responder.specs.Calls.{answer_owed, events}
-use Rattle.pldm_responder.specs.Events.{Event, Came, Set, Restarted, Message, Place, is_busy, is_copy, is_copy_of, is_fresh, origin}
-use Rattle.pldm_responder.specs.Performing.{Rules, answered, answered_by, busy_reply, changes, commands_at, performed, reply, reply_at, reply_to, answer_to}
+use Rattle.pldm_responder.specs.Calls.{events}
+use Rattle.pldm_responder.specs.Events.{Event, Came, Set, Restarted, Message, Place, is_busy, is_copy, is_copy_of, is_fresh}
+use Rattle.pldm_responder.specs.Performing.{answered_by, commands_at, performed, reply, reply_at, reply_to, answer_to}
 use Rattle.pldm_responder.specs.declared.outcome.Outcome.{Outcome}
 use Rattle.pldm_responder.specs.declared.outcome.Outcome.TheVariants.{Answered}
 use Rattle.pldm_responder.proofs.AskedOnce.{commands_look_back}

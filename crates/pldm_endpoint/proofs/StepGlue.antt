@@ -1,5 +1,5 @@
 -- What the two steps of an endpoint return and leave, from what its responder returns and leaves.
-use Rattle.std.proofs.Common.{◌≡◌, ℕ, ◌<◌, true, false, List, [], ◌∷◌, Option, Some, None, IsSome, Result, Ok, Err, if◌then◌else◌, refl, sym, ap, ◌∙◌, subst, arith}
+use Rattle.std.proofs.Common.{◌≡◌, ℕ, ◌<◌, List, [], ◌∷◌, Option, Some, None, IsSome, if◌then◌else◌, refl, sym, ap, ◌∙◌, subst, arith}
 use Rattle.std.proofs.lemmas.Bool.{lt-ltb}
 use Rattle.pldm_wire.specs.AnswerReading.{answer_of}
 use Rattle.pldm_wire.specs.Answers.{IsAnswer, IsAnswerTo, answer_data, answer_message, code_of}

@@ -1,5 +1,5 @@
 -- What comes of bytes is decided by the platform's answer to the command that they have it perform.
-use Rattle.std.proofs.Common.{◌≡◌, ℕ, Bool, true, false, cond, not, ◌&&◌, ◌==◌, nat_lt, List, [], ◌∷◌, Option, Some, None, Result, Ok, Err, if◌then◌else◌, refl, sym, ap, ◌∙◌, subst}
+use Rattle.std.proofs.Common.{◌≡◌, ℕ, Bool, true, false, not, ◌&&◌, ◌==◌, nat_lt, List, [], ◌∷◌, Option, Some, None, Result, Ok, Err, if◌then◌else◌, refl, sym, ap, subst}
 use Rattle.mctp_packet.specs.declared.reason.Reason.{Reason}
 use Rattle.pldm_wire.specs.Answers.{answer_message, code_of}
 use Rattle.pldm_wire.specs.Commands.{sets}
@@ -11,9 +11,9 @@ use Rattle.pldm_wire.specs.declared.command.Command.{Command}
 use Rattle.pldm_responder.specs.Arrivals.{Arrival, Drop, Part, Whole, packets_back}
 use Rattle.pldm_responder.specs.Asked.{AnswerDecides, IsAsGiven, IsFresh, NoneIsAsked, gives, over}
 use Rattle.pldm_responder.specs.Events.{Message, is_of}
-use Rattle.pldm_responder.specs.Held.{Entry, Held, IsHeld}
-use Rattle.pldm_responder.specs.Performing.{Rules, answer_to, busy_reply, changes, changes_at, changes_by, commands_at, commands_in, commands_of, reply, reply_to}
-use Rattle.pldm_responder.specs.Steps.{arrival_commands, arrival_held, arrival_outcome, copied_packets, entry_for, entry_of, kept_after, message_outcome, performs, received_arrival, received_commands, repeats, served}
+use Rattle.pldm_responder.specs.Held.{Entry, Held}
+use Rattle.pldm_responder.specs.Performing.{Rules, answer_to, busy_reply, changes_at, changes_by, commands_at, commands_in, commands_of, reply_to}
+use Rattle.pldm_responder.specs.Steps.{arrival_commands, arrival_held, arrival_outcome, copied_packets, entry_for, entry_of, performs, received_arrival, received_commands, repeats, served}
 use Rattle.pldm_responder.specs.declared.outcome.Outcome.TheVariants.{Answered}
 
 -- the commands are the one whose answer is given, or none

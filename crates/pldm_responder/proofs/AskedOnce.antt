@@ -1,14 +1,12 @@
 -- What the platform is asked, read by looking back; and what stands between two askings of one request.
-use Rattle.std.proofs.Common.{◌≡◌, ℕ, ◌+◌, ◌<◌, ◌≤◌, Bool, true, false, not, ◌&&◌, ◌||◌, ◌==◌, nat_lt, ◌⊎◌, inl, inr, List, [], ◌∷◌, ◌++◌, Option, Some, None, if◌then◌else◌, refl, sym, ap, ◌∙◌, subst, arith, eq-eqb}
+use Rattle.std.proofs.Common.{◌≡◌, ℕ, ◌+◌, ◌≤◌, Bool, true, false, not, ◌&&◌, ◌||◌, ◌==◌, nat_lt, ◌⊎◌, inl, inr, List, [], ◌∷◌, ◌++◌, Option, Some, if◌then◌else◌, refl, sym, ap, ◌∙◌, eq-eqb}
 use Rattle.std.specs.Prelude.{bytes_eq}
 use borrow.Author.Tests.{ltb-false}
-use Rattle.mctp_packet.specs.Packets.{Packet}
 use Rattle.mctp_assembly.specs.Laws as assembly
 use Rattle.pldm_wire.specs.Headers.{id_at}
-use Rattle.pldm_wire.specs.declared.command.Command.{Command}
 use Rattle.pldm_responder.specs.Arrivals.{Arrival, Drop, Part, Whole, request_packet}
 use Rattle.pldm_responder.specs.Askings.{AskedApart, CommandsLookBack, asked_for, is_renewed}
-use Rattle.pldm_responder.specs.Calls.{Call, arrived, events, fed}
+use Rattle.pldm_responder.specs.Calls.{arrived, events, fed}
 use Rattle.pldm_responder.specs.Events.{Message, Event, Came, Set, Restarted, Place, is_busy, is_copy, is_copy_of, is_fresh, is_of, origin}
 use Rattle.pldm_responder.specs.Held.{Held}
 use Rattle.pldm_responder.specs.Performing.{Rules, commands_of}

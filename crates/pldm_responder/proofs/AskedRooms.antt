@@ -1,5 +1,5 @@
 -- The row that the answer to a commanded request is kept in.
-use Rattle.std.proofs.Common.{◌≡◌, ℕ, Bool, true, false, List, [], ◌∷◌, Option, Some, None, IsSome, Result, Ok, Err, if◌then◌else◌, refl, sym, ap, ◌∙◌}
+use Rattle.std.proofs.Common.{◌≡◌, ℕ, Bool, true, false, List, [], ◌∷◌, None, IsSome, Result, Ok, Err, if◌then◌else◌, refl, ap}
 use Rattle.std.specs.Prelude.{option_and_then, slice_index_or}
 use Rattle.mctp_packet.specs.Packets.{Packet}
 use Rattle.mctp_packet.specs.declared.reason.Reason.{Reason}

@@ -1,4 +1,4 @@
-use Rattle.std.proofs.Common.{◌≡◌, ℕ, ◌+◌, Some, None, arith, rules, sym, ap, subst, ◌∙◌}
+use Rattle.std.proofs.Common.{◌≡◌, ◌+◌, Some, None, arith, rules, sym, ap, subst, ◌∙◌}
 use Rattle.std.specs.Prelude.{slice_set}
 use Rattle.pldm_responder.specs.Slots.{Rows, row_of, source_count}
 use Rattle.pldm_responder.proofs.SourceCounts.{sources_added}

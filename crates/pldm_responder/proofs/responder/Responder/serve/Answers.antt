@@ -1,4 +1,4 @@
-use Rattle.std.proofs.Common.{◌∙◌, ℕ, cond, ◌&&◌, ◌==◌, Some, Ok, ap, sym, arith}
+use Rattle.std.proofs.Common.{◌∙◌, ℕ, cond, ◌&&◌, ◌==◌, Some, Ok, ap, sym}
 use borrow.Author.Tests.{ltb-false}
 use Rattle.pldm_responder.specs.Arrivals.{message_of}
 use Rattle.pldm_responder.specs.Held.{Entry}
