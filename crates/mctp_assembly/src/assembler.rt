@@ -112,8 +112,13 @@ impl Assembler {
         }
     }
 
-    /// Keeps a packet that gives `Partial`. An `Err` changes nothing.
-    fn keep(&mut self, packet: &PacketRef<'_>) -> Result<(), Memory>
+    /// Takes a packet for which [`Assembler::look`] gives `Partial`, as [`Assembler::feed`] does, and does not
+    /// work out again what it gives.
+    ///
+    /// # Errors
+    ///
+    /// As [`Assembler::feed`].
+    pub fn keep(&mut self, packet: &PacketRef<'_>) -> Result<(), Memory>
         requires { answer self.old packet.now ≡ Partial }
         ensures ok { OnOk result (self.new ≡ after self.old packet.now) }
         ensures at_start { OnErr result (packet.now.start ≡ true) }
@@ -136,6 +141,13 @@ impl Assembler {
         ensures { self.new ≡ map.remove self.old key }
     {
         self.buffers.remove(&key);
+    }
+
+    /// Whether an assembly of this key is in progress.
+    pub fn is_open(&self, key: Key) -> bool
+        ensures { result ≡ map.contains_key self.now key }
+    {
+        self.buffers.contains_key(&key)
     }
 
     /// How many assemblies are in progress: at most [`MOST_ASSEMBLIES`], each of at most

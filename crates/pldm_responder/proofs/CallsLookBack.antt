@@ -33,7 +33,7 @@ origin_where_fresh keep (Came m ∷ h) source id =
 
 -- ---- what a packet brings
 module _ (looks : assembly.FeedLooksBack) where
-  passed_brings : (open_messages : steps.Held) (packets : List histories.Call) (moment : ℕ) (read : Result Packet Reason) → histories.IsLeftBy open_messages packets → passed_arrival (steps.answer open_messages) moment read ≡ passed_arrival (looked_back packets) moment read
+  pub passed_brings : (open_messages : steps.Held) (packets : List histories.Call) (moment : ℕ) (read : Result Packet Reason) → histories.IsLeftBy open_messages packets → passed_arrival (steps.answer open_messages) moment read ≡ passed_arrival (looked_back packets) moment read
   passed_brings open_messages packets moment (Ok p) left =
       ap (fed_arrival p.route moment) (looks MOST_PACKETS open_messages packets p (lit≤ tt) left).0
   passed_brings open_messages packets moment (Err reason) left = refl
@@ -45,7 +45,7 @@ module _ (looks : assembly.FeedLooksBack) where
 -- ---- what a message is answered and leaves
 module _ {S : Type 0} (device : Rules S) (own keep : ℕ) (start : S) where
   -- what these events leave, with any open messages and last moment
-  abbrev left_by : steps.Held → ℕ → List Event → Held S
+  abbrev pub left_by : steps.Held → ℕ → List Event → Held S
   left_by open_messages last h = record {
     own = own;
     keep = keep;
@@ -56,7 +56,7 @@ module _ {S : Type 0} (device : Rules S) (own keep : ℕ) (start : S) where
     last = last;
   }
 
-  repeats_origin : (m : Message) (o : Option Place) → repeats keep m (entry_at device keep start o) ≡ is_copy_of keep m o
+  pub repeats_origin : (m : Message) (o : Option Place) → repeats keep m (entry_at device keep start o) ≡ is_copy_of keep m o
   repeats_origin m None = refl
   repeats_origin m (Some place) = refl
 
@@ -113,7 +113,7 @@ module _ {S : Type 0} (device : Rules S) (own keep : ℕ) (start : S) where
   arrival_leaves open_messages last h (Whole m) =
       record { endpoint = refl; keeping = refl; kept = kept_is open_messages last h m; state = state_is open_messages last h m; serves_from = refl }
 
-  held_is : (held : Held S) (before : List Call) → IsLeftBy device own keep start held before → held ≡ left_by held.open_messages held.last (events own before)
+  pub held_is : (held : Held S) (before : List Call) → IsLeftBy device own keep start held before → held ≡ left_by held.open_messages held.last (events own before)
   held_is held before left =
       λ i. record {
         own = left.endpoint i;

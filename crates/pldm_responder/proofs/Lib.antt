@@ -10,3 +10,8 @@ pub mod PairCounts
 pub mod BusyAnswers
 pub mod Numbers
 pub mod WorkedRows
+pub mod AnswersFromOutside
+pub mod SourceCounts
+pub mod AskedRooms
+pub mod AskedOnce
+pub mod OpenBounds

@@ -24,7 +24,7 @@ at_set : {A : Type 0} (xs : List (Option A)) (n i : ℕ) (x : A) → n < length 
 at_set xs n i x room = set_by xs n i x (n == i) room refl
 
 -- ---- the rows
-has_place : (rows : Rows) (source : ℕ) → IsSome (row_of rows source) → source < length rows
+pub has_place : (rows : Rows) (source : ℕ) → IsSome (row_of rows source) → source < length rows
 has_place rows source some =
     elim (cases_lt source (length rows)) [
       | inl within ↦ within

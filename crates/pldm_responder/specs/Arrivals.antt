@@ -2,7 +2,7 @@
 use Rattle.std.specs.Prelude.{ℕ, Bool, false, List, Result, Ok, Err}
 use Rattle.mctp_packet.specs.Packets.{Packet}
 use Rattle.mctp_packet.specs.Pieces.{written_packets}
-use Rattle.mctp_packet.specs.Passing.{passing}
+use Rattle.mctp_packet.specs.Passing.{passed, passing}
 use Rattle.mctp_packet.specs.declared.packet.Route.{Route}
 use Rattle.mctp_packet.specs.declared.reason.Reason.{Reason}
 use Rattle.mctp_assembly.specs.declared.fed.Fed.{Fed}
@@ -42,6 +42,14 @@ request_packet own bytes = passing is_expected own bytes
 abbrev pub passed_arrival : (Packet → Fed) → ℕ → Result Packet Reason → Arrival
 passed_arrival gives moment (Ok p) = fed_arrival p.route moment (gives p)
 passed_arrival gives moment (Err reason) = Drop reason
+
+-- what a packet brings that is addressed to the endpoint by another one
+abbrev pub packet_arrival : (Packet → Fed) → ℕ → Packet → Arrival
+packet_arrival gives moment p = passed_arrival gives moment (passed is_expected (Ok p))
+
+-- what a whole message brings
+abbrev pub message_arrival : ℕ → ℕ → ℕ → List ℕ → Arrival
+message_arrival source tag moment bytes = headed (message_of source tag moment bytes) (request_of bytes)
 
 -- what these bytes bring to the endpoint `own` at this moment
 abbrev pub arrival : (Packet → Fed) → ℕ → ℕ → List ℕ → Arrival

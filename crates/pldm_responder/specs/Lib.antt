@@ -12,3 +12,6 @@ pub mod Slots
 pub mod Stations
 pub mod Laws
 pub mod Dimmers
+pub mod Asked
+pub mod Rooms
+pub mod Askings

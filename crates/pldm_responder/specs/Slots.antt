@@ -1,5 +1,5 @@
 -- How a responder keeps its answers: for each source a row with a slot for each instance ID.
-use Rattle.std.specs.Prelude.{ℕ, ◌<◌, ◌≤◌, List, length, slice_index_or, Option, None, IfSome, option_and_then, refl}
+use Rattle.std.specs.Prelude.{ℕ, ◌<◌, ◌≤◌, List, length, count_by, slice_index_or, Option, None, is_some, IfSome, option_and_then, refl}
 use Rattle.std.specs.Coded.{Coded, code_by, coded×, coded_ℕ, coded_list, coded_option}
 use Rattle.mctp_packet.specs.Ids.{IsEid}
 use Rattle.mctp_packet.specs.declared.TheConstants.{MOST_MESSAGE_BYTES}
@@ -36,6 +36,10 @@ in_slot row id = slice_index_or row id None
 
 abbrev pub row_of : Rows → ℕ → Option Row
 row_of rows source = slice_index_or rows source None
+
+-- how many sources have a row
+abbrev pub source_count : Rows → ℕ
+source_count rows = count_by is_some rows
 
 -- the answer that is kept for a source and an instance ID
 abbrev pub kept_in : Rows → ℕ → ℕ → Option Entry

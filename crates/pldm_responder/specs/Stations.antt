@@ -1,17 +1,19 @@
 -- What contracts see of a responder, and what of it is held.
 use Rattle.std.specs.FinMap as map
-use Rattle.std.specs.Prelude.{◌≡◌, ◌≢◌, ℕ, true, None, refl}
+use Rattle.std.specs.Prelude.{◌≡◌, ◌≢◌, ℕ, ◌≤◌, true, None, refl}
 use Rattle.std.specs.Coded.{Coded, code_by, coded×, coded_ℕ}
 use Rattle.mctp_assembly.specs.Keys.{IsKey, key_cmp, coded_key}
 use Rattle.mctp_assembly.specs.Opened.{Opened, coded_opened}
 use Rattle.mctp_assembly.specs.declared.key.Key.{Key}
 use Rattle.pldm_responder.specs.Held.{Held}
-use Rattle.pldm_responder.specs.Slots.{Rows, coded_rows, kept_in}
+use Rattle.pldm_responder.specs.Slots.{Rows, coded_rows, kept_in, source_count}
+use Rattle.pldm_responder.specs.declared.bounds.Bounds.{Bounds}
 
 -- `platform` is the platform's value, and `state` is its state
 pub record Station (P S : Type 0) : Type 0 where
   pub own : ℕ
   pub keep : ℕ
+  pub bounds : Bounds
   pub open_messages : map.FinMap key_cmp Opened
   pub rows : Rows
   pub platform : P
@@ -19,23 +21,29 @@ pub record Station (P S : Type 0) : Type 0 where
   pub serves_from : ℕ
   pub last : ℕ
 
--- it is stored as its parts
+-- they are stored as their parts
+abbrev pub coded_bounds : Coded Bounds
+coded_bounds =
+    code_by (ℕ × ℕ) (coded× coded_ℕ coded_ℕ) (λ b. (b.sources, b.open_messages))
+    (λ c. record { sources = c.0; open_messages = c.1 }) (λ _. refl)
+
 abbrev pub coded_station : {P S : Type 0} → Coded P → Coded S → Coded (Station P S)
 coded_station {P} {S} coded_platform coded_state =
     code_by
-    (ℕ × (ℕ × (map.FinMap key_cmp Opened × (Rows × (P × (S × (ℕ × ℕ)))))))
-    (coded× coded_ℕ (coded× coded_ℕ (coded× (map.code coded_key coded_opened) (coded× coded_rows
-    (coded× coded_platform (coded× coded_state (coded× coded_ℕ coded_ℕ)))))))
-    (λ s. (s.own, (s.keep, (s.open_messages, (s.rows, (s.platform, (s.state, (s.serves_from, s.last))))))))
+    (ℕ × (ℕ × (Bounds × (map.FinMap key_cmp Opened × (Rows × (P × (S × (ℕ × ℕ))))))))
+    (coded× coded_ℕ (coded× coded_ℕ (coded× coded_bounds (coded× (map.code coded_key coded_opened) (coded× coded_rows
+    (coded× coded_platform (coded× coded_state (coded× coded_ℕ coded_ℕ))))))))
+    (λ s. (s.own, (s.keep, (s.bounds, (s.open_messages, (s.rows, (s.platform, (s.state, (s.serves_from, s.last)))))))))
     (λ c. record {
       own = c.0;
       keep = c.1.0;
-      open_messages = c.1.1.0;
-      rows = c.1.1.1.0;
-      platform = c.1.1.1.1.0;
-      state = c.1.1.1.1.1.0;
-      serves_from = c.1.1.1.1.1.1.0;
-      last = c.1.1.1.1.1.1.1;
+      bounds = c.1.1.0;
+      open_messages = c.1.1.1.0;
+      rows = c.1.1.1.1.0;
+      platform = c.1.1.1.1.1.0;
+      state = c.1.1.1.1.1.1.0;
+      serves_from = c.1.1.1.1.1.1.1.0;
+      last = c.1.1.1.1.1.1.1.1;
     })
     (λ _. refl)
 
@@ -64,3 +72,8 @@ AreAsked own open_messages = (key : Key) → map.contains_key open_messages key 
 -- no answer to the endpoint itself is kept
 abbrev pub KeepsForOthers : ℕ → Rows → Type 0
 KeepsForOthers own rows = (id : ℕ) → kept_in rows own id ≡ None
+
+-- no bound is passed
+abbrev pub IsWithin : Bounds → map.FinMap key_cmp Opened → Rows → Type 0
+IsWithin bounds open_messages rows =
+    (map.len open_messages ≤ bounds.open_messages) × (source_count rows ≤ bounds.sources)

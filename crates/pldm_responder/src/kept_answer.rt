@@ -32,9 +32,14 @@ impl Model for KeptAnswer {
 
     ghost coded = { coded_entry };
 
-    ghost view = { λ k. record { moment = k.moment; bytes = take k.asked (take k.both k.bytes); answer = drop k.asked (take k.both k.bytes) } };
+    ghost view = { λ k. record {
+      moment = k.moment;
+      bytes = take k.asked (take k.both k.bytes);
+      answer = drop k.asked (take k.both k.bytes);
+    } };
 
-    ghost invariant = { λ k. (k.asked ≤ MOST_MESSAGE_BYTES) × (k.asked < k.both) × (k.both ≤ k.asked + MOST_MESSAGE_BYTES) × (length k.bytes ≡ MOST_BYTES) };
+    ghost invariant = { λ k. (k.asked ≤ MOST_MESSAGE_BYTES) × (k.asked < k.both)
+        × (k.both ≤ k.asked + MOST_MESSAGE_BYTES) × (length k.bytes ≡ MOST_BYTES) };
 }
 
 impl KeptAnswer {

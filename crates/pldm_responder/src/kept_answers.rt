@@ -1,10 +1,10 @@
-ghost use Rattle.std.specs.Prelude.{◌≡◌, ℕ, ◌≤◌, ◌<◌, ◌&&◌, ◌==◌, length, Some, None, is_some, if◌then◌else◌, IfSome, IsSome, OnOk, OnErr};
+ghost use Rattle.std.specs.Prelude.{◌≡◌, ℕ, ◌*◌, ◌≤◌, ◌<◌, ◌&&◌, ◌==◌, length, Some, None, is_some, if◌then◌else◌, IfSome, IsSome, OnOk, OnErr};
 ghost use Rattle.std.specs.Option.{option_copied};
 ghost use Rattle.mctp_packet.specs.Ids.{IsEid};
 ghost use Rattle.mctp_packet.specs.declared.TheConstants.{MOST_MESSAGE_BYTES};
 ghost use Rattle.pldm_wire.specs.declared.assigned.TheConstants.{INSTANCE_IDS};
 ghost use Rattle.pldm_responder.specs.Counts.{CountsKept};
-ghost use Rattle.pldm_responder.specs.Slots.{IsKept, kept_in, row_of};
+ghost use Rattle.pldm_responder.specs.Slots.{IsKept, kept_in, row_of, source_count};
 
 use crate::kept_answer::KeptAnswer;
 use crate::row::Row;
@@ -20,10 +20,13 @@ pub(crate) struct KeptAnswers {
     rows: Vec<Option<Row>>,
     /// How many slots hold an answer.
     count: usize,
+    /// How many sources have a row.
+    sources: usize,
 }
 
 impl Model for KeptAnswers {
-    ghost use Rattle.pldm_responder.specs.Slots.{Rows, coded_rows, AreKept};
+    ghost use Rattle.std.specs.Prelude.{◌≡◌};
+    ghost use Rattle.pldm_responder.specs.Slots.{Rows, coded_rows, source_count, AreKept};
 
     ghost Value = { Rows };
 
@@ -31,18 +34,20 @@ impl Model for KeptAnswers {
 
     ghost view = { λ k. k.rows.items };
 
-    ghost invariant = { λ k. AreKept k.rows.items k.count };
+    ghost invariant = { λ k. AreKept k.rows.items k.count × (k.sources ≡ source_count k.rows.items) };
 }
 
 impl KeptAnswers {
     /// No answers. It takes no memory.
     pub(crate) fn new(alloc: Global) -> KeptAnswers
-        ensures { (source id : ℕ) → kept_in result source id ≡ None }
+        ensures none { (source id : ℕ) → kept_in result source id ≡ None }
+        ensures no_rows { source_count result ≡ 0 }
     {
         KeptAnswers {
             alloc,
             rows: Vec::new(alloc),
             count: 0,
+            sources: 0,
         }
     }
 
@@ -61,18 +66,23 @@ impl KeptAnswers {
         self.rows.get(usize::from(source.get()))?.as_ref()
     }
 
-    /// Takes the room for the answers to a source, where it has none yet.
-    pub(crate) fn make_room(&mut self, source: Eid) -> Result<(), Memory>
+    /// Takes the room for the answers to a source, where it has none yet and fewer than `max` sources have.
+    pub(crate) fn make_room(&mut self, source: Eid, max: usize) -> Result<(), Memory>
         ensures same { (other id : ℕ) → kept_in self.new other id ≡ kept_in self.old other id }
         ensures ok { OnOk result (IsSome (row_of self.new source)) }
+        ensures few { source_count self.old ≤ max → source_count self.new ≤ max }
         ensures err { OnErr result (row_of self.old source ≡ None) }
     {
         if self.row(source).is_some() {
             return Ok(());
         }
+        if self.sources >= max {
+            return Err(Memory);
+        }
         let row = Row::new(self.alloc)?;
         make_place(&mut self.rows, source)?;
         self.rows[usize::from(source.get())] = Some(row);
+        self.sources += 1;
         Ok(())
     }
 
@@ -83,9 +93,11 @@ impl KeptAnswers {
         requires bytes { length bytes.now ≤ MOST_MESSAGE_BYTES }
         requires some { 0 < length answer.now }
         requires few { length answer.now ≤ MOST_MESSAGE_BYTES }
-        ensures { (other i : ℕ) → kept_in self.new other i ≡
-            (if source == other && id == i then Some (record { moment = moment; bytes = bytes.now; answer = answer.now })
+        ensures kept { (other i : ℕ) → kept_in self.new other i ≡
+            (if source == other && id == i
+            then Some (record { moment = moment; bytes = bytes.now; answer = answer.now })
             else kept_in self.old other i) }
+        ensures sources { source_count self.new ≡ source_count self.old }
     {
         let _range = source.get();
         let is_first = match &mut self.rows[usize::from(source.get())] {
@@ -100,6 +112,7 @@ impl KeptAnswers {
     /// How many there are.
     pub(crate) fn count(&self) -> usize
         ensures value { CountsKept (kept_in self.now) result }
+        ensures few { result ≤ INSTANCE_IDS * source_count self.now }
         ensures each { (source id : ℕ) → IfSome (kept_in self.now source id) (IsKept source id) }
     {
         self.count
@@ -109,6 +122,7 @@ impl KeptAnswers {
 /// Makes a place for the row of a source, where there is none yet.
 fn make_place(rows: &mut Vec<Option<Row>>, source: Eid) -> Result<(), Memory>
     ensures same { (other : ℕ) → row_of rows.new.items other ≡ row_of rows.old.items other }
+    ensures sources { source_count rows.new.items ≡ source_count rows.old.items }
     ensures ok { OnOk result (source < length rows.new.items) }
 {
     let places = usize::from(source.get()) + 1;

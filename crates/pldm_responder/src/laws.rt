@@ -1,5 +1,7 @@
 //! Laws of a responder, over the definitions alone: each function does nothing and ensures its law.
 
+ghost use Rattle.pldm_responder.specs.Asked.{AnswerDecides, NoneIsAsked};
+ghost use Rattle.pldm_responder.specs.Askings.{AskedApart, CommandsLookBack};
 ghost use Rattle.pldm_responder.specs.Laws.{BusyAnswersAreOnePacket, KeptWhereFresh, NewLooksBack, OneCount, ReceivedLooksBack, RestartedLooksBack, SameIsLeft, SensedLooksBack};
 ghost use Rattle.pldm_responder.specs.Performing.{rules_of};
 
@@ -27,3 +29,20 @@ pub fn one_count()
 pub fn busy_answers_are_one_packet()
     ensures { BusyAnswersAreOnePacket }
 {}
+
+/// Where bytes have the platform perform a command, its answer to that command says what they give and what
+/// they leave, and the request is fresh. Where they have it perform none, no answer of the platform does.
+pub fn answers_come_from_outside<P: Platform>()
+    ensures asked { AnswerDecides (rules_of P.answer P.after P.sensed) }
+    ensures none { NoneIsAsked (rules_of P.answer P.after P.sensed) }
+{}
+
+/// Which commands the platform is asked to perform is read by looking back over the list of calls: those of the
+/// fresh requests. Between two askings of one source, instance ID and bytes there is a keeping time, a restart,
+/// or another fresh request of that source and instance ID.
+pub fn commands_are_asked_once<P: Platform>()
+    ensures looks_back { CommandsLookBack (rules_of P.answer P.after P.sensed) }
+    ensures apart { AskedApart }
+{
+    mctp_assembly::laws::looks_back();
+}

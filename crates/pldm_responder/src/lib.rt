@@ -2,6 +2,7 @@
 //! instance ID tells a new request from a retry (DSP0240, "PLDM message fields").
 #![tactic(auto)]
 
+mod bounds;
 mod kept_answer;
 mod kept_answers;
 pub mod laws;
@@ -11,6 +12,7 @@ mod responder;
 mod row;
 mod taken;
 
+pub use bounds::Bounds;
 pub use outcome::Outcome;
 pub use responder::{MOST_KEPT, MOST_PENDING, Responder};
 pub use taken::Taken;

@@ -17,9 +17,13 @@ pub(crate) fn perform<P: Platform>(
     request: &RequestRef<'_>,
     reply: &mut Body,
 ) -> Result<bool, Memory>
-    ensures answer { OnOk result (reply.new.items ≡ reply_to (rules_of P.answer P.after P.sensed) (P.state platform.old) (Ok request.now)) }
-    ensures changed { IfOk result (λ changed. changed ≡ changes_at (rules_of P.answer P.after P.sensed) (P.state platform.old) (Ok request.now)) }
-    ensures state { OnOk result (P.state platform.new ≡ next_after (rules_of P.answer P.after P.sensed) (P.state platform.old) (Ok request.now)) }
+    ensures answer { OnOk result
+        (reply.new.items ≡ reply_to (rules_of P.answer P.after P.sensed) (P.state platform.old) (Ok request.now)) }
+    ensures changed { IfOk result
+        (λ changed. changed ≡ changes_at (rules_of P.answer P.after P.sensed) (P.state platform.old) (Ok request.now)) }
+    ensures state { OnOk result
+        (P.state platform.new
+        ≡ next_after (rules_of P.answer P.after P.sensed) (P.state platform.old) (Ok request.now)) }
     ensures performed { OnOk result (P.performed platform.old (commands_at (Ok request.now)) platform.new) }
     ensures some { OnOk result (0 < length reply.new.items) }
     ensures few { OnOk result (length reply.new.items ≤ MOST_MESSAGE_BYTES) }

@@ -1,5 +1,5 @@
 ghost use Rattle.std.specs.FinMap as map;
-ghost use Rattle.std.specs.Prelude.{◌≡◌, ◌≢◌, ℕ, false, ◌≤◌, ◌<◌, true, Bool, [], length, nat_lt, Ok, IfOk, IfSome, OnOk, OnErr};
+ghost use Rattle.std.specs.Prelude.{◌≡◌, ◌≢◌, ℕ, false, ◌*◌, ◌≤◌, ◌<◌, true, Bool, [], length, nat_lt, Ok, IfOk, IfSome, IsSome, OnOk, OnErr};
 ghost use Rattle.mctp_packet.specs.Passing.{passed};
 ghost use Rattle.mctp_assembly.specs.Keys.{IsKey, key_of};
 ghost use Rattle.mctp_assembly.specs.Steps.{answer};
@@ -9,33 +9,36 @@ ghost use Rattle.pldm_platform.specs.Changes.{made_of};
 ghost use Rattle.pldm_wire.specs.Requests.{request_of};
 ghost use Rattle.pldm_wire.specs.declared.assigned.TheConstants.{INSTANCE_IDS as ids};
 ghost use Rattle.pldm_responder.specs.Answering.{HasReply, answering, packets_if};
-ghost use Rattle.pldm_responder.specs.Arrivals.{headed, is_expected, message_of, packets_back, passed_arrival};
+ghost use Rattle.pldm_responder.specs.Asked.{listed};
+ghost use Rattle.pldm_responder.specs.Arrivals.{is_expected, message_arrival, message_of, packet_arrival, packets_back};
 ghost use Rattle.pldm_responder.specs.Counts.{CountsKept};
 ghost use Rattle.pldm_responder.specs.Fitting.{ArrivalFits, ReceivedFits};
 ghost use Rattle.pldm_responder.specs.Held.{IsHeld, held_at_first};
 ghost use Rattle.pldm_responder.specs.Performing.{rules_of};
+ghost use Rattle.pldm_responder.specs.Rooms.{ArrivalLacksRow, HasRow, IsCommanded, LacksRow};
 ghost use Rattle.pldm_responder.specs.Slots.{kept_in};
 ghost use Rattle.pldm_responder.specs.Stations.{held_of};
-ghost use Rattle.pldm_responder.specs.Steps.{arrival_commands, arrival_held, arrival_outcome, copied_packets, passed_held, received_commands, received_held, received_outcome, restarted_held, sensed_held};
+ghost use Rattle.pldm_responder.specs.Steps.{arrival_commands, arrival_held, arrival_outcome, copied_packets, passed_held, received_commands, received_held, received_outcome, repeats, restarted_held, sensed_held};
 ghost use Rattle.pldm_responder.specs.declared.taken.Taken.TheVariants.{Answered};
 ghost use Rattle.pldm_responder.specs.Wants.{ArrivalWants, PassedWants, WantsMemory};
 
+use crate::bounds::Bounds;
 use crate::kept_answers::KeptAnswers;
 use crate::outcome::Outcome;
 use crate::performing::{perform, refuse};
 use crate::taken::Taken;
 use mctp_assembly::{Assembler, Fed, Key};
 use mctp_packet::{
-    Body, Eid, FIRST_EID, Keep, LAST_EID, MOST_MESSAGE_BYTES, Memory, Moment, PacketRef, Packets,
-    Reason, Route, TAGS, Tag, read_for, split,
+    Body, Eid, FIRST_EID, Keep, LAST_EID, MOST_MESSAGE_BYTES, MOST_PACKET_BYTES, Memory, Moment,
+    PacketRef, Packets, Reason, Route, TAGS, Tag, read_for, split,
 };
 use pldm_platform::{Platform, ReadingFault};
-use pldm_wire::{Code, INSTANCE_IDS, read_request};
+use pldm_wire::{Code, Command, INSTANCE_IDS, read_command, read_request};
 use std::alloc::Global;
 use std::marker::Model;
 
 /// The endpoints other than the own that a message can come from.
-const OTHER_ENDPOINTS: usize = (LAST_EID - FIRST_EID) as usize;
+pub(crate) const OTHER_ENDPOINTS: usize = (LAST_EID - FIRST_EID) as usize;
 
 /// The most kept answers: one for each endpoint ID other than the own and each instance ID.
 pub const MOST_KEPT: usize = OTHER_ENDPOINTS * INSTANCE_IDS as usize;
@@ -51,6 +54,7 @@ pub struct Responder<P: Platform> {
     alloc: Global,
     own: Eid,
     keep: Keep,
+    bounds: Bounds,
     last: Moment,
     /// The moment in milliseconds from which it serves: the last restart's and the keeping time.
     serves_from: u64,
@@ -60,7 +64,7 @@ pub struct Responder<P: Platform> {
 }
 
 impl<P: Platform> Model for Responder<P> {
-    ghost use Rattle.pldm_responder.specs.Stations.{Station, coded_station, AreAsked, KeepsForOthers};
+    ghost use Rattle.pldm_responder.specs.Stations.{Station, coded_station, AreAsked, IsWithin, KeepsForOthers};
 
     ghost Value = { Station P P.State };
 
@@ -69,6 +73,7 @@ impl<P: Platform> Model for Responder<P> {
     ghost view = { λ r. record {
       own = r.own;
       keep = r.keep;
+      bounds = r.bounds;
       open_messages = r.assembler;
       rows = r.kept;
       platform = r.platform;
@@ -77,7 +82,8 @@ impl<P: Platform> Model for Responder<P> {
       last = r.last;
     } };
 
-    ghost invariant = { λ r. AreAsked r.own r.assembler × KeepsForOthers r.own r.kept };
+    ghost invariant = { λ r.
+        AreAsked r.own r.assembler × KeepsForOthers r.own r.kept × IsWithin r.bounds r.assembler r.kept };
 }
 
 impl<P: Platform> Responder<P> {
@@ -87,10 +93,20 @@ impl<P: Platform> Responder<P> {
         ensures held { IsHeld (held_of result) (held_at_first own keep (P.state platform)) }
         ensures platform { result.platform ≡ platform }
     {
+        Responder::bounded(alloc, own, keep, Bounds::UNREACHED, platform)
+    }
+
+    /// As [`Responder::new`], with these bounds on what it keeps at a time.
+    pub fn bounded(alloc: Global, own: Eid, keep: Keep, bounds: Bounds, platform: P) -> Responder<P>
+        ensures held { IsHeld (held_of result) (held_at_first own keep (P.state platform)) }
+        ensures bounds { result.bounds ≡ bounds }
+        ensures platform { result.platform ≡ platform }
+    {
         Responder {
             alloc,
             own,
             keep,
+            bounds,
             last: Moment::new(0).unwrap(),
             serves_from: 0,
             assembler: Assembler::new(alloc),
@@ -105,6 +121,13 @@ impl<P: Platform> Responder<P> {
         ensures { result ≡ (held_of self.now).last }
     {
         self.last
+    }
+
+    /// The most that it keeps at a time.
+    pub fn bounds(&self) -> Bounds
+        ensures { result ≡ self.now.bounds }
+    {
+        self.bounds
     }
 
     /// The platform.
@@ -128,7 +151,8 @@ impl<P: Platform> Responder<P> {
     /// was.
     pub fn set_reading(&mut self, id: u16, value: i64) -> Result<(), ReadingFault>
         ensures answer { result ≡ made_of (λ _. tt) (P.sensed (held_of self.old).state id value) }
-        ensures held { IsHeld (held_of self.new) (sensed_held (rules_of P.answer P.after P.sensed) (held_of self.old) id value) }
+        ensures held { IsHeld (held_of self.new)
+            (sensed_held (rules_of P.answer P.after P.sensed) (held_of self.old) id value) }
         ensures performed { P.performed self.old.platform [] self.new.platform }
     {
         self.platform.set_reading(id, value)
@@ -141,6 +165,7 @@ impl<P: Platform> Responder<P> {
     pub fn restart(&mut self, now: Moment)
         requires { (held_of self.old).last ≤ now }
         ensures held { IsHeld (held_of self.new) (restarted_held (held_of self.old) now) }
+        ensures bounds { self.new.bounds ≡ self.old.bounds }
         ensures platform { self.new.platform ≡ self.old.platform }
     {
         self.assembler = Assembler::new(self.alloc);
@@ -149,10 +174,113 @@ impl<P: Platform> Responder<P> {
         self.last = now;
     }
 
+    /// Puts another platform in the place of this one.
+    pub fn replace(&mut self, platform: P)
+        ensures { self.new ≡ record self.old { platform = platform; state = P.state platform } }
+    {
+        self.platform = platform;
+    }
+
+    /// The command that [`Responder::receive`] would have the platform perform for these bytes at the
+    /// moment `now`, if any; nothing is changed.
+    pub fn asks(&self, now: Moment, bytes: &[u8]) -> Option<Command>
+        ensures command { listed result ≡ received_commands (held_of self.now) now bytes.now }
+        ensures few { IsSome result → length bytes.now ≤ MOST_PACKET_BYTES }
+    {
+        let Ok(packet) = read_for(self.own, bytes) else {
+            return None;
+        };
+        let _size = packet.payload();
+        self.packet_command(now, &packet)
+    }
+
+    /// As [`Responder::asks`]. Where there is a command, room is taken for its answer, so that receiving
+    /// these bytes then needs no memory for it.
+    ///
+    /// # Errors
+    ///
+    /// `Memory` where there is a command whose source has no answers that are kept, and the room for them
+    /// was refused or would pass [`Bounds::sources`].
+    pub fn ask(&mut self, now: Moment, bytes: &[u8]) -> Result<Option<Command>, Memory>
+        ensures command { IfOk result (λ asked. listed asked ≡ received_commands (held_of self.old) now bytes.now) }
+        ensures few { IfOk result (λ asked. IsSome asked → length bytes.now ≤ MOST_PACKET_BYTES) }
+        ensures room { IfOk result (λ asked. IsSome asked → HasRow self.new now bytes.now) }
+        ensures held { held_of self.new ≡ held_of self.old }
+        ensures bounds { self.new.bounds ≡ self.old.bounds }
+        ensures platform { self.new.platform ≡ self.old.platform }
+        ensures commanded { OnErr result (IsCommanded (held_of self.old) now bytes.now) }
+        ensures no_row { OnErr result (LacksRow self.old now bytes.now) }
+        ensures memory { OnErr result (WantsMemory (held_of self.old) true now bytes.now) }
+    {
+        let Ok(packet) = read_for(self.own, bytes) else {
+            return Ok(None);
+        };
+        let _size = packet.payload();
+        let Some(command) = self.packet_command(now, &packet) else {
+            return Ok(None);
+        };
+        self.kept
+            .make_room(packet.route().source, self.bounds.sources)?;
+        Ok(Some(command))
+    }
+
+    /// The command that a packet would have the platform perform. It is addressed to the endpoint by another
+    /// one.
+    fn packet_command(&self, now: Moment, packet: &PacketRef<'_>) -> Option<Command>
+        ensures { listed result ≡ arrival_commands (held_of self.now)
+            (packet_arrival (answer self.now.open_messages) now packet.now) }
+    {
+        let route = packet.route();
+        if !route.owner {
+            return None;
+        }
+        match &self.assembler.look(packet) {
+            Fed::Whole(message) => self.message_command(now, route.source, route.tag, message),
+            _ => None,
+        }
+    }
+
+    /// The command that a whole message would have the platform perform.
+    fn message_command(&self, now: Moment, source: Eid, tag: Tag, message: &[u8]) -> Option<Command>
+        ensures { listed result ≡ arrival_commands (held_of self.now)
+            (message_arrival source tag now message.now) }
+    {
+        let Ok(request) = read_request(message) else {
+            return None;
+        };
+        if self.is_busy(now) || self.is_copy(now, source, tag, request.id(), message) {
+            return None;
+        }
+        match read_command(&request) {
+            Ok(command) => Some(command),
+            Err(_) => None,
+        }
+    }
+
+    /// Whether a message of this instance ID is a copy.
+    fn is_copy(&self, now: Moment, source: Eid, tag: Tag, id: u8, message: &[u8]) -> bool
+        requires { id < ids }
+        ensures { result
+            ≡ repeats self.now.keep (message_of source tag now message.now) (kept_in self.now.rows source id) }
+    {
+        let _tag = tag.get();
+        match self.kept.get(source, id) {
+            Some(kept) => kept.is_repeated(self.keep, now, message),
+            None => false,
+        }
+    }
+
     /// Whether the responder is busy at the moment `now`, which must not be before
     /// [`Responder::last_moment`]: it restarted less than the keeping time before.
     pub fn busy(&self, now: Moment) -> bool
         requires { (held_of self.now).last ≤ now }
+        ensures { result ≡ nat_lt now (held_of self.now).serves_from }
+    {
+        self.is_busy(now)
+    }
+
+    /// Whether the responder does not serve yet at the moment `now`.
+    fn is_busy(&self, now: Moment) -> bool
         ensures { result ≡ nat_lt now (held_of self.now).serves_from }
     {
         self.serves_from > now.get()
@@ -176,13 +304,21 @@ impl<P: Platform> Responder<P> {
     /// is performed by a platform that is not steady want memory.
     pub fn receive(&mut self, now: Moment, bytes: &[u8]) -> Result<Outcome, Memory>
         requires { (held_of self.old).last ≤ now }
-        ensures outcome { IfOk result (λ outcome. outcome ≡ received_outcome (rules_of P.answer P.after P.sensed) (held_of self.old) now bytes.now) }
-        ensures fits { OnOk result (ReceivedFits (rules_of P.answer P.after P.sensed) (held_of self.old) now bytes.now) }
-        ensures held { OnOk result (IsHeld (held_of self.new) (received_held (rules_of P.answer P.after P.sensed) (held_of self.old) now bytes.now)) }
-        ensures performed { OnOk result (P.performed self.old.platform (received_commands (held_of self.old) now bytes.now) self.new.platform) }
+        ensures outcome { IfOk result
+            (λ outcome. outcome ≡ received_outcome (rules_of P.answer P.after P.sensed)
+            (held_of self.old) now bytes.now) }
+        ensures fits { OnOk result
+            (ReceivedFits (rules_of P.answer P.after P.sensed) (held_of self.old) now bytes.now) }
+        ensures held { OnOk result
+            (IsHeld (held_of self.new)
+            (received_held (rules_of P.answer P.after P.sensed) (held_of self.old) now bytes.now)) }
+        ensures performed { OnOk result
+            (P.performed self.old.platform (received_commands (held_of self.old) now bytes.now) self.new.platform) }
         ensures memory { OnErr result (WantsMemory (held_of self.old) P.STEADY now bytes.now) }
         ensures err { OnErr result (IsHeld (held_of self.new) (held_of self.old)) }
         ensures none_performed { OnErr result (P.performed self.old.platform [] self.new.platform) }
+        ensures no_row { OnErr result (P.STEADY ≡ true → LacksRow self.old now bytes.now) }
+        ensures bounds { self.new.bounds ≡ self.old.bounds }
     {
         let mut reply = Body::new();
         match self.receive_message(now, bytes, &mut reply)? {
@@ -217,14 +353,22 @@ impl<P: Platform> Responder<P> {
         reply: &mut Body,
     ) -> Result<Taken, Memory>
         requires { (held_of self.old).last ≤ now }
-        ensures outcome { IfOk result (λ taken. answering reply.new.items taken ≡ received_outcome (rules_of P.answer P.after P.sensed) (held_of self.old) now bytes.now) }
+        ensures outcome { IfOk result
+            (λ taken. answering reply.new.items taken ≡ received_outcome (rules_of P.answer P.after P.sensed)
+            (held_of self.old) now bytes.now) }
         ensures some { IfOk result (HasReply reply.new.items) }
-        ensures fits { OnOk result (ReceivedFits (rules_of P.answer P.after P.sensed) (held_of self.old) now bytes.now) }
-        ensures held { OnOk result (IsHeld (held_of self.new) (received_held (rules_of P.answer P.after P.sensed) (held_of self.old) now bytes.now)) }
-        ensures performed { OnOk result (P.performed self.old.platform (received_commands (held_of self.old) now bytes.now) self.new.platform) }
+        ensures fits { OnOk result
+            (ReceivedFits (rules_of P.answer P.after P.sensed) (held_of self.old) now bytes.now) }
+        ensures held { OnOk result
+            (IsHeld (held_of self.new)
+            (received_held (rules_of P.answer P.after P.sensed) (held_of self.old) now bytes.now)) }
+        ensures performed { OnOk result
+            (P.performed self.old.platform (received_commands (held_of self.old) now bytes.now) self.new.platform) }
         ensures memory { OnErr result (WantsMemory (held_of self.old) P.STEADY now bytes.now) }
         ensures err { OnErr result (IsHeld (held_of self.new) (held_of self.old)) }
         ensures none_performed { OnErr result (P.performed self.old.platform [] self.new.platform) }
+        ensures no_row { OnErr result (P.STEADY ≡ true → LacksRow self.old now bytes.now) }
+        ensures bounds { self.new.bounds ≡ self.old.bounds }
     {
         let packet = match read_for(self.own, bytes) {
             Ok(packet) => packet,
@@ -250,14 +394,24 @@ impl<P: Platform> Responder<P> {
         ensures outcome { IfOk result (λ taken.
             answering reply.new.items taken
             ≡ arrival_outcome (rules_of P.answer P.after P.sensed) (held_of self.old)
-            (passed_arrival (answer self.old.open_messages) now (passed is_expected (Ok packet.now)))) }
+            (packet_arrival (answer self.old.open_messages) now packet.now)) }
         ensures some { IfOk result (HasReply reply.new.items) }
-        ensures fits { OnOk result (ArrivalFits (rules_of P.answer P.after P.sensed) (held_of self.old) (passed_arrival (answer self.old.open_messages) now (passed is_expected (Ok packet.now)))) }
-        ensures held { OnOk result (IsHeld (held_of self.new) (passed_held (rules_of P.answer P.after P.sensed) (held_of self.old) now (passed is_expected (Ok packet.now)))) }
-        ensures performed { OnOk result (P.performed self.old.platform (arrival_commands (held_of self.old) (passed_arrival (answer self.old.open_messages) now (passed is_expected (Ok packet.now)))) self.new.platform) }
-        ensures memory { OnErr result (PassedWants (held_of self.old) P.STEADY now (passed is_expected (Ok packet.now))) }
+        ensures fits { OnOk result
+            (ArrivalFits (rules_of P.answer P.after P.sensed)
+            (held_of self.old) (packet_arrival (answer self.old.open_messages) now packet.now)) }
+        ensures held { OnOk result
+            (IsHeld (held_of self.new) (passed_held (rules_of P.answer P.after P.sensed)
+            (held_of self.old) now (passed is_expected (Ok packet.now)))) }
+        ensures performed { OnOk result
+            (P.performed self.old.platform (arrival_commands
+            (held_of self.old) (packet_arrival (answer self.old.open_messages) now packet.now)) self.new.platform) }
+        ensures memory { OnErr result
+            (PassedWants (held_of self.old) P.STEADY now (passed is_expected (Ok packet.now))) }
         ensures err { OnErr result (IsHeld (held_of self.new) (held_of self.old)) }
         ensures none_performed { OnErr result (P.performed self.old.platform [] self.new.platform) }
+        ensures no_row { OnErr result (P.STEADY ≡ true → ArrivalLacksRow self.old.rows
+            (packet_arrival (answer self.old.open_messages) now packet.now)) }
+        ensures bounds { self.new.bounds ≡ self.old.bounds }
     {
         let route = packet.route();
         if !route.owner {
@@ -273,7 +427,8 @@ impl<P: Platform> Responder<P> {
 
     /// The message of a packet that is both a start and an end packet: its payload, whatever is open.
     fn alone<'a>(&self, packet: &PacketRef<'a>) -> Option<&'a [u8]>
-        ensures whole { IfSome result (λ message. Whole (record { items = message.now }) ≡ answer self.now.open_messages packet.now) }
+        ensures whole { IfSome result
+            (λ message. Whole (record { items = message.now }) ≡ answer self.now.open_messages packet.now) }
         ensures few { IfSome result (λ message. length message.now ≤ MOST_MESSAGE_BYTES) }
     {
         if packet.start() && packet.end() {
@@ -296,14 +451,24 @@ impl<P: Platform> Responder<P> {
         ensures outcome { IfOk result (λ taken.
             answering reply.new.items taken
             ≡ arrival_outcome (rules_of P.answer P.after P.sensed) (held_of self.old)
-            (passed_arrival (answer self.old.open_messages) now (passed is_expected (Ok packet.now)))) }
+            (packet_arrival (answer self.old.open_messages) now packet.now)) }
         ensures some { IfOk result (HasReply reply.new.items) }
-        ensures fits { OnOk result (ArrivalFits (rules_of P.answer P.after P.sensed) (held_of self.old) (passed_arrival (answer self.old.open_messages) now (passed is_expected (Ok packet.now)))) }
-        ensures held { OnOk result (IsHeld (held_of self.new) (passed_held (rules_of P.answer P.after P.sensed) (held_of self.old) now (passed is_expected (Ok packet.now)))) }
-        ensures performed { OnOk result (P.performed self.old.platform (arrival_commands (held_of self.old) (passed_arrival (answer self.old.open_messages) now (passed is_expected (Ok packet.now)))) self.new.platform) }
-        ensures memory { OnErr result (PassedWants (held_of self.old) P.STEADY now (passed is_expected (Ok packet.now))) }
+        ensures fits { OnOk result
+            (ArrivalFits (rules_of P.answer P.after P.sensed)
+            (held_of self.old) (packet_arrival (answer self.old.open_messages) now packet.now)) }
+        ensures held { OnOk result
+            (IsHeld (held_of self.new) (passed_held (rules_of P.answer P.after P.sensed)
+            (held_of self.old) now (passed is_expected (Ok packet.now)))) }
+        ensures performed { OnOk result
+            (P.performed self.old.platform (arrival_commands
+            (held_of self.old) (packet_arrival (answer self.old.open_messages) now packet.now)) self.new.platform) }
+        ensures memory { OnErr result
+            (PassedWants (held_of self.old) P.STEADY now (passed is_expected (Ok packet.now))) }
         ensures err { OnErr result (IsHeld (held_of self.new) (held_of self.old)) }
         ensures none_performed { OnErr result (P.performed self.old.platform [] self.new.platform) }
+        ensures no_row { OnErr result (P.STEADY ≡ true → ArrivalLacksRow self.old.rows
+            (packet_arrival (answer self.old.open_messages) now packet.now)) }
+        ensures bounds { self.new.bounds ≡ self.old.bounds }
     {
         let route = packet.route();
         let key = key_of(packet);
@@ -314,7 +479,10 @@ impl<P: Platform> Responder<P> {
                 Ok(taken)
             }
             Fed::Partial => {
-                self.assembler.feed(packet)?;
+                if !self.has_room(key) {
+                    return Err(Memory);
+                }
+                self.assembler.keep(packet)?;
                 Ok(Taken::Partial)
             }
             Fed::Dropped(reason) => {
@@ -322,6 +490,15 @@ impl<P: Platform> Responder<P> {
                 Ok(Taken::Dropped(*reason))
             }
         }
+    }
+
+    /// Whether a message may be open on this key: it is, or the bounds allow one more.
+    fn has_room(&self, key: Key) -> bool
+        ensures yes { result ≡ true → map.contains_key self.now.open_messages key ≡ false
+            → map.len self.now.open_messages < self.now.bounds.open_messages }
+        ensures no { result ≡ false → map.contains_key self.now.open_messages key ≡ false }
+    {
+        self.assembler.pending() < self.bounds.open_messages || self.assembler.is_open(key)
     }
 
     /// Serves a whole message, whose packets had this source and tag. The message that answers it is put
@@ -339,21 +516,32 @@ impl<P: Platform> Responder<P> {
         ensures outcome { IfOk result (λ taken.
             answering reply.new.items taken
             ≡ arrival_outcome (rules_of P.answer P.after P.sensed) (held_of self.old)
-            (headed (message_of source tag now message.now) (request_of message.now))) }
+            (message_arrival source tag now message.now)) }
         ensures some { IfOk result (HasReply reply.new.items) }
-        ensures fits { OnOk result (ArrivalFits (rules_of P.answer P.after P.sensed) (held_of self.old) (headed (message_of source tag now message.now) (request_of message.now))) }
-        ensures held { OnOk result (IsHeld (held_of self.new) (arrival_held (rules_of P.answer P.after P.sensed) (held_of self.old) (headed (message_of source tag now message.now) (request_of message.now)))) }
-        ensures performed { OnOk result (P.performed self.old.platform (arrival_commands (held_of self.old) (headed (message_of source tag now message.now) (request_of message.now))) self.new.platform) }
-        ensures memory { OnErr result ((start : Bool) → ArrivalWants (held_of self.old) P.STEADY start (headed (message_of source tag now message.now) (request_of message.now))) }
+        ensures fits { OnOk result
+            (ArrivalFits (rules_of P.answer P.after P.sensed)
+            (held_of self.old) (message_arrival source tag now message.now)) }
+        ensures held { OnOk result
+            (IsHeld (held_of self.new) (arrival_held (rules_of P.answer P.after P.sensed)
+            (held_of self.old) (message_arrival source tag now message.now))) }
+        ensures performed { OnOk result
+            (P.performed self.old.platform
+            (arrival_commands (held_of self.old) (message_arrival source tag now message.now)) self.new.platform) }
+        ensures memory { OnErr result
+            ((start : Bool)
+            → ArrivalWants (held_of self.old) P.STEADY start (message_arrival source tag now message.now)) }
         ensures err { OnErr result (IsHeld (held_of self.new) (held_of self.old)) }
         ensures none_performed { OnErr result (P.performed self.old.platform [] self.new.platform) }
+        ensures no_row { OnErr result (P.STEADY ≡ true → ArrivalLacksRow self.old.rows
+            (message_arrival source tag now message.now)) }
+        ensures bounds { self.new.bounds ≡ self.old.bounds }
     {
         let request = match read_request(message) {
             Ok(request) => request,
             Err(reason) => return Ok(Taken::Dropped(reason)),
         };
         let route = way_back(self.own, source, tag);
-        if now.get() < self.serves_from {
+        if self.is_busy(now) {
             refuse(&request, Code::ERROR_NOT_READY, reply);
             return Ok(not_performed(route));
         }
@@ -361,7 +549,7 @@ impl<P: Platform> Responder<P> {
         if self.copied(now, source, tag, id, message, reply) {
             return Ok(not_performed(route));
         }
-        self.kept.make_room(source)?;
+        self.kept.make_room(source, self.bounds.sources)?;
         let changed = perform(self.alloc, &mut self.platform, &request, reply)?;
         self.kept.put(source, id, now, message, reply);
         Ok(Taken::Answered {
@@ -382,7 +570,8 @@ impl<P: Platform> Responder<P> {
         reply: &mut Body,
     ) -> bool
         requires { id < ids }
-        ensures packets { copied_packets self.now.own self.now.keep (message_of source tag now message.now) (kept_in self.now.rows source id)
+        ensures packets { copied_packets self.now.own self.now.keep
+            (message_of source tag now message.now) (kept_in self.now.rows source id)
             ≡ packets_if result (packets_back self.now.own (message_of source tag now []) reply.new.items) }
         ensures some { result ≡ true → 0 < length reply.new.items }
     {
@@ -401,7 +590,9 @@ impl<P: Platform> Responder<P> {
     pub fn kept(&self) -> usize
         ensures value { CountsKept (held_of self.now).kept result }
         ensures few { result ≤ MOST_KEPT }
-        ensures small { (source id : ℕ) → IfSome ((held_of self.now).kept source id) (λ entry. length entry.answer ≤ MOST_MESSAGE_BYTES) }
+        ensures bounded { result ≤ INSTANCE_IDS * self.now.bounds.sources }
+        ensures small { (source id : ℕ) → IfSome ((held_of self.now).kept source id)
+            (λ entry. length entry.answer ≤ MOST_MESSAGE_BYTES) }
     {
         let _range = self.own.get();
         self.kept.count()
@@ -412,7 +603,9 @@ impl<P: Platform> Responder<P> {
     pub fn pending(&self) -> usize
         ensures value { result ≡ map.len (held_of self.now).open_messages }
         ensures few { result ≤ MOST_PENDING }
-        ensures small { (key : KeyValue) → IfSome (map.get (held_of self.now).open_messages key) (λ o. length o.bytes ≤ MOST_MESSAGE_BYTES) }
+        ensures bounded { result ≤ self.now.bounds.open_messages }
+        ensures small { (key : KeyValue) → IfSome (map.get (held_of self.now).open_messages key)
+            (λ o. length o.bytes ≤ MOST_MESSAGE_BYTES) }
     {
         let _range = self.own.get();
         self.assembler.pending()

@@ -59,7 +59,8 @@ impl Row {
         requires bytes { length bytes.now ≤ MOST_MESSAGE_BYTES }
         requires some { 0 < length answer.now }
         requires few { length answer.now ≤ MOST_MESSAGE_BYTES }
-        ensures slots { self.new ≡ slice_set self.old id (Some (record { moment = moment; bytes = bytes.now; answer = answer.now })) }
+        ensures slots { self.new
+            ≡ slice_set self.old id (Some (record { moment = moment; bytes = bytes.now; answer = answer.now })) }
         ensures room { id < length self.old }
         ensures first { result ≡ not (is_some (in_slot self.old id)) }
     {
@@ -78,7 +79,8 @@ impl Row {
         requires bytes { length bytes.now ≤ MOST_MESSAGE_BYTES }
         requires some { 0 < length answer.now }
         requires few { length answer.now ≤ MOST_MESSAGE_BYTES }
-        ensures { self.new ≡ slice_set self.old id (Some (record { moment = moment; bytes = bytes.now; answer = answer.now })) }
+        ensures { self.new
+            ≡ slice_set self.old id (Some (record { moment = moment; bytes = bytes.now; answer = answer.now })) }
     {
         self.slots[usize::from(id)] = Some(KeptAnswer::new(moment, bytes, answer));
     }

@@ -1,4 +1,5 @@
-use Rattle.std.proofs.Common.{◌∙◌, ℕ, cond, ◌&&◌, ◌==◌, Some, Ok, ap, sym, arith}
+use Rattle.std.proofs.Common.{◌∙◌, ℕ, cond, ◌&&◌, ◌==◌, Some, Ok, ap, sym}
+use borrow.Author.Tests.{ltb-false}
 use Rattle.pldm_responder.specs.Arrivals.{message_of}
 use Rattle.pldm_responder.specs.Held.{Entry}
 use Rattle.pldm_responder.specs.Performing.{rules_of, reply_to, next_after}
@@ -14,7 +15,7 @@ returns-in_err-changed-clause-memory g c =
     let copied = λ (id : ℕ). copied_packets before.own before.keep (message_of c.args.source c.args.tag c.args.now c.args.message.now) (kept_in before.rows c.args.source id) in
     at_error _ (wants_once_performed before (message_of c.args.source c.args.tag c.args.now c.args.message.now) c.in-Ok.request
     (sym c.in-Ok.ensures.exact)
-    (omega (arith, c.if-get-self.false, c.get.ensures.value, ap (λ (s : Station g.row.P.Denot g.row.P-State.Denot). s.serves_from) c.self.view_is))
+    (ltb-false c.args.now before.serves_from (sym c.is_busy.ensures ∙ c.if-is_busy.false))
     (no_copy c.copied.result _ (copied c.id-id.result) c.copied.ensures.packets c.if-copied.false ∙ ap copied c.id-id.ensures.value)
     g.P.Platform.STEADY (λ steady id. cc (c.in_err-changed.ensures.steady steady)))
 
@@ -28,6 +29,7 @@ returns-clause-held g c =
     let new : Station g.row.P.Denot g.row.P-State.Denot = record {
       own = c.self.inside.own;
       keep = c.self.inside.keep;
+      bounds = c.self.inside.bounds;
       open_messages = c.self.inside.assembler;
       rows = c.put.new.self;
       platform = c.perform.new.platform;
@@ -39,11 +41,11 @@ returns-clause-held g c =
     let copied = λ (id : ℕ). copied_packets before.own before.keep (message_of c.args.source c.args.tag c.args.now c.args.message.now) (kept_in before.rows c.args.source id) in
     held_once_performed before (message_of c.args.source c.args.tag c.args.now c.args.message.now) request
     (sym c.in-Ok.ensures.exact)
-    (omega (arith, c.if-get-self.false, c.get.ensures.value, ap (λ (s : Station g.row.P.Denot g.row.P-State.Denot). s.serves_from) view))
+    (ltb-false c.args.now before.serves_from (sym c.is_busy.ensures ∙ c.if-is_busy.false))
     (no_copy c.copied.result _ (copied c.id-id.result) c.copied.ensures.packets c.if-copied.false ∙ ap copied c.id-id.ensures.value)
     device new c.perform.new.reply.items
     (◌∙◌ {b = reply_to device (g.P.Platform.state c.self.inside.platform) (Ok request)} c.in_ok-changed.ensures.answer (ap (λ s. reply_to device s (Ok request)) state))
-    (λ other i. c.put.ensures other i
+    (λ other i. c.put.ensures.kept other i
     ∙ ap (λ answer. cond (c.args.source == other && c.id-id.result == i) (Some (record { moment = c.args.now; bytes = c.args.message.now; answer = answer })) (kept_in c.make_room.new.self other i)) c.deref.ensures.0
     ∙ ap (λ id. cond (c.args.source == other && id == i) (Some entry) (kept_in c.make_room.new.self other i)) c.id-id.ensures.value
     ∙ ap (λ o. cond (c.args.source == other && request.id == i) (Some entry) o) (c.make_room.ensures.same other i ∙ ap (λ (s : Station g.row.P.Denot g.row.P-State.Denot). kept_in s.rows other i) view))

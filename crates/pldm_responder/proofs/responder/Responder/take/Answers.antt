@@ -1,6 +1,7 @@
 use Rattle.std.proofs.Common.{◌≡◌, Bool, true, false, not, refl}
 use Rattle.pldm_responder.specs.Stations.{held_of}
 use Rattle.pldm_responder.proofs.AskedKeys.{asked_without}
+use Rattle.pldm_responder.proofs.OpenBounds.{len_without}
 use Rattle.pldm_responder.proofs.ServedMessages.{at_error, wants_when_whole}
 use Rattle.pldm_responder.proofs.responder.Responder.take.Goals as goal
 
@@ -10,7 +11,7 @@ true_by false h = cc
 
 pub invariant_of-self : goal.invariant_of-self
 invariant_of-self g c =
-    (rw c.forget.ensures (asked_without c.self.inside.own c.self.inside.assembler _ c.self.invariant.0), c.self.invariant.1)
+    (rw c.forget.ensures (asked_without c.self.inside.own c.self.inside.assembler _ c.self.invariant.0), c.self.invariant.1, (rw c.forget.ensures (len_without _ _ _ c.self.invariant.2.0), c.self.invariant.2.1))
 
 pub returns-in_err-taken-clause-memory : goal.returns-in_err-taken-clause-memory
 returns-in_err-taken-clause-memory g c =

@@ -1,16 +1,18 @@
-use Rattle.std.proofs.Common.{◌∙◌, ap, sym, subst}
+use Rattle.std.specs.FinMap as finite
+use Rattle.std.proofs.Common.{◌≡◌, ◌<◌, false, ◌∙◌, ap, sym, subst}
 use Rattle.mctp_packet.specs.declared.packet.Route.{Route}
 use Rattle.mctp_assembly.specs.Keys.{IsKey, key_of}
 use Rattle.mctp_assembly.specs.Steps.{answer}
 use Rattle.mctp_assembly.specs.declared.fed.Fed.TheVariants.{Whole}
 use Rattle.pldm_responder.specs.Stations.{Station, IsAsked, held_of}
 use Rattle.pldm_responder.proofs.AskedKeys.{asked_without, asked_after}
+use Rattle.pldm_responder.proofs.OpenBounds.{len_after, len_without}
 use Rattle.pldm_responder.proofs.ServedMessages.{at_error, wants_when_whole}
 use Rattle.pldm_responder.proofs.responder.Responder.take_piece.Goals as goal
 
 pub invariant_of-self : goal.invariant_of-self
 invariant_of-self g c =
-    (rw c.forget.ensures (asked_without c.self-in-Whole.inside.own c.self-in-Whole.inside.assembler _ c.self-in-Whole.invariant.0), c.self-in-Whole.invariant.1)
+    (rw c.forget.ensures (asked_without c.self-in-Whole.inside.own c.self-in-Whole.inside.assembler _ c.self-in-Whole.invariant.0), c.self-in-Whole.invariant.1, (rw c.forget.ensures (len_without _ _ _ c.self-in-Whole.invariant.2.0), c.self-in-Whole.invariant.2.1))
 
 pub invariant_of-self-in-Partial : goal.invariant_of-self-in-Partial
 invariant_of-self-in-Partial g c =
@@ -20,11 +22,13 @@ invariant_of-self-in-Partial g c =
       owner = c.requires.owner;
       other = λ same. c.requires.other (same ∙ own);
     } in
-    (rw c.in_ok-feed-in-Partial.ensures.ok (asked_after c.self.inside.own c.self.inside.assembler c.args.packet.now asked c.self.invariant.0), c.self.invariant.1)
+    let room = subst (λ (s : Station g.row.P.Denot g.row.P-State.Denot). finite.contains_key s.open_messages c.key_of-key.result ≡ false → finite.len s.open_messages < s.bounds.open_messages) (sym c.self.view_is)
+    (c.has_room.ensures.yes c.if-not-has_room.false) in
+    (rw c.in_ok-keep-in-Partial.ensures.ok (asked_after c.self.inside.own c.self.inside.assembler c.args.packet.now asked c.self.invariant.0), c.self.invariant.1, (rw c.in_ok-keep-in-Partial.ensures.ok (len_after c.self.inside.assembler c.args.packet.now c.key_of-key.result c.self.inside.bounds.open_messages c.key_of-key.ensures.value c.self.invariant.2.0 room), c.self.invariant.2.1))
 
 pub invariant_of-self-in-Dropped : goal.invariant_of-self-in-Dropped
 invariant_of-self-in-Dropped g c =
-    (rw c.forget-in-Dropped.ensures (asked_without c.self.inside.own c.self.inside.assembler _ c.self.invariant.0), c.self.invariant.1)
+    (rw c.forget-in-Dropped.ensures (asked_without c.self.inside.own c.self.inside.assembler _ c.self.invariant.0), c.self.invariant.1, (rw c.forget-in-Dropped.ensures (len_without _ _ _ c.self.invariant.2.0), c.self.invariant.2.1))
 
 pub returns-in_err-taken-in-Whole-clause-memory : goal.returns-in_err-taken-in-Whole-clause-memory
 returns-in_err-taken-in-Whole-clause-memory g c =

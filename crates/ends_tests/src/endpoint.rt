@@ -1,0 +1,88 @@
+//! An endpoint over a device that is outside, in two steps.
+
+use mctp_packet::{Eid, Keep, Moment};
+use pldm_endpoint::{AnswerRefusal, Endpoint, ReceiveRefusal, Step};
+use pldm_responder::{Bounds, Outcome};
+use pldm_wire::{Answer, Code, Command};
+use std::alloc::Global;
+use std::process::Abort;
+use std::test::Fail;
+
+/// GetTID of endpoint 8 to endpoint 9, with instance ID 0.
+const GET_TID: [u8; 8] = [1, 9, 8, 0xc8, 1, 0x80, 0, 2];
+
+/// The same from endpoint 10.
+const GET_TID_OF_ANOTHER: [u8; 8] = [1, 9, 10, 0xc8, 1, 0x80, 0, 2];
+
+/// The response to the first: terminus ID 5.
+const TID_IS_5: [u8; 10] = [1, 8, 9, 0xc0, 1, 0, 0, 2, 0, 5];
+
+/// Endpoint 9, which keeps the answers to one source for a second.
+fn endpoint(alloc: Global) -> Result<Endpoint, Fail> {
+    let own = Eid::new(9).ok_or("no endpoint ID")?;
+    let keep = Keep::new(1000).ok_or("no keeping time")?;
+    let bounds = Bounds {
+        sources: 1,
+        open_messages: 1,
+    };
+    Ok(Endpoint::new(alloc, own, keep, bounds))
+}
+
+/// What it makes of a packet at a moment that is not before its last one.
+fn receive(
+    rt: &impl Abort,
+    endpoint: &mut Endpoint,
+    milliseconds: u64,
+    packet: &[u8],
+) -> Result<Result<Step, ReceiveRefusal>, Fail> {
+    let now = Moment::new(milliseconds).ok_or("no moment")?;
+    let last = endpoint.last_moment();
+    assert!(rt; last <= now);
+    Ok(endpoint.receive(now, packet))
+}
+
+/// Whether this is an answer of one packet with these bytes, and whether the request was performed now.
+fn is_answer(outcome: &Outcome, is_fresh: bool, bytes: &[u8]) -> bool {
+    match outcome {
+        Outcome::Answered { fresh, packets, .. } => *fresh == is_fresh
+            && packets.get(0) == Some(bytes),
+        _ => false,
+    }
+}
+
+#[test]
+fn a_copy_gets_the_answer_that_the_device_gave(rt: HostRuntime) -> Result<(), Fail> {
+    let mut endpoint = endpoint(rt.alloc())?;
+    let step = receive(&rt, &mut endpoint, 0, &GET_TID)?;
+    assert!(rt; matches!(&step, Ok(Step::Perform)));
+    assert!(rt; matches!(endpoint.command(), Some(Command::GetTid)));
+    let refused = receive(&rt, &mut endpoint, 1, &GET_TID)?;
+    assert!(rt; matches!(&refused, Err(ReceiveRefusal::Performing)));
+    let wrong = endpoint.answer(&Answer::SetTid);
+    assert!(rt; matches!(&wrong, Err(AnswerRefusal::OtherCommand)));
+    let outcome = endpoint.answer(&Answer::GetTid { tid: 5 });
+    assert!(rt; matches!(&outcome, Ok(outcome) if is_answer(outcome, true, &TID_IS_5)));
+    let copy = receive(&rt, &mut endpoint, 999, &GET_TID)?;
+    assert!(rt; matches!(&copy, Ok(Step::Done(outcome)) if is_answer(outcome, false, &TID_IS_5)));
+    assert_eq!(rt; endpoint.kept(), 1);
+    Ok(())
+}
+
+#[test]
+fn a_second_source_is_refused_until_a_restart(rt: HostRuntime) -> Result<(), Fail> {
+    let mut endpoint = endpoint(rt.alloc())?;
+    let _ = receive(&rt, &mut endpoint, 0, &GET_TID)?;
+    let outcome = endpoint.answer(&Answer::Refused(Code::ERROR));
+    assert!(rt; outcome.is_ok());
+    let refused = receive(&rt, &mut endpoint, 1, &GET_TID_OF_ANOTHER)?;
+    assert!(rt; matches!(&refused, Err(ReceiveRefusal::Memory)));
+    let now = Moment::new(5).ok_or("no moment")?;
+    let last = endpoint.last_moment();
+    assert!(rt; last <= now);
+    endpoint.restart(now);
+    let late = endpoint.answer(&Answer::GetTid { tid: 5 });
+    assert!(rt; matches!(&late, Err(AnswerRefusal::NotAsked)));
+    let served = receive(&rt, &mut endpoint, 1005, &GET_TID_OF_ANOTHER)?;
+    assert!(rt; matches!(&served, Ok(Step::Perform)));
+    Ok(())
+}

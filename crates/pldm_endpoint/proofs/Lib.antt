@@ -1,0 +1,3 @@
+pub mod AnswersInTurn
+pub mod AskedInTurn
+pub mod StepGlue

@@ -1,0 +1,118 @@
+-- What the two steps of an endpoint return and leave, from what its responder returns and leaves.
+use Rattle.std.proofs.Common.{◌≡◌, ℕ, ◌<◌, List, [], ◌∷◌, Option, Some, None, IsSome, if◌then◌else◌, refl, sym, ap, ◌∙◌, subst, arith}
+use Rattle.std.proofs.lemmas.Bool.{lt-ltb}
+use Rattle.pldm_wire.specs.AnswerReading.{answer_of}
+use Rattle.pldm_wire.specs.Answers.{IsAnswer, IsAnswerTo, answer_data, answer_message, code_of}
+use Rattle.pldm_wire.specs.Commands.{kind_of}
+use Rattle.pldm_wire.specs.Laws.{WrittenAnswerReadBack}
+use Rattle.pldm_wire.specs.declared.answer.Answer.{Answer}
+use Rattle.pldm_wire.specs.declared.answer.Answer.TheVariants.{Refused}
+use Rattle.pldm_wire.specs.declared.assigned.TheConstants.{ERROR_NOT_READY}
+use Rattle.pldm_wire.specs.declared.command.Command.{Command}
+use Rattle.pldm_responder.specs.Arrivals.{Arrival, Drop, Part, Whole}
+use Rattle.pldm_responder.specs.Asked.{AnswerDecides, NoneIsAsked, gives, listed}
+use Rattle.pldm_responder.specs.Held.{Held, IsHeld}
+use Rattle.pldm_responder.specs.Performing.{Rules, rules_of}
+use Rattle.pldm_responder.specs.Rooms.{ArrivalHasRow, ArrivalLacksRow}
+use Rattle.pldm_responder.specs.Slots.{Rows, row_of}
+use Rattle.pldm_responder.specs.Steps.{arrival_commands, received_commands, received_held, received_outcome}
+use Rattle.pldm_responder.specs.declared.outcome.Outcome.{Outcome}
+use Rattle.pldm_endpoint.specs.OutsideDevices.{answer_by, or_not_ready, outside_after, outside_answer, outside_sensed}
+use Rattle.pldm_endpoint.specs.TwoSteps.{bare, left_by, received_step, step_by, unasked}
+use Rattle.pldm_endpoint.specs.declared.step.Step.TheVariants.{Done}
+
+-- ---- held over and over
+pub bare_is_held : {S : Type 0} (new held : Held S) → IsHeld new held → IsHeld (bare new) (bare held)
+bare_is_held new held same = record {
+  own = same.own;
+  keep = same.keep;
+  open_messages = same.open_messages;
+  kept = same.kept;
+  state = refl;
+  serves_from = same.serves_from;
+  last = same.last;
+}
+
+pub then_held : {S : Type 0} (x y z : Held S) → IsHeld x y → IsHeld y z → IsHeld x z
+then_held x y z one other = record {
+  own = one.own ∙ other.own;
+  keep = one.keep ∙ other.keep;
+  open_messages = one.open_messages ∙ other.open_messages;
+  kept = λ source id. one.kept source id ∙ other.kept source id;
+  state = one.state ∙ other.state;
+  serves_from = one.serves_from ∙ other.serves_from;
+  last = one.last ∙ other.last;
+}
+
+-- ---- nothing is asked
+pub none_listed : {A : Type 0} (o : Option A) (xs : List A) → listed o ≡ xs → ((x : A) → o ≡ Some x → ⊥) → xs ≡ []
+none_listed None xs h other = sym h
+none_listed (Some x) xs h other = absurd (other x refl)
+
+module _ {S : Type 0} (device : Rules S) (held : Held S) (moment : ℕ) (bytes : List ℕ) (law : NoneIsAsked device) (none : received_commands held moment bytes ≡ []) where
+  pub step_done : (o : Outcome) → o ≡ received_outcome device held moment bytes → Done o ≡ received_step held moment bytes
+  step_done o is = ap Done (is ∙ (law held moment bytes unasked none).outcome) ∙ ap (step_by held moment bytes) (sym none)
+
+  pub left_done : (new : Held S) → IsHeld new (received_held device held moment bytes) → IsHeld (bare new) (left_by held moment bytes (received_commands held moment bytes))
+  left_done new same =
+      subst (λ commands. IsHeld (bare new) (left_by held moment bytes commands)) (sym none)
+      (then_held _ _ _ (bare_is_held new (received_held device held moment bytes) same) (law held moment bytes unasked none).left)
+
+-- what is held is the same after the room for an answer was taken
+module _ {S : Type 0} (device : Rules S) (held roomy : Held S) (moment : ℕ) (bytes : List ℕ) (law : NoneIsAsked device) (is : roomy ≡ held) (none : received_commands held moment bytes ≡ []) where
+  pub step_after : (o : Outcome) → o ≡ received_outcome device roomy moment bytes → Done o ≡ received_step held moment bytes
+  step_after o o_is = step_done device held moment bytes law none o (o_is ∙ ap (λ h. received_outcome device h moment bytes) is)
+
+  pub left_after : (new : Held S) → IsHeld new (received_held device roomy moment bytes) → IsHeld (bare new) (left_by held moment bytes (received_commands held moment bytes))
+  left_after new same = left_done device held moment bytes law none new (subst (λ h. IsHeld new (received_held device h moment bytes)) is same)
+
+pub held_by_is : {S : Type 0} (new held : Held S) → new ≡ held → IsHeld (bare new) (bare held)
+held_by_is new held is = subst (λ h. IsHeld (bare new) (bare h)) is (bare_is_held new new (record { own = refl; keep = refl; open_messages = refl; kept = λ source id. refl; state = refl; serves_from = refl; last = refl }))
+
+pub left_asking : {S : Type 0} (held new : Held S) (moment : ℕ) (bytes : List ℕ) (o : Option Command) (command : Command)
+    → listed o ≡ received_commands held moment bytes → o ≡ Some command → new ≡ held → IsHeld (bare new) (left_by held moment bytes (received_commands held moment bytes))
+left_asking held new moment bytes o command asked is same =
+    subst (λ commands. IsHeld (bare new) (left_by held moment bytes commands)) (sym (ap listed is) ∙ asked) (held_by_is new held same)
+
+pub left_as_before : {S : Type 0} (new roomy held : Held S) → roomy ≡ held → IsHeld new roomy → IsHeld (bare new) (bare held)
+left_as_before new roomy held is same = subst (λ h. IsHeld (bare new) (bare h)) is (bare_is_held new roomy same)
+
+-- ---- the response that the device's answer is written as
+small_code : (answer : Answer) → IsAnswer answer → code_of answer < 256
+small_code (Refused code) is = omega (arith, is)
+small_code _ is = omega arith
+
+-- the platform gives the very answer that was written
+pub answers_itself : WrittenAnswerReadBack → (command : Command) (answer : Answer) (response : List ℕ)
+    → response ≡ answer_message 0 (kind_of command) answer → IsAnswerTo (kind_of command) answer → IsAnswer answer → outside_answer response command ≡ answer
+answers_itself law command answer response spelled its is =
+    let back = law 0 command answer (omega arith) its is in
+    ap (λ bytes. outside_answer bytes command) spelled
+    ∙ ap (answer_by command) back.0
+    ∙ ap (λ t. if t then or_not_ready (answer_of (kind_of command) (kind_of command) (code_of answer) (answer_data answer)) else Refused ERROR_NOT_READY) (lt-ltb (code_of answer) 256 (small_code answer is))
+    ∙ ap or_not_ready back.1
+
+abbrev pub device : Rules (List ℕ)
+device = rules_of outside_answer outside_after outside_sensed
+
+-- ---- the kept packet is received over the platform that gives the answer
+module _ (law : AnswerDecides device) (held : Held (List ℕ)) (response : List ℕ)
+    (moment : ℕ) (bytes : List ℕ) (command : Command) (given : Answer)
+    (asked : received_commands held moment bytes ≡ command ∷ []) (gave : outside_answer response command ≡ given) where
+  pub answered_outcome : (o : Outcome) → o ≡ received_outcome device (record held { state = response }) moment bytes → o ≡ received_outcome (gives given) (bare held) moment bytes
+  answered_outcome o is = is ∙ (law (record held { state = response }) moment bytes command given asked gave).0.outcome
+
+  pub answered_left : (new : Held (List ℕ)) → IsHeld new (received_held device (record held { state = response }) moment bytes) → IsHeld (bare new) (received_held (gives given) (bare held) moment bytes)
+  answered_left new same =
+      then_held _ _ _ (bare_is_held new (received_held device (record held { state = response }) moment bytes) same)
+      (law (record held { state = response }) moment bytes command given asked gave).0.left
+
+-- there is room for what was asked
+some_none : {A : Type 0} (o : Option A) → IsSome o → o ≡ None → ⊥
+some_none None some none = cc
+some_none (Some x) some none = cc
+
+pub room_is_there : {S : Type 0} (held : Held S) (rows : Rows) (a : Arrival) (command : Command) → arrival_commands held a ≡ command ∷ [] → ArrivalHasRow rows a → ArrivalLacksRow rows a → ⊥
+room_is_there held rows (Drop reason) command asked has lacks = cc
+room_is_there held rows Part command asked has lacks = cc
+room_is_there held rows (Whole m) command asked has lacks = some_none (row_of rows m.source) has lacks

@@ -1,0 +1,4 @@
+pub mod OutsideDevices
+pub mod TwoSteps
+pub mod Histories
+pub mod Turns

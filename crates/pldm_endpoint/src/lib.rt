@@ -1,0 +1,15 @@
+//! The responding end over a device that answers in its own time: a packet's command is handed to the device, and
+//! its answer is handed back.
+#![tactic(auto)]
+
+mod answered_kind;
+mod endpoint;
+pub mod laws;
+mod outside_device;
+mod refusal;
+mod step;
+
+pub use endpoint::{Asked, Endpoint};
+pub use outside_device::OutsideDevice;
+pub use refusal::{AnswerRefusal, ReceiveRefusal};
+pub use step::Step;

@@ -1,0 +1,141 @@
+-- What comes of bytes is decided by the platform's answer to the command that they have it perform.
+use Rattle.std.proofs.Common.{◌≡◌, ℕ, Bool, true, false, not, ◌&&◌, ◌==◌, nat_lt, List, [], ◌∷◌, Option, Some, None, Result, Ok, Err, if◌then◌else◌, refl, sym, ap, subst}
+use Rattle.mctp_packet.specs.declared.reason.Reason.{Reason}
+use Rattle.pldm_wire.specs.Answers.{answer_message, code_of}
+use Rattle.pldm_wire.specs.Commands.{sets}
+use Rattle.pldm_wire.specs.declared.assigned.TheConstants.{SUCCESS}
+use Rattle.pldm_wire.specs.Requests.{Request, request_of}
+use Rattle.pldm_wire.specs.CommandReading.{command_of}
+use Rattle.pldm_wire.specs.declared.answer.Answer.{Answer}
+use Rattle.pldm_wire.specs.declared.command.Command.{Command}
+use Rattle.pldm_responder.specs.Arrivals.{Arrival, Drop, Part, Whole, packets_back}
+use Rattle.pldm_responder.specs.Asked.{AnswerDecides, IsAsGiven, IsFresh, NoneIsAsked, gives, over}
+use Rattle.pldm_responder.specs.Events.{Message, is_of}
+use Rattle.pldm_responder.specs.Held.{Entry, Held}
+use Rattle.pldm_responder.specs.Performing.{Rules, answer_to, busy_reply, changes_at, changes_by, commands_at, commands_in, commands_of, reply_to}
+use Rattle.pldm_responder.specs.Steps.{arrival_commands, arrival_held, arrival_outcome, copied_packets, entry_for, entry_of, performs, received_arrival, received_commands, repeats, served}
+use Rattle.pldm_responder.specs.declared.outcome.Outcome.TheVariants.{Answered}
+
+-- the commands are the one whose answer is given, or none
+abbrev IsGiven : {S : Type 0} → Rules S → S → Answer → List Command → Type 0
+IsGiven device state given [] = Unit {0}
+IsGiven device state given (command ∷ commands) = device.answer state command ≡ given
+
+module _ {S : Type 0} (device : Rules S) (held : Held S) (given : Answer) where
+  abbrev bare : Held (Unit {0})
+  bare = over tt held
+
+  answers : (r : Result Command ℕ) → IsGiven device held.state given (commands_in r) → answer_to device held.state r ≡ answer_to (gives given) tt r
+  answers (Ok command) is_given = is_given
+  answers (Err code) is_given = refl
+
+  changed : (r : Result Command ℕ) → IsGiven device held.state given (commands_in r) → changes_by device held.state r ≡ changes_by (gives given) tt r
+  changed (Ok command) is_given = ap (λ a. sets command && code_of a == SUCCESS) is_given
+  changed (Err code) is_given = refl
+
+  replied_at : (q : Result Request Reason) → IsGiven device held.state given (commands_at q) → reply_to device held.state q ≡ reply_to (gives given) tt q
+  replied_at (Ok request) is_given = ap (answer_message request.id request.kind) (answers (command_of request.kind request.rest) is_given)
+  replied_at (Err reason) is_given = refl
+
+  changed_at : (q : Result Request Reason) → IsGiven device held.state given (commands_at q) → changes_at device held.state q ≡ changes_at (gives given) tt q
+  changed_at (Ok request) is_given = changed (command_of request.kind request.rest) is_given
+  changed_at (Err reason) is_given = refl
+
+  -- t for a copy
+  by_copy : (t : Bool) (m : Message) (packets : List (List ℕ)) → IsGiven device held.state given (if not t then commands_of m.bytes else [])
+      → served device held m (if t then Some packets else None) ≡ served (gives given) bare m (if t then Some packets else None)
+  by_copy true m packets is_given = refl
+  by_copy false m packets is_given =
+      λ i. Answered true (changed_at (request_of m.bytes) is_given i) (packets_back held.own m (replied_at (request_of m.bytes) is_given i))
+
+  by_entry : (m : Message) (o : Option Entry) → IsGiven device held.state given (if not (repeats held.keep m o) then commands_of m.bytes else [])
+      → served device held m (copied_packets held.own held.keep m o) ≡ served (gives given) bare m (copied_packets held.own held.keep m o)
+  by_entry m None is_given = by_copy false m [] is_given
+  by_entry m (Some e) is_given = by_copy (repeats held.keep m (Some e)) m (packets_back held.own m e.answer) is_given
+
+  by_busy : (t : Bool) (m : Message) → IsGiven device held.state given (if not t && not (repeats held.keep m (entry_for held m)) then commands_of m.bytes else [])
+      → (if t then Answered false false (packets_back held.own m (busy_reply m.bytes)) else served device held m (copied_packets held.own held.keep m (entry_for held m)))
+      ≡ (if t then Answered false false (packets_back held.own m (busy_reply m.bytes)) else served (gives given) bare m (copied_packets held.own held.keep m (entry_for held m)))
+  by_busy true m is_given = refl
+  by_busy false m is_given = by_entry m (entry_for held m) is_given
+
+  by_arrival : (a : Arrival) → IsGiven device held.state given (arrival_commands held a) → arrival_outcome device held a ≡ arrival_outcome (gives given) bare a
+  by_arrival (Drop reason) is_given = refl
+  by_arrival Part is_given = refl
+  by_arrival (Whole m) is_given = by_busy (nat_lt m.moment held.serves_from) m is_given
+
+  -- performs for t
+  keeps_by : (p t : Bool) (m : Message) (o : Option Entry) → IsGiven device held.state given (if t then commands_of m.bytes else [])
+      → (if p && t then Some (entry_of device held m) else o) ≡ (if p && t then Some (entry_of (gives given) bare m) else o)
+  keeps_by false t m o is_given = refl
+  keeps_by true false m o is_given = refl
+  keeps_by true true m o is_given = λ i. Some (record { moment = m.moment; bytes = m.bytes; answer = replied_at (request_of m.bytes) is_given i })
+
+  keeps : (a : Arrival) → IsGiven device held.state given (arrival_commands held a) → (source id : ℕ)
+      → (arrival_held device held a).kept source id ≡ (arrival_held (gives given) bare a).kept source id
+  keeps (Drop reason) is_given source id = refl
+  keeps Part is_given source id = refl
+  keeps (Whole m) is_given source id = keeps_by (is_of m source id) (performs held m) m (held.kept source id) is_given
+
+  stateless : (x y : Unit {0}) → x ≡ y
+  stateless x y = refl
+
+  as_given : (moment : ℕ) (bytes : List ℕ) → IsGiven device held.state given (received_commands held moment bytes) → IsAsGiven device held moment bytes given
+  as_given moment bytes is_given = record {
+    outcome = by_arrival (received_arrival held moment bytes) is_given;
+    left = record {
+      own = owns (received_arrival held moment bytes);
+      keep = keep_is (received_arrival held moment bytes);
+      open_messages = refl;
+      kept = keeps (received_arrival held moment bytes) is_given;
+      state = stateless _ _;
+      serves_from = from (received_arrival held moment bytes);
+      last = refl;
+    };
+  }
+    where
+      owns : (a : Arrival) → (arrival_held device held a).own ≡ (arrival_held (gives given) bare a).own
+      owns (Drop reason) = refl
+      owns Part = refl
+      owns (Whole m) = refl
+
+      keep_is : (a : Arrival) → (arrival_held device held a).keep ≡ (arrival_held (gives given) bare a).keep
+      keep_is (Drop reason) = refl
+      keep_is Part = refl
+      keep_is (Whole m) = refl
+
+      from : (a : Arrival) → (arrival_held device held a).serves_from ≡ (arrival_held (gives given) bare a).serves_from
+      from (Drop reason) = refl
+      from Part = refl
+      from (Whole m) = refl
+
+  fresh_by_copy : (t : Bool) (m : Message) (packets : List (List ℕ)) (command : Command) → (if not t then commands_of m.bytes else []) ≡ command ∷ []
+      → IsFresh (served device held m (if t then Some packets else None))
+  fresh_by_copy true m packets command h = cc
+  fresh_by_copy false m packets command h = refl
+
+  fresh_by_entry : (m : Message) (o : Option Entry) (command : Command) → (if not (repeats held.keep m o) then commands_of m.bytes else []) ≡ command ∷ []
+      → IsFresh (served device held m (copied_packets held.own held.keep m o))
+  fresh_by_entry m None command h = refl
+  fresh_by_entry m (Some e) command h = fresh_by_copy (repeats held.keep m (Some e)) m (packets_back held.own m e.answer) command h
+
+  fresh_by_busy : (t : Bool) (m : Message) (command : Command) → (if not t && not (repeats held.keep m (entry_for held m)) then commands_of m.bytes else []) ≡ command ∷ []
+      → IsFresh (if t then Answered false false (packets_back held.own m (busy_reply m.bytes)) else served device held m (copied_packets held.own held.keep m (entry_for held m)))
+  fresh_by_busy true m command h = cc
+  fresh_by_busy false m command h = fresh_by_entry m (entry_for held m) command h
+
+  fresh : (a : Arrival) (command : Command) → arrival_commands held a ≡ command ∷ [] → IsFresh (arrival_outcome device held a)
+  fresh (Drop reason) command h = cc
+  fresh Part command h = cc
+  fresh (Whole m) command h = fresh_by_busy (nat_lt m.moment held.serves_from) m command h
+
+module _ {S : Type 0} (device : Rules S) where
+  pub answer_decides : AnswerDecides device
+  answer_decides held moment bytes command given asked is_given = (
+    as_given device held given moment bytes (subst (IsGiven device held.state given) (sym asked) is_given),
+    fresh device held given (received_arrival held moment bytes) command asked,
+  )
+
+  pub none_is_asked : NoneIsAsked device
+  none_is_asked held moment bytes given asked =
+      as_given device held given moment bytes (subst (IsGiven device held.state given) (sym asked) tt)

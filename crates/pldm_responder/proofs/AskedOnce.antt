@@ -1,0 +1,96 @@
+-- What the platform is asked, read by looking back; and what stands between two askings of one request.
+use Rattle.std.proofs.Common.{◌≡◌, ℕ, ◌+◌, ◌≤◌, Bool, true, false, not, ◌&&◌, ◌||◌, ◌==◌, nat_lt, ◌⊎◌, inl, inr, List, [], ◌∷◌, ◌++◌, Option, Some, if◌then◌else◌, refl, sym, ap, ◌∙◌, eq-eqb}
+use Rattle.std.specs.Prelude.{bytes_eq}
+use borrow.Author.Tests.{ltb-false}
+use Rattle.mctp_assembly.specs.Laws as assembly
+use Rattle.pldm_wire.specs.Headers.{id_at}
+use Rattle.pldm_responder.specs.Arrivals.{Arrival, Drop, Part, Whole, request_packet}
+use Rattle.pldm_responder.specs.Askings.{AskedApart, CommandsLookBack, asked_for, is_renewed}
+use Rattle.pldm_responder.specs.Calls.{arrived, events, fed}
+use Rattle.pldm_responder.specs.Events.{Message, Event, Came, Set, Restarted, Place, is_busy, is_copy, is_copy_of, is_fresh, is_of, origin}
+use Rattle.pldm_responder.specs.Held.{Held}
+use Rattle.pldm_responder.specs.Performing.{Rules, commands_of}
+use Rattle.pldm_responder.specs.Steps.{arrival_commands, received_commands}
+use Rattle.pldm_responder.proofs.CallsLookBack.{held_is, left_by, passed_brings, repeats_origin}
+
+-- ---- what is asked is what looking back says
+module _ {S : Type 0} (device : Rules S) where
+  asked_is : (own keep : ℕ) (start : S) (held : Held S) (h : List Event) (a : Arrival)
+      → arrival_commands (left_by device own keep start held.open_messages held.last h) a ≡ asked_for keep h a
+  asked_is own keep start held h (Drop reason) = refl
+  asked_is own keep start held h Part = refl
+  asked_is own keep start held h (Whole m) =
+      ap (λ r. if not (is_busy keep h m.moment) && not r then commands_of m.bytes else [])
+      (repeats_origin device own keep start m (origin keep h m.source (id_at m.bytes)))
+
+  pub commands_look_back : assembly.FeedLooksBack → CommandsLookBack device
+  commands_look_back looks own keep start held calls moment bytes left =
+      let h = events own calls in
+      ap (λ x. received_commands x moment bytes) (held_is device own keep start held calls left)
+      ∙ ap (arrival_commands (left_by device own keep start held.open_messages held.last h))
+      (passed_brings looks held.open_messages (fed own calls) moment (request_packet own bytes) left.open_messages)
+      ∙ asked_is own keep start held h (arrived own calls moment bytes)
+
+-- ---- between two askings
+where_none : (t : Bool) (place : Place) (rest : Option Place) (more : Bool) → (t || more) ≡ false → (if t then Some place else rest) ≡ rest
+where_none true place rest more h = cc
+where_none false place rest more h = refl
+
+later_none : (t more : Bool) → (t || more) ≡ false → more ≡ false
+later_none true more h = cc
+later_none false more h = h
+
+-- with nothing to renew it, the origin stays
+origin_stays : (keep : ℕ) (before later : List Event) (source id : ℕ) → is_renewed keep before later source id ≡ false → origin keep (later ++ before) source id ≡ origin keep before source id
+origin_stays keep before [] source id h = refl
+origin_stays keep before (Restarted moment ∷ later) source id h = cc
+origin_stays keep before (Set i value ∷ later) source id h = origin_stays keep before later source id h
+origin_stays keep before (Came m ∷ later) source id h =
+    where_none (is_of m source id && is_fresh keep (later ++ before) m) (record { before = later ++ before; message = m }) (origin keep (later ++ before) source id) (is_renewed keep before later source id) h
+    ∙ origin_stays keep before later source id (later_none (is_of m source id && is_fresh keep (later ++ before) m) (is_renewed keep before later source id) h)
+
+where_is : {A : Type 0} (t : Bool) (x y : A) → t ≡ true → (if t then x else y) ≡ x
+where_is true x y h = refl
+where_is false x y h = cc
+
+both_true : (a b : Bool) → a ≡ true → b ≡ true → (a && b) ≡ true
+both_true true b h g = g
+both_true false b h g = cc
+
+is_its_own : (m : Message) → is_of m m.source (id_at m.bytes) ≡ true
+is_its_own m = both_true (m.source == m.source) (id_at m.bytes == id_at m.bytes) (eq-eqb m.source m.source refl) (eq-eqb (id_at m.bytes) (id_at m.bytes) refl)
+
+origin_here : (keep : ℕ) (before : List Event) (m : Message) → is_fresh keep before m ≡ true → origin keep (Came m ∷ before) m.source (id_at m.bytes) ≡ Some (record { before = before; message = m })
+origin_here keep before m fresh =
+    where_is (is_of m m.source (id_at m.bytes) && is_fresh keep before m) _ _ (both_true (is_of m m.source (id_at m.bytes)) (is_fresh keep before m) (is_its_own m) fresh)
+
+same_bytes : (bytes : List ℕ) → bytes_eq bytes bytes ≡ true
+same_bytes [] = refl
+same_bytes (b ∷ bytes) = both_true (b == b) (bytes_eq bytes bytes) (eq-eqb b b refl) (same_bytes bytes)
+
+no_copy_of : (busy copy : Bool) → (not busy && not copy) ≡ true → copy ≡ false
+no_copy_of true copy h = cc
+no_copy_of false true h = cc
+no_copy_of false false h = refl
+
+second_false : (a b : Bool) → (a && b) ≡ false → a ≡ true → b ≡ false
+second_false true b h e = h
+second_false false b h e = cc
+
+by_renewal : (t : Bool) (keep : ℕ) (before later : List Event) (first again : Message) → is_renewed keep (Came first ∷ before) later first.source (id_at first.bytes) ≡ t
+    → is_fresh keep before first ≡ true → is_fresh keep (later ++ Came first ∷ before) again ≡ true → again.source ≡ first.source → again.bytes ≡ first.bytes
+    → (first.moment + keep ≤ again.moment) ⊎ (t ≡ true)
+by_renewal true keep before later first again renewed fresh once source bytes = inr refl
+by_renewal false keep before later first again renewed fresh once source bytes =
+    let h = later ++ Came first ∷ before in
+    let from : origin keep h again.source (id_at again.bytes) ≡ Some (record { before = before; message = first }) =
+    ap (λ s. origin keep h s (id_at again.bytes)) source ∙ ap (λ b. origin keep h first.source (id_at b)) bytes
+    ∙ origin_stays keep (Came first ∷ before) later first.source (id_at first.bytes) renewed ∙ origin_here keep before first fresh in
+    let copy : is_copy_of keep again (Some (record { before = before; message = first })) ≡ false =
+    ap (is_copy_of keep again) (sym from) ∙ no_copy_of (is_busy keep h again.moment) (is_copy keep h again) once in
+    let same : bytes_eq again.bytes first.bytes ≡ true = ap (λ b. bytes_eq b first.bytes) bytes ∙ same_bytes first.bytes in
+    inl (ltb-false again.moment (first.moment + keep) (second_false (bytes_eq again.bytes first.bytes) (nat_lt again.moment (first.moment + keep)) copy same))
+
+pub asked_apart : AskedApart
+asked_apart keep before later first again fresh once source bytes =
+    by_renewal (is_renewed keep (Came first ∷ before) later first.source (id_at first.bytes)) keep before later first again refl fresh once source bytes

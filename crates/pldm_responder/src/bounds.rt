@@ -1,0 +1,19 @@
+use crate::responder::{MOST_PENDING, OTHER_ENDPOINTS};
+
+/// The most that a responder keeps at a time. What would pass a bound is refused as a growth is for which
+/// there is no memory: nothing is performed, and nothing that is kept makes room for it.
+#[derive(Clone, Copy, Debug, PartialEq, Eq)]
+pub struct Bounds {
+    /// How many sources have answers that are kept, at most one for each instance ID.
+    pub sources: usize,
+    /// How many messages of several packets have begun and not ended.
+    pub open_messages: usize,
+}
+
+impl Bounds {
+    /// Bounds that are never passed: every endpoint other than the own, with every tag.
+    pub const UNREACHED: Bounds = Bounds {
+        sources: OTHER_ENDPOINTS,
+        open_messages: MOST_PENDING,
+    };
+}
