@@ -7,8 +7,8 @@ use Rattle.pldm_wire.specs.declared.command.Command.{Command}
 use Rattle.pldm_wire.specs.declared.command.Command.TheVariants.{SetTid, GetTid}
 use Rattle.pldm_wire.specs.declared.answer.Answer.{Answer}
 use Rattle.pldm_wire.specs.declared.answer.Answer.TheVariants as answers
-use Rattle.pldm_platform.specs.declared.reading_fault.ReadingFault.{ReadingFault}
-use Rattle.pldm_platform.specs.declared.reading_fault.ReadingFault.TheVariants.{NoSuchSensor}
+use Rattle.pldm_platform.specs.declared.platform.ReadingFault.{ReadingFault}
+use Rattle.pldm_platform.specs.declared.platform.ReadingFault.TheVariants.{NoSuchSensor}
 
 abbrev pub recorder_answer : List ℕ → Command → Answer
 recorder_answer tids (SetTid tid) = answers.SetTid

@@ -171,7 +171,7 @@ fn a_record_of_another_handle_is_not_taken(rt: HostRuntime) -> Result<(), Fail> 
 const STEP: usize = 16;
 
 /// More refusals than a part of the example's record meets.
-const MOST_REFUSALS: usize = 250;
+const MAX_REFUSALS: usize = 250;
 
 /// Has a part taken with a little more memory after each refusal, which leaves the fetch as it was.
 fn take_at_last(
@@ -182,7 +182,7 @@ fn take_at_last(
     asked: Option<Command>,
 ) -> Result<FetchState, Fail> {
     hoard.take_rest()?;
-    for refusals in 0..MOST_REFUSALS {
+    for refusals in 0..MAX_REFUSALS {
         assert_eq!(rt; fetch.next(), asked);
         let taken = fetch.take(answer);
         if taken != Err(FetchFault::Memory) {

@@ -9,13 +9,13 @@ use std::test::Fail;
 const STEP: usize = 16;
 
 /// More refusals than a read of the example meets.
-const MOST_REFUSALS: usize = 20_000;
+const MAX_REFUSALS: usize = 20_000;
 
 /// Reads the example with no memory at first, and with a little more after each refusal, which is told as
 /// `Memory` and nothing else.
 fn read_at_last(rt: &impl Abort, alloc: Global, text: &str) -> Result<Description, Fail> {
     let mut hoard = Hoard::take(alloc, 0)?;
-    for refusals in 0..MOST_REFUSALS {
+    for refusals in 0..MAX_REFUSALS {
         match Description::read(alloc, text.as_bytes()) {
             Ok(read) => {
                 assert!(rt; refusals > 100, "{refusals} refusals");

@@ -1,6 +1,6 @@
 use dimmer::Dimmer;
 use example_device::description;
-use mctp_packet::{Eid, FIRST_EID, Keep, LAST_EID, Memory, Moment, Reason};
+use mctp_packet::{Eid, MIN_EID, Keep, MAX_EID, Memory, Moment, Reason};
 use memory_hoard::Hoard;
 use pldm_device::{Description, Platform, ReadingFault, SimDevice};
 use pldm_responder::{Outcome, Responder};
@@ -332,7 +332,7 @@ fn fresh_at(
     milliseconds: u64,
 ) -> Result<u32, Fail> {
     let mut count = 0u32;
-    for source in FIRST_EID..=LAST_EID {
+    for source in MIN_EID..=MAX_EID {
         if source == 9 {
             continue;
         }

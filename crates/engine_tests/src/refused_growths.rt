@@ -12,7 +12,7 @@ use std::test::Fail;
 const STEP: usize = 32;
 
 /// More refusals than a run meets.
-const MOST_REFUSALS: usize = 12_000;
+const MAX_REFUSALS: usize = 12_000;
 
 /// What a run gives, and its writer.
 fn run_once(
@@ -42,7 +42,7 @@ pub fn refuse_each_growth(
         flushes: 0,
     };
     let mut hoard = Hoard::take(alloc, 0)?;
-    for refusals in 0..MOST_REFUSALS {
+    for refusals in 0..MAX_REFUSALS {
         let (result, written) = run_once(alloc, engine, input, writer);
         writer = written;
         assert_eq!(rt; writer.flushes, 1);

@@ -3,7 +3,6 @@
 #![tactic(auto)]
 
 mod board;
-mod board_fault;
 mod packet_line;
 mod service;
 

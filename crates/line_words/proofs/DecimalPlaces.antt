@@ -3,7 +3,7 @@ use Rattle.std.proofs.Common.{◌≡◌, ℕ, ◌+◌, ◌-◌, ◌*◌, ◌^◌
 use Rattle.std.specs.List.{list_all}
 use Rattle.std.proofs.Math.Nat.{pow-suc, pow-le-pow_right}
 use Rattle.std.proofs.lemmas.Bool.Decides.{nat_tests}
-use Rattle.line_words.specs.declared.limits.TheConstants.{MAX_DIGITS}
+use Rattle.line_words.specs.declared.numbers.TheConstants.{MAX_DIGITS}
 use Rattle.line_words.specs.Numbers.{decimal_value, is_digit}
 
 by_ten : (value digit place rest : ℕ) → value * (place * 10) + (digit * place + rest) ≡ (value * 10 + digit) * place + rest

@@ -1,7 +1,7 @@
 -- The numbers that words spell, computed, and the limit on their digits.
 use Rattle.std.proofs.Common.{◌≡◌, pos, negsuc, [], codes, None, Some, refl}
 use Rattle.line_words.specs.Numbers.{number_of, value_of}
-use Rattle.line_words.specs.declared.limits.TheConstants.{MAX_DIGITS}
+use Rattle.line_words.specs.declared.numbers.TheConstants.{MAX_DIGITS}
 
 most_digits : MAX_DIGITS ≡ 16
 most_digits = refl

@@ -1,7 +1,7 @@
 -- The numbers that words spell.
 use Rattle.std.specs.Prelude.{ℕ, ◌+◌, ◌-◌, ◌*◌, ◌^◌, ◌==◌, ◌&&◌, nat_lt, nat_le, ℤ, pos, neg_ℤ, Bool, if◌then◌else◌, List, [], ◌∷◌, length, Option, None, Some, option_map}
 use Rattle.std.specs.List.{list_all}
-use Rattle.line_words.specs.declared.limits.TheConstants.{MAX_DIGITS}
+use Rattle.line_words.specs.declared.numbers.TheConstants.{MAX_DIGITS}
 
 -- whether the byte is `0` to `9`
 abbrev pub is_digit : ℕ → Bool

@@ -2,12 +2,8 @@
 //! a space (0x20) alone separates words.
 #![tactic(auto)]
 
-mod limits;
-mod lines;
 mod numbers;
 mod words;
 
-pub use limits::MAX_DIGITS;
-pub use lines::split_line;
-pub use numbers::{read_decimal, read_number, read_value};
-pub use words::{first_word, split_word, without_cr};
+pub use numbers::{MAX_DIGITS, read_decimal, read_number, read_value};
+pub use words::{first_word, split_line, split_word, without_cr};

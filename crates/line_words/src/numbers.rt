@@ -1,9 +1,10 @@
-//! The numbers that words spell.
+//! Decimal numbers.
 
 ghost use Rattle.std.specs.Prelude.{◌≡◌, ◌≤◌, ◌<◌, ◌^◌, IfSome};
 ghost use Rattle.line_words.specs.Numbers.{decimal_of, number_of, value_of};
 
-use crate::MAX_DIGITS;
+/// The most decimal digits of a number in a line.
+pub const MAX_DIGITS: usize = 16;
 
 /// The number that a word of 1 to [`MAX_DIGITS`] decimal digits spells, where it is at most `most`.
 pub fn read_number(word: &[u8], most: u64) -> Option<u64>

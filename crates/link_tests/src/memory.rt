@@ -7,7 +7,7 @@ use std::test::Fail;
 const READING_STEP: usize = 16;
 
 /// More refusals than a reading meets.
-const MOST_REFUSALS: usize = 4_000;
+const MAX_REFUSALS: usize = 4_000;
 
 /// Two schedules are read with no memory at first, and with a little more after each refusal, which is
 /// told as `Memory` and nothing else: all steps are read at last.
@@ -18,7 +18,7 @@ fn each_growth_of_a_read_is_refused_in_turn(rt: HostRuntime) -> Result<(), Fail>
         let mut hoard = Hoard::take(alloc, 0)?;
         let mut refusals = 0u32;
         let mut read = None;
-        for _ in 0..MOST_REFUSALS {
+        for _ in 0..MAX_REFUSALS {
             match Schedule::read(alloc, text.as_bytes()) {
                 Ok(schedule) => {
                     read = Some(schedule.steps().len());
@@ -41,7 +41,7 @@ fn each_growth_of_a_read_is_refused_in_turn(rt: HostRuntime) -> Result<(), Fail>
 const RUN_STEP: usize = 8_192;
 
 /// More tries than a run wants steps.
-const MOST_TRIES: usize = 48;
+const MAX_TRIES: usize = 48;
 
 /// A retry, and a tag that is used again, are run with more and more memory to be had, until nothing is
 /// refused: each refusal is told as `Memory` and nothing else, and the same run succeeds with memory at
@@ -53,7 +53,7 @@ fn each_growth_of_a_run_is_refused_in_turn(rt: HostRuntime) -> Result<(), Fail> 
         let schedule = Schedule::read(alloc, text.as_bytes())?;
         let mut refusals = 0u32;
         let mut was_run = false;
-        for size in 0..MOST_TRIES {
+        for size in 0..MAX_TRIES {
             let setup = example(alloc)?;
             let hoard = Hoard::take(alloc, size * RUN_STEP)?;
             let fault = run(alloc, setup, &schedule).err();

@@ -7,7 +7,7 @@ use pldm_responder::Taken;
 use std::alloc::{AllocError, Global};
 
 /// The most bytes of an answer that are written out.
-const MOST_WRITTEN: usize = 32;
+const MAX_WRITTEN: usize = 32;
 
 /// What a report tells, but for the device at the end.
 pub fn told<P: Platform>(
@@ -96,7 +96,7 @@ fn request_words(alloc: Global, request: &OpenedRequest) -> Result<String, Alloc
     match request.status() {
         Status::Open => format!(in alloc; "from {source} open"),
         Status::GaveUp => format!(in alloc; "from {source} gave up"),
-        Status::Answered(message) if message.len() > MOST_WRITTEN => {
+        Status::Answered(message) if message.len() > MAX_WRITTEN => {
             let length = message.len();
             format!(in alloc; "from {source} answered by {length} bytes")
         }

@@ -10,7 +10,7 @@ use Rattle.std.proofs.lemmas.Map.Keys.{sorted_head, sorted_tail}
 use Rattle.mctp_packet.specs.Bits.{bit}
 use Rattle.mctp_assembly.specs.Keys.{IsKey, key_cmp}
 use Rattle.mctp_assembly.specs.declared.key.Key.{Key}
-use Rattle.mctp_assembly.specs.declared.assembler.TheConstants.{MOST_ASSEMBLIES}
+use Rattle.mctp_assembly.specs.declared.assembler.TheConstants.{MAX_ASSEMBLIES}
 
 -- keys are numbered in their order
 rank : Key → ℕ
@@ -52,15 +52,15 @@ rank_low : (k : Key) → IsKey k → 128 ≤ rank k
 unfolding rank
 rank_low k h = omega arith
 
-rank_high : (k : Key) → IsKey k → rank k < 128 + MOST_ASSEMBLIES
+rank_high : (k : Key) → IsKey k → rank k < 128 + MAX_ASSEMBLIES
 unfolding rank
 rank_high k h = omega (arith, bit_small k.owner)
 
-short : (k : Key) (ks : List Key) → IsStrictlySortedBy key_cmp (k ∷ ks) → AllByRecursion IsKey (k ∷ ks) → length (k ∷ ks) + rank k ≤ 128 + MOST_ASSEMBLIES
+short : (k : Key) (ks : List Key) → IsStrictlySortedBy key_cmp (k ∷ ks) → AllByRecursion IsKey (k ∷ ks) → length (k ∷ ks) + rank k ≤ 128 + MAX_ASSEMBLIES
 short k [] s a = omega (arith, rank_high k a.0)
 short k (q ∷ ks) s a =
     omega (arith, short q ks (sorted_tail key_cmp k (q ∷ ks) s) a.1, rank_rises k q a.0 a.1.0 (sorted_head key_cmp k (q ∷ ks) s).0)
 
-pub few_keys : (ks : List Key) → IsStrictlySortedBy key_cmp ks → AllByRecursion IsKey ks → length ks ≤ MOST_ASSEMBLIES
+pub few_keys : (ks : List Key) → IsStrictlySortedBy key_cmp ks → AllByRecursion IsKey ks → length ks ≤ MAX_ASSEMBLIES
 few_keys [] s a = omega arith
 few_keys (k ∷ ks) s a = omega (arith, short k ks s a, rank_low k a.0)

@@ -8,7 +8,7 @@ use Rattle.std.proofs.Math.Nat.{mul-le-mul}
 use Rattle.std.proofs.lemmas.Option.{IfSome_then}
 use Rattle.std.proofs.lemmas.Map.Views.{IfSome-lookup_from_All}
 use Rattle.mctp_packet.specs.Packets.{Packet}
-use Rattle.mctp_packet.specs.declared.TheConstants.{MOST_PACKETS, UNIT, MOST_MESSAGE_BYTES}
+use Rattle.mctp_packet.specs.declared.TheConstants.{MAX_PACKETS, UNIT, MAX_MESSAGE_BYTES}
 use Rattle.mctp_assembly.specs.Keys.{key_cmp, key_of}
 use Rattle.mctp_assembly.specs.Opened.{Opened, IsOpened}
 use Rattle.mctp_assembly.specs.Steps.{Held, answer_alone, begun_by, carried_on, stays_open, answer, after}
@@ -42,13 +42,13 @@ kept_in es fs held k p v made same h value partial =
 pub not_alone : (p : Packet) → p.start ≡ false → answer_alone p ≡ Partial → ⊥
 not_alone p s h = cc (rw s at h)
 
-fits : (o : Opened) → IsOpened o → length o.bytes ≤ MOST_MESSAGE_BYTES
+fits : (o : Opened) → IsOpened o → length o.bytes ≤ MAX_MESSAGE_BYTES
 fits o h =
-    let product : o.count * o.unit ≤ MOST_PACKETS * UNIT = mul-le-mul h.few h.baseline in
+    let product : o.count * o.unit ≤ MAX_PACKETS * UNIT = mul-le-mul h.few h.baseline in
     omega (arith, h.full)
 
 -- what is open on each key fits in a message
-pub small_held : (es : List (Key × Opened)) (held : Held) (key : Key) → map.from_entries es ≡ held → All IsOpened (values_of es) → IfSome (map.get held key) (λ o. length o.bytes ≤ MOST_MESSAGE_BYTES)
+pub small_held : (es : List (Key × Opened)) (held : Held) (key : Key) → map.from_entries es ≡ held → All IsOpened (values_of es) → IfSome (map.get held key) (λ o. length o.bytes ≤ MAX_MESSAGE_BYTES)
 small_held es held key made opened =
     IfSome_then (map.get held key)
     (subst (λ o. IfSome o IsOpened) (sym (get_is Key Opened key_cmp keys_total es key) ∙ ap (λ m. map.get m key) made) (IfSome-lookup_from_All IsOpened (is_at (key_cmp key)) es opened))

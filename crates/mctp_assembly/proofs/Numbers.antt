@@ -1,6 +1,6 @@
 -- The constant of the source, told a second time.
 use Rattle.std.proofs.Common.{◌≡◌, refl}
-use Rattle.mctp_assembly.specs.declared.assembler.TheConstants.{MOST_ASSEMBLIES}
+use Rattle.mctp_assembly.specs.declared.assembler.TheConstants.{MAX_ASSEMBLIES}
 
-most_assemblies : MOST_ASSEMBLIES ≡ 3952
+most_assemblies : MAX_ASSEMBLIES ≡ 3952
 most_assemblies = refl

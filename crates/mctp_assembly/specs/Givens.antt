@@ -2,8 +2,8 @@
 use Rattle.std.specs.Prelude.{ℕ, List}
 use Rattle.mctp_assembly.specs.declared.fed.Fed.{Fed}
 use Rattle.mctp_assembly.specs.declared.fed.Fed.TheVariants as feds
-use Rattle.mctp_assembly.specs.declared.given.Given.{Given}
-use Rattle.mctp_assembly.specs.declared.given.Given.TheVariants.{Whole, Partial, Dropped}
+use Rattle.mctp_assembly.specs.declared.fed.Given.{Given}
+use Rattle.mctp_assembly.specs.declared.fed.Given.TheVariants.{Whole, Partial, Dropped}
 
 -- with the bytes of the message
 abbrev pub fed_with : List ℕ → Given → Fed

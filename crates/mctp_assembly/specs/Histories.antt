@@ -3,7 +3,7 @@ use Rattle.std.specs.FinMap as map
 use Rattle.std.specs.Prelude.{◌≡◌, ℕ, List, [], ◌∷◌, length, Option, Some, None, option_and_then, if◌then◌else◌}
 use Rattle.std.specs.Ordering.{eq_by_cmp}
 use Rattle.mctp_packet.specs.Packets.{Packet}
-use Rattle.mctp_packet.specs.declared.TheConstants.{MOST_PACKETS}
+use Rattle.mctp_packet.specs.declared.TheConstants.{MAX_PACKETS}
 use Rattle.mctp_assembly.specs.Keys.{key_cmp, key_of}
 use Rattle.mctp_assembly.specs.Opened.{Opened}
 use Rattle.mctp_assembly.specs.Rows.{unit_of, is_row, newest, joined}
@@ -32,11 +32,11 @@ abbrev pub left_open_within : ℕ → List Packet → Option Opened
 left_open_within limit packets = option_and_then opened (newest limit is_row packets)
 
 abbrev pub left_open : List Packet → Option Opened
-left_open packets = left_open_within MOST_PACKETS packets
+left_open packets = left_open_within MAX_PACKETS packets
 
 -- what is held is what the calls leave open on each key
 abbrev pub IsLeftWithin : ℕ → Held → List Call → Type 0
 IsLeftWithin limit held calls = (key : Key) → map.get held key ≡ left_open_within limit (since key calls)
 
 abbrev pub IsLeftBy : Held → List Call → Type 0
-IsLeftBy held calls = IsLeftWithin MOST_PACKETS held calls
+IsLeftBy held calls = IsLeftWithin MAX_PACKETS held calls

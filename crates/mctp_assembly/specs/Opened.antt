@@ -3,7 +3,7 @@
 use Rattle.std.specs.Prelude.{◌≡◌, ℕ, ◌*◌, ◌≤◌, List, length, refl}
 use Rattle.std.specs.Coded.{Coded, code_by, coded×, coded_ℕ, coded_list}
 use Rattle.mctp_packet.specs.Ids.{IsSeq}
-use Rattle.mctp_packet.specs.declared.TheConstants.{UNIT, MOST_PACKETS}
+use Rattle.mctp_packet.specs.declared.TheConstants.{UNIT, MAX_PACKETS}
 
 pub record Opened : Type 0 where
   -- the payload length of the start packet, which is the unit of the message
@@ -26,6 +26,6 @@ pub record IsOpened (o : Opened) : Type 0 where
   pub some : 1 ≤ o.unit
   pub baseline : o.unit ≤ UNIT
   pub begun : 1 ≤ o.count
-  pub few : o.count ≤ MOST_PACKETS
+  pub few : o.count ≤ MAX_PACKETS
   pub full : length o.bytes ≡ o.count * o.unit
   pub seq : IsSeq o.last

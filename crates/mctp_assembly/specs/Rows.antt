@@ -6,7 +6,7 @@ use Rattle.std.specs.List.{range_with_len}
 use Rattle.mctp_packet.specs.Packets.{Packet}
 use Rattle.mctp_packet.specs.declared.reason.Reason.TheVariants.{UnexpectedMiddleOrEnd}
 use Rattle.mctp_packet.specs.declared.reason.Reason.TheVariants.{OutOfSequence, TooLong, WrongUnit}
-use Rattle.mctp_packet.specs.declared.TheConstants.{MOST_PACKETS, SEQUENCE_NUMBERS}
+use Rattle.mctp_packet.specs.declared.TheConstants.{MAX_PACKETS, SEQUENCE_NUMBERS}
 use Rattle.mctp_assembly.specs.declared.fed.Fed.{Fed}
 use Rattle.mctp_assembly.specs.declared.fed.Fed.TheVariants.{Whole, Partial, Dropped}
 
@@ -66,4 +66,4 @@ next_within limit before p =
     given limit (newest limit is_message (p ∷ before)) (newest limit is_row (p ∷ before)) (newest limit is_row before) p
 
 abbrev pub next : List Packet → Packet → Fed
-next before p = next_within MOST_PACKETS before p
+next before p = next_within MAX_PACKETS before p

@@ -4,7 +4,7 @@ use Rattle.std.specs.Prelude.{ℕ, ◌+◌, Bool, true, false, not, ◌==◌, na
 use Rattle.mctp_packet.specs.Packets.{Packet}
 use Rattle.mctp_packet.specs.declared.reason.Reason.TheVariants.{UnexpectedMiddleOrEnd}
 use Rattle.mctp_packet.specs.declared.reason.Reason.TheVariants.{OutOfSequence, TooLong, WrongUnit}
-use Rattle.mctp_packet.specs.declared.TheConstants.{MOST_PACKETS}
+use Rattle.mctp_packet.specs.declared.TheConstants.{MAX_PACKETS}
 use Rattle.mctp_assembly.specs.Keys.{key_cmp, key_of}
 use Rattle.mctp_assembly.specs.Opened.{Opened}
 use Rattle.mctp_assembly.specs.Rows.{unit_of, follows}
@@ -63,7 +63,7 @@ after_within limit held p =
     else map.remove held (key_of p)
 
 abbrev pub answer : Held → Packet → Fed
-answer held p = answer_within MOST_PACKETS held p
+answer held p = answer_within MAX_PACKETS held p
 
 abbrev pub after : Held → Packet → Held
-after held p = after_within MOST_PACKETS held p
+after held p = after_within MAX_PACKETS held p

@@ -7,14 +7,14 @@ ghost use Rattle.mctp_assembly.specs.declared.fed.Fed.TheVariants.{Partial};
 
 use crate::buffer::{Buffer, look_alone};
 use crate::{Fed, Given, Key};
-use mctp_packet::{Body, FIRST_EID, LAST_EID, MOST_MESSAGE_BYTES, Memory, PacketRef, TAGS};
+use mctp_packet::{Body, MIN_EID, MAX_EID, MAX_MESSAGE_BYTES, Memory, PacketRef, TAGS};
 use std::alloc::Global;
 use std::collections::BTreeMap;
 use std::marker::Model;
 
 /// The most assemblies at a time: one for each endpoint ID that a packet can come from, each tag and
 /// each of the two values of the tag owner bit.
-pub const MOST_ASSEMBLIES: usize = (LAST_EID - FIRST_EID + 1) as usize * TAGS as usize * 2;
+pub const MAX_ASSEMBLIES: usize = (MAX_EID - MIN_EID + 1) as usize * TAGS as usize * 2;
 
 /// Assembles messages from packets that came to one endpoint: at most one message at a time for
 /// each [`Key`].
@@ -150,12 +150,12 @@ impl Assembler {
         self.buffers.contains_key(&key)
     }
 
-    /// How many assemblies are in progress: at most [`MOST_ASSEMBLIES`], each of at most
-    /// [`MOST_MESSAGE_BYTES`] bytes.
+    /// How many assemblies are in progress: at most [`MAX_ASSEMBLIES`], each of at most
+    /// [`MAX_MESSAGE_BYTES`] bytes.
     pub fn pending(&self) -> usize
         ensures value { result ≡ map.len self.now }
-        ensures few { result ≤ MOST_ASSEMBLIES }
-        ensures small { (key : Key) → IfSome (map.get self.now key) (λ o. length o.bytes ≤ MOST_MESSAGE_BYTES) }
+        ensures few { result ≤ MAX_ASSEMBLIES }
+        ensures small { (key : Key) → IfSome (map.get self.now key) (λ o. length o.bytes ≤ MAX_MESSAGE_BYTES) }
     {
         self.buffers.len()
     }

@@ -6,7 +6,7 @@ ghost use Rattle.mctp_assembly.specs.declared.fed.Fed.TheVariants.{Partial};
 
 use crate::Given;
 use mctp_packet::{
-    Body, MOST_MESSAGE_BYTES, MOST_PACKETS, PacketRef, Reason, SEQUENCE_NUMBERS, Seq,
+    Body, MAX_MESSAGE_BYTES, MAX_PACKETS, PacketRef, Reason, SEQUENCE_NUMBERS, Seq,
 };
 use std::marker::Model;
 
@@ -54,7 +54,7 @@ impl Buffer {
 
     /// What a packet gives after the packets here, with a message that it completes in `message`.
     pub(crate) fn look_into(&self, packet: &PacketRef<'_>, message: &mut Body) -> Given
-        ensures { fed_with message.new.items result ≡ answer_to MOST_PACKETS (Some self.now) packet.now }
+        ensures { fed_with message.new.items result ≡ answer_to MAX_PACKETS (Some self.now) packet.now }
     {
         if packet.start() {
             return look_alone(packet, message);
@@ -62,7 +62,7 @@ impl Buffer {
         if packet.seq().get() != (self.last.get() + 1) % SEQUENCE_NUMBERS {
             return Given::Dropped(Reason::OutOfSequence);
         }
-        if self.count == MOST_PACKETS {
+        if self.count == MAX_PACKETS {
             return Given::Dropped(Reason::TooLong);
         }
         let payload = packet.payload();
@@ -81,7 +81,7 @@ impl Buffer {
 
     /// Adds a middle packet of the message.
     pub(crate) fn append(&mut self, packet: &PacketRef<'_>)
-        requires partial { answer_to MOST_PACKETS (Some self.old) packet.now ≡ Partial }
+        requires partial { answer_to MAX_PACKETS (Some self.old) packet.now ≡ Partial }
         requires middle { packet.now.start ≡ false }
         ensures value { self.new ≡ carried_on (Some self.old) packet.now }
         ensures range { IsOpened self.new }
@@ -109,7 +109,7 @@ pub(crate) fn look_alone(packet: &PacketRef<'_>, message: &mut Body) -> Given
 
 /// Puts a message in its place: the bytes that came before its last packet, and that one's payload.
 fn join(message: &mut Body, before: &[u8], payload: &[u8])
-    requires { length before.now + length payload.now ≤ MOST_MESSAGE_BYTES }
+    requires { length before.now + length payload.now ≤ MAX_MESSAGE_BYTES }
     ensures { message.new ≡ record { items = before.now ++ payload.now } }
 {
     message.clear();

@@ -1,3 +1,8 @@
+//! What a packet gives at its place among those of its key.
+
+ghost use Rattle.std.specs.Prelude.{◌≡◌};
+ghost use Rattle.mctp_assembly.specs.Givens.{fed_with};
+
 use mctp_packet::{Body, Reason};
 
 /// What a packet gives.
@@ -9,4 +14,28 @@ pub enum Fed {
     Partial,
     /// It is dropped, for one of the reasons 8 to 11, and leaves its key with no assembly.
     Dropped(Reason),
+}
+
+/// What a packet gives, where the message that it completes stands in a place of its own.
+#[derive(Clone, Copy, Debug, PartialEq, Eq)]
+pub enum Given {
+    /// It completes a message.
+    Whole,
+    /// It begins a message of several packets, or goes on with one.
+    Partial,
+    /// It is dropped, for one of the reasons 8 to 11, and leaves its key with no assembly.
+    Dropped(Reason),
+}
+
+impl Given {
+    /// The same, with the message that it completes.
+    pub(crate) fn with(self, message: Body) -> Fed
+        ensures { result ≡ fed_with message.items self }
+    {
+        match self {
+            Given::Whole => Fed::Whole(message),
+            Given::Partial => Fed::Partial,
+            Given::Dropped(reason) => Fed::Dropped(reason),
+        }
+    }
 }

@@ -4,11 +4,9 @@
 mod assembler;
 mod buffer;
 mod fed;
-mod given;
 mod key;
 pub mod laws;
 
-pub use assembler::{Assembler, MOST_ASSEMBLIES};
-pub use fed::Fed;
-pub use given::Given;
+pub use assembler::{Assembler, MAX_ASSEMBLIES};
+pub use fed::{Fed, Given};
 pub use key::Key;

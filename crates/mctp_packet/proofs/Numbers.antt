@@ -1,23 +1,23 @@
 -- Every constant of the source, told a second time: the standard's and this profile's own numbers.
 use Rattle.std.proofs.Common.{◌≡◌, refl}
-use Rattle.mctp_packet.specs.declared.TheConstants.{FIRST_EID, LAST_EID, TAGS, LAST_MOMENT, LONGEST_KEEP, MOST_PACKETS, UNIT, SEQUENCE_NUMBERS, VERSION, HEADER, MOST_PACKET_BYTES, MOST_MESSAGE_BYTES}
+use Rattle.mctp_packet.specs.declared.TheConstants.{MIN_EID, MAX_EID, TAGS, MAX_MOMENT, MAX_KEEP, MAX_PACKETS, UNIT, SEQUENCE_NUMBERS, VERSION, HEADER, MAX_PACKET_BYTES, MAX_MESSAGE_BYTES}
 
-first_endpoint_id : FIRST_EID ≡ 8
+first_endpoint_id : MIN_EID ≡ 8
 first_endpoint_id = refl
 
-last_endpoint_id : LAST_EID ≡ 254
+last_endpoint_id : MAX_EID ≡ 254
 last_endpoint_id = refl
 
 tags : TAGS ≡ 8
 tags = refl
 
-last_moment_in_milliseconds : LAST_MOMENT ≡ 4000000000000000
+last_moment_in_milliseconds : MAX_MOMENT ≡ 4000000000000000
 last_moment_in_milliseconds = refl
 
-longest_keep_in_milliseconds : LONGEST_KEEP ≡ 60000
+longest_keep_in_milliseconds : MAX_KEEP ≡ 60000
 longest_keep_in_milliseconds = refl
 
-packets_of_a_message : MOST_PACKETS ≡ 5
+packets_of_a_message : MAX_PACKETS ≡ 5
 packets_of_a_message = refl
 
 payload_bytes : UNIT ≡ 64
@@ -32,8 +32,8 @@ header_version = refl
 header_bytes : HEADER ≡ 4
 header_bytes = refl
 
-packet_bytes : MOST_PACKET_BYTES ≡ 68
+packet_bytes : MAX_PACKET_BYTES ≡ 68
 packet_bytes = refl
 
-message_bytes : MOST_MESSAGE_BYTES ≡ 320
+message_bytes : MAX_MESSAGE_BYTES ≡ 320
 message_bytes = refl

@@ -4,14 +4,14 @@ use Rattle.std.specs.Prelude.{◌∷◌, length, slice_index, Option, Some, None
 use Rattle.mctp_packet.specs.declared.reason.Reason.{Reason}
 use Rattle.mctp_packet.specs.declared.reason.Reason.TheVariants.{Short, BadVersion, UnknownDestination}
 use Rattle.mctp_packet.specs.declared.reason.Reason.TheVariants.{BadSource, NoPayload, UnsupportedUnit}
-use Rattle.mctp_packet.specs.declared.TheConstants.{FIRST_EID, LAST_EID, HEADER, MOST_PACKET_BYTES, VERSION}
+use Rattle.mctp_packet.specs.declared.TheConstants.{MIN_EID, MAX_EID, HEADER, MAX_PACKET_BYTES, VERSION}
 
 abbrev pub first_failing : List (Bool × Reason) → Option Reason
 first_failing [] = None
 first_failing ((fails, reason) ∷ checks) = if fails then Some reason else first_failing checks
 
 abbrev pub is_eid : ℕ → Bool
-is_eid n = nat_le FIRST_EID n && nat_le n LAST_EID
+is_eid n = nat_le MIN_EID n && nat_le n MAX_EID
 
 -- an endpoint ID, and the own one where it is known
 abbrev pub is_destination : Option ℕ → ℕ → Bool
@@ -30,7 +30,7 @@ checks own bytes =
     ∷ (not (is_destination own (slice_index bytes 1)), UnknownDestination)
     ∷ (not (is_source own (slice_index bytes 2)), BadSource)
     ∷ (nat_le (length bytes) HEADER, NoPayload)
-    ∷ (nat_lt MOST_PACKET_BYTES (length bytes), UnsupportedUnit)
+    ∷ (nat_lt MAX_PACKET_BYTES (length bytes), UnsupportedUnit)
     ∷ []
 
 abbrev pub refusal : Option ℕ → List ℕ → Option Reason

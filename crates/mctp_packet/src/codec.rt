@@ -5,7 +5,7 @@ ghost use Rattle.mctp_packet.specs.Refusals.{refusal, is_destination, is_source}
 ghost use Rattle.mctp_packet.specs.Reading.{reading};
 
 use crate::flags::{Flags, byte_of, flags_in};
-use crate::{Eid, HEADER, MOST_PACKET_BYTES, PacketRef, Reason, Route, VERSION};
+use crate::{Eid, HEADER, MAX_PACKET_BYTES, PacketRef, Reason, Route, VERSION};
 
 /// The packet that these bytes spell, or the first reason of 1 to 6 for which they spell none
 /// (DSP0236, "MCTP packet fields" and "Dropped packets").
@@ -90,7 +90,7 @@ fn source_of(own: Option<Eid>, number: u8) -> Option<Eid>
 
 /// Writes the packet's bytes in front, with reserved bits 0, and gives their count; the rest of
 /// `out` is left as it was (DSP0236, "MCTP packet fields").
-pub fn write(packet: &PacketRef<'_>, out: &mut [u8; MOST_PACKET_BYTES]) -> usize
+pub fn write(packet: &PacketRef<'_>, out: &mut [u8; MAX_PACKET_BYTES]) -> usize
     ensures count { result ≡ HEADER + length packet.now.payload }
     ensures bytes { out.new ≡ written packet.now ++ drop (HEADER + length packet.now.payload) out.old }
 {

@@ -3,47 +3,41 @@
 #![tactic(auto)]
 
 mod codec;
-mod eid;
 mod flags;
-mod keep;
+mod ids;
 pub mod laws;
 mod memory;
-mod moment;
 mod packet;
 mod pieces;
 mod reason;
-mod seq;
-mod tag;
+mod times;
 
 use arrayvec::ArrayVec;
 pub use codec::{read, read_for, write};
-pub use eid::Eid;
-pub use keep::Keep;
+pub use ids::{Eid, Seq, Tag};
 pub use memory::Memory;
-pub use moment::Moment;
 pub use packet::{PacketRef, Route};
 pub use pieces::{Packets, SplitFault, packet_at, split, split_into};
 pub use reason::Reason;
-pub use seq::Seq;
-pub use tag::Tag;
+pub use times::{Keep, Moment};
 
 /// The first endpoint ID that is neither null nor reserved (DSP0236, "Special endpoint IDs").
-pub const FIRST_EID: u8 = 8;
+pub const MIN_EID: u8 = 8;
 
 /// The last endpoint ID before the broadcast one (DSP0236, "Special endpoint IDs").
-pub const LAST_EID: u8 = 254;
+pub const MAX_EID: u8 = 254;
 
 /// How many message tags there are (DSP0236, "MCTP packet fields").
 pub const TAGS: u8 = 8;
 
 /// The last moment, in milliseconds.
-pub const LAST_MOMENT: u64 = 4_000_000_000_000_000;
+pub const MAX_MOMENT: u64 = 4_000_000_000_000_000;
 
 /// The longest time for which an answer is kept, in milliseconds.
-pub const LONGEST_KEEP: u32 = 60_000;
+pub const MAX_KEEP: u32 = 60_000;
 
 /// The most packets that one message may have in this profile.
-pub const MOST_PACKETS: usize = 5;
+pub const MAX_PACKETS: usize = 5;
 
 /// The most payload bytes of one packet, the header not counted: DSP0236's baseline transmission
 /// unit.
@@ -60,10 +54,10 @@ pub const VERSION: u8 = 1;
 pub const HEADER: usize = 4;
 
 /// The most bytes of a packet, header and payload.
-pub const MOST_PACKET_BYTES: usize = HEADER + UNIT;
+pub const MAX_PACKET_BYTES: usize = HEADER + UNIT;
 
 /// The most bytes of one message: as many as its packets carry.
-pub const MOST_MESSAGE_BYTES: usize = MOST_PACKETS * UNIT;
+pub const MAX_MESSAGE_BYTES: usize = MAX_PACKETS * UNIT;
 
-/// The bytes of a message, at most [`MOST_MESSAGE_BYTES`].
-pub type Body = ArrayVec<u8, MOST_MESSAGE_BYTES>;
+/// The bytes of a message, at most [`MAX_MESSAGE_BYTES`].
+pub type Body = ArrayVec<u8, MAX_MESSAGE_BYTES>;

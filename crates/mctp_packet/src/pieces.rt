@@ -5,7 +5,7 @@ ghost use Rattle.mctp_packet.specs.SplitFaults.{number_of_split_fault};
 
 use crate::codec::header_of;
 use crate::{
-    MOST_MESSAGE_BYTES, MOST_PACKET_BYTES, MOST_PACKETS, PacketRef, Route, SEQUENCE_NUMBERS, Seq,
+    MAX_MESSAGE_BYTES, MAX_PACKET_BYTES, MAX_PACKETS, PacketRef, Route, SEQUENCE_NUMBERS, Seq,
     UNIT,
 };
 use arrayvec::ArrayVec;
@@ -18,7 +18,7 @@ pub enum SplitFault {
     /// It has no bytes.
     #[error("the message is empty")]
     Empty = 1,
-    /// It has more than [`MOST_MESSAGE_BYTES`].
+    /// It has more than [`MAX_MESSAGE_BYTES`].
     #[error("the message is too long")]
     TooLong = 2,
 }
@@ -32,33 +32,33 @@ impl SplitFault {
     }
 }
 
-/// The packets of one message, in order: 1 to [`MOST_PACKETS`] of them. Its size is fixed.
+/// The packets of one message, in order: 1 to [`MAX_PACKETS`] of them. Its size is fixed.
 #[derive(Debug, Drop)]
 pub struct Packets {
-    packets: ArrayVec<ArrayVec<u8, MOST_PACKET_BYTES>, MOST_PACKETS>,
+    packets: ArrayVec<ArrayVec<u8, MAX_PACKET_BYTES>, MAX_PACKETS>,
 }
 
 impl Model for Packets {
     ghost use Rattle.std.specs.Prelude.{ℕ, ◌≤◌, List, length, map};
-    ghost use Rattle.mctp_packet.specs.declared.TheConstants.{MOST_PACKETS};
+    ghost use Rattle.mctp_packet.specs.declared.TheConstants.{MAX_PACKETS};
 
     ghost Value = { List (List ℕ) };
 
     ghost view = { λ a. map (λ packet. packet.items) a.packets.items };
 
-    ghost invariant = { λ a. (1 ≤ length a.packets.items) × (length a.packets.items ≤ MOST_PACKETS) };
+    ghost invariant = { λ a. (1 ≤ length a.packets.items) × (length a.packets.items ≤ MAX_PACKETS) };
 }
 
 impl Packets {
     ghost use Rattle.std.specs.Prelude.{◌≡◌, ◌≤◌, length, slice_get, option_map};
-    ghost use Rattle.mctp_packet.specs.declared.TheConstants.{MOST_PACKETS};
+    ghost use Rattle.mctp_packet.specs.declared.TheConstants.{MAX_PACKETS};
 
-    /// How many packets there are, 1 to [`MOST_PACKETS`].
+    /// How many packets there are, 1 to [`MAX_PACKETS`].
     #[allow(clippy::len_without_is_empty)]
     pub fn len(&self) -> usize
         ensures value { result ≡ length self.now }
         ensures some { 1 ≤ result }
-        ensures few { result ≤ MOST_PACKETS }
+        ensures few { result ≤ MAX_PACKETS }
     {
         self.packets.len()
     }
@@ -77,7 +77,7 @@ impl Packets {
 pub fn split(route: &Route, message: &[u8]) -> Result<Packets, SplitFault>
     ensures packets { IfOk result (λ packets. packets ≡ written_packets route.now message.now) }
     ensures empty { IsErrOf result SplitFault.Empty ↔ (message.now ≡ []) }
-    ensures too_long { IsErrOf result SplitFault.TooLong ↔ (MOST_MESSAGE_BYTES < length message.now) }
+    ensures too_long { IsErrOf result SplitFault.TooLong ↔ (MAX_MESSAGE_BYTES < length message.now) }
 {
     check_size(message)?;
     let mut packets = ArrayVec::new();
@@ -93,7 +93,7 @@ pub fn split(route: &Route, message: &[u8]) -> Result<Packets, SplitFault>
 pub fn split_into(route: &Route, message: &[u8], packets: &mut Packets) -> Result<(), SplitFault>
     ensures packets { OnOk result (packets.new ≡ written_packets route.now message.now) }
     ensures empty { IsErrOf result SplitFault.Empty ↔ (message.now ≡ []) }
-    ensures too_long { IsErrOf result SplitFault.TooLong ↔ (MOST_MESSAGE_BYTES < length message.now) }
+    ensures too_long { IsErrOf result SplitFault.TooLong ↔ (MAX_MESSAGE_BYTES < length message.now) }
     ensures err { OnErr result (packets.new ≡ packets.old) }
 {
     check_size(message)?;
@@ -103,14 +103,14 @@ pub fn split_into(route: &Route, message: &[u8], packets: &mut Packets) -> Resul
 
 /// Whether a message has a size that can be split.
 fn check_size(message: &[u8]) -> Result<(), SplitFault>
-    ensures ok { OnOk result ((0 < length message.now) × (length message.now ≤ MOST_MESSAGE_BYTES)) }
+    ensures ok { OnOk result ((0 < length message.now) × (length message.now ≤ MAX_MESSAGE_BYTES)) }
     ensures empty { IsErrOf result SplitFault.Empty ↔ (message.now ≡ []) }
-    ensures too_long { IsErrOf result SplitFault.TooLong ↔ (MOST_MESSAGE_BYTES < length message.now) }
+    ensures too_long { IsErrOf result SplitFault.TooLong ↔ (MAX_MESSAGE_BYTES < length message.now) }
 {
     if message.is_empty() {
         return Err(SplitFault::Empty);
     }
-    if message.len() > MOST_MESSAGE_BYTES {
+    if message.len() > MAX_MESSAGE_BYTES {
         return Err(SplitFault::TooLong);
     }
     Ok(())
@@ -118,12 +118,12 @@ fn check_size(message: &[u8]) -> Result<(), SplitFault>
 
 /// Puts the packets of a message on this route in the place of those that stand there.
 fn put_packets(
-    packets: &mut ArrayVec<ArrayVec<u8, MOST_PACKET_BYTES>, MOST_PACKETS>,
+    packets: &mut ArrayVec<ArrayVec<u8, MAX_PACKET_BYTES>, MAX_PACKETS>,
     route: &Route,
     message: &[u8],
 )
     requires some { 0 < length message.now }
-    requires few { length message.now ≤ MOST_MESSAGE_BYTES }
+    requires few { length message.now ≤ MAX_MESSAGE_BYTES }
     ensures count { length packets.new.items ≡ piece_count message.now }
     ensures written { map (λ packet. packet.items) packets.new.items ≡ written_packets route.now message.now }
 {
@@ -156,7 +156,7 @@ fn packet_of<'a>(route: Route, message: &'a [u8], i: usize) -> PacketRef<'a>
 }
 
 /// The bytes of packet `i` of a message.
-fn bytes_at(route: Route, message: &[u8], i: usize) -> ArrayVec<u8, MOST_PACKET_BYTES>
+fn bytes_at(route: Route, message: &[u8], i: usize) -> ArrayVec<u8, MAX_PACKET_BYTES>
     requires { i < piece_count message.now }
     ensures { result.items ≡ written (packet_at route message.now i) }
 {

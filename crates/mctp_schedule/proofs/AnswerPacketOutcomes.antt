@@ -7,7 +7,7 @@ use Rattle.mctp_packet.specs.Packets.{Packet}
 use Rattle.mctp_packet.specs.Pieces.{packet_at, piece, piece_count}
 use Rattle.mctp_packet.specs.Reading.{reading}
 use Rattle.mctp_packet.specs.declared.reason.Reason.TheVariants.{NotReady}
-use Rattle.mctp_packet.specs.declared.TheConstants.{MOST_PACKETS}
+use Rattle.mctp_packet.specs.declared.TheConstants.{MAX_PACKETS}
 use Rattle.mctp_assembly.specs.Rows.{next}
 use Rattle.mctp_assembly.specs.declared.fed.Fed.{Fed}
 use Rattle.mctp_assembly.specs.declared.fed.Fed.TheVariants.{Whole, Partial, Dropped}
@@ -131,7 +131,7 @@ module _ {S : Type 0} (setting : Setting S) (lower : Lower) (past : List Step) (
 
   pub busy_brings : (before : List Packet) → fed_arrival mine r.own (next before busy_one) ≡ Drop NotReady
   busy_brings before =
-      ap (fed_arrival mine r.own) (given_alone MOST_PACKETS before busy_one (omega arith) busy_starts busy_ends)
+      ap (fed_arrival mine r.own) (given_alone MAX_PACKETS before busy_one (omega arith) busy_starts busy_ends)
       ∙ ap (λ message. response_arrival mine r.own message (response_of message)) busy_payload
       ∙ answer_arrives lower.responses mine r.own command (busy_reply r.message) (λ response. refl) (record { answer = Refused ERROR_NOT_READY; is = refuses })
       ∙ ap (whole_arrival r.own) refuses
@@ -155,14 +155,14 @@ module _ {S : Type 0} (setting : Setting S) (lower : Lower) (past : List Step) (
     completes_is : completes setting past k j ≡ (nat_lt j (part_count setting w k) && (is_waiting setting w r && (in_row && is_ready m)))
     completes_is = ap (completes_for setting past k j) is
 
-    few : piece_count m ≤ MOST_PACKETS
+    few : piece_count m ≤ MAX_PACKETS
     few = let f = (fits j l).few in omega arith
 
     whole_is : in_row ≡ true → gave ≡ Whole (record { items = m })
-    whole_is on = given_in_row (way_to setting r) m busy_one busy_starts busy_ends (let f = few in omega arith) MOST_PACKETS j js few (omega arith) (l, below) on
+    whole_is on = given_in_row (way_to setting r) m busy_one busy_starts busy_ends (let f = few in omega arith) MAX_PACKETS j js few (omega arith) (l, below) on
 
     not_whole : in_row ≡ false → (body : List ℕ) → gave ≡ Whole (record { items = body }) → ⊥
-    not_whole out body e = given_else (way_to setting r) m busy_one busy_starts busy_ends (let f = few in omega arith) MOST_PACKETS j js (l, below) out body e
+    not_whole out body e = given_else (way_to setting r) m busy_one busy_starts busy_ends (let f = few in omega arith) MAX_PACKETS j js (l, below) out body e
 
     same_arrival : (f : Fed) → ((body : List ℕ) → f ≡ Whole (record { items = body }) → ⊥) → fed_arrival mine r.own f ≡ arrival_by f
     same_arrival (Whole body) x = absurd (x body.items refl)

@@ -21,10 +21,10 @@ use Rattle.pldm_requester.specs.Courses as courses
 use Rattle.pldm_requester.specs.Courses.{Course, is_open}
 use Rattle.pldm_requester.specs.Numbering.{message_of, opened_as, route_of}
 use Rattle.pldm_requester.specs.Slots.{remembered_in}
-use Rattle.pldm_requester.specs.declared.requester.TheConstants.{MOST_OPEN, MOST_REMEMBERED}
+use Rattle.pldm_requester.specs.declared.requester.TheConstants.{MAX_OPEN, MAX_REMEMBERED}
 use Rattle.pldm_requester.specs.Steps.{Held, IsHeld, Memo, arrived_by, goes_to, is_mine, is_open_in, latest_on, new_memo, opened_held, passed, passes, received_held, recent_numbers, remembered_after, where_open, with_course}
-use Rattle.pldm_requester.specs.declared.got.Got.TheVariants as got
-use Rattle.pldm_requester.specs.declared.opened.Opened.{Opened}
+use Rattle.pldm_requester.specs.declared.results.Got.TheVariants as got
+use Rattle.pldm_requester.specs.declared.results.Opened.{Opened}
 use Rattle.mctp_schedule.specs.Askers.{TellsAnswer, packet_bytes}
 use Rattle.mctp_schedule.specs.declared.askers.Answered.{Answered}
 use Rattle.mctp_schedule.proofs.ListPlaces.{take_all}
@@ -123,9 +123,9 @@ standing_after held new moment bytes own message h e =
     (h.remembered own ∙ ap (λ arrival. remembered_after held arrival own) e ∙ cond-true (own == own) _ _ (eq-eqb own own refl) ∙ ap (option_map (with_course (courses.answered message))) memo.1)
 
 pub own_below : (count : ℕ) (slots : List Memo) (own : ℕ) (memo : Memo) → remembered_in count slots own ≡ Some memo → own < count
-own_below count slots own memo e = go (nat_lt own count) refl (nat_le count (own + MOST_REMEMBERED)) e
+own_below count slots own memo e = go (nat_lt own count) refl (nat_le count (own + MAX_REMEMBERED)) e
   where
-    go : (b : Bool) → nat_lt own count ≡ b → (c : Bool) → (if b && c then slice_get slots (own % MOST_REMEMBERED) else None) ≡ Some memo → own < count
+    go : (b : Bool) → nat_lt own count ≡ b → (c : Bool) → (if b && c then slice_get slots (own % MAX_REMEMBERED) else None) ≡ Some memo → own < count
     go true t c e = ltb-true own count t
     go false t c e = absurd (cc)
 
@@ -143,7 +143,7 @@ all_ranged bound start zero h = tt
 all_ranged bound start (suc n) h = (omega arith, all_ranged bound (start + 1) n (omega arith))
 
 pub recent_below : (count : ℕ) (test : ℕ → Bool) → AllByRecursion (λ k. k < count) (filter test (recent_numbers count))
-recent_below count test = all_filtered (λ k. k < count) test (recent_numbers count) (all_ranged count (count - MOST_OPEN) (count - (count - MOST_OPEN)) (omega arith))
+recent_below count test = all_filtered (λ k. k < count) test (recent_numbers count) (all_ranged count (count - MAX_OPEN) (count - (count - MAX_OPEN)) (omega arith))
 
 -- ---- what is told of an answer
 pub none_told : (numbers : List ℕ) (arrival : Arrival) → ((own : ℕ) → got_of arrival ≡ got.Answered own → ⊥) → TellsAnswer numbers arrival None

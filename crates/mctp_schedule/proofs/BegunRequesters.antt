@@ -11,7 +11,7 @@ use Rattle.pldm_requester.specs.Timings.{timing_fault}
 use Rattle.pldm_requester.specs.declared.timing.Timing.{Timing}
 use Rattle.pldm_requester.specs.declared.timing.TimingFault.{TimingFault}
 use Rattle.pldm_requester.specs.declared.timing.TimingFault.TheVariants.{Timeout, Tries, TooLate, SameEid}
-use Rattle.pldm_requester.specs.declared.timing.TheConstants.{MOST_TRIES}
+use Rattle.pldm_requester.specs.declared.timing.TheConstants.{MAX_TRIES}
 use Rattle.mctp_schedule.specs.Askers.{Side}
 use Rattle.mctp_schedule.specs.Places.{Begins, side_at}
 use Rattle.mctp_schedule.specs.RunFaults.{refusal, refusal_of}
@@ -59,7 +59,7 @@ last_check false false false false f g h k e = refl
 
 pub other_endpoint : (own device : ℕ) (timing : Timing) → timing_fault own device timing ≡ None → own ≢ device
 other_endpoint own device timing e same =
-    let off : (own == device) ≡ false = last_check (timing.timeout == 0) (not (nat_le 1 timing.tries && nat_le timing.tries MOST_TRIES)) (nat_lt timing.keep (timing.tries * timing.timeout)) (own == device) Timeout Tries TooLate SameEid e in
+    let off : (own == device) ≡ false = last_check (timing.timeout == 0) (not (nat_le 1 timing.tries && nat_le timing.tries MAX_TRIES)) (nat_lt timing.keep (timing.tries * timing.timeout)) (own == device) Timeout Tries TooLate SameEid e in
     let wrong : true ≡ false = sym (eq-eqb own device same) ∙ off in
     cc
 

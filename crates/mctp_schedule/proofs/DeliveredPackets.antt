@@ -7,7 +7,7 @@ use Rattle.mctp_packet.specs.Ids.{IsEid}
 use Rattle.mctp_packet.specs.Laws.{SpelledIsReadFor, WrittenSpells}
 use Rattle.mctp_packet.specs.Packets.{IsPacket, Packet, packet, written}
 use Rattle.mctp_packet.specs.Passing.{passed}
-use Rattle.mctp_packet.specs.declared.TheConstants.{UNIT, MOST_PACKETS}
+use Rattle.mctp_packet.specs.declared.TheConstants.{UNIT, MAX_PACKETS}
 use Rattle.mctp_assembly.specs.Histories as histories
 use Rattle.mctp_assembly.specs.Keys.{key_of}
 use Rattle.mctp_assembly.specs.Opened.{Opened as Began}
@@ -81,7 +81,7 @@ packet_for eid r = packet (route_of r.source eid r.own) true true 0 r.message
 pub held_whole : (held : assembly.Held) (eid : ℕ) (r : Asked) → assembly.answer held (packet_for eid r) ≡ feds.Whole (record { items = r.message })
 held_whole held eid r = go (map.get held (key_of (packet_for eid r)))
   where
-    go : (o : Option Began) → assembly.answer_to MOST_PACKETS o (packet_for eid r) ≡ feds.Whole (record { items = r.message })
+    go : (o : Option Began) → assembly.answer_to MAX_PACKETS o (packet_for eid r) ≡ feds.Whole (record { items = r.message })
     go None = refl
     go (Some o) = refl
 

@@ -14,8 +14,8 @@ use Rattle.pldm_requester.specs.Arrivals.{Arrival, Answer, fed_arrival, got_of}
 use Rattle.pldm_requester.specs.Calls.{Call, is_from_device}
 use Rattle.pldm_requester.specs.Courses.{Standing, Answered}
 use Rattle.pldm_requester.specs.Laws.{FedSinceItsOpening}
-use Rattle.pldm_requester.specs.declared.got.Got.{Got}
-use Rattle.pldm_requester.specs.declared.got.Got.TheVariants as got
+use Rattle.pldm_requester.specs.declared.results.Got.{Got}
+use Rattle.pldm_requester.specs.declared.results.Got.TheVariants as got
 use Rattle.pldm_requester.specs.declared.timing.Timing.{Timing}
 use Rattle.mctp_schedule.specs.HandedPackets.{got_from, got_of_busy, got_of_reply}
 use Rattle.mctp_schedule.specs.FirstArrivals.{order}

@@ -15,8 +15,8 @@ use Rattle.pldm_requester.specs.Numbering.{message_of, opened_as}
 use Rattle.pldm_requester.specs.Slots.{held_of}
 use Rattle.pldm_requester.specs.Steps as held_steps
 use Rattle.pldm_requester.specs.Steps.{IsHeld, opened_held, opening_answer}
-use Rattle.pldm_requester.specs.declared.opened.Opened.{Opened as OpenedAs}
-use Rattle.pldm_requester.specs.declared.opened.OpenFault.{OpenFault}
+use Rattle.pldm_requester.specs.declared.results.Opened.{Opened as OpenedAs}
+use Rattle.pldm_requester.specs.declared.results.OpenFault.{OpenFault}
 use Rattle.pldm_requester.specs.declared.timing.Timing.{Timing}
 use Rattle.mctp_schedule.specs.Askers.{IsSent, Side, packet_bytes}
 use Rattle.mctp_schedule.specs.Entries.{as_it_stands, entries, entry_of, numbers_of, open_entry}

@@ -3,7 +3,7 @@ use Rattle.std.proofs.Common.{◌≡◌, ◌≢◌, ℕ, ◌+◌, ◌*◌, ◌<�
 use Rattle.std.specs.Prelude.{Result, not, ◌&&◌, ◌||◌, ◌==◌, is_ok, nat_le, nat_lt}
 use Rattle.std.specs.List.{AllByRecursion}
 use Rattle.std.proofs.lemmas.Bool.{and_parts, and_from, leb-true, ltb-true}
-use Rattle.mctp_packet.specs.declared.TheConstants.{MOST_MESSAGE_BYTES}
+use Rattle.mctp_packet.specs.declared.TheConstants.{MAX_MESSAGE_BYTES}
 use Rattle.mctp_packet.specs.declared.reason.Reason.{Reason}
 use Rattle.pldm_wire.specs.Headers.{id_at}
 use Rattle.pldm_wire.specs.Requests as requests
@@ -177,12 +177,12 @@ are_requests (WentDown _ ∷ past) t = are_requests past t
 
 -- ---- of the replies
 abbrev fits : List ℕ → Bool
-fits bytes = nat_lt 0 (length bytes) && nat_le (length bytes) MOST_MESSAGE_BYTES
+fits bytes = nat_lt 0 (length bytes) && nat_le (length bytes) MAX_MESSAGE_BYTES
 
 fits_packets : (bytes : List ℕ) → fits bytes ≡ true → FitsPackets bytes
 fits_packets bytes t =
-    let parts = and_parts (nat_lt 0 (length bytes)) (nat_le (length bytes) MOST_MESSAGE_BYTES) t in
-    record { some = ltb-true 0 (length bytes) parts.0; few = leb-true (length bytes) MOST_MESSAGE_BYTES parts.1 }
+    let parts = and_parts (nat_lt 0 (length bytes)) (nat_le (length bytes) MAX_MESSAGE_BYTES) t in
+    record { some = ltb-true 0 (length bytes) parts.0; few = leb-true (length bytes) MAX_MESSAGE_BYTES parts.1 }
 
 module _ {S : Type 0} (device : Rules S) (keep : ℕ) (start : S) where
   abbrev reply_fits : ℕ → List Happening → Option Asked → Bool

@@ -14,8 +14,8 @@ use Rattle.pldm_requester.specs.Laws.{IsLeftBy, ReceiveLooksBack, SameIsLeft, me
 use Rattle.pldm_requester.specs.Slots.{held_of}
 use Rattle.pldm_requester.specs.Steps as held_steps
 use Rattle.pldm_requester.specs.Steps.{Held, IsHeld, Memo, arrived_by, got_at, is_recent, received_held}
-use Rattle.pldm_requester.specs.declared.got.Got.{Got}
-use Rattle.pldm_requester.specs.declared.got.Got.TheVariants as got
+use Rattle.pldm_requester.specs.declared.results.Got.{Got}
+use Rattle.pldm_requester.specs.declared.results.Got.TheVariants as got
 use Rattle.pldm_requester.specs.declared.timing.Timing.{Timing}
 use Rattle.mctp_schedule.specs.Askers.{Side, TellsAnswer}
 use Rattle.mctp_schedule.specs.Entries.{as_it_stands, got_entry, numbers_of}

@@ -12,12 +12,12 @@ use Rattle.pldm_wire.specs.declared.answer.Answer.TheVariants as answers
 use Rattle.pldm_wire.specs.declared.command.Command.{Command}
 use Rattle.pldm_wire.specs.declared.command.Command.TheVariants.{GetTid, GetPdrRepositoryInfo, GetSensorReading, SetNumericEffecterValue}
 use Rattle.pldm_wire.specs.declared.size.Size.TheVariants.{Uint8}
-use Rattle.pldm_platform.specs.declared.reading_fault.ReadingFault.TheVariants.{NoSuchSensor}
+use Rattle.pldm_platform.specs.declared.platform.ReadingFault.TheVariants.{NoSuchSensor}
 use Rattle.pldm_responder.specs.Dimmers.{dimmer_answer, dimmer_after, dimmer_sensed}
 use Rattle.pldm_responder.specs.Performing.{Rules, rules_of}
 use Rattle.pldm_requester.specs.Courses as standings
 use Rattle.pldm_requester.specs.Courses.{Standing}
-use Rattle.pldm_requester.specs.declared.got.Got.TheVariants.{Dropped, Partial, Answered}
+use Rattle.pldm_requester.specs.declared.results.Got.TheVariants.{Dropped, Partial, Answered}
 use Rattle.mctp_schedule.specs.HandedPackets.{got_of_reply, got_of_busy}
 use Rattle.mctp_schedule.specs.Taken.{busy_owed, replies, reply_of, reply_owed, taken}
 use Rattle.mctp_schedule.specs.Worlds.{Setting, requests_of, world}

@@ -11,7 +11,7 @@ use Rattle.pldm_requester.specs.Courses.{Course, given_up, is_given_up, is_sent_
 use Rattle.pldm_requester.specs.Laws.{SameIsLeft, TickLooksBack}
 use Rattle.pldm_requester.specs.Slots.{held_of}
 use Rattle.pldm_requester.specs.Steps.{IsHeld, again_at, given_up_at, ticked_held}
-use Rattle.pldm_requester.specs.declared.due.Due.{Due as DueNumbers}
+use Rattle.pldm_requester.specs.declared.results.Due.{Due as DueNumbers}
 use Rattle.pldm_requester.specs.declared.timing.Timing.{Timing}
 use Rattle.mctp_schedule.specs.Askers.{Side}
 use Rattle.mctp_schedule.specs.Entries.{as_it_stands, numbered, numbers_of}

@@ -9,7 +9,7 @@ use Rattle.pldm_wire.specs.Responses.{response_of}
 use Rattle.pldm_wire.specs.declared.command.Command.TheVariants.{GetTid, GetPdr, GetSensorReading}
 use Rattle.pldm_device.specs.Devices.{Device}
 use Rattle.pldm_requester.specs.Courses.{Waiting}
-use Rattle.pldm_requester.specs.declared.got.Got.TheVariants as got
+use Rattle.pldm_requester.specs.declared.results.Got.TheVariants as got
 use Rattle.pldm_responder.specs.Performing.{performed}
 use Rattle.pldm_responder.specs.declared.outcome.Outcome.TheVariants.{Answered}
 use Rattle.mctp_schedule.specs.Entries.{entries, requests_after}

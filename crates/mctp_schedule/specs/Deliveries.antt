@@ -3,7 +3,7 @@ use Rattle.std.specs.Prelude.{◌≡◌, ℕ, List, Option, Some, None, option_a
 use Rattle.pldm_responder.specs.Answering.{answering}
 use Rattle.pldm_responder.specs.declared.outcome.Outcome.{Outcome}
 use Rattle.pldm_responder.specs.declared.outcome.Outcome.TheVariants as outcomes
-use Rattle.pldm_responder.specs.declared.taken.Taken.{Taken}
+use Rattle.pldm_responder.specs.declared.outcome.Taken.{Taken}
 
 -- with some answer, this comes to the outcome
 abbrev pub ComesTo : Taken → Outcome → Type 0

@@ -1,6 +1,6 @@
 -- The numbers of the requests that a tick found due.
 use Rattle.std.specs.Prelude.{[], Option, Some, None}
-use Rattle.pldm_requester.specs.declared.due.Due.{Due}
+use Rattle.pldm_requester.specs.declared.results.Due.{Due}
 
 -- none, where nothing is kept
 abbrev pub due_in : Option Due → Due

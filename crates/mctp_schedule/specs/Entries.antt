@@ -5,10 +5,10 @@ use Rattle.pldm_responder.specs.Calls.{answer_owed}
 use Rattle.pldm_responder.specs.Events.{is_busy}
 use Rattle.pldm_responder.specs.Performing.{performed}
 use Rattle.pldm_requester.specs.Calls.{again_owed, given_up_owed, open_owed}
-use Rattle.pldm_requester.specs.declared.due.Due.{Due as DueNumbers}
-use Rattle.pldm_requester.specs.declared.got.Got.{Got}
-use Rattle.pldm_requester.specs.declared.opened.Opened.{Opened as OpenedAs}
-use Rattle.pldm_requester.specs.declared.opened.OpenFault.{OpenFault}
+use Rattle.pldm_requester.specs.declared.results.Due.{Due as DueNumbers}
+use Rattle.pldm_requester.specs.declared.results.Got.{Got}
+use Rattle.pldm_requester.specs.declared.results.Opened.{Opened as OpenedAs}
+use Rattle.pldm_requester.specs.declared.results.OpenFault.{OpenFault}
 use Rattle.mctp_schedule.specs.HandedPackets.{got_of_busy, got_of_reply}
 use Rattle.mctp_schedule.specs.Logs as logs
 use Rattle.mctp_schedule.specs.Logs.{Asked, Happening, asked_at, count_of, message_at, told}

@@ -1,7 +1,7 @@
 -- What a requester makes of the packet of an answer that a step hands to it; no packet gives nothing.
 use Rattle.std.specs.Prelude.{ℕ, List, Option, Some, None}
 use Rattle.pldm_requester.specs.Calls.{got_owed}
-use Rattle.pldm_requester.specs.declared.got.Got.{Got}
+use Rattle.pldm_requester.specs.declared.results.Got.{Got}
 use Rattle.mctp_schedule.specs.Logs.{asked_at}
 use Rattle.mctp_schedule.specs.Worlds.{Setting, World, busy_packet, reply_packet, source_of, timing_of}
 

@@ -1,6 +1,6 @@
 -- The device's state and its replies where each request that arrived is performed once, at its first arrival.
 use Rattle.std.specs.Prelude.{◌≡◌, ℕ, ◌<◌, ◌≤◌, true, false, not, List, [], ◌∷◌, length, Bool, ◌&&◌, ◌==◌, Option, Some, None, Ok, if◌then◌else◌}
-use Rattle.mctp_packet.specs.declared.TheConstants.{MOST_MESSAGE_BYTES}
+use Rattle.mctp_packet.specs.declared.TheConstants.{MAX_MESSAGE_BYTES}
 use Rattle.pldm_wire.specs.Requests as requests
 use Rattle.pldm_platform.specs.Changes.{changed_or}
 use Rattle.pldm_responder.specs.Events.{is_busy, is_fresh}
@@ -29,7 +29,7 @@ AreRequests (_ ∷ past) = AreRequests past
 -- packets can carry this message
 pub record FitsPackets (message : List ℕ) : Type 0 where
   pub some : 0 < length message
-  pub few : length message ≤ MOST_MESSAGE_BYTES
+  pub few : length message ≤ MAX_MESSAGE_BYTES
 
 module _ {S : Type 0} (device : Rules S) (keep : ℕ) (start : S) where
   -- the device's state: each request that arrived is performed once, at its first arrival, and each reading set, in

@@ -13,8 +13,8 @@ use Rattle.pldm_wire.specs.declared.assigned.TheConstants.{ERROR_NOT_READY}
 use Rattle.pldm_responder.specs.Arrivals.{way_back}
 use Rattle.pldm_responder.specs.Performing.{busy_reply}
 use Rattle.pldm_requester.specs.Calls.{is_open_at}
-use Rattle.pldm_requester.specs.declared.got.Got.{Got}
-use Rattle.pldm_requester.specs.declared.got.Got.TheVariants as got
+use Rattle.pldm_requester.specs.declared.results.Got.{Got}
+use Rattle.pldm_requester.specs.declared.results.Got.TheVariants as got
 use Rattle.mctp_schedule.specs.Logs.{Asked, asked_at, message_at}
 use Rattle.mctp_schedule.specs.OncePerformed.{the_reply, was_busy}
 use Rattle.mctp_schedule.specs.Worlds.{Setting, World, requests_of, world}

@@ -2,20 +2,22 @@
 
 ghost use Rattle.std.specs.Prelude.{◌≡◌, ◌≤◌, ◌<◌, ◌∷◌, ◌++◌, [], Ok, Err, Some, IfOk, IfErr, OnOk, drop, slice_index, length, option_map};
 ghost use Rattle.std.specs.List.{AllByRecursion};
-ghost use Rattle.pldm_requester.specs.Courses as courses;
 ghost use Rattle.pldm_requester.specs.Steps.{IsHeld, again_at, arrived_by, given_up_at, got_at, opened_held, opening_answer, passed, received_held, ticked_held};
 ghost use Rattle.pldm_requester.specs.Slots.{held_of};
 ghost use Rattle.mctp_schedule.specs.Askers.{HasAnswer, HasPacket, IsSent, TellsAnswer};
 ghost use Rattle.mctp_schedule.specs.Entries.{numbered};
+ghost use Rattle.pldm_requester.specs.Courses as courses;
 
-use crate::kept_message::KeptMessage;
-use crate::limits::MOST_REQUEST_PACKET_BYTES;
-use arrayvec::ArrayVec;
 use mctp_packet::{HEADER, Memory, Moment};
-use pldm_requester::{Due, Got, MOST_OPEN, OpenFault, Requester, Status};
-use pldm_wire::{Command, MOST_REQUEST_BYTES};
+use pldm_wire::{MAX_REQUEST_BYTES, Command};
+use crate::kept_message::KeptMessage;
+use arrayvec::ArrayVec;
+use pldm_requester::{Due, Got, MAX_OPEN, OpenFault, Requester, Status};
 use std::alloc::Global;
 use std::marker::Model;
+
+/// The most bytes of the packet that carries a command.
+pub(crate) const MAX_REQUEST_PACKET_BYTES: usize = HEADER + MAX_REQUEST_BYTES;
 
 /// A requester, and the numbers of its requests over all requests.
 #[derive(Debug, Drop)]
@@ -40,9 +42,9 @@ pub(crate) struct Sent {
     /// Its number, counted from 0 over the requests of its requester.
     pub(crate) own: u64,
     /// Its message, which one packet carries.
-    pub(crate) message: ArrayVec<u8, MOST_REQUEST_BYTES>,
+    pub(crate) message: ArrayVec<u8, MAX_REQUEST_BYTES>,
     /// The bytes of its packet.
-    pub(crate) packet: ArrayVec<u8, MOST_REQUEST_PACKET_BYTES>,
+    pub(crate) packet: ArrayVec<u8, MAX_REQUEST_PACKET_BYTES>,
 }
 
 /// What a packet that came to an asker gave.
@@ -215,9 +217,9 @@ fn in_place<const MOST: usize>(bytes: &[u8]) -> ArrayVec<u8, MOST>
 }
 
 /// Own numbers as numbers over all requests.
-fn numbered(numbers: &[u64], owns: &[u64]) -> ArrayVec<u64, MOST_OPEN>
+fn numbered(numbers: &[u64], owns: &[u64]) -> ArrayVec<u64, MAX_OPEN>
     requires some { AllByRecursion (λ own. own < length numbers.now) owns.now }
-    requires few { length owns.now ≤ MOST_OPEN }
+    requires few { length owns.now ≤ MAX_OPEN }
     ensures { result.items ≡ numbered numbers.now owns.now }
 {
     let mut all = ArrayVec::new();

@@ -14,7 +14,7 @@ use crate::laws::{
 };
 use crate::places::{Places, begin_requesters};
 use crate::{Action, Entry, OpenedRequest, RunFault, Schedule, Step};
-use mctp_packet::{Body, Eid, Keep, MOST_PACKET_BYTES, Memory, Moment, TAGS};
+use mctp_packet::{Body, Eid, Keep, MAX_PACKET_BYTES, Memory, Moment, TAGS};
 use pldm_platform::Platform;
 use pldm_responder::Responder;
 use pldm_wire::Command;
@@ -250,7 +250,7 @@ impl<P: Platform> Ends<P> {
         ensures keep { self.new.keep ≡ self.old.keep }
     {
         pldm_requester::laws::looks_back();
-        let mut room = [0; MOST_PACKET_BYTES];
+        let mut room = [0; MAX_PACKET_BYTES];
         let journal = &self.journal;
         let Some(bytes) = journal.answer_packet(number, packet, busy, &mut room) else {
             self.journal.enter(Entry::Nothing)?;

@@ -6,7 +6,7 @@ ghost use Rattle.pldm_responder.specs.Answering.{answering};
 ghost use Rattle.mctp_schedule.specs.Deliveries.{ComesTo, packet_of_outcome};
 
 use crate::kept_message::KeptMessage;
-use mctp_packet::{MOST_PACKET_BYTES, Memory, PacketRef, packet_at, write};
+use mctp_packet::{MAX_PACKET_BYTES, Memory, PacketRef, packet_at, write};
 use pldm_responder::Taken;
 use std::alloc::Global;
 use std::marker::Model;
@@ -63,7 +63,7 @@ impl Delivery {
     pub fn packet<'a>(
         &self,
         index: usize,
-        room: &'a mut [u8; MOST_PACKET_BYTES],
+        room: &'a mut [u8; MAX_PACKET_BYTES],
     ) -> Option<&'a [u8]>
         ensures { option_map (λ bytes. bytes.now) result ≡ packet_of_outcome self.now index }
     {
@@ -76,7 +76,7 @@ impl Delivery {
 }
 
 /// The bytes of a packet, which are written in front of `room`.
-fn bytes_of<'a>(packet: &PacketRef<'_>, room: &'a mut [u8; MOST_PACKET_BYTES]) -> &'a [u8]
+fn bytes_of<'a>(packet: &PacketRef<'_>, room: &'a mut [u8; MAX_PACKET_BYTES]) -> &'a [u8]
     ensures { result.now ≡ written packet.now }
 {
     let count = write(packet, room);

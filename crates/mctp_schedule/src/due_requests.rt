@@ -17,7 +17,7 @@ pub struct DueRequests {
 impl Model for DueRequests {
     ghost use Rattle.std.specs.Prelude.{option_map};
     ghost use Rattle.mctp_schedule.specs.DueNumbers.{due_in};
-    ghost use Rattle.pldm_requester.specs.declared.due.Due.{Due};
+    ghost use Rattle.pldm_requester.specs.declared.results.Due.{Due};
 
     ghost Value = { Due };
 

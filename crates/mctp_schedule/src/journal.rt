@@ -8,10 +8,10 @@ ghost use Rattle.mctp_schedule.specs.Requests.{begun};
 
 use crate::askers::{Answered, Sent};
 use crate::kept_message::KeptMessage;
-use crate::limits::MOST_REQUEST_PACKET_BYTES;
+use crate::askers::MAX_REQUEST_PACKET_BYTES;
 use crate::{Delivery, DueRequests, Entry, OpenedRequest};
 use arrayvec::ArrayVec;
-use mctp_packet::{Eid, MOST_PACKET_BYTES, Memory, Moment};
+use mctp_packet::{Eid, MAX_PACKET_BYTES, Memory, Moment};
 use pldm_requester::{Due, Got};
 use pldm_responder::Taken;
 use std::alloc::Global;
@@ -20,7 +20,7 @@ use std::marker::Model;
 /// The packet of a request, and where the latest answers to it stand among the entries.
 #[derive(Debug, Drop)]
 pub(crate) struct Traffic {
-    packet: ArrayVec<u8, MOST_REQUEST_PACKET_BYTES>,
+    packet: ArrayVec<u8, MAX_REQUEST_PACKET_BYTES>,
     reply: Option<usize>,
     busy: Option<usize>,
 }
@@ -37,7 +37,7 @@ impl Model for Traffic {
 
 impl Traffic {
     /// A request that has no answer yet.
-    fn new(packet: ArrayVec<u8, MOST_REQUEST_PACKET_BYTES>) -> Traffic
+    fn new(packet: ArrayVec<u8, MAX_REQUEST_PACKET_BYTES>) -> Traffic
         ensures { result ≡ record { packet = packet.items; reply = None; busy = None } }
     {
         Traffic {
@@ -112,7 +112,7 @@ impl Journal {
         number: u64,
         packet: u8,
         busy: bool,
-        room: &'a mut [u8; MOST_PACKET_BYTES],
+        room: &'a mut [u8; MAX_PACKET_BYTES],
     ) -> Option<&'a [u8]>
         ensures { option_map (λ bytes. bytes.now) result ≡ packet_at self.now.entries.items packet busy
             (slice_get self.now.traffic.items number) }

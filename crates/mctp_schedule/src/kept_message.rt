@@ -1,13 +1,55 @@
-//! A message that is kept.
+//! A message that is kept: a short one in place, a longer one shared.
 
-ghost use Rattle.std.specs.Prelude.{◌≡◌, IfOk, IfSome};
+ghost use Rattle.std.specs.Prelude.{◌≡◌, ◌≤◌, length, IfOk, IfSome};
 ghost use Rattle.std.specs.Rc.{rc_slice_items};
 
-use crate::short_message::{MOST_SHORT, ShortMessage};
+use std::marker::Model;
 use mctp_packet::Memory;
 use std::alloc::Global;
-use std::marker::Model;
 use std::rc::RcSlice;
+
+/// The most bytes of a short message: an answer that tells a sensor's reading has no more.
+pub(crate) const MAX_SHORT: usize = 15;
+
+/// The bytes of a short message, at most [`MAX_SHORT`].
+#[derive(Debug, Drop)]
+pub(crate) struct ShortMessage {
+    room: [u8; MAX_SHORT],
+    count: u8,
+}
+
+impl Model for ShortMessage {
+    ghost use Rattle.std.specs.Prelude.{ℕ, ◌≤◌, List, take};
+    ghost use Rattle.mctp_schedule.specs.declared.kept_message.TheConstants.{MAX_SHORT};
+
+    ghost Value = { List ℕ };
+
+    ghost view = { λ m. take m.count m.room };
+
+    ghost invariant = { λ m. m.count ≤ MAX_SHORT };
+}
+
+impl ShortMessage {
+    /// These bytes.
+    pub(crate) fn new(bytes: &[u8]) -> ShortMessage
+        requires { length bytes.now ≤ MAX_SHORT }
+        ensures { result ≡ bytes.now }
+    {
+        let mut room = [0; MAX_SHORT];
+        room[..bytes.len()].copy_from_slice(bytes);
+        ShortMessage {
+            room,
+            count: bytes.len() as u8,
+        }
+    }
+
+    /// The bytes.
+    pub(crate) fn bytes(&self) -> &[u8]
+        ensures { result.now ≡ self.now }
+    {
+        &self.room[..usize::from(self.count)]
+    }
+}
 
 /// The bytes of a message that is kept. Short ones stand in place; longer ones may be shared, so that an
 /// answer, its copies and what its requester got take their room once.
@@ -40,7 +82,7 @@ impl KeptMessage {
     ) -> Result<KeptMessage, Memory>
         ensures { IfOk result (λ message. message ≡ bytes.now) }
     {
-        if bytes.len() <= MOST_SHORT {
+        if bytes.len() <= MAX_SHORT {
             let bytes = KeptBytes::Short(ShortMessage::new(bytes));
             return Ok(KeptMessage { bytes });
         }

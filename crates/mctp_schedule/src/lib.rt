@@ -9,11 +9,9 @@ mod entry;
 mod journal;
 mod kept_message;
 pub mod laws;
-mod limits;
 mod opened_request;
 mod places;
 mod run_fault;
-mod short_message;
 
 pub use both_ends::{Report, Setup, run};
 pub use delivery::Delivery;

@@ -10,7 +10,7 @@ use crate::kept_message::KeptMessage;
 use arrayvec::ArrayVec;
 use mctp_packet::{Eid, Moment, TAGS, Tag};
 use pldm_requester::Status;
-use pldm_wire::{INSTANCE_IDS, MOST_REQUEST_BYTES};
+use pldm_wire::{INSTANCE_IDS, MAX_REQUEST_BYTES};
 use std::marker::Model;
 
 /// A request that was opened, and how it stands.
@@ -19,7 +19,7 @@ pub struct OpenedRequest {
     requester: Eid,
     number: u64,
     opening: Moment,
-    message: ArrayVec<u8, MOST_REQUEST_BYTES>,
+    message: ArrayVec<u8, MAX_REQUEST_BYTES>,
     standing: Standing,
 }
 
@@ -53,7 +53,7 @@ impl OpenedRequest {
         requester: Eid,
         number: u64,
         opening: Moment,
-        message: ArrayVec<u8, MOST_REQUEST_BYTES>,
+        message: ArrayVec<u8, MAX_REQUEST_BYTES>,
     ) -> OpenedRequest
         ensures { result ≡ begun requester number opening message.items }
     {

@@ -11,7 +11,7 @@ ghost use Rattle.mctp_schedule.specs.Worlds.{timing_from};
 
 use crate::askers::Asker;
 use crate::{RequesterLine, RunFault};
-use mctp_packet::{Eid, Keep, LAST_EID, Memory};
+use mctp_packet::{Eid, Keep, MAX_EID, Memory};
 use pldm_requester::{Requester, Timing};
 use std::alloc::Global;
 
@@ -47,9 +47,9 @@ pub(crate) fn begin_requesters(
 
 /// A place for each endpoint ID, with no requester yet.
 fn empty_places(alloc: Global) -> Result<Places, Memory>
-    ensures { IfOk result (λ places. length places.items ≡ LAST_EID + 1) }
+    ensures { IfOk result (λ places. length places.items ≡ MAX_EID + 1) }
 {
-    let count = usize::from(LAST_EID) + 1;
+    let count = usize::from(MAX_EID) + 1;
     let mut places = Vec::with_capacity(alloc, count)?;
     for _ in 0..count {
         places.push(None)?;

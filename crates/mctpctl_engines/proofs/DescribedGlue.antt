@@ -17,7 +17,7 @@ use Rattle.mctpctl_input.specs.TextLines.{is_divider, capture_lines, description
 use Rattle.mctpctl_input.specs.declared.faults.EngineFault.{EngineFault}
 use Rattle.mctpctl_input.specs.declared.faults.EngineFault.TheVariants as faults
 use Rattle.line_words.specs.Lines.{without_cr}
-use Rattle.mctpctl_input.specs.declared.limits.TheConstants.{LONGEST_DIVIDER, MAX_DESCRIPTION}
+use Rattle.mctpctl_input.specs.declared.limits.TheConstants.{MAX_DIVIDER, MAX_DESCRIPTION}
 use Rattle.mctpctl_engines.proofs.LineGlue.{lines_glued, line_ended, glued_glued, glued_nil, feed_split, takes_after}
 use Rattle.mctpctl_input.proofs.RunsOverLines.{some_line}
 use Rattle.pldm_device.specs.Descriptions.{stated}
@@ -38,12 +38,12 @@ divides line [] here = (rw here refl, rw here refl)
 divides line (next ∷ more) here = (rw here refl, rw here refl)
 
 -- a line that divides is `%%`, with a carriage return or without
-divider_is_short : (line : List ℕ) → is_divider line ≡ true → length line ≤ LONGEST_DIVIDER
+divider_is_short : (line : List ℕ) → is_divider line ≡ true → length line ≤ MAX_DIVIDER
 divider_is_short line here = by_cr (slice_index line (length line - 1) == 13) refl where
   two : (text : List ℕ) → bytes_eq text (codes "%%") ≡ true → length text ≡ 2
   two text e = ap length ((bytes_eq-Decides text (codes "%%")).0 e)
 
-  by_cr : (cr : Bool) → (slice_index line (length line - 1) == 13) ≡ cr → length line ≤ LONGEST_DIVIDER
+  by_cr : (cr : Bool) → (slice_index line (length line - 1) == 13) ≡ cr → length line ≤ MAX_DIVIDER
   by_cr true e =
       let cut : without_cr line ≡ take (length line - 1) line = rw e refl in
       omega (arith, two (without_cr line) here, ap length cut, length-take (length line - 1) line)
@@ -162,26 +162,26 @@ module _ (run : Description → Bool → List (List ℕ) → Written) where
 
   -- so does a line that is too long for it, since no longer one divides
   long_line : (is_cut : Bool) (text line : List ℕ) (more : List (List ℕ)) (here : Bool) → is_divider line ≡ here
-      → MAX_DESCRIPTION + LONGEST_DIVIDER < length text + length line
+      → MAX_DESCRIPTION + MAX_DIVIDER < length text + length line
       → run_described run is_cut (text ++ description_of (line ∷ more)) (capture_lines (line ∷ more)) ≡ stops_at faults.TooLarge
   long_line is_cut text line more true e long =
-      let short : length line ≤ LONGEST_DIVIDER = divider_is_short line e in
+      let short : length line ≤ MAX_DIVIDER = divider_is_short line e in
       past_limit is_cut (text ++ description_of (line ∷ more)) (capture_lines (line ∷ more)) (omega (arith, length-append text (description_of (line ∷ more))))
   long_line is_cut text line more false e long =
       let grown : length line ≤ length (description_of (line ∷ more)) = described_at_least line more e in
       past_limit is_cut (text ++ description_of (line ∷ more)) (capture_lines (line ∷ more)) (omega (arith, length-append text (description_of (line ∷ more))))
 
-  glued_long : (is_cut : Bool) (text kept : List ℕ) (lines : List (List ℕ)) → MAX_DESCRIPTION + LONGEST_DIVIDER < length text + length kept
+  glued_long : (is_cut : Bool) (text kept : List ℕ) (lines : List (List ℕ)) → MAX_DESCRIPTION + MAX_DIVIDER < length text + length kept
       → run_described run is_cut (text ++ description_of (glued kept lines)) (capture_lines (glued kept lines)) ≡ stops_at faults.TooLarge
   glued_long is_cut text kept [] long = long_line is_cut text kept [] (is_divider kept) refl long
   glued_long is_cut text kept (line ∷ more) long =
       long_line is_cut text (kept ++ line) more (is_divider (kept ++ line)) refl (omega (arith, length-append kept line))
 
-  pub front_stops : (text kept front both : List ℕ) → HasNoFeed front → both ≡ kept ++ front → MAX_DESCRIPTION + LONGEST_DIVIDER < length text + length both
+  pub front_stops : (text kept front both : List ℕ) → HasNoFeed front → both ≡ kept ++ front → MAX_DESCRIPTION + MAX_DIVIDER < length text + length both
       → StopsWith (description_gives run text kept) front [] faults.TooLarge
   front_stops text kept front both none is long =
       λ is_cut later. description_kept text kept front none is_cut later
-      ∙ glued_long is_cut text (kept ++ front) (lines_of later) (subst (λ b. MAX_DESCRIPTION + LONGEST_DIVIDER < length text + length b) is long)
+      ∙ glued_long is_cut text (kept ++ front) (lines_of later) (subst (λ b. MAX_DESCRIPTION + MAX_DIVIDER < length text + length b) is long)
 
   -- where no line divides, all is description
   all_described : (lines : List (List ℕ)) → capture_lines lines ≡ None → description_of lines ≡ join_with_byte 10 lines
@@ -237,7 +237,7 @@ front_keeps_described text kept front both none is =
     ([], refl, subst (λ b. GoesOn (description_gives held_run text kept) front [] (description_gives held_run text b)) (sym is) (description_kept held_run text kept front none))
 
 pub front_too_long_described : (text kept front both : List ℕ) (h : Gives) → HasNoFeed front → both ≡ kept ++ front
-    → MAX_DESCRIPTION + LONGEST_DIVIDER < length text + length both
+    → MAX_DESCRIPTION + MAX_DIVIDER < length text + length both
     → Takes (description_gives held_run text kept) front h [] [] (Err faults.TooLarge)
 front_too_long_described text kept front both h none is long =
     ([], refl, inr ((λ e. cc), front_stops held_run text kept front both none is long))

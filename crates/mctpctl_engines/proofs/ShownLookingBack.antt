@@ -7,7 +7,7 @@ use Rattle.mctp_assembly.specs.Laws.{FeedLooksBack, NewLooksBack}
 use Rattle.mctp_assembly.specs.Steps.{after}
 use Rattle.mctp_packet.specs.Packets.{Packet}
 use Rattle.mctp_packet.specs.Reading.{reading}
-use Rattle.mctp_packet.specs.declared.TheConstants.{MOST_PACKETS}
+use Rattle.mctp_packet.specs.declared.TheConstants.{MAX_PACKETS}
 use Rattle.mctp_packet.specs.declared.reason.Reason.{Reason}
 use Rattle.mctpctl_input.specs.CaptureLine.{TimedPacket}
 use Rattle.mctpctl_engines.specs.LinePieces.{line_gives}
@@ -28,12 +28,12 @@ module _ (feeds : FeedLooksBack) where
   same_text : (observed : Observed) (seen : List TimedPacket) (moment : ℕ) (read : Result Packet Reason) → IsLeft observed seen → shown_text moment read (given_at observed.open_at) ≡ shown_text moment read (gives_after seen)
   same_text observed seen moment (Err reason) left = refl
   same_text observed seen moment (Ok p) left =
-      ap (λ fed. packet_line moment p fed ++ completed_text fed) (feeds MOST_PACKETS (observed.open_at p.route.destination) (fed_to p.route.destination seen) p (lit≤ tt) (left.open_at p.route.destination)).0
+      ap (λ fed. packet_line moment p fed ++ completed_text fed) (feeds MAX_PACKETS (observed.open_at p.route.destination) (fed_to p.route.destination seen) p (lit≤ tt) (left.open_at p.route.destination)).0
 
   left_by : (here : Bool) (observed : Observed) (seen : List TimedPacket) (p : Packet) (destination : ℕ) → IsLeft observed seen
       → IsLeftBy (if here then after (observed.open_at destination) p else observed.open_at destination) (if here then feed p ∷ fed_to destination seen else fed_to destination seen)
   left_by true observed seen p destination left =
-      (feeds MOST_PACKETS (observed.open_at destination) (fed_to destination seen) p (lit≤ tt) (left.open_at destination)).1
+      (feeds MAX_PACKETS (observed.open_at destination) (fed_to destination seen) p (lit≤ tt) (left.open_at destination)).1
   left_by false observed seen p destination left = left.open_at destination
 
   left_with : (observed : Observed) (seen : List TimedPacket) (read : Result Packet Reason) → IsLeft observed seen
@@ -51,7 +51,7 @@ module _ (feeds : FeedLooksBack) where
 
   module _ (new : NewLooksBack) where
     none_left : IsLeft none_observed []
-    none_left = record { last = refl; open_at = λ destination. new MOST_PACKETS }
+    none_left = record { last = refl; open_at = λ destination. new MAX_PACKETS }
 
     -- the run over what is held is the run that looks back
     run_looks_back : (is_cut : Bool) (text : List ℕ) → line_gives observed_step 1 none_observed [] is_cut text ≡ seen_run is_cut text

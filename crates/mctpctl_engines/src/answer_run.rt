@@ -7,25 +7,24 @@ ghost use Rattle.mctpctl_engines.specs.AnswerPieces.{past_gives, past_count, not
 ghost use Rattle.mctpctl_engines.specs.LongLines.{held_refuses};
 ghost use Rattle.mctpctl_engines.specs.HeldRuns.{held_step, held_run};
 ghost use Rattle.mctpctl_engines.specs.LinePieces.{AddsLine};
-ghost use Rattle.mctpctl_input.specs.Pieces.{Takes, Finishes, FinishesTo};
+ghost use Rattle.mctpctl_input.specs.Pieces.{Takes, Finishes, FinishesTo, WroteOfFront, WroteOfRead};
 ghost use Rattle.mctpctl_input.specs.Ports.{inner_of, has_failed};
 ghost use Rattle.pldm_responder.specs.Stations.{held_of};
 ghost use Rattle.pldm_responder.specs.Held.{Held};
 ghost use Rattle.pldm_device.specs.Devices.{Device};
+ghost use Rattle.mctpctl_engines.specs.AnswerText.{answer_text, called_run, run_of};
+ghost use Rattle.mctpctl_input.specs.LineRuns.{Writes};
 
 use crate::described::read_description;
 use crate::line_run::{LineRoom, LineRun, LineTask};
 use line_words::split_line;
 use mctp_packet::Moment;
-use mctpctl_input::{
-    CaptureFault, CaptureLine, EngineFault, LONGEST_DIVIDER, MAX_DESCRIPTION, MAX_INPUT, Port, Run,
-    is_divider, read_capture_line,
-};
+use mctpctl_input::{CaptureFault, CaptureLine, EngineFault, MAX_DIVIDER, MAX_DESCRIPTION, MAX_INPUT, Port, Run, is_divider, read_capture_line, run_to_end};
 use mctpctl_texts::push_outcome;
 use pldm_device::SimDevice;
-use pldm_responder::Responder;
+use pldm_responder::{Responder, laws};
 use std::alloc::Global;
-use std::io::Write;
+use std::io::{Write, Read};
 
 impl LineTask for Responder<SimDevice> {
     ghost State = { Held Device };
@@ -43,7 +42,8 @@ impl LineTask for Responder<SimDevice> {
         room: &mut LineRoom,
         out: &mut Vec<u8>,
     ) -> Result<(), EngineFault>
-        ensures meets { AddsLine number (held_step (held_of self.old) line.now) (held_of self.new) out.old.items out.new.items result }
+        ensures meets { AddsLine number (held_step (held_of self.old) line.now) (held_of self.new) out.old.items
+            out.new.items result }
     {
         let last = self.last_moment();
         let moment = match read_capture_line(line, last.get(), &mut room.packet) {
@@ -154,7 +154,7 @@ impl AnswerRun {
         if self.kept.extend_from_slice(front).is_err() {
             return Err(EngineFault::Memory);
         }
-        if self.text.len().saturating_add(self.kept.len()) > MAX_DESCRIPTION + LONGEST_DIVIDER {
+        if self.text.len().saturating_add(self.kept.len()) > MAX_DESCRIPTION + MAX_DIVIDER {
             return Err(EngineFault::TooLarge);
         }
         Ok(())
@@ -173,7 +173,8 @@ impl AnswerRun {
         requires before { self.old.lines ≡ None }
         requires counted { length piece.now ≤ MAX_INPUT }
         ensures meets { Takes (description_gives held_run self.old.text.items self.old.kept.items) piece.now
-            (described_gives past_gives (description_gives held_run self.new.text.items self.new.kept.items) self.new.lines)
+            (described_gives past_gives (description_gives held_run self.new.text.items self.new.kept.items)
+            self.new.lines)
             out.old.items out.new.items result }
         ensures counted { described_count past_count self.new.lines ≤ length piece.now }
         ensures read { result ≢ Err EngineFault.Read }
@@ -198,7 +199,8 @@ impl AnswerRun {
 
     /// Takes the end of the input before a line has divided, but for this one.
     fn finish_description(&self, alloc: Global, is_cut: bool) -> Result<(), EngineFault>
-        ensures meets { Finishes (description_gives held_run self.now.text.items self.now.kept.items is_cut []) [] [] result }
+        ensures meets { Finishes (description_gives held_run self.now.text.items self.now.kept.items is_cut []) [] []
+            result }
         ensures read { result ≢ Err EngineFault.Read }
         ensures write { result ≢ Err EngineFault.Write }
     {
@@ -226,10 +228,13 @@ impl Run for AnswerRun {
     /// Takes lines of the description, and once one divides lines of the capture.
     fn take(&mut self, alloc: Global, piece: &[u8], out: &mut Vec<u8>) -> Result<(), EngineFault>
         requires { described_count past_count self.old.lines + length piece.now ≤ MAX_INPUT }
-        ensures meets { Takes (described_gives past_gives (description_gives held_run self.old.text.items self.old.kept.items) self.old.lines) piece.now
-            (described_gives past_gives (description_gives held_run self.new.text.items self.new.kept.items) self.new.lines)
+        ensures meets { Takes (described_gives past_gives (description_gives held_run self.old.text.items
+            self.old.kept.items) self.old.lines) piece.now
+            (described_gives past_gives (description_gives held_run self.new.text.items self.new.kept.items)
+            self.new.lines)
             out.old.items out.new.items result }
-        ensures counted { described_count past_count self.new.lines ≤ described_count past_count self.old.lines + length piece.now }
+        ensures counted { described_count past_count self.new.lines ≤ described_count past_count self.old.lines +
+            length piece.now }
         ensures read { result ≢ Err EngineFault.Read }
         ensures write { result ≢ Err EngineFault.Write }
     {
@@ -250,7 +255,8 @@ impl Run for AnswerRun {
         requires size { described_count past_count self.old.lines ≤ MAX_INPUT }
         requires works { has_failed writer.old ≡ false }
         requires empty { out.old.items ≡ [] }
-        ensures meets { FinishesTo (described_gives past_gives (description_gives held_run self.old.text.items self.old.kept.items) self.old.lines is_cut [])
+        ensures meets { FinishesTo (described_gives past_gives (description_gives held_run self.old.text.items
+            self.old.kept.items) self.old.lines is_cut [])
             (W.contents (inner_of writer.old)) (W.contents (inner_of writer.new)) result }
         ensures read { result ≢ Err EngineFault.Read }
         ensures write { IsErrOf result EngineFault.Write ↔ (has_failed writer.new ≡ true) }
@@ -262,4 +268,40 @@ impl Run for AnswerRun {
     }
 
     ghost none_where_cut = { λ run. nothing_where_cut run.text.items run.kept.items run.lines };
+}
+
+/// Answers a capture as the described device would, as it comes: what the lines of a piece of input
+/// give is written before more is asked for. It writes the text of each packet's outcome: `drop NAME`,
+/// `partial`, or the answer's packets in lower-case hex, one a line. A request that comes again within
+/// the described keeping time is not performed again, and has the answer that it had.
+///
+/// At `Line` and `TooLarge` the text of the lines that ended before has been written, and at
+/// `Device` and `NoDivider` nothing. `Read` is for a read port that has failed: the text of the lines
+/// that ended in the bytes before it has been written. `Write` is for a write port; what a failed
+/// writer took is not known. At `Memory` the text of the lines that ended in some front of the input
+/// has been written.
+///
+/// It holds the description, the longest line, one piece of input and what that gives, whatever the
+/// length of the input.
+pub fn answer_all<R: Read, W: Write>(
+    alloc: Global,
+    reader: &mut Port<R>,
+    writer: &mut Port<W>,
+) -> Result<(), EngineFault>
+    requires reads { has_failed reader.old ≡ false }
+    requires writes { has_failed writer.old ≡ false }
+    ensures text { IfSome (R.remaining (inner_of reader.old))
+        (λ all. Writes (answer_text all) (W.contents (inner_of writer.old)) (W.contents (inner_of writer.new)) result) }
+    ensures at_read { IsErrOf result EngineFault.Read
+        → WroteOfRead (run_of called_run) (R.remaining (inner_of reader.old)) (R.remaining (inner_of reader.new))
+        (W.contents (inner_of writer.old)) (W.contents (inner_of writer.new)) }
+    ensures at_memory { IsErrOf result EngineFault.Memory
+        → WroteOfFront (run_of called_run) (R.remaining (inner_of reader.old)) (W.contents (inner_of writer.old))
+        (W.contents (inner_of writer.new)) }
+    ensures read { IsErrOf result EngineFault.Read ↔ (has_failed reader.new ≡ true) }
+    ensures write { IsErrOf result EngineFault.Write ↔ (has_failed writer.new ≡ true) }
+{
+    laws::looks_back::<SimDevice>();
+    let mut run = AnswerRun::new(alloc);
+    run_to_end(alloc, &mut run, reader, writer)
 }

@@ -1,19 +1,17 @@
 //! What `mctpctl` does between a reader and a writer: a capture answered, a schedule run, a capture shown.
 #![tactic(auto)]
 
-mod answer;
 mod answer_run;
 mod described;
 mod line_run;
 mod observer;
-mod run;
 mod schedule_run;
 mod show;
 
-pub use answer::answer_all;
+pub use answer_run::answer_all;
 pub use mctpctl_input::{
-    DescriptionFault, EngineFault, LONGEST_DIVIDER, LineKind, MAX_CAPTURE_LINE, MAX_DESCRIPTION,
+    DescriptionFault, EngineFault, MAX_DIVIDER, LineKind, MAX_CAPTURE_LINE, MAX_DESCRIPTION,
     MAX_INPUT, Port, fault_line, status_of,
 };
-pub use run::run_all;
+pub use schedule_run::run_all;
 pub use show::show_all;

@@ -61,7 +61,8 @@ pub trait LineTask {
         room: &mut LineRoom,
         out: &mut Vec<u8>,
     ) -> Result<(), EngineFault>
-        ensures meets { AddsLine number (step (state_of self.old) line.now) (state_of self.new) out.old.items out.new.items result };
+        ensures meets { AddsLine number (step (state_of self.old) line.now) (state_of self.new) out.old.items
+            out.new.items result };
 
     ghost refuses_long: { RefusesLong step };
 }
@@ -84,8 +85,10 @@ impl<T: LineTask> LineRun<T> {
     fn end_line(&mut self, alloc: Global, line: &[u8], out: &mut Vec<u8>) -> Result<(), EngineFault>
         requires feed { HasNoFeed line.now }
         requires counted { self.old.ended < MAX_INPUT }
-        ensures meets { Takes (line_gives T.step (self.old.ended + 1) (T.state_of self.old.task) self.old.kept.items) (line.now ++ 10 ∷ [])
-            (line_gives T.step (self.new.ended + 1) (T.state_of self.new.task) self.new.kept.items) out.old.items out.new.items result }
+        ensures meets { Takes (line_gives T.step (self.old.ended + 1) (T.state_of self.old.task) self.old.kept.items)
+            (line.now ++ 10 ∷ [])
+            (line_gives T.step (self.new.ended + 1) (T.state_of self.new.task) self.new.kept.items) out.old.items
+            out.new.items result }
         ensures counted { self.new.ended ≤ self.old.ended + 1 }
         ensures read { result ≢ Err EngineFault.Read }
         ensures write { result ≢ Err EngineFault.Write }
@@ -111,7 +114,8 @@ impl<T: LineTask> LineRun<T> {
     fn keep(&mut self, front: &[u8]) -> Result<(), EngineFault>
         requires feed { HasNoFeed front.now }
         requires counted { self.old.ended ≤ MAX_INPUT }
-        ensures meets { Takes (line_gives T.step (self.old.ended + 1) (T.state_of self.old.task) self.old.kept.items) front.now
+        ensures meets { Takes (line_gives T.step (self.old.ended + 1) (T.state_of self.old.task) self.old.kept.items)
+            front.now
             (line_gives T.step (self.new.ended + 1) (T.state_of self.new.task) self.new.kept.items) [] [] result }
         ensures counted { self.new.ended ≡ self.old.ended }
         ensures read { result ≢ Err EngineFault.Read }
@@ -134,7 +138,8 @@ impl<T: LineTask> LineRun<T> {
         out: &mut Vec<u8>,
     ) -> Result<(), EngineFault>
         requires { self.old.ended ≤ MAX_INPUT }
-        ensures meets { Finishes (line_gives T.step (self.old.ended + 1) (T.state_of self.old.task) self.old.kept.items is_cut []) out.old.items out.new.items result }
+        ensures meets { Finishes (line_gives T.step (self.old.ended + 1) (T.state_of self.old.task)
+            self.old.kept.items is_cut []) out.old.items out.new.items result }
         ensures read { result ≢ Err EngineFault.Read }
         ensures write { result ≢ Err EngineFault.Write }
     {
@@ -158,8 +163,10 @@ impl<T: LineTask> Run for LineRun<T> {
 
     fn take(&mut self, alloc: Global, piece: &[u8], out: &mut Vec<u8>) -> Result<(), EngineFault>
         requires { self.old.ended + length piece.now ≤ MAX_INPUT }
-        ensures meets { Takes (line_gives T.step (self.old.ended + 1) (T.state_of self.old.task) self.old.kept.items) piece.now
-            (line_gives T.step (self.new.ended + 1) (T.state_of self.new.task) self.new.kept.items) out.old.items out.new.items result }
+        ensures meets { Takes (line_gives T.step (self.old.ended + 1) (T.state_of self.old.task) self.old.kept.items)
+            piece.now
+            (line_gives T.step (self.new.ended + 1) (T.state_of self.new.task) self.new.kept.items) out.old.items
+            out.new.items result }
         ensures counted { self.new.ended ≤ self.old.ended + length piece.now }
         ensures read { result ≢ Err EngineFault.Read }
         ensures write { result ≢ Err EngineFault.Write }
@@ -185,7 +192,8 @@ impl<T: LineTask> Run for LineRun<T> {
         requires size { self.old.ended ≤ MAX_INPUT }
         requires works { has_failed writer.old ≡ false }
         requires empty { out.old.items ≡ [] }
-        ensures meets { FinishesTo (line_gives T.step (self.old.ended + 1) (T.state_of self.old.task) self.old.kept.items is_cut [])
+        ensures meets { FinishesTo (line_gives T.step (self.old.ended + 1) (T.state_of self.old.task)
+            self.old.kept.items is_cut [])
             (W.contents (inner_of writer.old)) (W.contents (inner_of writer.new)) result }
         ensures read { result ≢ Err EngineFault.Read }
         ensures write { IsErrOf result EngineFault.Write ↔ (has_failed writer.new ≡ true) }

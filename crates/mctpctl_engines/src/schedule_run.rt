@@ -1,6 +1,6 @@
 //! The engine of `mctpctl run`, over an input that comes in pieces.
 
-ghost use Rattle.std.specs.Io.KnownBytes.{Appends};
+ghost use Rattle.std.specs.Io.KnownBytes.{Appends, Keeps};
 ghost use Rattle.std.specs.Prelude.{◌≡◌, ◌≢◌, ◌≤◌, ◌+◌, ◌↔◌, [], Err, Some, IfErr, IfSome, IfNone, IsErrOf, None, OnOk, length, option_map, true, false};
 ghost use Rattle.line_words.specs.TextLines.{lines_of};
 ghost use Rattle.schedule_text.specs.Schedules.{schedule_of};
@@ -8,18 +8,19 @@ ghost use Rattle.mctpctl_engines.specs.AnswerText.{run_of};
 ghost use Rattle.mctpctl_engines.specs.DescribedPieces.{begun};
 ghost use Rattle.mctpctl_input.specs.Pieces.{Takes, FinishesTo};
 ghost use Rattle.mctpctl_input.specs.Ports.{inner_of, has_failed};
-ghost use Rattle.mctpctl_engines.specs.RunText.{schedule_written, scheduled_run, spelled_by, stop_of_line, stop_of_run};
+ghost use Rattle.mctpctl_engines.specs.RunText.{schedule_written, scheduled_run, spelled_by, stop_of_line, stop_of_run, run_text};
 ghost use Rattle.mctpctl_engines.specs.SchedulePieces.{TellsText, nothing_where_cut, schedule_gives, text_of_ran};
 ghost use Rattle.mctpctl_input.specs.TextLines.{capture_lines, description_of};
+ghost use Rattle.mctpctl_input.specs.LineRuns.{Writes};
 
 use crate::described::read_description;
 use line_words::split_line;
 use mctp_schedule::{LineFault, LineFaultKind, Report, RunFault, Schedule, Setup, run};
-use mctpctl_input::{EngineFault, LineKind, MAX_DESCRIPTION, MAX_INPUT, Port, Run, is_divider};
+use mctpctl_input::{EngineFault, LineKind, MAX_DESCRIPTION, MAX_INPUT, Port, Run, is_divider, run_to_end};
 use mctpctl_texts::{NotWritten, device_text, write_report};
 use pldm_device::{Description, SimDevice};
 use std::alloc::Global;
-use std::io::Write;
+use std::io::{Write, Read};
 
 /// The run of `run`: what has come of the input, which is looked at once it has ended.
 #[derive(Drop)]
@@ -162,7 +163,8 @@ fn run_input(alloc: Global, text: &[u8], is_cut: bool) -> Result<Ran, EngineFaul
 /// Writes the text of a run, part by part, which takes no memory.
 fn tell<W: Write>(writer: &mut Port<W>, ran: &Ran) -> Result<(), EngineFault>
     requires { has_failed writer.old ≡ false }
-    ensures text { OnOk result (Appends (W.contents (inner_of writer.old)) (W.contents (inner_of writer.new)) (text_of_ran ran.now)) }
+    ensures text { OnOk result (Appends (W.contents (inner_of writer.old)) (W.contents (inner_of writer.new))
+        (text_of_ran ran.now)) }
     ensures fault { IfErr result (λ fault. fault ≡ EngineFault.Write) }
     ensures write { IsErrOf result EngineFault.Write ↔ (has_failed writer.new ≡ true) }
 {
@@ -202,7 +204,8 @@ impl Run for ScheduleRun {
     ) -> Result<(), EngineFault>
         requires works { has_failed writer.old ≡ false }
         requires empty { out.old.items ≡ [] }
-        ensures meets { FinishesTo (schedule_gives self.old.kept.items is_cut []) (W.contents (inner_of writer.old)) (W.contents (inner_of writer.new)) result }
+        ensures meets { FinishesTo (schedule_gives self.old.kept.items is_cut []) (W.contents (inner_of writer.old))
+            (W.contents (inner_of writer.new)) result }
         ensures read { result ≢ Err EngineFault.Read }
         ensures write { IsErrOf result EngineFault.Write ↔ (has_failed writer.new ≡ true) }
     {
@@ -213,4 +216,34 @@ impl Run for ScheduleRun {
     }
 
     ghost none_where_cut = { λ run. nothing_where_cut run.kept.items };
+}
+
+/// Runs the requesters of a schedule and the described device over its steps. It writes what came of
+/// each step, how each request stands, the order in which requests were performed, the device, and
+/// whether the schedule was timely.
+///
+/// All input is read before any of it is looked at, and nothing is written unless the whole run is Ok.
+/// Of several faults `Device` comes before `TooLarge`, then `Line`, then `Timing`. `Read` is for a read
+/// port that has failed, `Write` for a write port; what a failed writer took is not known.
+///
+/// It holds all of the input and what came of each step. The text is written part by part, and much of
+/// it in parts of a few bytes: give it a writer that gathers them, as `BufWriter` does.
+pub fn run_all<R: Read, W: Write>(
+    alloc: Global,
+    reader: &mut Port<R>,
+    writer: &mut Port<W>,
+) -> Result<(), EngineFault>
+    requires reads { has_failed reader.old ≡ false }
+    requires writes { has_failed writer.old ≡ false }
+    ensures text { IfSome (R.remaining (inner_of reader.old))
+        (λ all. Writes (run_text all) (W.contents (inner_of writer.old)) (W.contents (inner_of writer.new)) result) }
+    ensures at_read { IsErrOf result EngineFault.Read
+        → Keeps (W.contents (inner_of writer.old)) (W.contents (inner_of writer.new)) }
+    ensures at_memory { IsErrOf result EngineFault.Memory
+        → Keeps (W.contents (inner_of writer.old)) (W.contents (inner_of writer.new)) }
+    ensures read { IsErrOf result EngineFault.Read ↔ (has_failed reader.new ≡ true) }
+    ensures write { IsErrOf result EngineFault.Write ↔ (has_failed writer.new ≡ true) }
+{
+    let mut run = ScheduleRun::new(alloc);
+    run_to_end(alloc, &mut run, reader, writer)
 }

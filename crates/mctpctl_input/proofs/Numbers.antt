@@ -1,6 +1,6 @@
 -- Every limit of the source, written a second time.
 use Rattle.std.proofs.Common.{◌≡◌, refl}
-use Rattle.mctpctl_input.specs.declared.limits.TheConstants.{MAX_INPUT, MAX_DESCRIPTION, MAX_CAPTURE_LINE, LONGEST_DIVIDER}
+use Rattle.mctpctl_input.specs.declared.limits.TheConstants.{MAX_INPUT, MAX_DESCRIPTION, MAX_CAPTURE_LINE, MAX_DIVIDER}
 
 most_bytes_of_input : MAX_INPUT ≡ 16777216
 most_bytes_of_input = refl
@@ -11,5 +11,5 @@ most_bytes_of_a_description = refl
 most_bytes_of_a_capture_line : MAX_CAPTURE_LINE ≡ 4096
 most_bytes_of_a_capture_line = refl
 
-most_bytes_of_the_divider : LONGEST_DIVIDER ≡ 3
+most_bytes_of_the_divider : MAX_DIVIDER ≡ 3
 most_bytes_of_the_divider = refl

@@ -5,7 +5,7 @@ use Rattle.hex.specs.declared.error.FromHexError.{FromHexError}
 use Rattle.line_words.specs.Lines.{said_words}
 use Rattle.line_words.specs.Numbers.{number_of}
 use Rattle.mctpctl_input.specs.declared.limits.TheConstants.{MAX_CAPTURE_LINE}
-use Rattle.mctp_packet.specs.declared.TheConstants.{LAST_MOMENT}
+use Rattle.mctp_packet.specs.declared.TheConstants.{MAX_MOMENT}
 use Rattle.mctpctl_input.specs.declared.faults.LineKind.{LineKind}
 use Rattle.mctpctl_input.specs.declared.faults.LineKind.TheVariants.{LongLine, Words, Number, BackInTime, BadHex}
 use Rattle.mctpctl_input.specs.declared.capture.CaptureFault.{CaptureFault}
@@ -25,7 +25,7 @@ moment_from (Some moment) last = if nat_lt moment last then Err BackInTime else 
 
 -- the moment that a word spells, in its range and not before the last one
 abbrev pub moment_of : List ℕ → ℕ → Result ℕ LineKind
-moment_of word last = moment_from (number_of LAST_MOMENT word) last
+moment_of word last = moment_from (number_of MAX_MOMENT word) last
 
 abbrev pub packet_at : ℕ → Result (List ℕ) FromHexError → Result (Option TimedPacket) LineKind
 packet_at moment (Ok bytes) = Ok (Some (record { moment = moment; bytes = bytes }))

@@ -8,7 +8,7 @@ ghost use Rattle.hex.specs.Hex.{decode_of};
 use crate::faults::LineKind;
 use crate::limits::MAX_CAPTURE_LINE;
 use line_words::{first_word, read_number, split_word};
-use mctp_packet::LAST_MOMENT;
+use mctp_packet::MAX_MOMENT;
 use thiserror::Error;
 
 /// What a line of a capture says.
@@ -46,7 +46,8 @@ pub fn read_capture_line(
 ) -> Result<CaptureLine, CaptureFault>
     ensures ok { IfOk result (λ read. capture_of line.now last ≡ Ok (packet_in read packet.new.items)) }
     ensures err { IfErr result (λ fault. TellsFault (capture_of line.now last) fault) }
-    ensures moment { IfOk result (λ read. IfSome (packet_in read packet.new.items) (λ timed. (last ≤ timed.moment) × (timed.moment ≤ LAST_MOMENT))) }
+    ensures moment { IfOk result (λ read. IfSome (packet_in read packet.new.items) (λ timed. (last ≤ timed.moment)
+        × (timed.moment ≤ MAX_MOMENT))) }
 {
     if line.len() > MAX_CAPTURE_LINE {
         return Err(CaptureFault::Line(LineKind::LongLine));
@@ -64,9 +65,12 @@ fn read_packet(
     last: u64,
     packet: &mut Vec<u8>,
 ) -> Result<CaptureLine, CaptureFault>
-    ensures ok { IfOk result (λ read. timed_packet (packet_word (words_of rest.now)) (moment_of moment.now last) ≡ Ok (packet_in read packet.new.items)) }
-    ensures err { IfErr result (λ fault. TellsFault (timed_packet (packet_word (words_of rest.now)) (moment_of moment.now last)) fault) }
-    ensures moment { IfOk result (λ read. IfSome (packet_in read packet.new.items) (λ timed. (last ≤ timed.moment) × (timed.moment ≤ LAST_MOMENT))) }
+    ensures ok { IfOk result (λ read. timed_packet (packet_word (words_of rest.now)) (moment_of moment.now last)
+        ≡ Ok (packet_in read packet.new.items)) }
+    ensures err { IfErr result (λ fault. TellsFault (timed_packet (packet_word (words_of rest.now))
+        (moment_of moment.now last)) fault) }
+    ensures moment { IfOk result (λ read. IfSome (packet_in read packet.new.items) (λ timed. (last ≤ timed.moment)
+        × (timed.moment ≤ MAX_MOMENT))) }
 {
     if !is_plain(rest, packet) {
         return read_words(moment, rest, last, packet);
@@ -84,9 +88,12 @@ fn read_words(
     last: u64,
     packet: &mut Vec<u8>,
 ) -> Result<CaptureLine, CaptureFault>
-    ensures ok { IfOk result (λ read. timed_packet (packet_word (words_of rest.now)) (moment_of moment.now last) ≡ Ok (packet_in read packet.new.items)) }
-    ensures err { IfErr result (λ fault. TellsFault (timed_packet (packet_word (words_of rest.now)) (moment_of moment.now last)) fault) }
-    ensures moment { IfOk result (λ read. IfSome (packet_in read packet.new.items) (λ timed. (last ≤ timed.moment) × (timed.moment ≤ LAST_MOMENT))) }
+    ensures ok { IfOk result (λ read. timed_packet (packet_word (words_of rest.now)) (moment_of moment.now last)
+        ≡ Ok (packet_in read packet.new.items)) }
+    ensures err { IfErr result (λ fault. TellsFault (timed_packet (packet_word (words_of rest.now))
+        (moment_of moment.now last)) fault) }
+    ensures moment { IfOk result (λ read. IfSome (packet_in read packet.new.items) (λ timed. (last ≤ timed.moment)
+        × (timed.moment ≤ MAX_MOMENT))) }
 {
     let digits = read_packet_word(rest).map_err(CaptureFault::Line)?;
     let moment = read_moment(moment, last).map_err(CaptureFault::Line)?;
@@ -113,7 +120,8 @@ fn is_plain(text: &[u8], packet: &mut Vec<u8>) -> bool
 
 /// The one word of a text, or no bytes where it has no word.
 fn read_packet_word(text: &[u8]) -> Result<&[u8], LineKind>
-    ensures { MatchResult result (λ word. packet_word (words_of text.now) ≡ Ok word.now) (λ kind. packet_word (words_of text.now) ≡ Err kind) }
+    ensures { MatchResult result (λ word. packet_word (words_of text.now) ≡ Ok word.now) (λ kind. packet_word
+        (words_of text.now) ≡ Err kind) }
 {
     let Some((word, rest)) = split_word(text) else {
         return Ok(b"");
@@ -141,9 +149,9 @@ fn read_hex(digits: &[u8], packet: &mut Vec<u8>) -> Result<(), CaptureFault>
 /// The moment that a word spells, where it is in its range and not before the last one.
 fn read_moment(word: &[u8], last: u64) -> Result<u64, LineKind>
     ensures value { result ≡ moment_of word.now last }
-    ensures range { IfOk result (λ moment. (last ≤ moment) × (moment ≤ LAST_MOMENT)) }
+    ensures range { IfOk result (λ moment. (last ≤ moment) × (moment ≤ MAX_MOMENT)) }
 {
-    let Some(moment) = read_number(word, LAST_MOMENT) else {
+    let Some(moment) = read_number(word, MAX_MOMENT) else {
         return Err(LineKind::Number);
     };
     if moment < last {

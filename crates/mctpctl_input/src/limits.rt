@@ -10,4 +10,4 @@ pub const MAX_DESCRIPTION: usize = 1_048_576;
 pub const MAX_CAPTURE_LINE: usize = 4_096;
 
 /// The most bytes of the line that divides: `%%` and a CR.
-pub const LONGEST_DIVIDER: usize = 3;
+pub const MAX_DIVIDER: usize = 3;

@@ -57,7 +57,8 @@ impl<T: Read> Read for Port<T> {
     /// One read of the reader. An error makes the port failed.
     fn read(&mut self, buf: &mut [u8]) -> io::Result<usize>
         ensures bound { ReadsAtMost result buf.new }
-        ensures bytes { ReadConsumes (T.remaining (inner_of self.old)) (T.remaining (inner_of self.new)) result buf.new }
+        ensures bytes { ReadConsumes (T.remaining (inner_of self.old)) (T.remaining (inner_of self.new)) result
+            buf.new }
         ensures error { OnErr result (has_failed self.new ≡ true) }
         ensures ok { OnOk result (has_failed self.new ≡ has_failed self.old) }
     {
@@ -95,7 +96,8 @@ impl<T: Write> Write for Port<T> {
     /// Writes all of `buf`, each byte once. The first error ends it, and so does a write that takes
     /// nothing, which is answered as `WriteZero`.
     fn write_all(&mut self, buf: &[u8]) -> io::Result<()>
-        ensures bytes { OnOk result (Appends (T.contents (inner_of self.old)) (T.contents (inner_of self.new)) buf.now) }
+        ensures bytes { OnOk result (Appends (T.contents (inner_of self.old)) (T.contents (inner_of self.new))
+            buf.now) }
         ensures error { OnErr result (has_failed self.new ≡ true) }
         ensures ok { OnOk result (has_failed self.new ≡ has_failed self.old) }
     {

@@ -46,7 +46,8 @@ pub trait Run {
         requires size { counted self.old ≤ MAX_INPUT }
         requires works { has_failed writer.old ≡ false }
         requires empty { out.old.items ≡ [] }
-        ensures meets { FinishesTo (gives self.old is_cut []) (W.contents (inner_of writer.old)) (W.contents (inner_of writer.new)) result }
+        ensures meets { FinishesTo (gives self.old is_cut []) (W.contents (inner_of writer.old))
+            (W.contents (inner_of writer.new)) result }
         ensures read { result ≢ Err EngineFault.Read }
         ensures write { IsErrOf result EngineFault.Write ↔ (has_failed writer.new ≡ true) };
 
@@ -71,7 +72,8 @@ fn take_piece<T: Run, W: Write>(
     requires works { has_failed writer.old ≡ false }
     requires empty { out.old.items ≡ [] }
     requires size { T.counted run.old + length piece.now ≤ MAX_INPUT }
-    ensures meets { TakesTo (T.gives run.old) piece.now (T.gives run.new) (W.contents (inner_of writer.old)) (W.contents (inner_of writer.new)) result }
+    ensures meets { TakesTo (T.gives run.old) piece.now (T.gives run.new) (W.contents (inner_of writer.old))
+        (W.contents (inner_of writer.new)) result }
     ensures counted { T.counted run.new ≤ T.counted run.old + length piece.now }
     ensures empty { OnOk result (out.new.items ≡ []) }
     ensures read { result ≢ Err EngineFault.Read }
@@ -99,11 +101,14 @@ fn run_pieces<T: Run, R: Read, W: Write>(
     requires fresh { T.counted run.old ≡ 0 }
     requires room { 0 < length room.old }
     ensures text { IfSome (R.remaining (inner_of reader.old))
-        (λ all. Writes (T.gives run.old (nat_lt MAX_INPUT (length all)) (take MAX_INPUT all)) (W.contents (inner_of writer.old)) (W.contents (inner_of writer.new)) result) }
+        (λ all. Writes (T.gives run.old (nat_lt MAX_INPUT (length all)) (take MAX_INPUT all))
+        (W.contents (inner_of writer.old)) (W.contents (inner_of writer.new)) result) }
     ensures at_read { IsErrOf result EngineFault.Read
-        → WroteOfRead (T.gives run.old) (R.remaining (inner_of reader.old)) (R.remaining (inner_of reader.new)) (W.contents (inner_of writer.old)) (W.contents (inner_of writer.new)) }
+        → WroteOfRead (T.gives run.old) (R.remaining (inner_of reader.old)) (R.remaining (inner_of reader.new))
+        (W.contents (inner_of writer.old)) (W.contents (inner_of writer.new)) }
     ensures at_memory { IsErrOf result EngineFault.Memory
-        → WroteOfFront (T.gives run.old) (R.remaining (inner_of reader.old)) (W.contents (inner_of writer.old)) (W.contents (inner_of writer.new)) }
+        → WroteOfFront (T.gives run.old) (R.remaining (inner_of reader.old)) (W.contents (inner_of writer.old))
+        (W.contents (inner_of writer.new)) }
     ensures read { IsErrOf result EngineFault.Read ↔ (has_failed reader.new ≡ true) }
     ensures write { IsErrOf result EngineFault.Write ↔ (has_failed writer.new ≡ true) }
 {
@@ -140,11 +145,14 @@ fn run_all<T: Run, R: Read, W: Write>(
     requires writes { has_failed writer.old ≡ false }
     requires fresh { T.counted run.old ≡ 0 }
     ensures text { IfSome (R.remaining (inner_of reader.old))
-        (λ all. Writes (T.gives run.old (nat_lt MAX_INPUT (length all)) (take MAX_INPUT all)) (W.contents (inner_of writer.old)) (W.contents (inner_of writer.new)) result) }
+        (λ all. Writes (T.gives run.old (nat_lt MAX_INPUT (length all)) (take MAX_INPUT all))
+        (W.contents (inner_of writer.old)) (W.contents (inner_of writer.new)) result) }
     ensures at_read { IsErrOf result EngineFault.Read
-        → WroteOfRead (T.gives run.old) (R.remaining (inner_of reader.old)) (R.remaining (inner_of reader.new)) (W.contents (inner_of writer.old)) (W.contents (inner_of writer.new)) }
+        → WroteOfRead (T.gives run.old) (R.remaining (inner_of reader.old)) (R.remaining (inner_of reader.new))
+        (W.contents (inner_of writer.old)) (W.contents (inner_of writer.new)) }
     ensures at_memory { IsErrOf result EngineFault.Memory
-        → WroteOfFront (T.gives run.old) (R.remaining (inner_of reader.old)) (W.contents (inner_of writer.old)) (W.contents (inner_of writer.new)) }
+        → WroteOfFront (T.gives run.old) (R.remaining (inner_of reader.old)) (W.contents (inner_of writer.old))
+        (W.contents (inner_of writer.new)) }
     ensures read { IsErrOf result EngineFault.Read ↔ (has_failed reader.new ≡ true) }
     ensures write { IsErrOf result EngineFault.Write ↔ (has_failed writer.new ≡ true) }
 {
@@ -166,11 +174,14 @@ pub fn run_to_end<T: Run, R: Read, W: Write>(
     requires writes { has_failed writer.old ≡ false }
     requires fresh { T.counted run.old ≡ 0 }
     ensures text { IfSome (R.remaining (inner_of reader.old))
-        (λ all. Writes (T.gives run.old (nat_lt MAX_INPUT (length all)) (take MAX_INPUT all)) (W.contents (inner_of writer.old)) (W.contents (inner_of writer.new)) result) }
+        (λ all. Writes (T.gives run.old (nat_lt MAX_INPUT (length all)) (take MAX_INPUT all))
+        (W.contents (inner_of writer.old)) (W.contents (inner_of writer.new)) result) }
     ensures at_read { IsErrOf result EngineFault.Read
-        → WroteOfRead (T.gives run.old) (R.remaining (inner_of reader.old)) (R.remaining (inner_of reader.new)) (W.contents (inner_of writer.old)) (W.contents (inner_of writer.new)) }
+        → WroteOfRead (T.gives run.old) (R.remaining (inner_of reader.old)) (R.remaining (inner_of reader.new))
+        (W.contents (inner_of writer.old)) (W.contents (inner_of writer.new)) }
     ensures at_memory { IsErrOf result EngineFault.Memory
-        → WroteOfFront (T.gives run.old) (R.remaining (inner_of reader.old)) (W.contents (inner_of writer.old)) (W.contents (inner_of writer.new)) }
+        → WroteOfFront (T.gives run.old) (R.remaining (inner_of reader.old)) (W.contents (inner_of writer.old))
+        (W.contents (inner_of writer.new)) }
     ensures read { IsErrOf result EngineFault.Read ↔ (has_failed reader.new ≡ true) }
     ensures write { IsErrOf result EngineFault.Write ↔ (has_failed writer.new ≡ true) }
 {

@@ -6,12 +6,12 @@ use Rattle.mctp_schedule.specs.declared.entry.Entry.{Entry}
 use Rattle.mctp_schedule.specs.declared.entry.Entry.TheVariants as entries
 use Rattle.schedule_text.specs.declared.step.Step.{Step}
 use Rattle.mctpctl_texts.specs.ShownLines.{drop_text, spaced, spaced_line}
-use Rattle.pldm_platform.specs.declared.reading_fault.ReadingFault.{ReadingFault}
-use Rattle.pldm_platform.specs.declared.reading_fault.ReadingFault.TheVariants.{NoSuchSensor, OutOfSize}
-use Rattle.pldm_requester.specs.declared.got.Got.{Got}
-use Rattle.pldm_requester.specs.declared.got.Got.TheVariants as gots
-use Rattle.pldm_requester.specs.declared.opened.OpenFault.{OpenFault}
-use Rattle.pldm_requester.specs.declared.opened.OpenFault.TheVariants.{TagInUse, IdInUse, Memory}
+use Rattle.pldm_platform.specs.declared.platform.ReadingFault.{ReadingFault}
+use Rattle.pldm_platform.specs.declared.platform.ReadingFault.TheVariants.{NoSuchSensor, OutOfSize}
+use Rattle.pldm_requester.specs.declared.results.Got.{Got}
+use Rattle.pldm_requester.specs.declared.results.Got.TheVariants as gots
+use Rattle.pldm_requester.specs.declared.results.OpenFault.{OpenFault}
+use Rattle.pldm_requester.specs.declared.results.OpenFault.TheVariants.{TagInUse, IdInUse, Memory}
 use Rattle.pldm_responder.specs.declared.outcome.Outcome.{Outcome}
 use Rattle.pldm_responder.specs.declared.outcome.Outcome.TheVariants as outcomes
 

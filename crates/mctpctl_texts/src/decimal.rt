@@ -7,7 +7,7 @@ use itoa::Buffer;
 use std::marker::Model;
 
 /// The most decimal digits of a number of 64 bits.
-const MOST_DIGITS: usize = 20;
+const MAX_DIGITS: usize = 20;
 
 /// A number, its decimal digits and a space, which are made once for lines that begin with the same
 /// number.
@@ -15,7 +15,7 @@ const MOST_DIGITS: usize = 20;
 pub struct Decimal {
     number: u64,
     /// The digits, and spaces after them.
-    room: [u8; MOST_DIGITS + 1],
+    room: [u8; MAX_DIGITS + 1],
     /// How many digits there are.
     count: u8,
 }
@@ -23,13 +23,13 @@ pub struct Decimal {
 impl Model for Decimal {
     ghost use Rattle.std.specs.Fmt.{decimal};
     ghost use Rattle.std.specs.Prelude.{◌≡◌, ◌≤◌, ◌+◌, ◌++◌, ◌∷◌, [], ℕ, take};
-    ghost use Rattle.mctpctl_texts.specs.declared.decimal.TheConstants.{MOST_DIGITS};
+    ghost use Rattle.mctpctl_texts.specs.declared.decimal.TheConstants.{MAX_DIGITS};
 
     ghost Value = { ℕ };
 
     ghost view = { λ d. d.number };
 
-    ghost invariant = { λ d. (d.count ≤ MOST_DIGITS) × (take (d.count + 1) d.room ≡ decimal d.number ++ 32 ∷ []) };
+    ghost invariant = { λ d. (d.count ≤ MAX_DIGITS) × (take (d.count + 1) d.room ≡ decimal d.number ++ 32 ∷ []) };
 }
 
 impl Decimal {
@@ -39,7 +39,7 @@ impl Decimal {
     {
         let mut buffer = Buffer::new();
         let digits = buffer.format(number).as_bytes();
-        let mut room = [b' '; MOST_DIGITS + 1];
+        let mut room = [b' '; MAX_DIGITS + 1];
         room[..digits.len()].copy_from_slice(digits);
         Decimal {
             number,

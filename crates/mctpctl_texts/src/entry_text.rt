@@ -23,7 +23,8 @@ pub fn write_entry_line<W: Write>(
     moment: &Decimal,
     entry: &Entry,
 ) -> Result<(), NotWritten>
-    ensures text { OnOk result (Appends (W.contents (inner_of out.old)) (W.contents (inner_of out.new)) (entry_line moment.now entry.now)) }
+    ensures text { OnOk result (Appends (W.contents (inner_of out.old)) (W.contents (inner_of out.new))
+        (entry_line moment.now entry.now)) }
     ensures ok { OnOk result (has_failed out.new ≡ has_failed out.old) }
     ensures err { OnErr result (has_failed out.new ≡ true) }
 {
@@ -34,7 +35,8 @@ pub fn write_entry_line<W: Write>(
 /// Writes what came of a step, and the end of its line. Where that is a few words, they are written with
 /// the end of the line at once.
 fn write_entry<W: Write>(out: &mut Port<W>, entry: &Entry) -> Result<(), NotWritten>
-    ensures text { OnOk result (Appends (W.contents (inner_of out.old)) (W.contents (inner_of out.new)) (entry_text entry.now ++ 10 ∷ [])) }
+    ensures text { OnOk result (Appends (W.contents (inner_of out.old)) (W.contents (inner_of out.new))
+        (entry_text entry.now ++ 10 ∷ [])) }
     ensures ok { OnOk result (has_failed out.new ≡ has_failed out.old) }
     ensures err { OnErr result (has_failed out.new ≡ true) }
 {
@@ -51,7 +53,8 @@ fn write_entry<W: Write>(out: &mut Port<W>, entry: &Entry) -> Result<(), NotWrit
 }
 
 fn write_opened<W: Write>(out: &mut Port<W>, number: u64) -> Result<(), NotWritten>
-    ensures text { OnOk result (Appends (W.contents (inner_of out.old)) (W.contents (inner_of out.new)) (codes "opened " ++ (decimal number ++ 10 ∷ []))) }
+    ensures text { OnOk result (Appends (W.contents (inner_of out.old)) (W.contents (inner_of out.new)) (codes "opened
+        " ++ (decimal number ++ 10 ∷ []))) }
     ensures ok { OnOk result (has_failed out.new ≡ has_failed out.old) }
     ensures err { OnErr result (has_failed out.new ≡ true) }
 {
@@ -71,7 +74,8 @@ fn not_opened_text(fault: OpenFault) -> &'static str
 }
 
 fn write_due<W: Write>(out: &mut Port<W>, again: &[u64], given_up: &[u64]) -> Result<(), NotWritten>
-    ensures text { OnOk result (Appends (W.contents (inner_of out.old)) (W.contents (inner_of out.new)) (due_text again.now given_up.now ++ 10 ∷ [])) }
+    ensures text { OnOk result (Appends (W.contents (inner_of out.old)) (W.contents (inner_of out.new))
+        (due_text again.now given_up.now ++ 10 ∷ [])) }
     ensures ok { OnOk result (has_failed out.new ≡ has_failed out.old) }
     ensures err { OnErr result (has_failed out.new ≡ true) }
 {
@@ -91,7 +95,8 @@ fn write_due<W: Write>(out: &mut Port<W>, again: &[u64], given_up: &[u64]) -> Re
 }
 
 fn write_again<W: Write>(out: &mut Port<W>, numbers: &[u64]) -> Result<(), NotWritten>
-    ensures text { OnOk result (Appends (W.contents (inner_of out.old)) (W.contents (inner_of out.new)) (again_text numbers.now)) }
+    ensures text { OnOk result (Appends (W.contents (inner_of out.old)) (W.contents (inner_of out.new))
+        (again_text numbers.now)) }
     ensures ok { OnOk result (has_failed out.new ≡ has_failed out.old) }
     ensures err { OnErr result (has_failed out.new ≡ true) }
 {
@@ -100,7 +105,8 @@ fn write_again<W: Write>(out: &mut Port<W>, numbers: &[u64]) -> Result<(), NotWr
 }
 
 fn write_gave_up<W: Write>(out: &mut Port<W>, numbers: &[u64]) -> Result<(), NotWritten>
-    ensures text { OnOk result (Appends (W.contents (inner_of out.old)) (W.contents (inner_of out.new)) (gave_up_text numbers.now)) }
+    ensures text { OnOk result (Appends (W.contents (inner_of out.old)) (W.contents (inner_of out.new))
+        (gave_up_text numbers.now)) }
     ensures ok { OnOk result (has_failed out.new ≡ has_failed out.old) }
     ensures err { OnErr result (has_failed out.new ≡ true) }
 {
@@ -110,7 +116,8 @@ fn write_gave_up<W: Write>(out: &mut Port<W>, numbers: &[u64]) -> Result<(), Not
 
 /// Writes numbers in decimal, a space before each.
 pub fn write_numbers<W: Write>(out: &mut Port<W>, numbers: &[u64]) -> Result<(), NotWritten>
-    ensures text { OnOk result (Appends (W.contents (inner_of out.old)) (W.contents (inner_of out.new)) (numbers_text numbers.now)) }
+    ensures text { OnOk result (Appends (W.contents (inner_of out.old)) (W.contents (inner_of out.new))
+        (numbers_text numbers.now)) }
     ensures ok { OnOk result (has_failed out.new ≡ has_failed out.old) }
     ensures err { OnErr result (has_failed out.new ≡ true) }
 {
@@ -126,7 +133,8 @@ fn write_delivered<W: Write>(
     busy: bool,
     delivery: &Delivery,
 ) -> Result<(), NotWritten>
-    ensures text { OnOk result (Appends (W.contents (inner_of out.old)) (W.contents (inner_of out.new)) (delivered_text busy delivery.now ++ 10 ∷ [])) }
+    ensures text { OnOk result (Appends (W.contents (inner_of out.old)) (W.contents (inner_of out.new))
+        (delivered_text busy delivery.now ++ 10 ∷ [])) }
     ensures ok { OnOk result (has_failed out.new ≡ has_failed out.old) }
     ensures err { OnErr result (has_failed out.new ≡ true) }
 {
@@ -141,7 +149,8 @@ fn write_delivered<W: Write>(
 
 /// Writes that bytes are dropped, and why.
 fn write_dropped<W: Write>(out: &mut Port<W>, reason: Reason) -> Result<(), NotWritten>
-    ensures text { OnOk result (Appends (W.contents (inner_of out.old)) (W.contents (inner_of out.new)) (drop_text reason ++ 10 ∷ [])) }
+    ensures text { OnOk result (Appends (W.contents (inner_of out.old)) (W.contents (inner_of out.new))
+        (drop_text reason ++ 10 ∷ [])) }
     ensures ok { OnOk result (has_failed out.new ≡ has_failed out.old) }
     ensures err { OnErr result (has_failed out.new ≡ true) }
 {
@@ -165,7 +174,8 @@ fn answered_text(busy: bool, fresh: bool, changed: bool) -> &'static str
 }
 
 fn write_received<W: Write>(out: &mut Port<W>, got: Got) -> Result<(), NotWritten>
-    ensures text { OnOk result (Appends (W.contents (inner_of out.old)) (W.contents (inner_of out.new)) (received_text got ++ 10 ∷ [])) }
+    ensures text { OnOk result (Appends (W.contents (inner_of out.old)) (W.contents (inner_of out.new)) (received_text
+        got ++ 10 ∷ [])) }
     ensures ok { OnOk result (has_failed out.new ≡ has_failed out.old) }
     ensures err { OnErr result (has_failed out.new ≡ true) }
 {

@@ -6,7 +6,7 @@ ghost use Rattle.mctp_packet.specs.Pieces.{written_packets};
 ghost use Rattle.pldm_responder.specs.Answering.{answering};
 ghost use Rattle.mctpctl_texts.specs.OutcomeTexts.{outcome_text, dropped_text, packet_text, packets_text};
 
-use mctp_packet::{MOST_PACKET_BYTES, Memory, PacketRef, Reason, Route, UNIT, packet_at, write};
+use mctp_packet::{MAX_PACKET_BYTES, Memory, PacketRef, Reason, Route, UNIT, packet_at, write};
 use pldm_responder::Taken;
 
 /// Adds the lines of what becomes of a packet that `reply` answers: `drop NAME`, `partial`, or the
@@ -64,7 +64,7 @@ fn push_packet(out: &mut Vec<u8>, packet: &PacketRef<'_>) -> Result<(), Memory>
     ensures ok { OnOk result (out.new.items ≡ out.old.items ++ packet_text (written packet.now)) }
     ensures err { OnErr result (take (length out.old.items) out.new.items ≡ out.old.items) }
 {
-    let mut bytes = [0; MOST_PACKET_BYTES];
+    let mut bytes = [0; MAX_PACKET_BYTES];
     let count = write(packet, &mut bytes);
     let front = out.len();
     out.resize(front + 2 * count + 1, 0)?;

@@ -26,7 +26,8 @@ pub fn write_report<W: Write>(
     device: &str,
 ) -> Result<(), NotWritten>
     ensures text { OnOk result (Appends (W.contents (inner_of out.old)) (W.contents (inner_of out.new))
-        (report_text steps.now report.now.entries.items report.now.requests.items report.now.order.items device.now report.now.timely)) }
+        (report_text steps.now report.now.entries.items report.now.requests.items report.now.order.items device.now
+        report.now.timely)) }
     ensures ok { OnOk result (has_failed out.new ≡ has_failed out.old) }
     ensures err { OnErr result (has_failed out.new ≡ true) }
 {
@@ -43,7 +44,8 @@ fn write_entries<W: Write>(
     steps: &[Step],
     entries: &[Entry],
 ) -> Result<(), NotWritten>
-    ensures text { OnOk result (Appends (W.contents (inner_of out.old)) (W.contents (inner_of out.new)) (entries_text steps.now entries.now)) }
+    ensures text { OnOk result (Appends (W.contents (inner_of out.old)) (W.contents (inner_of out.new))
+        (entries_text steps.now entries.now)) }
     ensures ok { OnOk result (has_failed out.new ≡ has_failed out.old) }
     ensures err { OnErr result (has_failed out.new ≡ true) }
 {
@@ -58,7 +60,8 @@ fn write_entries<W: Write>(
 
 /// Writes a line for each of these requests, which have the numbers from 0 on.
 fn write_requests<W: Write>(out: &mut Port<W>, requests: &[OpenedRequest]) -> Result<(), NotWritten>
-    ensures text { OnOk result (Appends (W.contents (inner_of out.old)) (W.contents (inner_of out.new)) (requests_text 0 requests.now)) }
+    ensures text { OnOk result (Appends (W.contents (inner_of out.old)) (W.contents (inner_of out.new)) (requests_text
+        0 requests.now)) }
     ensures ok { OnOk result (has_failed out.new ≡ has_failed out.old) }
     ensures err { OnErr result (has_failed out.new ≡ true) }
 {
@@ -73,7 +76,8 @@ fn write_request_line<W: Write>(
     number: u64,
     request: &OpenedRequest,
 ) -> Result<(), NotWritten>
-    ensures text { OnOk result (Appends (W.contents (inner_of out.old)) (W.contents (inner_of out.new)) (request_line number request.now)) }
+    ensures text { OnOk result (Appends (W.contents (inner_of out.old)) (W.contents (inner_of out.new))
+        (request_line number request.now)) }
     ensures ok { OnOk result (has_failed out.new ≡ has_failed out.old) }
     ensures err { OnErr result (has_failed out.new ≡ true) }
 {
@@ -87,7 +91,8 @@ fn write_request_line<W: Write>(
 }
 
 fn write_standing<W: Write>(out: &mut Port<W>, status: Status<'_>) -> Result<(), NotWritten>
-    ensures text { OnOk result (Appends (W.contents (inner_of out.old)) (W.contents (inner_of out.new)) (standing_text (standing_told status.entry))) }
+    ensures text { OnOk result (Appends (W.contents (inner_of out.old)) (W.contents (inner_of out.new)) (standing_text
+        (standing_told status.entry))) }
     ensures ok { OnOk result (has_failed out.new ≡ has_failed out.old) }
     ensures err { OnErr result (has_failed out.new ≡ true) }
 {
@@ -103,7 +108,8 @@ fn write_standing<W: Write>(out: &mut Port<W>, status: Status<'_>) -> Result<(),
 
 /// Writes the numbers of the requests that were performed, in that order, or `-` where there are none.
 fn write_order<W: Write>(out: &mut Port<W>, order: &[u64]) -> Result<(), NotWritten>
-    ensures text { OnOk result (Appends (W.contents (inner_of out.old)) (W.contents (inner_of out.new)) (order_line order.now)) }
+    ensures text { OnOk result (Appends (W.contents (inner_of out.old)) (W.contents (inner_of out.new))
+        (order_line order.now)) }
     ensures ok { OnOk result (has_failed out.new ≡ has_failed out.old) }
     ensures err { OnErr result (has_failed out.new ≡ true) }
 {

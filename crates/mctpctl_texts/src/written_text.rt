@@ -40,7 +40,8 @@ pub fn write_text<W: Write>(out: &mut Port<W>, text: &str) -> Result<(), NotWrit
 
 /// Writes a number in decimal.
 pub fn write_number<W: Write>(out: &mut Port<W>, number: u64) -> Result<(), NotWritten>
-    ensures text { OnOk result (Appends (W.contents (inner_of out.old)) (W.contents (inner_of out.new)) (decimal number)) }
+    ensures text { OnOk result (Appends (W.contents (inner_of out.old)) (W.contents (inner_of out.new))
+        (decimal number)) }
     ensures ok { OnOk result (has_failed out.new ≡ has_failed out.old) }
     ensures err { OnErr result (has_failed out.new ≡ true) }
 {
@@ -50,7 +51,8 @@ pub fn write_number<W: Write>(out: &mut Port<W>, number: u64) -> Result<(), NotW
 
 /// Writes bytes in lower-case hex.
 pub fn write_hex<W: Write>(out: &mut Port<W>, bytes: &[u8]) -> Result<(), NotWritten>
-    ensures text { OnOk result (Appends (W.contents (inner_of out.old)) (W.contents (inner_of out.new)) (encode_lower bytes.now)) }
+    ensures text { OnOk result (Appends (W.contents (inner_of out.old)) (W.contents (inner_of out.new))
+        (encode_lower bytes.now)) }
     ensures ok { OnOk result (has_failed out.new ≡ has_failed out.old) }
     ensures err { OnErr result (has_failed out.new ≡ true) }
 {

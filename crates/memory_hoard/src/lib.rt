@@ -7,7 +7,7 @@
 use std::alloc::{AllocError, Global};
 
 /// The most blocks that a hoard may take.
-const MOST_BLOCKS: usize = 200_000;
+const MAX_BLOCKS: usize = 200_000;
 
 /// The first size of block that is tried, in bytes: half the address space of a process.
 const LARGEST: usize = 1 << 46;
@@ -23,7 +23,7 @@ const REST_HALVINGS: usize = 8;
 const SMALL: usize = 2_048;
 
 /// The most blocks of one small size.
-const MOST_OF_A_SIZE: usize = 600;
+const MAX_OF_A_SIZE: usize = 600;
 
 /// The bytes that are kept apart while all else is taken. No more than these can be left spare.
 const RESERVE: usize = 400_000;
@@ -53,11 +53,11 @@ impl Hoard {
     pub fn take(alloc: Global, spare: usize) -> Result<Hoard, AllocError> {
         // From now on the allocator takes a block of the reserve's size from the same place as small ones.
         drop(Vec::<u8>::with_capacity(alloc, 2 * RESERVE)?);
-        let mut blocks = Vec::with_capacity(alloc, MOST_BLOCKS)?;
+        let mut blocks = Vec::with_capacity(alloc, MAX_BLOCKS)?;
         let reserve = Vec::with_capacity(alloc, RESERVE)?;
         let mut size = LARGEST;
         for _ in 0..HALVINGS {
-            fill(alloc, &mut blocks, size, MOST_BLOCKS)?;
+            fill(alloc, &mut blocks, size, MAX_BLOCKS)?;
             size /= 2;
         }
         fill_small(alloc, &mut blocks)?;
@@ -80,7 +80,7 @@ impl Hoard {
     pub fn take_rest(&mut self) -> Result<(), AllocError> {
         let mut size = RESERVE;
         for _ in 0..REST_HALVINGS {
-            fill(self.alloc, &mut self.blocks, size, MOST_BLOCKS)?;
+            fill(self.alloc, &mut self.blocks, size, MAX_BLOCKS)?;
             size /= 2;
         }
         fill_small(self.alloc, &mut self.blocks)
@@ -101,7 +101,7 @@ impl Hoard {
 /// Takes blocks of each small size.
 fn fill_small(alloc: Global, blocks: &mut Vec<Vec<u8>>) -> Result<(), AllocError> {
     for step in 0..SMALL / 16 {
-        fill(alloc, blocks, SMALL - step * 16, MOST_OF_A_SIZE)?;
+        fill(alloc, blocks, SMALL - step * 16, MAX_OF_A_SIZE)?;
     }
     Ok(())
 }

@@ -1,23 +1,23 @@
 -- Every constant of the source, written a second time.
 use Rattle.std.proofs.Common.{◌≡◌, refl}
-use Rattle.pldm_device.specs.declared.limits.TheConstants.{MOST_ENTRIES, MOST_ID, MOST_BYTE}
-use Rattle.pldm_device.specs.declared.limits.TheConstants.{MOST_ALLOWED, MOST_SENSOR_STATE}
+use Rattle.pldm_device.specs.declared.limits.TheConstants.{MAX_ENTRIES, MAX_ID, MAX_BYTE}
+use Rattle.pldm_device.specs.declared.limits.TheConstants.{MAX_ALLOWED, MAX_SENSOR_STATE}
 use Rattle.pldm_device.specs.declared.limits.TheConstants.{SENSOR_ENABLED, NO_EVENTS, EFFECTER_ENABLED}
 use Rattle.pldm_device.specs.declared.limits.TheConstants.{REQUEST_SET, UNASSIGNED_TID, RESERVED_TID}
 
-most_entries : MOST_ENTRIES ≡ 1000
+most_entries : MAX_ENTRIES ≡ 1000
 most_entries = refl
 
-most_id : MOST_ID ≡ 65535
+most_id : MAX_ID ≡ 65535
 most_id = refl
 
-most_byte : MOST_BYTE ≡ 255
+most_byte : MAX_BYTE ≡ 255
 most_byte = refl
 
-most_allowed : MOST_ALLOWED ≡ 256
+most_allowed : MAX_ALLOWED ≡ 256
 most_allowed = refl
 
-most_sensor_state : MOST_SENSOR_STATE ≡ 10
+most_sensor_state : MAX_SENSOR_STATE ≡ 10
 most_sensor_state = refl
 
 sensor_enabled : SENSOR_ENABLED ≡ 0

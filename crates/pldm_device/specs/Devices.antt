@@ -3,8 +3,8 @@
 use Rattle.std.specs.Prelude.{ℕ, List}
 use Rattle.pldm_wire.specs.declared.state_fields.SensorStateField.{SensorStateField}
 use Rattle.pldm_records.specs.ById.{ById}
-use Rattle.pldm_device.specs.declared.numeric_sensor.NumericSensor.{NumericSensor}
-use Rattle.pldm_device.specs.declared.numeric_effecter.NumericEffecter.{NumericEffecter}
+use Rattle.pldm_device.specs.declared.numeric.NumericSensor.{NumericSensor}
+use Rattle.pldm_device.specs.declared.numeric.NumericEffecter.{NumericEffecter}
 use Rattle.pldm_device.specs.StateEffecters.{FieldsOfStates}
 
 pub record Device : Type 0 where

@@ -15,7 +15,7 @@ use Rattle.pldm_platform.specs.Changes.{made_of}
 use Rattle.pldm_device.specs.Devices.{Device}
 use Rattle.pldm_device.specs.declared.limits.TheConstants.{EFFECTER_ENABLED, REQUEST_SET}
 use Rattle.pldm_platform.specs.declared.refusals.TheConstants.{INVALID_EFFECTER_ID, INVALID_STATE_VALUE}
-use Rattle.pldm_device.specs.declared.numeric_effecter.NumericEffecter.{NumericEffecter}
+use Rattle.pldm_device.specs.declared.numeric.NumericEffecter.{NumericEffecter}
 use Rattle.pldm_device.specs.StateEffecters.{FieldsOfStates}
 
 -- the effecter with the number as its value: it has to be of the effecter's data size, and in its range

@@ -11,8 +11,8 @@ use Rattle.pldm_device.specs.NumberLists.{integers_in, numbers_upto, few_numbers
 use Rattle.pldm_device.specs.SizeNames.{size_in, sized_in}
 use Rattle.pldm_device.specs.StateEffecters.{FieldsOfStates}
 use Rattle.pldm_device.specs.Entries.{entries_at, id_at, things_after}
-use Rattle.pldm_device.specs.declared.limits.TheConstants.{MOST_ALLOWED, MOST_BYTE}
-use Rattle.pldm_device.specs.declared.numeric_effecter.NumericEffecter.{NumericEffecter}
+use Rattle.pldm_device.specs.declared.limits.TheConstants.{MAX_ALLOWED, MAX_BYTE}
+use Rattle.pldm_device.specs.declared.numeric.NumericEffecter.{NumericEffecter}
 use Rattle.pldm_device.specs.declared.description_fault.FileFault.{FileFault}
 use Rattle.pldm_device.specs.declared.description_fault.FileFault.TheVariants.{OutOfRange}
 
@@ -48,7 +48,7 @@ numeric_effecters_in document = entries_at (codes "numeric_effecter") document >
 
 -- the states that a field can take: at least one
 abbrev pub states_in : Data → Result (List ℕ) FileFault
-states_in value = integers_in value >>= numbers_upto MOST_ALLOWED MOST_BYTE >>= composite_of
+states_in value = integers_in value >>= numbers_upto MAX_ALLOWED MAX_BYTE >>= composite_of
 
 -- the lists before, and those of the values after them
 abbrev pub allowed_after : List (List ℕ) → Items → Result (List (List ℕ)) FileFault
@@ -72,7 +72,7 @@ abbrev pub state_effecter_in : Members → Result (ℕ × FieldsOfStates) FileFa
 state_effecter_in entry = do
   id ← id_at entry
   allowed ← value_at (codes "allowed") entry >>= allowed_in
-  states ← value_at (codes "values") entry >>= few_numbers MOST_BYTE >>= states_among allowed
+  states ← value_at (codes "values") entry >>= few_numbers MAX_BYTE >>= states_among allowed
   Ok (id, record { allowed = allowed; states = states })
 
 abbrev pub state_effecter_of : Data → Result (ℕ × FieldsOfStates) FileFault

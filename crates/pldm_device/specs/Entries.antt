@@ -4,12 +4,12 @@ use Rattle.toml.specs.Data.{Data, Items, no_items, item, Members, get_member}
 use Rattle.pldm_records.specs.ById.{ById, has_id, add}
 use Rattle.pldm_device.specs.KeyValues.{◌>>=◌, array_in, number_at}
 use Rattle.pldm_device.specs.NumberLists.{count}
-use Rattle.pldm_device.specs.declared.limits.TheConstants.{MOST_ENTRIES, MOST_ID}
+use Rattle.pldm_device.specs.declared.limits.TheConstants.{MAX_ENTRIES, MAX_ID}
 use Rattle.pldm_device.specs.declared.description_fault.FileFault.{FileFault}
 use Rattle.pldm_device.specs.declared.description_fault.FileFault.TheVariants.{OutOfRange, Duplicate}
 
 abbrev pub not_too_many : Items → Result Items FileFault
-not_too_many items = if nat_le (count items) MOST_ENTRIES then Ok items else Err OutOfRange
+not_too_many items = if nat_le (count items) MAX_ENTRIES then Ok items else Err OutOfRange
 
 abbrev pub entries_of : Option Data → Result Items FileFault
 entries_of None = Ok no_items
@@ -20,7 +20,7 @@ abbrev pub entries_at : List ℕ → Members → Result Items FileFault
 entries_at key document = entries_of (get_member key document)
 
 abbrev pub id_at : Members → Result ℕ FileFault
-id_at entry = number_at (codes "id") 0 MOST_ID entry
+id_at entry = number_at (codes "id") 0 MAX_ID entry
 
 -- the things before, and those of the entries after them in turn: each with an ID that no earlier one has
 abbrev pub things_after :

@@ -6,8 +6,8 @@ use Rattle.std.specs.Map.{keys_of}
 use Rattle.std.specs.Borrow.{Bor}
 use Rattle.pldm_records.specs.ById.{ById}
 use Rattle.pldm_device.specs.StateEffecters.{FieldsOfStates}
-use Rattle.pldm_device.specs.declared.numeric_sensor.NumericSensor.{NumericSensor}
-use Rattle.pldm_device.specs.declared.numeric_effecter.NumericEffecter.{NumericEffecter}
+use Rattle.pldm_device.specs.declared.numeric.NumericSensor.{NumericSensor}
+use Rattle.pldm_device.specs.declared.numeric.NumericEffecter.{NumericEffecter}
 
 -- the IDs ascend
 abbrev pub AscendingIds : {X : Type 0} → ById X → Type 0

@@ -2,7 +2,7 @@
 use Rattle.std.specs.Prelude.{ℕ, ◌+◌, nat_le, Bool, true, ◌&&◌, List, [], ◌∷◌, ◌++◌}
 use Rattle.std.specs.Prelude.{Result, Ok, Err, is_some, is_ok, if◌then◌else◌}
 use Rattle.toml.specs.Data.{Data, as_integer, Items, no_items, item}
-use Rattle.pldm_wire.specs.declared.limits.TheConstants.{MOST_STATES}
+use Rattle.pldm_wire.specs.declared.limits.TheConstants.{MAX_STATES}
 use Rattle.pldm_device.specs.declared.description_fault.FileFault.{FileFault}
 use Rattle.pldm_device.specs.declared.description_fault.FileFault.TheVariants.{WrongKind, OutOfRange}
 use Rattle.pldm_device.specs.KeyValues.{◌>>=◌, number_in, array_in}
@@ -31,7 +31,7 @@ numbers_upto most high items = if nat_le (count items) most then numbers_after h
 
 -- an array of at most eight numbers, each from 0 to high
 abbrev pub few_numbers : ℕ → Data → Result (List ℕ) FileFault
-few_numbers high value = integers_in value >>= numbers_upto MOST_STATES high
+few_numbers high value = integers_in value >>= numbers_upto MAX_STATES high
 
 -- a list with something in it
 abbrev pub composite_of : {A : Type 0} → List A → Result (List A) FileFault
@@ -48,7 +48,7 @@ number_lists_in value = array_in value >>= λ lists. if are_number_lists lists t
 
 -- as many items as a composite sensor or effecter has fields at most
 abbrev pub not_too_many_fields : Items → Result Items FileFault
-not_too_many_fields items = if nat_le (count items) MOST_STATES then Ok items else Err OutOfRange
+not_too_many_fields items = if nat_le (count items) MAX_STATES then Ok items else Err OutOfRange
 
 abbrev pub few_lists : Data → Result Items FileFault
 few_lists value = number_lists_in value >>= not_too_many_fields

@@ -10,9 +10,9 @@ use Rattle.pldm_platform.specs.Changes.{made_of}
 use Rattle.pldm_device.specs.Devices.{Device}
 use Rattle.pldm_device.specs.declared.limits.TheConstants.{SENSOR_ENABLED, NO_EVENTS}
 use Rattle.pldm_platform.specs.declared.refusals.TheConstants.{INVALID_SENSOR_ID}
-use Rattle.pldm_device.specs.declared.numeric_sensor.NumericSensor.{NumericSensor}
-use Rattle.pldm_platform.specs.declared.reading_fault.ReadingFault.{ReadingFault}
-use Rattle.pldm_platform.specs.declared.reading_fault.ReadingFault.TheVariants.{NoSuchSensor, OutOfSize}
+use Rattle.pldm_device.specs.declared.numeric.NumericSensor.{NumericSensor}
+use Rattle.pldm_platform.specs.declared.platform.ReadingFault.{ReadingFault}
+use Rattle.pldm_platform.specs.declared.platform.ReadingFault.TheVariants.{NoSuchSensor, OutOfSize}
 
 abbrev pub numeric_sensor_answered : Option NumericSensor → Answer
 numeric_sensor_answered None = Refused INVALID_SENSOR_ID

@@ -7,8 +7,8 @@ use Rattle.pldm_device.specs.KeyValues.{◌>>=◌, value_at, table_in}
 use Rattle.pldm_device.specs.NumberLists.{few_numbers, few_lists, composite_of}
 use Rattle.pldm_device.specs.SizeNames.{size_in, sized_in}
 use Rattle.pldm_device.specs.Entries.{entries_at, id_at, things_after}
-use Rattle.pldm_device.specs.declared.limits.TheConstants.{MOST_SENSOR_STATE, MOST_BYTE}
-use Rattle.pldm_device.specs.declared.numeric_sensor.NumericSensor.{NumericSensor}
+use Rattle.pldm_device.specs.declared.limits.TheConstants.{MAX_SENSOR_STATE, MAX_BYTE}
+use Rattle.pldm_device.specs.declared.numeric.NumericSensor.{NumericSensor}
 use Rattle.pldm_device.specs.declared.description_fault.FileFault.{FileFault}
 use Rattle.pldm_device.specs.declared.description_fault.FileFault.TheVariants.{OutOfRange}
 
@@ -18,7 +18,7 @@ three_of (present ∷ previous ∷ event ∷ []) = Ok (present, previous, event)
 three_of _ = Err OutOfRange
 
 abbrev pub three_states_in : Data → Result (ℕ × ℕ × ℕ) FileFault
-three_states_in value = few_numbers MOST_SENSOR_STATE value >>= three_of
+three_states_in value = few_numbers MAX_SENSOR_STATE value >>= three_of
 
 abbrev pub numeric_sensor_in : Members → Result (ℕ × NumericSensor) FileFault
 numeric_sensor_in entry = do
@@ -44,7 +44,7 @@ field_of (operational ∷ present ∷ previous ∷ event ∷ []) =
 field_of _ = Err OutOfRange
 
 abbrev pub field_in : Data → Result SensorStateField FileFault
-field_in value = few_numbers MOST_BYTE value >>= field_of
+field_in value = few_numbers MAX_BYTE value >>= field_of
 
 -- the fields before, and those of the lists after them
 abbrev pub fields_after : List SensorStateField → Items → Result (List SensorStateField) FileFault

@@ -62,7 +62,8 @@ impl Description {
 // The description that the table of a whole document states.
 #[tactic(auto, using(crate::proofs::Blank::number_is_there), unfolding(crate::specs::Descriptions::description_of))]
 fn in_document(alloc: Global, table: &Table) -> Result<Description, FileFault>
-    ensures stated { IsOrMemoryWhere (IsSome (get_member (codes "eid") (table_view table.now))) result (description_of (table_view table.now)) }
+    ensures stated { IsOrMemoryWhere (IsSome (get_member (codes "eid") (table_view table.now))) result (description_of
+        (table_view table.now)) }
     ensures range { IfOk result IsInRange }
 {
     let eid = number_at(table, "eid", 8, 254)?;

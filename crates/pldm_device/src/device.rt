@@ -278,7 +278,8 @@ fn set_number_in(
     id: u16,
     value: Number,
 ) -> Result<(), Code>
-    ensures { Changes (change_at INVALID_EFFECTER_ID (set_number value) id effecters.old.entries) effecters.old.entries result effecters.new.entries }
+    ensures { Changes (change_at INVALID_EFFECTER_ID (set_number value) id effecters.old.entries)
+        effecters.old.entries result effecters.new.entries }
 {
     match effecters.get_mut(&id) {
         Some(effecter) => effecter.set(value),
@@ -292,7 +293,8 @@ fn set_states_in(
     id: u16,
     fields: &StateFields<SetStateField>,
 ) -> Result<(), Code>
-    ensures { Changes (change_at INVALID_EFFECTER_ID (set_states fields.now) id effecters.old.entries) effecters.old.entries result effecters.new.entries }
+    ensures { Changes (change_at INVALID_EFFECTER_ID (set_states fields.now) id effecters.old.entries)
+        effecters.old.entries result effecters.new.entries }
 {
     match effecters.get_mut(&id) {
         Some(effecter) => effecter.set(fields),
@@ -306,7 +308,8 @@ fn sense_in(
     id: u16,
     value: i64,
 ) -> Result<(), ReadingFault>
-    ensures { Changes (change_at ReadingFault.NoSuchSensor (sense value) id sensors.old.entries) sensors.old.entries result sensors.new.entries }
+    ensures { Changes (change_at ReadingFault.NoSuchSensor (sense value) id sensors.old.entries) sensors.old.entries
+        result sensors.new.entries }
 {
     match sensors.get_mut(&id) {
         Some(sensor) => sensor.sense(value),

@@ -10,11 +10,11 @@ ghost use Rattle.toml.specs.View.{items_view, table_view, view};
 use crate::description_fault::FileFault;
 use crate::entries::{entries_at, id_at};
 use crate::keys::{number_in, table_in, value_at};
-use crate::limits::{MOST_ALLOWED, MOST_BYTE};
+use crate::limits::{MAX_ALLOWED, MAX_BYTE};
 use crate::number_lists::{few_lists, few_numbers, integers_in};
 use crate::size_names::{size_in, sized_in};
 use crate::{AllowedStates, NumericEffecter, StateEffecter};
-use pldm_wire::{MOST_STATES, Number, Size, StateFields};
+use pldm_wire::{MAX_STATES, Number, Size, StateFields};
 use std::alloc::Global;
 use std::collections::BTreeMap;
 use toml::{Table, Value};
@@ -24,7 +24,8 @@ pub(crate) fn numeric_effecters_in(
     alloc: Global,
     table: &Table,
 ) -> Result<BTreeMap<u16, NumericEffecter>, FileFault>
-    ensures { IsOrMemory (map_ok (λ effecters. effecters.entries) result) (numeric_effecters_in (table_view table.now)) }
+    ensures { IsOrMemory (map_ok (λ effecters. effecters.entries) result) (numeric_effecters_in
+        (table_view table.now)) }
 {
     numeric_effecters_of(alloc, entries_at(table, "numeric_effecter")?)
 }
@@ -33,7 +34,8 @@ fn numeric_effecters_of(
     alloc: Global,
     entries: &[Value],
 ) -> Result<BTreeMap<u16, NumericEffecter>, FileFault>
-    ensures { IsOrMemory (map_ok (λ effecters. effecters.entries) result) (numeric_effecters_after [] (items_view entries.now)) }
+    ensures { IsOrMemory (map_ok (λ effecters. effecters.entries) result) (numeric_effecters_after []
+        (items_view entries.now)) }
 {
     let mut effecters = BTreeMap::new(alloc);
     for entry in entries {
@@ -101,7 +103,8 @@ pub(crate) fn state_effecters_in(
     table: &Table,
     numeric: &BTreeMap<u16, NumericEffecter>,
 ) -> Result<BTreeMap<u16, StateEffecter>, FileFault>
-    ensures { IsOrMemory (map_ok (λ effecters. effecters.entries) result) (state_effecters_in numeric.now.entries (table_view table.now)) }
+    ensures { IsOrMemory (map_ok (λ effecters. effecters.entries) result) (state_effecters_in numeric.now.entries
+        (table_view table.now)) }
 {
     state_effecters_of(alloc, entries_at(table, "state_effecter")?, numeric)
 }
@@ -111,7 +114,8 @@ fn state_effecters_of(
     entries: &[Value],
     numeric: &BTreeMap<u16, NumericEffecter>,
 ) -> Result<BTreeMap<u16, StateEffecter>, FileFault>
-    ensures { IsOrMemory (map_ok (λ effecters. effecters.entries) result) (state_effecters_after numeric.now.entries [] (items_view entries.now)) }
+    ensures { IsOrMemory (map_ok (λ effecters. effecters.entries) result) (state_effecters_after numeric.now.entries
+        [] (items_view entries.now)) }
 {
     let mut effecters = BTreeMap::new(alloc);
     for entry in entries {
@@ -138,7 +142,7 @@ fn state_effecter_in(alloc: Global, entry: &Table) -> Result<(u16, StateEffecter
 {
     let id = id_at(entry)?;
     let allowed = allowed_in(alloc, value_at(entry, "allowed")?)?;
-    let states = few_numbers(value_at(entry, "values")?, MOST_BYTE)?;
+    let states = few_numbers(value_at(entry, "values")?, MAX_BYTE)?;
     let states = states_among(allowed.as_slice(), states.as_slice())?;
     Ok((id, StateEffecter::new(allowed, states)))
 }
@@ -180,9 +184,10 @@ fn states_in(alloc: Global, value: &Value) -> Result<Vec<u8>, FileFault>
 
 #[tactic(auto, using(crate::proofs::Counts::counted))]
 fn numbers_upto(alloc: Global, items: &[Value]) -> Result<Vec<u8>, FileFault>
-    ensures { IsOrMemory (map_ok (λ numbers. numbers.items) result) (numbers_upto MOST_ALLOWED MOST_BYTE (items_view items.now)) }
+    ensures { IsOrMemory (map_ok (λ numbers. numbers.items) result) (numbers_upto MAX_ALLOWED MAX_BYTE
+        (items_view items.now)) }
 {
-    if items.len() > MOST_ALLOWED {
+    if items.len() > MAX_ALLOWED {
         Err(FileFault::OutOfRange)
     } else {
         numbers_of(alloc, items)
@@ -190,11 +195,11 @@ fn numbers_upto(alloc: Global, items: &[Value]) -> Result<Vec<u8>, FileFault>
 }
 
 fn numbers_of(alloc: Global, items: &[Value]) -> Result<Vec<u8>, FileFault>
-    ensures { IsOrMemory (map_ok (λ numbers. numbers.items) result) (numbers_after MOST_BYTE [] (items_view items.now)) }
+    ensures { IsOrMemory (map_ok (λ numbers. numbers.items) result) (numbers_after MAX_BYTE [] (items_view items.now)) }
 {
     let mut numbers = Vec::new(alloc);
     for item in items {
-        let number = number_in(item, 0, MOST_BYTE)? as u8;
+        let number = number_in(item, 0, MAX_BYTE)? as u8;
         if numbers.push(number).is_err() {
             return Err(FileFault::Memory);
         }
@@ -204,7 +209,7 @@ fn numbers_of(alloc: Global, items: &[Value]) -> Result<Vec<u8>, FileFault>
 
 /// The state of each field, which is one that the field can take.
 fn states_among(allowed: &[AllowedStates], states: &[u8]) -> Result<StateFields<u8>, FileFault>
-    requires { length states.now ≤ MOST_STATES }
+    requires { length states.now ≤ MAX_STATES }
     ensures { result ≡ states_among allowed.now states.now }
 {
     if states.len() != allowed.len() || !are_in(states, allowed) {

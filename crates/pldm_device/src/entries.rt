@@ -8,14 +8,14 @@ ghost use Rattle.toml.specs.View.{items_view, table_view, view};
 
 use crate::description_fault::FileFault;
 use crate::keys::{array_in, number_at};
-use crate::limits::{MOST_ENTRIES, MOST_ID};
+use crate::limits::{MAX_ENTRIES, MAX_ID};
 use toml::{Table, Value};
 
 /// The entries of the list at the key, none where there is no list; `OutOfRange` where they are too
 /// many.
 pub(crate) fn entries_at<'a>(table: &'a Table, key: &str) -> Result<&'a [Value], FileFault>
     ensures value { map_ok (λ items. items_view items.now) result ≡ entries_at key.now (table_view table.now) }
-    ensures count { IfOk result (λ items. length items.now ≤ MOST_ENTRIES) }
+    ensures count { IfOk result (λ items. length items.now ≤ MAX_ENTRIES) }
 {
     match value_if_any(table, key) {
         Some(value) => not_too_many(array_in(value)?),
@@ -34,9 +34,9 @@ fn value_if_any<'a>(table: &'a Table, key: &str) -> Option<&'a Value>
 #[tactic(auto, using(crate::proofs::Counts::counted))]
 fn not_too_many(entries: &[Value]) -> Result<&[Value], FileFault>
     ensures value { map_ok (λ items. items_view items.now) result ≡ not_too_many (items_view entries.now) }
-    ensures count { IfOk result (λ items. length items.now ≤ MOST_ENTRIES) }
+    ensures count { IfOk result (λ items. length items.now ≤ MAX_ENTRIES) }
 {
-    if entries.len() <= MOST_ENTRIES {
+    if entries.len() <= MAX_ENTRIES {
         Ok(entries)
     } else {
         Err(FileFault::OutOfRange)
@@ -47,6 +47,6 @@ fn not_too_many(entries: &[Value]) -> Result<&[Value], FileFault>
 pub(crate) fn id_at(entry: &Table) -> Result<u16, FileFault>
     ensures { result ≡ id_at (table_view entry.now) }
 {
-    let id = number_at(entry, "id", 0, MOST_ID)?;
+    let id = number_at(entry, "id", 0, MAX_ID)?;
     Ok(id as u16)
 }

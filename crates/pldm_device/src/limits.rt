@@ -1,19 +1,19 @@
 //! Numbers that the profile and the standards give for a simulated device.
 
 /// The most entries of a list of a description.
-pub const MOST_ENTRIES: usize = 1_000;
+pub const MAX_ENTRIES: usize = 1_000;
 
 /// The greatest ID of a sensor or an effecter.
-pub const MOST_ID: u32 = 65_535;
+pub const MAX_ID: u32 = 65_535;
 
 /// The greatest number of a byte, as states are.
-pub const MOST_BYTE: u32 = 255;
+pub const MAX_BYTE: u32 = 255;
 
 /// The most states that a field of a state effecter can take.
-pub const MOST_ALLOWED: usize = 256;
+pub const MAX_ALLOWED: usize = 256;
 
 /// The greatest state of a numeric sensor: UpperFatal (DSP0248, "presentState").
-pub const MOST_SENSOR_STATE: u32 = 10;
+pub const MAX_SENSOR_STATE: u32 = 10;
 
 /// The operational state `enabled` of a sensor (DSP0248, "sensorOperationalState").
 pub const SENSOR_ENABLED: u8 = 0;

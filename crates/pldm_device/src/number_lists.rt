@@ -8,7 +8,7 @@ ghost use Rattle.toml.specs.View.{items_view, view};
 use crate::description_fault::FileFault;
 use crate::keys::{array_in, number_in};
 use arrayvec::ArrayVec;
-use pldm_wire::MOST_STATES;
+use pldm_wire::MAX_STATES;
 use toml::Value;
 
 /// Whether all items are integers.
@@ -35,8 +35,8 @@ pub(crate) fn integers_in(value: &Value) -> Result<&[Value], FileFault>
     }
 }
 
-/// At most [`MOST_STATES`] numbers, each from 0 to `high`, which is at most 255.
-pub(crate) fn few_numbers(value: &Value, high: u32) -> Result<ArrayVec<u8, MOST_STATES>, FileFault>
+/// At most [`MAX_STATES`] numbers, each from 0 to `high`, which is at most 255.
+pub(crate) fn few_numbers(value: &Value, high: u32) -> Result<ArrayVec<u8, MAX_STATES>, FileFault>
     requires { high ≤ 255 }
     ensures { map_ok (λ numbers. numbers.items) result ≡ few_numbers high (view value.now) }
 {
@@ -45,11 +45,11 @@ pub(crate) fn few_numbers(value: &Value, high: u32) -> Result<ArrayVec<u8, MOST_
 
 /// The same of the items of an array.
 #[tactic(auto, using(crate::proofs::Counts::counted))]
-fn few_in(items: &[Value], high: u32) -> Result<ArrayVec<u8, MOST_STATES>, FileFault>
+fn few_in(items: &[Value], high: u32) -> Result<ArrayVec<u8, MAX_STATES>, FileFault>
     requires { high ≤ 255 }
-    ensures { map_ok (λ numbers. numbers.items) result ≡ numbers_upto MOST_STATES high (items_view items.now) }
+    ensures { map_ok (λ numbers. numbers.items) result ≡ numbers_upto MAX_STATES high (items_view items.now) }
 {
-    if items.len() > MOST_STATES {
+    if items.len() > MAX_STATES {
         Err(FileFault::OutOfRange)
     } else {
         numbers_in(items, high)
@@ -57,8 +57,8 @@ fn few_in(items: &[Value], high: u32) -> Result<ArrayVec<u8, MOST_STATES>, FileF
 }
 
 /// The numbers, each from 0 to `high`.
-fn numbers_in(items: &[Value], high: u32) -> Result<ArrayVec<u8, MOST_STATES>, FileFault>
-    requires count { length items.now ≤ MOST_STATES }
+fn numbers_in(items: &[Value], high: u32) -> Result<ArrayVec<u8, MAX_STATES>, FileFault>
+    requires count { length items.now ≤ MAX_STATES }
     requires byte { high ≤ 255 }
     ensures { map_ok (λ numbers. numbers.items) result ≡ numbers_after high [] (items_view items.now) }
 {
@@ -93,10 +93,10 @@ fn number_lists_in(value: &Value) -> Result<&[Value], FileFault>
     }
 }
 
-/// At most [`MOST_STATES`] arrays of integers.
+/// At most [`MAX_STATES`] arrays of integers.
 pub(crate) fn few_lists(value: &Value) -> Result<&[Value], FileFault>
     ensures value { map_ok (λ items. items_view items.now) result ≡ few_lists (view value.now) }
-    ensures count { IfOk result (λ items. length items.now ≤ MOST_STATES) }
+    ensures count { IfOk result (λ items. length items.now ≤ MAX_STATES) }
 {
     not_too_many_fields(number_lists_in(value)?)
 }
@@ -104,9 +104,9 @@ pub(crate) fn few_lists(value: &Value) -> Result<&[Value], FileFault>
 #[tactic(auto, using(crate::proofs::Counts::counted))]
 fn not_too_many_fields(items: &[Value]) -> Result<&[Value], FileFault>
     ensures value { map_ok (λ items. items_view items.now) result ≡ not_too_many_fields (items_view items.now) }
-    ensures count { IfOk result (λ items. length items.now ≤ MOST_STATES) }
+    ensures count { IfOk result (λ items. length items.now ≤ MAX_STATES) }
 {
-    if items.len() <= MOST_STATES {
+    if items.len() <= MAX_STATES {
         Ok(items)
     } else {
         Err(FileFault::OutOfRange)

@@ -9,7 +9,7 @@ use crate::description_fault::FileFault;
 use crate::entries::entries_at;
 use crate::hex_values::bytes_in;
 use crate::keys::{table_in, value_at};
-use crate::limits::MOST_ENTRIES;
+use crate::limits::MAX_ENTRIES;
 use pldm_records::{Record, Repository};
 use std::alloc::Global;
 use toml::{Table, Value};
@@ -22,7 +22,7 @@ pub(crate) fn records_in(alloc: Global, table: &Table) -> Result<Repository, Fil
 }
 
 fn records_of(alloc: Global, entries: &[Value]) -> Result<Repository, FileFault>
-    requires { length entries.now ≤ MOST_ENTRIES }
+    requires { length entries.now ≤ MAX_ENTRIES }
     ensures { IsOrMemory result (records_after [] (items_view entries.now)) }
 {
     let mut records = Repository::new(alloc);

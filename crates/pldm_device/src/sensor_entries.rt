@@ -10,11 +10,11 @@ use crate::NumericSensor;
 use crate::description_fault::FileFault;
 use crate::entries::{entries_at, id_at};
 use crate::keys::{table_in, value_at};
-use crate::limits::{MOST_BYTE, MOST_SENSOR_STATE};
+use crate::limits::{MAX_BYTE, MAX_SENSOR_STATE};
 use crate::number_lists::{few_lists, few_numbers};
 use crate::size_names::{size_in, sized_in};
 use arrayvec::ArrayVec;
-use pldm_wire::{MOST_STATES, SensorStateField, StateFields};
+use pldm_wire::{MAX_STATES, SensorStateField, StateFields};
 use std::alloc::Global;
 use std::collections::BTreeMap;
 use toml::{Table, Value};
@@ -33,7 +33,8 @@ fn numeric_sensors_of(
     alloc: Global,
     entries: &[Value],
 ) -> Result<BTreeMap<u16, NumericSensor>, FileFault>
-    ensures { IsOrMemory (map_ok (λ sensors. sensors.entries) result) (numeric_sensors_after [] (items_view entries.now)) }
+    ensures { IsOrMemory (map_ok (λ sensors. sensors.entries) result) (numeric_sensors_after []
+        (items_view entries.now)) }
 {
     let mut sensors = BTreeMap::new(alloc);
     for entry in entries {
@@ -75,7 +76,7 @@ fn numeric_sensor_in(entry: &Table) -> Result<(u16, NumericSensor), FileFault>
 fn three_states_in(value: &Value) -> Result<(u8, u8, u8), FileFault>
     ensures { result ≡ three_states_in (view value.now) }
 {
-    let states = few_numbers(value, MOST_SENSOR_STATE)?;
+    let states = few_numbers(value, MAX_SENSOR_STATE)?;
     match states.as_slice() {
         [present, previous, event] => Ok((*present, *previous, *event)),
         _ => Err(FileFault::OutOfRange),
@@ -88,7 +89,8 @@ pub(crate) fn state_sensors_in(
     table: &Table,
     numeric: &BTreeMap<u16, NumericSensor>,
 ) -> Result<BTreeMap<u16, StateFields<SensorStateField>>, FileFault>
-    ensures { IsOrMemory (map_ok (λ sensors. sensors.entries) result) (state_sensors_in numeric.now.entries (table_view table.now)) }
+    ensures { IsOrMemory (map_ok (λ sensors. sensors.entries) result) (state_sensors_in numeric.now.entries
+        (table_view table.now)) }
 {
     state_sensors_of(alloc, entries_at(table, "state_sensor")?, numeric)
 }
@@ -98,7 +100,8 @@ fn state_sensors_of(
     entries: &[Value],
     numeric: &BTreeMap<u16, NumericSensor>,
 ) -> Result<BTreeMap<u16, StateFields<SensorStateField>>, FileFault>
-    ensures { IsOrMemory (map_ok (λ sensors. sensors.entries) result) (state_sensors_after numeric.now.entries [] (items_view entries.now)) }
+    ensures { IsOrMemory (map_ok (λ sensors. sensors.entries) result) (state_sensors_after numeric.now.entries []
+        (items_view entries.now)) }
 {
     let mut sensors = BTreeMap::new(alloc);
     for entry in entries {
@@ -139,8 +142,8 @@ fn fields_in(value: &Value) -> Result<StateFields<SensorStateField>, FileFault>
     Ok(StateFields::new(fields.as_slice()).unwrap())
 }
 
-fn fields_of(lists: &[Value]) -> Result<ArrayVec<SensorStateField, MOST_STATES>, FileFault>
-    requires { length lists.now ≤ MOST_STATES }
+fn fields_of(lists: &[Value]) -> Result<ArrayVec<SensorStateField, MAX_STATES>, FileFault>
+    requires { length lists.now ≤ MAX_STATES }
     ensures { map_ok (λ fields. fields.items) result ≡ fields_after [] (items_view lists.now) }
 {
     let mut fields = ArrayVec::new();
@@ -154,7 +157,7 @@ fn fields_of(lists: &[Value]) -> Result<ArrayVec<SensorStateField, MOST_STATES>,
 fn field_in(value: &Value) -> Result<SensorStateField, FileFault>
     ensures { result ≡ field_in (view value.now) }
 {
-    let states = few_numbers(value, MOST_BYTE)?;
+    let states = few_numbers(value, MAX_BYTE)?;
     match states.as_slice() {
         [operational, present, previous, event] => Ok(SensorStateField {
             operational: *operational,

@@ -9,7 +9,7 @@ ghost use Rattle.pldm_device.specs.StateEffecters.{fields_of_states};
 use crate::limits::{EFFECTER_ENABLED, REQUEST_SET};
 use arrayvec::ArrayVec;
 use pldm_platform::{INVALID_STATE_VALUE, code};
-use pldm_wire::{Code, EffecterStateField, MOST_STATES, SetStateField, StateFields};
+use pldm_wire::{Code, EffecterStateField, MAX_STATES, SetStateField, StateFields};
 use std::marker::Model;
 
 /// The states that one field of a state effecter can take.
@@ -96,7 +96,7 @@ impl StateEffecter {
     pub(crate) fn fields(&self) -> StateFields<EffecterStateField>
         ensures { result ≡ map effecter_field self.now.states }
     {
-        let mut fields = ArrayVec::<EffecterStateField, MOST_STATES>::new();
+        let mut fields = ArrayVec::<EffecterStateField, MAX_STATES>::new();
         for state in self.states.as_slice() {
             fields.push(EffecterStateField {
                 operational: EFFECTER_ENABLED,
@@ -153,7 +153,7 @@ fn states_after(sets: &[SetStateField], states: &[u8]) -> StateFields<u8>
     requires range { IsComposite states.now }
     ensures { result ≡ states_after sets.now states.now }
 {
-    let mut after = ArrayVec::<u8, MOST_STATES>::new();
+    let mut after = ArrayVec::<u8, MAX_STATES>::new();
     let mut sets = sets;
     let mut states = states;
     while let ([set, more_sets @ ..], [state, more_states @ ..]) = (sets, states) {

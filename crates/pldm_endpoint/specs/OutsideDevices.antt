@@ -11,11 +11,11 @@ use Rattle.pldm_wire.specs.Responses.{Response, response_of}
 use Rattle.pldm_wire.specs.declared.assigned.TheConstants.{ERROR_NOT_READY}
 use Rattle.pldm_wire.specs.declared.answer.Answer.{Answer}
 use Rattle.pldm_wire.specs.declared.answer.Answer.TheVariants.{Refused}
-use Rattle.pldm_wire.specs.declared.answer_fault.AnswerFault.{AnswerFault}
+use Rattle.pldm_wire.specs.declared.answer_reading.AnswerFault.{AnswerFault}
 use Rattle.pldm_wire.specs.declared.command.Command.{Command}
 use Rattle.pldm_wire.proofs.ReadAnswers.{found}
-use Rattle.pldm_platform.specs.declared.reading_fault.ReadingFault.{ReadingFault}
-use Rattle.pldm_platform.specs.declared.reading_fault.ReadingFault.TheVariants.{NoSuchSensor}
+use Rattle.pldm_platform.specs.declared.platform.ReadingFault.{ReadingFault}
+use Rattle.pldm_platform.specs.declared.platform.ReadingFault.TheVariants.{NoSuchSensor}
 
 abbrev pub or_not_ready : Result Answer AnswerFault → Answer
 or_not_ready (Ok a) = a

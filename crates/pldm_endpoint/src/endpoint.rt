@@ -9,12 +9,12 @@ ghost use Rattle.pldm_responder.specs.Steps.{restarted_held};
 ghost use Rattle.pldm_responder.specs.Wants.{WantsMemory};
 ghost use Rattle.pldm_endpoint.specs.TwoSteps.{AsksAfter, IsAnsweredBy, IsItsAnswer, IsLeftByAnswer, IsLeftByStep, asks_after, bare, held_at_first, received_step};
 
-use crate::answered_kind::is_answer_to;
+use crate::step::is_answer_to;
 use crate::outside_device::OutsideDevice;
-use crate::refusal::{AnswerRefusal, ReceiveRefusal};
+use crate::step::{AnswerRefusal, ReceiveRefusal};
 use crate::step::Step;
 use arrayvec::ArrayVec;
-use mctp_packet::{Body, Eid, Keep, MOST_PACKET_BYTES, Memory, Moment};
+use mctp_packet::{Body, Eid, Keep, MAX_PACKET_BYTES, Memory, Moment};
 use pldm_responder::{Bounds, Outcome, Responder};
 use pldm_wire::{Answer, Command, write_answer};
 use std::alloc::Global;
@@ -24,7 +24,7 @@ use std::marker::Model;
 #[derive(Drop)]
 pub struct Asked {
     moment: Moment,
-    packet: ArrayVec<u8, MOST_PACKET_BYTES>,
+    packet: ArrayVec<u8, MAX_PACKET_BYTES>,
     command: Command,
 }
 
@@ -179,7 +179,8 @@ impl Endpoint {
     /// `NotAsked` exactly where no command is asked, `OtherCommand` exactly where one is and this is the answer to
     /// another. The endpoint is then as before.
     pub fn answer(&mut self, answer: &Answer) -> Result<Outcome, AnswerRefusal>
-        ensures outcome { IfOk result (λ outcome. IsAnsweredBy (held_of self.old.station) self.old.asks answer.now outcome) }
+        ensures outcome { IfOk result (λ outcome. IsAnsweredBy (held_of self.old.station) self.old.asks answer.now
+            outcome) }
         ensures held { OnOk result
             (IsLeftByAnswer (held_of self.old.station) self.old.asks answer.now (held_of self.new.station)) }
         ensures idle { OnOk result (self.new.asks ≡ None) }

@@ -2,14 +2,11 @@
 //! its answer is handed back.
 #![tactic(auto)]
 
-mod answered_kind;
 mod endpoint;
 pub mod laws;
 mod outside_device;
-mod refusal;
 mod step;
 
 pub use endpoint::{Asked, Endpoint};
 pub use outside_device::OutsideDevice;
-pub use refusal::{AnswerRefusal, ReceiveRefusal};
-pub use step::Step;
+pub use step::{AnswerRefusal, ReceiveRefusal, Step};

@@ -1,4 +1,12 @@
+//! What the calls of an endpoint return.
+
+ghost use Rattle.std.specs.Prelude.{◌≡◌, true, false};
+ghost use Rattle.pldm_wire.specs.Answers.{IsAnswerTo, answered_kind};
+
 use pldm_responder::Outcome;
+use mctp_packet::Memory;
+use thiserror::Error;
+use pldm_wire::{Answer, BASE, GET_NUMERIC_EFFECTER_VALUE, GET_PDR, GET_PDR_REPOSITORY_INFO, GET_PLDM_COMMANDS, GET_PLDM_TYPES, GET_PLDM_VERSION, GET_SENSOR_READING, GET_STATE_EFFECTER_STATES, GET_STATE_SENSOR_READINGS, GET_TID, Kind, PLATFORM, SET_NUMERIC_EFFECTER_VALUE, SET_STATE_EFFECTER_STATES, SET_TID};
 
 /// What becomes of the bytes of a packet.
 #[derive(Debug, Drop)]
@@ -7,4 +15,60 @@ pub enum Step {
     Perform,
     /// They are done with: dropped, a part of a message, or answered.
     Done(Outcome),
+}
+
+/// Why a packet was refused. It counts as lost on the bus, and the endpoint is as before.
+#[derive(Clone, Copy, Debug, PartialEq, Eq, Error)]
+pub enum ReceiveRefusal {
+    /// The device is performing a command.
+    #[error("the device is performing a command")]
+    Performing,
+    /// No memory was to be had, or a bound would be passed.
+    #[error("out of memory")]
+    Memory,
+}
+
+/// Why an answer was refused. The endpoint is as before.
+#[derive(Clone, Copy, Debug, PartialEq, Eq, Error)]
+pub enum AnswerRefusal {
+    /// The device is performing no command.
+    #[error("the device is performing no command")]
+    NotAsked,
+    /// It is the answer to another command.
+    #[error("the answer is to another command")]
+    OtherCommand,
+}
+
+/// Whether this answers a command of this kind. A refusal answers any.
+pub(crate) fn is_answer_to(answer: &Answer, kind: Kind) -> bool
+    ensures yes { result ≡ true → IsAnswerTo kind answer.now }
+    ensures no { result ≡ false → IsAnswerTo kind answer.now → ⊥ }
+{
+    match kind_of_answer(answer) {
+        Some(answered) => kind == answered,
+        None => true,
+    }
+}
+
+/// The kind of the one command that this answers.
+fn kind_of_answer(answer: &Answer) -> Option<Kind>
+    ensures { result ≡ answered_kind answer.now }
+{
+    let (pldm_type, command) = match answer {
+        Answer::Refused(_) => return None,
+        Answer::SetTid => (BASE, SET_TID),
+        Answer::GetTid { .. } => (BASE, GET_TID),
+        Answer::GetPldmVersion { .. } => (BASE, GET_PLDM_VERSION),
+        Answer::GetPldmTypes { .. } => (BASE, GET_PLDM_TYPES),
+        Answer::GetPldmCommands { .. } => (BASE, GET_PLDM_COMMANDS),
+        Answer::GetSensorReading { .. } => (PLATFORM, GET_SENSOR_READING),
+        Answer::GetStateSensorReadings { .. } => (PLATFORM, GET_STATE_SENSOR_READINGS),
+        Answer::SetNumericEffecterValue => (PLATFORM, SET_NUMERIC_EFFECTER_VALUE),
+        Answer::GetNumericEffecterValue { .. } => (PLATFORM, GET_NUMERIC_EFFECTER_VALUE),
+        Answer::SetStateEffecterStates => (PLATFORM, SET_STATE_EFFECTER_STATES),
+        Answer::GetStateEffecterStates { .. } => (PLATFORM, GET_STATE_EFFECTER_STATES),
+        Answer::GetPdrRepositoryInfo { .. } => (PLATFORM, GET_PDR_REPOSITORY_INFO),
+        Answer::GetPdr { .. } => (PLATFORM, GET_PDR),
+    };
+    Some(Kind { pldm_type, command })
 }

@@ -2,11 +2,9 @@
 #![tactic(auto)]
 
 mod platform;
-mod reading_fault;
 mod refusals;
 
-pub use platform::Platform;
-pub use reading_fault::ReadingFault;
+pub use platform::{Platform, ReadingFault};
 pub use refusals::{
     INVALID_DATA_TRANSFER_HANDLE, INVALID_EFFECTER_ID, INVALID_PLDM_TYPE, INVALID_RECORD_HANDLE,
     INVALID_SENSOR_ID, INVALID_STATE_VALUE, INVALID_TRANSFER_OPERATION, code, refused,

@@ -1,9 +1,32 @@
 //! The platform behind a terminus: what performs its commands.
 
-use crate::ReadingFault;
+ghost use Rattle.std.specs.Prelude.{◌≡◌};
+ghost use Rattle.pldm_platform.specs.ReadingFaults.{number_of_reading_fault};
+
+use thiserror::Error;
 use mctp_packet::Memory;
 use pldm_wire::{Answer, Command};
 use std::alloc::Global;
+
+/// Why a sensor's reading wasn't set.
+#[derive(Clone, Copy, Debug, PartialEq, Eq, Error)]
+pub enum ReadingFault {
+    /// The platform has no numeric sensor with the ID.
+    #[error("no such sensor")]
+    NoSuchSensor = 1,
+    /// The value is outside the range of the sensor's data size.
+    #[error("out of the sensor's size")]
+    OutOfSize = 2,
+}
+
+impl ReadingFault {
+    /// The fault's number in this profile's list.
+    pub fn number(self) -> u8
+        ensures { result ≡ number_of_reading_fault self }
+    {
+        self as u8
+    }
+}
 
 /// What stands behind a PLDM terminus: a device with a state, which performs commands.
 ///
@@ -44,7 +67,7 @@ pub trait Platform: Drop {
     ghost use Rattle.pldm_wire.specs.declared.answer.Answer.{Answer};
     ghost use Rattle.pldm_wire.specs.declared.answer.Answer.TheVariants as answers;
     ghost use Rattle.pldm_platform.specs.Changes.{Changes};
-    ghost use Rattle.pldm_platform.specs.declared.reading_fault.ReadingFault.{ReadingFault};
+    ghost use Rattle.pldm_platform.specs.declared.platform.ReadingFault.{ReadingFault};
 
     /// What the commands tell and set. No value of it is made.
     type State;

@@ -13,9 +13,9 @@ use Rattle.pldm_records.specs.declared.fetch.FetchState.{FetchState}
 use Rattle.pldm_records.specs.declared.fetch.FetchState.TheVariants.{More, Done}
 use Rattle.pldm_records.specs.declared.fetch.Stage.{Stage}
 use Rattle.pldm_records.specs.declared.fetch.Stage.TheVariants.{Going, Finished, Failed}
-use Rattle.pldm_records.specs.declared.fetch_fault.FetchFault.{FetchFault}
-use Rattle.pldm_records.specs.declared.fetch_fault.FetchFault.TheVariants as faults
-use Rattle.pldm_records.specs.declared.limits.TheConstants.{FIRST_RECORD, MOST_RECORD_BYTES, RECORD_HEADER}
+use Rattle.pldm_records.specs.declared.fetch.FetchFault.{FetchFault}
+use Rattle.pldm_records.specs.declared.fetch.FetchFault.TheVariants as faults
+use Rattle.pldm_records.specs.declared.limits.TheConstants.{FIRST_RECORD, MAX_RECORD_BYTES, RECORD_HEADER}
 
 -- while it goes on, a fetch holds the parts that came
 pub record Holds (asked : ℕ) (bytes : List ℕ) (f : Fetching) : Type 0 where
@@ -94,7 +94,7 @@ ended : (f : Fetching) (n next : ℕ) (part : Part) → part_taken f n part ≡ 
 ended f n next part e = ended_by f n next part _ _ _ refl refl refl e
 
 -- the record's length is below the limit where the part fits
-small_by : (a b : ℕ) (some long : Bool) → nat_lt MOST_RECORD_BYTES (a + b) ≡ long → (some && not long) ≡ true → a + b ≤ MOST_RECORD_BYTES
+small_by : (a b : ℕ) (some long : Bool) → nat_lt MAX_RECORD_BYTES (a + b) ≡ long → (some && not long) ≡ true → a + b ≤ MAX_RECORD_BYTES
 small_by a b true false e fit = ltb-false _ _ e
 small_by a b true true e fit = cc
 small_by a b false long e fit = cc
@@ -103,7 +103,7 @@ small_by a b false long e fit = cc
 abbrev IsDone : ℕ → ℕ → List ℕ → Answer → Type 0
 IsDone asked next pdr answer = IsWhole pdr × IsAsked asked pdr × EndsRecord next pdr answer
 
-whole_by : (asked : ℕ) (pdr : List ℕ) (checksum : Option ℕ) → length pdr ≤ MOST_RECORD_BYTES → record_fault asked pdr checksum ≡ None → IsWhole pdr × IsAsked asked pdr × IfSome checksum (λ c. c ≡ crc pdr)
+whole_by : (asked : ℕ) (pdr : List ℕ) (checksum : Option ℕ) → length pdr ≤ MAX_RECORD_BYTES → record_fault asked pdr checksum ≡ None → IsWhole pdr × IsAsked asked pdr × IfSome checksum (λ c. c ≡ crc pdr)
 whole_by asked pdr checksum small e =
     let p = passed (nat_lt (length pdr) RECORD_HEADER) (length pdr == RECORD_HEADER + data_length_of pdr) (asked == FIRST_RECORD) (handle_of pdr == asked) (is_other_crc checksum pdr) e in
     (record { header = ltb-false _ _ p.long; small = small; counted = eqb-true _ _ p.counts }, asked_for asked pdr p.handle, right_checksum checksum pdr p.transfer_crc)
@@ -112,8 +112,8 @@ part_done : (asked next : ℕ) (bytes : List ℕ) (f : Fetching) (n t : ℕ) (pa
 part_done asked next bytes f n t part asked_is bytes_are e =
     let done = ended f n next part e in
     let none : record_fault asked (bytes ++ part.bytes) part.transfer_crc ≡ None = cc (done.no_fault, asked_is, bytes_are) in
-    let fit : (nat_lt 0 (length part.bytes) && not (nat_lt MOST_RECORD_BYTES (length bytes + length part.bytes))) ≡ true = subst (λ b. (nat_lt 0 (length part.bytes) && not (nat_lt MOST_RECORD_BYTES (length b + length part.bytes))) ≡ true) bytes_are done.fit in
-    let small : length bytes + length part.bytes ≤ MOST_RECORD_BYTES = small_by _ _ _ _ refl fit in
+    let fit : (nat_lt 0 (length part.bytes) && not (nat_lt MAX_RECORD_BYTES (length bytes + length part.bytes))) ≡ true = subst (λ b. (nat_lt 0 (length part.bytes) && not (nat_lt MAX_RECORD_BYTES (length b + length part.bytes))) ≡ true) bytes_are done.fit in
+    let small : length bytes + length part.bytes ≤ MAX_RECORD_BYTES = small_by _ _ _ _ refl fit in
     let parts = whole_by asked (bytes ++ part.bytes) part.transfer_crc (rw (length-append bytes part.bytes) small) none in
     (parts.0, parts.1, (done.follows, done.last, parts.2, λ is_part. by_flag part.transfer_crc (is_end part.flag) (bytes ++ part.bytes) is_part.1 parts.2))
 

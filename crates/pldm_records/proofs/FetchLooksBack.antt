@@ -10,7 +10,7 @@ use Rattle.pldm_records.specs.declared.fetch.FetchState.{FetchState}
 use Rattle.pldm_records.specs.declared.fetch.FetchState.TheVariants.{More, Done}
 use Rattle.pldm_records.specs.declared.fetch.Stage.{Stage}
 use Rattle.pldm_records.specs.declared.fetch.Stage.TheVariants.{Going, Finished, Failed}
-use Rattle.pldm_records.specs.declared.fetch_fault.FetchFault.{FetchFault}
+use Rattle.pldm_records.specs.declared.fetch.FetchFault.{FetchFault}
 
 -- a fetch that goes on after these answers
 abbrev going : ℕ → List Answer → Fetching

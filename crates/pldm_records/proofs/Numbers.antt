@@ -1,17 +1,17 @@
 -- Every constant of the source, written a second time.
 use Rattle.std.proofs.Common.{◌≡◌, refl}
-use Rattle.pldm_records.specs.declared.limits.TheConstants.{MOST_RECORDS, RECORD_HEADER}
-use Rattle.pldm_records.specs.declared.limits.TheConstants.{MOST_RECORD_BYTES, CHANGE_NUMBER_END}
+use Rattle.pldm_records.specs.declared.limits.TheConstants.{MAX_RECORDS, RECORD_HEADER}
+use Rattle.pldm_records.specs.declared.limits.TheConstants.{MAX_RECORD_BYTES, CHANGE_NUMBER_END}
 use Rattle.pldm_records.specs.declared.limits.TheConstants.{HEADER_VERSION, NO_RECORD, FIRST_RECORD}
 use Rattle.pldm_records.specs.declared.limits.TheConstants.{REPOSITORY_AVAILABLE, NO_TRANSFER_TIMEOUT}
 
-most_records : MOST_RECORDS ≡ 1000
+most_records : MAX_RECORDS ≡ 1000
 most_records = refl
 
 record_header : RECORD_HEADER ≡ 10
 record_header = refl
 
-most_record_bytes : MOST_RECORD_BYTES ≡ 65545
+most_record_bytes : MAX_RECORD_BYTES ≡ 65545
 most_record_bytes = refl
 
 change_number_end : CHANGE_NUMBER_END ≡ 8

@@ -5,14 +5,14 @@ use Rattle.std.proofs.lemmas.Bool.Decides.{nat_tests}
 use Rattle.std.proofs.lemmas.List.{append-nil, length-take, length-drop, take_all, take-append-drop, drop-drop}
 use Rattle.pldm_wire.specs.Crc.{crc}
 use Rattle.pldm_wire.specs.RecordParts.{Part}
-use Rattle.pldm_wire.specs.declared.limits.TheConstants.{MOST_PART_BYTES}
+use Rattle.pldm_wire.specs.declared.limits.TheConstants.{MAX_PART_BYTES}
 use Rattle.pldm_records.specs.Records.{checksum_with, flag_of_part, is_last_part, next_data_transfer_handle, offset_after, part_bytes, part_of}
 use Rattle.pldm_records.specs.Transfers.{Followed, IsPartFrom, TellPlaces, joined_parts, parts_asked}
 
 -- how many bytes a part has
-length-part_bytes : (pdr : List ℕ) (offset count : ℕ) → length (part_bytes pdr offset count) ≡ min (min count MOST_PART_BYTES) (length pdr - offset)
+length-part_bytes : (pdr : List ℕ) (offset count : ℕ) → length (part_bytes pdr offset count) ≡ min (min count MAX_PART_BYTES) (length pdr - offset)
 length-part_bytes pdr offset count =
-    length-take (min count MOST_PART_BYTES) (drop offset pdr) ∙ ap (λ n. min (min count MOST_PART_BYTES) n) (length-drop offset pdr)
+    length-take (min count MAX_PART_BYTES) (drop offset pdr) ∙ ap (λ n. min (min count MAX_PART_BYTES) n) (length-drop offset pdr)
 
 -- what no transfer handle follows is the last part
 last_from_none : (pdr : List ℕ) (offset count : ℕ) → 0 < count → 0 ≡ next_data_transfer_handle pdr offset count → is_last_part pdr offset count ≡ true
@@ -27,15 +27,15 @@ last_bytes : (pdr : List ℕ) (offset count : ℕ) → is_last_part pdr offset c
 last_bytes pdr offset count last =
     let bytes = length-part_bytes pdr offset count in
     let rest = length-drop offset pdr in
-    let short : length (drop offset pdr) ≤ min count MOST_PART_BYTES = grind (arith, nat_tests) in
-    take_all (min count MOST_PART_BYTES) (drop offset pdr) short
+    let short : length (drop offset pdr) ≤ min count MAX_PART_BYTES = grind (arith, nat_tests) in
+    take_all (min count MAX_PART_BYTES) (drop offset pdr) short
 
 -- any other has as many as were asked for, and the rest follows
 more_bytes : (pdr : List ℕ) (offset count next : ℕ) → 0 < next → next ≡ next_data_transfer_handle pdr offset count → part_bytes pdr offset count ++ drop next pdr ≡ drop offset pdr
 more_bytes pdr offset count next more is =
     let bytes = length-part_bytes pdr offset count in
-    let next_is : next ≡ offset + min count MOST_PART_BYTES = grind (arith, nat_tests) in
-    rw (next_is, ← drop-drop (min count MOST_PART_BYTES) offset pdr) (take-append-drop (min count MOST_PART_BYTES) (drop offset pdr))
+    let next_is : next ≡ offset + min count MAX_PART_BYTES = grind (arith, nat_tests) in
+    rw (next_is, ← drop-drop (min count MAX_PART_BYTES) offset pdr) (take-append-drop (min count MAX_PART_BYTES) (drop offset pdr))
 
 next_within : (pdr : List ℕ) (offset count next : ℕ) → 0 < next → next ≡ next_data_transfer_handle pdr offset count → next < length pdr
 next_within pdr offset count next more is = grind (arith, nat_tests)

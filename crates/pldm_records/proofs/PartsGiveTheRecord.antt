@@ -8,29 +8,29 @@ use Rattle.pldm_wire.specs.Crc.{crc}
 use Rattle.pldm_wire.specs.TransferFlags.{is_end}
 use Rattle.pldm_wire.specs.declared.command.Command.TheVariants as commands
 use Rattle.pldm_wire.specs.declared.answer.Answer.{Answer}
-use Rattle.pldm_wire.specs.declared.limits.TheConstants.{MOST_PART_BYTES, GET_FIRST_PART, GET_NEXT_PART}
+use Rattle.pldm_wire.specs.declared.limits.TheConstants.{MAX_PART_BYTES, GET_FIRST_PART, GET_NEXT_PART}
 use Rattle.pldm_records.specs.Fetches.{Fetching, taken, part_taken, part_after, after_taking, has_room_for, is_last, is_other_crc, record_fault, fetched_record, next_request, unless_fault}
 use Rattle.pldm_records.proofs.DoneIsTheRecord.{going_recorded}
 use Rattle.pldm_records.specs.FetchLaws.{fetched, IsWhole, IsAsked, part_answer, request_at, ArePartsUpto, PartsGiveTheRecord}
 use Rattle.pldm_records.specs.Records.{part_bytes, offset_after, is_last_part, flag_of_part, part_flag, part_of, checksum_with, next_data_transfer_handle, handle_of, change_number_of, data_length_of}
 use Rattle.pldm_records.specs.declared.fetch.FetchState.TheVariants.{More, Done}
 use Rattle.pldm_records.specs.declared.fetch.Stage.TheVariants.{Going}
-use Rattle.pldm_records.specs.declared.fetch_fault.FetchFault.TheVariants as faults
-use Rattle.pldm_records.specs.declared.limits.TheConstants.{CHANGE_NUMBER_END, FIRST_RECORD, MOST_RECORD_BYTES, RECORD_HEADER}
+use Rattle.pldm_records.specs.declared.fetch.FetchFault.TheVariants as faults
+use Rattle.pldm_records.specs.declared.limits.TheConstants.{CHANGE_NUMBER_END, FIRST_RECORD, MAX_RECORD_BYTES, RECORD_HEADER}
 
 -- the bytes up to the part, and the part
 upto : (pdr : List ℕ) (start count : ℕ) → take start pdr ++ part_bytes pdr start count ≡ take (offset_after pdr start count) pdr
 upto pdr start count =
-    let n = min count MOST_PART_BYTES in
+    let n = min count MAX_PART_BYTES in
     let again : take (length (take n (drop start pdr))) (drop start pdr) ≡ take n (drop start pdr) =
     ap (λ k. take k (drop start pdr)) (length-take n (drop start pdr)) ∙ take_min n (drop start pdr) in
     ap (λ b. take start pdr ++ b) (sym again) ∙ sym (take-add start (length (part_bytes pdr start count)) pdr)
 
 pub some_bytes : (pdr : List ℕ) (start count : ℕ) → start < length pdr → 0 < count → 0 < length (part_bytes pdr start count)
-some_bytes pdr start count within some = rw (length-take (min count MOST_PART_BYTES) (drop start pdr), length-drop start pdr) (omega arith)
+some_bytes pdr start count within some = rw (length-take (min count MAX_PART_BYTES) (drop start pdr), length-drop start pdr) (omega arith)
 
 within_record : (pdr : List ℕ) (start count : ℕ) → start < length pdr → offset_after pdr start count ≤ length pdr
-within_record pdr start count within = rw (length-take (min count MOST_PART_BYTES) (drop start pdr), length-drop start pdr) (omega arith)
+within_record pdr start count within = rw (length-take (min count MAX_PART_BYTES) (drop start pdr), length-drop start pdr) (omega arith)
 
 -- what a fetch holds that was given the parts up to an offset
 abbrev held_upto : ℕ → List ℕ → ℕ → Fetching
@@ -39,7 +39,7 @@ held_upto asked pdr offset = record { asked = asked; bytes = take offset pdr; of
 it_fits : (pdr : List ℕ) (start count : ℕ) → IsWhole pdr → start < length pdr → 0 < count → has_room_for (take start pdr) (part_of pdr start count) ≡ true
 it_fits pdr start count whole within some =
     let here : 0 < length (part_bytes pdr start count) = some_bytes pdr start count within some in
-    let small : length (take start pdr) + length (part_bytes pdr start count) ≤ MOST_RECORD_BYTES =
+    let small : length (take start pdr) + length (part_bytes pdr start count) ≤ MAX_RECORD_BYTES =
     omega (arith, within_record pdr start count within, whole.small, length-take start pdr) in
     grind (arith, nat_tests, here, small)
 
@@ -148,7 +148,7 @@ change_number_here pdr offset false t =
 asks_here : (asked offset : ℕ) (pdr : List ℕ) → offset < length pdr → next_request (held_upto asked pdr offset) ≡ Some (request_at asked pdr offset)
 asks_here asked offset pdr below =
     let long : length (take offset pdr) ≡ offset = rw (length-take offset pdr) (omega arith) in
-    rw long (ap (λ n. Some (commands.GetPdr asked offset (if offset == 0 then GET_FIRST_PART else GET_NEXT_PART) MOST_PART_BYTES n))
+    rw long (ap (λ n. Some (commands.GetPdr asked offset (if offset == 0 then GET_FIRST_PART else GET_NEXT_PART) MAX_PART_BYTES n))
     (change_number_here pdr offset (nat_lt offset CHANGE_NUMBER_END) refl))
 
 pub parts_give_the_record : PartsGiveTheRecord

@@ -12,8 +12,8 @@ use Rattle.std.specs.Ordering.{nat_cmp}
 use Rattle.pldm_records.specs.ById.{ById, with_id}
 use Rattle.pldm_records.specs.Records.{handle_of, largest_record_size, position_of}
 use Rattle.pldm_records.specs.Repositories.{IsIndexed}
-use Rattle.pldm_records.specs.declared.limits.TheConstants.{MOST_RECORDS}
-use Rattle.pldm_records.specs.declared.limits.TheConstants.{MOST_RECORD_BYTES}
+use Rattle.pldm_records.specs.declared.limits.TheConstants.{MAX_RECORDS}
+use Rattle.pldm_records.specs.declared.limits.TheConstants.{MAX_RECORD_BYTES}
 
 -- one more that does not pass changes no position
 position_same : {X : Type 0} (p : X → Bool) (xs : List X) (y : X) → p y ≡ false → position p (xs ++ y ∷ []) ≡ position p xs
@@ -47,7 +47,7 @@ by_handle_push records pdr positions added before inserted fresh handle =
     there ∙ before handle ∙ sym (position_same test records pdr fails))
     (cases_eq (handle_of pdr) handle)
 
-pub indexed_push : (records : List (List ℕ)) (pdr : List ℕ) (positions added : ById ℕ) (size largest : ℕ) → IsIndexed records positions size largest → length records < MOST_RECORDS → length pdr ≤ MOST_RECORD_BYTES → ((handle : ℕ) → with_id handle added ≡ cond (is_at (nat_cmp (handle_of pdr)) handle) (Some (length records)) (with_id handle positions)) → position_of (handle_of pdr) records ≡ None → IsIndexed (records ++ pdr ∷ []) added (size + length pdr) (max largest (length pdr))
+pub indexed_push : (records : List (List ℕ)) (pdr : List ℕ) (positions added : ById ℕ) (size largest : ℕ) → IsIndexed records positions size largest → length records < MAX_RECORDS → length pdr ≤ MAX_RECORD_BYTES → ((handle : ℕ) → with_id handle added ≡ cond (is_at (nat_cmp (handle_of pdr)) handle) (Some (length records)) (with_id handle positions)) → position_of (handle_of pdr) records ≡ None → IsIndexed (records ++ pdr ∷ []) added (size + length pdr) (max largest (length pdr))
 indexed_push records pdr positions added size largest kept room small inserted fresh = record {
   by_handle = by_handle_push records pdr positions added kept.by_handle inserted fresh;
   size_is = omega (arith, kept.size_is, sum_by_push length records pdr);

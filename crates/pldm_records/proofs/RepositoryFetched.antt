@@ -2,7 +2,7 @@
 use Rattle.std.proofs.Common.{◌≡◌, ◌⊎◌, inl, inr, ℕ, zero, suc, ◌+◌, ◌<◌, ◌≤◌, Bool, true, false, ◌==◌, nat_le, nat_lt, if◌then◌else◌, List, ◌∷◌, length, slice_get, None, Some, refl, sym, ap, subst, ◌∙◌, arith, eqb-true}
 use Rattle.std.proofs.lemmas.Bool.Decides.{nat_tests}
 use Rattle.pldm_wire.specs.declared.answer.Answer.{Answer}
-use Rattle.pldm_wire.specs.declared.limits.TheConstants.{MOST_PART_BYTES, GET_FIRST_PART, GET_NEXT_PART}
+use Rattle.pldm_wire.specs.declared.limits.TheConstants.{MAX_PART_BYTES, GET_FIRST_PART, GET_NEXT_PART}
 use Rattle.pldm_records.specs.Fetches.{Fetching, next_request, fetched_record, record_at_stage}
 use Rattle.pldm_records.specs.FetchLaws.{fetched, IsWhole, IsAsked, part_answer, ArePartsUpto, with_answer, answered_rounds, RepositoryIsFetched}
 use Rattle.pldm_records.specs.Records.{handle_at, is_last_part, offset_after, part_bytes, position_asked}
@@ -33,8 +33,8 @@ flag_known false = refl
 
 answered_here : (records : List (List ℕ)) (asked place offset : ℕ) (pdr : List ℕ) → position_asked asked records ≡ Some place
     → slice_get records place ≡ Some pdr → offset < length pdr
-    → record_answer asked offset (if offset == 0 then GET_FIRST_PART else GET_NEXT_PART) MOST_PART_BYTES records
-    ≡ part_answer (handle_at (place + 1) records) pdr offset MOST_PART_BYTES
+    → record_answer asked offset (if offset == 0 then GET_FIRST_PART else GET_NEXT_PART) MAX_PART_BYTES records
+    ≡ part_answer (handle_at (place + 1) records) pdr offset MAX_PART_BYTES
 answered_here records asked place offset pdr at here below =
     rw (flag_known (offset == 0), at, here, offset_found pdr offset below) refl
 
@@ -50,15 +50,15 @@ module _ (records : List (List ℕ)) (asked place : ℕ) (pdr : List ℕ)
   next = handle_at (place + 1) records
 
   one_round : (rounds offset : ℕ) (answers : List Answer) (last : Bool) → ArePartsUpto next pdr offset answers → offset < length pdr → rounds ≤ offset
-      → is_last_part pdr offset MOST_PART_BYTES ≡ last
-      → Rounds records asked place pdr (suc rounds) (part_answer next pdr offset MOST_PART_BYTES ∷ answers)
+      → is_last_part pdr offset MAX_PART_BYTES ≡ last
+      → Rounds records asked place pdr (suc rounds) (part_answer next pdr offset MAX_PART_BYTES ∷ answers)
   one_round rounds offset answers true parts below so_far last =
-      let gives = parts_give_the_record asked next offset MOST_PART_BYTES pdr answers whole is parts below (omega arith) in
+      let gives = parts_give_the_record asked next offset MAX_PART_BYTES pdr answers whole is parts below (omega arith) in
       inr (gives.2 last)
   one_round rounds offset answers false parts below so_far last =
-      let some : 0 < length (part_bytes pdr offset MOST_PART_BYTES) = some_bytes pdr offset MOST_PART_BYTES below (omega arith) in
-      let after : offset_after pdr offset MOST_PART_BYTES < length pdr = grind (arith, nat_tests, last) in
-      inl (offset_after pdr offset MOST_PART_BYTES, (offset, below, (MOST_PART_BYTES, omega arith, refl, refl), parts), after, omega arith)
+      let some : 0 < length (part_bytes pdr offset MAX_PART_BYTES) = some_bytes pdr offset MAX_PART_BYTES below (omega arith) in
+      let after : offset_after pdr offset MAX_PART_BYTES < length pdr = grind (arith, nat_tests, last) in
+      inl (offset_after pdr offset MAX_PART_BYTES, (offset, below, (MAX_PART_BYTES, omega arith, refl, refl), parts), after, omega arith)
 
   rounds_so_far : (rounds : ℕ) → 0 < length pdr → Rounds records asked place pdr rounds (answered_rounds records asked rounds)
   rounds_so_far zero some = inl (0, refl, some, omega arith)
@@ -69,11 +69,11 @@ module _ (records : List (List ℕ)) (asked place : ℕ) (pdr : List ℕ)
         inr (ap (λ request. fetched_record (fetched asked (with_answer records (answered_rounds records asked rounds) request)))
         (no_more (fetched asked (answered_rounds records asked rounds)) pdr (fetched asked (answered_rounds records asked rounds)).stage refl done) ∙ done)
     more (inl (offset, parts, below, so_far)) =
-        let asks = (parts_give_the_record asked next offset MOST_PART_BYTES pdr (answered_rounds records asked rounds) whole is parts below (omega arith)).0 in
+        let asks = (parts_give_the_record asked next offset MAX_PART_BYTES pdr (answered_rounds records asked rounds) whole is parts below (omega arith)).0 in
         let answered = answered_here records asked place offset pdr at here below in
         subst (Rounds records asked place pdr (suc rounds))
         (sym (ap (with_answer records (answered_rounds records asked rounds)) asks ∙ ap (λ a. a ∷ answered_rounds records asked rounds) answered))
-        (one_round rounds offset (answered_rounds records asked rounds) (is_last_part pdr offset MOST_PART_BYTES) parts below so_far refl)
+        (one_round rounds offset (answered_rounds records asked rounds) (is_last_part pdr offset MAX_PART_BYTES) parts below so_far refl)
 
   fetched_whole : Rounds records asked place pdr (length pdr) (answered_rounds records asked (length pdr))
       → fetched_record (fetched asked (answered_rounds records asked (length pdr))) ≡ Some pdr

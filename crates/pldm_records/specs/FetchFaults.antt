@@ -1,8 +1,8 @@
 -- The numbers of the faults of a fetch.
 use Rattle.std.specs.Prelude.{ℕ}
-use Rattle.pldm_records.specs.declared.fetch_fault.FetchFault.{FetchFault}
-use Rattle.pldm_records.specs.declared.fetch_fault.FetchFault.TheVariants.{Refused, Count, Handle}
-use Rattle.pldm_records.specs.declared.fetch_fault.FetchFault.TheVariants.{Crc, Memory, Unexpected}
+use Rattle.pldm_records.specs.declared.fetch.FetchFault.{FetchFault}
+use Rattle.pldm_records.specs.declared.fetch.FetchFault.TheVariants.{Refused, Count, Handle}
+use Rattle.pldm_records.specs.declared.fetch.FetchFault.TheVariants.{Crc, Memory, Unexpected}
 
 abbrev pub number_of_fetch_fault : FetchFault → ℕ
 number_of_fetch_fault (Refused code) = 1

@@ -5,7 +5,7 @@ use Rattle.pldm_wire.specs.declared.answer.Answer.{Answer}
 use Rattle.pldm_wire.specs.declared.answer.Answer.TheVariants.{Refused, GetPdr}
 use Rattle.pldm_wire.specs.declared.command.Command.{Command}
 use Rattle.pldm_wire.specs.declared.command.Command.TheVariants as commands
-use Rattle.pldm_wire.specs.declared.limits.TheConstants.{MOST_PART_BYTES, GET_FIRST_PART, GET_NEXT_PART}
+use Rattle.pldm_wire.specs.declared.limits.TheConstants.{MAX_PART_BYTES, GET_FIRST_PART, GET_NEXT_PART}
 use Rattle.pldm_records.specs.Fetches.{Fetching, begun, taken, taken_while_going}
 use Rattle.pldm_records.specs.Fetches.{after_taking, next_request, fetched_record}
 use Rattle.pldm_records.specs.FetchLaws.{bytes_of_answers}
@@ -13,8 +13,8 @@ use Rattle.pldm_records.specs.Records.{change_number_of}
 use Rattle.pldm_records.specs.declared.fetch.FetchState.{FetchState}
 use Rattle.pldm_records.specs.declared.fetch.FetchState.TheVariants.{More, Done}
 use Rattle.pldm_records.specs.declared.fetch.Stage.TheVariants.{Going, Finished, Failed}
-use Rattle.pldm_records.specs.declared.fetch_fault.FetchFault.{FetchFault}
-use Rattle.pldm_records.specs.declared.fetch_fault.FetchFault.TheVariants as faults
+use Rattle.pldm_records.specs.declared.fetch.FetchFault.{FetchFault}
+use Rattle.pldm_records.specs.declared.fetch.FetchFault.TheVariants as faults
 use Rattle.pldm_records.specs.declared.limits.TheConstants.{CHANGE_NUMBER_END}
 
 -- where the next part begins, as the last part of these answers has it: 0 before the first
@@ -65,7 +65,7 @@ owed asked before answer = owed_after (ended asked before) (judged asked before 
 abbrev pub request_after : ℕ → List Answer → Command
 request_after asked before =
     commands.GetPdr asked (last_handle before)
-    (if length (bytes_of_answers before) == 0 then GET_FIRST_PART else GET_NEXT_PART) MOST_PART_BYTES
+    (if length (bytes_of_answers before) == 0 then GET_FIRST_PART else GET_NEXT_PART) MAX_PART_BYTES
     (if nat_lt (length (bytes_of_answers before)) CHANGE_NUMBER_END then 0
     else change_number_of (bytes_of_answers before))
 

@@ -7,14 +7,14 @@ use Rattle.pldm_wire.specs.declared.answer.Answer.{Answer}
 use Rattle.pldm_wire.specs.declared.answer.Answer.TheVariants.{GetPdr}
 use Rattle.pldm_wire.specs.declared.command.Command.{Command}
 use Rattle.pldm_wire.specs.declared.command.Command.TheVariants as commands
-use Rattle.pldm_wire.specs.declared.limits.TheConstants.{MOST_PART_BYTES, GET_FIRST_PART, GET_NEXT_PART}
+use Rattle.pldm_wire.specs.declared.limits.TheConstants.{MAX_PART_BYTES, GET_FIRST_PART, GET_NEXT_PART}
 use Rattle.pldm_records.specs.Fetches.{Fetching, begun, taken, after_taking, fetched_record, is_last, next_request}
 use Rattle.pldm_records.specs.Records.{handle_of, change_number_of, data_length_of, checksum_with, position_asked}
 use Rattle.pldm_records.specs.Records.{part_of, offset_after, is_last_part, next_data_transfer_handle}
 use Rattle.pldm_records.specs.RecordAnswers.{record_answer}
 use Rattle.pldm_records.specs.declared.fetch.FetchState.TheVariants.{More, Done}
 use Rattle.pldm_records.specs.declared.limits.TheConstants.{CHANGE_NUMBER_END, FIRST_RECORD}
-use Rattle.pldm_records.specs.declared.limits.TheConstants.{MOST_RECORD_BYTES, RECORD_HEADER}
+use Rattle.pldm_records.specs.declared.limits.TheConstants.{MAX_RECORD_BYTES, RECORD_HEADER}
 
 -- what a fetch of the record with this handle holds after these answers
 abbrev pub fetched : ℕ → List Answer → Fetching
@@ -33,7 +33,7 @@ bytes_of_answers (answer ∷ before) = bytes_of_answers before ++ bytes_of answe
 -- a record counts the bytes after its header, and is not too long
 pub record IsWhole (pdr : List ℕ) : Type 0 where
   pub header : RECORD_HEADER ≤ length pdr
-  pub small : length pdr ≤ MOST_RECORD_BYTES
+  pub small : length pdr ≤ MAX_RECORD_BYTES
   pub counted : length pdr ≡ RECORD_HEADER + data_length_of pdr
 
 -- it has the handle that was asked for, or the first record was asked for
@@ -75,7 +75,7 @@ ArePartsUpto next pdr end (answer ∷ before) =
 -- have it
 abbrev pub request_at : ℕ → List ℕ → ℕ → Command
 request_at asked pdr offset =
-    commands.GetPdr asked offset (if offset == 0 then GET_FIRST_PART else GET_NEXT_PART) MOST_PART_BYTES
+    commands.GetPdr asked offset (if offset == 0 then GET_FIRST_PART else GET_NEXT_PART) MAX_PART_BYTES
     (if nat_lt offset CHANGE_NUMBER_END then 0 else change_number_of pdr)
 
 -- where a fetch is given the parts of the record that was asked for in turn, it goes on at each, asking for the next

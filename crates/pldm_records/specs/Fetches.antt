@@ -8,18 +8,18 @@ use Rattle.pldm_wire.specs.declared.answer.Answer.{Answer}
 use Rattle.pldm_wire.specs.declared.answer.Answer.TheVariants.{Refused, GetPdr}
 use Rattle.pldm_wire.specs.declared.command.Command.{Command}
 use Rattle.pldm_wire.specs.declared.command.Command.TheVariants as commands
-use Rattle.pldm_wire.specs.declared.limits.TheConstants.{MOST_PART_BYTES, GET_FIRST_PART, GET_NEXT_PART}
+use Rattle.pldm_wire.specs.declared.limits.TheConstants.{MAX_PART_BYTES, GET_FIRST_PART, GET_NEXT_PART}
 use Rattle.pldm_wire.specs.declared.transfer_flag.TransferFlag.{TransferFlag}
 use Rattle.pldm_wire.specs.declared.transfer_flag.TransferFlag.TheVariants.{End, StartAndEnd}
 use Rattle.pldm_records.specs.Records.{handle_of, change_number_of, data_length_of}
 use Rattle.pldm_records.specs.declared.limits.TheConstants.{CHANGE_NUMBER_END, FIRST_RECORD}
-use Rattle.pldm_records.specs.declared.limits.TheConstants.{MOST_RECORD_BYTES, RECORD_HEADER}
+use Rattle.pldm_records.specs.declared.limits.TheConstants.{MAX_RECORD_BYTES, RECORD_HEADER}
 use Rattle.pldm_records.specs.declared.fetch.FetchState.{FetchState}
 use Rattle.pldm_records.specs.declared.fetch.FetchState.TheVariants.{More, Done}
 use Rattle.pldm_records.specs.declared.fetch.Stage.{Stage}
 use Rattle.pldm_records.specs.declared.fetch.Stage.TheVariants.{Going, Finished, Failed}
-use Rattle.pldm_records.specs.declared.fetch_fault.FetchFault.{FetchFault}
-use Rattle.pldm_records.specs.declared.fetch_fault.FetchFault.TheVariants as faults
+use Rattle.pldm_records.specs.declared.fetch.FetchFault.{FetchFault}
+use Rattle.pldm_records.specs.declared.fetch.FetchFault.TheVariants as faults
 
 -- the handle that was asked for, the bytes of the parts so far, where the next part begins, and how far it has come
 pub record Fetching : Type 0 where
@@ -40,7 +40,7 @@ EndsAt _ = Unit {0}
 
 -- it holds no more than a record can have
 abbrev pub IsSmall : Fetching → Type 0
-IsSmall f = length f.bytes ≤ MOST_RECORD_BYTES
+IsSmall f = length f.bytes ≤ MAX_RECORD_BYTES
 
 abbrev pub IsFetch : Fetching → Type 0
 IsFetch f = IsSmall f × EndsAt f.stage
@@ -52,7 +52,7 @@ begun asked = record { asked = asked; bytes = []; offset = 0; stage = Going }
 -- what a request for the next part asks: the first part, or the one at the offset
 abbrev pub request_for : Fetching → Command
 request_for f =
-    commands.GetPdr f.asked f.offset (if length f.bytes == 0 then GET_FIRST_PART else GET_NEXT_PART) MOST_PART_BYTES
+    commands.GetPdr f.asked f.offset (if length f.bytes == 0 then GET_FIRST_PART else GET_NEXT_PART) MAX_PART_BYTES
     (if nat_lt (length f.bytes) CHANGE_NUMBER_END then 0 else change_number_of f.bytes)
 
 abbrev pub is_going : Stage → Bool
@@ -87,7 +87,7 @@ record_fault asked pdr checksum =
 -- a part may be added: it isn't empty, and the record doesn't grow too long
 abbrev pub has_room_for : List ℕ → Part → Bool
 has_room_for bytes part =
-    nat_lt 0 (length part.bytes) && not (nat_lt MOST_RECORD_BYTES (length bytes + length part.bytes))
+    nat_lt 0 (length part.bytes) && not (nat_lt MAX_RECORD_BYTES (length bytes + length part.bytes))
 
 abbrev pub unless_fault : Option FetchFault → FetchState → Result FetchState FetchFault
 unless_fault None state = Ok state

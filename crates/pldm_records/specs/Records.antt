@@ -7,11 +7,11 @@ use Rattle.pldm_wire.specs.Crc.{crc}
 use Rattle.pldm_wire.specs.Places.{u16_at, u32_at}
 use Rattle.pldm_wire.specs.RecordParts.{Part, part}
 use Rattle.pldm_wire.specs.TransferFlags.{is_end}
-use Rattle.pldm_wire.specs.declared.limits.TheConstants.{MOST_PART_BYTES}
+use Rattle.pldm_wire.specs.declared.limits.TheConstants.{MAX_PART_BYTES}
 use Rattle.pldm_wire.specs.declared.transfer_flag.TransferFlag.{TransferFlag}
 use Rattle.pldm_wire.specs.declared.transfer_flag.TransferFlag.TheVariants.{Start, Middle, End, StartAndEnd}
 use Rattle.pldm_records.specs.declared.limits.TheConstants.{FIRST_RECORD, HEADER_VERSION}
-use Rattle.pldm_records.specs.declared.limits.TheConstants.{MOST_RECORD_BYTES, NO_RECORD, RECORD_HEADER}
+use Rattle.pldm_records.specs.declared.limits.TheConstants.{MAX_RECORD_BYTES, NO_RECORD, RECORD_HEADER}
 
 -- A record begins with its handle, the version of its header, its type, its change number, and how
 -- many bytes of data follow these ten.
@@ -31,7 +31,7 @@ change_number_of pdr = u16_at 6 pdr
 -- whether the bytes are a record: a whole header that counts the bytes after it
 abbrev pub is_record : List ℕ → Bool
 is_record bytes =
-    nat_le RECORD_HEADER (length bytes) && nat_le (length bytes) MOST_RECORD_BYTES && not (handle_of bytes == NO_RECORD)
+    nat_le RECORD_HEADER (length bytes) && nat_le (length bytes) MAX_RECORD_BYTES && not (handle_of bytes == NO_RECORD)
     && (header_version_of bytes == HEADER_VERSION) && (length bytes == RECORD_HEADER + data_length_of bytes)
 
 -- The repository is the list of its records.
@@ -64,7 +64,7 @@ largest_record_size (pdr ∷ records) = max (length pdr) (largest_record_size re
 -- A part of a record, from an offset on, for a request of so many bytes.
 
 abbrev pub part_bytes : List ℕ → ℕ → ℕ → List ℕ
-part_bytes pdr offset count = take (min count MOST_PART_BYTES) (drop offset pdr)
+part_bytes pdr offset count = take (min count MAX_PART_BYTES) (drop offset pdr)
 
 -- the offset after the part
 abbrev pub offset_after : List ℕ → ℕ → ℕ → ℕ

@@ -2,8 +2,8 @@
 use Rattle.std.specs.Prelude.{◌≡◌, ℕ, ◌*◌, ◌≤◌, List, length}
 use Rattle.pldm_records.specs.ById.{ById, with_id}
 use Rattle.pldm_records.specs.Records.{largest_record_size, position_of, repository_size}
-use Rattle.pldm_records.specs.declared.limits.TheConstants.{MOST_RECORDS}
-use Rattle.pldm_records.specs.declared.limits.TheConstants.{MOST_RECORD_BYTES}
+use Rattle.pldm_records.specs.declared.limits.TheConstants.{MAX_RECORDS}
+use Rattle.pldm_records.specs.declared.limits.TheConstants.{MAX_RECORD_BYTES}
 
 -- the positions are those of the records by their handle; the sizes are those of the records, which
 -- are few enough that they fit
@@ -11,5 +11,5 @@ pub record IsIndexed (records : List (List ℕ)) (positions : ById ℕ) (size la
   pub by_handle : (handle : ℕ) → with_id handle positions ≡ position_of handle records
   pub size_is : size ≡ repository_size records
   pub largest_is : largest ≡ largest_record_size records
-  pub count : length records ≤ MOST_RECORDS
-  pub small : size ≤ length records * MOST_RECORD_BYTES
+  pub count : length records ≤ MAX_RECORDS
+  pub small : size ≤ length records * MAX_RECORD_BYTES

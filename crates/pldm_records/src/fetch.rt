@@ -1,16 +1,56 @@
 //! A record fetched in parts: the requester's side of a transfer (DSP0248, "GetPDR command").
 
 ghost use Rattle.std.specs.Prelude.{◌≡◌, ◌≢◌, true, Err, IfSome, option_map};
+ghost use Rattle.pldm_records.specs.FetchFaults.{number_of_fetch_fault};
 ghost use Rattle.pldm_records.specs.Fetches.{Ends, IsSmall, adds, after_taking, begun, failed, has_room_for, is_last, next_request, now_of, part_after, part_taken, record_fault, fetched_record, taken};
 
-use crate::FetchFault;
-use crate::limits::{CHANGE_NUMBER_END, FIRST_RECORD, MOST_RECORD_BYTES, RECORD_HEADER};
+use pldm_wire::{Code, Answer, Command, GET_FIRST_PART, GET_NEXT_PART, MAX_PART_BYTES, RecordPart, TransferFlag, crc8};
+use thiserror::Error;
+use crate::limits::{CHANGE_NUMBER_END, FIRST_RECORD, MAX_RECORD_BYTES, RECORD_HEADER};
 use crate::record::{change_number_of, data_length_of, handle_of};
-use pldm_wire::{
-    Answer, Command, GET_FIRST_PART, GET_NEXT_PART, MOST_PART_BYTES, RecordPart, TransferFlag, crc8,
-};
 use std::alloc::Global;
 use std::marker::Model;
+
+/// Why a fetch failed, or did not take an answer. The first four end the fetch; the last two leave it
+/// as it was.
+#[derive(Clone, Copy, Debug, PartialEq, Eq, Error)]
+pub enum FetchFault {
+    /// The device refused the request with this completion code.
+    #[error("the device refused the request")]
+    Refused(Code),
+    /// A part is empty or passes the longest record, or the record's length is not the one that it
+    /// states.
+    #[error("the record has the wrong length")]
+    Count,
+    /// The record has another handle than was asked for.
+    #[error("the record has another handle")]
+    Handle,
+    /// The record's checksum is not the one that came with its last part.
+    #[error("the record has another checksum")]
+    Crc,
+    /// No memory was left.
+    #[error("out of memory")]
+    Memory,
+    /// It is no answer to GetPDR, or the fetch has finished.
+    #[error("the answer was not asked for")]
+    Unexpected,
+}
+
+impl FetchFault {
+    /// The fault's number in this profile's list.
+    pub fn number(self) -> u8
+        ensures { result ≡ number_of_fetch_fault self }
+    {
+        match self {
+            FetchFault::Refused(_) => 1,
+            FetchFault::Count => 2,
+            FetchFault::Handle => 3,
+            FetchFault::Crc => 4,
+            FetchFault::Memory => 5,
+            FetchFault::Unexpected => 6,
+        }
+    }
+}
 
 /// How a fetch goes on after an answer.
 #[derive(Clone, Copy, Debug, PartialEq, Eq)]
@@ -36,7 +76,7 @@ pub(crate) enum Stage {
 /// Fetches one record in parts. It makes the requests and takes their answers; whoever holds it sends
 /// the one and receives the other.
 ///
-/// It holds at most [`MOST_RECORD_BYTES`] bytes, whatever it is given.
+/// It holds at most [`MAX_RECORD_BYTES`] bytes, whatever it is given.
 #[derive(Debug, Drop)]
 pub struct Fetch {
     handle: u32,
@@ -89,7 +129,7 @@ impl Fetch {
             record_handle: self.handle,
             data_transfer_handle: self.next_data_transfer_handle,
             transfer_operation_flag,
-            request_count: MOST_PART_BYTES as u16,
+            request_count: MAX_PART_BYTES as u16,
             record_change_number,
         })
     }
@@ -132,7 +172,8 @@ impl Fetch {
     ) -> Result<FetchState, FetchFault>
         requires { self.old.stage ≡ Stage.Going }
         ensures taken { result ≢ Err FetchFault.Memory → result ≡ part_taken self.old next_record_handle part.now }
-        ensures after_taking { result ≢ Err FetchFault.Memory → self.new ≡ part_after self.old next_data_transfer_handle part.now (part_taken self.old next_record_handle part.now) }
+        ensures after_taking { result ≢ Err FetchFault.Memory → self.new ≡ part_after self.old
+            next_data_transfer_handle part.now (part_taken self.old next_record_handle part.now) }
         ensures memory { result ≡ Err FetchFault.Memory → has_room_for self.old.bytes part.now ≡ true }
         ensures unchanged { result ≡ Err FetchFault.Memory → self.new ≡ self.old }
         ensures small { IsSmall self.new }
@@ -162,7 +203,7 @@ impl Fetch {
         ensures { result ≡ has_room_for self.now.bytes part.now }
     {
         let more = part.as_slice();
-        !more.is_empty() && more.len() <= MOST_RECORD_BYTES - self.bytes.len()
+        !more.is_empty() && more.len() <= MAX_RECORD_BYTES - self.bytes.len()
     }
 
     /// Why the bytes are not the record that was asked for, if they aren't.

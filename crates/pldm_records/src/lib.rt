@@ -3,16 +3,14 @@
 #![tactic(auto)]
 
 mod fetch;
-mod fetch_fault;
 pub mod laws;
 mod limits;
 mod record;
 mod record_answers;
 mod repository;
 
-pub use fetch::{Fetch, FetchState};
-pub use fetch_fault::FetchFault;
-pub use limits::{MOST_RECORD_BYTES, MOST_RECORDS, RECORD_HEADER};
+pub use fetch::{Fetch, FetchFault, FetchState};
+pub use limits::{MAX_RECORD_BYTES, MAX_RECORDS, RECORD_HEADER};
 pub use record::Record;
 pub use record_answers::{put_record_part, repository_info};
 pub use repository::Repository;

@@ -1,13 +1,13 @@
 //! Numbers that the standards give for records and their transfer.
 
 /// The most records of a repository; the number is this profile's.
-pub const MOST_RECORDS: usize = 1_000;
+pub const MAX_RECORDS: usize = 1_000;
 
 /// The bytes of a record's header (DSP0248, "Common PDR format").
 pub const RECORD_HEADER: usize = 10;
 
 /// The most bytes of a record: its header, and as much data as the header can count.
-pub const MOST_RECORD_BYTES: usize = 65_545;
+pub const MAX_RECORD_BYTES: usize = 65_545;
 
 /// The bytes of a record's header up to the end of its change number (DSP0248, "Common PDR format").
 pub const CHANGE_NUMBER_END: usize = 8;

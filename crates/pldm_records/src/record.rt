@@ -4,10 +4,10 @@ ghost use Rattle.std.specs.Prelude.{◌≡◌, ◌≤◌, ◌<◌, length, Some,
 ghost use Rattle.pldm_records.specs.Records.{change_number_of, data_length_of, flag_of_part, handle_of, header_version_of, is_record, next_data_transfer_handle, part_of};
 
 use crate::limits::{
-    CHANGE_NUMBER_END, HEADER_VERSION, MOST_RECORD_BYTES, NO_RECORD, RECORD_HEADER,
+    CHANGE_NUMBER_END, HEADER_VERSION, MAX_RECORD_BYTES, NO_RECORD, RECORD_HEADER,
 };
 use byteorder::{ByteOrder, LittleEndian};
-use pldm_wire::{MOST_PART_BYTES, RecordPart, TransferFlag, crc8};
+use pldm_wire::{MAX_PART_BYTES, RecordPart, TransferFlag, crc8};
 use std::marker::Model;
 
 /// A platform data record: a header of [`RECORD_HEADER`] bytes, and as much data as it counts.
@@ -43,7 +43,7 @@ impl Record {
     pub fn as_slice(&self) -> &[u8]
         ensures value { result.now ≡ self.now }
         ensures least { RECORD_HEADER ≤ length self.now }
-        ensures most { length self.now ≤ MOST_RECORD_BYTES }
+        ensures most { length self.now ≤ MAX_RECORD_BYTES }
     {
         self.bytes.as_slice()
     }
@@ -55,14 +55,14 @@ impl Record {
         handle_of(self.as_slice())
     }
 
-    /// Its part from the offset on, for a request of so many bytes: at most [`MOST_PART_BYTES`].
+    /// Its part from the offset on, for a request of so many bytes: at most [`MAX_PART_BYTES`].
     pub fn part(&self, offset: usize, count: u16) -> RecordPart
         requires { offset ≤ length self.now }
         ensures { result ≡ part_of self.now offset count }
     {
         let record = self.as_slice();
         let (_, rest) = record.split_at(offset);
-        let count = usize::from(count).min(MOST_PART_BYTES).min(rest.len());
+        let count = usize::from(count).min(MAX_PART_BYTES).min(rest.len());
         let (bytes, more) = rest.split_at(count);
         let flag = flag_of_part(offset == 0, more.is_empty());
         let checksum = if flag.is_end() {
@@ -78,7 +78,7 @@ impl Record {
 fn is_record(bytes: &[u8]) -> bool
     ensures { result ≡ is_record bytes.now }
 {
-    if bytes.len() < RECORD_HEADER || bytes.len() > MOST_RECORD_BYTES {
+    if bytes.len() < RECORD_HEADER || bytes.len() > MAX_RECORD_BYTES {
         return false;
     }
     handle_of(bytes) != NO_RECORD

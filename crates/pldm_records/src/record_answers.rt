@@ -41,7 +41,8 @@ pub fn put_record_part(
     request_count: u16,
     given: &mut Answer,
 )
-    ensures { given.new ≡ record_answer record_handle data_transfer_handle transfer_operation_flag request_count records.now }
+    ensures { given.new ≡ record_answer record_handle data_transfer_handle transfer_operation_flag request_count
+        records.now }
 {
     *given = record_answer(
         records,
@@ -60,7 +61,8 @@ fn record_answer(
     transfer_operation_flag: u8,
     request_count: u16,
 ) -> Answer
-    ensures { result ≡ record_answer record_handle data_transfer_handle transfer_operation_flag request_count records.now }
+    ensures { result ≡ record_answer record_handle data_transfer_handle transfer_operation_flag request_count
+        records.now }
 {
     if request_count == 0 {
         return Answer::Refused(Code::ERROR_INVALID_DATA);

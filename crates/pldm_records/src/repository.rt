@@ -3,14 +3,14 @@
 ghost use Rattle.std.specs.Prelude.{◌≡◌, ◌++◌, [], ◌∷◌, ◌<◌, None, length, option_copied, slice_get, OnErr, OnOk, OnSome};
 ghost use Rattle.pldm_records.specs.Records.{handle_at, handle_of, largest_record_size, position_asked, position_of, repository_size};
 
-use crate::limits::{FIRST_RECORD, MOST_RECORDS, NO_RECORD};
+use crate::limits::{FIRST_RECORD, MAX_RECORDS, NO_RECORD};
 use crate::record::Record;
 use mctp_packet::Memory;
 use std::alloc::Global;
 use std::collections::BTreeMap;
 use std::marker::Model;
 
-/// Records in their order, at most [`MOST_RECORDS`], no two with one record handle.
+/// Records in their order, at most [`MAX_RECORDS`], no two with one record handle.
 #[derive(Debug, Drop)]
 pub struct Repository {
     records: Vec<Record>,
@@ -69,7 +69,7 @@ impl Repository {
     /// The record at this position.
     pub fn get(&self, position: usize) -> Option<&Record>
         ensures value { option_copied result ≡ slice_get self.now position }
-        ensures within { OnSome result (position < MOST_RECORDS) }
+        ensures within { OnSome result (position < MAX_RECORDS) }
     {
         self.records.get(position)
     }
@@ -104,7 +104,7 @@ impl Repository {
 
     /// Adds a record at the end. After Memory the repository is as before.
     pub fn push(&mut self, pdr: Record) -> Result<(), Memory>
-        requires room { length self.old < MOST_RECORDS }
+        requires room { length self.old < MAX_RECORDS }
         requires fresh { position_of (handle_of pdr) self.old ≡ None }
         ensures added { OnOk result (self.new ≡ self.old ++ pdr ∷ []) }
         ensures unchanged { OnErr result (self.new ≡ self.old) }

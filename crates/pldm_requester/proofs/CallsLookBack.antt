@@ -11,7 +11,7 @@ use Rattle.mctp_packet.specs.Reading.{reading, packet_of, unless}
 use Rattle.mctp_packet.specs.Refusals.{refusal}
 use Rattle.mctp_packet.specs.declared.reason.Reason.{Reason}
 use Rattle.mctp_packet.specs.declared.reason.Reason.TheVariants.{BadTag, NotMine, NotReady}
-use Rattle.mctp_packet.specs.declared.TheConstants.{MOST_PACKETS}
+use Rattle.mctp_packet.specs.declared.TheConstants.{MAX_PACKETS}
 use Rattle.mctp_assembly.specs.Histories as histories
 use Rattle.mctp_assembly.specs.Laws as assembly
 use Rattle.mctp_assembly.specs.Rows as rows
@@ -200,7 +200,7 @@ module _ (own device : ℕ) (timing : Timing) where
     times = refl;
     count = omega arith;
     remembered = λ n. memo_opened a moment command n _ (ap (λ (x : Request). record { kind = kind_of x.command; packets = packets_of own device a.count x.command; course = x.course }) (sym (put_here a.each a.count (new_request moment command) a.count refl)));
-    open_messages = looks MOST_PACKETS open_messages packets (answer_key device (tag_of a.count)) left;
+    open_messages = looks MAX_PACKETS open_messages packets (answer_key device (tag_of a.count)) left;
     last = refl;
   }
 
@@ -272,7 +272,7 @@ module _ (own device : ℕ) (timing : Timing) where
         let comes = comes_to own device timing now p n at.1.1 in
         let near = within now n (recent own device timing before) comes.is_open in
         let memo = memo_there own device now n (recent_from now.count n near.0 (omega (arith, near.1))) in
-        let gives = (looks MOST_PACKETS open_messages (assembled own device timing before) p (lit≤ tt) left).0 ∙ ap (λ packets. rows.next packets p) (ap (λ key. histories.since key (assembled own device timing before)) comes.key ∙ fed_since own device timing before n comes.is_open) in
+        let gives = (looks MAX_PACKETS open_messages (assembled own device timing before) p (lit≤ tt) left).0 ∙ ap (λ packets. rows.next packets p) (ap (λ key. histories.since key (assembled own device timing before)) comes.key ∙ fed_since own device timing before n comes.is_open) in
         ap (λ o. packet_arrival (steps.goes_to (left_by open_messages last now)) (λ number q. assembling.answer open_messages q) (steps.is_mine (left_by open_messages last now)) o p) (goes_is open_messages last now (recent own device timing before) p at.0 ∙ at.1.1)
         ∙ ap (fed_arrival (steps.is_mine (left_by open_messages last now)) n) gives
         ∙ fed_same (steps.is_mine (left_by open_messages last now)) (calls.is_mine own device timing now) n (calls.gives own device timing now n p) (λ response. ap (λ o. is_mine_by n o response) memo)
@@ -303,7 +303,7 @@ module _ (own device : ℕ) (timing : Timing) where
 
     opens_is : (read : Result Packet Reason) → histories.IsLeftBy (open_after open_messages read) (with_packet own device timing read (assembled own device timing before))
     opens_is (Err reason) = left
-    opens_is (Ok p) = (looks MOST_PACKETS open_messages (assembled own device timing before) p (lit≤ tt) left).1
+    opens_is (Ok p) = (looks MAX_PACKETS open_messages (assembled own device timing before) p (lit≤ tt) left).1
 
     came_leaves : (read : Result Packet Reason) (moment : ℕ) → ((p : Packet) → read ≡ Ok p → Goes p)
         → Leaves (record (held_by (left_by open_messages last now) read) { last = moment }) (came_by own device timing now read) (with_packet own device timing read (assembled own device timing before)) moment
@@ -399,7 +399,7 @@ new_looks_back looks own device timing = record {
   times = refl;
   count = refl;
   remembered = λ n. sym (cond-false (is_recent 0 n) _ _ (and_left (nat_lt n 0) _ (le-ltb n 0 (omega arith))));
-  open_messages = looks MOST_PACKETS;
+  open_messages = looks MAX_PACKETS;
   last = refl;
 }
 

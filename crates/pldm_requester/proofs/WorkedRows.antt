@@ -15,8 +15,8 @@ use Rattle.pldm_requester.specs.Numbering.{packets_of}
 use Rattle.pldm_requester.specs.Slots.{AreSlots}
 use Rattle.pldm_requester.specs.Steps.{Held, IsHeld, held_at_first, is_recent, ticked_held}
 use Rattle.pldm_requester.specs.Timings.{timing_fault}
-use Rattle.pldm_requester.specs.declared.got.Got.TheVariants as got
-use Rattle.pldm_requester.specs.declared.opened.OpenFault.TheVariants.{TagInUse, IdInUse}
+use Rattle.pldm_requester.specs.declared.results.Got.TheVariants as got
+use Rattle.pldm_requester.specs.declared.results.OpenFault.TheVariants.{TagInUse, IdInUse}
 use Rattle.pldm_requester.specs.declared.timing.Timing.{Timing}
 use Rattle.pldm_requester.specs.declared.timing.TimingFault.TheVariants.{Timeout, Tries, TooLate, SameEid}
 use Rattle.pldm_requester.proofs.CallsLookBack.{tick_looks_back}

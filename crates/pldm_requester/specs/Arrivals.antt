@@ -9,8 +9,8 @@ use Rattle.pldm_wire.specs.Kinds.{TypeAndCommand}
 use Rattle.pldm_wire.specs.Responses.{Response, response_of}
 use Rattle.pldm_wire.specs.declared.assigned.TheConstants.{ERROR_NOT_READY}
 use Rattle.pldm_requester.specs.Numbering.{id_of}
-use Rattle.pldm_requester.specs.declared.got.Got.{Got}
-use Rattle.pldm_requester.specs.declared.got.Got.TheVariants as got
+use Rattle.pldm_requester.specs.declared.results.Got.{Got}
+use Rattle.pldm_requester.specs.declared.results.Got.TheVariants as got
 
 pub data Arrival : Type 0 where
   Drop : Reason → Arrival

@@ -18,10 +18,10 @@ use Rattle.pldm_wire.specs.declared.command.Command.TheVariants.{GetTid}
 use Rattle.pldm_requester.specs.Numbering.{tag_of, opened_as}
 use Rattle.pldm_requester.specs.Courses.{GaveUp, Course, is_open, begun, is_given_up, is_sent_again, ticked, answered}
 use Rattle.pldm_requester.specs.Arrivals.{Arrival, Drop, Part, Answer, got_of, is_response_to, passed_arrival}
-use Rattle.pldm_requester.specs.declared.got.Got.{Got}
-use Rattle.pldm_requester.specs.declared.opened.Opened.{Opened}
-use Rattle.pldm_requester.specs.declared.opened.OpenFault.{OpenFault}
-use Rattle.pldm_requester.specs.declared.opened.OpenFault.TheVariants.{TagInUse, IdInUse}
+use Rattle.pldm_requester.specs.declared.results.Got.{Got}
+use Rattle.pldm_requester.specs.declared.results.Opened.{Opened}
+use Rattle.pldm_requester.specs.declared.results.OpenFault.{OpenFault}
+use Rattle.pldm_requester.specs.declared.results.OpenFault.TheVariants.{TagInUse, IdInUse}
 use Rattle.pldm_requester.specs.declared.timing.Timing.{Timing}
 
 -- each with its moment: a command to be opened as a request, a tick, and bytes that were received

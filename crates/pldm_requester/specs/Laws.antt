@@ -9,7 +9,7 @@ use Rattle.pldm_requester.specs.Calls.{Call, Open, Tick, Receive, Requests, acce
 use Rattle.pldm_requester.specs.Steps as steps
 use Rattle.pldm_requester.specs.Steps.{Memo, Held, IsHeld, held_at_first, is_recent, opening_answer, opened_held, again_at, given_up_at, ticked_held, got_at, received_held}
 use Rattle.pldm_requester.specs.declared.timing.Timing.{Timing}
-use Rattle.pldm_requester.specs.declared.requester.TheConstants.{MOST_OPEN}
+use Rattle.pldm_requester.specs.declared.requester.TheConstants.{MAX_OPEN}
 
 -- what is remembered of a request: of the last ones all, of older ones nothing
 abbrev pub memo_of : ℕ → ℕ → Requests → ℕ → Memo
@@ -76,14 +76,14 @@ SameIsLeft =
 abbrev pub OpenAreRecent : Type 0
 OpenAreRecent =
     (own device : ℕ) (timing : Timing) (calls : List Call) (number : ℕ)
-    → number + MOST_OPEN < (requests own device timing calls).count
+    → number + MAX_OPEN < (requests own device timing calls).count
     → is_open_at (requests own device timing calls) number ≡ false
 
 -- so at most eight are
 abbrev pub FewAreOpen : Type 0
 FewAreOpen =
     (own device : ℕ) (timing : Timing) (calls : List Call)
-    → length (numbers_of is_open (requests own device timing calls)) ≤ MOST_OPEN
+    → length (numbers_of is_open (requests own device timing calls)) ≤ MAX_OPEN
 
 -- what is not opened yet is not open
 abbrev pub OpenAreOpened : Type 0
@@ -105,7 +105,7 @@ abbrev pub FoundOnItsTag : Type 0
 FoundOnItsTag =
     (own device : ℕ) (timing : Timing) (calls : List Call) (number : ℕ)
     → number < (requests own device timing calls).count
-    → (requests own device timing calls).count ≤ number + MOST_OPEN
+    → (requests own device timing calls).count ≤ number + MAX_OPEN
     → open_on (is_open_at (requests own device timing calls)) (requests own device timing calls).count (tag_of number)
     ≡ (if is_open_at (requests own device timing calls) number then Some number else None)
 

@@ -7,7 +7,7 @@ use Rattle.mctp_packet.specs.declared.TheConstants.{TAGS}
 use Rattle.pldm_wire.specs.Commands.{command_message}
 use Rattle.pldm_wire.specs.declared.assigned.TheConstants.{INSTANCE_IDS}
 use Rattle.pldm_wire.specs.declared.command.Command.{Command}
-use Rattle.pldm_requester.specs.declared.opened.Opened.{Opened}
+use Rattle.pldm_requester.specs.declared.results.Opened.{Opened}
 
 abbrev pub id_of : ℕ → ℕ
 id_of number = number % INSTANCE_IDS

@@ -1,7 +1,7 @@
 -- The faults of opening a request: their numbers.
 use Rattle.std.specs.Prelude.{ℕ}
-use Rattle.pldm_requester.specs.declared.opened.OpenFault.{OpenFault}
-use Rattle.pldm_requester.specs.declared.opened.OpenFault.TheVariants.{TagInUse, IdInUse, Memory}
+use Rattle.pldm_requester.specs.declared.results.OpenFault.{OpenFault}
+use Rattle.pldm_requester.specs.declared.results.OpenFault.TheVariants.{TagInUse, IdInUse, Memory}
 
 abbrev pub number_of_open_fault : OpenFault → ℕ
 number_of_open_fault TagInUse = 1

@@ -8,7 +8,7 @@ use Rattle.pldm_wire.specs.Kinds.{of_type}
 use Rattle.pldm_requester.specs.Courses.{Standing, Waiting, Answered, GaveUp}
 use Rattle.pldm_requester.specs.Steps.{Memo, Held, is_recent}
 use Rattle.pldm_requester.specs.Timings.{coded_timing}
-use Rattle.pldm_requester.specs.declared.requester.TheConstants.{MOST_REMEMBERED}
+use Rattle.pldm_requester.specs.declared.requester.TheConstants.{MAX_REMEMBERED}
 use Rattle.pldm_requester.specs.declared.timing.Timing.{Timing}
 
 -- a standing is stored as the answer, if any, where the request is no longer open
@@ -87,7 +87,7 @@ coded_station =
 -- instance ID
 abbrev pub remembered_in : ℕ → List Memo → ℕ → Option Memo
 remembered_in count slots number =
-    if is_recent count number then slice_get slots (number % MOST_REMEMBERED) else None
+    if is_recent count number then slice_get slots (number % MAX_REMEMBERED) else None
 
 abbrev pub held_of : Station → Held
 held_of station = record {
@@ -103,12 +103,12 @@ held_of station = record {
 -- the list with a new request in the slot of its number, or at the end, where no request had that slot yet
 abbrev pub put_slot : ℕ → List Memo → Memo → List Memo
 put_slot number slots memo =
-    if nat_lt number MOST_REMEMBERED then slots ++ memo ∷ [] else slice_set slots (number % MOST_REMEMBERED) memo
+    if nat_lt number MAX_REMEMBERED then slots ++ memo ∷ [] else slice_set slots (number % MAX_REMEMBERED) memo
 
 -- a slot for each of the last requests
 pub record AreSlots (count : ℕ) (slots : List Memo) : Type 0 where
-  pub some : count ≤ MOST_REMEMBERED → length slots ≡ count
-  pub all : MOST_REMEMBERED ≤ count → length slots ≡ MOST_REMEMBERED
+  pub some : count ≤ MAX_REMEMBERED → length slots ≡ count
+  pub all : MAX_REMEMBERED ≤ count → length slots ≡ MAX_REMEMBERED
 
 -- a request is opened twice the keeping time, so two milliseconds, after the one before it with its instance ID, or
 -- later: so no more requests than this are opened up to a moment

@@ -3,8 +3,8 @@ use Rattle.std.specs.Prelude.{ℕ, List}
 use Rattle.pldm_requester.specs.Courses as courses
 use Rattle.pldm_requester.specs.declared.remembered.Standing.{Standing}
 use Rattle.pldm_requester.specs.declared.remembered.Standing.TheVariants.{Waiting, Answered, GaveUp}
-use Rattle.pldm_requester.specs.declared.status.Status.{Status}
-use Rattle.pldm_requester.specs.declared.status.Status.TheVariants as status
+use Rattle.pldm_requester.specs.declared.results.Status.{Status}
+use Rattle.pldm_requester.specs.declared.results.Status.TheVariants as status
 
 -- with this answer, where there is one
 abbrev pub standing_of : Standing → List ℕ → courses.Standing

@@ -16,11 +16,11 @@ use Rattle.pldm_requester.specs.Numbering.{tag_of, packets_of}
 use Rattle.pldm_requester.specs.Courses.{Course, is_open, begun, is_given_up, is_sent_again, ticked, answered}
 use Rattle.pldm_requester.specs.Arrivals.{Arrival, Drop, Part, Answer, got_of, is_response_to, passed_arrival}
 use Rattle.pldm_requester.specs.Calls.{answer_key, is_from_device, open_answer}
-use Rattle.pldm_requester.specs.declared.got.Got.{Got}
-use Rattle.pldm_requester.specs.declared.opened.Opened.{Opened}
-use Rattle.pldm_requester.specs.declared.opened.OpenFault.{OpenFault}
+use Rattle.pldm_requester.specs.declared.results.Got.{Got}
+use Rattle.pldm_requester.specs.declared.results.Opened.{Opened}
+use Rattle.pldm_requester.specs.declared.results.OpenFault.{OpenFault}
 use Rattle.pldm_requester.specs.declared.timing.Timing.{Timing}
-use Rattle.pldm_requester.specs.declared.requester.TheConstants.{MOST_OPEN, MOST_REMEMBERED}
+use Rattle.pldm_requester.specs.declared.requester.TheConstants.{MAX_OPEN, MAX_REMEMBERED}
 
 -- what is remembered of a request: which command it is of, its packets and its course
 pub record Memo : Type 0 where
@@ -63,7 +63,7 @@ held_at_first own device timing = record {
 
 -- the last so many numbers below a count
 abbrev pub is_recent : ℕ → ℕ → Bool
-is_recent count number = nat_lt number count && nat_le count (number + MOST_REMEMBERED)
+is_recent count number = nat_lt number count && nat_le count (number + MAX_REMEMBERED)
 
 abbrev pub passes : (Course → Bool) → Option Memo → Bool
 passes test None = false
@@ -82,7 +82,7 @@ where_open is_open (Some number) = if is_open number then Some number else None
 
 -- the last numbers below a count: no older one is open
 abbrev pub recent_numbers : ℕ → List ℕ
-recent_numbers count = range_with_len (count - MOST_OPEN) (count - (count - MOST_OPEN))
+recent_numbers count = range_with_len (count - MAX_OPEN) (count - (count - MAX_OPEN))
 
 abbrev pub is_mine_by : ℕ → Option Memo → Response → Bool
 is_mine_by number None response = false

@@ -4,12 +4,12 @@ use Rattle.std.specs.Coded.{Coded, code_by, coded×, coded_ℕ}
 use Rattle.pldm_requester.specs.declared.timing.Timing.{Timing}
 use Rattle.pldm_requester.specs.declared.timing.TimingFault.{TimingFault}
 use Rattle.pldm_requester.specs.declared.timing.TimingFault.TheVariants.{Timeout, Tries, TooLate, SameEid}
-use Rattle.pldm_requester.specs.declared.timing.TheConstants.{MOST_TRIES}
+use Rattle.pldm_requester.specs.declared.timing.TheConstants.{MAX_TRIES}
 
 abbrev pub timing_fault : ℕ → ℕ → Timing → Option TimingFault
 timing_fault own device timing =
     if timing.timeout == 0 then Some Timeout
-    else (if not (nat_le 1 timing.tries && nat_le timing.tries MOST_TRIES) then Some Tries
+    else (if not (nat_le 1 timing.tries && nat_le timing.tries MAX_TRIES) then Some Tries
     else (if nat_lt timing.keep (timing.tries * timing.timeout) then Some TooLate
     else (if own == device then Some SameEid else None)))
 

@@ -3,18 +3,12 @@
 //! request an answer is for (DSP0240, "PLDM message fields").
 #![tactic(auto)]
 
-mod due;
-mod got;
 pub mod laws;
-mod opened;
 mod remembered;
 mod requester;
-mod status;
+mod results;
 mod timing;
 
-pub use due::Due;
-pub use got::Got;
-pub use opened::{OpenFault, Opened};
-pub use requester::{MOST_OPEN, MOST_REMEMBERED, Requester};
-pub use status::Status;
-pub use timing::{MOST_TRIES, Timing, TimingFault};
+pub use requester::{MAX_OPEN, MAX_REMEMBERED, Requester};
+pub use results::{Due, Got, OpenFault, Opened, Status};
+pub use timing::{MAX_TRIES, Timing, TimingFault};

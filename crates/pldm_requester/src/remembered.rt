@@ -3,7 +3,7 @@ ghost use Rattle.pldm_requester.specs.Courses.{ticked};
 ghost use Rattle.pldm_requester.specs.Steps.{with_course};
 
 use crate::{Status, Timing};
-use mctp_packet::{Body, MOST_MESSAGE_BYTES, Moment, Packets, Route, split_into};
+use mctp_packet::{Body, MAX_MESSAGE_BYTES, Moment, Packets, Route, split_into};
 use pldm_wire::Kind;
 use std::marker::Model;
 
@@ -72,8 +72,9 @@ impl Remembered {
     /// Another request takes its place: its message goes on this route.
     pub(crate) fn begin(&mut self, kind: Kind, route: &Route, message: &[u8], now: Moment)
         requires some { 0 < length message.now }
-        requires few { length message.now ≤ MOST_MESSAGE_BYTES }
-        ensures { self.new ≡ record { kind = kind; packets = written_packets route.now message.now; course = begun now } }
+        requires few { length message.now ≤ MAX_MESSAGE_BYTES }
+        ensures { self.new ≡ record { kind = kind; packets = written_packets route.now message.now; course = begun
+            now } }
     {
         self.kind = kind;
         split_into(route, message, &mut self.packets).unwrap();
@@ -125,7 +126,7 @@ impl Remembered {
 
     /// It is answered by this message.
     pub(crate) fn take(&mut self, message: &[u8])
-        requires { length message.now ≤ MOST_MESSAGE_BYTES }
+        requires { length message.now ≤ MAX_MESSAGE_BYTES }
         ensures { self.new ≡ with_course (answered message.now) self.old }
     {
         self.answer.clear();

@@ -21,7 +21,7 @@ use crate::{Due, Got, OpenFault, Opened, Status, Timing, TimingFault};
 use arrayvec::ArrayVec;
 use mctp_assembly::{Assembler, Given, Key};
 use mctp_packet::{
-    Body, Eid, MOST_MESSAGE_BYTES, Memory, Moment, PacketRef, Packets, Reason, Route, TAGS, Tag,
+    Body, Eid, MAX_MESSAGE_BYTES, Memory, Moment, PacketRef, Packets, Reason, Route, TAGS, Tag,
     read_for, split,
 };
 use pldm_wire::{
@@ -31,10 +31,10 @@ use std::alloc::Global;
 use std::marker::Model;
 
 /// The most requests that are open at a time: one for each tag.
-pub const MOST_OPEN: usize = 8;
+pub const MAX_OPEN: usize = 8;
 
 /// How many requests are remembered, the last ones: one for each instance ID.
-pub const MOST_REMEMBERED: usize = 32;
+pub const MAX_REMEMBERED: usize = 32;
 
 /// The requesting end at one endpoint, for one device: commands are opened as requests, packets to be
 /// sent again are told at each tick, and answers are taken from packets.
@@ -67,10 +67,10 @@ impl Requester {
     ///
     /// # Errors
     ///
-    /// The first fault of the timing: a timeout of 0, tries that are not 1 to [`MOST_TRIES`], tries
+    /// The first fault of the timing: a timeout of 0, tries that are not 1 to [`MAX_TRIES`], tries
     /// that take longer than the keeping time, or the same endpoint ID twice.
     ///
-    /// [`MOST_TRIES`]: crate::MOST_TRIES
+    /// [`MAX_TRIES`]: crate::MAX_TRIES
     pub fn new(
         alloc: Global,
         own: Eid,
@@ -112,16 +112,18 @@ impl Requester {
         self.count
     }
 
-    /// The packets of a request's message, where it is among the last [`MOST_REMEMBERED`].
+    /// The packets of a request's message, where it is among the last [`MAX_REMEMBERED`].
     pub fn packets(&self, number: u64) -> Option<&Packets>
-        ensures { option_map (λ packets. packets.now) result ≡ option_map (λ memo. memo.packets) ((held_of self.now).remembered number) }
+        ensures { option_map (λ packets. packets.now) result ≡ option_map (λ memo. memo.packets)
+            ((held_of self.now).remembered number) }
     {
         Some(&self.remembered(number)?.packets)
     }
 
-    /// How a request stands, where it is among the last [`MOST_REMEMBERED`].
+    /// How a request stands, where it is among the last [`MAX_REMEMBERED`].
     pub fn status(&self, number: u64) -> Option<Status<'_>>
-        ensures { option_map standing_told result ≡ option_map (λ memo. memo.course.standing) ((held_of self.now).remembered number) }
+        ensures { option_map standing_told result ≡ option_map (λ memo. memo.course.standing)
+            ((held_of self.now).remembered number) }
     {
         Some(self.remembered(number)?.status())
     }
@@ -130,10 +132,10 @@ impl Requester {
     fn remembered(&self, number: u64) -> Option<&Remembered>
         ensures { option_copied result ≡ remembered_in self.now.count self.now.slots number }
     {
-        if number >= self.count || self.count - number > MOST_REMEMBERED as u64 {
+        if number >= self.count || self.count - number > MAX_REMEMBERED as u64 {
             return None;
         }
-        self.slots.get((number % MOST_REMEMBERED as u64) as usize)
+        self.slots.get((number % MAX_REMEMBERED as u64) as usize)
     }
 
     /// Whether a request is among the last ones, and open.
@@ -181,13 +183,14 @@ impl Requester {
     ///
     /// `TagInUse` where request n - 8 is open; else `IdInUse` where request n - 32 was opened less than
     /// twice the keeping time ago; else `Memory` where the room for the request and its answer was
-    /// refused, which only the first [`MOST_REMEMBERED`] requests want. The requester is then as
+    /// refused, which only the first [`MAX_REMEMBERED`] requests want. The requester is then as
     /// before.
     pub fn open(&mut self, now: Moment, command: &Command) -> Result<Opened, OpenFault>
         requires { (held_of self.old).last ≤ now }
         ensures answer { IfOk result (λ opened. opening_answer (held_of self.old) now ≡ Ok opened) }
-        ensures fault { IfErr result (λ fault. ((fault ≡ OpenFault.Memory) × (accepts (held_of self.old) now ≡ true)) ⊎ (opening_answer (held_of self.old) now ≡ Err fault)) }
-        ensures room { IsErrOf result OpenFault.Memory → (held_of self.old).count < MOST_REMEMBERED }
+        ensures fault { IfErr result (λ fault. ((fault ≡ OpenFault.Memory) × (accepts (held_of self.old) now ≡ true))
+            ⊎ (opening_answer (held_of self.old) now ≡ Err fault)) }
+        ensures room { IsErrOf result OpenFault.Memory → (held_of self.old).count < MAX_REMEMBERED }
         ensures readable { OnOk result (IsCommand command.now) }
         ensures held { OnOk result (IsHeld (held_of self.new) (opened_held (held_of self.old) now command.now)) }
         ensures err { OnErr result (IsHeld (held_of self.new) (held_of self.old)) }
@@ -250,7 +253,7 @@ impl Requester {
     {
         let mut again = ArrayVec::new();
         let mut given_up = ArrayVec::new();
-        for number in self.count.saturating_sub(MOST_OPEN as u64)..self.count {
+        for number in self.count.saturating_sub(MAX_OPEN as u64)..self.count {
             list(&mut given_up, number, self.gives_up(number, now));
             list(&mut again, number, self.sends_again(number, now));
         }
@@ -305,7 +308,8 @@ impl Requester {
     /// Takes the bytes of a packet, whatever the moment.
     fn take(&mut self, bytes: &[u8]) -> Result<Got, Memory>
         ensures got { IfOk result (λ got. got ≡ got_at (held_of self.old) bytes.now) }
-        ensures held { OnOk result (IsHeld (held_of self.new) (held_by (held_of self.old) (passed (held_of self.old) bytes.now))) }
+        ensures held { OnOk result (IsHeld (held_of self.new) (held_by (held_of self.old) (passed (held_of self.old)
+            bytes.now))) }
         ensures memory { OnErr result (got_at (held_of self.old) bytes.now ≡ Got.Partial) }
         ensures at_start { OnErr result (begins_message (passed (held_of self.old) bytes.now) ≡ true) }
         ensures err { OnErr result (IsHeld (held_of self.new) (held_of self.old)) }
@@ -318,10 +322,14 @@ impl Requester {
 
     /// Takes a packet that is addressed to the endpoint by another one.
     fn take_packet(&mut self, packet: &PacketRef<'_>) -> Result<Got, Memory>
-        ensures got { IfOk result (λ got. got ≡ got_of (arrived_by (held_of self.old) (where_expected (expects (held_of self.old)) (Ok packet.now)))) }
-        ensures held { OnOk result (IsHeld (held_of self.new) (held_by (held_of self.old) (where_expected (expects (held_of self.old)) (Ok packet.now)))) }
-        ensures memory { OnErr result (got_of (arrived_by (held_of self.old) (where_expected (expects (held_of self.old)) (Ok packet.now))) ≡ Got.Partial) }
-        ensures at_start { OnErr result (begins_message (where_expected (expects (held_of self.old)) (Ok packet.now)) ≡ true) }
+        ensures got { IfOk result (λ got. got ≡ got_of (arrived_by (held_of self.old) (where_expected
+            (expects (held_of self.old)) (Ok packet.now)))) }
+        ensures held { OnOk result (IsHeld (held_of self.new) (held_by (held_of self.old) (where_expected
+            (expects (held_of self.old)) (Ok packet.now)))) }
+        ensures memory { OnErr result (got_of (arrived_by (held_of self.old) (where_expected
+            (expects (held_of self.old)) (Ok packet.now))) ≡ Got.Partial) }
+        ensures at_start { OnErr result (begins_message (where_expected (expects (held_of self.old)) (Ok packet.now))
+            ≡ true) }
         ensures err { OnErr result (IsHeld (held_of self.new) (held_of self.old)) }
     {
         let Some(number) = self.goes_to(packet) else {
@@ -355,9 +363,12 @@ impl Requester {
 
     /// Takes a whole message that came to an open request.
     fn answer(&mut self, number: u64, message: &[u8]) -> Got
-        requires { length message.now ≤ MOST_MESSAGE_BYTES }
-        ensures got { result ≡ got_of (response_arrival (is_mine (held_of self.old)) number message.now (response_of message.now)) }
-        ensures held { IsHeld (held_of self.new) (record (held_of self.old) { remembered = remembered_after (held_of self.old) (response_arrival (is_mine (held_of self.old)) number message.now (response_of message.now)) }) }
+        requires { length message.now ≤ MAX_MESSAGE_BYTES }
+        ensures got { result ≡ got_of (response_arrival (is_mine (held_of self.old)) number message.now
+            (response_of message.now)) }
+        ensures held { IsHeld (held_of self.new) (record (held_of self.old) { remembered = remembered_after
+            (held_of self.old) (response_arrival (is_mine (held_of self.old)) number message.now
+            (response_of message.now)) }) }
     {
         let response = match read_response(message) {
             Ok(response) => response,
@@ -369,7 +380,7 @@ impl Requester {
         if response.code() == ERROR_NOT_READY {
             return Got::Dropped(Reason::NotReady);
         }
-        let place = (number % MOST_REMEMBERED as u64) as usize;
+        let place = (number % MAX_REMEMBERED as u64) as usize;
         let slot = &mut self.slots[place];
         slot.take(message);
         Got::Answered(number)
@@ -415,18 +426,18 @@ fn tag_of(number: u64) -> Tag
 /// Takes the room for one more request and its answer, where there are not all slots yet.
 fn make_room(slots: &mut Vec<Remembered>) -> Result<(), Memory>
     ensures items { slots.new.items ≡ slots.old.items }
-    ensures ok { OnOk result (vec_len slots.old < MOST_REMEMBERED → vec_len slots.new < vec_capacity slots.new) }
-    ensures err { OnErr result (vec_len slots.old < MOST_REMEMBERED) }
+    ensures ok { OnOk result (vec_len slots.old < MAX_REMEMBERED → vec_len slots.new < vec_capacity slots.new) }
+    ensures err { OnErr result (vec_len slots.old < MAX_REMEMBERED) }
 {
-    if slots.len() < MOST_REMEMBERED {
+    if slots.len() < MAX_REMEMBERED {
         slots.reserve(1)?;
     }
     Ok(())
 }
 
 /// Adds a number to a list, where it is due.
-fn list(numbers: &mut ArrayVec<u64, MOST_OPEN>, number: u64, is_due: bool)
-    requires { array_vec_len numbers.old < MOST_OPEN }
+fn list(numbers: &mut ArrayVec<u64, MAX_OPEN>, number: u64, is_due: bool)
+    requires { array_vec_len numbers.old < MAX_OPEN }
     ensures items { numbers.new.items ≡ numbers.old.items ++ (if is_due then number ∷ [] else []) }
     ensures few { array_vec_len numbers.new ≤ array_vec_len numbers.old + 1 }
 {
@@ -446,16 +457,17 @@ fn put(
     now: Moment,
 )
     requires some { 0 < length message.now }
-    requires few { length message.now ≤ MOST_MESSAGE_BYTES }
-    requires room { number < MOST_REMEMBERED → vec_len slots.old < vec_capacity slots.old }
-    requires slot { MOST_REMEMBERED ≤ number → vec_len slots.old ≡ MOST_REMEMBERED }
-    ensures { slots.new.items ≡ put_slot number slots.old.items (record { kind = kind; packets = written_packets route.now message.now; course = begun now }) }
+    requires few { length message.now ≤ MAX_MESSAGE_BYTES }
+    requires room { number < MAX_REMEMBERED → vec_len slots.old < vec_capacity slots.old }
+    requires slot { MAX_REMEMBERED ≤ number → vec_len slots.old ≡ MAX_REMEMBERED }
+    ensures { slots.new.items ≡ put_slot number slots.old.items (record { kind = kind; packets = written_packets
+        route.now message.now; course = begun now }) }
 {
-    if number < MOST_REMEMBERED as u64 {
+    if number < MAX_REMEMBERED as u64 {
         let packets = split(route, message).unwrap();
         slots.push(Remembered::new(kind, packets, now)).unwrap();
     } else {
-        slots[(number % MOST_REMEMBERED as u64) as usize].begin(kind, route, message, now);
+        slots[(number % MAX_REMEMBERED as u64) as usize].begin(kind, route, message, now);
     }
 }
 

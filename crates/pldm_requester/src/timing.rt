@@ -5,7 +5,7 @@ use mctp_packet::{Eid, Keep};
 use thiserror::Error;
 
 /// The most times that a request may be sent.
-pub const MOST_TRIES: u8 = 8;
+pub const MAX_TRIES: u8 = 8;
 
 /// When a request is sent again and when it is given up. This profile's own numbers.
 #[derive(Clone, Copy, Debug, PartialEq, Eq)]
@@ -24,7 +24,7 @@ pub enum TimingFault {
     /// The timeout is 0.
     #[error("the timeout is 0")]
     Timeout = 1,
-    /// The tries are not 1 to [`MOST_TRIES`].
+    /// The tries are not 1 to [`MAX_TRIES`].
     #[error("the tries are not 1 to 8")]
     Tries = 2,
     /// All tries together take longer than the keeping time.
@@ -63,7 +63,7 @@ impl Timing {
         if self.timeout == 0 {
             return Some(TimingFault::Timeout);
         }
-        if self.tries < 1 || self.tries > MOST_TRIES {
+        if self.tries < 1 || self.tries > MAX_TRIES {
             return Some(TimingFault::Tries);
         }
         if self.life() > u64::from(self.keep.get()) {

@@ -19,7 +19,7 @@ use Rattle.mctp_assembly.specs.Opened.{Opened}
 use Rattle.mctp_assembly.specs.Steps.{Held, answer, after, stays_open, carried_on}
 use Rattle.mctp_assembly.specs.declared.key.Key.{Key}
 use Rattle.pldm_responder.specs.Stations.{IsAsked, AreAsked}
-use Rattle.pldm_responder.specs.declared.responder.TheConstants.{MOST_PENDING}
+use Rattle.pldm_responder.specs.declared.responder.TheConstants.{MAX_PENDING}
 use Rattle.pldm_responder.proofs.FewSources.{place, place_low, same_place}
 use Rattle.pldm_responder.proofs.KeyOrder.{keys_total, keys_exact}
 
@@ -104,18 +104,18 @@ distinct own (e ∷ es) home are h =
     let parts = both (below_all key_cmp e.0 es) (is_sorted key_cmp es) h in
     (numbers_apart own e.0 es home are.0 are.1 parts.0, distinct own es home are.1 parts.1)
 
-below_by : (t : Bool) (own q : ℕ) (k : Key) (ks : List Key) → (q == number own k) ≡ t → IsEid own → IsAsked own k → (list_any (eqb q) (map (number own) ks) ≡ true → q < MOST_PENDING) → (t || list_any (eqb q) (map (number own) ks)) ≡ true → q < MOST_PENDING
+below_by : (t : Bool) (own q : ℕ) (k : Key) (ks : List Key) → (q == number own k) ≡ t → IsEid own → IsAsked own k → (list_any (eqb q) (map (number own) ks) ≡ true → q < MAX_PENDING) → (t || list_any (eqb q) (map (number own) ks)) ≡ true → q < MAX_PENDING
 below_by true own q k ks h home is rest any =
     omega (arith, eqb-true q (number own k) h, place_low own k.source home is.ranges.0 is.other, is.ranges)
 below_by false own q k ks h home is rest any = rest any
 
-below : (own : ℕ) (ks : List Key) → IsEid own → AllByRecursion (IsAsked own) ks → (q : ℕ) → list_any (eqb q) (map (number own) ks) ≡ true → q < MOST_PENDING
+below : (own : ℕ) (ks : List Key) → IsEid own → AllByRecursion (IsAsked own) ks → (q : ℕ) → list_any (eqb q) (map (number own) ks) ≡ true → q < MAX_PENDING
 below own [] home h q any = cc
 below own (k ∷ ks) home h q any = below_by (q == number own k) own q k ks refl home h.0 (below own ks home h.1 q) any
 
-pub few_pending : (own : ℕ) (held : Held) → IsEid own → AreAsked own held → finite.len held ≤ MOST_PENDING
+pub few_pending : (own : ℕ) (held : Held) → IsEid own → AreAsked own held → finite.len held ≤ MAX_PENDING
 few_pending own held home asked =
     let es = finite.entries held in
     let are = asked_all own (keys_in es) (λ key any. asked key (finite.contains_key-keys held key ∙ any)) in
-    let few = length-le_from_distinct_below (map (number own) (keys_in es)) MOST_PENDING (distinct own es home are (finite.entries_sorted held)) (below own (keys_in es) home are) in
+    let few = length-le_from_distinct_below (map (number own) (keys_in es)) MAX_PENDING (distinct own es home are (finite.entries_sorted held)) (below own (keys_in es) home are) in
     rw (finite.len-entries held, ← length-map es (λ (e : Key × Opened). e.0), ← length-map (keys_in es) (number own)) few

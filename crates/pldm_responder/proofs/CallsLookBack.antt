@@ -2,7 +2,7 @@
 use Rattle.std.proofs.Common.{◌≡◌, ℕ, ◌+◌, Bool, true, false, not, ◌&&◌, ◌||◌, List, [], ◌∷◌, Option, Some, None, is_some, Result, Ok, Err, if◌then◌else◌, refl, sym, ap, ◌∙◌, subst, lit≤}
 use Rattle.mctp_packet.specs.Packets.{Packet}
 use Rattle.mctp_packet.specs.declared.reason.Reason.{Reason}
-use Rattle.mctp_packet.specs.declared.TheConstants.{MOST_PACKETS}
+use Rattle.mctp_packet.specs.declared.TheConstants.{MAX_PACKETS}
 use Rattle.mctp_assembly.specs.Histories as histories
 use Rattle.mctp_assembly.specs.Laws as assembly
 use Rattle.mctp_assembly.specs.Steps as steps
@@ -35,11 +35,11 @@ origin_where_fresh keep (Came m ∷ h) source id =
 module _ (looks : assembly.FeedLooksBack) where
   pub passed_brings : (open_messages : steps.Held) (packets : List histories.Call) (moment : ℕ) (read : Result Packet Reason) → histories.IsLeftBy open_messages packets → passed_arrival (steps.answer open_messages) moment read ≡ passed_arrival (looked_back packets) moment read
   passed_brings open_messages packets moment (Ok p) left =
-      ap (fed_arrival p.route moment) (looks MOST_PACKETS open_messages packets p (lit≤ tt) left).0
+      ap (fed_arrival p.route moment) (looks MAX_PACKETS open_messages packets p (lit≤ tt) left).0
   passed_brings open_messages packets moment (Err reason) left = refl
 
   passed_opens : (open_messages : steps.Held) (packets : List histories.Call) (read : Result Packet Reason) → histories.IsLeftBy open_messages packets → histories.IsLeftBy (open_after open_messages read) (with_packet read packets)
-  passed_opens open_messages packets (Ok p) left = (looks MOST_PACKETS open_messages packets p (lit≤ tt) left).1
+  passed_opens open_messages packets (Ok p) left = (looks MAX_PACKETS open_messages packets p (lit≤ tt) left).1
   passed_opens open_messages packets (Err reason) left = left
 
 -- ---- what a message is answered and leaves
@@ -174,7 +174,7 @@ module _ {S : Type 0} (device : Rules S) where
   restarted_looks_back looks own keep start held before moment left = record {
     endpoint = left.endpoint;
     keeping = left.keeping;
-    open_messages = looks MOST_PACKETS;
+    open_messages = looks MAX_PACKETS;
     kept = λ source id. refl;
     state = left.state;
     serves_from = ap (λ k. moment + k) left.keeping;
@@ -185,7 +185,7 @@ module _ {S : Type 0} (device : Rules S) where
   new_looks_back looks own keep start = record {
     endpoint = refl;
     keeping = refl;
-    open_messages = looks MOST_PACKETS;
+    open_messages = looks MAX_PACKETS;
     kept = λ source id. refl;
     state = refl;
     serves_from = refl;

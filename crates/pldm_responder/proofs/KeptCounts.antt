@@ -8,7 +8,7 @@ use Rattle.pldm_responder.specs.Counts.{CountsKept}
 use Rattle.pldm_responder.specs.Held.{Entry}
 use Rattle.pldm_responder.specs.Slots.{Rows, kept_in, IsKept, AreKept}
 use Rattle.pldm_responder.specs.Stations.{KeepsForOthers}
-use Rattle.pldm_responder.specs.declared.responder.TheConstants.{MOST_KEPT}
+use Rattle.pldm_responder.specs.declared.responder.TheConstants.{MAX_KEPT}
 use Rattle.pldm_responder.proofs.CountedPairs.{counts_one_more, counts_as_before, few_pairs}
 use Rattle.pldm_responder.proofs.FewSources.{place, place_low, same_place}
 
@@ -94,9 +94,9 @@ module _ (rows : Rows) (each : (source id : ℕ) → IfSome (kept_in rows source
     other_source : (source id : ℕ) → is_some (kept_in rows source id) ≡ true → source ≢ own
     other_source source id some same = cc (sym some ∙ ap (λ s. is_some (kept_in rows s id)) same ∙ ap is_some (others id))
 
-    pub few_for_others : (count : ℕ) → CountsKept (kept_in rows) count → count ≤ MOST_KEPT
+    pub few_for_others : (count : ℕ) → CountsKept (kept_in rows) count → count ≤ MAX_KEPT
     few_for_others count counts =
-        few_pairs (λ source id. is_some (kept_in rows source id)) (λ source id. INSTANCE_IDS * place own source + id) MOST_KEPT
+        few_pairs (λ source id. is_some (kept_in rows source id)) (λ source id. INSTANCE_IDS * place own source + id) MAX_KEPT
         (λ source id some. omega (arith, kept_pair source id some, place_low own source home (kept_pair source id some).0 (other_source source id some)))
         (λ s i t j one other. λ same.
         let places : place own s ≡ place own t = omega (arith, kept_pair s i one, kept_pair t j other) in

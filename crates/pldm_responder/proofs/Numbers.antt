@@ -1,12 +1,12 @@
 -- Every constant of the source, told a second time.
 use Rattle.std.proofs.Common.{◌≡◌, refl}
-use Rattle.pldm_responder.specs.declared.responder.TheConstants.{OTHER_ENDPOINTS, MOST_KEPT, MOST_PENDING}
+use Rattle.pldm_responder.specs.declared.responder.TheConstants.{OTHER_ENDPOINTS, MAX_KEPT, MAX_PENDING}
 
 other_endpoints : OTHER_ENDPOINTS ≡ 246
 other_endpoints = refl
 
-kept_answers : MOST_KEPT ≡ 7872
+kept_answers : MAX_KEPT ≡ 7872
 kept_answers = refl
 
-open_messages : MOST_PENDING ≡ 1968
+open_messages : MAX_PENDING ≡ 1968
 open_messages = refl

@@ -2,7 +2,7 @@
 use Rattle.std.specs.FinMap as finite
 use Rattle.std.proofs.Common.{◌≡◌, ℕ, ◌+◌, ◌-◌, ◌<◌, ◌≤◌, Bool, true, false, cond, List, Option, Some, None, is_some, if◌then◌else◌, refl, subst, arith}
 use Rattle.mctp_packet.specs.Packets.{Packet}
-use Rattle.mctp_packet.specs.declared.TheConstants.{MOST_PACKETS}
+use Rattle.mctp_packet.specs.declared.TheConstants.{MAX_PACKETS}
 use Rattle.mctp_packet.specs.declared.reason.Reason.TheVariants.{UnexpectedMiddleOrEnd}
 use Rattle.mctp_assembly.specs.Keys.{key_of}
 use Rattle.mctp_assembly.specs.Opened.{Opened}
@@ -43,7 +43,7 @@ starts_alone : (start end : Bool) (payload : List ℕ)
 starts_alone true end payload h = refl
 starts_alone false end payload h = cc
 
-starts_by : (o : Option Opened) (p : Packet) → is_some o ≡ false → answer_to MOST_PACKETS o p ≡ Partial → p.start ≡ true
+starts_by : (o : Option Opened) (p : Packet) → is_some o ≡ false → answer_to MAX_PACKETS o p ≡ Partial → p.start ≡ true
 starts_by (Some o) p closed partial = cc
 starts_by None p closed partial = starts_alone p.start p.end p.payload partial
 

@@ -3,8 +3,8 @@ use Rattle.std.specs.Prelude.{ℕ, ◌<◌, Bool, List, length, Option, Some, No
 use Rattle.mctp_packet.specs.Pieces.{written_packets}
 use Rattle.pldm_responder.specs.declared.outcome.Outcome.{Outcome}
 use Rattle.pldm_responder.specs.declared.outcome.Outcome.TheVariants as outcome
-use Rattle.pldm_responder.specs.declared.taken.Taken.{Taken}
-use Rattle.pldm_responder.specs.declared.taken.Taken.TheVariants.{Dropped, Partial, Answered}
+use Rattle.pldm_responder.specs.declared.outcome.Taken.{Taken}
+use Rattle.pldm_responder.specs.declared.outcome.Taken.TheVariants.{Dropped, Partial, Answered}
 
 abbrev pub answering : List ℕ → Taken → Outcome
 answering reply (Dropped reason) = outcome.Dropped reason

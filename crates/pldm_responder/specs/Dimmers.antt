@@ -8,8 +8,8 @@ use Rattle.pldm_wire.specs.declared.command.Command.{Command}
 use Rattle.pldm_wire.specs.declared.command.Command.TheVariants.{GetTid, SetNumericEffecterValue}
 use Rattle.pldm_wire.specs.declared.answer.Answer.{Answer}
 use Rattle.pldm_wire.specs.declared.answer.Answer.TheVariants as answers
-use Rattle.pldm_platform.specs.declared.reading_fault.ReadingFault.{ReadingFault}
-use Rattle.pldm_platform.specs.declared.reading_fault.ReadingFault.TheVariants.{NoSuchSensor}
+use Rattle.pldm_platform.specs.declared.platform.ReadingFault.{ReadingFault}
+use Rattle.pldm_platform.specs.declared.platform.ReadingFault.TheVariants.{NoSuchSensor}
 
 abbrev pub dimmer_answer : ℤ → Command → Answer
 dimmer_answer level (SetNumericEffecterValue effecter value) = answers.SetNumericEffecterValue
@@ -24,15 +24,15 @@ abbrev pub dimmer_sensed : ℤ → ℕ → ℤ → Result ℤ ReadingFault
 dimmer_sensed level id value = if id == 1 then Ok value else Err NoSuchSensor
 
 -- the most that 32 bits tell
-abbrev pub MOST_COUNTED : ℕ
-MOST_COUNTED = 4294967295
+abbrev pub MAX_COUNTED : ℕ
+MAX_COUNTED = 4294967295
 
 -- its count rises by one for each command that it performed, up to the most that it can tell
 abbrev pub DimmerCounts : ℕ → List Command → ℕ → Type 0
-DimmerCounts before commands after = min after MOST_COUNTED ≡ min (before + length commands) MOST_COUNTED
+DimmerCounts before commands after = min after MAX_COUNTED ≡ min (before + length commands) MAX_COUNTED
 
 pub dimmer_none : (count : ℕ) → DimmerCounts count [] count
-dimmer_none count = ap (λ n. min n MOST_COUNTED) (sym (add-zero count))
+dimmer_none count = ap (λ n. min n MAX_COUNTED) (sym (add-zero count))
 
 pub dimmer_in_turn :
     (first second third : ℕ) (before after : List Command)

@@ -1,6 +1,6 @@
 -- The answer to a message that is performed fits the packets of one message.
 use Rattle.std.specs.Prelude.{◌≡◌, ℕ, ◌<◌, ◌≤◌, true, List, length}
-use Rattle.mctp_packet.specs.declared.TheConstants.{MOST_MESSAGE_BYTES}
+use Rattle.mctp_packet.specs.declared.TheConstants.{MAX_MESSAGE_BYTES}
 use Rattle.pldm_responder.specs.Arrivals.{Arrival, Drop, Part, Whole}
 use Rattle.pldm_responder.specs.Events.{Message}
 use Rattle.pldm_responder.specs.Held.{Held}
@@ -9,7 +9,7 @@ use Rattle.pldm_responder.specs.Steps.{performs, received_arrival}
 
 -- one byte at least, and no more than a message has
 abbrev pub Fits : List ℕ → Type 0
-Fits answer = (0 < length answer) × (length answer ≤ MOST_MESSAGE_BYTES)
+Fits answer = (0 < length answer) × (length answer ≤ MAX_MESSAGE_BYTES)
 
 module _ {S : Type 0} (device : Rules S) (held : Held S) where
   abbrev pub AnswerFits : Message → Type 0

@@ -10,7 +10,7 @@ use Rattle.pldm_wire.specs.declared.answer.Answer.TheVariants.{Refused}
 use Rattle.pldm_wire.specs.declared.assigned.TheConstants.{ERROR_NOT_READY, SUCCESS}
 use Rattle.pldm_wire.specs.declared.command.Command.{Command}
 use Rattle.pldm_platform.specs.Changes.{changed_or}
-use Rattle.pldm_platform.specs.declared.reading_fault.ReadingFault.{ReadingFault}
+use Rattle.pldm_platform.specs.declared.platform.ReadingFault.{ReadingFault}
 use Rattle.pldm_responder.specs.Events.{Message, Event, Came, Set, Restarted, Place, origin, is_copy_of, is_fresh}
 use Rattle.pldm_wire.specs.Headers.{id_at}
 

@@ -2,7 +2,7 @@
 use Rattle.std.specs.Prelude.{ℕ, ◌<◌, ◌≤◌, List, length, count_by, slice_index_or, Option, None, is_some, IfSome, option_and_then, refl}
 use Rattle.std.specs.Coded.{Coded, code_by, coded×, coded_ℕ, coded_list, coded_option}
 use Rattle.mctp_packet.specs.Ids.{IsEid}
-use Rattle.mctp_packet.specs.declared.TheConstants.{MOST_MESSAGE_BYTES}
+use Rattle.mctp_packet.specs.declared.TheConstants.{MAX_MESSAGE_BYTES}
 use Rattle.pldm_wire.specs.declared.assigned.TheConstants.{INSTANCE_IDS}
 use Rattle.pldm_responder.specs.Counts.{CountsKept}
 use Rattle.pldm_responder.specs.Held.{Entry}
@@ -49,7 +49,7 @@ kept_in rows source id = option_and_then (λ row. in_slot row id) (row_of rows s
 pub record IsKept (source id : ℕ) (entry : Entry) : Type 0 where
   pub endpoint : IsEid source
   pub instance : id < INSTANCE_IDS
-  pub few : length entry.answer ≤ MOST_MESSAGE_BYTES
+  pub few : length entry.answer ≤ MAX_MESSAGE_BYTES
 
 -- each slot that is not empty holds such an answer, and there are this many
 pub record AreKept (rows : Rows) (count : ℕ) : Type 0 where

@@ -1,4 +1,4 @@
-use crate::responder::{MOST_PENDING, OTHER_ENDPOINTS};
+use crate::responder::{MAX_PENDING, OTHER_ENDPOINTS};
 
 /// The most that a responder keeps at a time. What would pass a bound is refused as a growth is for which
 /// there is no memory: nothing is performed, and nothing that is kept makes room for it.
@@ -14,6 +14,6 @@ impl Bounds {
     /// Bounds that are never passed: every endpoint other than the own, with every tag.
     pub const UNREACHED: Bounds = Bounds {
         sources: OTHER_ENDPOINTS,
-        open_messages: MOST_PENDING,
+        open_messages: MAX_PENDING,
     };
 }

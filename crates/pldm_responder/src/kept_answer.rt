@@ -1,11 +1,11 @@
 ghost use Rattle.std.specs.Prelude.{◌≡◌, ◌+◌, ◌<◌, ◌≤◌, ◌++◌, ◌&&◌, nat_lt, bytes_eq, length, drop};
-ghost use Rattle.mctp_packet.specs.declared.TheConstants.{MOST_MESSAGE_BYTES};
+ghost use Rattle.mctp_packet.specs.declared.TheConstants.{MAX_MESSAGE_BYTES};
 
-use mctp_packet::{Keep, MOST_MESSAGE_BYTES, Moment};
+use mctp_packet::{Keep, MAX_MESSAGE_BYTES, Moment};
 use std::marker::Model;
 
 /// The most bytes of a message and the one that answers it.
-const MOST_BYTES: usize = 2 * MOST_MESSAGE_BYTES;
+const MAX_BYTES: usize = 2 * MAX_MESSAGE_BYTES;
 
 /// The answer to the latest fresh message of a source and an instance ID. The two messages stand one
 /// after the other, with their lengths in front, so that those of short ones lie close together.
@@ -18,13 +18,13 @@ pub(crate) struct KeptAnswer {
     /// How many bytes it and the one that answered it have.
     both: usize,
     /// The message, the one that answered it, and room.
-    bytes: [u8; MOST_BYTES],
+    bytes: [u8; MAX_BYTES],
 }
 
 impl Model for KeptAnswer {
     ghost use Rattle.std.specs.Prelude.{◌≡◌, ◌+◌, ◌<◌, ◌≤◌, length, take, drop};
-    ghost use Rattle.mctp_packet.specs.declared.TheConstants.{MOST_MESSAGE_BYTES};
-    ghost use Rattle.pldm_responder.specs.declared.kept_answer.TheConstants.{MOST_BYTES};
+    ghost use Rattle.mctp_packet.specs.declared.TheConstants.{MAX_MESSAGE_BYTES};
+    ghost use Rattle.pldm_responder.specs.declared.kept_answer.TheConstants.{MAX_BYTES};
     ghost use Rattle.pldm_responder.specs.Held.{Entry};
     ghost use Rattle.pldm_responder.specs.Slots.{coded_entry};
 
@@ -38,19 +38,19 @@ impl Model for KeptAnswer {
       answer = drop k.asked (take k.both k.bytes);
     } };
 
-    ghost invariant = { λ k. (k.asked ≤ MOST_MESSAGE_BYTES) × (k.asked < k.both)
-        × (k.both ≤ k.asked + MOST_MESSAGE_BYTES) × (length k.bytes ≡ MOST_BYTES) };
+    ghost invariant = { λ k. (k.asked ≤ MAX_MESSAGE_BYTES) × (k.asked < k.both)
+        × (k.both ≤ k.asked + MAX_MESSAGE_BYTES) × (length k.bytes ≡ MAX_BYTES) };
 }
 
 impl KeptAnswer {
     /// The answer to a message of these bytes that came at this moment.
     pub(crate) fn new(moment: Moment, bytes: &[u8], answer: &[u8]) -> KeptAnswer
-        requires bytes { length bytes.now ≤ MOST_MESSAGE_BYTES }
+        requires bytes { length bytes.now ≤ MAX_MESSAGE_BYTES }
         requires some { 0 < length answer.now }
-        requires few { length answer.now ≤ MOST_MESSAGE_BYTES }
+        requires few { length answer.now ≤ MAX_MESSAGE_BYTES }
         ensures { result ≡ record { moment = moment; bytes = bytes.now; answer = answer.now } }
     {
-        let mut kept = [0; MOST_BYTES];
+        let mut kept = [0; MAX_BYTES];
         put_both(&mut kept, bytes, answer);
         KeptAnswer {
             moment,
@@ -63,9 +63,9 @@ impl KeptAnswer {
     /// Puts the answer to another message in the place of this one. It writes the bytes that there are,
     /// and no room.
     pub(crate) fn replace(&mut self, moment: Moment, bytes: &[u8], answer: &[u8])
-        requires bytes { length bytes.now ≤ MOST_MESSAGE_BYTES }
+        requires bytes { length bytes.now ≤ MAX_MESSAGE_BYTES }
         requires some { 0 < length answer.now }
-        requires few { length answer.now ≤ MOST_MESSAGE_BYTES }
+        requires few { length answer.now ≤ MAX_MESSAGE_BYTES }
         ensures { self.new ≡ record { moment = moment; bytes = bytes.now; answer = answer.now } }
     {
         put_both(&mut self.bytes, bytes, answer);
@@ -79,7 +79,7 @@ impl KeptAnswer {
         ensures bytes { result.0.now ≡ self.now.bytes }
         ensures answer { result.1.now ≡ self.now.answer }
         ensures some { 0 < length self.now.answer }
-        ensures few { length self.now.answer ≤ MOST_MESSAGE_BYTES }
+        ensures few { length self.now.answer ≤ MAX_MESSAGE_BYTES }
     {
         self.bytes[..self.both].split_at(self.asked)
     }
@@ -88,7 +88,7 @@ impl KeptAnswer {
     pub(crate) fn answer(&self) -> &[u8]
         ensures value { result.now ≡ self.now.answer }
         ensures some { 0 < length self.now.answer }
-        ensures few { length self.now.answer ≤ MOST_MESSAGE_BYTES }
+        ensures few { length self.now.answer ≤ MAX_MESSAGE_BYTES }
     {
         self.messages().1
     }
@@ -102,9 +102,9 @@ impl KeptAnswer {
 }
 
 /// Puts a message and the one that answers it in front.
-fn put_both(room: &mut [u8; MOST_BYTES], bytes: &[u8], answer: &[u8])
-    requires bytes { length bytes.now ≤ MOST_MESSAGE_BYTES }
-    requires answer { length answer.now ≤ MOST_MESSAGE_BYTES }
+fn put_both(room: &mut [u8; MAX_BYTES], bytes: &[u8], answer: &[u8])
+    requires bytes { length bytes.now ≤ MAX_MESSAGE_BYTES }
+    requires answer { length answer.now ≤ MAX_MESSAGE_BYTES }
     ensures { room.new ≡ (bytes.now ++ answer.now) ++ drop (length bytes.now + length answer.now) room.old }
 {
     let asked = bytes.len();

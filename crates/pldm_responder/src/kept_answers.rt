@@ -1,7 +1,7 @@
 ghost use Rattle.std.specs.Prelude.{◌≡◌, ℕ, ◌*◌, ◌≤◌, ◌<◌, ◌&&◌, ◌==◌, length, Some, None, is_some, if◌then◌else◌, IfSome, IsSome, OnOk, OnErr};
 ghost use Rattle.std.specs.Option.{option_copied};
 ghost use Rattle.mctp_packet.specs.Ids.{IsEid};
-ghost use Rattle.mctp_packet.specs.declared.TheConstants.{MOST_MESSAGE_BYTES};
+ghost use Rattle.mctp_packet.specs.declared.TheConstants.{MAX_MESSAGE_BYTES};
 ghost use Rattle.pldm_wire.specs.declared.assigned.TheConstants.{INSTANCE_IDS};
 ghost use Rattle.pldm_responder.specs.Counts.{CountsKept};
 ghost use Rattle.pldm_responder.specs.Slots.{IsKept, kept_in, row_of, source_count};
@@ -90,9 +90,9 @@ impl KeptAnswers {
     pub(crate) fn put(&mut self, source: Eid, id: u8, moment: Moment, bytes: &[u8], answer: &[u8])
         requires room { IsSome (row_of self.old source) }
         requires id { id < INSTANCE_IDS }
-        requires bytes { length bytes.now ≤ MOST_MESSAGE_BYTES }
+        requires bytes { length bytes.now ≤ MAX_MESSAGE_BYTES }
         requires some { 0 < length answer.now }
-        requires few { length answer.now ≤ MOST_MESSAGE_BYTES }
+        requires few { length answer.now ≤ MAX_MESSAGE_BYTES }
         ensures kept { (other i : ℕ) → kept_in self.new other i ≡
             (if source == other && id == i
             then Some (record { moment = moment; bytes = bytes.now; answer = answer.now })

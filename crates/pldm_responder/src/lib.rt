@@ -10,9 +10,7 @@ mod outcome;
 mod performing;
 mod responder;
 mod row;
-mod taken;
 
 pub use bounds::Bounds;
-pub use outcome::Outcome;
-pub use responder::{MOST_KEPT, MOST_PENDING, Responder};
-pub use taken::Taken;
+pub use outcome::{Outcome, Taken};
+pub use responder::{MAX_KEPT, MAX_PENDING, Responder};

@@ -1,4 +1,6 @@
-use mctp_packet::{Packets, Reason};
+//! What a packet gives at a responder.
+
+use mctp_packet::{Packets, Reason, Route};
 
 /// What becomes of bytes that were received.
 #[derive(Debug, Drop)]
@@ -16,5 +18,24 @@ pub enum Outcome {
         changed: bool,
         /// The packets of the answer.
         packets: Packets,
+    },
+}
+
+/// What becomes of bytes that were received, where the message that answers them stands beside it.
+#[derive(Debug, Drop)]
+pub enum Taken {
+    /// They are dropped, for one of the reasons 1 to 17.
+    Dropped(Reason),
+    /// They begin a message of several packets, or go on with one.
+    Partial,
+    /// They complete a request, which is answered.
+    Answered {
+        /// Whether the request was performed now. Else it is a copy and has its first answer, or the
+        /// responder was busy.
+        fresh: bool,
+        /// Whether it was performed now, is of a command that sets, and was not refused.
+        changed: bool,
+        /// The route of the answer's packets.
+        route: Route,
     },
 }

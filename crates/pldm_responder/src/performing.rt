@@ -3,7 +3,7 @@ ghost use Rattle.pldm_wire.specs.Answers.{answer_message, code_of};
 ghost use Rattle.pldm_wire.specs.declared.answer.Answer.TheVariants.{Refused};
 ghost use Rattle.pldm_responder.specs.Performing.{changes_at, commands_at, next_after, reply_to, rules_of};
 
-use mctp_packet::{Body, MOST_MESSAGE_BYTES, Memory};
+use mctp_packet::{Body, MAX_MESSAGE_BYTES, Memory};
 use pldm_platform::Platform;
 use pldm_wire::{Answer, Code, RequestRef, SUCCESS, put_answer, read_command};
 use std::alloc::Global;
@@ -26,7 +26,7 @@ pub(crate) fn perform<P: Platform>(
         ≡ next_after (rules_of P.answer P.after P.sensed) (P.state platform.old) (Ok request.now)) }
     ensures performed { OnOk result (P.performed platform.old (commands_at (Ok request.now)) platform.new) }
     ensures some { OnOk result (0 < length reply.new.items) }
-    ensures few { OnOk result (length reply.new.items ≤ MOST_MESSAGE_BYTES) }
+    ensures few { OnOk result (length reply.new.items ≤ MAX_MESSAGE_BYTES) }
     ensures err { OnErr result (P.state platform.new ≡ P.state platform.old) }
     ensures none_performed { OnErr result (P.performed platform.old [] platform.new) }
     ensures steady { IsTrue P.STEADY → IsOk result }
@@ -50,7 +50,7 @@ pub(crate) fn perform<P: Platform>(
 pub(crate) fn refuse(request: &RequestRef<'_>, code: Code, reply: &mut Body)
     ensures answer { reply.new.items ≡ answer_message request.now.id request.now.kind (Refused code) }
     ensures some { 0 < length reply.new.items }
-    ensures few { length reply.new.items ≤ MOST_MESSAGE_BYTES }
+    ensures few { length reply.new.items ≤ MAX_MESSAGE_BYTES }
 {
     put_answer(reply, request.id(), request.kind(), &Answer::Refused(code));
 }

@@ -19,17 +19,17 @@ ghost use Rattle.pldm_responder.specs.Rooms.{ArrivalLacksRow, HasRow, IsCommande
 ghost use Rattle.pldm_responder.specs.Slots.{kept_in};
 ghost use Rattle.pldm_responder.specs.Stations.{held_of};
 ghost use Rattle.pldm_responder.specs.Steps.{arrival_commands, arrival_held, arrival_outcome, copied_packets, passed_held, received_commands, received_held, received_outcome, repeats, restarted_held, sensed_held};
-ghost use Rattle.pldm_responder.specs.declared.taken.Taken.TheVariants.{Answered};
+ghost use Rattle.pldm_responder.specs.declared.outcome.Taken.TheVariants.{Answered};
 ghost use Rattle.pldm_responder.specs.Wants.{ArrivalWants, PassedWants, WantsMemory};
 
 use crate::bounds::Bounds;
 use crate::kept_answers::KeptAnswers;
 use crate::outcome::Outcome;
 use crate::performing::{perform, refuse};
-use crate::taken::Taken;
+use crate::outcome::Taken;
 use mctp_assembly::{Assembler, Fed, Key};
 use mctp_packet::{
-    Body, Eid, FIRST_EID, Keep, LAST_EID, MOST_MESSAGE_BYTES, MOST_PACKET_BYTES, Memory, Moment,
+    Body, Eid, MIN_EID, Keep, MAX_EID, MAX_MESSAGE_BYTES, MAX_PACKET_BYTES, Memory, Moment,
     PacketRef, Packets, Reason, Route, TAGS, Tag, read_for, split,
 };
 use pldm_platform::{Platform, ReadingFault};
@@ -38,14 +38,14 @@ use std::alloc::Global;
 use std::marker::Model;
 
 /// The endpoints other than the own that a message can come from.
-pub(crate) const OTHER_ENDPOINTS: usize = (LAST_EID - FIRST_EID) as usize;
+pub(crate) const OTHER_ENDPOINTS: usize = (MAX_EID - MIN_EID) as usize;
 
 /// The most kept answers: one for each endpoint ID other than the own and each instance ID.
-pub const MOST_KEPT: usize = OTHER_ENDPOINTS * INSTANCE_IDS as usize;
+pub const MAX_KEPT: usize = OTHER_ENDPOINTS * INSTANCE_IDS as usize;
 
 /// The most messages that have begun and not ended: one for each endpoint ID other than the own and
 /// each tag.
-pub const MOST_PENDING: usize = OTHER_ENDPOINTS * TAGS as usize;
+pub const MAX_PENDING: usize = OTHER_ENDPOINTS * TAGS as usize;
 
 /// The responding end at one endpoint: packets in, each request performed once by the platform, and
 /// answers out.
@@ -185,7 +185,7 @@ impl<P: Platform> Responder<P> {
     /// moment `now`, if any; nothing is changed.
     pub fn asks(&self, now: Moment, bytes: &[u8]) -> Option<Command>
         ensures command { listed result ≡ received_commands (held_of self.now) now bytes.now }
-        ensures few { IsSome result → length bytes.now ≤ MOST_PACKET_BYTES }
+        ensures few { IsSome result → length bytes.now ≤ MAX_PACKET_BYTES }
     {
         let Ok(packet) = read_for(self.own, bytes) else {
             return None;
@@ -203,7 +203,7 @@ impl<P: Platform> Responder<P> {
     /// was refused or would pass [`Bounds::sources`].
     pub fn ask(&mut self, now: Moment, bytes: &[u8]) -> Result<Option<Command>, Memory>
         ensures command { IfOk result (λ asked. listed asked ≡ received_commands (held_of self.old) now bytes.now) }
-        ensures few { IfOk result (λ asked. IsSome asked → length bytes.now ≤ MOST_PACKET_BYTES) }
+        ensures few { IfOk result (λ asked. IsSome asked → length bytes.now ≤ MAX_PACKET_BYTES) }
         ensures room { IfOk result (λ asked. IsSome asked → HasRow self.new now bytes.now) }
         ensures held { held_of self.new ≡ held_of self.old }
         ensures bounds { self.new.bounds ≡ self.old.bounds }
@@ -429,7 +429,7 @@ impl<P: Platform> Responder<P> {
     fn alone<'a>(&self, packet: &PacketRef<'a>) -> Option<&'a [u8]>
         ensures whole { IfSome result
             (λ message. Whole (record { items = message.now }) ≡ answer self.now.open_messages packet.now) }
-        ensures few { IfSome result (λ message. length message.now ≤ MOST_MESSAGE_BYTES) }
+        ensures few { IfSome result (λ message. length message.now ≤ MAX_MESSAGE_BYTES) }
     {
         if packet.start() && packet.end() {
             Some(packet.payload())
@@ -512,7 +512,7 @@ impl<P: Platform> Responder<P> {
         reply: &mut Body,
     ) -> Result<Taken, Memory>
         requires other { source ≢ self.old.own }
-        requires few { length message.now ≤ MOST_MESSAGE_BYTES }
+        requires few { length message.now ≤ MAX_MESSAGE_BYTES }
         ensures outcome { IfOk result (λ taken.
             answering reply.new.items taken
             ≡ arrival_outcome (rules_of P.answer P.after P.sensed) (held_of self.old)
@@ -585,27 +585,27 @@ impl<P: Platform> Responder<P> {
         }
     }
 
-    /// How many pairs of a source and an instance ID have a kept answer: at most [`MOST_KEPT`], each of
-    /// at most [`MOST_MESSAGE_BYTES`] bytes.
+    /// How many pairs of a source and an instance ID have a kept answer: at most [`MAX_KEPT`], each of
+    /// at most [`MAX_MESSAGE_BYTES`] bytes.
     pub fn kept(&self) -> usize
         ensures value { CountsKept (held_of self.now).kept result }
-        ensures few { result ≤ MOST_KEPT }
+        ensures few { result ≤ MAX_KEPT }
         ensures bounded { result ≤ INSTANCE_IDS * self.now.bounds.sources }
         ensures small { (source id : ℕ) → IfSome ((held_of self.now).kept source id)
-            (λ entry. length entry.answer ≤ MOST_MESSAGE_BYTES) }
+            (λ entry. length entry.answer ≤ MAX_MESSAGE_BYTES) }
     {
         let _range = self.own.get();
         self.kept.count()
     }
 
-    /// How many messages have begun and not ended: at most [`MOST_PENDING`], each of at most
-    /// [`MOST_MESSAGE_BYTES`] bytes.
+    /// How many messages have begun and not ended: at most [`MAX_PENDING`], each of at most
+    /// [`MAX_MESSAGE_BYTES`] bytes.
     pub fn pending(&self) -> usize
         ensures value { result ≡ map.len (held_of self.now).open_messages }
-        ensures few { result ≤ MOST_PENDING }
+        ensures few { result ≤ MAX_PENDING }
         ensures bounded { result ≤ self.now.bounds.open_messages }
         ensures small { (key : KeyValue) → IfSome (map.get (held_of self.now).open_messages key)
-            (λ o. length o.bytes ≤ MOST_MESSAGE_BYTES) }
+            (λ o. length o.bytes ≤ MAX_MESSAGE_BYTES) }
     {
         let _range = self.own.get();
         self.assembler.pending()

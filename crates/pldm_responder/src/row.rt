@@ -1,5 +1,5 @@
 ghost use Rattle.std.specs.Prelude.{◌≡◌, ℕ, ◌<◌, ◌≤◌, Some, None, IfOk, slice_set, length, not, is_some};
-ghost use Rattle.mctp_packet.specs.declared.TheConstants.{MOST_MESSAGE_BYTES};
+ghost use Rattle.mctp_packet.specs.declared.TheConstants.{MAX_MESSAGE_BYTES};
 ghost use Rattle.std.specs.Option.{option_copied};
 ghost use Rattle.pldm_wire.specs.declared.assigned.TheConstants.{INSTANCE_IDS as ids};
 ghost use Rattle.pldm_responder.specs.Slots.{in_slot};
@@ -56,9 +56,9 @@ impl Row {
     /// whether there was none.
     pub(crate) fn put(&mut self, id: u8, moment: Moment, bytes: &[u8], answer: &[u8]) -> bool
         requires id { id < ids }
-        requires bytes { length bytes.now ≤ MOST_MESSAGE_BYTES }
+        requires bytes { length bytes.now ≤ MAX_MESSAGE_BYTES }
         requires some { 0 < length answer.now }
-        requires few { length answer.now ≤ MOST_MESSAGE_BYTES }
+        requires few { length answer.now ≤ MAX_MESSAGE_BYTES }
         ensures slots { self.new
             ≡ slice_set self.old id (Some (record { moment = moment; bytes = bytes.now; answer = answer.now })) }
         ensures room { id < length self.old }
@@ -76,9 +76,9 @@ impl Row {
     #[inline(never)]
     fn fill(&mut self, id: u8, moment: Moment, bytes: &[u8], answer: &[u8])
         requires id { id < ids }
-        requires bytes { length bytes.now ≤ MOST_MESSAGE_BYTES }
+        requires bytes { length bytes.now ≤ MAX_MESSAGE_BYTES }
         requires some { 0 < length answer.now }
-        requires few { length answer.now ≤ MOST_MESSAGE_BYTES }
+        requires few { length answer.now ≤ MAX_MESSAGE_BYTES }
         ensures { self.new
             ≡ slice_set self.old id (Some (record { moment = moment; bytes = bytes.now; answer = answer.now })) }
     {

@@ -9,11 +9,11 @@ use Rattle.pldm_wire.specs.Versions.{IsVersionData, is_version_data}
 use Rattle.pldm_wire.specs.Answers.{HasAnswerFields, AnswerFields}
 use Rattle.pldm_wire.specs.BaseAnswerReading.{no_data_of, tid_answer_of, version_answer_of, types_answer_of, commands_answer_of, base_answer_of}
 use Rattle.pldm_wire.specs.declared.assigned.TheConstants.{BASE, SET_TID, GET_TID, GET_PLDM_VERSION, GET_PLDM_TYPES, GET_PLDM_COMMANDS, START_AND_END, SUCCESS}
-use Rattle.pldm_wire.specs.declared.limits.TheConstants.{LEAST_VERSION_BYTES, MOST_VERSION_BYTES, VERSION_BYTES, TYPES_BYTES, COMMANDS_BYTES}
+use Rattle.pldm_wire.specs.declared.limits.TheConstants.{MIN_VERSION_BYTES, MAX_VERSION_BYTES, VERSION_BYTES, TYPES_BYTES, COMMANDS_BYTES}
 use Rattle.pldm_wire.specs.declared.answer.Answer.{Answer}
 use Rattle.pldm_wire.specs.declared.answer.Answer.TheVariants.{SetTid, GetTid, GetPldmVersion, GetPldmTypes, GetPldmCommands}
-use Rattle.pldm_wire.specs.declared.answer_fault.AnswerFault.{AnswerFault}
-use Rattle.pldm_wire.specs.declared.answer_fault.AnswerFault.TheVariants.{Length, Value}
+use Rattle.pldm_wire.specs.declared.answer_reading.AnswerFault.{AnswerFault}
+use Rattle.pldm_wire.specs.declared.answer_reading.AnswerFault.TheVariants.{Length, Value}
 use Rattle.pldm_wire.proofs.Cells.{by_test, by_cells, all_bytes, front_bytes}
 
 -- what was read, if anything, is an answer to this kind with these bytes
@@ -34,13 +34,13 @@ tid_sound bytes =
 
 version_data_from_test : (versions : List ℕ) → is_version_data versions ≡ true → IsVersionData versions
 version_data_from_test versions h =
-    let outer = and_parts (nat_le LEAST_VERSION_BYTES (length versions) && nat_le (length versions) MOST_VERSION_BYTES) (length versions % VERSION_BYTES == 0) h in
-    let inner = and_parts (nat_le LEAST_VERSION_BYTES (length versions)) (nat_le (length versions) MOST_VERSION_BYTES) outer.0 in
+    let outer = and_parts (nat_le MIN_VERSION_BYTES (length versions) && nat_le (length versions) MAX_VERSION_BYTES) (length versions % VERSION_BYTES == 0) h in
+    let inner = and_parts (nat_le MIN_VERSION_BYTES (length versions)) (nat_le (length versions) MAX_VERSION_BYTES) outer.0 in
     (leb-true _ _ inner.0, leb-true _ _ inner.1, eqb-true _ _ outer.1)
 
 test_from_version_data : (versions : List ℕ) → IsVersionData versions → is_version_data versions ≡ true
 test_from_version_data versions h =
-    and_from _ _ (and_from _ _ (le-leb LEAST_VERSION_BYTES (length versions) h.0) (le-leb (length versions) MOST_VERSION_BYTES h.1))
+    and_from _ _ (and_from _ _ (le-leb MIN_VERSION_BYTES (length versions) h.0) (le-leb (length versions) MAX_VERSION_BYTES h.1))
     (eq-eqb (length versions % VERSION_BYTES) 0 h.2)
 
 version_fields : (bytes : List ℕ) → 5 ≤ length bytes → slice_index bytes 4 ≡ START_AND_END → is_version_data (drop 5 bytes) ≡ true

@@ -18,9 +18,9 @@ use Rattle.pldm_wire.specs.declared.size.Size.{Size}
 use Rattle.pldm_wire.specs.declared.size.Size.TheVariants.{Uint8, Sint8, Uint16, Sint16, Uint32, Sint32}
 use Rattle.pldm_wire.specs.declared.state_fields.EffecterStateField.{EffecterStateField}
 use Rattle.pldm_wire.specs.declared.assigned.TheConstants.{PLATFORM, SET_NUMERIC_EFFECTER_VALUE, GET_NUMERIC_EFFECTER_VALUE, SET_STATE_EFFECTER_STATES, GET_STATE_EFFECTER_STATES, SUCCESS}
-use Rattle.pldm_wire.specs.declared.limits.TheConstants.{MOST_STATES}
+use Rattle.pldm_wire.specs.declared.limits.TheConstants.{MAX_STATES}
 use Rattle.pldm_wire.specs.declared.answer.Answer.TheVariants.{SetNumericEffecterValue, GetNumericEffecterValue, SetStateEffecterStates, GetStateEffecterStates}
-use Rattle.pldm_wire.specs.declared.answer_fault.AnswerFault.TheVariants.{Length, Value}
+use Rattle.pldm_wire.specs.declared.answer_reading.AnswerFault.TheVariants.{Length, Value}
 use Rattle.pldm_wire.proofs.Cells.{by_test, by_cells, all_bytes, front_bytes}
 use Rattle.pldm_wire.proofs.SizeCodes.{code_from_size}
 use Rattle.pldm_wire.proofs.FieldLists.{length-effecter_states_in, length-effecter_states_bytes, effecter_states_read, effecter_states_bytes}
@@ -63,7 +63,7 @@ values_sound bytes =
     by_test (Sound (of_type PLATFORM GET_NUMERIC_EFFECTER_VALUE) bytes) (nat_lt (length bytes) 2) (Err Length) (values_of (size_of (slice_index bytes 0)) bytes)
     (λ _. tt) (λ _. values_of_sound (size_of (slice_index bytes 0)) bytes refl)
 
-states_fields : (bytes : List ℕ) → 1 ≤ slice_index bytes 0 → slice_index bytes 0 ≤ MOST_STATES → length bytes ≡ 1 + 3 * slice_index bytes 0
+states_fields : (bytes : List ℕ) → 1 ≤ slice_index bytes 0 → slice_index bytes 0 ≤ MAX_STATES → length bytes ≡ 1 + 3 * slice_index bytes 0
     → HasAnswerFields (GetStateEffecterStates (effecter_states_in (drop 1 bytes))) SUCCESS bytes
 states_fields bytes one most long =
     let count = slice_index bytes 0 in

@@ -16,7 +16,7 @@ use Rattle.pldm_wire.specs.Crc.{divisor, times_divisor, crc}
 use Rattle.pldm_wire.specs.declared.size.Size.TheVariants.{Uint8, Sint16, Sint32}
 use Rattle.pldm_wire.specs.declared.state_fields.SetStateField.{SetStateField}
 use Rattle.pldm_wire.specs.declared.transfer_flag.TransferFlag.TheVariants.{End}
-use Rattle.pldm_wire.specs.declared.answer_fault.AnswerFault.TheVariants.{OtherCommand, Length, Value}
+use Rattle.pldm_wire.specs.declared.answer_reading.AnswerFault.TheVariants.{OtherCommand, Length, Value}
 use Rattle.pldm_wire.specs.declared.command.Command.TheVariants as commands
 use Rattle.pldm_wire.specs.declared.answer.Answer.TheVariants as answers
 

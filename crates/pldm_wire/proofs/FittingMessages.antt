@@ -3,7 +3,7 @@ use Rattle.std.proofs.Common.{◌≡◌, ℕ, ◌+◌, ◌≤◌, length, Option
 use Rattle.std.specs.Int.{w64}
 use Rattle.byteorder.specs.Endian.{little_bytes, low_bytes}
 use Rattle.byteorder.specs.Numbers.{length-bytes_low_first}
-use Rattle.mctp_packet.specs.declared.TheConstants.{MOST_MESSAGE_BYTES}
+use Rattle.mctp_packet.specs.declared.TheConstants.{MAX_MESSAGE_BYTES}
 use Rattle.pldm_wire.specs.Sizes.{width}
 use Rattle.pldm_wire.specs.Numbers.{SizedNumber, number_bytes}
 use Rattle.pldm_wire.specs.RecordParts.{checksum_bytes}
@@ -60,7 +60,7 @@ pub command_is_short : CommandIsShort
 command_is_short id command h = omega (arith, short_command command h)
 
 -- an answer's data is short enough
-short_answer : (answer : Answer) → IsAnswer answer → 5 + length (answer_data answer) ≤ MOST_MESSAGE_BYTES
+short_answer : (answer : Answer) → IsAnswer answer → 5 + length (answer_data answer) ≤ MAX_MESSAGE_BYTES
 short_answer (answers.Refused code) h = omega arith
 short_answer answers.SetTid h = omega arith
 short_answer (answers.GetTid tid) h = omega arith

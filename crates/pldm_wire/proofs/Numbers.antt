@@ -1,9 +1,9 @@
 -- Every constant of the source, told a second time: the standards' and this profile's own numbers.
 use Rattle.std.proofs.Common.{◌≡◌, refl}
 use Rattle.pldm_wire.specs.declared.assigned.TheConstants.{MESSAGE_TYPE, INSTANCE_IDS, REQUEST_HEADER, RESPONSE_HEADER, BASE, PLATFORM, SET_TID, GET_TID, GET_PLDM_VERSION, GET_PLDM_TYPES, GET_PLDM_COMMANDS, GET_SENSOR_READING, GET_STATE_SENSOR_READINGS, SET_NUMERIC_EFFECTER_VALUE, GET_NUMERIC_EFFECTER_VALUE, SET_STATE_EFFECTER_STATES, GET_STATE_EFFECTER_STATES, GET_PDR_REPOSITORY_INFO, GET_PDR, SUCCESS, ERROR, ERROR_INVALID_DATA, ERROR_INVALID_LENGTH, ERROR_NOT_READY, ERROR_UNSUPPORTED_PLDM_CMD, ERROR_INVALID_PLDM_TYPE, START_AND_END}
-use Rattle.pldm_wire.specs.declared.limits.TheConstants.{MOST_STATES, LEAST_VERSION_BYTES, MOST_VERSION_BYTES, VERSION_BYTES, PART_FIELDS, MOST_PART_BYTES, ALL_FIELDS_FORM, MOST_REQUEST_BYTES, TYPES_BYTES, COMMANDS_BYTES, TIME_BYTES, GET_NEXT_PART, GET_FIRST_PART}
+use Rattle.pldm_wire.specs.declared.limits.TheConstants.{MAX_STATES, MIN_VERSION_BYTES, MAX_VERSION_BYTES, VERSION_BYTES, PART_FIELDS, MAX_PART_BYTES, ALL_FIELDS_FORM, MAX_REQUEST_BYTES, TYPES_BYTES, COMMANDS_BYTES, TIME_BYTES, GET_NEXT_PART, GET_FIRST_PART}
 
-bytes_of_the_longest_request : MOST_REQUEST_BYTES ≡ 23
+bytes_of_the_longest_request : MAX_REQUEST_BYTES ≡ 23
 bytes_of_the_longest_request = refl
 
 message_type_of_pldm : MESSAGE_TYPE ≡ 1
@@ -87,13 +87,13 @@ error_invalid_pldm_type = refl
 start_and_end : START_AND_END ≡ 5
 start_and_end = refl
 
-most_fields_of_a_composite : MOST_STATES ≡ 8
+most_fields_of_a_composite : MAX_STATES ≡ 8
 most_fields_of_a_composite = refl
 
-least_version_bytes : LEAST_VERSION_BYTES ≡ 4
+least_version_bytes : MIN_VERSION_BYTES ≡ 4
 least_version_bytes = refl
 
-most_version_bytes : MOST_VERSION_BYTES ≡ 32
+most_version_bytes : MAX_VERSION_BYTES ≡ 32
 most_version_bytes = refl
 
 bytes_of_a_version : VERSION_BYTES ≡ 4
@@ -102,7 +102,7 @@ bytes_of_a_version = refl
 bytes_of_a_part_that_are_not_the_records : PART_FIELDS ≡ 12
 bytes_of_a_part_that_are_not_the_records = refl
 
-most_bytes_of_a_part : MOST_PART_BYTES ≡ 303
+most_bytes_of_a_part : MAX_PART_BYTES ≡ 303
 most_bytes_of_a_part = refl
 
 bytes_of_the_form_of_all_fields : ALL_FIELDS_FORM ≡ 19

@@ -16,7 +16,7 @@ use Rattle.pldm_wire.specs.declared.size.Size.{Size}
 use Rattle.pldm_wire.specs.declared.size.Size.TheVariants.{Uint8, Sint8, Uint16, Sint16, Uint32, Sint32}
 use Rattle.pldm_wire.specs.declared.state_fields.SetStateField.{SetStateField}
 use Rattle.pldm_wire.specs.declared.assigned.TheConstants.{PLATFORM, GET_SENSOR_READING, GET_STATE_SENSOR_READINGS, SET_NUMERIC_EFFECTER_VALUE, GET_NUMERIC_EFFECTER_VALUE, SET_STATE_EFFECTER_STATES, GET_STATE_EFFECTER_STATES, GET_PDR_REPOSITORY_INFO, GET_PDR, ERROR_INVALID_LENGTH}
-use Rattle.pldm_wire.specs.declared.limits.TheConstants.{MOST_STATES, ALL_FIELDS_FORM}
+use Rattle.pldm_wire.specs.declared.limits.TheConstants.{MAX_STATES, ALL_FIELDS_FORM}
 use Rattle.pldm_wire.specs.declared.command.Command.TheVariants.{GetSensorReading, GetStateSensorReadings, SetNumericEffecterValue, GetNumericEffecterValue, SetStateEffecterStates, GetStateEffecterStates, GetPdrRepositoryInfo, GetPdr}
 use Rattle.pldm_wire.proofs.Cells.{by_test, by_cells, all_bytes, front_bytes}
 use Rattle.pldm_wire.proofs.SizeCodes.{code_from_size}
@@ -67,7 +67,7 @@ get_numeric_effecter_value_sound bytes =
     (λ t. record { kind_is = refl; fields = (eqb-true _ _ t, refl) }) (λ _. tt)
 
 -- the data of a count of fields, whole or in the form with all eight
-states_fields : (bytes : List ℕ) → 3 ≤ length bytes → 1 ≤ slice_index bytes 2 → slice_index bytes 2 ≤ MOST_STATES
+states_fields : (bytes : List ℕ) → 3 ≤ length bytes → 1 ≤ slice_index bytes 2 → slice_index bytes 2 ≤ MAX_STATES
     → 3 + 2 * slice_index bytes 2 ≤ length bytes → (length bytes ≡ 3 + 2 * slice_index bytes 2) ⊎ (length bytes ≡ ALL_FIELDS_FORM)
     → HasFields (SetStateEffecterStates (u16_at 0 bytes) (sets_in (take (2 * slice_index bytes 2) (drop 3 bytes)))) bytes
 states_fields bytes three one most long form =
@@ -90,12 +90,12 @@ set_states_sound : (bytes : List ℕ) → 3 ≤ length bytes
     → Sound (of_type PLATFORM SET_STATE_EFFECTER_STATES) bytes (set_states_of (slice_index bytes 2) bytes)
 set_states_sound bytes three =
     let count = slice_index bytes 2 in
-    by_test (Sound (of_type PLATFORM SET_STATE_EFFECTER_STATES) bytes) ((count == 0) || nat_lt MOST_STATES count) _ _
+    by_test (Sound (of_type PLATFORM SET_STATE_EFFECTER_STATES) bytes) ((count == 0) || nat_lt MAX_STATES count) _ _
     (λ _. tt)
-    (λ range. let none : (count == 0) ≡ false = (or_parts (count == 0) (nat_lt MOST_STATES count) range).0 in
-    let few : nat_lt MOST_STATES count ≡ false = (or_parts (count == 0) (nat_lt MOST_STATES count) range).1 in
+    (λ range. let none : (count == 0) ≡ false = (or_parts (count == 0) (nat_lt MAX_STATES count) range).0 in
+    let few : nat_lt MAX_STATES count ≡ false = (or_parts (count == 0) (nat_lt MAX_STATES count) range).1 in
     let nonzero : count ≡ 0 → ⊥ = eqb-false count 0 none in
-    let most : count ≤ MOST_STATES = ltb-false MOST_STATES count few in
+    let most : count ≤ MAX_STATES = ltb-false MAX_STATES count few in
     by_test (Sound (of_type PLATFORM SET_STATE_EFFECTER_STATES) bytes) ((length bytes == 3 + 2 * count) || (length bytes == ALL_FIELDS_FORM)) (Ok (SetStateEffecterStates (u16_at 0 bytes) (sets_in (take (2 * count) (drop 3 bytes))))) (Err ERROR_INVALID_LENGTH)
     (λ form. let either : (length bytes ≡ 3 + 2 * count) ⊎ (length bytes ≡ ALL_FIELDS_FORM) = ⊎_elim (λ e. inl (eqb-true _ _ e)) (λ e. inr (eqb-true _ _ e)) (or_cases _ _ form) in
     let long : 3 + 2 * count ≤ length bytes = ⊎_elim (λ e. omega arith) (λ e. omega arith) either in
@@ -210,13 +210,13 @@ states_read fields a b ignored composite form =
     let set_length : length set ≡ 2 * count = length-sets_bytes fields in
     let long : nat_lt (length bytes) 3 ≡ false = le-ltb _ _ (omega arith) in
     let some : (count == 0) ≡ false = ne_eqb _ _ (λ e. omega (arith, composite.0)) in
-    let few : nat_lt MOST_STATES count ≡ false = le-ltb _ _ composite.1 in
+    let few : nat_lt MAX_STATES count ≡ false = le-ltb _ _ composite.1 in
     let whole : ((length bytes == 3 + 2 * count) || (length bytes == ALL_FIELDS_FORM)) ≡ true =
     ⊎_elim (λ none. or_left _ _ (eq-eqb (length bytes) (3 + 2 * count) (omega (arith, length-append set ignored, ap length none))))
     (λ all. or_right _ _ (eq-eqb (length bytes) ALL_FIELDS_FORM all)) form in
     let read : sets_in (take (2 * count) (set ++ ignored)) ≡ fields = ap sets_in (take_at set ignored (2 * count) set_length) ∙ sets_read fields in
     cond-false (nat_lt (length bytes) 3) _ _ long
-    ∙ cond-false ((count == 0) || nat_lt MOST_STATES count) _ _ (or_from _ _ some few)
+    ∙ cond-false ((count == 0) || nat_lt MAX_STATES count) _ _ (or_from _ _ some few)
     ∙ cond-true ((length bytes == 3 + 2 * count) || (length bytes == ALL_FIELDS_FORM)) _ _ whole
     ∙ ap (λ fs. Ok (SetStateEffecterStates (little_number 2 (a ∷ b ∷ [])) fs)) read
 

@@ -12,7 +12,7 @@ use Rattle.pldm_wire.specs.declared.assigned.TheConstants.{BASE, PLATFORM, GET_S
 use Rattle.pldm_wire.specs.declared.command.Command.{Command}
 use Rattle.pldm_wire.specs.declared.answer.Answer.{Answer}
 use Rattle.pldm_wire.specs.declared.answer.Answer.TheVariants.{Refused, SetTid, GetTid, GetPldmVersion, GetPldmTypes, GetPldmCommands, GetSensorReading, GetStateSensorReadings, SetNumericEffecterValue, GetNumericEffecterValue, SetStateEffecterStates, GetStateEffecterStates, GetPdrRepositoryInfo, GetPdr}
-use Rattle.pldm_wire.specs.declared.answer_fault.AnswerFault.TheVariants.{OtherCommand}
+use Rattle.pldm_wire.specs.declared.answer_reading.AnswerFault.TheVariants.{OtherCommand}
 use Rattle.pldm_wire.proofs.Cells.{by_test}
 use Rattle.pldm_wire.proofs.BaseAnswers.{Sound, base_sound, version_read, types_read, commands_read}
 use Rattle.pldm_wire.proofs.SensorAnswers.{reading_sound, sensor_states_sound, reading_read, sensor_states_answer_read}

@@ -13,9 +13,9 @@ use Rattle.pldm_wire.specs.Answers.{HasAnswerFields}
 use Rattle.pldm_wire.specs.PlatformAnswerReading.{repository_answer_of, checksum_length, part_of, part_answer_of}
 use Rattle.pldm_wire.specs.declared.transfer_flag.TransferFlag.{TransferFlag}
 use Rattle.pldm_wire.specs.declared.assigned.TheConstants.{PLATFORM, GET_PDR_REPOSITORY_INFO, GET_PDR, SUCCESS}
-use Rattle.pldm_wire.specs.declared.limits.TheConstants.{TIME_BYTES, MOST_PART_BYTES}
+use Rattle.pldm_wire.specs.declared.limits.TheConstants.{TIME_BYTES, MAX_PART_BYTES}
 use Rattle.pldm_wire.specs.declared.answer.Answer.TheVariants.{GetPdrRepositoryInfo, GetPdr}
-use Rattle.pldm_wire.specs.declared.answer_fault.AnswerFault.TheVariants.{Length, Value}
+use Rattle.pldm_wire.specs.declared.answer_reading.AnswerFault.TheVariants.{Length, Value}
 use Rattle.pldm_wire.proofs.Cells.{by_test, by_cells, all_bytes, front_bytes}
 use Rattle.pldm_wire.proofs.FlagNumbers.{flag_of-flag_number, number_from_flag}
 use Rattle.pldm_wire.proofs.BaseAnswers.{Sound}
@@ -38,7 +38,7 @@ left_is_checksum true (checksum ∷ other ∷ left) h = absurd (omega arith)
 left_is_checksum false [] h = (refl, refl)
 left_is_checksum false (checksum ∷ left) h = absurd (omega arith)
 
-part_fields : (flag : TransferFlag) (bytes : List ℕ) → 11 ≤ length bytes → slice_index bytes 8 ≡ flag_number flag → u16_at 9 bytes ≤ MOST_PART_BYTES
+part_fields : (flag : TransferFlag) (bytes : List ℕ) → 11 ≤ length bytes → slice_index bytes 8 ≡ flag_number flag → u16_at 9 bytes ≤ MAX_PART_BYTES
     → length bytes ≡ 11 + u16_at 9 bytes + checksum_length flag
     → HasAnswerFields (GetPdr (u32_at 0 bytes) (u32_at 4 bytes) (part flag (take (u16_at 9 bytes) (drop 11 bytes)) (slice_get (drop (u16_at 9 bytes) (drop 11 bytes)) 0))) SUCCESS bytes
 part_fields flag bytes eleven number most whole =
@@ -66,11 +66,11 @@ part_of_sound : (flag : Option TransferFlag) (bytes : List ℕ) → 11 ≤ lengt
     → Sound (of_type PLATFORM GET_PDR) bytes (part_of flag bytes)
 part_of_sound None bytes eleven h = tt
 part_of_sound (Some flag) bytes eleven h =
-    by_test (Sound (of_type PLATFORM GET_PDR) bytes) (nat_lt MOST_PART_BYTES (u16_at 9 bytes)) (Err Value) _
+    by_test (Sound (of_type PLATFORM GET_PDR) bytes) (nat_lt MAX_PART_BYTES (u16_at 9 bytes)) (Err Value) _
     (λ _. tt)
     (λ most. by_test (Sound (of_type PLATFORM GET_PDR) bytes) (length bytes == 11 + u16_at 9 bytes + checksum_length flag)
     (Ok (GetPdr (u32_at 0 bytes) (u32_at 4 bytes) (part flag (take (u16_at 9 bytes) (drop 11 bytes)) (slice_get (drop (u16_at 9 bytes) (drop 11 bytes)) 0)))) (Err Length)
-    (λ t. record { kind_is = refl; fields = part_fields flag bytes eleven (number_from_flag _ flag h) (ltb-false MOST_PART_BYTES (u16_at 9 bytes) most) (eqb-true _ _ t) })
+    (λ t. record { kind_is = refl; fields = part_fields flag bytes eleven (number_from_flag _ flag h) (ltb-false MAX_PART_BYTES (u16_at 9 bytes) most) (eqb-true _ _ t) })
     (λ _. tt))
 
 pub part_sound : (bytes : List ℕ) → Sound (of_type PLATFORM GET_PDR) bytes (part_answer_of bytes)
@@ -117,13 +117,13 @@ placed_part_read flag r t c bytes checksum range counted =
     let whole = bytes_at 0 4 r ++ bytes_at 0 4 t ++ flag_number flag ∷ bytes_at 0 2 c ++ bytes ++ left in
     let left_length : length left ≡ checksum_length flag = length-checksum_bytes checksum (is_end flag) range.1 in
     let long : nat_lt (length whole) 11 ≡ false = le-ltb (length whole) 11 (omega arith) in
-    let most : nat_lt MOST_PART_BYTES count ≡ false = le-ltb MOST_PART_BYTES count (omega (arith, range.0)) in
+    let most : nat_lt MAX_PART_BYTES count ≡ false = le-ltb MAX_PART_BYTES count (omega (arith, range.0)) in
     let fits : (length whole == 11 + count + checksum_length flag) ≡ true = eq-eqb (length whole) (11 + count + checksum_length flag) (omega (arith, length-append bytes left)) in
     let front : take count (bytes ++ left) ≡ bytes = take_at bytes left count counted in
     let back : drop count (bytes ++ left) ≡ left = drop_at bytes left count counted in
     cond-false (nat_lt (length whole) 11) _ _ long
     ∙ ap (λ f. part_of f whole) (flag_of-flag_number flag)
-    ∙ cond-false (nat_lt MOST_PART_BYTES count) _ _ most
+    ∙ cond-false (nat_lt MAX_PART_BYTES count) _ _ most
     ∙ cond-true (length whole == 11 + count + checksum_length flag) _ _ fits
     ∙ ap (λ b. Ok (GetPdr (little_number 4 (bytes_at 0 4 r)) (little_number 4 (bytes_at 0 4 t)) (part flag b (slice_get (drop count (bytes ++ left)) 0)))) front
     ∙ ap (λ l. Ok (GetPdr (little_number 4 (bytes_at 0 4 r)) (little_number 4 (bytes_at 0 4 t)) (part flag bytes (slice_get l 0)))) back

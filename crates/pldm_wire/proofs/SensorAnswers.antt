@@ -16,9 +16,9 @@ use Rattle.pldm_wire.specs.declared.size.Size.{Size}
 use Rattle.pldm_wire.specs.declared.size.Size.TheVariants.{Uint8, Sint8, Uint16, Sint16, Uint32, Sint32}
 use Rattle.pldm_wire.specs.declared.state_fields.SensorStateField.{SensorStateField}
 use Rattle.pldm_wire.specs.declared.assigned.TheConstants.{PLATFORM, GET_SENSOR_READING, GET_STATE_SENSOR_READINGS, SUCCESS}
-use Rattle.pldm_wire.specs.declared.limits.TheConstants.{MOST_STATES}
+use Rattle.pldm_wire.specs.declared.limits.TheConstants.{MAX_STATES}
 use Rattle.pldm_wire.specs.declared.answer.Answer.TheVariants.{GetSensorReading, GetStateSensorReadings}
-use Rattle.pldm_wire.specs.declared.answer_fault.AnswerFault.TheVariants.{Length, Value}
+use Rattle.pldm_wire.specs.declared.answer_reading.AnswerFault.TheVariants.{Length, Value}
 use Rattle.pldm_wire.proofs.Cells.{by_test, by_cells, all_bytes, front_bytes}
 use Rattle.pldm_wire.proofs.SizeCodes.{code_from_size}
 use Rattle.pldm_wire.proofs.FieldLists.{length-sensor_states_in, length-sensor_states_bytes, sensor_states_read, sensor_states_bytes}
@@ -26,15 +26,15 @@ use Rattle.pldm_wire.proofs.BaseAnswers.{Sound}
 
 -- a count and its test
 
-pub count_from_test : (count : ℕ) → is_no_count count ≡ false → (1 ≤ count) × (count ≤ MOST_STATES)
+pub count_from_test : (count : ℕ) → is_no_count count ≡ false → (1 ≤ count) × (count ≤ MAX_STATES)
 count_from_test count h =
-    let parts = or_parts (count == 0) (nat_lt MOST_STATES count) h in
+    let parts = or_parts (count == 0) (nat_lt MAX_STATES count) h in
     let some : count ≡ 0 → ⊥ = eqb-false count 0 parts.0 in
-    let few : count ≤ MOST_STATES = ltb-false MOST_STATES count parts.1 in
+    let few : count ≤ MAX_STATES = ltb-false MAX_STATES count parts.1 in
     (omega arith, few)
 
-pub test_from_count : (count : ℕ) → 1 ≤ count → count ≤ MOST_STATES → is_no_count count ≡ false
-test_from_count count one most = or_from _ _ (ne_eqb count 0 (λ e. omega arith)) (le-ltb MOST_STATES count most)
+pub test_from_count : (count : ℕ) → 1 ≤ count → count ≤ MAX_STATES → is_no_count count ≡ false
+test_from_count count one most = or_from _ _ (ne_eqb count 0 (λ e. omega arith)) (le-ltb MAX_STATES count most)
 
 -- the bytes of a reading of each size
 reading_bytes : (size : Size) (bytes : List ℕ) → slice_index bytes 0 ≡ size_code size → length bytes ≡ 6 + width size
@@ -71,7 +71,7 @@ reading_sound bytes =
     by_test (Sound (of_type PLATFORM GET_SENSOR_READING) bytes) (nat_lt (length bytes) 6) (Err Length) (reading_of (size_of (slice_index bytes 0)) bytes)
     (λ _. tt) (λ _. reading_of_sound (size_of (slice_index bytes 0)) bytes refl)
 
-states_fields : (bytes : List ℕ) → 1 ≤ slice_index bytes 0 → slice_index bytes 0 ≤ MOST_STATES → length bytes ≡ 1 + 4 * slice_index bytes 0
+states_fields : (bytes : List ℕ) → 1 ≤ slice_index bytes 0 → slice_index bytes 0 ≤ MAX_STATES → length bytes ≡ 1 + 4 * slice_index bytes 0
     → HasAnswerFields (GetStateSensorReadings (sensor_states_in (drop 1 bytes))) SUCCESS bytes
 states_fields bytes one most long =
     let count = slice_index bytes 0 in

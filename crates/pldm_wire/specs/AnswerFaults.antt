@@ -1,7 +1,7 @@
 -- Why a response is no answer to a command: the faults' numbers.
 use Rattle.std.specs.Prelude.{ℕ}
-use Rattle.pldm_wire.specs.declared.answer_fault.AnswerFault.{AnswerFault}
-use Rattle.pldm_wire.specs.declared.answer_fault.AnswerFault.TheVariants.{OtherCommand, Length, Value}
+use Rattle.pldm_wire.specs.declared.answer_reading.AnswerFault.{AnswerFault}
+use Rattle.pldm_wire.specs.declared.answer_reading.AnswerFault.TheVariants.{OtherCommand, Length, Value}
 
 abbrev pub number_of_answer_fault : AnswerFault → ℕ
 number_of_answer_fault OtherCommand = 1

@@ -10,8 +10,8 @@ use Rattle.pldm_wire.specs.declared.assigned.TheConstants.{BASE, PLATFORM, SUCCE
 use Rattle.pldm_wire.specs.declared.command.Command.{Command}
 use Rattle.pldm_wire.specs.declared.answer.Answer.{Answer}
 use Rattle.pldm_wire.specs.declared.answer.Answer.TheVariants.{Refused}
-use Rattle.pldm_wire.specs.declared.answer_fault.AnswerFault.{AnswerFault}
-use Rattle.pldm_wire.specs.declared.answer_fault.AnswerFault.TheVariants.{OtherCommand}
+use Rattle.pldm_wire.specs.declared.answer_reading.AnswerFault.{AnswerFault}
+use Rattle.pldm_wire.specs.declared.answer_reading.AnswerFault.TheVariants.{OtherCommand}
 
 abbrev pub same_kind : TypeAndCommand → TypeAndCommand → Bool
 same_kind kind other = (kind.pldm_type == other.pldm_type) && (kind.command == other.command)

@@ -9,8 +9,8 @@ use Rattle.pldm_wire.specs.declared.limits.TheConstants.{TYPES_BYTES, COMMANDS_B
 use Rattle.pldm_wire.specs.declared.answer.Answer.{Answer}
 use Rattle.pldm_wire.specs.declared.answer.Answer.TheVariants.{SetTid, GetTid, GetPldmVersion}
 use Rattle.pldm_wire.specs.declared.answer.Answer.TheVariants.{GetPldmTypes, GetPldmCommands}
-use Rattle.pldm_wire.specs.declared.answer_fault.AnswerFault.{AnswerFault}
-use Rattle.pldm_wire.specs.declared.answer_fault.AnswerFault.TheVariants.{OtherCommand, Length, Value}
+use Rattle.pldm_wire.specs.declared.answer_reading.AnswerFault.{AnswerFault}
+use Rattle.pldm_wire.specs.declared.answer_reading.AnswerFault.TheVariants.{OtherCommand, Length, Value}
 
 -- an answer with no data
 abbrev pub no_data_of : Answer → List ℕ → Result Answer AnswerFault

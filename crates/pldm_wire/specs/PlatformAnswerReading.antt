@@ -16,14 +16,14 @@ use Rattle.pldm_wire.specs.declared.assigned.TheConstants.{GET_SENSOR_READING, G
 use Rattle.pldm_wire.specs.declared.assigned.TheConstants.{SET_NUMERIC_EFFECTER_VALUE, GET_NUMERIC_EFFECTER_VALUE}
 use Rattle.pldm_wire.specs.declared.assigned.TheConstants.{SET_STATE_EFFECTER_STATES, GET_STATE_EFFECTER_STATES}
 use Rattle.pldm_wire.specs.declared.assigned.TheConstants.{GET_PDR_REPOSITORY_INFO, GET_PDR}
-use Rattle.pldm_wire.specs.declared.limits.TheConstants.{MOST_STATES, MOST_PART_BYTES, TIME_BYTES}
+use Rattle.pldm_wire.specs.declared.limits.TheConstants.{MAX_STATES, MAX_PART_BYTES, TIME_BYTES}
 use Rattle.pldm_wire.specs.declared.answer.Answer.{Answer}
 use Rattle.pldm_wire.specs.declared.answer.Answer.TheVariants.{GetSensorReading, GetStateSensorReadings}
 use Rattle.pldm_wire.specs.declared.answer.Answer.TheVariants.{SetNumericEffecterValue, GetNumericEffecterValue}
 use Rattle.pldm_wire.specs.declared.answer.Answer.TheVariants.{SetStateEffecterStates, GetStateEffecterStates}
 use Rattle.pldm_wire.specs.declared.answer.Answer.TheVariants.{GetPdrRepositoryInfo, GetPdr}
-use Rattle.pldm_wire.specs.declared.answer_fault.AnswerFault.{AnswerFault}
-use Rattle.pldm_wire.specs.declared.answer_fault.AnswerFault.TheVariants.{OtherCommand, Length, Value}
+use Rattle.pldm_wire.specs.declared.answer_reading.AnswerFault.{AnswerFault}
+use Rattle.pldm_wire.specs.declared.answer_reading.AnswerFault.TheVariants.{OtherCommand, Length, Value}
 
 -- six bytes before the number: data size, operational state, event enable, and three states
 abbrev pub reading_of : Option Size → List ℕ → Result Answer AnswerFault
@@ -40,7 +40,7 @@ reading_answer_of bytes =
 
 -- not one to the most fields
 abbrev pub is_no_count : ℕ → Bool
-is_no_count count = (count == 0) || nat_lt MOST_STATES count
+is_no_count count = (count == 0) || nat_lt MAX_STATES count
 
 -- a byte for the count, and four for each field
 abbrev pub sensor_states_answer_of : List ℕ → Result Answer AnswerFault
@@ -89,7 +89,7 @@ checksum_length flag = if is_end flag then 1 else 0
 abbrev pub part_of : Option TransferFlag → List ℕ → Result Answer AnswerFault
 part_of None bytes = Err Value
 part_of (Some flag) bytes =
-    if nat_lt MOST_PART_BYTES (u16_at 9 bytes) then Err Value
+    if nat_lt MAX_PART_BYTES (u16_at 9 bytes) then Err Value
     else if length bytes == 11 + u16_at 9 bytes + checksum_length flag then
     Ok (GetPdr (u32_at 0 bytes) (u32_at 4 bytes)
     (part flag (take (u16_at 9 bytes) (drop 11 bytes)) (slice_get (drop (u16_at 9 bytes) (drop 11 bytes)) 0)))

@@ -13,7 +13,7 @@ use Rattle.pldm_wire.specs.declared.assigned.TheConstants.{SET_NUMERIC_EFFECTER_
 use Rattle.pldm_wire.specs.declared.assigned.TheConstants.{SET_STATE_EFFECTER_STATES, GET_STATE_EFFECTER_STATES}
 use Rattle.pldm_wire.specs.declared.assigned.TheConstants.{GET_PDR_REPOSITORY_INFO, GET_PDR, ERROR_INVALID_DATA}
 use Rattle.pldm_wire.specs.declared.assigned.TheConstants.{ERROR_INVALID_LENGTH, ERROR_UNSUPPORTED_PLDM_CMD}
-use Rattle.pldm_wire.specs.declared.limits.TheConstants.{MOST_STATES, ALL_FIELDS_FORM}
+use Rattle.pldm_wire.specs.declared.limits.TheConstants.{MAX_STATES, ALL_FIELDS_FORM}
 use Rattle.pldm_wire.specs.declared.command.Command.{Command}
 use Rattle.pldm_wire.specs.declared.command.Command.TheVariants.{GetSensorReading, GetStateSensorReadings}
 use Rattle.pldm_wire.specs.declared.command.Command.TheVariants.{SetNumericEffecterValue, GetNumericEffecterValue}
@@ -51,7 +51,7 @@ get_numeric_effecter_value_of bytes =
 -- fields those past the count are ignored
 abbrev pub set_states_of : ℕ → List ℕ → Result Command ℕ
 set_states_of count bytes =
-    if (count == 0) || nat_lt MOST_STATES count then Err ERROR_INVALID_DATA
+    if (count == 0) || nat_lt MAX_STATES count then Err ERROR_INVALID_DATA
     else if (length bytes == 3 + 2 * count) || (length bytes == ALL_FIELDS_FORM) then
     Ok (SetStateEffecterStates (u16_at 0 bytes) (sets_in (take (2 * count) (drop 3 bytes))))
     else Err ERROR_INVALID_LENGTH

@@ -1,17 +1,17 @@
 -- The fields of composite state sensors and effecters (DSP0248).
 use Rattle.std.specs.Prelude.{ℕ, ◌≤◌, nat_le, Bool, ◌&&◌, List, [], ◌∷◌, length}
-use Rattle.pldm_wire.specs.declared.limits.TheConstants.{MOST_STATES}
+use Rattle.pldm_wire.specs.declared.limits.TheConstants.{MAX_STATES}
 use Rattle.pldm_wire.specs.declared.state_fields.SetStateField.{SetStateField}
 use Rattle.pldm_wire.specs.declared.state_fields.SensorStateField.{SensorStateField}
 use Rattle.pldm_wire.specs.declared.state_fields.EffecterStateField.{EffecterStateField}
 
 -- a composite sensor or effecter has at least one field, and at most so many
 abbrev pub IsComposite : {A : Type 0} → List A → Type 0
-IsComposite fields = (1 ≤ length fields) × (length fields ≤ MOST_STATES)
+IsComposite fields = (1 ≤ length fields) × (length fields ≤ MAX_STATES)
 
 -- the same as a test
 abbrev pub is_composite : {A : Type 0} → List A → Bool
-is_composite fields = nat_le 1 (length fields) && nat_le (length fields) MOST_STATES
+is_composite fields = nat_le 1 (length fields) && nat_le (length fields) MAX_STATES
 
 -- the bytes of each field, in order
 

@@ -1,15 +1,40 @@
+//! An answer read from a response, for the command that it answers.
+
 ghost use Rattle.std.specs.Prelude.{◌≡◌, ◌<◌, Ok, IfOk};
+ghost use Rattle.pldm_wire.specs.AnswerFaults.{number_of_answer_fault};
 ghost use Rattle.pldm_wire.specs.Commands.{kind_of};
 ghost use Rattle.pldm_wire.specs.AnswerReading.{AnswersCommand, answer_of, success_of};
 ghost use Rattle.pldm_wire.specs.declared.answer.Answer.{Answer as AnswerValue};
 
-use crate::base::{
-    commands_answer_in, no_data_in, tid_answer_in, types_answer_in, version_answer_in,
-};
+use thiserror::Error;
+use crate::base::{commands_answer_in, no_data_in, tid_answer_in, types_answer_in, version_answer_in};
 use crate::effecters::{effecter_states_answer_in, values_answer_in};
 use crate::repository::{part_answer_in, repository_answer_in};
 use crate::sensors::{reading_answer_in, sensor_states_answer_in};
-use crate::{Answer, AnswerFault, Code, Command, ResponseRef};
+use crate::{Answer, Code, Command, ResponseRef};
+
+/// Why a response is no answer to a command.
+#[derive(Clone, Copy, Debug, PartialEq, Eq, Error)]
+pub enum AnswerFault {
+    /// It is of another PLDM type or command.
+    #[error("the response is to another command")]
+    OtherCommand = 1,
+    /// Its data is shorter or longer than the answer's.
+    #[error("the response has the wrong length")]
+    Length = 2,
+    /// A data size, a count or a flag of it has no such value.
+    #[error("the response has a field with a wrong value")]
+    Value = 3,
+}
+
+impl AnswerFault {
+    /// The fault's number in this profile's list.
+    pub fn number(self) -> u8
+        ensures { result ≡ number_of_answer_fault self }
+    {
+        self as u8
+    }
+}
 
 /// The answer that this response is to the command: OtherCommand for another PLDM type or command;
 /// else a completion code other than 0 is a refusal, whatever follows it; else Length for fewer

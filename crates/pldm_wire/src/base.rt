@@ -95,7 +95,8 @@ pub(crate) fn push_get_pldm_version(
     pldm_type: u8,
 )
     requires { array_vec_len body.old ≤ REQUEST_HEADER }
-    ensures { body.new.items ≡ body.old.items ++ (little_bytes 4 data_transfer_handle ++ transfer_operation_flag ∷ pldm_type ∷ []) }
+    ensures { body.new.items ≡ body.old.items ++ (little_bytes 4 data_transfer_handle ++ transfer_operation_flag ∷
+        pldm_type ∷ []) }
 {
     push_u32(body, data_transfer_handle);
     body.push(transfer_operation_flag);

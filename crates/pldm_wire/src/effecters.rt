@@ -15,7 +15,7 @@ use crate::places::u16_in;
 use crate::pushes::{push_number, push_u16};
 use crate::{
     ALL_FIELDS_FORM, Answer, AnswerFault, Code, Command, EffecterStateField, EffecterValues,
-    MOST_STATES, Number, REQUEST_HEADER, RESPONSE_HEADER, SetStateField, Size, StateFields,
+    MAX_STATES, Number, REQUEST_HEADER, RESPONSE_HEADER, SetStateField, Size, StateFields,
 };
 use mctp_packet::Body;
 
@@ -60,7 +60,7 @@ pub(crate) fn set_state_effecter_states_in(bytes: &[u8]) -> Result<Command, Code
         return Err(Code::ERROR_INVALID_LENGTH);
     };
     let count = usize::from(*count);
-    if count == 0 || count > MOST_STATES {
+    if count == 0 || count > MAX_STATES {
         return Err(Code::ERROR_INVALID_DATA);
     }
     if bytes.len() != 3 + 2 * count && bytes.len() != ALL_FIELDS_FORM {
@@ -149,7 +149,7 @@ pub(crate) fn effecter_states_answer_in(bytes: &[u8]) -> Result<Answer, AnswerFa
         return Err(AnswerFault::Length);
     };
     let count = usize::from(*count);
-    if count == 0 || count > MOST_STATES {
+    if count == 0 || count > MAX_STATES {
         return Err(AnswerFault::Value);
     }
     if bytes.len() != 1 + 3 * count {

@@ -43,7 +43,7 @@ pub fn checksums_are_remainders()
     ensures only { OnlyCrc }
 {}
 
-/// The message of a command has at most the bytes of one packet, and at most `MOST_REQUEST_BYTES`; that
+/// The message of a command has at most the bytes of one packet, and at most `MAX_REQUEST_BYTES`; that
 /// of an answer has at most the bytes of a message; both have some.
 pub fn messages_fit()
     ensures command { CommandFitsOnePacket }

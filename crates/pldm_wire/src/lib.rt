@@ -3,7 +3,6 @@
 #![tactic(auto)]
 
 mod answer;
-mod answer_fault;
 mod answer_reading;
 mod answer_writing;
 mod assigned;
@@ -33,8 +32,7 @@ mod transfer_flag;
 mod version_data;
 
 pub use answer::Answer;
-pub use answer_fault::AnswerFault;
-pub use answer_reading::read_answer;
+pub use answer_reading::{AnswerFault, read_answer};
 pub use answer_writing::{put_answer, write_answer};
 pub use assigned::{
     BASE, ERROR, ERROR_INVALID_DATA, ERROR_INVALID_LENGTH, ERROR_INVALID_PLDM_TYPE,
@@ -52,8 +50,8 @@ pub use crc::crc8;
 pub use effecter_values::EffecterValues;
 pub use kind::Kind;
 pub use limits::{
-    ALL_FIELDS_FORM, COMMANDS_BYTES, GET_FIRST_PART, GET_NEXT_PART, LEAST_VERSION_BYTES,
-    MOST_PART_BYTES, MOST_REQUEST_BYTES, MOST_STATES, MOST_VERSION_BYTES, TIME_BYTES, TYPES_BYTES,
+    ALL_FIELDS_FORM, COMMANDS_BYTES, GET_FIRST_PART, GET_NEXT_PART, MIN_VERSION_BYTES,
+    MAX_PART_BYTES, MAX_REQUEST_BYTES, MAX_STATES, MAX_VERSION_BYTES, TIME_BYTES, TYPES_BYTES,
     VERSION_BYTES,
 };
 pub use number::Number;

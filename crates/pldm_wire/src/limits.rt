@@ -1,17 +1,17 @@
 //! How much the fields of a message may hold.
 
 use crate::{REQUEST_HEADER, RESPONSE_HEADER};
-use mctp_packet::MOST_MESSAGE_BYTES;
+use mctp_packet::MAX_MESSAGE_BYTES;
 
 /// The most fields of a composite state sensor or effecter (DSP0248, "compositeSensorCount" and
 /// "compositeEffecterCount").
-pub const MOST_STATES: usize = 8;
+pub const MAX_STATES: usize = 8;
 
 /// The least bytes of version data: one version.
-pub const LEAST_VERSION_BYTES: usize = 4;
+pub const MIN_VERSION_BYTES: usize = 4;
 
 /// The most bytes of version data that one answer carries in this profile.
-pub const MOST_VERSION_BYTES: usize = 32;
+pub const MAX_VERSION_BYTES: usize = 32;
 
 /// The bytes of one version (DSP0240, "GetPLDMVersion command").
 pub const VERSION_BYTES: usize = 4;
@@ -22,14 +22,14 @@ pub const PART_FIELDS: usize = 4 + 4 + 1 + 2 + 1;
 
 /// The most bytes of a record that one GetPDR answer carries in this profile: what is left of a
 /// message of the greatest length.
-pub const MOST_PART_BYTES: usize = MOST_MESSAGE_BYTES - RESPONSE_HEADER - PART_FIELDS;
+pub const MAX_PART_BYTES: usize = MAX_MESSAGE_BYTES - RESPONSE_HEADER - PART_FIELDS;
 
 /// The bytes of SetStateEffecterStates' data where it has all eight fields, whatever their count
 /// (DSP0248, "SetStateEffecterStates command").
 pub const ALL_FIELDS_FORM: usize = 19;
 
 /// The most bytes of a command's message: SetStateEffecterStates with all eight fields.
-pub const MOST_REQUEST_BYTES: usize = REQUEST_HEADER + ALL_FIELDS_FORM;
+pub const MAX_REQUEST_BYTES: usize = REQUEST_HEADER + ALL_FIELDS_FORM;
 
 /// The bytes in which GetPLDMTypes' answer tells the PLDM types, a bit each (DSP0240, "GetPLDMTypes
 /// command").

@@ -8,11 +8,11 @@ ghost use Rattle.pldm_wire.specs.Numbers.{IsNumber, number_bytes};
 
 use crate::Number;
 use byteorder::{ByteOrder, LittleEndian};
-use mctp_packet::{Body, MOST_MESSAGE_BYTES};
+use mctp_packet::{Body, MAX_MESSAGE_BYTES};
 
 /// Adds a number of two bytes.
 pub(crate) fn push_u16(body: &mut Body, number: u16)
-    requires { array_vec_len body.old + 2 ≤ MOST_MESSAGE_BYTES }
+    requires { array_vec_len body.old + 2 ≤ MAX_MESSAGE_BYTES }
     ensures items { body.new.items ≡ body.old.items ++ little_bytes 2 number }
     ensures len { array_vec_len body.new ≡ array_vec_len body.old + 2 }
 {
@@ -23,7 +23,7 @@ pub(crate) fn push_u16(body: &mut Body, number: u16)
 
 /// Adds a number of four bytes.
 pub(crate) fn push_u32(body: &mut Body, number: u32)
-    requires { array_vec_len body.old + 4 ≤ MOST_MESSAGE_BYTES }
+    requires { array_vec_len body.old + 4 ≤ MAX_MESSAGE_BYTES }
     ensures items { body.new.items ≡ body.old.items ++ little_bytes 4 number }
     ensures len { array_vec_len body.new ≡ array_vec_len body.old + 4 }
 {
@@ -34,7 +34,7 @@ pub(crate) fn push_u32(body: &mut Body, number: u32)
 
 /// Adds a number in the bytes of its size.
 pub(crate) fn push_number(body: &mut Body, number: Number)
-    requires { array_vec_len body.old + width number.size ≤ MOST_MESSAGE_BYTES }
+    requires { array_vec_len body.old + width number.size ≤ MAX_MESSAGE_BYTES }
     ensures items { body.new.items ≡ body.old.items ++ number_bytes number }
     ensures len { array_vec_len body.new ≡ array_vec_len body.old + width number.size }
     ensures range { IsNumber number }
@@ -47,7 +47,7 @@ pub(crate) fn push_number(body: &mut Body, number: Number)
 
 /// Adds these bytes.
 pub(crate) fn push_bytes(body: &mut Body, bytes: &[u8])
-    requires { array_vec_len body.old + length bytes.now ≤ MOST_MESSAGE_BYTES }
+    requires { array_vec_len body.old + length bytes.now ≤ MAX_MESSAGE_BYTES }
     ensures items { body.new.items ≡ body.old.items ++ bytes.now }
     ensures len { array_vec_len body.new ≡ array_vec_len body.old + length bytes.now }
 {
@@ -56,7 +56,7 @@ pub(crate) fn push_bytes(body: &mut Body, bytes: &[u8])
 
 /// Adds all bytes of an array.
 pub(crate) fn push_array<const N: usize>(body: &mut Body, bytes: &[u8; N])
-    requires { array_vec_len body.old + N ≤ MOST_MESSAGE_BYTES }
+    requires { array_vec_len body.old + N ≤ MAX_MESSAGE_BYTES }
     ensures items { body.new.items ≡ body.old.items ++ bytes.now }
     ensures len { array_vec_len body.new ≡ array_vec_len body.old + N }
     ensures range { length bytes.now ≡ N }

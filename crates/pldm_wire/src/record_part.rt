@@ -1,17 +1,17 @@
 ghost use Rattle.std.specs.Prelude.{◌≡◌, ◌↔◌, IsSome, IfSome};
 ghost use Rattle.pldm_wire.specs.RecordParts.{IsPart, part};
 
-use crate::{MOST_PART_BYTES, TransferFlag};
+use crate::{MAX_PART_BYTES, TransferFlag};
 use arrayvec::ArrayVec;
 use std::marker::Model;
 
-/// A part of a record in a GetPDR answer: its transfer flag, at most [`MOST_PART_BYTES`] bytes, and
+/// A part of a record in a GetPDR answer: its transfer flag, at most [`MAX_PART_BYTES`] bytes, and
 /// the whole record's checksum exactly where it is the last of several parts (DSP0248, "GetPDR
 /// command").
 #[derive(Debug, PartialEq, Eq, Drop)]
 pub struct RecordPart {
     flag: TransferFlag,
-    bytes: ArrayVec<u8, MOST_PART_BYTES>,
+    bytes: ArrayVec<u8, MAX_PART_BYTES>,
     transfer_crc: Option<u8>,
 }
 
@@ -37,7 +37,7 @@ impl RecordPart {
         ensures some { IsSome result ↔ IsPart (part flag bytes.now transfer_crc) }
         ensures part { IfSome result (λ made. made ≡ part flag bytes.now transfer_crc) }
     {
-        if bytes.len() > MOST_PART_BYTES || transfer_crc.is_some() != flag.is_end() {
+        if bytes.len() > MAX_PART_BYTES || transfer_crc.is_some() != flag.is_end() {
             return None;
         }
         Some(RecordPart::of(flag, bytes, transfer_crc))

@@ -11,10 +11,10 @@ ghost use Rattle.pldm_wire.specs.RecordParts.{IsPart, checksum_bytes};
 use crate::places::{array_in, u16_in, u32_in};
 use crate::pushes::{push_array, push_bytes, push_u16, push_u32};
 use crate::{
-    Answer, AnswerFault, Code, Command, MOST_PART_BYTES, REQUEST_HEADER, RESPONSE_HEADER,
+    Answer, AnswerFault, Code, Command, MAX_PART_BYTES, REQUEST_HEADER, RESPONSE_HEADER,
     RecordPart, TIME_BYTES, TransferFlag,
 };
-use mctp_packet::{Body, MOST_MESSAGE_BYTES};
+use mctp_packet::{Body, MAX_MESSAGE_BYTES};
 
 /// GetPDRRepositoryInfo: no data.
 pub(crate) fn get_pdr_repository_info_in(bytes: &[u8]) -> Result<Command, Code>
@@ -94,7 +94,7 @@ pub(crate) fn part_answer_in(bytes: &[u8]) -> Result<Answer, AnswerFault>
         return Err(AnswerFault::Value);
     };
     let count = usize::from(u16_in(bytes, 9));
-    if count > MOST_PART_BYTES {
+    if count > MAX_PART_BYTES {
         return Err(AnswerFault::Value);
     }
     if bytes.len() != 11 + count + usize::from(flag.is_end()) {
@@ -172,7 +172,7 @@ pub(crate) fn push_part_answer(
 
 /// Adds the checksum, if there is one.
 fn push_checksum(body: &mut Body, checksum: Option<u8>)
-    requires { array_vec_len body.old < MOST_MESSAGE_BYTES }
+    requires { array_vec_len body.old < MAX_MESSAGE_BYTES }
     ensures { body.new.items ≡ body.old.items ++ checksum_bytes checksum }
 {
     if let Some(checksum) = checksum {

@@ -13,7 +13,7 @@ ghost use Rattle.pldm_wire.specs.States.{IsComposite, sensor_bytes};
 use crate::places::u16_in;
 use crate::pushes::{push_number, push_u16};
 use crate::{
-    Answer, AnswerFault, Code, Command, MOST_STATES, Number, REQUEST_HEADER, RESPONSE_HEADER,
+    Answer, AnswerFault, Code, Command, MAX_STATES, Number, REQUEST_HEADER, RESPONSE_HEADER,
     SensorStateField, Size, StateFields,
 };
 use mctp_packet::Body;
@@ -105,7 +105,7 @@ pub(crate) fn sensor_states_answer_in(bytes: &[u8]) -> Result<Answer, AnswerFaul
         return Err(AnswerFault::Length);
     };
     let count = usize::from(*count);
-    if count == 0 || count > MOST_STATES {
+    if count == 0 || count > MAX_STATES {
         return Err(AnswerFault::Value);
     }
     if bytes.len() != 1 + 4 * count {

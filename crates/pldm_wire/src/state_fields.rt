@@ -1,7 +1,7 @@
 ghost use Rattle.std.specs.Prelude.{◌≡◌, ◌↔◌, IsSome, IfSome, is_some};
 ghost use Rattle.pldm_wire.specs.States.{IsComposite, is_composite, effecter_states_in, sensor_states_in, sets_in};
 
-use crate::MOST_STATES;
+use crate::MAX_STATES;
 use arrayvec::ArrayVec;
 use std::marker::Model;
 
@@ -38,11 +38,11 @@ pub struct EffecterStateField {
     pub present: u8,
 }
 
-/// The fields of a composite state sensor or effecter, 1 to [`MOST_STATES`] (DSP0248,
+/// The fields of a composite state sensor or effecter, 1 to [`MAX_STATES`] (DSP0248,
 /// "compositeSensorCount" and "compositeEffecterCount").
 #[derive(Debug, PartialEq, Eq, Drop)]
 pub struct StateFields<T> {
-    fields: ArrayVec<T, MOST_STATES>,
+    fields: ArrayVec<T, MAX_STATES>,
 }
 
 impl<T> Model for StateFields<T> {
@@ -59,13 +59,13 @@ impl<T> Model for StateFields<T> {
 }
 
 impl<T: Copy + Default> StateFields<T> {
-    /// These fields, where there are 1 to [`MOST_STATES`].
+    /// These fields, where there are 1 to [`MAX_STATES`].
     pub fn new(fields: &[T]) -> Option<StateFields<T>>
         ensures some { IsSome result ↔ IsComposite fields.now }
         ensures test { is_some result ≡ is_composite fields.now }
         ensures fields { IfSome result (λ made. made ≡ fields.now) }
     {
-        if fields.is_empty() || fields.len() > MOST_STATES {
+        if fields.is_empty() || fields.len() > MAX_STATES {
             return None;
         }
         let mut kept = ArrayVec::new();

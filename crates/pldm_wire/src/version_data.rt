@@ -1,15 +1,15 @@
 ghost use Rattle.std.specs.Prelude.{◌≡◌, ◌↔◌, IsSome, IfSome, is_some};
 ghost use Rattle.pldm_wire.specs.Versions.{IsVersionData, is_version_data};
 
-use crate::{LEAST_VERSION_BYTES, MOST_VERSION_BYTES, VERSION_BYTES};
+use crate::{MIN_VERSION_BYTES, MAX_VERSION_BYTES, VERSION_BYTES};
 use arrayvec::ArrayVec;
 use std::marker::Model;
 
-/// Version data of one part: versions of four bytes each, [`LEAST_VERSION_BYTES`] to
-/// [`MOST_VERSION_BYTES`] bytes in all (DSP0240, "GetPLDMVersion command").
+/// Version data of one part: versions of four bytes each, [`MIN_VERSION_BYTES`] to
+/// [`MAX_VERSION_BYTES`] bytes in all (DSP0240, "GetPLDMVersion command").
 #[derive(Debug, PartialEq, Eq, Drop)]
 pub struct VersionData {
-    bytes: ArrayVec<u8, MOST_VERSION_BYTES>,
+    bytes: ArrayVec<u8, MAX_VERSION_BYTES>,
 }
 
 impl Model for VersionData {
@@ -32,7 +32,7 @@ impl VersionData {
         ensures test { is_some result ≡ is_version_data bytes.now }
         ensures bytes { IfSome result (λ made. made ≡ bytes.now) }
     {
-        let few = LEAST_VERSION_BYTES <= bytes.len() && bytes.len() <= MOST_VERSION_BYTES;
+        let few = MIN_VERSION_BYTES <= bytes.len() && bytes.len() <= MAX_VERSION_BYTES;
         if !few || bytes.len() % VERSION_BYTES != 0 {
             return None;
         }

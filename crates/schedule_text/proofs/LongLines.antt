@@ -6,7 +6,7 @@ use Rattle.std.proofs.lemmas.Bool.Decides.{nat_tests}
 use Rattle.pldm_wire.specs.States.{is_composite}
 use Rattle.schedule_text.specs.CommandWords.{is, command_named, command_of, setstate_of}
 use Rattle.schedule_text.specs.LineWords.{requester_of}
-use Rattle.schedule_text.specs.declared.limits.TheConstants.{MOST_COMMAND_WORDS}
+use Rattle.schedule_text.specs.declared.word.TheConstants.{MAX_COMMAND_WORDS}
 use Rattle.schedule_text.specs.declared.line_fault.LineFaultKind.TheVariants.{Words}
 
 either : {A : Type 0} (b : Bool) (x y z : A) → x ≡ z → y ≡ z → (if b then x else y) ≡ z
@@ -23,7 +23,7 @@ named_long name f g h i j k l m n o more =
     let set : setstate_of (f ∷ g ∷ h ∷ i ∷ j ∷ k ∷ l ∷ m ∷ n ∷ o ∷ more) ≡ Err Words = cond-false (is_composite (g ∷ h ∷ i ∷ j ∷ k ∷ l ∷ m ∷ n ∷ o ∷ more)) _ _ many in
     either (is name (codes "gettid")) _ _ _ refl (either (is name (codes "gettypes")) _ _ _ refl (either (is name (codes "pdrinfo")) _ _ _ refl (either (is name (codes "settid")) _ _ _ refl (either (is name (codes "getversion")) _ _ _ refl (either (is name (codes "getcommands")) _ _ _ refl (either (is name (codes "sensor")) _ _ _ refl (either (is name (codes "statesensors")) _ _ _ refl (either (is name (codes "getnum")) _ _ _ refl (either (is name (codes "getstate")) _ _ _ refl (either (is name (codes "setnum")) _ _ _ refl (either (is name (codes "setstate")) _ _ _ set (either (is name (codes "getpdr")) _ _ _ refl refl))))))))))))
 
-pub command_long : (words : List (List ℕ)) → MOST_COMMAND_WORDS < length words → command_of words ≡ Err Words
+pub command_long : (words : List (List ℕ)) → MAX_COMMAND_WORDS < length words → command_of words ≡ Err Words
 command_long [] many = absurd (omega arith)
 command_long (a ∷ []) many = absurd (omega arith)
 command_long (a ∷ b ∷ []) many = absurd (omega arith)
@@ -37,7 +37,7 @@ command_long (a ∷ b ∷ c ∷ d ∷ e ∷ f ∷ g ∷ h ∷ i ∷ []) many = a
 command_long (a ∷ b ∷ c ∷ d ∷ e ∷ f ∷ g ∷ h ∷ i ∷ j ∷ []) many = absurd (omega arith)
 command_long (a ∷ b ∷ c ∷ d ∷ e ∷ f ∷ g ∷ h ∷ i ∷ j ∷ k ∷ more) many = named_long a b c d e f g h i j k more
 
-pub requester_long : (words : List (List ℕ)) → MOST_COMMAND_WORDS < length words → requester_of words ≡ Err Words
+pub requester_long : (words : List (List ℕ)) → MAX_COMMAND_WORDS < length words → requester_of words ≡ Err Words
 requester_long [] many = absurd (omega arith)
 requester_long (a ∷ []) many = absurd (omega arith)
 requester_long (a ∷ b ∷ []) many = absurd (omega arith)

@@ -7,7 +7,7 @@ use Rattle.pldm_wire.specs.Numbers.{SizedNumber, sized}
 use Rattle.pldm_wire.specs.Sizes.{fits}
 use Rattle.pldm_wire.specs.SizeNames.{size_named}
 use Rattle.pldm_wire.specs.States.{is_composite}
-use Rattle.pldm_wire.specs.declared.limits.TheConstants.{GET_FIRST_PART, GET_NEXT_PART, MOST_STATES}
+use Rattle.pldm_wire.specs.declared.limits.TheConstants.{GET_FIRST_PART, GET_NEXT_PART, MAX_STATES}
 use Rattle.pldm_wire.specs.declared.size.Size.{Size}
 use Rattle.pldm_wire.specs.declared.state_fields.SetStateField.{SetStateField}
 use Rattle.pldm_wire.specs.declared.command.Command.{Command}
@@ -15,7 +15,7 @@ use Rattle.pldm_wire.specs.declared.command.Command.TheVariants.{SetTid, GetTid,
 use Rattle.schedule_text.specs.CommandSpelling.{Word, ByteAfter, IdAfter, SpellsState, SpellStates, SpellsPart, SpellsCommand}
 use Rattle.schedule_text.specs.CommandWords.{bare, byte_of, id_of, only_word, or_words, with_byte, with_id, size_in, sized_in, setnum_of, state_in, states_in, setstate_of, part_in, getpdr_of, field_command_named, id_command_named, byte_command_named, command_of}
 use Rattle.schedule_text.specs.WordValues.{◌>>=◌, any_value, number_up_to}
-use Rattle.schedule_text.specs.declared.limits.TheConstants.{GREATEST_BYTE, GREATEST_ID, GREATEST_HANDLE}
+use Rattle.schedule_text.specs.declared.word.TheConstants.{MAX_BYTE, MAX_ID, MAX_HANDLE}
 use Rattle.schedule_text.specs.declared.line_fault.LineFaultKind.TheVariants.{Words}
 use Rattle.schedule_text.proofs.SpelledWords.{bind_parts, number_parts, by_name, only_parts}
 
@@ -28,19 +28,19 @@ bare_parts command c (word ∷ words) e = absurd (let wrong : bare command (word
 byte_parts : (name : Word) (make : ℕ → Command) (words : List Word) (c : Command) → with_byte make words ≡ Ok c → (number : ℕ) × (c ≡ make number) × ByteAfter name number (name ∷ words)
 byte_parts name make words c e =
     let read = bind_parts (byte_of words) (λ number. Ok (make number)) c e in
-    let word = bind_parts (only_word words) (number_up_to GREATEST_BYTE) read.0 read.1 in (
+    let word = bind_parts (only_word words) (number_up_to MAX_BYTE) read.0 read.1 in (
       read.0,
       let same : Ok (make read.0) ≡ Ok c = read.2 in cc,
-      (word.0, ap (λ ws. name ∷ ws) (only_parts words word.0 word.1), number_parts (number_of GREATEST_BYTE word.0) read.0 word.2),
+      (word.0, ap (λ ws. name ∷ ws) (only_parts words word.0 word.1), number_parts (number_of MAX_BYTE word.0) read.0 word.2),
     )
 
 id_parts : (name : Word) (make : ℕ → Command) (words : List Word) (c : Command) → with_id make words ≡ Ok c → (id : ℕ) × (c ≡ make id) × IdAfter name id (name ∷ words)
 id_parts name make words c e =
     let read = bind_parts (id_of words) (λ id. Ok (make id)) c e in
-    let word = bind_parts (only_word words) (number_up_to GREATEST_ID) read.0 read.1 in (
+    let word = bind_parts (only_word words) (number_up_to MAX_ID) read.0 read.1 in (
       read.0,
       let same : Ok (make read.0) ≡ Ok c = read.2 in cc,
-      (word.0, ap (λ ws. name ∷ ws) (only_parts words word.0 word.1), number_parts (number_of GREATEST_ID word.0) read.0 word.2),
+      (word.0, ap (λ ws. name ∷ ws) (only_parts words word.0 word.1), number_parts (number_of MAX_ID word.0) read.0 word.2),
     )
 
 size_parts : (word : Word) (size : Size) → size_in word ≡ Ok size → size_named word ≡ Some size
@@ -70,8 +70,8 @@ state_parts word field e =
     by_name word (codes "-") (Ok (record { set_request = 0; state = 0 })) _ field e
     (λ name f. inl (name, let same : Ok (record { set_request = 0; state = 0 }) ≡ Ok field = f in cc))
     (λ f.
-    let read = bind_parts (number_up_to GREATEST_BYTE word) (λ state. Ok (record { set_request = 1; state = state })) field f in
-    inr (read.0, number_parts (number_of GREATEST_BYTE word) read.0 read.1, let same : Ok (record { set_request = 1; state = read.0 }) ≡ Ok field = read.2 in cc))
+    let read = bind_parts (number_up_to MAX_BYTE word) (λ state. Ok (record { set_request = 1; state = state })) field f in
+    inr (read.0, number_parts (number_of MAX_BYTE word) read.0 read.1, let same : Ok (record { set_request = 1; state = read.0 }) ≡ Ok field = read.2 in cc))
 
 states_parts : (words : List Word) (fields : List SetStateField) → states_in words ≡ Ok fields → SpellStates fields words
 states_parts [] [] e = tt
@@ -84,14 +84,14 @@ states_parts (word ∷ words) fields e =
 
 setnum_parts : (words : List Word) (c : Command) → setnum_of words ≡ Ok c → SpellsCommand c (codes "setnum" ∷ words)
 setnum_parts (id ∷ size ∷ value ∷ []) c e =
-    let read_size = bind_parts (size_in size) (λ size. number_up_to GREATEST_ID id >>= λ id. any_value value >>= λ value. sized_in size value >>= λ number. Ok (SetNumericEffecterValue id number)) c e in
-    let read_id = bind_parts (number_up_to GREATEST_ID id) (λ id. any_value value >>= λ value. sized_in read_size.0 value >>= λ number. Ok (SetNumericEffecterValue id number)) c read_size.2 in
+    let read_size = bind_parts (size_in size) (λ size. number_up_to MAX_ID id >>= λ id. any_value value >>= λ value. sized_in size value >>= λ number. Ok (SetNumericEffecterValue id number)) c e in
+    let read_id = bind_parts (number_up_to MAX_ID id) (λ id. any_value value >>= λ value. sized_in read_size.0 value >>= λ number. Ok (SetNumericEffecterValue id number)) c read_size.2 in
     let read_value = bind_parts (any_value value) (λ value. sized_in read_size.0 value >>= λ number. Ok (SetNumericEffecterValue read_id.0 number)) c read_id.2 in
     let read_number = bind_parts (sized_in read_size.0 read_value.0) (λ number. Ok (SetNumericEffecterValue read_id.0 number)) c read_value.2 in
     let number = sized_parts read_size.0 read_value.0 read_number.0 read_number.1 in
     let whole : SetNumericEffecterValue read_id.0 (sized read_size.0 read_value.0) ≡ c = ap (λ n. SetNumericEffecterValue read_id.0 n) (sym number.0) ∙ (let same : Ok (SetNumericEffecterValue read_id.0 read_number.0) ≡ Ok c = read_number.2 in let found : SetNumericEffecterValue read_id.0 read_number.0 ≡ c = cc in found) in
     subst (λ c. SpellsCommand c (codes "setnum" ∷ id ∷ size ∷ value ∷ [])) whole
-    (id, size, value, refl, number_parts (number_of GREATEST_ID id) read_id.0 read_id.1, size_parts size read_size.0 read_size.1, number_parts (value_of value) read_value.0 read_value.1, number.1)
+    (id, size, value, refl, number_parts (number_of MAX_ID id) read_id.0 read_id.1, size_parts size read_size.0 read_size.1, number_parts (value_of value) read_value.0 read_value.1, number.1)
 setnum_parts [] c e = absurd (let wrong : Err Words ≡ Ok c = e in cc)
 setnum_parts (id ∷ []) c e = absurd (let wrong : Err Words ≡ Ok c = e in cc)
 setnum_parts (id ∷ size ∷ []) c e = absurd (let wrong : Err Words ≡ Ok c = e in cc)
@@ -104,22 +104,22 @@ setstate_parts (id ∷ states) c e = go (is_composite states) refl
     go : (b : Bool) → is_composite states ≡ b → SpellsCommand c (codes "setstate" ∷ id ∷ states)
     go false t = absurd (let wrong = sym (cond-false (is_composite states) _ _ t) ∙ e in cc)
     go true t =
-        let count = and_parts (nat_le 1 (length states)) (nat_le (length states) MOST_STATES) t in
-        let read_id = bind_parts (number_up_to GREATEST_ID id) (λ id. states_in states >>= λ fields. Ok (SetStateEffecterStates id fields)) c (sym (cond-true (is_composite states) _ _ t) ∙ e) in
+        let count = and_parts (nat_le 1 (length states)) (nat_le (length states) MAX_STATES) t in
+        let read_id = bind_parts (number_up_to MAX_ID id) (λ id. states_in states >>= λ fields. Ok (SetStateEffecterStates id fields)) c (sym (cond-true (is_composite states) _ _ t) ∙ e) in
         let read_states = bind_parts (states_in states) (λ fields. Ok (SetStateEffecterStates read_id.0 fields)) c read_id.2 in
         let whole : SetStateEffecterStates read_id.0 read_states.0 ≡ c = (let same : Ok (SetStateEffecterStates read_id.0 read_states.0) ≡ Ok c = read_states.2 in cc) in
         subst (λ c. SpellsCommand c (codes "setstate" ∷ id ∷ states)) whole
-        (id, states, refl, number_parts (number_of GREATEST_ID id) read_id.0 read_id.1, (leb-true 1 (length states) count.0, leb-true (length states) MOST_STATES count.1), states_parts states read_states.0 read_states.1)
+        (id, states, refl, number_parts (number_of MAX_ID id) read_id.0 read_id.1, (leb-true 1 (length states) count.0, leb-true (length states) MAX_STATES count.1), states_parts states read_states.0 read_states.1)
 
 getpdr_parts : (words : List Word) (c : Command) → getpdr_of words ≡ Ok c → SpellsCommand c (codes "getpdr" ∷ words)
 getpdr_parts (handle ∷ transfer ∷ part ∷ most ∷ []) c e =
-    let read_part = bind_parts (part_in part) (λ part. number_up_to GREATEST_HANDLE handle >>= λ handle. number_up_to GREATEST_HANDLE transfer >>= λ transfer. number_up_to GREATEST_ID most >>= λ count. Ok (GetPdr handle transfer part count 0)) c e in
-    let read_handle = bind_parts (number_up_to GREATEST_HANDLE handle) (λ handle. number_up_to GREATEST_HANDLE transfer >>= λ transfer. number_up_to GREATEST_ID most >>= λ count. Ok (GetPdr handle transfer read_part.0 count 0)) c read_part.2 in
-    let read_transfer = bind_parts (number_up_to GREATEST_HANDLE transfer) (λ transfer. number_up_to GREATEST_ID most >>= λ count. Ok (GetPdr read_handle.0 transfer read_part.0 count 0)) c read_handle.2 in
-    let read_count = bind_parts (number_up_to GREATEST_ID most) (λ count. Ok (GetPdr read_handle.0 read_transfer.0 read_part.0 count 0)) c read_transfer.2 in
+    let read_part = bind_parts (part_in part) (λ part. number_up_to MAX_HANDLE handle >>= λ handle. number_up_to MAX_HANDLE transfer >>= λ transfer. number_up_to MAX_ID most >>= λ count. Ok (GetPdr handle transfer part count 0)) c e in
+    let read_handle = bind_parts (number_up_to MAX_HANDLE handle) (λ handle. number_up_to MAX_HANDLE transfer >>= λ transfer. number_up_to MAX_ID most >>= λ count. Ok (GetPdr handle transfer read_part.0 count 0)) c read_part.2 in
+    let read_transfer = bind_parts (number_up_to MAX_HANDLE transfer) (λ transfer. number_up_to MAX_ID most >>= λ count. Ok (GetPdr read_handle.0 transfer read_part.0 count 0)) c read_handle.2 in
+    let read_count = bind_parts (number_up_to MAX_ID most) (λ count. Ok (GetPdr read_handle.0 read_transfer.0 read_part.0 count 0)) c read_transfer.2 in
     let whole : GetPdr read_handle.0 read_transfer.0 read_part.0 read_count.0 0 ≡ c = (let same : Ok (GetPdr read_handle.0 read_transfer.0 read_part.0 read_count.0 0) ≡ Ok c = read_count.2 in cc) in
     subst (λ c. SpellsCommand c (codes "getpdr" ∷ handle ∷ transfer ∷ part ∷ most ∷ [])) whole
-    (handle, transfer, part, most, refl, number_parts (number_of GREATEST_HANDLE handle) read_handle.0 read_handle.1, number_parts (number_of GREATEST_HANDLE transfer) read_transfer.0 read_transfer.1, part_parts part read_part.0 read_part.1, number_parts (number_of GREATEST_ID most) read_count.0 read_count.1, refl)
+    (handle, transfer, part, most, refl, number_parts (number_of MAX_HANDLE handle) read_handle.0 read_handle.1, number_parts (number_of MAX_HANDLE transfer) read_transfer.0 read_transfer.1, part_parts part read_part.0 read_part.1, number_parts (number_of MAX_ID most) read_count.0 read_count.1, refl)
 getpdr_parts [] c e = absurd (let wrong : Err Words ≡ Ok c = e in cc)
 getpdr_parts (handle ∷ []) c e = absurd (let wrong : Err Words ≡ Ok c = e in cc)
 getpdr_parts (handle ∷ transfer ∷ []) c e = absurd (let wrong : Err Words ≡ Ok c = e in cc)

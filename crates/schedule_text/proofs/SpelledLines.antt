@@ -3,14 +3,14 @@ use Rattle.std.proofs.Common.{◌≡◌, ℕ, Bool, true, false, List, [], ◌�
 use Rattle.std.specs.Prelude.{codes, ◌&&◌}
 use Rattle.std.proofs.lemmas.Bool.{and_parts, cond-true, cond-false}
 use Rattle.line_words.specs.Numbers.{decimal_of, number_of, value_of}
-use Rattle.mctp_packet.specs.declared.TheConstants.{LAST_MOMENT}
+use Rattle.mctp_packet.specs.declared.TheConstants.{MAX_MOMENT}
 use Rattle.schedule_text.specs.CommandSpelling.{Word}
 use Rattle.schedule_text.specs.CommandWords.{is, only_word, command_of}
 use Rattle.schedule_text.specs.Laws.{ReadAsSpelled}
 use Rattle.schedule_text.specs.LineSpelling.{SpellsAny, SpellsAction, SpellsLine}
 use Rattle.schedule_text.specs.LineWords.{action_named, line_of, only_eid, only_number, open_of, reply_of, requester_of, restart_of, sense_of, step_of}
 use Rattle.schedule_text.specs.WordValues.{◌>>=◌, any_number, any_value, eid_in, moment_in, number_up_to, or_number}
-use Rattle.schedule_text.specs.declared.limits.TheConstants.{GREATEST_BYTE, GREATEST_ID, LONGEST_TIMEOUT}
+use Rattle.schedule_text.specs.declared.word.TheConstants.{MAX_BYTE, MAX_ID, MAX_TIMEOUT}
 use Rattle.schedule_text.specs.declared.line.Line.{Line}
 use Rattle.schedule_text.specs.declared.line.Line.TheVariants as lines
 use Rattle.schedule_text.specs.declared.line_fault.LineFaultKind.{LineFaultKind}
@@ -53,20 +53,20 @@ reply_parts [] a e = absurd (let wrong : Err Words ≡ Ok a = e in cc)
 reply_parts (k ∷ []) a e = absurd (let wrong : Err Words ≡ Ok a = e in cc)
 reply_parts (k ∷ j ∷ more ∷ words) a e = absurd (let wrong : Err Words ≡ Ok a = e in cc)
 reply_parts (k ∷ j ∷ []) a e =
-    let read = bind_parts (any_number k) (λ number. number_up_to GREATEST_BYTE j >>= λ packet. Ok (Reply number packet)) a e in
-    let read_packet = bind_parts (number_up_to GREATEST_BYTE j) (λ packet. Ok (Reply read.0 packet)) a read.2 in
+    let read = bind_parts (any_number k) (λ number. number_up_to MAX_BYTE j >>= λ packet. Ok (Reply number packet)) a e in
+    let read_packet = bind_parts (number_up_to MAX_BYTE j) (λ packet. Ok (Reply read.0 packet)) a read.2 in
     let whole : Reply read.0 read_packet.0 ≡ a = (let same : Ok (Reply read.0 read_packet.0) ≡ Ok a = read_packet.2 in cc) in
-    subst (λ a. SpellsAction a (codes "rep" ∷ k ∷ j ∷ [])) whole (k, j, refl, number_parts (decimal_of k) read.0 read.1, number_parts (number_of GREATEST_BYTE j) read_packet.0 read_packet.1)
+    subst (λ a. SpellsAction a (codes "rep" ∷ k ∷ j ∷ [])) whole (k, j, refl, number_parts (decimal_of k) read.0 read.1, number_parts (number_of MAX_BYTE j) read_packet.0 read_packet.1)
 
 sense_parts : (words : List Word) (a : Action) → sense_of words ≡ Ok a → SpellsAction a (codes "sense" ∷ words)
 sense_parts [] a e = absurd (let wrong : Err Words ≡ Ok a = e in cc)
 sense_parts (id ∷ []) a e = absurd (let wrong : Err Words ≡ Ok a = e in cc)
 sense_parts (id ∷ value ∷ more ∷ words) a e = absurd (let wrong : Err Words ≡ Ok a = e in cc)
 sense_parts (id ∷ value ∷ []) a e =
-    let read = bind_parts (number_up_to GREATEST_ID id) (λ id. any_value value >>= λ value. Ok (Sense id value)) a e in
+    let read = bind_parts (number_up_to MAX_ID id) (λ id. any_value value >>= λ value. Ok (Sense id value)) a e in
     let read_value = bind_parts (any_value value) (λ value. Ok (Sense read.0 value)) a read.2 in
     let whole : Sense read.0 read_value.0 ≡ a = (let same : Ok (Sense read.0 read_value.0) ≡ Ok a = read_value.2 in cc) in
-    subst (λ a. SpellsAction a (codes "sense" ∷ id ∷ value ∷ [])) whole (id, value, refl, number_parts (number_of GREATEST_ID id) read.0 read.1, number_parts (value_of value) read_value.0 read_value.1)
+    subst (λ a. SpellsAction a (codes "sense" ∷ id ∷ value ∷ [])) whole (id, value, refl, number_parts (number_of MAX_ID id) read.0 read.1, number_parts (value_of value) read_value.0 read_value.1)
 
 restart_parts : (words : List Word) (a : Action) → restart_of words ≡ Ok a → SpellsAction a (codes "restart" ∷ words)
 restart_parts [] a e = subst (λ a. SpellsAction a (codes "restart" ∷ [])) (let same : Ok Restart ≡ Ok a = e in let found : Restart ≡ a = cc in found) refl
@@ -98,7 +98,7 @@ step_parts (moment ∷ name ∷ words) line e =
     let read = bind_parts (action_named name words) (λ action. moment_in moment >>= λ moment. Ok (lines.Step (record { moment = moment; action = action }))) line e in
     let read_moment = bind_parts (moment_in moment) (λ moment. Ok (lines.Step (record { moment = moment; action = read.0 }))) line read.2 in
     let whole : lines.Step (record { moment = read_moment.0; action = read.0 }) ≡ line = (let same : Ok (lines.Step (record { moment = read_moment.0; action = read.0 })) ≡ Ok line = read_moment.2 in cc) in
-    subst (λ l. SpellsLine l (codes "at" ∷ moment ∷ name ∷ words)) whole (moment, name ∷ words, refl, number_parts (number_of LAST_MOMENT moment) read_moment.0 read_moment.1, action_parts name words read.0 read.1)
+    subst (λ l. SpellsLine l (codes "at" ∷ moment ∷ name ∷ words)) whole (moment, name ∷ words, refl, number_parts (number_of MAX_MOMENT moment) read_moment.0 read_moment.1, action_parts name words read.0 read.1)
 
 requester_parts : (words : List Word) (line : Line) → requester_of words ≡ Ok line → SpellsLine line (codes "requester" ∷ words)
 requester_parts [] line e = absurd (let wrong : Err Words ≡ Ok line = e in cc)
@@ -113,12 +113,12 @@ requester_parts (eid ∷ timeout ∷ limit ∷ tries ∷ count ∷ []) line e = 
     go false t = absurd (let wrong = sym (cond-false (is timeout (codes "timeout") && is tries (codes "tries")) _ _ t) ∙ e in cc)
     go true t =
         let fixed = and_parts (is timeout (codes "timeout")) (is tries (codes "tries")) t in
-        let read_eid = bind_parts (eid_in eid) (λ eid. number_up_to LONGEST_TIMEOUT limit >>= λ limit. number_up_to GREATEST_BYTE count >>= λ count. Ok (lines.Requester (record { eid = eid; timeout = limit; tries = count }))) line (sym (cond-true (is timeout (codes "timeout") && is tries (codes "tries")) _ _ t) ∙ e) in
-        let read_limit = bind_parts (number_up_to LONGEST_TIMEOUT limit) (λ limit. number_up_to GREATEST_BYTE count >>= λ count. Ok (lines.Requester (record { eid = read_eid.0; timeout = limit; tries = count }))) line read_eid.2 in
-        let read_count = bind_parts (number_up_to GREATEST_BYTE count) (λ count. Ok (lines.Requester (record { eid = read_eid.0; timeout = read_limit.0; tries = count }))) line read_limit.2 in
+        let read_eid = bind_parts (eid_in eid) (λ eid. number_up_to MAX_TIMEOUT limit >>= λ limit. number_up_to MAX_BYTE count >>= λ count. Ok (lines.Requester (record { eid = eid; timeout = limit; tries = count }))) line (sym (cond-true (is timeout (codes "timeout") && is tries (codes "tries")) _ _ t) ∙ e) in
+        let read_limit = bind_parts (number_up_to MAX_TIMEOUT limit) (λ limit. number_up_to MAX_BYTE count >>= λ count. Ok (lines.Requester (record { eid = read_eid.0; timeout = limit; tries = count }))) line read_eid.2 in
+        let read_count = bind_parts (number_up_to MAX_BYTE count) (λ count. Ok (lines.Requester (record { eid = read_eid.0; timeout = read_limit.0; tries = count }))) line read_limit.2 in
         let whole : lines.Requester (record { eid = read_eid.0; timeout = read_limit.0; tries = read_count.0 }) ≡ line = (let same : Ok (lines.Requester (record { eid = read_eid.0; timeout = read_limit.0; tries = read_count.0 })) ≡ Ok line = read_count.2 in cc) in
         let spelled_fixed : codes "requester" ∷ eid ∷ timeout ∷ limit ∷ tries ∷ count ∷ [] ≡ codes "requester" ∷ eid ∷ codes "timeout" ∷ limit ∷ codes "tries" ∷ count ∷ [] = (λ i. codes "requester" ∷ eid ∷ is_parts timeout (codes "timeout") fixed.0 i ∷ limit ∷ is_parts tries (codes "tries") fixed.1 i ∷ count ∷ []) in
-        subst (λ l. SpellsLine l (codes "requester" ∷ eid ∷ timeout ∷ limit ∷ tries ∷ count ∷ [])) whole (eid, limit, count, spelled_fixed, eid_parts eid read_eid.0 read_eid.1, number_parts (number_of LONGEST_TIMEOUT limit) read_limit.0 read_limit.1, number_parts (number_of GREATEST_BYTE count) read_count.0 read_count.1)
+        subst (λ l. SpellsLine l (codes "requester" ∷ eid ∷ timeout ∷ limit ∷ tries ∷ count ∷ [])) whole (eid, limit, count, spelled_fixed, eid_parts eid read_eid.0 read_eid.1, number_parts (number_of MAX_TIMEOUT limit) read_limit.0 read_limit.1, number_parts (number_of MAX_BYTE count) read_count.0 read_count.1)
 
 line_parts : (words : List Word) (line : Line) → line_of words ≡ Ok line → SpellsLine line words
 line_parts [] line e = subst (λ l. SpellsLine l []) (let same : Ok lines.Nothing ≡ Ok line = e in let found : lines.Nothing ≡ line = cc in found) refl
@@ -142,16 +142,16 @@ action_ok (Tick requester) words (eid, e, s) = ap named_words e ∙ bind_ok (eid
 action_ok (Request number) words (k, e, s) = ap named_words e ∙ bind_ok (any_number k) (λ number. Ok (Request number)) number (Request number) (ap or_number s) refl
 action_ok (Reply number packet) words (k, j, e, s, p) =
     ap named_words e
-    ∙ bind_ok (any_number k) (λ number. number_up_to GREATEST_BYTE j >>= λ packet. Ok (Reply number packet)) number (Reply number packet) (ap or_number s)
-    (bind_ok (number_up_to GREATEST_BYTE j) (λ packet. Ok (Reply number packet)) packet (Reply number packet) (ap or_number p) refl)
+    ∙ bind_ok (any_number k) (λ number. number_up_to MAX_BYTE j >>= λ packet. Ok (Reply number packet)) number (Reply number packet) (ap or_number s)
+    (bind_ok (number_up_to MAX_BYTE j) (λ packet. Ok (Reply number packet)) packet (Reply number packet) (ap or_number p) refl)
 action_ok (Sense sensor value) words (id, reading, e, s, v) =
     ap named_words e
-    ∙ bind_ok (number_up_to GREATEST_ID id) (λ id. any_value reading >>= λ value. Ok (Sense id value)) sensor (Sense sensor value) (ap or_number s)
+    ∙ bind_ok (number_up_to MAX_ID id) (λ id. any_value reading >>= λ value. Ok (Sense id value)) sensor (Sense sensor value) (ap or_number s)
     (bind_ok (any_value reading) (λ value. Ok (Sense sensor value)) value (Sense sensor value) (ap or_number v) refl)
 action_ok Restart words e = ap named_words e
 action_ok (Busy number) words (k, e, s) = ap named_words e ∙ bind_ok (any_number k) (λ number. Ok (Busy number)) number (Busy number) (ap or_number s) refl
 
-step_ok : (moment : Word) (rest : List Word) (step : Step) → number_of LAST_MOMENT moment ≡ Some step.moment → named_words rest ≡ Ok step.action → step_of (moment ∷ rest) ≡ Ok (lines.Step step)
+step_ok : (moment : Word) (rest : List Word) (step : Step) → number_of MAX_MOMENT moment ≡ Some step.moment → named_words rest ≡ Ok step.action → step_of (moment ∷ rest) ≡ Ok (lines.Step step)
 step_ok moment [] step m a = absurd (let wrong : Err Words ≡ Ok step.action = a in cc)
 step_ok moment (name ∷ words) step m a =
     bind_ok (action_named name words) (λ action. moment_in moment >>= λ moment. Ok (lines.Step (record { moment = moment; action = action }))) step.action (lines.Step step) a
@@ -161,9 +161,9 @@ line_ok : (line : Line) (words : List Word) → SpellsLine line words → line_o
 line_ok lines.Nothing words e = ap line_of e
 line_ok (lines.Requester line) words (eid, limit, count, e, s, t, n) =
     ap line_of e
-    ∙ bind_ok (eid_in eid) (λ eid. number_up_to LONGEST_TIMEOUT limit >>= λ limit. number_up_to GREATEST_BYTE count >>= λ count. Ok (lines.Requester (record { eid = eid; timeout = limit; tries = count }))) line.eid (lines.Requester line) (eid_ok eid line.eid s)
-    (bind_ok (number_up_to LONGEST_TIMEOUT limit) (λ limit. number_up_to GREATEST_BYTE count >>= λ count. Ok (lines.Requester (record { eid = line.eid; timeout = limit; tries = count }))) line.timeout (lines.Requester line) (ap or_number t)
-    (bind_ok (number_up_to GREATEST_BYTE count) (λ count. Ok (lines.Requester (record { eid = line.eid; timeout = line.timeout; tries = count }))) line.tries (lines.Requester line) (ap or_number n) refl))
+    ∙ bind_ok (eid_in eid) (λ eid. number_up_to MAX_TIMEOUT limit >>= λ limit. number_up_to MAX_BYTE count >>= λ count. Ok (lines.Requester (record { eid = eid; timeout = limit; tries = count }))) line.eid (lines.Requester line) (eid_ok eid line.eid s)
+    (bind_ok (number_up_to MAX_TIMEOUT limit) (λ limit. number_up_to MAX_BYTE count >>= λ count. Ok (lines.Requester (record { eid = line.eid; timeout = limit; tries = count }))) line.timeout (lines.Requester line) (ap or_number t)
+    (bind_ok (number_up_to MAX_BYTE count) (λ count. Ok (lines.Requester (record { eid = line.eid; timeout = line.timeout; tries = count }))) line.tries (lines.Requester line) (ap or_number n) refl))
 line_ok (lines.Step step) words (moment, rest, e, m, a) =
     ap line_of e ∙ step_ok moment rest step m (action_ok step.action rest a)
 

@@ -4,7 +4,7 @@ use Rattle.std.specs.Prelude.{nat_lt, if◌then◌else◌}
 use Rattle.std.proofs.lemmas.Bool.{cond-true, cond-false, ltb-false, le-ltb}
 use Rattle.std.proofs.lemmas.Slice.Eq.{bytes_eq-Decides}
 use Rattle.line_words.specs.Numbers.{number_of}
-use Rattle.mctp_packet.specs.declared.TheConstants.{FIRST_EID, LAST_EID}
+use Rattle.mctp_packet.specs.declared.TheConstants.{MIN_EID, MAX_EID}
 use Rattle.schedule_text.specs.CommandWords.{is, only_word}
 use Rattle.schedule_text.specs.LineSpelling.{SpellsEid}
 use Rattle.schedule_text.specs.WordValues.{◌>>=◌, eid_in, from_first, or_number}
@@ -42,17 +42,17 @@ only_parts (first ∷ next ∷ words) word e = absurd (let wrong : only_word (fi
 
 -- an endpoint ID
 pub eid_parts : (word : List ℕ) (eid : ℕ) → eid_in word ≡ Ok eid → SpellsEid eid word
-eid_parts word eid e = go (number_of LAST_EID word) (number_parts (from_first (number_of LAST_EID word)) eid e)
+eid_parts word eid e = go (number_of MAX_EID word) (number_parts (from_first (number_of MAX_EID word)) eid e)
   where
-    go : (o : Option ℕ) → from_first o ≡ Some eid → (o ≡ Some eid) × (FIRST_EID ≤ eid)
+    go : (o : Option ℕ) → from_first o ≡ Some eid → (o ≡ Some eid) × (MIN_EID ≤ eid)
     go None f = absurd (let wrong : from_first None ≡ Some eid = f in cc)
-    go (Some number) f = test (nat_lt number FIRST_EID) refl f
+    go (Some number) f = test (nat_lt number MIN_EID) refl f
       where
-        test : (b : Bool) → nat_lt number FIRST_EID ≡ b → (if b then None else Some number) ≡ Some eid → (Some number ≡ Some eid) × (FIRST_EID ≤ eid)
+        test : (b : Bool) → nat_lt number MIN_EID ≡ b → (if b then None else Some number) ≡ Some eid → (Some number ≡ Some eid) × (MIN_EID ≤ eid)
         test true t f = absurd (let wrong : None ≡ Some eid = f in cc)
-        test false t f = let same : number ≡ eid = (let g : Some number ≡ Some eid = f in cc) in let enough = ltb-false number FIRST_EID t in (f, omega arith)
+        test false t f = let same : number ≡ eid = (let g : Some number ≡ Some eid = f in cc) in let enough = ltb-false number MIN_EID t in (f, omega arith)
 
 pub eid_ok : (word : List ℕ) (eid : ℕ) → SpellsEid eid word → eid_in word ≡ Ok eid
 eid_ok word eid spelled =
     ap (λ o. or_number (from_first o)) spelled.0
-    ∙ ap or_number (cond-false (nat_lt eid FIRST_EID) None (Some eid) (le-ltb eid FIRST_EID spelled.1))
+    ∙ ap or_number (cond-false (nat_lt eid MIN_EID) None (Some eid) (le-ltb eid MIN_EID spelled.1))

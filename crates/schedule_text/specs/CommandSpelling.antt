@@ -8,7 +8,7 @@ use Rattle.pldm_wire.specs.declared.limits.TheConstants.{GET_FIRST_PART, GET_NEX
 use Rattle.pldm_wire.specs.declared.state_fields.SetStateField.{SetStateField}
 use Rattle.pldm_wire.specs.declared.command.Command.{Command}
 use Rattle.pldm_wire.specs.declared.command.Command.TheVariants.{SetTid, GetTid, GetPldmVersion, GetPldmTypes, GetPldmCommands, GetSensorReading, GetStateSensorReadings, SetNumericEffecterValue, GetNumericEffecterValue, SetStateEffecterStates, GetStateEffecterStates, GetPdrRepositoryInfo, GetPdr}
-use Rattle.schedule_text.specs.declared.limits.TheConstants.{GREATEST_BYTE, GREATEST_ID, GREATEST_HANDLE}
+use Rattle.schedule_text.specs.declared.word.TheConstants.{MAX_BYTE, MAX_ID, MAX_HANDLE}
 
 abbrev pub Word : Type 0
 Word = List ℕ
@@ -18,13 +18,13 @@ abbrev pub SpellsNumber : ℕ → ℕ → Word → Type 0
 SpellsNumber most number word = number_of most word ≡ Some number
 
 abbrev pub SpellsByte : ℕ → Word → Type 0
-SpellsByte number word = SpellsNumber GREATEST_BYTE number word
+SpellsByte number word = SpellsNumber MAX_BYTE number word
 
 abbrev pub SpellsId : ℕ → Word → Type 0
-SpellsId id word = SpellsNumber GREATEST_ID id word
+SpellsId id word = SpellsNumber MAX_ID id word
 
 abbrev pub SpellsHandle : ℕ → Word → Type 0
-SpellsHandle handle word = SpellsNumber GREATEST_HANDLE handle word
+SpellsHandle handle word = SpellsNumber MAX_HANDLE handle word
 
 -- a name, then one word for a byte or an ID
 

@@ -11,7 +11,7 @@ use Rattle.pldm_wire.specs.declared.state_fields.SetStateField.{SetStateField}
 use Rattle.pldm_wire.specs.declared.command.Command.{Command}
 use Rattle.pldm_wire.specs.declared.command.Command.TheVariants.{SetTid, GetTid, GetPldmVersion, GetPldmTypes, GetPldmCommands, GetSensorReading, GetStateSensorReadings, SetNumericEffecterValue, GetNumericEffecterValue, SetStateEffecterStates, GetStateEffecterStates, GetPdrRepositoryInfo, GetPdr}
 use Rattle.schedule_text.specs.WordValues.{◌>>=◌, number_up_to, any_value}
-use Rattle.schedule_text.specs.declared.limits.TheConstants.{GREATEST_BYTE, GREATEST_ID, GREATEST_HANDLE}
+use Rattle.schedule_text.specs.declared.word.TheConstants.{MAX_BYTE, MAX_ID, MAX_HANDLE}
 use Rattle.schedule_text.specs.declared.line_fault.LineFaultKind.{LineFaultKind}
 use Rattle.schedule_text.specs.declared.line_fault.LineFaultKind.TheVariants.{Words, Number}
 
@@ -31,10 +31,10 @@ bare command _ = Err Words
 -- one number, of a byte or of an ID
 
 abbrev pub byte_of : List (List ℕ) → Result ℕ LineFaultKind
-byte_of words = only_word words >>= number_up_to GREATEST_BYTE
+byte_of words = only_word words >>= number_up_to MAX_BYTE
 
 abbrev pub id_of : List (List ℕ) → Result ℕ LineFaultKind
-id_of words = only_word words >>= number_up_to GREATEST_ID
+id_of words = only_word words >>= number_up_to MAX_ID
 
 abbrev pub with_byte : (ℕ → Command) → List (List ℕ) → Result Command LineFaultKind
 with_byte command words = byte_of words >>= λ number. Ok (command number)
@@ -56,7 +56,7 @@ sized_in size value = if fits size value then Ok (sized size value) else Err Num
 
 abbrev pub setnum_of : List (List ℕ) → Result Command LineFaultKind
 setnum_of (id ∷ size ∷ value ∷ []) =
-    size_in size >>= λ size. number_up_to GREATEST_ID id >>= λ id. any_value value >>= λ value.
+    size_in size >>= λ size. number_up_to MAX_ID id >>= λ id. any_value value >>= λ value.
     sized_in size value >>= λ number. Ok (SetNumericEffecterValue id number)
 setnum_of _ = Err Words
 
@@ -64,7 +64,7 @@ setnum_of _ = Err Words
 abbrev pub state_in : List ℕ → Result SetStateField LineFaultKind
 state_in word =
     if is word (codes "-") then Ok (record { set_request = 0; state = 0 })
-    else (number_up_to GREATEST_BYTE word >>= λ state. Ok (record { set_request = 1; state = state }))
+    else (number_up_to MAX_BYTE word >>= λ state. Ok (record { set_request = 1; state = state }))
 
 abbrev pub states_in : List (List ℕ) → Result (List SetStateField) LineFaultKind
 states_in [] = Ok []
@@ -73,7 +73,7 @@ states_in (word ∷ words) = state_in word >>= λ field. states_in words >>= λ 
 abbrev pub setstate_of : List (List ℕ) → Result Command LineFaultKind
 setstate_of (id ∷ states) =
     if is_composite states
-    then (number_up_to GREATEST_ID id >>= λ id. states_in states >>= λ fields. Ok (SetStateEffecterStates id fields))
+    then (number_up_to MAX_ID id >>= λ id. states_in states >>= λ fields. Ok (SetStateEffecterStates id fields))
     else Err Words
 setstate_of [] = Err Words
 
@@ -86,8 +86,8 @@ part_in word =
 
 abbrev pub getpdr_of : List (List ℕ) → Result Command LineFaultKind
 getpdr_of (handle ∷ transfer ∷ part ∷ count ∷ []) =
-    part_in part >>= λ part. number_up_to GREATEST_HANDLE handle >>= λ handle.
-    number_up_to GREATEST_HANDLE transfer >>= λ transfer. number_up_to GREATEST_ID count >>= λ count.
+    part_in part >>= λ part. number_up_to MAX_HANDLE handle >>= λ handle.
+    number_up_to MAX_HANDLE transfer >>= λ transfer. number_up_to MAX_ID count >>= λ count.
     Ok (GetPdr handle transfer part count 0)
 getpdr_of _ = Err Words
 

@@ -1,9 +1,9 @@
 -- The words that spell each line of a schedule, a row each.
 use Rattle.std.specs.Prelude.{◌≡◌, ℕ, ◌≤◌, codes, List, [], ◌∷◌, Some}
 use Rattle.line_words.specs.Numbers.{decimal_of, value_of}
-use Rattle.mctp_packet.specs.declared.TheConstants.{FIRST_EID, LAST_EID, LAST_MOMENT}
+use Rattle.mctp_packet.specs.declared.TheConstants.{MIN_EID, MAX_EID, MAX_MOMENT}
 use Rattle.schedule_text.specs.CommandSpelling.{Word, SpellsNumber, SpellsByte, SpellsId, SpellsCommand}
-use Rattle.schedule_text.specs.declared.limits.TheConstants.{LONGEST_TIMEOUT}
+use Rattle.schedule_text.specs.declared.word.TheConstants.{MAX_TIMEOUT}
 use Rattle.schedule_text.specs.declared.line.Line.{Line}
 use Rattle.schedule_text.specs.declared.line.Line.TheVariants as lines
 use Rattle.schedule_text.specs.declared.step.Action.{Action}
@@ -11,7 +11,7 @@ use Rattle.schedule_text.specs.declared.step.Action.TheVariants.{Open, Tick, Req
 
 -- the word is this endpoint ID
 abbrev pub SpellsEid : ℕ → Word → Type 0
-SpellsEid eid word = SpellsNumber LAST_EID eid word × (FIRST_EID ≤ eid)
+SpellsEid eid word = SpellsNumber MAX_EID eid word × (MIN_EID ≤ eid)
 
 -- a number of at most 16 digits
 abbrev pub SpellsAny : ℕ → Word → Type 0
@@ -38,7 +38,7 @@ SpellsLine lines.Nothing words = words ≡ []
 SpellsLine (lines.Requester line) words =
     (eid : Word) × (limit : Word) × (count : Word)
     × (words ≡ codes "requester" ∷ eid ∷ codes "timeout" ∷ limit ∷ codes "tries" ∷ count ∷ [])
-    × SpellsEid line.eid eid × SpellsNumber LONGEST_TIMEOUT line.timeout limit × SpellsByte line.tries count
+    × SpellsEid line.eid eid × SpellsNumber MAX_TIMEOUT line.timeout limit × SpellsByte line.tries count
 SpellsLine (lines.Step step) words =
     (moment : Word) × (rest : List Word) × (words ≡ codes "at" ∷ moment ∷ rest)
-    × SpellsNumber LAST_MOMENT step.moment moment × SpellsAction step.action rest
+    × SpellsNumber MAX_MOMENT step.moment moment × SpellsAction step.action rest

@@ -2,7 +2,7 @@
 use Rattle.std.specs.Prelude.{ℕ, codes, ◌&&◌, List, [], ◌∷◌, Result, Ok, Err, if◌then◌else◌}
 use Rattle.schedule_text.specs.CommandWords.{is, only_word, command_of}
 use Rattle.schedule_text.specs.WordValues.{◌>>=◌, any_number, number_up_to, any_value, eid_in, moment_in}
-use Rattle.schedule_text.specs.declared.limits.TheConstants.{GREATEST_BYTE, GREATEST_ID, LONGEST_TIMEOUT}
+use Rattle.schedule_text.specs.declared.word.TheConstants.{MAX_BYTE, MAX_ID, MAX_TIMEOUT}
 use Rattle.schedule_text.specs.declared.line.Line.{Line}
 use Rattle.schedule_text.specs.declared.line.Line.TheVariants as lines
 use Rattle.schedule_text.specs.declared.line_fault.LineFaultKind.{LineFaultKind}
@@ -14,8 +14,8 @@ use Rattle.schedule_text.specs.declared.step.Action.TheVariants.{Open, Tick, Req
 abbrev pub requester_of : List (List ℕ) → Result Line LineFaultKind
 requester_of (eid ∷ timeout ∷ limit ∷ tries ∷ count ∷ []) =
     if is timeout (codes "timeout") && is tries (codes "tries")
-    then (eid_in eid >>= λ eid. number_up_to LONGEST_TIMEOUT limit >>= λ limit.
-    number_up_to GREATEST_BYTE count >>= λ count.
+    then (eid_in eid >>= λ eid. number_up_to MAX_TIMEOUT limit >>= λ limit.
+    number_up_to MAX_BYTE count >>= λ count.
     Ok (lines.Requester (record { eid = eid; timeout = limit; tries = count })))
     else Err Words
 requester_of _ = Err Words
@@ -34,11 +34,11 @@ open_of (eid ∷ words) = command_of words >>= λ command. eid_in eid >>= λ eid
 
 abbrev pub reply_of : List (List ℕ) → Result Action LineFaultKind
 reply_of (number ∷ packet ∷ []) =
-    any_number number >>= λ number. number_up_to GREATEST_BYTE packet >>= λ packet. Ok (Reply number packet)
+    any_number number >>= λ number. number_up_to MAX_BYTE packet >>= λ packet. Ok (Reply number packet)
 reply_of _ = Err Words
 
 abbrev pub sense_of : List (List ℕ) → Result Action LineFaultKind
-sense_of (id ∷ value ∷ []) = number_up_to GREATEST_ID id >>= λ id. any_value value >>= λ value. Ok (Sense id value)
+sense_of (id ∷ value ∷ []) = number_up_to MAX_ID id >>= λ id. any_value value >>= λ value. Ok (Sense id value)
 sense_of _ = Err Words
 
 abbrev pub restart_of : List (List ℕ) → Result Action LineFaultKind

@@ -1,7 +1,7 @@
 -- What a word of a line has to spell, or the fault `Number`.
 use Rattle.std.specs.Prelude.{ℕ, ℤ, List, Option, Some, None, Result, Ok, Err, nat_lt, if◌then◌else◌}
 use Rattle.line_words.specs.Numbers.{decimal_of, number_of, value_of}
-use Rattle.mctp_packet.specs.declared.TheConstants.{FIRST_EID, LAST_EID, LAST_MOMENT}
+use Rattle.mctp_packet.specs.declared.TheConstants.{MIN_EID, MAX_EID, MAX_MOMENT}
 use Rattle.schedule_text.specs.declared.line_fault.LineFaultKind.{LineFaultKind}
 use Rattle.schedule_text.specs.declared.line_fault.LineFaultKind.TheVariants.{Number}
 
@@ -29,15 +29,15 @@ any_value word = or_number (value_of word)
 
 abbrev pub from_first : Option ℕ → Option ℕ
 from_first None = None
-from_first (Some number) = if nat_lt number FIRST_EID then None else Some number
+from_first (Some number) = if nat_lt number MIN_EID then None else Some number
 
 -- an endpoint ID
 abbrev pub eid_of : List ℕ → Option ℕ
-eid_of word = from_first (number_of LAST_EID word)
+eid_of word = from_first (number_of MAX_EID word)
 
 abbrev pub eid_in : List ℕ → Result ℕ LineFaultKind
 eid_in word = or_number (eid_of word)
 
 -- a moment in milliseconds
 abbrev pub moment_in : List ℕ → Result ℕ LineFaultKind
-moment_in word = number_up_to LAST_MOMENT word
+moment_in word = number_up_to MAX_MOMENT word

@@ -8,7 +8,7 @@ use crate::LineFaultKind;
 use crate::word::Word;
 use arrayvec::ArrayVec;
 use pldm_wire::{
-    Command, GET_FIRST_PART, GET_NEXT_PART, MOST_STATES, Number, SetStateField, Size, StateFields,
+    Command, GET_FIRST_PART, GET_NEXT_PART, MAX_STATES, Number, SetStateField, Size, StateFields,
     VERSION_BYTES,
 };
 
@@ -165,7 +165,7 @@ fn read_setstate(words: &[Word<'_>]) -> Result<Command, LineFaultKind>
     let [id, states @ ..] = words else {
         return Err(LineFaultKind::Words);
     };
-    if states.is_empty() || states.len() > MOST_STATES {
+    if states.is_empty() || states.len() > MAX_STATES {
         return Err(LineFaultKind::Words);
     }
     let effecter = id.id()?;
@@ -178,7 +178,7 @@ fn read_states(words: &[Word<'_>]) -> Result<StateFields<SetStateField>, LineFau
     requires { IsComposite words.now }
     ensures { result ≡ states_in words.now }
 {
-    let mut fields = ArrayVec::<SetStateField, MOST_STATES>::new();
+    let mut fields = ArrayVec::<SetStateField, MAX_STATES>::new();
     for word in words {
         fields.push(read_state(word)?);
     }

@@ -3,7 +3,6 @@
 
 mod command_words;
 pub mod laws;
-mod limits;
 mod line;
 mod line_fault;
 mod schedule;
@@ -11,9 +10,7 @@ mod step;
 mod word;
 mod words;
 
-pub use limits::{
-    GREATEST_BYTE, GREATEST_HANDLE, GREATEST_ID, LONGEST_TIMEOUT, MOST_COMMAND_WORDS,
-};
 pub use line_fault::{LineFault, LineFaultKind};
 pub use schedule::Schedule;
 pub use step::{Action, RequesterLine, Step};
+pub use word::{MAX_BYTE, MAX_HANDLE, MAX_ID, MAX_TIMEOUT, MAX_COMMAND_WORDS};

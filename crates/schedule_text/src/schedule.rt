@@ -83,7 +83,8 @@ impl Schedule {
     /// Adds what the line with this number says.
     fn add_numbered(&mut self, number: u64, line: &[u8]) -> Result<(), LineFault>
         ensures ok { OnOk result (after_line self.old line.now ≡ Ok self.new) }
-        ensures err { IfErr result (λ fault. (fault.line ≡ number) × TellsKind (after_line self.old line.now) fault.kind) }
+        ensures err { IfErr result (λ fault. (fault.line ≡ number) × TellsKind (after_line self.old line.now)
+            fault.kind) }
     {
         match self.add_line(line) {
             Ok(()) => Ok(()),

@@ -4,10 +4,25 @@ ghost use Rattle.std.specs.Prelude.{◌≡◌, ◌≤◌, IfOk};
 ghost use Rattle.schedule_text.specs.CommandWords.{is};
 ghost use Rattle.schedule_text.specs.WordValues.{any_number, any_value, eid_in, moment_in, number_up_to};
 
-use crate::{GREATEST_BYTE, GREATEST_HANDLE, GREATEST_ID, LONGEST_TIMEOUT, LineFaultKind};
+use crate::LineFaultKind;
 use line_words::{read_decimal, read_number, read_value};
-use mctp_packet::{Eid, LAST_EID, LAST_MOMENT, Moment};
+use mctp_packet::{Eid, MAX_EID, MAX_MOMENT, Moment};
 use std::marker::Model;
+
+/// The greatest number of one byte.
+pub const MAX_BYTE: u64 = 255;
+
+/// The greatest number of two bytes, as the ID of a sensor or an effecter.
+pub const MAX_ID: u64 = 65_535;
+
+/// The greatest number of four bytes, as a handle of a record.
+pub const MAX_HANDLE: u64 = 4_294_967_295;
+
+/// The longest timeout of a requester, in milliseconds.
+pub const MAX_TIMEOUT: u64 = 60_000;
+
+/// The most words of a command that is well formed: `setstate ID` and eight states.
+pub const MAX_COMMAND_WORDS: usize = 10;
 
 /// A word of a line.
 #[derive(Drop)]
@@ -75,33 +90,33 @@ impl<'a> Word<'a> {
 
     /// The number of one byte that it spells.
     pub(crate) fn byte(&self) -> Result<u8, LineFaultKind>
-        ensures { result ≡ number_up_to GREATEST_BYTE self.now }
+        ensures { result ≡ number_up_to MAX_BYTE self.now }
     {
-        let number = self.number_up_to(GREATEST_BYTE)?;
+        let number = self.number_up_to(MAX_BYTE)?;
         Ok(number as u8)
     }
 
     /// The ID of a sensor or an effecter, or the count of bytes, that it spells.
     pub(crate) fn id(&self) -> Result<u16, LineFaultKind>
-        ensures { result ≡ number_up_to GREATEST_ID self.now }
+        ensures { result ≡ number_up_to MAX_ID self.now }
     {
-        let number = self.number_up_to(GREATEST_ID)?;
+        let number = self.number_up_to(MAX_ID)?;
         Ok(number as u16)
     }
 
     /// The handle that it spells.
     pub(crate) fn handle(&self) -> Result<u32, LineFaultKind>
-        ensures { result ≡ number_up_to GREATEST_HANDLE self.now }
+        ensures { result ≡ number_up_to MAX_HANDLE self.now }
     {
-        let number = self.number_up_to(GREATEST_HANDLE)?;
+        let number = self.number_up_to(MAX_HANDLE)?;
         Ok(number as u32)
     }
 
     /// The timeout in milliseconds that it spells.
     pub(crate) fn timeout(&self) -> Result<u32, LineFaultKind>
-        ensures { result ≡ number_up_to LONGEST_TIMEOUT self.now }
+        ensures { result ≡ number_up_to MAX_TIMEOUT self.now }
     {
-        let number = self.number_up_to(LONGEST_TIMEOUT)?;
+        let number = self.number_up_to(MAX_TIMEOUT)?;
         Ok(number as u32)
     }
 
@@ -109,7 +124,7 @@ impl<'a> Word<'a> {
     pub(crate) fn eid(&self) -> Result<Eid, LineFaultKind>
         ensures { result ≡ eid_in self.now }
     {
-        let number = self.number_up_to(u64::from(LAST_EID))?;
+        let number = self.number_up_to(u64::from(MAX_EID))?;
         Eid::new(number as u8).ok_or(LineFaultKind::Number)
     }
 
@@ -117,7 +132,7 @@ impl<'a> Word<'a> {
     pub(crate) fn moment(&self) -> Result<Moment, LineFaultKind>
         ensures { result ≡ moment_in self.now }
     {
-        let number = self.number_up_to(LAST_MOMENT)?;
+        let number = self.number_up_to(MAX_MOMENT)?;
         Ok(Moment::new(number).unwrap())
     }
 }

@@ -6,7 +6,7 @@ ghost use Rattle.schedule_text.specs.CommandWords.{only_word};
 ghost use Rattle.schedule_text.specs.declared.line_fault.LineFaultKind.TheVariants as kinds;
 
 use crate::word::Word;
-use crate::{LineFaultKind, MOST_COMMAND_WORDS};
+use crate::{LineFaultKind, MAX_COMMAND_WORDS};
 use arrayvec::ArrayVec;
 use line_words::{first_word, split_word};
 use std::marker::Model;
@@ -72,10 +72,10 @@ impl<'a> Words<'a> {
         }
     }
 
-    /// All of them, of which there have to be at most [`MOST_COMMAND_WORDS`].
-    pub(crate) fn rest(&mut self) -> Result<ArrayVec<Word<'a>, MOST_COMMAND_WORDS>, LineFaultKind>
+    /// All of them, of which there have to be at most [`MAX_COMMAND_WORDS`].
+    pub(crate) fn rest(&mut self) -> Result<ArrayVec<Word<'a>, MAX_COMMAND_WORDS>, LineFaultKind>
         ensures ok { IfOk result (λ words. words.items ≡ self.old) }
-        ensures many { OnErr result (MOST_COMMAND_WORDS < length self.old) }
+        ensures many { OnErr result (MAX_COMMAND_WORDS < length self.old) }
         ensures err { IfErr result (λ kind. kind ≡ kinds.Words) }
     {
         let mut words = ArrayVec::new();

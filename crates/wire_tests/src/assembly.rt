@@ -1,6 +1,6 @@
 use mctp_assembly::{Assembler, Fed, Key};
 use mctp_packet::{
-    Eid, HEADER, MOST_PACKET_BYTES, Memory, PacketRef, Reason, Tag, UNIT, read, read_for,
+    Eid, HEADER, MAX_PACKET_BYTES, Memory, PacketRef, Reason, Tag, UNIT, read, read_for,
 };
 use memory_hoard::Hoard;
 use std::alloc::Global;
@@ -161,8 +161,8 @@ fn feed_with(
 }
 
 /// A packet's bytes with these flags and a full payload of one byte's value.
-fn full(flags: u8, value: u8) -> [u8; MOST_PACKET_BYTES] {
-    let mut bytes = [value; MOST_PACKET_BYTES];
+fn full(flags: u8, value: u8) -> [u8; MAX_PACKET_BYTES] {
+    let mut bytes = [value; MAX_PACKET_BYTES];
     bytes[..HEADER].copy_from_slice(&[0x01, OWN, 0x08, flags]);
     bytes
 }

@@ -4,7 +4,7 @@ use mctp_packet::Reason;
 use pldm_wire::{
     Answer, AnswerFault, Code, Command, ERROR, ERROR_INVALID_DATA, ERROR_INVALID_LENGTH,
     ERROR_INVALID_PLDM_TYPE, ERROR_NOT_READY, ERROR_UNSUPPORTED_PLDM_CMD, EffecterValues, Kind,
-    MOST_PART_BYTES, Number, RecordPart, SetStateField, Size, StateFields, TransferFlag,
+    MAX_PART_BYTES, Number, RecordPart, SetStateField, Size, StateFields, TransferFlag,
     VersionData, crc8, read_answer, read_command, read_request, read_response, write_answer,
     write_command,
 };

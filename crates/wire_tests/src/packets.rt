@@ -1,5 +1,5 @@
 use mctp_packet::{
-    Eid, Keep, MOST_PACKET_BYTES, Memory, Moment, PacketRef, Packets, Reason, Route, Seq,
+    Eid, Keep, MAX_PACKET_BYTES, Memory, Moment, PacketRef, Packets, Reason, Route, Seq,
     SplitFault, Tag, read, read_for, split, write,
 };
 use std::process::Abort;
@@ -82,7 +82,7 @@ fn reads_a_packet_and_writes_it_again(rt: HostRuntime) -> Result<(), Fail> {
     assert!(rt; route.owner && packet.start() && packet.end());
     assert_eq!(rt; (route.tag.get(), packet.seq().get()), (0, 0));
     assert_eq!(rt; packet.payload(), &bytes[4..]);
-    let mut out = [UNTOUCHED; MOST_PACKET_BYTES];
+    let mut out = [UNTOUCHED; MAX_PACKET_BYTES];
     assert_eq!(rt; write(&packet, &mut out), 8);
     assert_eq!(rt; &out[..8], bytes);
     assert!(rt; out[8..].iter().all(|b| *b == UNTOUCHED));

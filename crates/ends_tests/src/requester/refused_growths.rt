@@ -3,13 +3,13 @@
 
 use super::*;
 use arrayvec::ArrayVec;
-use mctp_packet::MOST_PACKET_BYTES;
+use mctp_packet::MAX_PACKET_BYTES;
 
 /// How many bytes more there are after each refusal.
 const STEP: usize = 32;
 
 /// More refusals than one call meets.
-const MOST_REFUSALS: usize = 4_000;
+const MAX_REFUSALS: usize = 4_000;
 
 /// A requester and all memory but a little.
 #[derive(Drop)]
@@ -46,7 +46,7 @@ impl Short {
         command: &Command,
     ) -> Result<Result<(u64, u8, u8), OpenFault>, Fail> {
         self.hoard.take_rest()?;
-        for _ in 0..MOST_REFUSALS {
+        for _ in 0..MAX_REFUSALS {
             let (count, last) = (self.requester.count(), self.requester.last_moment());
             let now = moment(rt, &self.requester, milliseconds)?;
             match self.requester.open(now, command) {
@@ -61,7 +61,7 @@ impl Short {
     /// What the requester makes of a packet.
     fn receive(&mut self, rt: &impl Abort, bytes: &[u8]) -> Result<Got, Fail> {
         self.hoard.take_rest()?;
-        for _ in 0..MOST_REFUSALS {
+        for _ in 0..MAX_REFUSALS {
             let (count, last) = (self.requester.count(), self.requester.last_moment());
             match receive(rt, &mut self.requester, last.get(), bytes)? {
                 Ok(got) => return Ok(got),
@@ -145,7 +145,7 @@ fn receive_piece(
     piece: usize,
 ) -> Result<Got, Fail> {
     let payload = message.chunks(64).nth(piece).ok_or("no piece")?;
-    let mut packet = ArrayVec::<u8, MOST_PACKET_BYTES>::new();
+    let mut packet = ArrayVec::<u8, MAX_PACKET_BYTES>::new();
     packet.try_extend_from_slice(&[0x01, 0x08, 0x09, flags])?;
     packet.try_extend_from_slice(payload)?;
     short.receive(rt, packet.as_slice())

@@ -1,7 +1,7 @@
 //! Each growth of a run is refused in turn, and calls that want no memory have none.
 
 use super::*;
-use mctp_packet::{MOST_PACKET_BYTES, PacketRef, Route, Seq, Tag, split, write};
+use mctp_packet::{MAX_PACKET_BYTES, PacketRef, Route, Seq, Tag, split, write};
 use pldm_wire::{
     Answer, Command, EffecterValues, GET_NUMERIC_EFFECTER_VALUE, Kind, Number, PLATFORM, Size,
     write_answer, write_command,
@@ -12,7 +12,7 @@ use std::alloc::AllocError;
 const STEP: usize = 16;
 
 /// More refusals than one packet meets.
-const MOST_REFUSALS: u32 = 4_000;
+const MAX_REFUSALS: u32 = 4_000;
 
 /// What comes of a packet that is handed over with no memory at first, and again after each refusal with
 /// a little more. A refusal leaves what was there, and is counted.
@@ -30,7 +30,7 @@ fn receive_at_last<P: Platform>(
         responder.last_moment(),
     );
     hoard.take_rest()?;
-    for _ in 0..MOST_REFUSALS {
+    for _ in 0..MAX_REFUSALS {
         if let Ok(outcome) = receive(rt, responder, milliseconds, packet)? {
             return Ok(outcome);
         }
@@ -214,7 +214,7 @@ fn set_at_last(
     light: &mut Responder<Dimmer>,
 ) -> Result<(u32, u32), Fail> {
     let mut hoard = Hoard::take(alloc, 0)?;
-    for refusals in 0..MOST_REFUSALS {
+    for refusals in 0..MAX_REFUSALS {
         let outcome = receive(rt, light, 5, SET_40)?;
         if outcome.is_ok() {
             assert!(rt; answers(&outcome, true, true, SET), "{outcome:?}");
@@ -276,7 +276,7 @@ fn packets_are_written_without_memory(rt: HostRuntime) -> Result<(), Fail> {
         expect_pieces(&rt, &route, length, flags)?;
     }
     let packet = PacketRef::new(route, true, true, seq, &TID[4..]).ok_or("no packet")?;
-    let mut bytes = [0; MOST_PACKET_BYTES];
+    let mut bytes = [0; MAX_PACKET_BYTES];
     let count = write(&packet, &mut bytes);
     assert_eq!(rt; bytes.get(..count), Some(TID));
     drop(hoard);

@@ -4,19 +4,19 @@ use super::run;
 use example_device::description;
 use mctp_assembly::{Assembler, Fed};
 use mctp_packet::{Body, Eid, Memory, Route, Tag, read_for, split};
-use pldm_device::{Fetch, FetchState, MOST_RECORD_BYTES};
-use pldm_wire::{Command, MOST_PART_BYTES, read_answer, read_response, write_command};
+use pldm_device::{Fetch, FetchState, MAX_RECORD_BYTES};
+use pldm_wire::{Command, MAX_PART_BYTES, read_answer, read_response, write_command};
 use std::alloc::Global;
 use std::process::Abort;
 use std::test::Fail;
 
 /// The parts of the record.
-const PARTS: u32 = ((MOST_RECORD_BYTES + MOST_PART_BYTES - 1) / MOST_PART_BYTES) as u32;
+const PARTS: u32 = ((MAX_RECORD_BYTES + MAX_PART_BYTES - 1) / MAX_PART_BYTES) as u32;
 
 /// A record of the greatest length, with the handle 2 and the change number 0x1234.
 fn record(alloc: Global) -> Result<Vec<u8>, Fail> {
     let mut record = hex::decode(alloc, "0200000001013412ffff")?;
-    for place in record.len()..MOST_RECORD_BYTES {
+    for place in record.len()..MAX_RECORD_BYTES {
         record.push((place % 251) as u8)?;
     }
     Ok(record)
@@ -26,9 +26,9 @@ fn record(alloc: Global) -> Result<Vec<u8>, Fail> {
 fn request(part: u32) -> Command {
     Command::GetPdr {
         record_handle: 2,
-        data_transfer_handle: part.saturating_mul(MOST_PART_BYTES as u32),
+        data_transfer_handle: part.saturating_mul(MAX_PART_BYTES as u32),
         transfer_operation_flag: u8::from(part == 0),
-        request_count: MOST_PART_BYTES as u16,
+        request_count: MAX_PART_BYTES as u16,
         record_change_number: if part == 0 { 0 } else { 0x1234 },
     }
 }

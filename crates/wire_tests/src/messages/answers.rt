@@ -90,7 +90,7 @@ fn the_longest_part_fills_a_message(rt: HostRuntime) {
     let answer = Answer::GetPdr {
         next_record_handle: 0,
         next_data_transfer_handle: 0,
-        part: RecordPart::new(TransferFlag::End, &[7; MOST_PART_BYTES], Some(1)).expect(
+        part: RecordPart::new(TransferFlag::End, &[7; MAX_PART_BYTES], Some(1)).expect(
             &rt, "a part",
         ),
     };

@@ -2,7 +2,7 @@
 use Rattle.std.proofs.Common.{◌≡◌, ◌<◌, ◌≤◌, ◌+◌, ◌&&◌, true, drop, get_or, sym, ap, ◌∙◌, arith}
 use Rattle.std.specs.List.{list_all}
 use Rattle.line_words.specs.Numbers.{is_digit}
-use Rattle.line_words.specs.declared.limits.TheConstants.{MAX_DIGITS}
+use Rattle.line_words.specs.declared.numbers.TheConstants.{MAX_DIGITS}
 use Rattle.line_words.proofs.DecimalPlaces.{all_digits, at_most_all, digit_bounds, next_digit, next_below, next_fits}
 use Rattle.line_words.proofs.numbers.read_decimal.Goals as goal
 

@@ -3,7 +3,7 @@ use Rattle.std.proofs.Common.{◌≡◌, rules, sym, ap, ◌∙◌, w64, to_z, o
 use Rattle.std.proofs.lemmas.Int.{to_z-of_z}
 use Rattle.std.specs.Option.{option_copied_mut}
 use Rattle.pldm_device.specs.SensorAnswers.{sense}
-use Rattle.pldm_platform.specs.declared.reading_fault.ReadingFault.TheVariants.{NoSuchSensor}
+use Rattle.pldm_platform.specs.declared.platform.ReadingFault.TheVariants.{NoSuchSensor}
 use Rattle.pldm_device.proofs.Changed.{change_at-written}
 use Rattle.pldm_device.proofs.device.sense_in.Goals as goal
 

@@ -2,8 +2,8 @@
 use Rattle.std.proofs.Common.{◌≡◌, [], drop}
 use Rattle.toml.specs.View.{items_view}
 use Rattle.pldm_device.specs.NumberLists.{numbers_after}
-use Rattle.pldm_device.specs.declared.limits.TheConstants.{MOST_BYTE}
+use Rattle.pldm_device.specs.declared.limits.TheConstants.{MAX_BYTE}
 use Rattle.pldm_device.proofs.effecter_entries.numbers_of.Given as goal
 
 abbrev pub invariant-loop-item : goal.invariant-loop-item
-invariant-loop-item l = numbers_after MOST_BYTE l.numbers.items (items_view (drop l.item-index l.items)) ≡ numbers_after MOST_BYTE [] (items_view l.items)
+invariant-loop-item l = numbers_after MAX_BYTE l.numbers.items (items_view (drop l.item-index l.items)) ≡ numbers_after MAX_BYTE [] (items_view l.items)

@@ -1,7 +1,7 @@
 use Rattle.std.proofs.Common.{Some, None, ap, sym, ◌∙◌, is_some}
 use Rattle.std.specs.BTreeMap.{is_at}
 use Rattle.std.proofs.lemmas.Map.Views.{All-keys-insert_entry, All-values-insert_entry, All-values-set_value}
-use Rattle.mctp_packet.specs.declared.TheConstants.{MOST_PACKETS}
+use Rattle.mctp_packet.specs.declared.TheConstants.{MAX_PACKETS}
 use Rattle.mctp_assembly.specs.Keys.{IsKey, key_cmp}
 use Rattle.mctp_assembly.specs.Opened.{IsOpened}
 use Rattle.mctp_assembly.specs.Steps.{answer_to, carried_on}
@@ -31,13 +31,13 @@ returns-then-start-clause-ok c =
 
 pub append-requires-clause-partial : goal.append-requires-clause-partial
 append-requires-clause-partial c =
-    ap (λ o. answer_to MOST_PACKETS o c.args.packet.now) (held_at c.self.inside.buffers.entries c.args.self.now c.of-key.result _ (Some c.in-Some.buffer.now) c.self.view_is c.of-key.ensures.value c.in-Some.ensures.value)
+    ap (λ o. answer_to MAX_PACKETS o c.args.packet.now) (held_at c.self.inside.buffers.entries c.args.self.now c.of-key.result _ (Some c.in-Some.buffer.now) c.self.view_is c.of-key.ensures.value c.in-Some.ensures.value)
     ∙ c.requires
 
 pub unreachable-requires : goal.unreachable-requires
 unreachable-requires c =
     not_alone c.args.packet.now (sym c.start.ensures ∙ c.if-start.false)
-    (ap (λ o. answer_to MOST_PACKETS o c.args.packet.now) (held_at c.self.inside.buffers.entries c.args.self.now c.of-key.result _ None c.self.view_is c.of-key.ensures.value c.in-None.ensures.value)
+    (ap (λ o. answer_to MAX_PACKETS o c.args.packet.now) (held_at c.self.inside.buffers.entries c.args.self.now c.of-key.result _ None c.self.view_is c.of-key.ensures.value c.in-None.ensures.value)
     ∙ c.requires)
 
 pub returns-clause-ok : goal.returns-clause-ok

@@ -4,7 +4,7 @@ use Rattle.std.specs.Prelude.{option_map}
 use Rattle.pldm_requester.specs.Numbering.{message_of}
 use Rattle.pldm_requester.specs.Slots.{held_of}
 use Rattle.pldm_requester.specs.Steps.{Memo, is_id_in_use, is_tag_in_use}
-use Rattle.pldm_requester.specs.declared.opened.Opened.{Opened}
+use Rattle.pldm_requester.specs.declared.results.Opened.{Opened}
 use Rattle.mctp_schedule.specs.Askers.{IsSent, Side, packet_bytes}
 use Rattle.mctp_schedule.proofs.AskerCalls.{accepted_as, opened_packet, sent_packet}
 use Rattle.mctp_schedule.proofs.askers.Asker.open.Goals as goal

@@ -7,8 +7,8 @@ use Rattle.mctp_packet.specs.Pieces.{piece_count, written_packets}
 use Rattle.mctp_packet.specs.declared.packet.Route.{Route}
 use Rattle.pldm_responder.specs.Answering.{answering}
 use Rattle.pldm_responder.specs.declared.outcome.Outcome.{Outcome}
-use Rattle.pldm_responder.specs.declared.taken.Taken.{Taken}
-use Rattle.pldm_responder.specs.declared.taken.Taken.TheVariants.{Answered}
+use Rattle.pldm_responder.specs.declared.outcome.Taken.{Taken}
+use Rattle.pldm_responder.specs.declared.outcome.Taken.TheVariants.{Answered}
 use Rattle.mctp_schedule.specs.Deliveries.{packet_of_outcome}
 use Rattle.mctp_schedule.proofs.WrittenPlaces.{packet_past, packet_stands}
 use Rattle.mctp_schedule.proofs.delivery.Delivery.packet.Goals as goal

@@ -8,7 +8,7 @@ use Rattle.mctpctl_input.specs.Pieces.{Gives}
 use Rattle.mctpctl_engines.proofs.AnswersOfRuns.{first_gives}
 use Rattle.mctpctl_engines.proofs.LookingBack.{run_looks_back}
 use Rattle.mctpctl_input.proofs.RunsToEnd.{same_text, same_read, same_front}
-use Rattle.mctpctl_engines.proofs.answer.answer_all.Goals as goal
+use Rattle.mctpctl_engines.proofs.answer_run.answer_all.Goals as goal
 
 pub returns-clause-text : goal.returns-clause-text
 returns-clause-text g c =

@@ -1,8 +1,32 @@
+//! What the calls of a requester return.
+
 ghost use Rattle.std.specs.Prelude.{◌≡◌};
 ghost use Rattle.pldm_requester.specs.OpenFaults.{number_of_open_fault};
 
-use mctp_packet::Tag;
+use crate::MAX_OPEN;
+use arrayvec::ArrayVec;
+use mctp_packet::{Reason, Tag};
 use thiserror::Error;
+
+/// The requests that a tick found due, by their numbers, each list in ascending order.
+#[derive(Debug, PartialEq, Eq, Drop)]
+pub struct Due {
+    /// Those whose packets are to be sent again.
+    pub again: ArrayVec<u64, MAX_OPEN>,
+    /// Those that were given up.
+    pub given_up: ArrayVec<u64, MAX_OPEN>,
+}
+
+/// What becomes of bytes that were received.
+#[derive(Clone, Copy, Debug, PartialEq, Eq)]
+pub enum Got {
+    /// They are dropped, for one of the reasons 1 to 20 other than 16.
+    Dropped(Reason),
+    /// They begin a message of several packets, or go on with one.
+    Partial,
+    /// They complete the answer to the request with this number.
+    Answered(u64),
+}
 
 /// A request that was opened.
 #[derive(Clone, Copy, Debug, PartialEq, Eq)]
@@ -36,4 +60,15 @@ impl OpenFault {
     {
         self as u8
     }
+}
+
+/// How a request stands.
+#[derive(Clone, Copy, Debug, PartialEq, Eq)]
+pub enum Status<'a> {
+    /// It is open: neither answered nor given up.
+    Open,
+    /// It was answered, by this response message.
+    Answered(&'a [u8]),
+    /// It was given up.
+    GaveUp,
 }

@@ -6,7 +6,7 @@ use Rattle.mctpctl_engines.specs.RunText.{scheduled_run}
 use Rattle.mctpctl_engines.specs.SchedulePieces.{schedule_gives}
 use Rattle.mctpctl_input.proofs.RunsToEnd.{same_text}
 use Rattle.mctpctl_engines.proofs.ScheduleGlue.{first_gives, nothing_at_memory, nothing_at_read}
-use Rattle.mctpctl_engines.proofs.run.run_all.Goals as goal
+use Rattle.mctpctl_engines.proofs.schedule_run.run_all.Goals as goal
 
 pub returns-clause-text : goal.returns-clause-text
 returns-clause-text g c =

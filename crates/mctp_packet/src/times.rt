@@ -1,0 +1,86 @@
+//! Moments, and the time for which an answer is kept, both in milliseconds.
+
+ghost use Rattle.std.specs.Prelude.{◌≡◌, ℕ, ◌≤◌, ◌↔◌, IsSome, IfSome};
+ghost use Rattle.mctp_packet.specs.Ids.{IsMoment, IsKeep};
+
+use crate::{MAX_MOMENT, MAX_KEEP};
+use std::marker::Model;
+
+/// A moment in milliseconds on the clock that is handed in: 0 to [`MAX_MOMENT`].
+#[derive(Clone, Copy, Debug, PartialEq, Eq, PartialOrd, Ord)]
+pub struct Moment {
+    milliseconds: u64,
+}
+
+impl Model for Moment {
+    ghost Value = { ℕ };
+
+    ghost view = { λ moment. moment.milliseconds };
+
+    ghost invariant = { λ moment. IsMoment moment.milliseconds };
+
+    ghost inverse = { λ n. record { milliseconds = n } };
+}
+
+impl Moment {
+    /// The moment after this many milliseconds, where they are at most [`MAX_MOMENT`].
+    pub fn new(milliseconds: u64) -> Option<Moment>
+        ensures some { IsSome result ↔ IsMoment milliseconds }
+        ensures value { IfSome result (λ moment. moment ≡ milliseconds) }
+        ensures range { IfSome result IsMoment }
+    {
+        if milliseconds <= MAX_MOMENT {
+            Some(Moment { milliseconds })
+        } else {
+            None
+        }
+    }
+
+    /// Its milliseconds, at most [`MAX_MOMENT`].
+    pub fn get(self) -> u64
+        ensures value { result ≡ self }
+        ensures range { IsMoment self }
+    {
+        self.milliseconds
+    }
+}
+
+/// For how many milliseconds an answer is kept and a packet may live: 1 to 60,000. This profile's
+/// own number, one for both ends of a link.
+#[derive(Clone, Copy, Debug, PartialEq, Eq, PartialOrd, Ord)]
+pub struct Keep {
+    milliseconds: u32,
+}
+
+impl Model for Keep {
+    ghost Value = { ℕ };
+
+    ghost view = { λ keep. keep.milliseconds };
+
+    ghost invariant = { λ keep. IsKeep keep.milliseconds };
+
+    ghost inverse = { λ n. record { milliseconds = n } };
+}
+
+impl Keep {
+    /// This many milliseconds, where they are 1 to 60,000.
+    pub fn new(milliseconds: u32) -> Option<Keep>
+        ensures some { IsSome result ↔ IsKeep milliseconds }
+        ensures value { IfSome result (λ keep. keep ≡ milliseconds) }
+        ensures range { IfSome result IsKeep }
+    {
+        if (1..=MAX_KEEP).contains(&milliseconds) {
+            Some(Keep { milliseconds })
+        } else {
+            None
+        }
+    }
+
+    /// Its milliseconds, 1 to 60,000.
+    pub fn get(self) -> u32
+        ensures value { result ≡ self }
+        ensures range { IsKeep self }
+    {
+        self.milliseconds
+    }
+}
