@@ -1,6 +1,6 @@
 use dimmer::Dimmer;
 use example_device::description;
-use mctp_packet::{Eid, MIN_EID, Keep, MAX_EID, Memory, Moment, Reason};
+use mctp_packet::{Eid, Keep, MAX_EID, MIN_EID, Memory, Moment, Reason};
 use memory_hoard::Hoard;
 use pldm_device::{Description, Platform, ReadingFault, SimDevice};
 use pldm_responder::{Outcome, Responder};

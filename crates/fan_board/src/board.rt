@@ -7,8 +7,11 @@ ghost use Rattle.pldm_wire.specs.Kinds.{of_type};
 ghost use Rattle.pldm_wire.specs.Numbers.{sized};
 ghost use Rattle.fan_board.specs.Boards.{degrees_after};
 
-use pldm_wire::{Code, Answer, Command, EffecterValues, GET_NUMERIC_EFFECTER_VALUE, GET_SENSOR_READING, Number, PLATFORM, Size};
 use mctp_packet::Moment;
+use pldm_wire::{
+    Answer, Code, Command, EffecterValues, GET_NUMERIC_EFFECTER_VALUE, GET_SENSOR_READING, Number,
+    PLATFORM, Size,
+};
 
 /// The number of the completion codes for a sensor or an effecter that the board does not have (DSP0248,
 /// INVALID_SENSOR_ID and INVALID_EFFECTER_ID).

@@ -7,7 +7,7 @@ ghost use Rattle.mctp_assembly.specs.declared.fed.Fed.TheVariants.{Partial};
 
 use crate::buffer::{Buffer, look_alone};
 use crate::{Fed, Given, Key};
-use mctp_packet::{Body, MIN_EID, MAX_EID, MAX_MESSAGE_BYTES, Memory, PacketRef, TAGS};
+use mctp_packet::{Body, MAX_EID, MAX_MESSAGE_BYTES, MIN_EID, Memory, PacketRef, TAGS};
 use std::alloc::Global;
 use std::collections::BTreeMap;
 use std::marker::Model;

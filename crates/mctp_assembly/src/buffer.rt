@@ -5,9 +5,7 @@ ghost use Rattle.mctp_assembly.specs.Steps.{answer_alone, answer_to, begun_by, c
 ghost use Rattle.mctp_assembly.specs.declared.fed.Fed.TheVariants.{Partial};
 
 use crate::Given;
-use mctp_packet::{
-    Body, MAX_MESSAGE_BYTES, MAX_PACKETS, PacketRef, Reason, SEQUENCE_NUMBERS, Seq,
-};
+use mctp_packet::{Body, MAX_MESSAGE_BYTES, MAX_PACKETS, PacketRef, Reason, SEQUENCE_NUMBERS, Seq};
 use std::marker::Model;
 
 /// The packets of a message that has begun and not ended.
@@ -32,7 +30,13 @@ impl Model for Buffer {
 
     ghost view = { λ b. record { unit = b.unit; last = b.last; count = b.count; bytes = b.bytes.items } };
 
-    ghost invariant = { λ b. IsOpened (record { unit = b.unit; last = b.last; count = b.count; bytes = b.bytes.items }) };
+    ghost invariant = { λ b. IsOpened (record {
+      unit = b.unit;
+      last = b.last;
+      count = b.count;
+      bytes =
+          b.bytes.items;
+    }) };
 }
 
 impl Buffer {

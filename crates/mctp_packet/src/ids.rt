@@ -3,7 +3,7 @@
 ghost use Rattle.std.specs.Prelude.{◌≡◌, ℕ, ◌≤◌, ◌↔◌, IsSome, IfSome};
 ghost use Rattle.mctp_packet.specs.Ids.{IsEid, IsTag, IsSeq};
 
-use crate::{MIN_EID, MAX_EID, TAGS, SEQUENCE_NUMBERS};
+use crate::{MAX_EID, MIN_EID, SEQUENCE_NUMBERS, TAGS};
 use std::marker::Model;
 
 /// An endpoint ID that can be a packet's source or destination: 8 to 254.

@@ -31,7 +31,14 @@ impl<'a> Model for PacketRef<'a> {
 
     ghost Value = { Packet };
 
-    ghost view = { λ p. record { route = p.route; start = p.start; end = p.end; seq = p.seq; payload = p.payload.now } };
+    ghost view = { λ p. record {
+      route = p.route;
+      start = p.start;
+      end = p.end;
+      seq = p.seq;
+      payload =
+          p.payload.now;
+    } };
 
     ghost invariant = { λ p. HasPayloadSize p.payload.now };
 }

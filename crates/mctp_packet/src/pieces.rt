@@ -5,8 +5,7 @@ ghost use Rattle.mctp_packet.specs.SplitFaults.{number_of_split_fault};
 
 use crate::codec::header_of;
 use crate::{
-    MAX_MESSAGE_BYTES, MAX_PACKET_BYTES, MAX_PACKETS, PacketRef, Route, SEQUENCE_NUMBERS, Seq,
-    UNIT,
+    MAX_MESSAGE_BYTES, MAX_PACKET_BYTES, MAX_PACKETS, PacketRef, Route, SEQUENCE_NUMBERS, Seq, UNIT,
 };
 use arrayvec::ArrayVec;
 use std::marker::Model;

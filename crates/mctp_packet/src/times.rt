@@ -3,7 +3,7 @@
 ghost use Rattle.std.specs.Prelude.{◌≡◌, ℕ, ◌≤◌, ◌↔◌, IsSome, IfSome};
 ghost use Rattle.mctp_packet.specs.Ids.{IsMoment, IsKeep};
 
-use crate::{MAX_MOMENT, MAX_KEEP};
+use crate::{MAX_KEEP, MAX_MOMENT};
 use std::marker::Model;
 
 /// A moment in milliseconds on the clock that is handed in: 0 to [`MAX_MOMENT`].

@@ -8,11 +8,11 @@ ghost use Rattle.mctp_schedule.specs.Askers.{HasAnswer, HasPacket, IsSent, Tells
 ghost use Rattle.mctp_schedule.specs.Entries.{numbered};
 ghost use Rattle.pldm_requester.specs.Courses as courses;
 
-use mctp_packet::{HEADER, Memory, Moment};
-use pldm_wire::{MAX_REQUEST_BYTES, Command};
 use crate::kept_message::KeptMessage;
 use arrayvec::ArrayVec;
+use mctp_packet::{HEADER, Memory, Moment};
 use pldm_requester::{Due, Got, MAX_OPEN, OpenFault, Requester, Status};
+use pldm_wire::{Command, MAX_REQUEST_BYTES};
 use std::alloc::Global;
 use std::marker::Model;
 

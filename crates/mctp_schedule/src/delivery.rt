@@ -60,11 +60,7 @@ impl Delivery {
 
     /// The bytes of packet `index` of the answer, counted from 0, which are written in front of `room`;
     /// `None` past the last, and where it was not answered.
-    pub fn packet<'a>(
-        &self,
-        index: usize,
-        room: &'a mut [u8; MAX_PACKET_BYTES],
-    ) -> Option<&'a [u8]>
+    pub fn packet<'a>(&self, index: usize, room: &'a mut [u8; MAX_PACKET_BYTES]) -> Option<&'a [u8]>
         ensures { option_map (λ bytes. bytes.now) result ≡ packet_of_outcome self.now index }
     {
         let Taken::Answered { route, .. } = &self.taken else {

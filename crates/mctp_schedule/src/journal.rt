@@ -6,9 +6,8 @@ ghost use Rattle.pldm_responder.specs.Answering.{answering};
 ghost use Rattle.mctp_schedule.specs.Journals.{answered_as, answers_at, fresh_numbers, packet_at, place_of, stands_after};
 ghost use Rattle.mctp_schedule.specs.Requests.{begun};
 
-use crate::askers::{Answered, Sent};
+use crate::askers::{Answered, MAX_REQUEST_PACKET_BYTES, Sent};
 use crate::kept_message::KeptMessage;
-use crate::askers::MAX_REQUEST_PACKET_BYTES;
 use crate::{Delivery, DueRequests, Entry, OpenedRequest};
 use arrayvec::ArrayVec;
 use mctp_packet::{Eid, MAX_PACKET_BYTES, Memory, Moment};

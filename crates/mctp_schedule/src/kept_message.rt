@@ -3,9 +3,9 @@
 ghost use Rattle.std.specs.Prelude.{◌≡◌, ◌≤◌, length, IfOk, IfSome};
 ghost use Rattle.std.specs.Rc.{rc_slice_items};
 
-use std::marker::Model;
 use mctp_packet::Memory;
 use std::alloc::Global;
+use std::marker::Model;
 use std::rc::RcSlice;
 
 /// The most bytes of a short message: an answer that tells a sensor's reading has no more.

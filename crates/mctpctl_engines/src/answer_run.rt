@@ -19,12 +19,15 @@ use crate::described::read_description;
 use crate::line_run::{LineRoom, LineRun, LineTask};
 use line_words::split_line;
 use mctp_packet::Moment;
-use mctpctl_input::{CaptureFault, CaptureLine, EngineFault, MAX_DIVIDER, MAX_DESCRIPTION, MAX_INPUT, Port, Run, is_divider, read_capture_line, run_to_end};
+use mctpctl_input::{
+    CaptureFault, CaptureLine, EngineFault, MAX_DESCRIPTION, MAX_DIVIDER, MAX_INPUT, Port, Run,
+    is_divider, read_capture_line, run_to_end,
+};
 use mctpctl_texts::push_outcome;
 use pldm_device::SimDevice;
 use pldm_responder::{Responder, laws};
 use std::alloc::Global;
-use std::io::{Write, Read};
+use std::io::{Read, Write};
 
 impl LineTask for Responder<SimDevice> {
     ghost State = { Held Device };
@@ -221,7 +224,8 @@ impl AnswerRun {
 }
 
 impl Run for AnswerRun {
-    ghost gives = { λ run. described_gives past_gives (description_gives held_run run.text.items run.kept.items) run.lines };
+    ghost gives = { λ run. described_gives past_gives (description_gives held_run run.text.items run.kept.items)
+        run.lines };
 
     ghost counted = { λ run. described_count past_count run.lines };
 

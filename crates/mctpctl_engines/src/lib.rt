@@ -10,7 +10,7 @@ mod show;
 
 pub use answer_run::answer_all;
 pub use mctpctl_input::{
-    DescriptionFault, EngineFault, MAX_DIVIDER, LineKind, MAX_CAPTURE_LINE, MAX_DESCRIPTION,
+    DescriptionFault, EngineFault, LineKind, MAX_CAPTURE_LINE, MAX_DESCRIPTION, MAX_DIVIDER,
     MAX_INPUT, Port, fault_line, status_of,
 };
 pub use schedule_run::run_all;

@@ -16,11 +16,13 @@ ghost use Rattle.mctpctl_input.specs.LineRuns.{Writes};
 use crate::described::read_description;
 use line_words::split_line;
 use mctp_schedule::{LineFault, LineFaultKind, Report, RunFault, Schedule, Setup, run};
-use mctpctl_input::{EngineFault, LineKind, MAX_DESCRIPTION, MAX_INPUT, Port, Run, is_divider, run_to_end};
+use mctpctl_input::{
+    EngineFault, LineKind, MAX_DESCRIPTION, MAX_INPUT, Port, Run, is_divider, run_to_end,
+};
 use mctpctl_texts::{NotWritten, device_text, write_report};
 use pldm_device::{Description, SimDevice};
 use std::alloc::Global;
-use std::io::{Write, Read};
+use std::io::{Read, Write};
 
 /// The run of `run`: what has come of the input, which is looked at once it has ended.
 #[derive(Drop)]

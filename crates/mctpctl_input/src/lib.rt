@@ -10,7 +10,7 @@ mod stream;
 
 pub use capture::{CaptureFault, CaptureLine, read_capture_line};
 pub use faults::{DescriptionFault, EngineFault, LineKind, fault_line, status_of};
-pub use limits::{MAX_DIVIDER, MAX_CAPTURE_LINE, MAX_DESCRIPTION, MAX_INPUT};
+pub use limits::{MAX_CAPTURE_LINE, MAX_DESCRIPTION, MAX_DIVIDER, MAX_INPUT};
 pub use lines::is_divider;
 pub use port::Port;
 pub use stream::{Run, run_to_end};

@@ -53,8 +53,8 @@ fn write_entry<W: Write>(out: &mut Port<W>, entry: &Entry) -> Result<(), NotWrit
 }
 
 fn write_opened<W: Write>(out: &mut Port<W>, number: u64) -> Result<(), NotWritten>
-    ensures text { OnOk result (Appends (W.contents (inner_of out.old)) (W.contents (inner_of out.new)) (codes "opened
-        " ++ (decimal number ++ 10 ∷ []))) }
+    ensures text { OnOk result (Appends (W.contents (inner_of out.old)) (W.contents (inner_of out.new))
+        (codes "opened " ++ (decimal number ++ 10 ∷ []))) }
     ensures ok { OnOk result (has_failed out.new ≡ has_failed out.old) }
     ensures err { OnErr result (has_failed out.new ≡ true) }
 {

@@ -5,7 +5,7 @@ ghost use Rattle.pldm_device.specs.SensorAnswers.{sense};
 ghost use Rattle.pldm_device.specs.EffecterAnswers.{set_number};
 
 use pldm_platform::ReadingFault;
-use pldm_wire::{Number, Code};
+use pldm_wire::{Code, Number};
 
 /// A numeric sensor: its states, 0 to 10, and its reading with its data size.
 #[derive(Debug, PartialEq, Eq, Drop)]

@@ -9,10 +9,8 @@ ghost use Rattle.pldm_responder.specs.Steps.{restarted_held};
 ghost use Rattle.pldm_responder.specs.Wants.{WantsMemory};
 ghost use Rattle.pldm_endpoint.specs.TwoSteps.{AsksAfter, IsAnsweredBy, IsItsAnswer, IsLeftByAnswer, IsLeftByStep, asks_after, bare, held_at_first, received_step};
 
-use crate::step::is_answer_to;
 use crate::outside_device::OutsideDevice;
-use crate::step::{AnswerRefusal, ReceiveRefusal};
-use crate::step::Step;
+use crate::step::{AnswerRefusal, ReceiveRefusal, Step, is_answer_to};
 use arrayvec::ArrayVec;
 use mctp_packet::{Body, Eid, Keep, MAX_PACKET_BYTES, Memory, Moment};
 use pldm_responder::{Bounds, Outcome, Responder};

@@ -3,10 +3,15 @@
 ghost use Rattle.std.specs.Prelude.{◌≡◌, true, false};
 ghost use Rattle.pldm_wire.specs.Answers.{IsAnswerTo, answered_kind};
 
-use pldm_responder::Outcome;
 use mctp_packet::Memory;
+use pldm_responder::Outcome;
+use pldm_wire::{
+    Answer, BASE, GET_NUMERIC_EFFECTER_VALUE, GET_PDR, GET_PDR_REPOSITORY_INFO, GET_PLDM_COMMANDS,
+    GET_PLDM_TYPES, GET_PLDM_VERSION, GET_SENSOR_READING, GET_STATE_EFFECTER_STATES,
+    GET_STATE_SENSOR_READINGS, GET_TID, Kind, PLATFORM, SET_NUMERIC_EFFECTER_VALUE,
+    SET_STATE_EFFECTER_STATES, SET_TID,
+};
 use thiserror::Error;
-use pldm_wire::{Answer, BASE, GET_NUMERIC_EFFECTER_VALUE, GET_PDR, GET_PDR_REPOSITORY_INFO, GET_PLDM_COMMANDS, GET_PLDM_TYPES, GET_PLDM_VERSION, GET_SENSOR_READING, GET_STATE_EFFECTER_STATES, GET_STATE_SENSOR_READINGS, GET_TID, Kind, PLATFORM, SET_NUMERIC_EFFECTER_VALUE, SET_STATE_EFFECTER_STATES, SET_TID};
 
 /// What becomes of the bytes of a packet.
 #[derive(Debug, Drop)]

@@ -3,10 +3,10 @@
 ghost use Rattle.std.specs.Prelude.{◌≡◌};
 ghost use Rattle.pldm_platform.specs.ReadingFaults.{number_of_reading_fault};
 
-use thiserror::Error;
 use mctp_packet::Memory;
 use pldm_wire::{Answer, Command};
 use std::alloc::Global;
+use thiserror::Error;
 
 /// Why a sensor's reading wasn't set.
 #[derive(Clone, Copy, Debug, PartialEq, Eq, Error)]
@@ -129,11 +129,14 @@ pub trait Platform: Drop {
 
     ghost reads_only: { (s : Self.State) (command : Command) → sets command ≡ false → after s command ≡ s };
 
-    ghost refusal_changes_nothing: { (s : Self.State) (command : Command) (code : ℕ) → answer s command ≡ answers.Refused code → after s command ≡ s };
+    ghost refusal_changes_nothing: { (s : Self.State) (command : Command) (code : ℕ) → answer s command
+        ≡ answers.Refused code → after s command ≡ s };
 
-    ghost answers_the_command: { (s : Self.State) (command : Command) → IsAnswerTo (kind_of command) (answer s command) };
+    ghost answers_the_command: { (s : Self.State) (command : Command) → IsAnswerTo (kind_of command)
+        (answer s command) };
 
     ghost none_performed: { (value : Self) → performed value [] value };
 
-    ghost performed_in_turn: { (first second third : Self) (before after : List Command) → performed first before second → performed second after third → performed first (after ++ before) third };
+    ghost performed_in_turn: { (first second third : Self) (before after : List Command) → performed first before
+        second → performed second after third → performed first (after ++ before) third };
 }

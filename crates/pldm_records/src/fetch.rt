@@ -4,12 +4,15 @@ ghost use Rattle.std.specs.Prelude.{◌≡◌, ◌≢◌, true, Err, IfSome, opt
 ghost use Rattle.pldm_records.specs.FetchFaults.{number_of_fetch_fault};
 ghost use Rattle.pldm_records.specs.Fetches.{Ends, IsSmall, adds, after_taking, begun, failed, has_room_for, is_last, next_request, now_of, part_after, part_taken, record_fault, fetched_record, taken};
 
-use pldm_wire::{Code, Answer, Command, GET_FIRST_PART, GET_NEXT_PART, MAX_PART_BYTES, RecordPart, TransferFlag, crc8};
-use thiserror::Error;
 use crate::limits::{CHANGE_NUMBER_END, FIRST_RECORD, MAX_RECORD_BYTES, RECORD_HEADER};
 use crate::record::{change_number_of, data_length_of, handle_of};
+use pldm_wire::{
+    Answer, Code, Command, GET_FIRST_PART, GET_NEXT_PART, MAX_PART_BYTES, RecordPart, TransferFlag,
+    crc8,
+};
 use std::alloc::Global;
 use std::marker::Model;
+use thiserror::Error;
 
 /// Why a fetch failed, or did not take an answer. The first four end the fetch; the last two leave it
 /// as it was.
@@ -90,9 +93,21 @@ impl Model for Fetch {
 
     ghost Value = { Fetching };
 
-    ghost view = { λ f. record { asked = f.handle; bytes = f.bytes.items; offset = f.next_data_transfer_handle; stage = f.stage } };
+    ghost view = { λ f. record {
+      asked = f.handle;
+      bytes = f.bytes.items;
+      offset = f.next_data_transfer_handle;
+      stage
+          = f.stage;
+    } };
 
-    ghost invariant = { λ f. IsFetch (record { asked = f.handle; bytes = f.bytes.items; offset = f.next_data_transfer_handle; stage = f.stage }) };
+    ghost invariant = { λ f. IsFetch (record {
+      asked = f.handle;
+      bytes = f.bytes.items;
+      offset =
+          f.next_data_transfer_handle;
+      stage = f.stage;
+    }) };
 }
 
 impl Fetch {

@@ -45,7 +45,16 @@ impl Model for Remembered {
 
     ghost use Rattle.pldm_requester.specs.Standings.{standing_of};
 
-    ghost view = { λ r. record { kind = r.kind; packets = r.packets; course = record { opening = r.opening; last_sent = r.last_sent; standing = standing_of r.standing r.answer.items } } };
+    ghost view = { λ r. record {
+      kind = r.kind;
+      packets = r.packets;
+      course = record {
+        opening = r.opening;
+        last_sent
+            = r.last_sent;
+        standing = standing_of r.standing r.answer.items;
+      };
+    } };
 }
 
 impl Remembered {
@@ -73,8 +82,12 @@ impl Remembered {
     pub(crate) fn begin(&mut self, kind: Kind, route: &Route, message: &[u8], now: Moment)
         requires some { 0 < length message.now }
         requires few { length message.now ≤ MAX_MESSAGE_BYTES }
-        ensures { self.new ≡ record { kind = kind; packets = written_packets route.now message.now; course = begun
-            now } }
+        ensures { self.new ≡ record {
+          kind = kind;
+          packets = written_packets route.now message.now;
+          course = begun
+              now;
+        } }
     {
         self.kind = kind;
         split_into(route, message, &mut self.packets).unwrap();

@@ -56,9 +56,26 @@ impl Model for Requester {
 
     ghost coded = { coded_station };
 
-    ghost view = { λ r. record { own = r.own; device = r.device; timing = r.timing; count = r.count; slots = r.slots.items; open_messages = r.assembler; last = r.last } };
+    ghost view = { λ r. record {
+      own = r.own;
+      device = r.device;
+      timing = r.timing;
+      count = r.count;
+      slots =
+          r.slots.items;
+      open_messages = r.assembler;
+      last = r.last;
+    } };
 
-    ghost invariant = { λ r. IsStation (record { own = r.own; device = r.device; timing = r.timing; count = r.count; slots = r.slots.items; open_messages = r.assembler; last = r.last }) };
+    ghost invariant = { λ r. IsStation (record {
+      own = r.own;
+      device = r.device;
+      timing = r.timing;
+      count = r.count;
+      slots = r.slots.items;
+      open_messages = r.assembler;
+      last = r.last;
+    }) };
 }
 
 impl Requester {
@@ -366,9 +383,11 @@ impl Requester {
         requires { length message.now ≤ MAX_MESSAGE_BYTES }
         ensures got { result ≡ got_of (response_arrival (is_mine (held_of self.old)) number message.now
             (response_of message.now)) }
-        ensures held { IsHeld (held_of self.new) (record (held_of self.old) { remembered = remembered_after
-            (held_of self.old) (response_arrival (is_mine (held_of self.old)) number message.now
-            (response_of message.now)) }) }
+        ensures held { IsHeld (held_of self.new) (record (held_of self.old) {
+          remembered = remembered_after
+              (held_of self.old) (response_arrival (is_mine (held_of self.old)) number message.now
+              (response_of message.now));
+        }) }
     {
         let response = match read_response(message) {
             Ok(response) => response,
@@ -460,8 +479,12 @@ fn put(
     requires few { length message.now ≤ MAX_MESSAGE_BYTES }
     requires room { number < MAX_REMEMBERED → vec_len slots.old < vec_capacity slots.old }
     requires slot { MAX_REMEMBERED ≤ number → vec_len slots.old ≡ MAX_REMEMBERED }
-    ensures { slots.new.items ≡ put_slot number slots.old.items (record { kind = kind; packets = written_packets
-        route.now message.now; course = begun now }) }
+    ensures { slots.new.items ≡ put_slot number slots.old.items (record {
+      kind = kind;
+      packets = written_packets
+          route.now message.now;
+      course = begun now;
+    }) }
 {
     if number < MAX_REMEMBERED as u64 {
         let packets = split(route, message).unwrap();

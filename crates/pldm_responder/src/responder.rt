@@ -24,12 +24,11 @@ ghost use Rattle.pldm_responder.specs.Wants.{ArrivalWants, PassedWants, WantsMem
 
 use crate::bounds::Bounds;
 use crate::kept_answers::KeptAnswers;
-use crate::outcome::Outcome;
+use crate::outcome::{Outcome, Taken};
 use crate::performing::{perform, refuse};
-use crate::outcome::Taken;
 use mctp_assembly::{Assembler, Fed, Key};
 use mctp_packet::{
-    Body, Eid, MIN_EID, Keep, MAX_EID, MAX_MESSAGE_BYTES, MAX_PACKET_BYTES, Memory, Moment,
+    Body, Eid, Keep, MAX_EID, MAX_MESSAGE_BYTES, MAX_PACKET_BYTES, MIN_EID, Memory, Moment,
     PacketRef, Packets, Reason, Route, TAGS, Tag, read_for, split,
 };
 use pldm_platform::{Platform, ReadingFault};

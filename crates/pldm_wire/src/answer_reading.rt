@@ -6,12 +6,14 @@ ghost use Rattle.pldm_wire.specs.Commands.{kind_of};
 ghost use Rattle.pldm_wire.specs.AnswerReading.{AnswersCommand, answer_of, success_of};
 ghost use Rattle.pldm_wire.specs.declared.answer.Answer.{Answer as AnswerValue};
 
-use thiserror::Error;
-use crate::base::{commands_answer_in, no_data_in, tid_answer_in, types_answer_in, version_answer_in};
+use crate::base::{
+    commands_answer_in, no_data_in, tid_answer_in, types_answer_in, version_answer_in,
+};
 use crate::effecters::{effecter_states_answer_in, values_answer_in};
 use crate::repository::{part_answer_in, repository_answer_in};
 use crate::sensors::{reading_answer_in, sensor_states_answer_in};
 use crate::{Answer, Code, Command, ResponseRef};
+use thiserror::Error;
 
 /// Why a response is no answer to a command.
 #[derive(Clone, Copy, Debug, PartialEq, Eq, Error)]

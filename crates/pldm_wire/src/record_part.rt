@@ -24,7 +24,12 @@ impl Model for RecordPart {
 
     ghost invariant = { λ p. IsPart (part p.flag p.bytes.items p.transfer_crc) };
 
-    ghost inverse = { λ p. record { flag = p.flag; bytes = record { items = p.bytes }; transfer_crc = p.transfer_crc } };
+    ghost inverse = { λ p. record {
+      flag = p.flag;
+      bytes = record { items = p.bytes };
+      transfer_crc =
+          p.transfer_crc;
+    } };
 }
 
 impl RecordPart {

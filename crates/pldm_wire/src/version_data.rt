@@ -1,7 +1,7 @@
 ghost use Rattle.std.specs.Prelude.{◌≡◌, ◌↔◌, IsSome, IfSome, is_some};
 ghost use Rattle.pldm_wire.specs.Versions.{IsVersionData, is_version_data};
 
-use crate::{MIN_VERSION_BYTES, MAX_VERSION_BYTES, VERSION_BYTES};
+use crate::{MAX_VERSION_BYTES, MIN_VERSION_BYTES, VERSION_BYTES};
 use arrayvec::ArrayVec;
 use std::marker::Model;
 

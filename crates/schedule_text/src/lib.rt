@@ -13,4 +13,4 @@ mod words;
 pub use line_fault::{LineFault, LineFaultKind};
 pub use schedule::Schedule;
 pub use step::{Action, RequesterLine, Step};
-pub use word::{MAX_BYTE, MAX_HANDLE, MAX_ID, MAX_TIMEOUT, MAX_COMMAND_WORDS};
+pub use word::{MAX_BYTE, MAX_COMMAND_WORDS, MAX_HANDLE, MAX_ID, MAX_TIMEOUT};
