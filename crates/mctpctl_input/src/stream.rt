@@ -135,7 +135,7 @@ fn run_pieces<T: Run, R: Read, W: Write>(
 }
 
 /// Runs over all that a reader gives.
-fn run_all<T: Run, R: Read, W: Write>(
+fn run_input<T: Run, R: Read, W: Write>(
     alloc: Global,
     run: &mut T,
     reader: &mut Port<R>,
@@ -185,7 +185,7 @@ pub fn run_to_end<T: Run, R: Read, W: Write>(
     ensures read { IsErrOf result EngineFault.Read ↔ (has_failed reader.new ≡ true) }
     ensures write { IsErrOf result EngineFault.Write ↔ (has_failed writer.new ≡ true) }
 {
-    let result = run_all(alloc, run, reader, writer);
+    let result = run_input(alloc, run, reader, writer);
     if reader.failed() || writer.failed() {
         return result;
     }

@@ -3,9 +3,10 @@
 ghost use Rattle.std.specs.Fmt.{decimal};
 ghost use Rattle.std.specs.Prelude.{◌≡◌, ◌++◌, OnOk};
 ghost use Rattle.hex.specs.Hex.{encode_lower};
+ghost use Rattle.mctpctl_texts.specs.ShownLines.{drop_text};
 
 use itoa::Buffer;
-use mctp_packet::Memory;
+use mctp_packet::{Memory, Reason};
 
 /// Adds text.
 pub fn push_text(out: &mut Vec<u8>, text: &str) -> Result<(), Memory>
@@ -36,4 +37,12 @@ pub fn push_hex(out: &mut Vec<u8>, bytes: &[u8]) -> Result<(), Memory>
         Ok(()) => Ok(()),
         Err(_) => unreachable!(),
     }
+}
+
+/// Adds that bytes are dropped, and why.
+pub fn push_drop(out: &mut Vec<u8>, reason: Reason) -> Result<(), Memory>
+    ensures { OnOk result (out.new.items ≡ out.old.items ++ drop_text reason) }
+{
+    push_text(out, "drop ")?;
+    push_text(out, reason.name())
 }

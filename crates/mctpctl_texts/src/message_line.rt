@@ -7,8 +7,7 @@ ghost use Rattle.pldm_wire.specs.CommandReading.{command_of};
 ghost use Rattle.pldm_wire.specs.Requests.{request_of};
 ghost use Rattle.pldm_wire.specs.Responses.{response_of};
 
-use crate::bytes_text::{push_hex, push_number, push_text};
-use crate::packet_line::push_drop;
+use crate::bytes_text::{push_drop, push_hex, push_number, push_text};
 use mctp_packet::{Memory, Reason};
 use pldm_wire::{Kind, RequestRef, read_command, read_request, read_response};
 

@@ -5,7 +5,7 @@ ghost use Rattle.std.specs.Fmt.{decimal};
 ghost use Rattle.mctp_packet.specs.Bits.{bit};
 ghost use Rattle.mctpctl_texts.specs.ShownLines.{completed_text, drop_text, fed_text, packet_line, place_text, route_text, spaced_line};
 
-use crate::bytes_text::{push_number, push_text};
+use crate::bytes_text::{push_drop, push_number, push_text};
 use crate::message_line::push_message_line;
 use mctp_assembly::Fed;
 use mctp_packet::{Memory, PacketRef, Reason, Route};
@@ -93,14 +93,6 @@ fn push_fed(out: &mut Vec<u8>, fed: &Fed) -> Result<(), Memory>
         Fed::Partial => push_text(out, "partial"),
         Fed::Dropped(reason) => push_drop(out, *reason),
     }
-}
-
-/// Adds that bytes are dropped, and why.
-pub fn push_drop(out: &mut Vec<u8>, reason: Reason) -> Result<(), Memory>
-    ensures { OnOk result (out.new.items ≡ out.old.items ++ drop_text reason) }
-{
-    push_text(out, "drop ")?;
-    push_text(out, reason.name())
 }
 
 /// Adds the line of the message that a packet completes, or nothing.

@@ -1,6 +1,6 @@
 -- Where there is no room for a piece, nothing was written.
 use Rattle.mctpctl_input.proofs.PieceRuns.{nothing_written}
-use Rattle.mctpctl_input.proofs.stream.run_all.Goals as goal
+use Rattle.mctpctl_input.proofs.stream.run_input.Goals as goal
 
 pub returns-in_default-clause-at_memory : goal.returns-in_default-clause-at_memory
 returns-in_default-clause-at_memory g c =
