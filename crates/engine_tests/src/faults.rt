@@ -51,3 +51,22 @@ fn tells_each_fault(rt: HostRuntime) -> Result<(), Fail> {
     }
     Ok(())
 }
+
+/// What a kind of refused line prints of itself is its name.
+#[test]
+fn kinds_print_their_names(rt: HostRuntime) -> Result<(), Fail> {
+    let rows = [
+        (LineKind::LongLine, "LongLine"),
+        (LineKind::Words, "Words"),
+        (LineKind::Number, "Number"),
+        (LineKind::BackInTime, "BackInTime"),
+        (LineKind::BadHex, "BadHex"),
+        (LineKind::NoSuchRequester, "NoSuchRequester"),
+        (LineKind::SameRequester, "SameRequester"),
+    ];
+    for (kind, name) in rows {
+        let text = kind.to_string(rt.alloc())?;
+        assert_eq!(rt; text.as_str(), name);
+    }
+    Ok(())
+}

@@ -1,6 +1,6 @@
 //! The engine of `mctpctl answer`, over an input that comes in pieces.
 
-ghost use Rattle.std.specs.Prelude.{◌≡◌, ◌≢◌, ◌≤◌, ◌<◌, ◌+◌, ◌++◌, ◌∷◌, ◌↔◌, [], Ok, Result, Err, IfOk, IfSome, IsErrOf, length, None, true, false};
+ghost use Rattle.std.specs.Prelude.{◌≡◌, ◌≢◌, ◌≤◌, ◌<◌, ◌+◌, ◌++◌, ◌∷◌, ◌↔◌, [], Ok, Result, Err, IfOk, OnOk, IfSome, IsErrOf, length, None, true, false};
 ghost use Rattle.line_words.specs.TextLines.{HasNoFeed};
 ghost use Rattle.mctpctl_engines.specs.DescribedPieces.{description_gives, described_gives, described_count, Begins, Describes};
 ghost use Rattle.mctpctl_engines.specs.AnswerPieces.{past_gives, past_count, nothing_where_cut};
@@ -151,6 +151,8 @@ impl AnswerRun {
         ensures meets { Takes (description_gives held_run self.old.text.items self.old.kept.items) front.now
             (description_gives held_run self.new.text.items self.new.kept.items) [] [] result }
         ensures lines { self.new.lines ≡ self.old.lines }
+        ensures bounded { OnOk result (length self.new.text.items + length self.new.kept.items
+            ≤ MAX_DESCRIPTION + MAX_DIVIDER) }
         ensures read { result ≢ Err EngineFault.Read }
         ensures write { result ≢ Err EngineFault.Write }
     {

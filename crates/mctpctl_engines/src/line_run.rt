@@ -1,6 +1,6 @@
 //! A run over lines, which keeps what has come of a line that has not ended.
 
-ghost use Rattle.std.specs.Prelude.{◌≡◌, ◌≢◌, ◌≤◌, ◌<◌, ◌+◌, ◌++◌, ◌∷◌, ◌↔◌, ℕ, List, [], Result, Err, IsErrOf, length, refl, true, false};
+ghost use Rattle.std.specs.Prelude.{◌≡◌, ◌≢◌, ◌≤◌, ◌<◌, ◌+◌, ◌++◌, ◌∷◌, ◌↔◌, ℕ, List, [], Result, Err, IsErrOf, OnOk, length, refl, true, false};
 ghost use Rattle.line_words.specs.TextLines.{HasNoFeed};
 ghost use Rattle.mctpctl_input.specs.declared.faults.LineKind.{LineKind};
 ghost use Rattle.mctpctl_engines.specs.LinePieces.{RefusesLong, line_gives, AddsLine};
@@ -118,6 +118,7 @@ impl<T: LineTask> LineRun<T> {
             front.now
             (line_gives T.step (self.new.ended + 1) (T.state_of self.new.task) self.new.kept.items) [] [] result }
         ensures counted { self.new.ended ≡ self.old.ended }
+        ensures bounded { OnOk result (length self.new.kept.items ≤ MAX_CAPTURE_LINE) }
         ensures read { result ≢ Err EngineFault.Read }
         ensures write { result ≢ Err EngineFault.Write }
     {
@@ -168,6 +169,7 @@ impl<T: LineTask> Run for LineRun<T> {
             (line_gives T.step (self.new.ended + 1) (T.state_of self.new.task) self.new.kept.items) out.old.items
             out.new.items result }
         ensures counted { self.new.ended ≤ self.old.ended + length piece.now }
+        ensures bounded { OnOk result (length self.new.kept.items ≤ MAX_CAPTURE_LINE) }
         ensures read { result ≢ Err EngineFault.Read }
         ensures write { result ≢ Err EngineFault.Write }
     {
