@@ -1,0 +1,5 @@
+pub mod Commands
+pub mod Messages
+pub mod Packets
+pub mod States
+pub mod Written
