@@ -1,3 +1,5 @@
+pub mod Answers
+pub mod AnswersToRequests
 pub mod Commands
 pub mod Messages
 pub mod Packets

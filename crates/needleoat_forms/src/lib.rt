@@ -2,6 +2,9 @@
 //! cross to C, and the calls that fill and read them. No call takes memory.
 #![tactic(auto)]
 
+mod answer;
+mod answer_reading;
+mod answer_writing;
 mod checksum;
 mod command;
 mod command_reading;
@@ -12,6 +15,9 @@ mod packet;
 mod room;
 mod states;
 
+pub use answer::AnswerFields;
+pub use answer_reading::{answer_check, answer_read};
+pub use answer_writing::answer_write;
 pub use checksum::record_checksum;
 pub use command::CommandFields;
 pub use command_reading::{CommandReading, command_read};

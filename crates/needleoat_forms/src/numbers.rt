@@ -21,7 +21,7 @@ pub(crate) fn code_of(size: Size) -> u8
 }
 
 /// The data size of this number on the wire, where there is one.
-fn size_of(code: u8) -> Option<Size>
+pub(crate) fn size_of(code: u8) -> Option<Size>
     ensures { result ≡ size_of code }
 {
     match code {
