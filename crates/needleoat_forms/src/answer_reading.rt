@@ -36,7 +36,10 @@ pub fn answer_check(request: &[u8], response: &[u8]) -> u8
     }
 }
 
+// Inlined, so that `answer_check` makes no answer.
+
 /// The response and the answer to the request that it is, or the number that says why it is none.
+#[inline(always)]
 fn answer_in<'a>(request: &[u8], response: &'a [u8]) -> Result<(ResponseRef<'a>, Answer), u8>
     ensures found { IfOk result (λ r. answer_between (request_of request.now) (response_of response.now) ≡ Ok (answered r.0 r.1)) }
     ensures kind { IfOk result (λ r. IsAnswerTo r.0.kind r.1) }
@@ -57,6 +60,7 @@ fn answer_in<'a>(request: &[u8], response: &'a [u8]) -> Result<(ResponseRef<'a>,
 
 /// The answer that a response is to a command with this instance ID, or the number that says why it
 /// is none.
+#[inline(always)]
 fn answer_to(id: u8, command: &Command, response: &ResponseRef<'_>) -> Result<Answer, u8>
     ensures found { IfOk result (λ answer. answer_to id command.now response.now ≡ Ok (answered response.now answer)) }
     ensures kind { IfOk result (λ answer. IsAnswerTo response.now.kind answer) }

@@ -1,10 +1,12 @@
 ghost use Rattle.std.specs.Prelude.{◌≡◌, ◌+◌, ◌-◌, ◌/◌, ◌<◌, ◌≤◌, Some, length};
 ghost use Rattle.mctp_packet.specs.Ids.{IsEid};
+ghost use Rattle.mctp_packet.specs.Packets.{written};
 ghost use Rattle.mctp_packet.specs.Pieces.{piece_count};
 ghost use Rattle.mctp_packet.specs.Reading.{reading};
 ghost use Rattle.needleoat_forms.specs.Packets.{IsRoute, ReportsFields, ReportsPacket, packet_bytes};
 ghost use Rattle.needleoat_forms.specs.Written.{HasFront, IsUntouched};
 
+use crate::room::put_front;
 use mctp_packet::{
     Eid, MOST_MESSAGE_BYTES, MOST_PACKET_BYTES, PacketRef, Route, Tag, UNIT, packet_at, read_for,
     write,
@@ -139,7 +141,18 @@ pub fn packet_write(
         tag,
     };
     match packet_at(&route, message, index) {
-        Some(packet) => write(&packet, out),
+        Some(packet) => put_packet(&packet, out),
         None => 0,
     }
+}
+
+/// Writes a packet to the front of `out`, and returns its length in bytes. The bytes go through an
+/// array of their own: a copy from the message to `out` would be a `memmove`, which firmware may not
+/// have.
+fn put_packet(packet: &PacketRef<'_>, out: &mut [u8; MOST_PACKET_BYTES]) -> usize
+    ensures { HasFront (written packet.now) result out.old out.new }
+{
+    let mut bytes = [0; MOST_PACKET_BYTES];
+    let count = write(packet, &mut bytes);
+    put_front(out, &bytes[..count])
 }
