@@ -14,8 +14,8 @@ use pldm_wire::{
 };
 
 /// A response's instance ID, the command that it answers, its completion code and the answer's
-/// fields (DSP0240, DSP0248). Fields that the answer does not have are 0 after reading and not
-/// looked at in writing; an answer whose code is not 0 has none.
+/// fields (DSP0240, DSP0248). Those that the answer does not have mean nothing after reading and are
+/// not looked at in writing; an answer whose code is not 0 has none.
 #[repr(C)]
 #[derive(Clone, Copy)]
 pub struct AnswerFields {
@@ -132,65 +132,50 @@ impl AnswerFields {
         bytes: [0; MOST_PART_BYTES],
     };
 
-    /// The instance ID, the command of this kind, and the answer to it with its fields.
+    /// Puts an answer to a command of this kind, with an instance ID, in the place of what is there.
     #[tactic(auto, unfolding(crate::specs::Answers::answer_in))]
-    pub fn of(instance_id: u8, kind: Kind, answer: &Answer) -> AnswerFields
+    pub fn set(&mut self, instance_id: u8, kind: Kind, answer: &Answer)
         requires { IsAnswerTo kind answer.now }
-        ensures instance_id { result.instance_id ≡ instance_id }
-        ensures kind { kind_in result ≡ kind }
-        ensures answer { answer_in result ≡ Some answer.now }
+        ensures instance_id { self.new.instance_id ≡ instance_id }
+        ensures kind { kind_in self.new ≡ kind }
+        ensures answer { answer_in self.new ≡ Some answer.now }
     {
-        let base = AnswerFields {
-            instance_id,
-            pldm_type: BASE,
-            ..AnswerFields::NONE
-        };
-        let platform = AnswerFields {
-            instance_id,
-            pldm_type: PLATFORM,
-            ..AnswerFields::NONE
-        };
+        *self = AnswerFields::NONE;
+        self.instance_id = instance_id;
         match answer {
-            Answer::Refused(code) => AnswerFields {
-                instance_id,
-                pldm_type: kind.pldm_type,
-                command: kind.command,
-                code: code.get(),
-                ..AnswerFields::NONE
-            },
-            Answer::SetTid => AnswerFields {
-                command: SET_TID,
-                ..base
-            },
-            Answer::GetTid { tid } => AnswerFields {
-                command: GET_TID,
-                tid: *tid,
-                ..base
-            },
+            Answer::Refused(code) => {
+                self.pldm_type = kind.pldm_type;
+                self.command = kind.command;
+                self.code = code.get();
+            }
+            Answer::SetTid => {
+                self.pldm_type = BASE;
+                self.command = SET_TID;
+            }
+            Answer::GetTid { tid } => {
+                self.pldm_type = BASE;
+                self.command = GET_TID;
+                self.tid = *tid;
+            }
             Answer::GetPldmVersion {
                 next_data_transfer_handle,
                 versions,
             } => {
-                let mut bytes = AnswerFields::NONE.bytes;
-                let length = put_front(&mut bytes, versions.as_slice());
-                AnswerFields {
-                    command: GET_PLDM_VERSION,
-                    next_data_transfer_handle: *next_data_transfer_handle,
-                    length,
-                    bytes,
-                    ..base
-                }
+                self.pldm_type = BASE;
+                self.command = GET_PLDM_VERSION;
+                self.next_data_transfer_handle = *next_data_transfer_handle;
+                self.length = put_front(&mut self.bytes, versions.as_slice());
             }
-            Answer::GetPldmTypes { types } => AnswerFields {
-                command: GET_PLDM_TYPES,
-                types: *types,
-                ..base
-            },
-            Answer::GetPldmCommands { commands } => AnswerFields {
-                command: GET_PLDM_COMMANDS,
-                commands: *commands,
-                ..base
-            },
+            Answer::GetPldmTypes { types } => {
+                self.pldm_type = BASE;
+                self.command = GET_PLDM_TYPES;
+                self.types = *types;
+            }
+            Answer::GetPldmCommands { commands } => {
+                self.pldm_type = BASE;
+                self.command = GET_PLDM_COMMANDS;
+                self.commands = *commands;
+            }
             Answer::GetSensorReading {
                 operational,
                 sensor_event_message_enable,
@@ -198,55 +183,47 @@ impl AnswerFields {
                 previous,
                 event,
                 reading,
-            } => AnswerFields {
-                command: GET_SENSOR_READING,
-                size: code_of(reading.size()),
-                operational: *operational,
-                sensor_event_message_enable: *sensor_event_message_enable,
-                present: *present,
-                previous: *previous,
-                event: *event,
-                value: reading.value(),
-                ..platform
-            },
-            Answer::GetStateSensorReadings { fields } => {
-                let mut sensor_states = AnswerFields::NONE.sensor_states;
-                put_sensor_states(&mut sensor_states, fields);
-                AnswerFields {
-                    command: GET_STATE_SENSOR_READINGS,
-                    count: fields.as_slice().len() as u8,
-                    sensor_states,
-                    ..platform
-                }
+            } => {
+                self.pldm_type = PLATFORM;
+                self.command = GET_SENSOR_READING;
+                self.size = code_of(reading.size());
+                self.operational = *operational;
+                self.sensor_event_message_enable = *sensor_event_message_enable;
+                self.present = *present;
+                self.previous = *previous;
+                self.event = *event;
+                self.value = reading.value();
             }
-            Answer::SetNumericEffecterValue => AnswerFields {
-                command: SET_NUMERIC_EFFECTER_VALUE,
-                ..platform
-            },
+            Answer::GetStateSensorReadings { fields } => {
+                self.pldm_type = PLATFORM;
+                self.command = GET_STATE_SENSOR_READINGS;
+                self.count = fields.as_slice().len() as u8;
+                put_sensor_states(&mut self.sensor_states, fields);
+            }
+            Answer::SetNumericEffecterValue => {
+                self.pldm_type = PLATFORM;
+                self.command = SET_NUMERIC_EFFECTER_VALUE;
+            }
             Answer::GetNumericEffecterValue {
                 operational,
                 values,
-            } => AnswerFields {
-                command: GET_NUMERIC_EFFECTER_VALUE,
-                size: code_of(values.present().size()),
-                operational: *operational,
-                value: values.present().value(),
-                pending_value: values.pending().value(),
-                ..platform
-            },
-            Answer::SetStateEffecterStates => AnswerFields {
-                command: SET_STATE_EFFECTER_STATES,
-                ..platform
-            },
+            } => {
+                self.pldm_type = PLATFORM;
+                self.command = GET_NUMERIC_EFFECTER_VALUE;
+                self.size = code_of(values.present().size());
+                self.operational = *operational;
+                self.value = values.present().value();
+                self.pending_value = values.pending().value();
+            }
+            Answer::SetStateEffecterStates => {
+                self.pldm_type = PLATFORM;
+                self.command = SET_STATE_EFFECTER_STATES;
+            }
             Answer::GetStateEffecterStates { fields } => {
-                let mut effecter_states = AnswerFields::NONE.effecter_states;
-                put_effecter_states(&mut effecter_states, fields);
-                AnswerFields {
-                    command: GET_STATE_EFFECTER_STATES,
-                    count: fields.as_slice().len() as u8,
-                    effecter_states,
-                    ..platform
-                }
+                self.pldm_type = PLATFORM;
+                self.command = GET_STATE_EFFECTER_STATES;
+                self.count = fields.as_slice().len() as u8;
+                put_effecter_states(&mut self.effecter_states, fields);
             }
             Answer::GetPdrRepositoryInfo {
                 state,
@@ -256,34 +233,29 @@ impl AnswerFields {
                 repository_size,
                 largest_record_size,
                 timeout,
-            } => AnswerFields {
-                command: GET_PDR_REPOSITORY_INFO,
-                repository_state: *state,
-                update_time: *update_time,
-                oem_update_time: *oem_update_time,
-                record_count: *record_count,
-                repository_size: *repository_size,
-                largest_record_size: *largest_record_size,
-                timeout: *timeout,
-                ..platform
-            },
+            } => {
+                self.pldm_type = PLATFORM;
+                self.command = GET_PDR_REPOSITORY_INFO;
+                self.repository_state = *state;
+                self.update_time = *update_time;
+                self.oem_update_time = *oem_update_time;
+                self.record_count = *record_count;
+                self.repository_size = *repository_size;
+                self.largest_record_size = *largest_record_size;
+                self.timeout = *timeout;
+            }
             Answer::GetPdr {
                 next_record_handle,
                 next_data_transfer_handle,
                 part,
             } => {
-                let mut bytes = AnswerFields::NONE.bytes;
-                let length = put_front(&mut bytes, part.as_slice());
-                AnswerFields {
-                    command: GET_PDR,
-                    next_record_handle: *next_record_handle,
-                    next_data_transfer_handle: *next_data_transfer_handle,
-                    transfer_flag: part.flag().number(),
-                    transfer_crc: part.transfer_crc().unwrap_or(0),
-                    length,
-                    bytes,
-                    ..platform
-                }
+                self.pldm_type = PLATFORM;
+                self.command = GET_PDR;
+                self.length = put_front(&mut self.bytes, part.as_slice());
+                self.next_record_handle = *next_record_handle;
+                self.next_data_transfer_handle = *next_data_transfer_handle;
+                self.transfer_flag = part.flag().number();
+                self.transfer_crc = part.transfer_crc().unwrap_or(0);
             }
         }
     }

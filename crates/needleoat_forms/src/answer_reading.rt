@@ -1,13 +1,12 @@
-ghost use Rattle.std.specs.Prelude.{◌≡◌, Ok, Err, IfErr, IfOk};
-ghost use Rattle.pldm_wire.specs.Answers.{IsAnswerTo};
+ghost use Rattle.std.specs.Prelude.{◌≡◌, Err, IfErr, IfOk};
+ghost use Rattle.pldm_wire.specs.AnswerReading.{answer_of};
+ghost use Rattle.pldm_wire.specs.Commands.{kind_of};
 ghost use Rattle.pldm_wire.specs.Requests.{request_of};
 ghost use Rattle.pldm_wire.specs.Responses.{response_of};
-ghost use Rattle.needleoat_forms.specs.AnswersToRequests.{IsAnswerRead, answer_between, answer_to, answered, number_of_outcome};
+ghost use Rattle.needleoat_forms.specs.AnswersToRequests.{IsAnswerRead, answer_between, answered_or_fault, number_of_outcome};
 
 use crate::AnswerFields;
-use pldm_wire::{
-    Answer, Command, ResponseRef, read_answer, read_command, read_request, read_response,
-};
+use pldm_wire::{Command, ResponseRef, read_answer, read_command, read_request, read_response};
 
 /// Reads a response as the answer to a request, and its fields into `fields` (DSP0240, DSP0248).
 /// Returns 0 where it is one. Otherwise it leaves `fields` as it was and returns the first of these
@@ -17,12 +16,16 @@ use pldm_wire::{
 pub fn answer_read(request: &[u8], response: &[u8], fields: &mut AnswerFields) -> u8
     ensures { IsAnswerRead (answer_between (request_of request.now) (response_of response.now)) result fields.old fields.new }
 {
-    match answer_in(request, response) {
-        Ok((response, answer)) => {
-            *fields = AnswerFields::of(response.id(), response.kind(), &answer);
+    let (command, response) = match messages_in(request, response) {
+        Ok(messages) => messages,
+        Err(number) => return number,
+    };
+    match read_answer(&command, &response) {
+        Ok(answer) => {
+            fields.set(response.id(), response.kind(), &answer);
             0
         }
-        Err(number) => number,
+        Err(fault) => 4 + fault.number(),
     }
 }
 
@@ -30,19 +33,21 @@ pub fn answer_read(request: &[u8], response: &[u8], fields: &mut AnswerFields) -
 pub fn answer_check(request: &[u8], response: &[u8]) -> u8
     ensures { result ≡ number_of_outcome (answer_between (request_of request.now) (response_of response.now)) }
 {
-    match answer_in(request, response) {
+    let (command, response) = match messages_in(request, response) {
+        Ok(messages) => messages,
+        Err(number) => return number,
+    };
+    match read_answer(&command, &response) {
         Ok(_) => 0,
-        Err(number) => number,
+        Err(fault) => 4 + fault.number(),
     }
 }
 
-// Inlined, so that `answer_check` makes no answer.
-
-/// The response and the answer to the request that it is, or the number that says why it is none.
-#[inline(always)]
-fn answer_in<'a>(request: &[u8], response: &'a [u8]) -> Result<(ResponseRef<'a>, Answer), u8>
-    ensures found { IfOk result (λ r. answer_between (request_of request.now) (response_of response.now) ≡ Ok (answered r.0 r.1)) }
-    ensures kind { IfOk result (λ r. IsAnswerTo r.0.kind r.1) }
+/// The command of a request and a response with its instance ID, or the number that says why there
+/// is none.
+fn messages_in<'a>(request: &[u8], response: &'a [u8]) -> Result<(Command, ResponseRef<'a>), u8>
+    ensures found { IfOk result (λ r. answer_between (request_of request.now) (response_of response.now) ≡ answered_or_fault r.1
+        (answer_of (kind_of r.0) r.1.kind r.1.code r.1.rest)) }
     ensures none { IfErr result (λ number. answer_between (request_of request.now) (response_of response.now) ≡ Err number) }
 {
     let Ok(request) = read_request(request) else {
@@ -54,23 +59,8 @@ fn answer_in<'a>(request: &[u8], response: &'a [u8]) -> Result<(ResponseRef<'a>,
     let Ok(response) = read_response(response) else {
         return Err(3);
     };
-    let answer = answer_to(request.id(), &command, &response)?;
-    Ok((response, answer))
-}
-
-/// The answer that a response is to a command with this instance ID, or the number that says why it
-/// is none.
-#[inline(always)]
-fn answer_to(id: u8, command: &Command, response: &ResponseRef<'_>) -> Result<Answer, u8>
-    ensures found { IfOk result (λ answer. answer_to id command.now response.now ≡ Ok (answered response.now answer)) }
-    ensures kind { IfOk result (λ answer. IsAnswerTo response.now.kind answer) }
-    ensures none { IfErr result (λ number. answer_to id command.now response.now ≡ Err number) }
-{
-    if response.id() != id {
+    if response.id() != request.id() {
         return Err(4);
     }
-    match read_answer(command, response) {
-        Ok(answer) => Ok(answer),
-        Err(fault) => Err(4 + fault.number()),
-    }
+    Ok((command, response))
 }

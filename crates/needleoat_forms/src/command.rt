@@ -10,8 +10,8 @@ use pldm_wire::{
     SET_STATE_EFFECTER_STATES, SET_TID, VERSION_BYTES,
 };
 
-/// A request's instance ID and its command with the command's fields (DSP0240, DSP0248). Fields that
-/// the command does not have are 0 after reading and not looked at in writing.
+/// A request's instance ID and its command with the command's fields (DSP0240, DSP0248). Those that
+/// the command does not have mean nothing after reading and are not looked at in writing.
 #[repr(C)]
 #[derive(Clone, Copy)]
 pub struct CommandFields {
@@ -80,112 +80,100 @@ impl CommandFields {
         }; MOST_STATES],
     };
 
-    /// The instance ID, the command and its fields.
+    /// Puts a command with an instance ID in the place of what is there.
     #[tactic(auto, unfolding(crate::specs::Commands::command_in))]
-    pub fn of(instance_id: u8, command: &Command) -> CommandFields
-        ensures instance_id { result.instance_id ≡ instance_id }
-        ensures command { command_in result ≡ Some command.now }
+    pub fn set(&mut self, instance_id: u8, command: &Command)
+        ensures instance_id { self.new.instance_id ≡ instance_id }
+        ensures command { command_in self.new ≡ Some command.now }
     {
-        let base = CommandFields {
-            instance_id,
-            pldm_type: BASE,
-            ..CommandFields::NONE
-        };
-        let platform = CommandFields {
-            instance_id,
-            pldm_type: PLATFORM,
-            ..CommandFields::NONE
-        };
+        *self = CommandFields::NONE;
+        self.instance_id = instance_id;
         match command {
-            Command::SetTid { tid } => CommandFields {
-                command: SET_TID,
-                tid: *tid,
-                ..base
-            },
-            Command::GetTid => CommandFields {
-                command: GET_TID,
-                ..base
-            },
+            Command::SetTid { tid } => {
+                self.pldm_type = BASE;
+                self.command = SET_TID;
+                self.tid = *tid;
+            }
+            Command::GetTid => {
+                self.pldm_type = BASE;
+                self.command = GET_TID;
+            }
             Command::GetPldmVersion {
                 data_transfer_handle,
                 transfer_operation_flag,
                 pldm_type,
-            } => CommandFields {
-                command: GET_PLDM_VERSION,
-                data_transfer_handle: *data_transfer_handle,
-                transfer_operation_flag: *transfer_operation_flag,
-                asked_type: *pldm_type,
-                ..base
-            },
-            Command::GetPldmTypes => CommandFields {
-                command: GET_PLDM_TYPES,
-                ..base
-            },
-            Command::GetPldmCommands { pldm_type, version } => CommandFields {
-                command: GET_PLDM_COMMANDS,
-                asked_type: *pldm_type,
-                version: *version,
-                ..base
-            },
-            Command::GetSensorReading { sensor, rearm } => CommandFields {
-                command: GET_SENSOR_READING,
-                sensor: *sensor,
-                rearm: *rearm,
-                ..platform
-            },
-            Command::GetStateSensorReadings { sensor, rearm } => CommandFields {
-                command: GET_STATE_SENSOR_READINGS,
-                sensor: *sensor,
-                rearm: *rearm,
-                ..platform
-            },
-            Command::SetNumericEffecterValue { effecter, value } => CommandFields {
-                command: SET_NUMERIC_EFFECTER_VALUE,
-                effecter: *effecter,
-                size: code_of(value.size()),
-                value: value.value(),
-                ..platform
-            },
-            Command::GetNumericEffecterValue { effecter } => CommandFields {
-                command: GET_NUMERIC_EFFECTER_VALUE,
-                effecter: *effecter,
-                ..platform
-            },
-            Command::SetStateEffecterStates { effecter, fields } => {
-                let mut sets = CommandFields::NONE.sets;
-                put_sets(&mut sets, fields);
-                CommandFields {
-                    command: SET_STATE_EFFECTER_STATES,
-                    effecter: *effecter,
-                    count: fields.as_slice().len() as u8,
-                    sets,
-                    ..platform
-                }
+            } => {
+                self.pldm_type = BASE;
+                self.command = GET_PLDM_VERSION;
+                self.data_transfer_handle = *data_transfer_handle;
+                self.transfer_operation_flag = *transfer_operation_flag;
+                self.asked_type = *pldm_type;
             }
-            Command::GetStateEffecterStates { effecter } => CommandFields {
-                command: GET_STATE_EFFECTER_STATES,
-                effecter: *effecter,
-                ..platform
-            },
-            Command::GetPdrRepositoryInfo => CommandFields {
-                command: GET_PDR_REPOSITORY_INFO,
-                ..platform
-            },
+            Command::GetPldmTypes => {
+                self.pldm_type = BASE;
+                self.command = GET_PLDM_TYPES;
+            }
+            Command::GetPldmCommands { pldm_type, version } => {
+                self.pldm_type = BASE;
+                self.command = GET_PLDM_COMMANDS;
+                self.asked_type = *pldm_type;
+                self.version = *version;
+            }
+            Command::GetSensorReading { sensor, rearm } => {
+                self.pldm_type = PLATFORM;
+                self.command = GET_SENSOR_READING;
+                self.sensor = *sensor;
+                self.rearm = *rearm;
+            }
+            Command::GetStateSensorReadings { sensor, rearm } => {
+                self.pldm_type = PLATFORM;
+                self.command = GET_STATE_SENSOR_READINGS;
+                self.sensor = *sensor;
+                self.rearm = *rearm;
+            }
+            Command::SetNumericEffecterValue { effecter, value } => {
+                self.pldm_type = PLATFORM;
+                self.command = SET_NUMERIC_EFFECTER_VALUE;
+                self.effecter = *effecter;
+                self.size = code_of(value.size());
+                self.value = value.value();
+            }
+            Command::GetNumericEffecterValue { effecter } => {
+                self.pldm_type = PLATFORM;
+                self.command = GET_NUMERIC_EFFECTER_VALUE;
+                self.effecter = *effecter;
+            }
+            Command::SetStateEffecterStates { effecter, fields } => {
+                self.pldm_type = PLATFORM;
+                self.command = SET_STATE_EFFECTER_STATES;
+                self.effecter = *effecter;
+                self.count = fields.as_slice().len() as u8;
+                put_sets(&mut self.sets, fields);
+            }
+            Command::GetStateEffecterStates { effecter } => {
+                self.pldm_type = PLATFORM;
+                self.command = GET_STATE_EFFECTER_STATES;
+                self.effecter = *effecter;
+            }
+            Command::GetPdrRepositoryInfo => {
+                self.pldm_type = PLATFORM;
+                self.command = GET_PDR_REPOSITORY_INFO;
+            }
             Command::GetPdr {
                 record_handle,
                 data_transfer_handle,
                 transfer_operation_flag,
                 request_count,
                 record_change_number,
-            } => CommandFields {
-                command: GET_PDR,
-                record_handle: *record_handle,
-                data_transfer_handle: *data_transfer_handle,
-                transfer_operation_flag: *transfer_operation_flag,
-                request_count: *request_count,
-                record_change_number: *record_change_number,
-                ..platform
-            },
+            } => {
+                self.pldm_type = PLATFORM;
+                self.command = GET_PDR;
+                self.record_handle = *record_handle;
+                self.data_transfer_handle = *data_transfer_handle;
+                self.transfer_operation_flag = *transfer_operation_flag;
+                self.request_count = *request_count;
+                self.record_change_number = *record_change_number;
+            }
         }
     }
 }

@@ -31,7 +31,7 @@ pub fn command_read(message: &[u8], fields: &mut CommandFields) -> CommandReadin
     };
     match read_command(&request) {
         Ok(command) => {
-            *fields = CommandFields::of(request.id(), &command);
+            fields.set(request.id(), &command);
             CommandReading { reason: 0, code: 0 }
         }
         Err(code) => CommandReading {
