@@ -1,9 +1,11 @@
 /*
- * Needleoat for C: MCTP packets (DSP0236) and PLDM messages (DSP0240, DSP0248) read and written.
+ * Needleoat for C: MCTP packets (DSP0236) and PLDM messages (DSP0240, DSP0248) read and written, and
+ * the requesting end.
  *
- * Link with libneedleoat_wire_c.a. It takes no memory, keeps nothing between two calls, and needs
- * memcpy and memset alone. Each call returns, whatever the bytes are. docs/PROTOCOL.md has the
- * protocol whole, docs/C.md says what is proved of these calls and how to build the library.
+ * libneedleoat_wire_c.a has what stands before the section on the requesting end. It takes no memory,
+ * keeps nothing between two calls, and needs memcpy and memset alone. libneedleoat_c.a has that section.
+ * Each call returns, whatever the bytes are. docs/PROTOCOL.md has the protocol whole, docs/C.md says
+ * what is proved of these calls and how to build the libraries.
  *
  * The caller has to see to the following; nothing checks it.
  *
@@ -283,6 +285,117 @@ size_t needleoat_answer_write(const struct needleoat_answer *fields, uint8_t out
  */
 uint8_t needleoat_crc8(const uint8_t *bytes, size_t length);
 
+/* ---- The requesting end: libneedleoat_c.a ----
+ *
+ * A requester stands at one endpoint and asks one device. It gives out instance IDs and tags, says which
+ * requests are to be sent again or are given up, and finds the answer to a request among packets.
+ *
+ * It needs memory: link the three functions at the end of this section, or examples/c/heap.c, which has
+ * them over malloc. What the caller has to see to, beside what the head of this file says:
+ *
+ *   - A handle begins as NEEDLEOAT_REQUESTER_NONE. The caller reads and writes no field of it and uses
+ *     no copy of it; it may stand anywhere, and may be moved between two calls.
+ *   - One call at a time with one handle. No call from a signal handler, nor in the child of a fork of a
+ *     process with threads.
+ *   - Moments are milliseconds of one clock that never goes back, at most 4,000,000,000,000,000. A call
+ *     with a moment before that of an earlier call is refused.
+ *   - A handle that is forgotten leaks: end with needleoat_requester_free.
+ */
+struct needleoat_requester {
+    void *at;
+    bool is_live;
+};
+#define NEEDLEOAT_REQUESTER_NONE {0, false}
+
+/* Why a call was refused. What is behind the handle is then as before. */
+enum needleoat_refusal {
+    NEEDLEOAT_NO_MEMORY = 1,     /* a growth was refused; the same call may be made again */
+    NEEDLEOAT_BAD_MOMENT = 2,    /* the moment is past the last one, or before that of an earlier call */
+    NEEDLEOAT_NOTHING_THERE = 3, /* there is nothing behind the handle */
+    NEEDLEOAT_OUT_OF_RANGE = 6,  /* a number is out of its range */
+    NEEDLEOAT_ALREADY_THERE = 7, /* there is something behind the handle */
+    NEEDLEOAT_TAG_IN_USE = 11,   /* the request 8 before this one is still open */
+    NEEDLEOAT_ID_IN_USE = 12,    /* the request 32 before was opened less than twice keep_ms ago */
+    NEEDLEOAT_NOT_A_COMMAND = 13 /* the bytes are no request that carries a command */
+};
+
+/*
+ * Makes a requester: 0, or enum needleoat_refusal: 7, else 6 where `own` or `device` is not 8 to 254 or
+ * both are the same, `keep_ms` is not 1 to 60,000, `timeout_ms` is 0, `tries` is not 1 to 8, or `tries`
+ * times `timeout_ms` is above `keep_ms`; else 1. `keep_ms` is the keeping time of the device.
+ */
+uint8_t needleoat_requester_new(uint8_t own, uint8_t device, uint32_t keep_ms, uint32_t timeout_ms, uint8_t tries,
+                                struct needleoat_requester *requester);
+
+/* A request that was opened. Where `refusal` is not 0, the other fields have no meaning. */
+struct needleoat_opening {
+    uint8_t refusal;     /* 0, or the first of 3, 2, 13, 11, 12 and 1 of enum needleoat_refusal */
+    uint8_t instance_id; /* 0 to 31 */
+    uint8_t tag;         /* 0 to 7 */
+    uint64_t number;     /* counted from 0 over all requests of this requester */
+};
+
+/*
+ * Opens a request for the command of a request message, as needleoat_command_write writes it; its
+ * instance ID is not looked at. Its packet is to be sent at that moment. Only the first 32 want memory.
+ */
+struct needleoat_opening needleoat_requester_open(struct needleoat_requester *requester, uint64_t now_ms,
+                                                  const uint8_t *request, size_t length);
+
+/* The requests that are due, by their numbers. */
+struct needleoat_due {
+    size_t again_count;    /* at most 8 */
+    size_t given_up_count; /* at most 8 */
+    uint64_t again[8];     /* those to be sent again now: the first of these */
+    uint64_t given_up[8];  /* those that were given up: the first of these */
+};
+
+/* Lists the requests that are due at a moment: 0, or 3 or 2 of enum needleoat_refusal. */
+uint8_t needleoat_requester_tick(struct needleoat_requester *requester, uint64_t now_ms, struct needleoat_due *due);
+
+/* What becomes of a packet. */
+struct needleoat_receiving {
+    uint8_t kind;    /* 0 refused, 1 dropped, 2 partial, 3 the answer to a request */
+    uint8_t reason;  /* of 0: 3, 2 or 1 of enum needleoat_refusal; of 1: why, 1 to 20 but 16; else 0 */
+    uint64_t number; /* of 3: the request that was answered */
+};
+
+/* Receives the bytes of a packet that came at a moment. */
+struct needleoat_receiving needleoat_requester_receive(struct needleoat_requester *requester, uint64_t now_ms,
+                                                       const uint8_t *packet, size_t length);
+
+/*
+ * Writes the packet of a request to the front of `out`, and returns its length in bytes; 0, with `out` as
+ * it was, where the request is not among the last 32. The packet is the same each time that it is sent.
+ */
+size_t needleoat_requester_packet(struct needleoat_requester *requester, uint64_t number,
+                                  uint8_t out[NEEDLEOAT_PACKET_BYTES]);
+
+/* How a request stands. */
+struct needleoat_status {
+    uint8_t kind;  /* 0 not among the last 32, 1 open, 2 answered, 3 given up */
+    size_t length; /* of 2: the length of the response; else 0 */
+};
+
+/* Reports how a request stands, and writes the response that answered it to the front of `message`. */
+struct needleoat_status needleoat_requester_status(struct needleoat_requester *requester, uint64_t number,
+                                                   uint8_t message[NEEDLEOAT_MESSAGE_BYTES]);
+
+/* Frees the requester, where there is one. The handle is then as NEEDLEOAT_REQUESTER_NONE. */
+void needleoat_requester_free(struct needleoat_requester *requester);
+
+/*
+ * The memory that the library asks for. `size` may be 0. A block is aligned to `align`, a power of two up
+ * to 16. Where `is_there` is false, `at` points to some byte all the same, and nothing else changed.
+ */
+struct needleoat_block {
+    bool is_there;
+    uint8_t *at;
+};
+struct needleoat_block rattle_alloc(size_t size, size_t align);
+struct needleoat_block rattle_realloc(uint8_t *block, size_t kept, size_t size, size_t align);
+void rattle_dealloc(uint8_t *block);
+
 /*
  * The structs lie in memory as the library has them, on x86-64 and on aarch64 alike: where one of these
  * facts fails, the library is not for the target.
@@ -371,6 +484,29 @@ NEEDLEOAT_AT(needleoat_answer, commands, 128);
 NEEDLEOAT_AT(needleoat_answer, update_time, 160);
 NEEDLEOAT_AT(needleoat_answer, oem_update_time, 173);
 NEEDLEOAT_AT(needleoat_answer, bytes, 186);
+NEEDLEOAT_ASSERT(sizeof(struct needleoat_requester) == 16);
+NEEDLEOAT_AT(needleoat_requester, at, 0);
+NEEDLEOAT_AT(needleoat_requester, is_live, 8);
+NEEDLEOAT_ASSERT(sizeof(struct needleoat_opening) == 16);
+NEEDLEOAT_AT(needleoat_opening, refusal, 0);
+NEEDLEOAT_AT(needleoat_opening, instance_id, 1);
+NEEDLEOAT_AT(needleoat_opening, tag, 2);
+NEEDLEOAT_AT(needleoat_opening, number, 8);
+NEEDLEOAT_ASSERT(sizeof(struct needleoat_due) == 144);
+NEEDLEOAT_AT(needleoat_due, again_count, 0);
+NEEDLEOAT_AT(needleoat_due, given_up_count, 8);
+NEEDLEOAT_AT(needleoat_due, again, 16);
+NEEDLEOAT_AT(needleoat_due, given_up, 80);
+NEEDLEOAT_ASSERT(sizeof(struct needleoat_receiving) == 16);
+NEEDLEOAT_AT(needleoat_receiving, kind, 0);
+NEEDLEOAT_AT(needleoat_receiving, reason, 1);
+NEEDLEOAT_AT(needleoat_receiving, number, 8);
+NEEDLEOAT_ASSERT(sizeof(struct needleoat_status) == 16);
+NEEDLEOAT_AT(needleoat_status, kind, 0);
+NEEDLEOAT_AT(needleoat_status, length, 8);
+NEEDLEOAT_ASSERT(sizeof(struct needleoat_block) == 16);
+NEEDLEOAT_AT(needleoat_block, is_there, 0);
+NEEDLEOAT_AT(needleoat_block, at, 8);
 #undef NEEDLEOAT_AT
 #undef NEEDLEOAT_ASSERT
 

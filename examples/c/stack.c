@@ -1,7 +1,7 @@
 /*
  * Prints how many bytes of stack each call took, and ends with status 1 where one took more than 4,096. Each call runs on
  * a stack of its own, which is filled with one byte before and looked through after. So this is what these calls took,
- * over inputs that go the longest way, and no bound.
+ * over inputs that go a long way, and no bound.
  */
 #define _XOPEN_SOURCE 700
 #include "needleoat.h"
@@ -15,7 +15,6 @@ static _Alignas(16) uint8_t stack[1 << 16];
 static ucontext_t back, call;
 
 static size_t taken_by(void (*function)(void)) {
-    function(); /* once before, so that the linker has found memcpy and memset */
     memset(stack, FILL, sizeof stack);
     getcontext(&call);
     call.uc_stack.ss_sp = stack;
@@ -48,6 +47,26 @@ static void request_read(void) { needleoat_request_read(request, request_length)
 static void response_read(void) { needleoat_response_read(response, response_length); }
 static void checksum(void) { needleoat_crc8(response, response_length); }
 
+/* A requester that asks for that part: its answer has five packets. */
+static struct needleoat_requester requester = NEEDLEOAT_REQUESTER_NONE;
+static struct needleoat_due due;
+
+static void requester_new(void) { needleoat_requester_new(8, 9, 1000, 200, 3, &requester); }
+static void requester_open(void) { needleoat_requester_open(&requester, 0, request, request_length); }
+static void requester_packet(void) { needleoat_requester_packet(&requester, 0, packet); }
+static void requester_tick(void) { needleoat_requester_tick(&requester, 200, &due); }
+static void receive_packet(size_t index) {
+    packet_length = needleoat_packet_write(8, 9, false, 0, response, response_length, index, packet);
+    needleoat_requester_receive(&requester, 300, packet, packet_length);
+}
+static void receive_first(void) { receive_packet(0); }
+static void receive_middle(void) {
+    for (size_t index = 1; index < 4; index++) receive_packet(index);
+}
+static void receive_last(void) { receive_packet(4); }
+static void requester_status(void) { needleoat_requester_status(&requester, 0, response); }
+static void requester_free(void) { needleoat_requester_free(&requester); }
+
 static const struct {
     const char *name;
     void (*function)(void);
@@ -57,6 +76,12 @@ static const struct {
     {"needleoat_answer_check", answer_check},   {"needleoat_packet_write", packet_write},
     {"needleoat_packet_read", packet_read},     {"needleoat_request_read", request_read},
     {"needleoat_response_read", response_read}, {"needleoat_crc8", checksum},
+    {"needleoat_requester_new", requester_new}, {"needleoat_requester_open", requester_open},
+    {"needleoat_requester_packet", requester_packet}, {"needleoat_requester_tick", requester_tick},
+    {"needleoat_requester_receive, first packet", receive_first},
+    {"needleoat_requester_receive, middle packets", receive_middle},
+    {"needleoat_requester_receive, last packet", receive_last},
+    {"needleoat_requester_status", requester_status}, {"needleoat_requester_free", requester_free},
 };
 
 int main(void) {
@@ -64,6 +89,8 @@ int main(void) {
     command.command = answer.command = NEEDLEOAT_GET_PDR;
     answer.transfer_flag = 4;
     answer.length = NEEDLEOAT_PART_BYTES;
+    /* Once without a look at the stack, so that the linker has found each function and malloc has its first memory. */
+    for (size_t i = 0; i < sizeof calls / sizeof *calls; i++) calls[i].function();
     size_t before = taken_by(none), most = 0;
     for (size_t i = 0; i < sizeof calls / sizeof *calls; i++) {
         size_t taken = taken_by(calls[i].function) - before;

@@ -1,4 +1,4 @@
--- The calls of a requester behind a handle: what C is told, and what the handle holds then.
+-- The calls of a requester behind a handle: what they report to C, and what the handle holds then.
 use Rattle.std.specs.Prelude.{◌≡◌, ℕ, ◌<◌, ◌==◌, nat_le, ◌&&◌, Bool, true, false, MatchBool, List, length, take, slice_get}
 use Rattle.std.specs.Prelude.{Option, Some, None, IsSome, option_map, option_and_then, Result, Ok, Err, ◌⊎◌, if◌then◌else◌}
 use Rattle.mctp_packet.specs.Ids.{IsEid, IsKeep}

@@ -1,4 +1,4 @@
-//! What C is told of a requester's calls.
+//! The reports that a requester's calls return to C.
 
 ghost use Rattle.std.specs.Prelude.{◌≡◌};
 
