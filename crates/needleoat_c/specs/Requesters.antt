@@ -3,7 +3,7 @@ use Rattle.std.specs.Prelude.{◌≡◌, ℕ, ◌<◌, ◌==◌, nat_le, ◌&&�
 use Rattle.std.specs.Prelude.{Option, Some, None, IsSome, option_map, option_and_then, Result, Ok, Err, ◌⊎◌, if◌then◌else◌}
 use Rattle.mctp_packet.specs.Ids.{IsEid, IsKeep}
 use Rattle.mctp_packet.specs.Reasons.{number_of}
-use Rattle.mctp_packet.specs.declared.TheConstants.{LAST_MOMENT, MOST_MESSAGE_BYTES, MOST_PACKET_BYTES}
+use Rattle.mctp_packet.specs.declared.TheConstants.{MAX_MOMENT, MAX_MESSAGE_BYTES, MAX_PACKET_BYTES}
 use Rattle.mctp_packet.specs.declared.reason.Reason.{Reason}
 use Rattle.pldm_wire.specs.CommandReading.{command_of}
 use Rattle.pldm_wire.specs.Requests.{Request, request_of}
@@ -13,11 +13,11 @@ use Rattle.pldm_requester.specs.Slots.{held_of}
 use Rattle.pldm_requester.specs.Steps.{Held, IsHeld, Memo, again_at, given_up_at, got_at, held_at_first, opened_held, opening_answer}
 use Rattle.pldm_requester.specs.Steps.{received_held, ticked_held}
 use Rattle.pldm_requester.specs.Timings.{timing_fault}
-use Rattle.pldm_requester.specs.declared.got.Got.{Got}
-use Rattle.pldm_requester.specs.declared.got.Got.TheVariants as outcome
-use Rattle.pldm_requester.specs.declared.opened.Opened.{Opened}
-use Rattle.pldm_requester.specs.declared.opened.OpenFault.{OpenFault}
-use Rattle.pldm_requester.specs.declared.opened.OpenFault.TheVariants as cause
+use Rattle.pldm_requester.specs.declared.results.Got.{Got}
+use Rattle.pldm_requester.specs.declared.results.Got.TheVariants as outcome
+use Rattle.pldm_requester.specs.declared.results.Opened.{Opened}
+use Rattle.pldm_requester.specs.declared.results.OpenFault.{OpenFault}
+use Rattle.pldm_requester.specs.declared.results.OpenFault.TheVariants as cause
 use Rattle.pldm_requester.specs.declared.timing.Timing.{Timing}
 use Rattle.needleoat_forms.specs.Written.{IsWritten}
 use Rattle.needleoat_c.specs.RequesterHandles.{Inside}
@@ -53,7 +53,7 @@ unchanged held = held
 
 -- a moment that may come next
 abbrev pub is_next : ℕ → Held → Bool
-is_next now held = nat_le now LAST_MOMENT && nat_le held.last now
+is_next now held = nat_le now MAX_MOMENT && nat_le held.last now
 
 -- why a call at a moment is refused, whatever it is: 0 where it is not
 abbrev pub refusal_at : ℕ → Option Held → ℕ
@@ -183,7 +183,7 @@ memo_of number held = option_and_then (λ (h : Held). h.remembered number) held
 -- the packet of a request that is remembered: a request is one packet
 abbrev pub packet_of : ℕ → Option Held → Option (List ℕ)
 packet_of number held =
-    option_and_then (fitting MOST_PACKET_BYTES)
+    option_and_then (fitting MAX_PACKET_BYTES)
     (option_and_then (λ packets. slice_get packets 0) (option_map (λ (memo : Memo). memo.packets) (memo_of number held)))
 
 -- how a request stands, and its answer in front of the room
@@ -191,7 +191,7 @@ abbrev pub ReportsStanding : Option Standing → StatusReport → List ℕ → L
 ReportsStanding None r old new = (r.kind ≡ 0) × (r.length ≡ 0) × (new ≡ old)
 ReportsStanding (Some Waiting) r old new = (r.kind ≡ 1) × (r.length ≡ 0) × (new ≡ old)
 ReportsStanding (Some (Answered message)) r old new =
-    (r.kind ≡ 2) × IsWritten (fitting MOST_MESSAGE_BYTES message) r.length old new
+    (r.kind ≡ 2) × IsWritten (fitting MAX_MESSAGE_BYTES message) r.length old new
 ReportsStanding (Some GaveUp) r old new = (r.kind ≡ 3) × (r.length ≡ 0) × (new ≡ old)
 
 abbrev pub standing_of : ℕ → Option Held → Option Standing

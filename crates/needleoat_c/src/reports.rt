@@ -2,7 +2,7 @@
 
 ghost use Rattle.std.specs.Prelude.{◌≡◌};
 
-use pldm_requester::MOST_OPEN;
+use pldm_requester::MAX_OPEN;
 
 /// A request that was opened, or why none was.
 #[repr(C)]
@@ -36,14 +36,14 @@ impl OpeningReport {
 #[repr(C)]
 #[derive(Drop)]
 pub struct DueReport {
-    /// How many are to be sent again, at most [`MOST_OPEN`].
+    /// How many are to be sent again, at most [`MAX_OPEN`].
     pub again_count: usize,
-    /// How many were given up, at most [`MOST_OPEN`].
+    /// How many were given up, at most [`MAX_OPEN`].
     pub given_up_count: usize,
     /// Those to be sent again: the first of these.
-    pub again: [u64; MOST_OPEN],
+    pub again: [u64; MAX_OPEN],
     /// Those that were given up: the first of these.
-    pub given_up: [u64; MOST_OPEN],
+    pub given_up: [u64; MAX_OPEN],
 }
 
 /// What becomes of a packet.

@@ -10,8 +10,8 @@ ghost use Rattle.needleoat_c.specs.Requesters.{ReportsDue, ReportsGot, ReportsOp
 
 use crate::refusals::{BAD_MOMENT, ID_IN_USE, NO_COMMAND, NO_MEMORY, TAG_IN_USE};
 use crate::reports::{DueReport, OpeningReport, PacketReport, StatusReport};
-use mctp_packet::{MOST_MESSAGE_BYTES, MOST_PACKET_BYTES, Moment};
-use pldm_requester::{Got, MOST_OPEN, MOST_REMEMBERED, OpenFault, Requester, Status};
+use mctp_packet::{MAX_MESSAGE_BYTES, MAX_PACKET_BYTES, Moment};
+use pldm_requester::{Got, MAX_OPEN, MAX_REMEMBERED, OpenFault, Requester, Status};
 use pldm_wire::{Command, read_command, read_request};
 
 /// The moment, where it may come next.
@@ -54,7 +54,7 @@ fn fault_number(fault: OpenFault) -> u8
 /// Opens a request for the command that a message carries.
 pub(crate) fn open(requester: &mut Requester, now_ms: u64, request: &[u8]) -> OpeningReport
     ensures report { ReportsOpening (opening_in now_ms request.now (held_of requester.old)) result }
-    ensures memory { result.refusal ≡ NO_MEMORY → (held_of requester.old).count < MOST_REMEMBERED }
+    ensures memory { result.refusal ≡ NO_MEMORY → (held_of requester.old).count < MAX_REMEMBERED }
     ensures held { IsHeld (held_of requester.new) (opened_by now_ms request.now result.refusal (held_of requester.old)) }
 {
     let Some(now) = next_moment(requester, now_ms) else {
@@ -90,8 +90,8 @@ pub(crate) fn tick(requester: &mut Requester, now_ms: u64, due: &mut DueReport) 
 }
 
 /// Puts numbers in front, and returns how many there are.
-fn put_numbers(room: &mut [u64; MOST_OPEN], numbers: &[u64]) -> usize
-    requires { length numbers.now ≤ MOST_OPEN }
+fn put_numbers(room: &mut [u64; MAX_OPEN], numbers: &[u64]) -> usize
+    requires { length numbers.now ≤ MAX_OPEN }
     ensures { take result room.new ≡ numbers.now }
 {
     room[..numbers.len()].copy_from_slice(numbers);
@@ -129,7 +129,7 @@ fn report_of(got: Got) -> PacketReport
 }
 
 /// Writes the packet of a request that is remembered, and returns its length, else 0.
-pub(crate) fn packet(requester: &Requester, number: u64, out: &mut [u8; MOST_PACKET_BYTES]) -> usize
+pub(crate) fn packet(requester: &Requester, number: u64, out: &mut [u8; MAX_PACKET_BYTES]) -> usize
     ensures { IsWritten (packet_of number (Some (held_of requester.now))) result out.old out.new }
 {
     match requester.packets(number) {
@@ -139,8 +139,8 @@ pub(crate) fn packet(requester: &Requester, number: u64, out: &mut [u8; MOST_PAC
 }
 
 /// Writes a packet, where there is one and it has room.
-fn put_packet(packet: Option<&[u8]>, out: &mut [u8; MOST_PACKET_BYTES]) -> usize
-    ensures { IsWritten (option_and_then (fitting MOST_PACKET_BYTES) (option_copied packet.entry)) result out.old out.new }
+fn put_packet(packet: Option<&[u8]>, out: &mut [u8; MAX_PACKET_BYTES]) -> usize
+    ensures { IsWritten (option_and_then (fitting MAX_PACKET_BYTES) (option_copied packet.entry)) result out.old out.new }
 {
     match packet {
         Some(packet) => put_fitting(out, packet),
@@ -163,7 +163,7 @@ fn put_fitting(room: &mut [u8], bytes: &[u8]) -> usize
 pub(crate) fn status(
     requester: &Requester,
     number: u64,
-    message: &mut [u8; MOST_MESSAGE_BYTES],
+    message: &mut [u8; MAX_MESSAGE_BYTES],
 ) -> StatusReport
     ensures { ReportsStanding (standing_of number (Some (held_of requester.now))) result message.old message.new }
 {
@@ -171,7 +171,7 @@ pub(crate) fn status(
 }
 
 /// Reports a status, and writes the message of an answer.
-fn status_report(status: Option<Status<'_>>, room: &mut [u8; MOST_MESSAGE_BYTES]) -> StatusReport
+fn status_report(status: Option<Status<'_>>, room: &mut [u8; MAX_MESSAGE_BYTES]) -> StatusReport
     ensures { ReportsStanding (option_map standing_told status.entry) result room.old room.new }
 {
     match status {

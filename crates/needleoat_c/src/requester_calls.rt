@@ -8,8 +8,8 @@ use crate::refusals::{ALREADY_THERE, NO_MEMORY, NOTHING_THERE, OUT_OF_RANGE};
 use crate::reports::{DueReport, OpeningReport, PacketReport, StatusReport};
 use crate::requester;
 use crate::requester_handle::RequesterForC;
-use mctp_packet::{Eid, Keep, MOST_MESSAGE_BYTES, MOST_PACKET_BYTES};
-use pldm_requester::{MOST_REMEMBERED, Requester, Timing};
+use mctp_packet::{Eid, Keep, MAX_MESSAGE_BYTES, MAX_PACKET_BYTES};
+use pldm_requester::{MAX_REMEMBERED, Requester, Timing};
 use std::alloc::Global;
 
 /// Makes a requester at the endpoint `own` for the device at the endpoint `device`: 0, or why not.
@@ -71,7 +71,7 @@ pub extern "C" fn needleoat_requester_open(
     requires { IsUpheld requester.old }
     ensures upheld { IsUpheld requester.new }
     ensures report { ReportsOpening (opening_at now_ms request.now (holding requester.old.handle.held)) result }
-    ensures memory { result.refusal ≡ NO_MEMORY → MayWantRoom MOST_REMEMBERED (holding requester.old.handle.held) }
+    ensures memory { result.refusal ≡ NO_MEMORY → MayWantRoom MAX_REMEMBERED (holding requester.old.handle.held) }
     ensures held { HoldsAfter (opened_by now_ms request.now result.refusal) requester.old.handle.held requester.new.handle.held }
 {
     if !requester.is_live {
@@ -135,7 +135,7 @@ pub extern "C" fn needleoat_requester_packet(
     alloc: Global,
     requester: &mut RequesterForC,
     number: u64,
-    out: &mut [u8; MOST_PACKET_BYTES],
+    out: &mut [u8; MAX_PACKET_BYTES],
 ) -> usize
     requires { IsUpheld requester.old }
     ensures upheld { IsUpheld requester.new }
@@ -157,7 +157,7 @@ pub extern "C" fn needleoat_requester_status(
     alloc: Global,
     requester: &mut RequesterForC,
     number: u64,
-    message: &mut [u8; MOST_MESSAGE_BYTES],
+    message: &mut [u8; MAX_MESSAGE_BYTES],
 ) -> StatusReport
     requires { IsUpheld requester.old }
     ensures upheld { IsUpheld requester.new }

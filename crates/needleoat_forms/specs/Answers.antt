@@ -16,7 +16,7 @@ use Rattle.pldm_wire.specs.declared.assigned.TheConstants.{GET_STATE_SENSOR_READ
 use Rattle.pldm_wire.specs.declared.assigned.TheConstants.{GET_NUMERIC_EFFECTER_VALUE, SET_STATE_EFFECTER_STATES}
 use Rattle.pldm_wire.specs.declared.assigned.TheConstants.{GET_STATE_EFFECTER_STATES, GET_PDR_REPOSITORY_INFO, GET_PDR}
 use Rattle.pldm_wire.specs.declared.assigned.TheConstants.{INSTANCE_IDS, SUCCESS}
-use Rattle.pldm_wire.specs.declared.limits.TheConstants.{MOST_PART_BYTES}
+use Rattle.pldm_wire.specs.declared.limits.TheConstants.{MAX_PART_BYTES}
 use Rattle.pldm_wire.specs.declared.answer.Answer.{Answer}
 use Rattle.pldm_wire.specs.declared.answer.Answer.TheVariants.{Refused, SetTid, GetTid, GetPldmVersion}
 use Rattle.pldm_wire.specs.declared.answer.Answer.TheVariants.{GetPldmTypes, GetPldmCommands, GetSensorReading}
@@ -35,7 +35,7 @@ kind_in f = of_type f.pldm_type f.command
 
 -- as many bytes as the length says, where there are so many
 abbrev pub bytes_in : AnswerFields → Option (List ℕ)
-bytes_in f = if nat_le f.length MOST_PART_BYTES then Some (take f.length f.bytes) else None
+bytes_in f = if nat_le f.length MAX_PART_BYTES then Some (take f.length f.bytes) else None
 
 -- the answer to GetPLDMVersion with these bytes
 abbrev pub version_answer_in : AnswerFields → Option (List ℕ) → Option Answer

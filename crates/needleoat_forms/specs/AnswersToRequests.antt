@@ -9,7 +9,7 @@ use Rattle.pldm_wire.specs.Kinds.{TypeAndCommand}
 use Rattle.pldm_wire.specs.Requests.{Request}
 use Rattle.pldm_wire.specs.Responses.{Response}
 use Rattle.pldm_wire.specs.declared.answer.Answer.{Answer}
-use Rattle.pldm_wire.specs.declared.answer_fault.AnswerFault.{AnswerFault}
+use Rattle.pldm_wire.specs.declared.answer_reading.AnswerFault.{AnswerFault}
 use Rattle.pldm_wire.specs.declared.command.Command.{Command}
 use Rattle.needleoat_forms.specs.Answers.{answer_in, kind_in}
 use Rattle.needleoat_forms.specs.declared.answer.AnswerFields.{AnswerFields}

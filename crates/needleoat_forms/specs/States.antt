@@ -1,7 +1,7 @@
 -- The fields of composite state sensors and effecters (DSP0248) in the structs that cross to C: the
 -- first of eight places, as many as the count says.
 use Rattle.std.specs.Prelude.{ℕ, nat_le, ◌&&◌, Bool, List, map, take, Option, Some, None, if◌then◌else◌}
-use Rattle.pldm_wire.specs.declared.limits.TheConstants.{MOST_STATES}
+use Rattle.pldm_wire.specs.declared.limits.TheConstants.{MAX_STATES}
 use Rattle.pldm_wire.specs.declared.state_fields.SetStateField.{SetStateField}
 use Rattle.pldm_wire.specs.declared.state_fields.SensorStateField.{SensorStateField}
 use Rattle.pldm_wire.specs.declared.state_fields.EffecterStateField.{EffecterStateField}
@@ -11,7 +11,7 @@ use Rattle.needleoat_forms.specs.declared.states.EffecterState.{EffecterState}
 
 -- 1 to 8
 abbrev pub is_count : ℕ → Bool
-is_count count = nat_le 1 count && nat_le count MOST_STATES
+is_count count = nat_le 1 count && nat_le count MAX_STATES
 
 -- each field on its own, from C and to C
 

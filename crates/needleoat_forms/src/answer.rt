@@ -8,8 +8,8 @@ use crate::states::{EffecterState, SensorState, put_effecter_states, put_sensor_
 use pldm_wire::{
     Answer, BASE, COMMANDS_BYTES, GET_NUMERIC_EFFECTER_VALUE, GET_PDR, GET_PDR_REPOSITORY_INFO,
     GET_PLDM_COMMANDS, GET_PLDM_TYPES, GET_PLDM_VERSION, GET_SENSOR_READING,
-    GET_STATE_EFFECTER_STATES, GET_STATE_SENSOR_READINGS, GET_TID, Kind, MOST_PART_BYTES,
-    MOST_STATES, PLATFORM, SET_NUMERIC_EFFECTER_VALUE, SET_STATE_EFFECTER_STATES, SET_TID,
+    GET_STATE_EFFECTER_STATES, GET_STATE_SENSOR_READINGS, GET_TID, Kind, MAX_PART_BYTES,
+    MAX_STATES, PLATFORM, SET_NUMERIC_EFFECTER_VALUE, SET_STATE_EFFECTER_STATES, SET_TID,
     TIME_BYTES, TYPES_BYTES,
 };
 
@@ -48,7 +48,7 @@ pub struct AnswerFields {
     /// GetSensorReading: the state of the sensor's latest event.
     pub event: u8,
     /// GetStateSensorReadings, GetStateEffecterStates: how many fields there are, 1 to
-    /// [`MOST_STATES`].
+    /// [`MAX_STATES`].
     pub count: u8,
     /// GetPDRRepositoryInfo: the repository's state, 0 available.
     pub repository_state: u8,
@@ -71,9 +71,9 @@ pub struct AnswerFields {
     /// GetPLDMVersion, GetPDR: how many of `bytes` there are.
     pub length: usize,
     /// GetStateSensorReadings: the fields, the first `count` of these.
-    pub sensor_states: [SensorState; MOST_STATES],
+    pub sensor_states: [SensorState; MAX_STATES],
     /// GetStateEffecterStates: the fields, the first `count` of these.
-    pub effecter_states: [EffecterState; MOST_STATES],
+    pub effecter_states: [EffecterState; MAX_STATES],
     /// GetPLDMTypes: type t is bit t mod 8 of byte t / 8.
     pub types: [u8; TYPES_BYTES],
     /// GetPLDMCommands: command c is bit c mod 8 of byte c / 8.
@@ -83,8 +83,8 @@ pub struct AnswerFields {
     /// GetPDRRepositoryInfo: when its OEM records were last changed.
     pub oem_update_time: [u8; TIME_BYTES],
     /// GetPLDMVersion: the versions, four bytes each, 4 to 32 bytes in all. GetPDR: the part of the
-    /// record, at most [`MOST_PART_BYTES`].
-    pub bytes: [u8; MOST_PART_BYTES],
+    /// record, at most [`MAX_PART_BYTES`].
+    pub bytes: [u8; MAX_PART_BYTES],
 }
 
 impl AnswerFields {
@@ -119,17 +119,17 @@ impl AnswerFields {
             present: 0,
             previous: 0,
             event: 0,
-        }; MOST_STATES],
+        }; MAX_STATES],
         effecter_states: [EffecterState {
             operational: 0,
             pending: 0,
             present: 0,
-        }; MOST_STATES],
+        }; MAX_STATES],
         types: [0; TYPES_BYTES],
         commands: [0; COMMANDS_BYTES],
         update_time: [0; TIME_BYTES],
         oem_update_time: [0; TIME_BYTES],
-        bytes: [0; MOST_PART_BYTES],
+        bytes: [0; MAX_PART_BYTES],
     };
 
     /// Puts an answer to a command of this kind, with an instance ID, in the place of what is there.

@@ -10,12 +10,12 @@ use crate::AnswerFields;
 use crate::numbers::{number_of, size_of};
 use crate::room::put_front;
 use crate::states::{effecter_states_of, sensor_states_of};
-use mctp_packet::MOST_MESSAGE_BYTES;
+use mctp_packet::MAX_MESSAGE_BYTES;
 use pldm_wire::{
     Answer, BASE, Code, EffecterValues, GET_NUMERIC_EFFECTER_VALUE, GET_PDR,
     GET_PDR_REPOSITORY_INFO, GET_PLDM_COMMANDS, GET_PLDM_TYPES, GET_PLDM_VERSION,
     GET_SENSOR_READING, GET_STATE_EFFECTER_STATES, GET_STATE_SENSOR_READINGS, GET_TID,
-    INSTANCE_IDS, Kind, MOST_PART_BYTES, Number, PLATFORM, RecordPart, SET_NUMERIC_EFFECTER_VALUE,
+    INSTANCE_IDS, Kind, MAX_PART_BYTES, Number, PLATFORM, RecordPart, SET_NUMERIC_EFFECTER_VALUE,
     SET_STATE_EFFECTER_STATES, SET_TID, TransferFlag, VersionData, write_answer,
 };
 
@@ -28,7 +28,7 @@ const PLDM_TYPES: u8 = 64;
 /// above 63, and, where the completion code is 0, where this profile has no such command or a field
 /// of its answer is out of range: a data size, a value that does not fit it, a count, a length or a
 /// transfer flag.
-pub fn answer_write(fields: &AnswerFields, out: &mut [u8; MOST_MESSAGE_BYTES]) -> usize
+pub fn answer_write(fields: &AnswerFields, out: &mut [u8; MAX_MESSAGE_BYTES]) -> usize
     ensures { IsWritten (response_in fields.now) result out.old out.new }
 {
     if fields.instance_id >= INSTANCE_IDS {
@@ -108,7 +108,7 @@ fn version_answer_of(fields: &AnswerFields) -> Option<Answer>
 fn bytes_of(fields: &AnswerFields) -> Option<&[u8]>
     ensures { option_map (λ bytes. bytes.now) result ≡ bytes_in fields.now }
 {
-    if fields.length > MOST_PART_BYTES {
+    if fields.length > MAX_PART_BYTES {
         return None;
     }
     Some(&fields.bytes[..fields.length])

@@ -6,7 +6,7 @@ use crate::states::{SetState, put_sets};
 use pldm_wire::{
     BASE, Command, GET_NUMERIC_EFFECTER_VALUE, GET_PDR, GET_PDR_REPOSITORY_INFO, GET_PLDM_COMMANDS,
     GET_PLDM_TYPES, GET_PLDM_VERSION, GET_SENSOR_READING, GET_STATE_EFFECTER_STATES,
-    GET_STATE_SENSOR_READINGS, GET_TID, MOST_STATES, PLATFORM, SET_NUMERIC_EFFECTER_VALUE,
+    GET_STATE_SENSOR_READINGS, GET_TID, MAX_STATES, PLATFORM, SET_NUMERIC_EFFECTER_VALUE,
     SET_STATE_EFFECTER_STATES, SET_TID, VERSION_BYTES,
 };
 
@@ -32,7 +32,7 @@ pub struct CommandFields {
     /// SetNumericEffecterValue: the data size of `value`, 0 uint8, 1 sint8, 2 uint16, 3 sint16,
     /// 4 uint32, 5 sint32.
     pub size: u8,
-    /// SetStateEffecterStates: how many fields there are, 1 to [`MOST_STATES`].
+    /// SetStateEffecterStates: how many fields there are, 1 to [`MAX_STATES`].
     pub count: u8,
     /// GetSensorReading, GetStateSensorReadings: the sensor ID.
     pub sensor: u16,
@@ -51,7 +51,7 @@ pub struct CommandFields {
     /// GetPLDMCommands: the version of the type, as GetPLDMVersion's answer has it.
     pub version: [u8; VERSION_BYTES],
     /// SetStateEffecterStates: the fields, the first `count` of these.
-    pub sets: [SetState; MOST_STATES],
+    pub sets: [SetState; MAX_STATES],
 }
 
 impl CommandFields {
@@ -77,7 +77,7 @@ impl CommandFields {
         sets: [SetState {
             set_request: 0,
             state: 0,
-        }; MOST_STATES],
+        }; MAX_STATES],
     };
 
     /// Puts a command with an instance ID in the place of what is there.

@@ -9,7 +9,7 @@ use crate::states::sets_of;
 use pldm_wire::{
     BASE, Command, GET_NUMERIC_EFFECTER_VALUE, GET_PDR, GET_PDR_REPOSITORY_INFO, GET_PLDM_COMMANDS,
     GET_PLDM_TYPES, GET_PLDM_VERSION, GET_SENSOR_READING, GET_STATE_EFFECTER_STATES,
-    GET_STATE_SENSOR_READINGS, GET_TID, INSTANCE_IDS, MOST_REQUEST_BYTES, PLATFORM,
+    GET_STATE_SENSOR_READINGS, GET_TID, INSTANCE_IDS, MAX_REQUEST_BYTES, PLATFORM,
     SET_NUMERIC_EFFECTER_VALUE, SET_STATE_EFFECTER_STATES, SET_TID, write_command,
 };
 
@@ -17,7 +17,7 @@ use pldm_wire::{
 /// DSP0248). Returns 0 and leaves `out` as it was where the instance ID is above 31, where this
 /// profile has no such command, where there is no such data size or the value does not fit it, and
 /// where a count of fields is not 1 to 8.
-pub fn command_write(fields: &CommandFields, out: &mut [u8; MOST_REQUEST_BYTES]) -> usize
+pub fn command_write(fields: &CommandFields, out: &mut [u8; MAX_REQUEST_BYTES]) -> usize
     ensures { IsWritten (request_in fields.now) result out.old out.new }
 {
     if fields.instance_id >= INSTANCE_IDS {

@@ -8,7 +8,7 @@ ghost use Rattle.needleoat_forms.specs.Written.{HasFront, IsUntouched};
 
 use crate::room::put_front;
 use mctp_packet::{
-    Eid, MOST_MESSAGE_BYTES, MOST_PACKET_BYTES, PacketRef, Route, Tag, UNIT, packet_at, read_for,
+    Eid, MAX_MESSAGE_BYTES, MAX_PACKET_BYTES, PacketRef, Route, Tag, UNIT, packet_at, read_for,
     write,
 };
 
@@ -94,12 +94,12 @@ pub fn packet_read(own: u8, bytes: &[u8]) -> PacketFields
 }
 
 /// How many packets a message of so many bytes has (DSP0236, "Packetizing a message"): 1 to 5, and
-/// 0 where there are no bytes or more than [`MOST_MESSAGE_BYTES`].
+/// 0 where there are no bytes or more than [`MAX_MESSAGE_BYTES`].
 pub fn packet_count(bytes: usize) -> usize
-    ensures count { bytes ≤ MOST_MESSAGE_BYTES → result ≡ (bytes + (UNIT - 1)) / UNIT }
-    ensures too_long { MOST_MESSAGE_BYTES < bytes → result ≡ 0 }
+    ensures count { bytes ≤ MAX_MESSAGE_BYTES → result ≡ (bytes + (UNIT - 1)) / UNIT }
+    ensures too_long { MAX_MESSAGE_BYTES < bytes → result ≡ 0 }
 {
-    if bytes > MOST_MESSAGE_BYTES {
+    if bytes > MAX_MESSAGE_BYTES {
         return 0;
     }
     bytes.div_ceil(UNIT)
@@ -107,7 +107,7 @@ pub fn packet_count(bytes: usize) -> usize
 
 /// Writes packet `index` of a message, counted from 0, to the front of `out`, and returns its
 /// length in bytes (DSP0236, "Packetizing a message"). Returns 0 and leaves `out` as it was where
-/// an endpoint ID or the tag is none, where the message has more than [`MOST_MESSAGE_BYTES`], and
+/// an endpoint ID or the tag is none, where the message has more than [`MAX_MESSAGE_BYTES`], and
 /// where it has no such packet.
 pub fn packet_write(
     destination: u8,
@@ -116,12 +116,12 @@ pub fn packet_write(
     tag: u8,
     message: &[u8],
     index: usize,
-    out: &mut [u8; MOST_PACKET_BYTES],
+    out: &mut [u8; MAX_PACKET_BYTES],
 ) -> usize
-    ensures written { IsRoute destination source tag → length message.now ≤ MOST_MESSAGE_BYTES → index < piece_count message.now
+    ensures written { IsRoute destination source tag → length message.now ≤ MAX_MESSAGE_BYTES → index < piece_count message.now
         → HasFront (packet_bytes destination source owner tag message.now index) result out.old out.new }
     ensures past_the_last { piece_count message.now ≤ index → IsUntouched result out.old out.new }
-    ensures too_long { MOST_MESSAGE_BYTES < length message.now → IsUntouched result out.old out.new }
+    ensures too_long { MAX_MESSAGE_BYTES < length message.now → IsUntouched result out.old out.new }
     ensures no_route { (IsRoute destination source tag → ⊥) → IsUntouched result out.old out.new }
 {
     let (Some(destination), Some(source), Some(tag)) = (
@@ -131,7 +131,7 @@ pub fn packet_write(
     ) else {
         return 0;
     };
-    if message.len() > MOST_MESSAGE_BYTES {
+    if message.len() > MAX_MESSAGE_BYTES {
         return 0;
     }
     let route = Route {
@@ -149,10 +149,10 @@ pub fn packet_write(
 /// Writes a packet to the front of `out`, and returns its length in bytes. The bytes go through an
 /// array of their own: a copy from the message to `out` would be a `memmove`, which firmware may not
 /// have.
-fn put_packet(packet: &PacketRef<'_>, out: &mut [u8; MOST_PACKET_BYTES]) -> usize
+fn put_packet(packet: &PacketRef<'_>, out: &mut [u8; MAX_PACKET_BYTES]) -> usize
     ensures { HasFront (written packet.now) result out.old out.new }
 {
-    let mut bytes = [0; MOST_PACKET_BYTES];
+    let mut bytes = [0; MAX_PACKET_BYTES];
     let count = write(packet, &mut bytes);
     put_front(out, &bytes[..count])
 }

@@ -5,7 +5,7 @@ ghost use Rattle.std.specs.Prelude.{◌≡◌, ◌≤◌, length, map};
 ghost use Rattle.needleoat_forms.specs.States.{effecter_state, effecter_states_in, first_effecter_states, first_sensor_states, first_sets, sensor_state, sensor_states_in, set_state, sets_in};
 
 use arrayvec::ArrayVec;
-use pldm_wire::{EffecterStateField, MOST_STATES, SensorStateField, SetStateField, StateFields};
+use pldm_wire::{EffecterStateField, MAX_STATES, SensorStateField, SetStateField, StateFields};
 
 /// One field of SetStateEffecterStates (DSP0248, "SetStateEffecterStates command").
 #[repr(C)]
@@ -45,7 +45,7 @@ pub struct EffecterState {
 
 /// Puts the fields in front of the others.
 #[tactic(auto, using(crate::proofs::FirstStates::first_sets_append))]
-pub(crate) fn put_sets(room: &mut [SetState; MOST_STATES], fields: &StateFields<SetStateField>)
+pub(crate) fn put_sets(room: &mut [SetState; MAX_STATES], fields: &StateFields<SetStateField>)
     ensures { first_sets (length fields.now) room.new ≡ fields.now }
 {
     let made = sets_from(fields.as_slice());
@@ -53,11 +53,11 @@ pub(crate) fn put_sets(room: &mut [SetState; MOST_STATES], fields: &StateFields<
 }
 
 /// Each field as it crosses to C.
-fn sets_from(fields: &[SetStateField]) -> ArrayVec<SetState, MOST_STATES>
-    requires { length fields.now ≤ MOST_STATES }
+fn sets_from(fields: &[SetStateField]) -> ArrayVec<SetState, MAX_STATES>
+    requires { length fields.now ≤ MAX_STATES }
     ensures { result.items ≡ map set_state fields.now }
 {
-    let mut made = ArrayVec::<SetState, MOST_STATES>::new();
+    let mut made = ArrayVec::<SetState, MAX_STATES>::new();
     for field in fields {
         made.push(SetState {
             set_request: field.set_request,
@@ -67,18 +67,18 @@ fn sets_from(fields: &[SetStateField]) -> ArrayVec<SetState, MOST_STATES>
     made
 }
 
-/// The first fields, where their count is 1 to [`MOST_STATES`].
+/// The first fields, where their count is 1 to [`MAX_STATES`].
 pub(crate) fn sets_of(
     count: u8,
-    room: &[SetState; MOST_STATES],
+    room: &[SetState; MAX_STATES],
 ) -> Option<StateFields<SetStateField>>
     ensures { result ≡ sets_in count room.now }
 {
     let count = usize::from(count);
-    if count == 0 || count > MOST_STATES {
+    if count == 0 || count > MAX_STATES {
         return None;
     }
-    let mut fields = ArrayVec::<SetStateField, MOST_STATES>::new();
+    let mut fields = ArrayVec::<SetStateField, MAX_STATES>::new();
     for state in &room[..count] {
         fields.push(SetStateField {
             set_request: state.set_request,
@@ -91,7 +91,7 @@ pub(crate) fn sets_of(
 /// Puts the fields in front of the others.
 #[tactic(auto, using(crate::proofs::FirstStates::first_sensor_states_append))]
 pub(crate) fn put_sensor_states(
-    room: &mut [SensorState; MOST_STATES],
+    room: &mut [SensorState; MAX_STATES],
     fields: &StateFields<SensorStateField>,
 )
     ensures { first_sensor_states (length fields.now) room.new ≡ fields.now }
@@ -101,11 +101,11 @@ pub(crate) fn put_sensor_states(
 }
 
 /// Each field as it crosses to C.
-fn sensor_states_from(fields: &[SensorStateField]) -> ArrayVec<SensorState, MOST_STATES>
-    requires { length fields.now ≤ MOST_STATES }
+fn sensor_states_from(fields: &[SensorStateField]) -> ArrayVec<SensorState, MAX_STATES>
+    requires { length fields.now ≤ MAX_STATES }
     ensures { result.items ≡ map sensor_state fields.now }
 {
-    let mut made = ArrayVec::<SensorState, MOST_STATES>::new();
+    let mut made = ArrayVec::<SensorState, MAX_STATES>::new();
     for field in fields {
         made.push(SensorState {
             operational: field.operational,
@@ -117,18 +117,18 @@ fn sensor_states_from(fields: &[SensorStateField]) -> ArrayVec<SensorState, MOST
     made
 }
 
-/// The first fields, where their count is 1 to [`MOST_STATES`].
+/// The first fields, where their count is 1 to [`MAX_STATES`].
 pub(crate) fn sensor_states_of(
     count: u8,
-    room: &[SensorState; MOST_STATES],
+    room: &[SensorState; MAX_STATES],
 ) -> Option<StateFields<SensorStateField>>
     ensures { result ≡ sensor_states_in count room.now }
 {
     let count = usize::from(count);
-    if count == 0 || count > MOST_STATES {
+    if count == 0 || count > MAX_STATES {
         return None;
     }
-    let mut fields = ArrayVec::<SensorStateField, MOST_STATES>::new();
+    let mut fields = ArrayVec::<SensorStateField, MAX_STATES>::new();
     for state in &room[..count] {
         fields.push(SensorStateField {
             operational: state.operational,
@@ -143,7 +143,7 @@ pub(crate) fn sensor_states_of(
 /// Puts the fields in front of the others.
 #[tactic(auto, using(crate::proofs::FirstStates::first_effecter_states_append))]
 pub(crate) fn put_effecter_states(
-    room: &mut [EffecterState; MOST_STATES],
+    room: &mut [EffecterState; MAX_STATES],
     fields: &StateFields<EffecterStateField>,
 )
     ensures { first_effecter_states (length fields.now) room.new ≡ fields.now }
@@ -153,11 +153,11 @@ pub(crate) fn put_effecter_states(
 }
 
 /// Each field as it crosses to C.
-fn effecter_states_from(fields: &[EffecterStateField]) -> ArrayVec<EffecterState, MOST_STATES>
-    requires { length fields.now ≤ MOST_STATES }
+fn effecter_states_from(fields: &[EffecterStateField]) -> ArrayVec<EffecterState, MAX_STATES>
+    requires { length fields.now ≤ MAX_STATES }
     ensures { result.items ≡ map effecter_state fields.now }
 {
-    let mut made = ArrayVec::<EffecterState, MOST_STATES>::new();
+    let mut made = ArrayVec::<EffecterState, MAX_STATES>::new();
     for field in fields {
         made.push(EffecterState {
             operational: field.operational,
@@ -168,18 +168,18 @@ fn effecter_states_from(fields: &[EffecterStateField]) -> ArrayVec<EffecterState
     made
 }
 
-/// The first fields, where their count is 1 to [`MOST_STATES`].
+/// The first fields, where their count is 1 to [`MAX_STATES`].
 pub(crate) fn effecter_states_of(
     count: u8,
-    room: &[EffecterState; MOST_STATES],
+    room: &[EffecterState; MAX_STATES],
 ) -> Option<StateFields<EffecterStateField>>
     ensures { result ≡ effecter_states_in count room.now }
 {
     let count = usize::from(count);
-    if count == 0 || count > MOST_STATES {
+    if count == 0 || count > MAX_STATES {
         return None;
     }
-    let mut fields = ArrayVec::<EffecterStateField, MOST_STATES>::new();
+    let mut fields = ArrayVec::<EffecterStateField, MAX_STATES>::new();
     for state in &room[..count] {
         fields.push(EffecterStateField {
             operational: state.operational,
