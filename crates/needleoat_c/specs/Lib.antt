@@ -1,0 +1,2 @@
+pub mod RequesterHandles
+pub mod Requesters

@@ -1,0 +1,198 @@
+-- The calls of a requester behind a handle: what they report to C, and what the handle holds then.
+use Rattle.std.specs.Prelude.{◌≡◌, ℕ, ◌<◌, ◌==◌, nat_le, ◌&&◌, Bool, true, false, MatchBool, List, length, take, slice_get}
+use Rattle.std.specs.Prelude.{Option, Some, None, IsSome, option_map, option_and_then, Result, Ok, Err, ◌⊎◌, if◌then◌else◌}
+use Rattle.mctp_packet.specs.Ids.{IsEid, IsKeep}
+use Rattle.mctp_packet.specs.Reasons.{number_of}
+use Rattle.mctp_packet.specs.declared.TheConstants.{MAX_MOMENT, MAX_MESSAGE_BYTES, MAX_PACKET_BYTES}
+use Rattle.mctp_packet.specs.declared.reason.Reason.{Reason}
+use Rattle.pldm_wire.specs.CommandReading.{command_of}
+use Rattle.pldm_wire.specs.Requests.{Request, request_of}
+use Rattle.pldm_wire.specs.declared.command.Command.{Command}
+use Rattle.pldm_requester.specs.Courses.{Standing, Waiting, Answered, GaveUp}
+use Rattle.pldm_requester.specs.Slots.{held_of}
+use Rattle.pldm_requester.specs.Steps.{Held, IsHeld, Memo, again_at, given_up_at, got_at, held_at_first, opened_held, opening_answer}
+use Rattle.pldm_requester.specs.Steps.{received_held, ticked_held}
+use Rattle.pldm_requester.specs.Timings.{timing_fault}
+use Rattle.pldm_requester.specs.declared.results.Got.{Got}
+use Rattle.pldm_requester.specs.declared.results.Got.TheVariants as outcome
+use Rattle.pldm_requester.specs.declared.results.Opened.{Opened}
+use Rattle.pldm_requester.specs.declared.results.OpenFault.{OpenFault}
+use Rattle.pldm_requester.specs.declared.results.OpenFault.TheVariants as cause
+use Rattle.pldm_requester.specs.declared.timing.Timing.{Timing}
+use Rattle.needleoat_forms.specs.Written.{IsWritten}
+use Rattle.needleoat_c.specs.RequesterHandles.{Inside}
+use Rattle.needleoat_c.specs.declared.refusals.TheConstants.{BAD_MOMENT, ID_IN_USE, NOTHING_THERE, NO_COMMAND, NO_MEMORY}
+use Rattle.needleoat_c.specs.declared.refusals.TheConstants.{TAG_IN_USE}
+use Rattle.needleoat_c.specs.declared.reports.DueReport.{DueReport}
+use Rattle.needleoat_c.specs.declared.reports.OpeningReport.{OpeningReport}
+use Rattle.needleoat_c.specs.declared.reports.PacketReport.{PacketReport}
+use Rattle.needleoat_c.specs.declared.reports.StatusReport.{StatusReport}
+use Rattle.needleoat_c.specs.declared.requester_handle.RequesterForC.{RequesterForC}
+
+-- a handle says truly whether there is something behind it
+abbrev pub SaysWhether : Bool → Option Inside → Type 0
+SaysWhether true held = IsSome held
+SaysWhether false held = held ≡ None
+
+-- what C keeps: a handle of zeros keeps it, and so does each call
+abbrev pub IsUpheld : RequesterForC → Type 0
+IsUpheld requester = SaysWhether requester.is_live requester.handle.held
+
+-- what the requester behind a handle holds
+abbrev pub holding : Option Inside → Option Held
+holding held = option_map held_of held
+
+-- what is behind the handle holds what this change makes of what was held before
+abbrev pub HoldsAfter : (Held → Held) → Option Inside → Option Inside → Type 0
+HoldsAfter change (Some old) (Some new) = IsHeld (held_of new) (change (held_of old))
+HoldsAfter change None None = Unit {0}
+HoldsAfter change old new = ⊥
+
+abbrev pub unchanged : Held → Held
+unchanged held = held
+
+-- a moment that may come next
+abbrev pub is_next : ℕ → Held → Bool
+is_next now held = nat_le now MAX_MOMENT && nat_le held.last now
+
+-- why a call at a moment is refused, whatever it is: 0 where it is not
+abbrev pub refusal_at : ℕ → Option Held → ℕ
+refusal_at now None = NOTHING_THERE
+refusal_at now (Some held) = if is_next now held then 0 else BAD_MOMENT
+
+-- ---- making ----
+
+abbrev pub timing : ℕ → ℕ → ℕ → Timing
+timing keep timeout tries = record { keep = keep; timeout = timeout; tries = tries }
+
+-- two endpoint IDs, a keeping time, and a timing without a fault
+abbrev pub IsSetup : ℕ → ℕ → Timing → Type 0
+IsSetup own device t = IsEid own × IsEid device × IsKeep t.keep × (timing_fault own device t ≡ None)
+
+-- a new requester is behind the handle
+abbrev pub IsNew : ℕ → ℕ → Timing → Option Inside → Type 0
+IsNew own device t None = ⊥
+IsNew own device t (Some new) = IsHeld (held_of new) (held_at_first own device t)
+
+-- ---- opening ----
+
+-- the command that a message carries as a request
+
+abbrev pub command_found : Result Command ℕ → Option Command
+command_found (Ok command) = Some command
+command_found (Err code) = None
+
+abbrev pub command_read : Result Request Reason → Option Command
+command_read (Ok q) = command_found (command_of q.kind q.rest)
+command_read (Err reason) = None
+
+abbrev pub command_in : List ℕ → Option Command
+command_in message = command_read (request_of message)
+
+-- the request that is opened, where there is memory, or why none is
+
+abbrev pub fault_number : OpenFault → ℕ
+fault_number cause.TagInUse = TAG_IN_USE
+fault_number cause.IdInUse = ID_IN_USE
+fault_number cause.Memory = NO_MEMORY
+
+abbrev pub opened_or_number : Result Opened OpenFault → Result Opened ℕ
+opened_or_number (Ok opened) = Ok opened
+opened_or_number (Err fault) = Err (fault_number fault)
+
+abbrev pub opening_of : Option Command → ℕ → Held → Result Opened ℕ
+opening_of None now held = Err NO_COMMAND
+opening_of (Some command) now held = opened_or_number (opening_answer held now)
+
+abbrev pub opening_in : ℕ → List ℕ → Held → Result Opened ℕ
+opening_in now request held = if is_next now held then opening_of (command_in request) now held else Err BAD_MOMENT
+
+abbrev pub opening_at : ℕ → List ℕ → Option Held → Result Opened ℕ
+opening_at now request None = Err NOTHING_THERE
+opening_at now request (Some held) = opening_in now request held
+
+-- the fields of an opened request
+pub record ReportsOpened (opened : Opened) (r : OpeningReport) : Type 0 where
+  pub refusal : r.refusal ≡ 0
+  pub instance_id : r.instance_id ≡ opened.id
+  pub tag : r.tag ≡ opened.tag
+  pub number : r.number ≡ opened.number
+
+-- the request, unless there was no memory; or why there is none
+abbrev pub ReportsOpening : Result Opened ℕ → OpeningReport → Type 0
+ReportsOpening (Ok opened) r = ReportsOpened opened r ⊎ (r.refusal ≡ NO_MEMORY)
+ReportsOpening (Err number) r = r.refusal ≡ number
+
+-- only the first requests want memory
+abbrev pub MayWantRoom : ℕ → Option Held → Type 0
+MayWantRoom most None = ⊥
+MayWantRoom most (Some held) = held.count < most
+
+abbrev pub with_opened : ℕ → Option Command → Held → Held
+with_opened now None held = held
+with_opened now (Some command) held = opened_held held now command
+
+abbrev pub opened_by : ℕ → List ℕ → ℕ → Held → Held
+opened_by now request refusal held = if refusal == 0 then with_opened now (command_in request) held else held
+
+-- ---- ticks ----
+
+-- the requests that are due stand in front
+abbrev pub ReportsDue : ℕ → DueReport → Option Held → Type 0
+ReportsDue now due None = ⊥
+ReportsDue now due (Some held) =
+    (take due.again_count due.again ≡ again_at held now) × (take due.given_up_count due.given_up ≡ given_up_at held now)
+
+abbrev pub ticked_by : ℕ → ℕ → Held → Held
+ticked_by now refusal held = if refusal == 0 then ticked_held held now else held
+
+-- ---- packets that come ----
+
+abbrev pub ReportsGot : Got → PacketReport → Type 0
+ReportsGot (outcome.Dropped reason) r = (r.kind ≡ 1) × (r.reason ≡ number_of reason)
+ReportsGot outcome.Partial r = (r.kind ≡ 2) × (r.reason ≡ 0)
+ReportsGot (outcome.Answered number) r = (r.kind ≡ 3) × (r.reason ≡ 0) × (r.number ≡ number)
+
+abbrev pub IsRefused : ℕ → PacketReport → Type 0
+IsRefused number r = (r.kind ≡ 0) × (r.reason ≡ number)
+
+-- what becomes of it; only a packet that begins a message of several may want memory
+abbrev pub ReportsTaken : Got → PacketReport → Type 0
+ReportsTaken got r = ReportsGot got r ⊎ (IsRefused NO_MEMORY r × (got ≡ outcome.Partial))
+
+abbrev pub ReportsPacketIn : ℕ → List ℕ → PacketReport → Held → Type 0
+ReportsPacketIn now bytes r held =
+    MatchBool (is_next now held) (ReportsTaken (got_at held bytes) r) (IsRefused BAD_MOMENT r)
+
+abbrev pub ReportsPacket : ℕ → List ℕ → PacketReport → Option Held → Type 0
+ReportsPacket now bytes r None = IsRefused NOTHING_THERE r
+ReportsPacket now bytes r (Some held) = ReportsPacketIn now bytes r held
+
+abbrev pub received_by : ℕ → List ℕ → ℕ → Held → Held
+received_by now bytes kind held = if kind == 0 then held else received_held held now bytes
+
+-- ---- what is remembered ----
+
+-- bytes, where they fit
+abbrev pub fitting : ℕ → List ℕ → Option (List ℕ)
+fitting most bytes = if nat_le (length bytes) most then Some bytes else None
+
+abbrev pub memo_of : ℕ → Option Held → Option Memo
+memo_of number held = option_and_then (λ (h : Held). h.remembered number) held
+
+-- the packet of a request that is remembered: a request is one packet
+abbrev pub packet_of : ℕ → Option Held → Option (List ℕ)
+packet_of number held =
+    option_and_then (fitting MAX_PACKET_BYTES)
+    (option_and_then (λ packets. slice_get packets 0) (option_map (λ (memo : Memo). memo.packets) (memo_of number held)))
+
+-- how a request stands, and its answer in front of the room
+abbrev pub ReportsStanding : Option Standing → StatusReport → List ℕ → List ℕ → Type 0
+ReportsStanding None r old new = (r.kind ≡ 0) × (r.length ≡ 0) × (new ≡ old)
+ReportsStanding (Some Waiting) r old new = (r.kind ≡ 1) × (r.length ≡ 0) × (new ≡ old)
+ReportsStanding (Some (Answered message)) r old new =
+    (r.kind ≡ 2) × IsWritten (fitting MAX_MESSAGE_BYTES message) r.length old new
+ReportsStanding (Some GaveUp) r old new = (r.kind ≡ 3) × (r.length ≡ 0) × (new ≡ old)
+
+abbrev pub standing_of : ℕ → Option Held → Option Standing
+standing_of number held = option_map (λ (memo : Memo). memo.course.standing) (memo_of number held)

@@ -1,0 +1,186 @@
+//! The work of each call on the requester behind a handle.
+
+ghost use Rattle.std.specs.Prelude.{◌≡◌, ◌<◌, ◌≤◌, ◌++◌, Some, IfSome, is_some, length, drop, take, option_and_then, option_map};
+ghost use Rattle.std.specs.Option.{option_copied};
+ghost use Rattle.pldm_requester.specs.Slots.{held_of};
+ghost use Rattle.pldm_requester.specs.Standings.{standing_told};
+ghost use Rattle.pldm_requester.specs.Steps.{IsHeld};
+ghost use Rattle.needleoat_forms.specs.Written.{IsWritten};
+ghost use Rattle.needleoat_c.specs.Requesters.{ReportsDue, ReportsGot, ReportsOpening, ReportsPacketIn, ReportsStanding, command_in, fault_number, fitting, is_next, opened_by, opening_in, packet_of, received_by, refusal_at, standing_of, ticked_by};
+
+use crate::refusals::{BAD_MOMENT, ID_IN_USE, NO_COMMAND, NO_MEMORY, TAG_IN_USE};
+use crate::reports::{DueReport, OpeningReport, PacketReport, StatusReport};
+use mctp_packet::{MAX_MESSAGE_BYTES, MAX_PACKET_BYTES, Moment};
+use pldm_requester::{Got, MAX_OPEN, MAX_REMEMBERED, OpenFault, Requester, Status};
+use pldm_wire::{Command, read_command, read_request};
+
+/// The moment, where it may come next.
+fn next_moment(requester: &Requester, now_ms: u64) -> Option<Moment>
+    ensures some { is_some result ≡ is_next now_ms (held_of requester.now) }
+    ensures value { IfSome result (λ now. now ≡ now_ms) }
+    ensures later { IfSome result (λ now. (held_of requester.now).last ≤ now) }
+{
+    let now = Moment::new(now_ms)?;
+    if now < requester.last_moment() {
+        return None;
+    }
+    Some(now)
+}
+
+/// The command that a message carries as a request.
+fn command_in(message: &[u8]) -> Option<Command>
+    ensures { result ≡ command_in message.now }
+{
+    let Ok(request) = read_request(message) else {
+        return None;
+    };
+    match read_command(&request) {
+        Ok(command) => Some(command),
+        Err(_) => None,
+    }
+}
+
+/// The number of a fault of opening.
+fn fault_number(fault: OpenFault) -> u8
+    ensures { result ≡ fault_number fault }
+{
+    match fault {
+        OpenFault::TagInUse => TAG_IN_USE,
+        OpenFault::IdInUse => ID_IN_USE,
+        OpenFault::Memory => NO_MEMORY,
+    }
+}
+
+/// Opens a request for the command that a message carries.
+pub(crate) fn open(requester: &mut Requester, now_ms: u64, request: &[u8]) -> OpeningReport
+    ensures report { ReportsOpening (opening_in now_ms request.now (held_of requester.old)) result }
+    ensures memory { result.refusal ≡ NO_MEMORY → (held_of requester.old).count < MAX_REMEMBERED }
+    ensures held { IsHeld (held_of requester.new) (opened_by now_ms request.now result.refusal (held_of requester.old)) }
+{
+    let Some(now) = next_moment(requester, now_ms) else {
+        return OpeningReport::refused(BAD_MOMENT);
+    };
+    let Some(command) = command_in(request) else {
+        return OpeningReport::refused(NO_COMMAND);
+    };
+    match requester.open(now, &command) {
+        Ok(opened) => OpeningReport {
+            refusal: 0,
+            instance_id: opened.id,
+            tag: opened.tag.get(),
+            number: opened.number,
+        },
+        Err(fault) => OpeningReport::refused(fault_number(fault)),
+    }
+}
+
+/// Lists the requests that are due: 0, or why not.
+pub(crate) fn tick(requester: &mut Requester, now_ms: u64, due: &mut DueReport) -> u8
+    ensures refusal { result ≡ refusal_at now_ms (Some (held_of requester.old)) }
+    ensures due { result ≡ 0 → ReportsDue now_ms due.new (Some (held_of requester.old)) }
+    ensures held { IsHeld (held_of requester.new) (ticked_by now_ms result (held_of requester.old)) }
+{
+    let Some(now) = next_moment(requester, now_ms) else {
+        return BAD_MOMENT;
+    };
+    let found = requester.tick(now);
+    due.again_count = put_numbers(&mut due.again, &found.again);
+    due.given_up_count = put_numbers(&mut due.given_up, &found.given_up);
+    0
+}
+
+/// Puts numbers in front, and returns how many there are.
+fn put_numbers(room: &mut [u64; MAX_OPEN], numbers: &[u64]) -> usize
+    requires { length numbers.now ≤ MAX_OPEN }
+    ensures { take result room.new ≡ numbers.now }
+{
+    room[..numbers.len()].copy_from_slice(numbers);
+    numbers.len()
+}
+
+/// Receives the bytes of a packet.
+pub(crate) fn receive(requester: &mut Requester, now_ms: u64, packet: &[u8]) -> PacketReport
+    ensures report { ReportsPacketIn now_ms packet.now result (held_of requester.old) }
+    ensures held { IsHeld (held_of requester.new) (received_by now_ms packet.now result.kind (held_of requester.old)) }
+{
+    let Some(now) = next_moment(requester, now_ms) else {
+        return PacketReport::without(0, BAD_MOMENT);
+    };
+    match requester.receive(now, packet) {
+        Ok(got) => report_of(got),
+        Err(_) => PacketReport::without(0, NO_MEMORY),
+    }
+}
+
+/// The report of what becomes of a packet.
+fn report_of(got: Got) -> PacketReport
+    ensures report { ReportsGot got result }
+    ensures kind { 1 ≤ result.kind }
+{
+    match got {
+        Got::Dropped(reason) => PacketReport::without(1, reason.number()),
+        Got::Partial => PacketReport::without(2, 0),
+        Got::Answered(number) => PacketReport {
+            kind: 3,
+            reason: 0,
+            number,
+        },
+    }
+}
+
+/// Writes the packet of a request that is remembered, and returns its length, else 0.
+pub(crate) fn packet(requester: &Requester, number: u64, out: &mut [u8; MAX_PACKET_BYTES]) -> usize
+    ensures { IsWritten (packet_of number (Some (held_of requester.now))) result out.old out.new }
+{
+    match requester.packets(number) {
+        Some(packets) => put_packet(packets.get(0), out),
+        None => 0,
+    }
+}
+
+/// Writes a packet, where there is one and it has room.
+fn put_packet(packet: Option<&[u8]>, out: &mut [u8; MAX_PACKET_BYTES]) -> usize
+    ensures { IsWritten (option_and_then (fitting MAX_PACKET_BYTES) (option_copied packet.entry)) result out.old out.new }
+{
+    match packet {
+        Some(packet) => put_fitting(out, packet),
+        None => 0,
+    }
+}
+
+/// Writes bytes to the front of a room, where they fit, and returns their count, else 0.
+fn put_fitting(room: &mut [u8], bytes: &[u8]) -> usize
+    ensures { IsWritten (fitting (length room.old) bytes.now) result room.old room.new }
+{
+    if bytes.len() > room.len() {
+        return 0;
+    }
+    room[..bytes.len()].copy_from_slice(bytes);
+    bytes.len()
+}
+
+/// Reports how a request stands, and writes the message that answered it.
+pub(crate) fn status(
+    requester: &Requester,
+    number: u64,
+    message: &mut [u8; MAX_MESSAGE_BYTES],
+) -> StatusReport
+    ensures { ReportsStanding (standing_of number (Some (held_of requester.now))) result message.old message.new }
+{
+    status_report(requester.status(number), message)
+}
+
+/// Reports a status, and writes the message of an answer.
+fn status_report(status: Option<Status<'_>>, room: &mut [u8; MAX_MESSAGE_BYTES]) -> StatusReport
+    ensures { ReportsStanding (option_map standing_told status.entry) result room.old room.new }
+{
+    match status {
+        None => StatusReport { kind: 0, length: 0 },
+        Some(Status::Open) => StatusReport { kind: 1, length: 0 },
+        Some(Status::Answered(message)) => StatusReport {
+            kind: 2,
+            length: put_fitting(room, message),
+        },
+        Some(Status::GaveUp) => StatusReport { kind: 3, length: 0 },
+    }
+}

@@ -1,0 +1,187 @@
+//! The calls of a requester for C.
+
+ghost use Rattle.std.specs.Prelude.{◌≡◌, ◌≢◌, ◌⊎◌, false, true};
+ghost use Rattle.needleoat_forms.specs.Written.{IsWritten};
+ghost use Rattle.needleoat_c.specs.Requesters.{HoldsAfter, IsNew, IsSetup, IsUpheld, MayWantRoom, ReportsDue, ReportsOpening, ReportsPacket, ReportsStanding, holding, opened_by, opening_at, packet_of, received_by, refusal_at, standing_of, ticked_by, timing, unchanged};
+
+use crate::refusals::{ALREADY_THERE, NO_MEMORY, NOTHING_THERE, OUT_OF_RANGE};
+use crate::reports::{DueReport, OpeningReport, PacketReport, StatusReport};
+use crate::requester;
+use crate::requester_handle::RequesterForC;
+use mctp_packet::{Eid, Keep, MAX_MESSAGE_BYTES, MAX_PACKET_BYTES};
+use pldm_requester::{MAX_REMEMBERED, Requester, Timing};
+use std::alloc::Global;
+
+/// Makes a requester at the endpoint `own` for the device at the endpoint `device`: 0, or why not.
+#[unsafe(no_mangle)]
+pub extern "C" fn needleoat_requester_new(
+    alloc: Global,
+    own: u8,
+    device: u8,
+    keep_ms: u32,
+    timeout_ms: u32,
+    tries: u8,
+    requester: &mut RequesterForC,
+) -> u8
+    requires { IsUpheld requester.old }
+    ensures upheld { IsUpheld requester.new }
+    ensures already { requester.old.is_live ≡ true → result ≡ ALREADY_THERE }
+    ensures out_of_range { requester.old.is_live ≡ false → (IsSetup own device (timing keep_ms timeout_ms tries) → ⊥) → result ≡ OUT_OF_RANGE }
+    ensures number { requester.old.is_live ≡ false → IsSetup own device (timing keep_ms timeout_ms tries) → (result ≡ 0) ⊎ (result ≡ NO_MEMORY) }
+    ensures made { result ≡ 0 → IsNew own device (timing keep_ms timeout_ms tries) requester.new.handle.held }
+    ensures refused { result ≢ 0 → HoldsAfter unchanged requester.old.handle.held requester.new.handle.held }
+{
+    if requester.is_live {
+        return ALREADY_THERE;
+    }
+    let (Some(own), Some(device), Some(keep)) = (
+        Eid::new(own),
+        Eid::new(device),
+        Keep::new(keep_ms),
+    ) else {
+        return OUT_OF_RANGE;
+    };
+    let timing = Timing {
+        keep,
+        timeout: timeout_ms,
+        tries,
+    };
+    let Ok(made) = Requester::new(alloc, own, device, timing) else {
+        return OUT_OF_RANGE;
+    };
+    match Box::new(alloc, made) {
+        Ok(inside) => {
+            requester.handle.put(inside);
+            requester.is_live = true;
+            0
+        }
+        Err(_) => NO_MEMORY,
+    }
+}
+
+/// Opens a request for the command of a request message, whose instance ID is not looked at. Its
+/// packet is to be sent then.
+#[unsafe(no_mangle)]
+pub extern "C" fn needleoat_requester_open(
+    alloc: Global,
+    requester: &mut RequesterForC,
+    now_ms: u64,
+    request: &[u8],
+) -> OpeningReport
+    requires { IsUpheld requester.old }
+    ensures upheld { IsUpheld requester.new }
+    ensures report { ReportsOpening (opening_at now_ms request.now (holding requester.old.handle.held)) result }
+    ensures memory { result.refusal ≡ NO_MEMORY → MayWantRoom MAX_REMEMBERED (holding requester.old.handle.held) }
+    ensures held { HoldsAfter (opened_by now_ms request.now result.refusal) requester.old.handle.held requester.new.handle.held }
+{
+    if !requester.is_live {
+        return OpeningReport::refused(NOTHING_THERE);
+    }
+    let mut inside = requester.handle.take(alloc);
+    let report = requester::open(&mut inside, now_ms, request);
+    requester.handle.put(inside);
+    report
+}
+
+/// Lists the requests that are to be sent again and those that are given up at a moment: 0, or why
+/// not.
+#[unsafe(no_mangle)]
+pub extern "C" fn needleoat_requester_tick(
+    alloc: Global,
+    requester: &mut RequesterForC,
+    now_ms: u64,
+    due: &mut DueReport,
+) -> u8
+    requires { IsUpheld requester.old }
+    ensures upheld { IsUpheld requester.new }
+    ensures refusal { result ≡ refusal_at now_ms (holding requester.old.handle.held) }
+    ensures due { result ≡ 0 → ReportsDue now_ms due.new (holding requester.old.handle.held) }
+    ensures held { HoldsAfter (ticked_by now_ms result) requester.old.handle.held requester.new.handle.held }
+{
+    if !requester.is_live {
+        return NOTHING_THERE;
+    }
+    let mut inside = requester.handle.take(alloc);
+    let refusal = requester::tick(&mut inside, now_ms, due);
+    requester.handle.put(inside);
+    refusal
+}
+
+/// Receives the bytes of a packet that came at a moment.
+#[unsafe(no_mangle)]
+pub extern "C" fn needleoat_requester_receive(
+    alloc: Global,
+    requester: &mut RequesterForC,
+    now_ms: u64,
+    packet: &[u8],
+) -> PacketReport
+    requires { IsUpheld requester.old }
+    ensures upheld { IsUpheld requester.new }
+    ensures report { ReportsPacket now_ms packet.now result (holding requester.old.handle.held) }
+    ensures held { HoldsAfter (received_by now_ms packet.now result.kind) requester.old.handle.held requester.new.handle.held }
+{
+    if !requester.is_live {
+        return PacketReport::without(0, NOTHING_THERE);
+    }
+    let mut inside = requester.handle.take(alloc);
+    let report = requester::receive(&mut inside, now_ms, packet);
+    requester.handle.put(inside);
+    report
+}
+
+/// Writes the packet of a request that is remembered, and returns its length in bytes, else 0.
+#[unsafe(no_mangle)]
+pub extern "C" fn needleoat_requester_packet(
+    alloc: Global,
+    requester: &mut RequesterForC,
+    number: u64,
+    out: &mut [u8; MAX_PACKET_BYTES],
+) -> usize
+    requires { IsUpheld requester.old }
+    ensures upheld { IsUpheld requester.new }
+    ensures packet { IsWritten (packet_of number (holding requester.old.handle.held)) result out.old out.new }
+    ensures held { HoldsAfter unchanged requester.old.handle.held requester.new.handle.held }
+{
+    if !requester.is_live {
+        return 0;
+    }
+    let inside = requester.handle.take(alloc);
+    let length = requester::packet(&inside, number, out);
+    requester.handle.put(inside);
+    length
+}
+
+/// Reports how a request stands, and writes the message that answered it.
+#[unsafe(no_mangle)]
+pub extern "C" fn needleoat_requester_status(
+    alloc: Global,
+    requester: &mut RequesterForC,
+    number: u64,
+    message: &mut [u8; MAX_MESSAGE_BYTES],
+) -> StatusReport
+    requires { IsUpheld requester.old }
+    ensures upheld { IsUpheld requester.new }
+    ensures report { ReportsStanding (standing_of number (holding requester.old.handle.held)) result message.old message.new }
+    ensures held { HoldsAfter unchanged requester.old.handle.held requester.new.handle.held }
+{
+    if !requester.is_live {
+        return StatusReport { kind: 0, length: 0 };
+    }
+    let inside = requester.handle.take(alloc);
+    let report = requester::status(&inside, number, message);
+    requester.handle.put(inside);
+    report
+}
+
+/// Frees the requester, where there is one. The handle is then as one of zeros.
+#[unsafe(no_mangle)]
+pub extern "C" fn needleoat_requester_free(alloc: Global, requester: &mut RequesterForC)
+    requires { IsUpheld requester.old }
+    ensures upheld { IsUpheld requester.new }
+    ensures freed { requester.new.is_live ≡ false }
+{
+    if requester.is_live {
+        drop(requester.handle.take(alloc));
+        requester.is_live = false;
+    }
+}

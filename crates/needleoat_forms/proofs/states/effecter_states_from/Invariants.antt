@@ -1,0 +1,10 @@
+-- What was made so far and what the rest makes is what all of them make.
+use Rattle.std.proofs.Common.{◌≡◌, ◌++◌, length, map, drop}
+use Rattle.needleoat_forms.specs.States.{effecter_state}
+use Rattle.needleoat_forms.proofs.states.effecter_states_from.Given as goal
+
+abbrev pub invariant-loop-field : goal.invariant-loop-field
+invariant-loop-field l = record {
+  all : l.made.items ++ map effecter_state (drop l.field-index l.fields) ≡ map effecter_state l.fields;
+  count : length l.made.items ≡ l.field-index;
+}

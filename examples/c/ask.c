@@ -1,0 +1,137 @@
+/*
+ * The requesting end: a request whose answer is lost, its retry, a second request, and one that is given up. The device is
+ * a fan that keeps one answer. Each call that had no memory is made again, since it changed nothing.
+ */
+#include "needleoat.h"
+#include <inttypes.h>
+#include <stdio.h>
+#include <string.h>
+
+static void print_bytes(const char *name, const uint8_t *bytes, size_t length) {
+    printf("%s ", name);
+    for (size_t i = 0; i < length; i++) printf("%02x", bytes[i]);
+    printf("\n");
+}
+
+/* ---- The device at endpoint 9 ---- */
+
+static int64_t speed = 10;
+static uint8_t kept_request[NEEDLEOAT_PACKET_BYTES], kept_answer[NEEDLEOAT_PACKET_BYTES];
+static size_t kept_request_length, kept_answer_length;
+
+/* Answers a packet with a packet in `kept_answer`; the same packet once more has the same answer. */
+static const char *device(const uint8_t *bytes, size_t length) {
+    if (length == kept_request_length && memcmp(bytes, kept_request, length) == 0) return "copy";
+    struct needleoat_packet packet = needleoat_packet_read(9, bytes, length);
+    struct needleoat_command command;
+    struct needleoat_command_reading reading = needleoat_command_read(bytes + 4, packet.payload_length, &command);
+    if (packet.reason != 0 || reading.reason != 0 || reading.code != 0) return "dropped";
+    struct needleoat_answer answer = {.instance_id = command.instance_id,
+                                      .pldm_type = command.pldm_type,
+                                      .command = command.command,
+                                      .size = NEEDLEOAT_UINT8,
+                                      .operational = 1};
+    if (command.command == NEEDLEOAT_SET_NUMERIC_EFFECTER_VALUE) speed = command.value;
+    answer.value = answer.pending_value = speed;
+    uint8_t response[NEEDLEOAT_MESSAGE_BYTES];
+    size_t count = needleoat_answer_write(&answer, response);
+    kept_answer_length = needleoat_packet_write(packet.source, 9, false, packet.tag, response, count, 0, kept_answer);
+    memcpy(kept_request, bytes, length);
+    kept_request_length = length;
+    return "fresh";
+}
+
+/* ---- The requester at endpoint 8 ---- */
+
+static struct needleoat_requester requester = NEEDLEOAT_REQUESTER_NONE;
+static uint8_t packet[NEEDLEOAT_PACKET_BYTES], response[NEEDLEOAT_MESSAGE_BYTES];
+
+static uint8_t make(struct needleoat_requester *handle, uint8_t own) {
+    uint8_t refusal;
+    do refusal = needleoat_requester_new(own, 9, 1000, 200, 3, handle);
+    while (refusal == NEEDLEOAT_NO_MEMORY);
+    return refusal;
+}
+
+static void open(uint64_t now, const struct needleoat_command *command) {
+    uint8_t request[NEEDLEOAT_REQUEST_BYTES];
+    size_t length = needleoat_command_write(command, request);
+    struct needleoat_opening opening;
+    do opening = needleoat_requester_open(&requester, now, request, length);
+    while (opening.refusal == NEEDLEOAT_NO_MEMORY);
+    if (opening.refusal != 0) printf("%" PRIu64 " not opened: %u\n", now, opening.refusal);
+    else
+        printf("%" PRIu64 " opened %" PRIu64 ", instance ID %u, tag %u\n", now, opening.number, opening.instance_id, opening.tag);
+}
+
+static size_t send(uint64_t number) {
+    size_t length = needleoat_requester_packet(&requester, number, packet);
+    print_bytes("packet", packet, length);
+    return length;
+}
+
+static void tick(uint64_t now) {
+    struct needleoat_due due;
+    uint8_t refusal = needleoat_requester_tick(&requester, now, &due);
+    if (refusal != 0) {
+        printf("%" PRIu64 " no tick: %u\n", now, refusal);
+        return;
+    }
+    for (size_t i = 0; i < due.again_count; i++) printf("%" PRIu64 " again %" PRIu64 "\n", now, due.again[i]);
+    for (size_t i = 0; i < due.given_up_count; i++) printf("%" PRIu64 " gave up %" PRIu64 "\n", now, due.given_up[i]);
+}
+
+static void receive(uint64_t now) {
+    struct needleoat_receiving r;
+    do r = needleoat_requester_receive(&requester, now, kept_answer, kept_answer_length);
+    while (r.kind == 0 && r.reason == NEEDLEOAT_NO_MEMORY);
+    if (r.kind == 3) printf("%" PRIu64 " answered %" PRIu64 "\n", now, r.number);
+    else printf("%" PRIu64 " kind %u reason %u\n", now, r.kind, r.reason);
+}
+
+static void status(uint64_t number) {
+    struct needleoat_status s = needleoat_requester_status(&requester, number, response);
+    printf("request %" PRIu64 ": kind %u\n", number, s.kind);
+    if (s.kind == 2) print_bytes("response", response, s.length);
+}
+
+int main(void) {
+    struct needleoat_command set = {.pldm_type = NEEDLEOAT_PLATFORM,
+                                    .command = NEEDLEOAT_SET_NUMERIC_EFFECTER_VALUE,
+                                    .effecter = 1,
+                                    .size = NEEDLEOAT_UINT8,
+                                    .value = 40};
+    struct needleoat_command get = {
+        .pldm_type = NEEDLEOAT_PLATFORM, .command = NEEDLEOAT_GET_NUMERIC_EFFECTER_VALUE, .effecter = 1};
+    struct needleoat_command get_tid = {.pldm_type = NEEDLEOAT_BASE, .command = NEEDLEOAT_GET_TID};
+    struct needleoat_requester none = NEEDLEOAT_REQUESTER_NONE;
+    printf("made %u\n", make(&requester, 8));
+    printf("made %u\n", make(&requester, 8));
+    printf("made %u\n", make(&none, 9));
+
+    open(0, &set);
+    printf("0 %s\n", device(packet, send(0))); /* this answer is lost */
+    status(0);
+    tick(199);
+    tick(200);
+    printf("200 %s\n", device(packet, send(0)));
+    receive(210);
+    receive(211);
+    status(0);
+
+    open(300, &get);
+    printf("300 %s\n", device(packet, send(1)));
+    receive(310);
+    status(1);
+
+    open(399, &(struct needleoat_command){.pldm_type = 1});
+    open(400, &get_tid);
+    tick(399);
+    tick(1000);
+    status(2);
+    status(3);
+    needleoat_requester_free(&requester);
+    status(2);
+    tick(1001);
+    return 0;
+}

@@ -1,0 +1,326 @@
+/*
+ * Passes other values through each field of each struct, and through each number that a call returns. The
+ * bytes beside it in fields.expected are those of the tables of DSP0236, DSP0240 and DSP0248, written by
+ * hand.
+ */
+#include "needleoat.h"
+#include <stdio.h>
+#include <string.h>
+
+#define COUNT(list) (sizeof(list) / sizeof *(list))
+#define UNTOUCHED 0xee
+
+static void print_bytes(const uint8_t *bytes, size_t length) {
+    for (size_t i = 0; i < length; i++) printf("%02x", bytes[i]);
+}
+
+/* The bytes of a text in hex. */
+static size_t from_hex(const char *hex, uint8_t *bytes) {
+    size_t count = strlen(hex) / 2;
+    for (size_t i = 0; i < count; i++) {
+        unsigned byte;
+        if (sscanf(hex + 2 * i, "%2x", &byte) != 1) return 0;
+        bytes[i] = (uint8_t)byte;
+    }
+    return count;
+}
+
+/* Whether each byte from `start` on is as it was. */
+static const char *rest(const uint8_t *bytes, size_t start, size_t end) {
+    for (size_t i = start; i < end; i++)
+        if (bytes[i] != UNTOUCHED) return "overwritten";
+    return "untouched";
+}
+
+/* ---- Packets ---- */
+
+static void read_packet(uint8_t own, const char *hex) {
+    uint8_t bytes[80];
+    size_t length = from_hex(hex, bytes);
+    struct needleoat_packet p = needleoat_packet_read(own, bytes, length);
+    printf("packet at %u: reason %u", own, p.reason);
+    if (p.reason == 0)
+        printf(" destination %u source %u tag %u seq %u owner %d start %d end %d payload %zu", p.destination, p.source, p.tag,
+               p.seq, p.owner, p.start, p.end, p.payload_length);
+    printf("\n");
+}
+
+static void packets(void) {
+    read_packet(9, "010908c801800002");
+    read_packet(30, "f11e1d5daabbcc");
+    read_packet(254, "01fe0827aabb");
+    read_packet(8, "0108feb001");
+    read_packet(9, "");
+    read_packet(9, "020908c801800002");
+    read_packet(9, "010b08c801800002");
+    read_packet(9, "010907c801800002");
+    read_packet(9, "010909c801800002");
+    read_packet(9, "010908c8");
+    read_packet(9, "010908c8" "01010101010101010101010101010101010101010101010101010101010101010101"
+                   "01010101010101010101010101010101010101010101010101010101010101");
+    read_packet(7, "010708c801800002");
+    read_packet(255, "01ff08c801800002");
+    static const size_t lengths[] = {0, 1, 64, 65, 128, 320, 321, SIZE_MAX};
+    printf("counts");
+    for (size_t i = 0; i < COUNT(lengths); i++) printf(" %zu", needleoat_packet_count(lengths[i]));
+    printf("\n");
+}
+
+static void write_packet(uint8_t destination, uint8_t source, bool owner, uint8_t tag, size_t length, size_t index) {
+    uint8_t message[321], out[NEEDLEOAT_PACKET_BYTES];
+    for (size_t i = 0; i < sizeof message; i++) message[i] = (uint8_t)i;
+    memset(out, UNTOUCHED, sizeof out);
+    size_t count = needleoat_packet_write(destination, source, owner, tag, message, length, index, out);
+    printf("packet %zu of %zu bytes: %zu ", index, length, count);
+    print_bytes(out, count < 6 ? count : 6);
+    printf(" %s\n", rest(out, count, sizeof out));
+}
+
+static void written_packets(void) {
+    write_packet(8, 9, false, 0, 64, 0);
+    write_packet(30, 29, true, 5, 65, 0);
+    write_packet(30, 29, true, 5, 65, 1);
+    for (size_t i = 0; i < 6; i++) write_packet(254, 10, false, 7, 320, i);
+    write_packet(8, 9, false, 0, 0, 0);
+    write_packet(8, 9, false, 0, 321, 0);
+    write_packet(7, 9, false, 0, 1, 0);
+    write_packet(8, 255, false, 0, 1, 0);
+    write_packet(8, 9, false, 8, 1, 0);
+}
+
+/* ---- Messages ---- */
+
+static void print_message(const char *name, struct needleoat_message m) {
+    printf("%s: reason %u", name, m.reason);
+    if (m.reason == 0)
+        printf(" id %u type %u command %u code %u data %zu", m.instance_id, m.pldm_type, m.command, m.code, m.data_length);
+    printf("\n");
+}
+
+static void read_request(const char *hex) {
+    uint8_t bytes[64];
+    size_t length = from_hex(hex, bytes);
+    print_message("request", needleoat_request_read(bytes, length));
+}
+
+static void read_response(const char *hex) {
+    uint8_t bytes[64];
+    size_t length = from_hex(hex, bytes);
+    print_message("response", needleoat_response_read(bytes, length));
+}
+
+static void messages(void) {
+    static const char *const requests[] = {"01800002", "019d3f7a0102030405", "02800002", "81800002", "0180", "",
+                                           "01804002", "01000002", "01c00002"};
+    for (size_t i = 0; i < COUNT(requests); i++) read_request(requests[i]);
+    static const char *const responses[] = {"010000020001", "011d025182aabbcc", "020000020001", "810000020001", "01000002",
+                                            "", "010040020001", "018000020001", "014000020001"};
+    for (size_t i = 0; i < COUNT(responses); i++) read_response(responses[i]);
+}
+
+/* ---- Commands ---- */
+
+#define BASE(id, number) .instance_id = id, .pldm_type = NEEDLEOAT_BASE, .command = number
+#define PLATFORM(id, number) .instance_id = id, .pldm_type = NEEDLEOAT_PLATFORM, .command = number
+
+static const struct needleoat_command commands[] = {
+    {BASE(1, NEEDLEOAT_SET_TID), .tid = 40},
+    {BASE(2, NEEDLEOAT_GET_TID)},
+    {BASE(3, NEEDLEOAT_GET_PLDM_VERSION), .data_transfer_handle = 0x04030201, .transfer_operation_flag = 6, .asked_type = 5},
+    {BASE(4, NEEDLEOAT_GET_PLDM_TYPES)},
+    {BASE(5, NEEDLEOAT_GET_PLDM_COMMANDS), .asked_type = 2, .version = {0xf1, 0xf2, 0xf3, 0xf4}},
+    {PLATFORM(6, NEEDLEOAT_GET_SENSOR_READING), .sensor = 0x0201, .rearm = 3},
+    {PLATFORM(0, NEEDLEOAT_GET_STATE_SENSOR_READINGS), .sensor = 3, .rearm = 0xff},
+    {PLATFORM(1, NEEDLEOAT_SET_NUMERIC_EFFECTER_VALUE), .effecter = 1, .size = NEEDLEOAT_SINT16, .value = -2},
+    {PLATFORM(8, NEEDLEOAT_SET_NUMERIC_EFFECTER_VALUE), .effecter = 1, .size = NEEDLEOAT_UINT32, .value = 4294967295},
+    {PLATFORM(9, NEEDLEOAT_GET_NUMERIC_EFFECTER_VALUE), .effecter = 0x0605},
+    {PLATFORM(10, NEEDLEOAT_SET_STATE_EFFECTER_STATES), .effecter = 2, .count = 8,
+     .sets = {{0, 10}, {1, 11}, {2, 12}, {3, 13}, {4, 14}, {5, 15}, {6, 16}, {7, 17}}},
+    {PLATFORM(11, NEEDLEOAT_GET_STATE_EFFECTER_STATES), .effecter = 2},
+    {PLATFORM(12, NEEDLEOAT_GET_PDR_REPOSITORY_INFO)},
+    {PLATFORM(31, NEEDLEOAT_GET_PDR), .record_handle = 0x44332211, .data_transfer_handle = 0x88776655,
+     .transfer_operation_flag = 1, .request_count = 0xaa99, .record_change_number = 0xccbb},
+};
+
+/* Each has a field that is out of range. */
+static const struct needleoat_command no_commands[] = {
+    {BASE(32, NEEDLEOAT_GET_TID)},
+    {BASE(1, 0x06)},
+    {PLATFORM(1, 0x10)},
+    {.instance_id = 1, .pldm_type = 1, .command = NEEDLEOAT_GET_TID},
+    {PLATFORM(1, NEEDLEOAT_SET_NUMERIC_EFFECTER_VALUE), .size = 6},
+    {PLATFORM(1, NEEDLEOAT_SET_NUMERIC_EFFECTER_VALUE), .size = NEEDLEOAT_UINT8, .value = 256},
+    {PLATFORM(1, NEEDLEOAT_SET_NUMERIC_EFFECTER_VALUE), .size = NEEDLEOAT_SINT8, .value = -129},
+    {PLATFORM(1, NEEDLEOAT_SET_STATE_EFFECTER_STATES), .count = 0},
+    {PLATFORM(1, NEEDLEOAT_SET_STATE_EFFECTER_STATES), .count = 9},
+};
+
+#define SAME(field) (memcmp(&a->field, &b->field, sizeof a->field) == 0)
+
+/* Whether each field is the same; the bytes between them may be any. */
+static bool same_command(const struct needleoat_command *a, const struct needleoat_command *b) {
+    return SAME(instance_id) && SAME(pldm_type) && SAME(command) && SAME(tid) && SAME(asked_type) &&
+           SAME(transfer_operation_flag) && SAME(rearm) && SAME(size) && SAME(count) && SAME(sensor) && SAME(effecter) &&
+           SAME(request_count) && SAME(record_change_number) && SAME(data_transfer_handle) && SAME(record_handle) &&
+           SAME(value) && SAME(version) && SAME(sets);
+}
+
+static void read_command(const char *hex) {
+    uint8_t bytes[64];
+    size_t length = from_hex(hex, bytes);
+    struct needleoat_command command;
+    memset(&command, UNTOUCHED, sizeof command);
+    struct needleoat_command_reading r = needleoat_command_read(bytes, length, &command);
+    printf("command: reason %u code %02x %s\n", r.reason, r.code, rest((const uint8_t *)&command, 0, sizeof command));
+}
+
+static void written_commands(void) {
+    uint8_t out[NEEDLEOAT_REQUEST_BYTES];
+    for (size_t i = 0; i < COUNT(commands); i++) {
+        struct needleoat_command command;
+        memset(out, UNTOUCHED, sizeof out);
+        memset(&command, UNTOUCHED, sizeof command);
+        size_t count = needleoat_command_write(&commands[i], out);
+        struct needleoat_command_reading r = needleoat_command_read(out, count, &command);
+        bool same = r.reason == 0 && r.code == 0 && same_command(&commands[i], &command);
+        printf("command ");
+        print_bytes(out, count);
+        printf(" %s, read back %s\n", rest(out, count, sizeof out), same ? "the same" : "OTHERWISE");
+    }
+    for (size_t i = 0; i < COUNT(no_commands); i++) {
+        memset(out, UNTOUCHED, sizeof out);
+        size_t count = needleoat_command_write(&no_commands[i], out);
+        printf("no command %zu %s\n", count, rest(out, 0, sizeof out));
+    }
+    static const char *const refused[] = {"01800231010006",   "0180023101000628", "0180023101000228", "01800239020000",
+                                          "0180023902000201", "01800502",         "01810010",         "0182000200",
+                                          "01000002",         "01c00002"};
+    for (size_t i = 0; i < COUNT(refused); i++) read_command(refused[i]);
+}
+
+/* ---- Answers ---- */
+
+static const struct needleoat_answer answers[] = {
+    {BASE(1, NEEDLEOAT_SET_TID)},
+    {BASE(2, NEEDLEOAT_GET_TID), .tid = 40},
+    {BASE(3, NEEDLEOAT_GET_PLDM_VERSION), .next_data_transfer_handle = 0x04030201, .length = 8,
+     .bytes = {0xa1, 0xa2, 0xa3, 0xa4, 0xb1, 0xb2, 0xb3, 0xb4}},
+    {BASE(4, NEEDLEOAT_GET_PLDM_TYPES), .types = {1, 2, 3, 4, 5, 6, 7, 8}},
+    {BASE(5, NEEDLEOAT_GET_PLDM_COMMANDS),
+     .commands = {0x20, 0x21, 0x22, 0x23, 0x24, 0x25, 0x26, 0x27, 0x28, 0x29, 0x2a, 0x2b, 0x2c, 0x2d, 0x2e, 0x2f,
+                  0x30, 0x31, 0x32, 0x33, 0x34, 0x35, 0x36, 0x37, 0x38, 0x39, 0x3a, 0x3b, 0x3c, 0x3d, 0x3e, 0x3f}},
+    {PLATFORM(6, NEEDLEOAT_GET_SENSOR_READING), .size = NEEDLEOAT_SINT32, .operational = 2, .sensor_event_message_enable = 3,
+     .present = 4, .previous = 5, .event = 6, .value = -2},
+    {PLATFORM(7, NEEDLEOAT_GET_STATE_SENSOR_READINGS), .count = 8,
+     .sensor_states = {{0x10, 0x20, 0x30, 0x40}, {0x11, 0x21, 0x31, 0x41}, {0x12, 0x22, 0x32, 0x42}, {0x13, 0x23, 0x33, 0x43},
+                       {0x14, 0x24, 0x34, 0x44}, {0x15, 0x25, 0x35, 0x45}, {0x16, 0x26, 0x36, 0x46}, {0x17, 0x27, 0x37, 0x47}}},
+    {PLATFORM(8, NEEDLEOAT_SET_NUMERIC_EFFECTER_VALUE)},
+    {PLATFORM(3, NEEDLEOAT_GET_NUMERIC_EFFECTER_VALUE), .size = NEEDLEOAT_UINT8, .operational = 1, .value = 40,
+     .pending_value = 40},
+    {PLATFORM(9, NEEDLEOAT_GET_NUMERIC_EFFECTER_VALUE), .size = NEEDLEOAT_SINT16, .operational = 1, .value = 300,
+     .pending_value = -2},
+    {PLATFORM(10, NEEDLEOAT_SET_STATE_EFFECTER_STATES)},
+    {PLATFORM(11, NEEDLEOAT_GET_STATE_EFFECTER_STATES), .count = 8,
+     .effecter_states = {{0x50, 0x60, 0x70}, {0x51, 0x61, 0x71}, {0x52, 0x62, 0x72}, {0x53, 0x63, 0x73},
+                         {0x54, 0x64, 0x74}, {0x55, 0x65, 0x75}, {0x56, 0x66, 0x76}, {0x57, 0x67, 0x77}}},
+    {PLATFORM(12, NEEDLEOAT_GET_PDR_REPOSITORY_INFO), .repository_state = 1,
+     .update_time = {0x80, 0x81, 0x82, 0x83, 0x84, 0x85, 0x86, 0x87, 0x88, 0x89, 0x8a, 0x8b, 0x8c},
+     .oem_update_time = {0x90, 0x91, 0x92, 0x93, 0x94, 0x95, 0x96, 0x97, 0x98, 0x99, 0x9a, 0x9b, 0x9c},
+     .record_count = 0x04030201, .repository_size = 0x08070605, .largest_record_size = 0x0c0b0a09, .timeout = 0x0d},
+    {PLATFORM(31, NEEDLEOAT_GET_PDR), .next_record_handle = 0x44332211, .next_data_transfer_handle = 0x88776655,
+     .transfer_flag = 4, .transfer_crc = 0xf5, .length = 5, .bytes = {0xe1, 0xe2, 0xe3, 0xe4, 0xe5}},
+    {PLATFORM(30, NEEDLEOAT_GET_PDR), .transfer_flag = 5, .length = 1, .bytes = {0xe6}},
+    {PLATFORM(4, NEEDLEOAT_GET_PDR), .code = 0x82},
+};
+
+/* Each has a field that is out of range. */
+static const struct needleoat_answer no_answers[] = {
+    {BASE(32, NEEDLEOAT_GET_TID)},
+    {.instance_id = 1, .pldm_type = 64, .command = NEEDLEOAT_GET_TID, .code = 5},
+    {.instance_id = 1, .pldm_type = 1, .command = NEEDLEOAT_GET_TID},
+    {BASE(1, 0x06)},
+    {BASE(1, NEEDLEOAT_GET_PLDM_VERSION), .length = 5},
+    {BASE(1, NEEDLEOAT_GET_PLDM_VERSION), .length = 36},
+    {BASE(1, NEEDLEOAT_GET_PLDM_VERSION), .length = SIZE_MAX},
+    {PLATFORM(1, NEEDLEOAT_GET_SENSOR_READING), .size = 6},
+    {PLATFORM(1, NEEDLEOAT_GET_NUMERIC_EFFECTER_VALUE), .size = NEEDLEOAT_UINT8, .value = 256},
+    {PLATFORM(1, NEEDLEOAT_GET_NUMERIC_EFFECTER_VALUE), .size = NEEDLEOAT_UINT8, .pending_value = -1},
+    {PLATFORM(1, NEEDLEOAT_GET_STATE_SENSOR_READINGS), .count = 9},
+    {PLATFORM(1, NEEDLEOAT_GET_STATE_EFFECTER_STATES), .count = 0},
+    {PLATFORM(1, NEEDLEOAT_GET_PDR), .transfer_flag = 3},
+    {PLATFORM(1, NEEDLEOAT_GET_PDR), .transfer_flag = 5, .length = 304},
+};
+
+static bool same_answer(const struct needleoat_answer *a, const struct needleoat_answer *b) {
+    return SAME(instance_id) && SAME(pldm_type) && SAME(command) && SAME(code) && SAME(tid) && SAME(transfer_flag) &&
+           SAME(transfer_crc) && SAME(size) && SAME(operational) && SAME(sensor_event_message_enable) && SAME(present) &&
+           SAME(previous) && SAME(event) && SAME(count) && SAME(repository_state) && SAME(timeout) &&
+           SAME(next_record_handle) && SAME(next_data_transfer_handle) && SAME(record_count) && SAME(repository_size) &&
+           SAME(largest_record_size) && SAME(value) && SAME(pending_value) && SAME(length) && SAME(sensor_states) &&
+           SAME(effecter_states) && SAME(types) && SAME(commands) && SAME(update_time) && SAME(oem_update_time) && SAME(bytes);
+}
+
+/* A request that the answer is one to. */
+static size_t request_for(const struct needleoat_answer *answer, uint8_t out[NEEDLEOAT_REQUEST_BYTES]) {
+    struct needleoat_command command = {.instance_id = answer->instance_id,
+                                        .pldm_type = answer->pldm_type,
+                                        .command = answer->command,
+                                        .count = 1};
+    return needleoat_command_write(&command, out);
+}
+
+static void check(const char *request_hex, const char *response_hex) {
+    uint8_t request[32], response[32];
+    size_t request_length = from_hex(request_hex, request), response_length = from_hex(response_hex, response);
+    struct needleoat_answer answer;
+    memset(&answer, UNTOUCHED, sizeof answer);
+    uint8_t fault = needleoat_answer_read(request, request_length, response, response_length, &answer);
+    uint8_t checked = needleoat_answer_check(request, request_length, response, response_length);
+    printf("answer %u %u ", fault, checked);
+    if (fault == 0) printf("code %02x\n", answer.code);
+    else printf("%s\n", rest((const uint8_t *)&answer, 0, sizeof answer));
+}
+
+static void written_answers(void) {
+    uint8_t request[NEEDLEOAT_REQUEST_BYTES], out[NEEDLEOAT_MESSAGE_BYTES];
+    for (size_t i = 0; i < COUNT(answers); i++) {
+        struct needleoat_answer answer;
+        memset(out, UNTOUCHED, sizeof out);
+        memset(&answer, UNTOUCHED, sizeof answer);
+        size_t count = needleoat_answer_write(&answers[i], out);
+        size_t request_length = request_for(&answers[i], request);
+        bool same = needleoat_answer_read(request, request_length, out, count, &answer) == 0 && same_answer(&answers[i], &answer);
+        printf("answer ");
+        print_bytes(out, count);
+        printf(" %s, read back %s\n", rest(out, count, sizeof out), same ? "the same" : "OTHERWISE");
+    }
+    for (size_t i = 0; i < COUNT(no_answers); i++) {
+        memset(out, UNTOUCHED, sizeof out);
+        size_t count = needleoat_answer_write(&no_answers[i], out);
+        printf("no answer %zu %s\n", count, rest(out, 0, sizeof out));
+    }
+    check("01800002", "010000020001");
+    check("01800002", "0100000203ff");
+    check("01800502", "010000020001");
+    check("01000002", "010000020001");
+    check("01800002", "018000020001");
+    check("01800002", "010100020001");
+    check("01800002", "010000010001");
+    check("01800002", "0100000200");
+    check("01800002", "010000020001ff");
+    check("01800211010000", "010002110006000001010128");
+    check("01800211010000", "010002110002000001010128");
+    check("018002510000000000000000012f010000", "01000251000000000000000000030000");
+    check("018002510000000000000000012f010000", "01000251000000000000000000053001");
+}
+
+int main(void) {
+    packets();
+    written_packets();
+    messages();
+    written_commands();
+    written_answers();
+    printf("checksum %02x\n", needleoat_crc8((const uint8_t *)"123456789", 9));
+    printf("checksum %02x\n", needleoat_crc8((const uint8_t *)"", 0));
+    return 0;
+}

@@ -1,0 +1,39 @@
+/*
+ * The memory of the library over malloc. Where the environment has REFUSED_GROWTH=N, the Nth growth is refused; at its end
+ * the program writes how many there were, as `growths N` on standard error.
+ */
+#include "needleoat.h"
+#include <stdio.h>
+#include <stdlib.h>
+
+static uint8_t some_byte;
+static unsigned long growths, refused;
+
+static void report(void) { fprintf(stderr, "growths %lu\n", growths); }
+
+/* Counts a growth, and says whether it is the one to be refused. */
+static bool is_refused(void) {
+    if (growths == 0) {
+        const char *number = getenv("REFUSED_GROWTH");
+        if (number) refused = strtoul(number, NULL, 10);
+        atexit(report);
+    }
+    growths++;
+    return growths == refused;
+}
+
+static struct needleoat_block block(void *at) {
+    return (struct needleoat_block){at != NULL, at ? at : &some_byte};
+}
+
+struct needleoat_block rattle_alloc(size_t size, size_t align) {
+    (void)align; /* malloc aligns to 16 */
+    return block(is_refused() ? NULL : malloc(size ? size : 1));
+}
+
+struct needleoat_block rattle_realloc(uint8_t *old, size_t kept, size_t size, size_t align) {
+    (void)kept, (void)align;
+    return block(is_refused() ? NULL : realloc(old, size ? size : 1));
+}
+
+void rattle_dealloc(uint8_t *old) { free(old); }

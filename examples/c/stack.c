@@ -1,0 +1,101 @@
+/*
+ * Prints how many bytes of stack each call took, and ends with status 1 where one took more than 4,096. Each call runs on
+ * a stack of its own, which is filled with one byte before and looked through after. So this is what these calls took,
+ * over inputs that go a long way, and no bound.
+ */
+#define _XOPEN_SOURCE 700
+#include "needleoat.h"
+#include <stdio.h>
+#include <string.h>
+#include <ucontext.h>
+
+enum { FILL = 0xa5, LIMIT = 4096 };
+
+static _Alignas(16) uint8_t stack[1 << 16];
+static ucontext_t back, call;
+
+static size_t taken_by(void (*function)(void)) {
+    memset(stack, FILL, sizeof stack);
+    getcontext(&call);
+    call.uc_stack.ss_sp = stack;
+    call.uc_stack.ss_size = sizeof stack;
+    call.uc_link = &back;
+    makecontext(&call, function, 0);
+    swapcontext(&back, &call);
+    size_t i = 0;
+    while (i < sizeof stack && stack[i] == FILL) i++;
+    return sizeof stack - i;
+}
+
+/* GetPDR, and an answer with the longest part. */
+static struct needleoat_command command;
+static struct needleoat_answer answer;
+static uint8_t request[NEEDLEOAT_REQUEST_BYTES], response[NEEDLEOAT_MESSAGE_BYTES], packet[NEEDLEOAT_PACKET_BYTES];
+static size_t request_length, response_length, packet_length;
+
+static void none(void) {}
+static void command_write(void) { request_length = needleoat_command_write(&command, request); }
+static void command_read(void) { needleoat_command_read(request, request_length, &command); }
+static void answer_write(void) { response_length = needleoat_answer_write(&answer, response); }
+static void answer_read(void) { needleoat_answer_read(request, request_length, response, response_length, &answer); }
+static void answer_check(void) { needleoat_answer_check(request, request_length, response, response_length); }
+static void packet_write(void) {
+    packet_length = needleoat_packet_write(8, 9, false, 0, response, response_length, 0, packet);
+}
+static void packet_read(void) { needleoat_packet_read(8, packet, packet_length); }
+static void request_read(void) { needleoat_request_read(request, request_length); }
+static void response_read(void) { needleoat_response_read(response, response_length); }
+static void checksum(void) { needleoat_crc8(response, response_length); }
+
+/* A requester that asks for that part: its answer has five packets. */
+static struct needleoat_requester requester = NEEDLEOAT_REQUESTER_NONE;
+static struct needleoat_due due;
+
+static void requester_new(void) { needleoat_requester_new(8, 9, 1000, 200, 3, &requester); }
+static void requester_open(void) { needleoat_requester_open(&requester, 0, request, request_length); }
+static void requester_packet(void) { needleoat_requester_packet(&requester, 0, packet); }
+static void requester_tick(void) { needleoat_requester_tick(&requester, 200, &due); }
+static void receive_packet(size_t index) {
+    packet_length = needleoat_packet_write(8, 9, false, 0, response, response_length, index, packet);
+    needleoat_requester_receive(&requester, 300, packet, packet_length);
+}
+static void receive_first(void) { receive_packet(0); }
+static void receive_middle(void) {
+    for (size_t index = 1; index < 4; index++) receive_packet(index);
+}
+static void receive_last(void) { receive_packet(4); }
+static void requester_status(void) { needleoat_requester_status(&requester, 0, response); }
+static void requester_free(void) { needleoat_requester_free(&requester); }
+
+static const struct {
+    const char *name;
+    void (*function)(void);
+} calls[] = {
+    {"needleoat_command_write", command_write}, {"needleoat_command_read", command_read},
+    {"needleoat_answer_write", answer_write},   {"needleoat_answer_read", answer_read},
+    {"needleoat_answer_check", answer_check},   {"needleoat_packet_write", packet_write},
+    {"needleoat_packet_read", packet_read},     {"needleoat_request_read", request_read},
+    {"needleoat_response_read", response_read}, {"needleoat_crc8", checksum},
+    {"needleoat_requester_new", requester_new}, {"needleoat_requester_open", requester_open},
+    {"needleoat_requester_packet", requester_packet}, {"needleoat_requester_tick", requester_tick},
+    {"needleoat_requester_receive, first packet", receive_first},
+    {"needleoat_requester_receive, middle packets", receive_middle},
+    {"needleoat_requester_receive, last packet", receive_last},
+    {"needleoat_requester_status", requester_status}, {"needleoat_requester_free", requester_free},
+};
+
+int main(void) {
+    command.pldm_type = answer.pldm_type = NEEDLEOAT_PLATFORM;
+    command.command = answer.command = NEEDLEOAT_GET_PDR;
+    answer.transfer_flag = 4;
+    answer.length = NEEDLEOAT_PART_BYTES;
+    /* Once without a look at the stack, so that the linker has found each function and malloc has its first memory. */
+    for (size_t i = 0; i < sizeof calls / sizeof *calls; i++) calls[i].function();
+    size_t before = taken_by(none), most = 0;
+    for (size_t i = 0; i < sizeof calls / sizeof *calls; i++) {
+        size_t taken = taken_by(calls[i].function) - before;
+        if (taken > most) most = taken;
+        printf("stack of %s %zu\n", calls[i].name, taken);
+    }
+    return most > LIMIT;
+}

@@ -1,0 +1,516 @@
+/*
+ * Needleoat for C: MCTP packets (DSP0236) and PLDM messages (DSP0240, DSP0248) read and written, and
+ * the requesting end.
+ *
+ * libneedleoat_wire_c.a has what stands before the section on the requesting end. It takes no memory,
+ * keeps nothing between two calls, and needs memcpy and memset alone. libneedleoat_c.a has that section.
+ * Each call returns, whatever the bytes are. docs/PROTOCOL.md has the protocol whole, docs/C.md says
+ * what is proved of these calls and how to build the libraries.
+ *
+ * The caller has to see to the following; nothing checks it.
+ *
+ *   - Each pointer is valid: to `length` bytes that may be read (one byte at least is there even
+ *     where `length` is 0, so never NULL), or to a struct or an array that may be read and written.
+ *   - What a call writes to (`fields`, `out`) overlaps nothing else that is passed to it.
+ *   - Two threads may call at once, each with structs and arrays of its own.
+ *
+ * Numbers in structs are in the byte order of the processor. A `length` or `count` is in bytes where
+ * nothing else is said. Where a call says that it leaves something as it was, no byte of it changed.
+ */
+#ifndef NEEDLEOAT_H
+#define NEEDLEOAT_H
+
+#include <stdbool.h>
+#include <stddef.h>
+#include <stdint.h>
+
+#ifdef __cplusplus
+#define NEEDLEOAT_ASSERT(fact) static_assert(fact, #fact)
+extern "C" {
+#else
+#define NEEDLEOAT_ASSERT(fact) _Static_assert(fact, #fact)
+#endif
+
+enum {
+    NEEDLEOAT_PACKET_BYTES = 68,   /* the most bytes of a packet: a header of 4 and a payload of 64 */
+    NEEDLEOAT_PACKETS = 5,         /* the most packets of a message */
+    NEEDLEOAT_MESSAGE_BYTES = 320, /* the most bytes of a message */
+    NEEDLEOAT_REQUEST_BYTES = 23,  /* the most bytes of a request that needleoat_command_write writes */
+    NEEDLEOAT_PART_BYTES = 303,    /* the most bytes of a record in one GetPDR answer */
+    NEEDLEOAT_STATES = 8           /* the most fields of a state sensor or effecter */
+};
+
+/* Reasons to drop a packet or a message, in the order of the checks. 0 is none. */
+enum needleoat_reason {
+    NEEDLEOAT_SHORT = 1,               /* the packet has fewer than 4 bytes */
+    NEEDLEOAT_BAD_VERSION = 2,         /* its header version is not 1 */
+    NEEDLEOAT_UNKNOWN_DESTINATION = 3, /* its destination is not 8 to 254, or not the own endpoint ID */
+    NEEDLEOAT_BAD_SOURCE = 4,          /* its source is not 8 to 254, or is the own endpoint ID */
+    NEEDLEOAT_NO_PAYLOAD = 5,          /* it has no payload */
+    NEEDLEOAT_UNSUPPORTED_UNIT = 6,    /* its payload has more than 64 bytes */
+    NEEDLEOAT_NOT_PLDM = 12,           /* the message type is not 1 */
+    NEEDLEOAT_INTEGRITY = 13,          /* the integrity bit is set */
+    NEEDLEOAT_SHORT_HEADER = 14,       /* no byte; or fewer than 4 of a request, than 5 of a response */
+    NEEDLEOAT_BAD_PLDM_HEADER = 15,    /* the header version is not 0 */
+    NEEDLEOAT_NOT_REQUEST = 16,        /* Rq is 0 */
+    NEEDLEOAT_DATAGRAM = 17,           /* D is 1 */
+    NEEDLEOAT_NOT_RESPONSE = 18,       /* Rq is 1 */
+    NEEDLEOAT_NOT_AN_ENDPOINT = 255    /* the own endpoint ID is not 8 to 254, so nothing was read */
+};
+
+/* ---- Packets ---- */
+
+/* A packet's fields. Where `reason` is not 0 the others have no meaning. The payload begins at byte 4. */
+struct needleoat_packet {
+    uint8_t reason;        /* 0, or enum needleoat_reason: 1 to 6, or 255 */
+    uint8_t destination;   /* endpoint IDs, 8 to 254 */
+    uint8_t source;
+    uint8_t tag;           /* message tag, 0 to 7 */
+    uint8_t seq;           /* packet sequence number, 0 to 3 */
+    bool owner;            /* TO: the source chose the tag, so it is a request's packet */
+    bool start;            /* SOM: the packet starts a message */
+    bool end;              /* EOM: the packet ends a message */
+    size_t payload_length; /* 1 to 64 bytes */
+};
+
+/* Reads a packet at the endpoint `own`. */
+struct needleoat_packet needleoat_packet_read(uint8_t own, const uint8_t *bytes, size_t length);
+
+/* How many packets a message of so many bytes has: 1 to 5, and 0 of no bytes or of more than 320. */
+size_t needleoat_packet_count(size_t message_length);
+
+/*
+ * Writes packet `index` of a message, counted from 0, to the front of `out`, and returns its length
+ * in bytes, 5 to 68. It returns 0 and leaves `out` as it was where `destination` or `source` is not 8
+ * to 254, where `tag` is above 7, where the message has more than 320 bytes, and where `index` is not
+ * below needleoat_packet_count of its length. `owner` is true in a request and false in a response.
+ */
+size_t needleoat_packet_write(uint8_t destination, uint8_t source, bool owner, uint8_t tag, const uint8_t *message,
+                              size_t length, size_t index, uint8_t out[NEEDLEOAT_PACKET_BYTES]);
+
+/* ---- Messages ---- */
+
+/*
+ * A message's header. Where `reason` is not 0 the others have no meaning. A request's data begins at
+ * byte 4 of the message, a response's at byte 5.
+ */
+struct needleoat_message {
+    uint8_t reason;      /* 0, or enum needleoat_reason: 12 to 18 */
+    uint8_t instance_id; /* 0 to 31 */
+    uint8_t pldm_type;   /* 0 to 63 */
+    uint8_t command;     /* the command's number in that type */
+    uint8_t code;        /* a response's completion code; of a request 0 */
+    size_t data_length;  /* in bytes */
+};
+
+struct needleoat_message needleoat_request_read(const uint8_t *message, size_t length);
+struct needleoat_message needleoat_response_read(const uint8_t *message, size_t length);
+
+/* ---- Commands ---- */
+
+/* PLDM types and, in each, the commands of this profile. */
+enum {
+    NEEDLEOAT_BASE = 0,
+    NEEDLEOAT_SET_TID = 0x01,
+    NEEDLEOAT_GET_TID = 0x02,
+    NEEDLEOAT_GET_PLDM_VERSION = 0x03,
+    NEEDLEOAT_GET_PLDM_TYPES = 0x04,
+    NEEDLEOAT_GET_PLDM_COMMANDS = 0x05,
+    NEEDLEOAT_PLATFORM = 2,
+    NEEDLEOAT_GET_SENSOR_READING = 0x11,
+    NEEDLEOAT_GET_STATE_SENSOR_READINGS = 0x21,
+    NEEDLEOAT_SET_NUMERIC_EFFECTER_VALUE = 0x31,
+    NEEDLEOAT_GET_NUMERIC_EFFECTER_VALUE = 0x32,
+    NEEDLEOAT_SET_STATE_EFFECTER_STATES = 0x39,
+    NEEDLEOAT_GET_STATE_EFFECTER_STATES = 0x3a,
+    NEEDLEOAT_GET_PDR_REPOSITORY_INFO = 0x50,
+    NEEDLEOAT_GET_PDR = 0x51
+};
+
+/* Data sizes of numeric sensors and effecters. A value fits its size, signed in two's complement. */
+enum {
+    NEEDLEOAT_UINT8 = 0,
+    NEEDLEOAT_SINT8 = 1,
+    NEEDLEOAT_UINT16 = 2,
+    NEEDLEOAT_SINT16 = 3,
+    NEEDLEOAT_UINT32 = 4,
+    NEEDLEOAT_SINT32 = 5
+};
+
+/* One field of SetStateEffecterStates. */
+struct needleoat_set_state {
+    uint8_t set_request; /* 0 noChange, 1 requestSet; any byte is read and written */
+    uint8_t state;
+};
+
+/*
+ * A request's instance ID and its command. Beside each field stand the commands that have it. Those
+ * that a command does not have mean nothing after reading, and are not looked at in writing.
+ */
+struct needleoat_command {
+    uint8_t instance_id;             /* all: 0 to 31 */
+    uint8_t pldm_type;               /* all */
+    uint8_t command;                 /* all */
+    uint8_t tid;                     /* SetTID: the terminus ID, any byte */
+    uint8_t asked_type;              /* GetPLDMVersion, GetPLDMCommands: the PLDM type asked about */
+    uint8_t transfer_operation_flag; /* GetPLDMVersion, GetPDR: 0 next part, 1 first part, any byte */
+    uint8_t rearm;                   /* GetSensorReading, GetStateSensorReadings: any byte */
+    uint8_t size;                    /* SetNumericEffecterValue: the data size of `value` */
+    uint8_t count;                   /* SetStateEffecterStates: how many of `sets`, 1 to 8 */
+    uint16_t sensor;                 /* GetSensorReading, GetStateSensorReadings: the sensor ID */
+    uint16_t effecter;               /* the four commands of effecters: the effecter ID */
+    uint16_t request_count;          /* GetPDR: the most bytes asked for */
+    uint16_t record_change_number;   /* GetPDR: 0 for the first part */
+    uint32_t data_transfer_handle;   /* GetPLDMVersion, GetPDR: which part, as the last answer had it */
+    uint32_t record_handle;          /* GetPDR: 0 asks for the first record */
+    int64_t value;                   /* SetNumericEffecterValue: it fits `size` */
+    uint8_t version[4];              /* GetPLDMCommands */
+    struct needleoat_set_state sets[NEEDLEOAT_STATES]; /* SetStateEffecterStates: the first `count` */
+};
+
+/* Where both are 0, a command was read. */
+struct needleoat_command_reading {
+    uint8_t reason; /* 0, or why the message is no request: enum needleoat_reason, 12 to 17 */
+    uint8_t code;   /* 0, or the completion code to refuse the request with: 0x20, 0x05, 0x03 or 0x02 */
+};
+
+/*
+ * Reads a message as a request and its command into `fields`. Where either number that it returns is
+ * not 0, `fields` is left as it was.
+ */
+struct needleoat_command_reading needleoat_command_read(const uint8_t *message, size_t length,
+                                                        struct needleoat_command *fields);
+
+/*
+ * Writes the request of a command to the front of `out`, and returns its length in bytes, 4 to 23. It
+ * returns 0 and leaves `out` as it was where `instance_id` is above 31, where there is no such
+ * `pldm_type` and `command`, and where a field that the command has is out of range: `size` above 5,
+ * a `value` that does not fit it, a `count` other than 1 to 8.
+ */
+size_t needleoat_command_write(const struct needleoat_command *fields, uint8_t out[NEEDLEOAT_REQUEST_BYTES]);
+
+/* ---- Answers ---- */
+
+/* One field of GetStateSensorReadings' answer. */
+struct needleoat_sensor_state {
+    uint8_t operational; /* the sensor's operational state */
+    uint8_t present;     /* the state that it reports now */
+    uint8_t previous;    /* the state before that one */
+    uint8_t event;       /* the state of its latest event */
+};
+
+/* One field of GetStateEffecterStates' answer. */
+struct needleoat_effecter_state {
+    uint8_t operational; /* the effecter's operational state */
+    uint8_t pending;     /* the state that it is going to */
+    uint8_t present;     /* the state that it is in */
+};
+
+/*
+ * A response's instance ID, the command that it answers, and the answer. Beside each field stand the
+ * commands whose answers have it; an answer whose `code` is not 0 has none of them. Those that an
+ * answer does not have mean nothing after reading, and are not looked at in writing.
+ */
+struct needleoat_answer {
+    uint8_t instance_id;                 /* all: 0 to 31 */
+    uint8_t pldm_type;                   /* all: of the command */
+    uint8_t command;                     /* all */
+    uint8_t code;                        /* all: the completion code, 0 for success */
+    uint8_t tid;                         /* GetTID */
+    uint8_t transfer_flag;               /* GetPDR: 0 start, 1 middle (2 is one too), 4 end, 5 whole */
+    uint8_t transfer_crc;                /* GetPDR with flag 4: the whole record's checksum */
+    uint8_t size;                        /* GetSensorReading, GetNumericEffecterValue: the data size */
+    uint8_t operational;                 /* the same two: the operational state */
+    uint8_t sensor_event_message_enable; /* GetSensorReading: which of its events are enabled */
+    uint8_t present;                     /* GetSensorReading: the state that it reports now */
+    uint8_t previous;                    /* GetSensorReading: the state before that one */
+    uint8_t event;                       /* GetSensorReading: the state of its latest event */
+    uint8_t count;                       /* GetStateSensorReadings, GetStateEffecterStates: 1 to 8 */
+    uint8_t repository_state;            /* GetPDRRepositoryInfo: 0 available */
+    uint8_t timeout;                     /* GetPDRRepositoryInfo: how long a transfer may pause, a code */
+    uint32_t next_record_handle;         /* GetPDR: the record after this one, or 0 */
+    uint32_t next_data_transfer_handle;  /* GetPLDMVersion, GetPDR: which part is next, or 0 */
+    uint32_t record_count;               /* GetPDRRepositoryInfo */
+    uint32_t repository_size;            /* GetPDRRepositoryInfo: in bytes */
+    uint32_t largest_record_size;        /* GetPDRRepositoryInfo: in bytes */
+    int64_t value;                       /* GetSensorReading: the reading; GetNumericEffecterValue: present */
+    int64_t pending_value;               /* GetNumericEffecterValue: the value that it is going to */
+    size_t length;                       /* GetPLDMVersion, GetPDR: how many of `bytes` there are */
+    struct needleoat_sensor_state sensor_states[NEEDLEOAT_STATES];       /* GetStateSensorReadings */
+    struct needleoat_effecter_state effecter_states[NEEDLEOAT_STATES];   /* GetStateEffecterStates */
+    uint8_t types[8];            /* GetPLDMTypes: type t is bit t mod 8 of byte t / 8 */
+    uint8_t commands[32];        /* GetPLDMCommands: command c is bit c mod 8 of byte c / 8 */
+    uint8_t update_time[13];     /* GetPDRRepositoryInfo: when it was last changed */
+    uint8_t oem_update_time[13]; /* GetPDRRepositoryInfo: when its OEM records were last changed */
+    uint8_t bytes[NEEDLEOAT_PART_BYTES]; /* GetPLDMVersion: 4 to 32, four a version; GetPDR: the part */
+};
+
+/* Why a response is no answer to a request, in the order of the checks. 0: it is one. */
+enum needleoat_answer_fault {
+    NEEDLEOAT_NO_REQUEST = 1,     /* the first message is no request */
+    NEEDLEOAT_NO_COMMAND = 2,     /* it carries no command of this profile */
+    NEEDLEOAT_NO_RESPONSE = 3,    /* the second message is no response */
+    NEEDLEOAT_OTHER_INSTANCE = 4, /* it has another instance ID */
+    NEEDLEOAT_OTHER_COMMAND = 5,  /* it is to another command */
+    NEEDLEOAT_WRONG_LENGTH = 6,   /* its data is shorter or longer than the answer's */
+    NEEDLEOAT_WRONG_VALUE = 7     /* a data size, a count or a flag of it has no such value */
+};
+
+/*
+ * Reads a response as the answer to a request, and returns 0 with the answer in `fields`. Otherwise it
+ * returns enum needleoat_answer_fault and leaves `fields` as it was. A refusal is an answer: look at
+ * `code`. Whether the packets came from the device that was asked, and with the tag of the request,
+ * is for the caller to see.
+ */
+uint8_t needleoat_answer_read(const uint8_t *request, size_t request_length, const uint8_t *response,
+                              size_t response_length, struct needleoat_answer *fields);
+
+/* The number that needleoat_answer_read returns, without the fields. */
+uint8_t needleoat_answer_check(const uint8_t *request, size_t request_length, const uint8_t *response,
+                               size_t response_length);
+
+/*
+ * Writes the response of an answer to the front of `out`, and returns its length in bytes, 5 to 320.
+ * It returns 0 and leaves `out` as it was where `instance_id` is above 31 or `pldm_type` above 63, and,
+ * where `code` is 0, where there is no such command and where a field that its answer has is out of
+ * range: `size` above 5, a value that does not fit it, a `count` other than 1 to 8, a `length` above
+ * 303 (of versions: other than 4, 8 and so on to 32), a `transfer_flag` other than 0, 1, 2, 4 and 5.
+ * Where `code` is not 0, the response has no data, and is written for any command.
+ */
+size_t needleoat_answer_write(const struct needleoat_answer *fields, uint8_t out[NEEDLEOAT_MESSAGE_BYTES]);
+
+/*
+ * The checksum of a whole record, as the last part of a GetPDR answer carries it: CRC-8 by
+ * x^8 + x^2 + x + 1, from 0, the highest bit first.
+ */
+uint8_t needleoat_crc8(const uint8_t *bytes, size_t length);
+
+/* ---- The requesting end: libneedleoat_c.a ----
+ *
+ * A requester stands at one endpoint and asks one device. It gives out instance IDs and tags, says which
+ * requests are to be sent again or are given up, and finds the answer to a request among packets.
+ *
+ * It needs memory: link the three functions at the end of this section, or examples/c/heap.c, which has
+ * them over malloc. What the caller has to see to, beside what the head of this file says:
+ *
+ *   - A handle begins as NEEDLEOAT_REQUESTER_NONE. The caller reads and writes no field of it and uses
+ *     no copy of it; it may stand anywhere, and may be moved between two calls.
+ *   - One call at a time with one handle. No call from a signal handler, nor in the child of a fork of a
+ *     process with threads.
+ *   - Moments are milliseconds of one clock that never goes back, at most 4,000,000,000,000,000. A call
+ *     with a moment before that of an earlier call is refused.
+ *   - A handle that is forgotten leaks: end with needleoat_requester_free.
+ */
+struct needleoat_requester {
+    void *at;
+    bool is_live;
+};
+#define NEEDLEOAT_REQUESTER_NONE {0, false}
+
+/* Why a call was refused. What is behind the handle is then as before. */
+enum needleoat_refusal {
+    NEEDLEOAT_NO_MEMORY = 1,     /* a growth was refused; the same call may be made again */
+    NEEDLEOAT_BAD_MOMENT = 2,    /* the moment is past the last one, or before that of an earlier call */
+    NEEDLEOAT_NOTHING_THERE = 3, /* there is nothing behind the handle */
+    NEEDLEOAT_OUT_OF_RANGE = 6,  /* a number is out of its range */
+    NEEDLEOAT_ALREADY_THERE = 7, /* there is something behind the handle */
+    NEEDLEOAT_TAG_IN_USE = 11,   /* the request 8 before this one is still open */
+    NEEDLEOAT_ID_IN_USE = 12,    /* the request 32 before was opened less than twice keep_ms ago */
+    NEEDLEOAT_NOT_A_COMMAND = 13 /* the bytes are no request that carries a command */
+};
+
+/*
+ * Makes a requester: 0, or enum needleoat_refusal: 7, else 6 where `own` or `device` is not 8 to 254 or
+ * both are the same, `keep_ms` is not 1 to 60,000, `timeout_ms` is 0, `tries` is not 1 to 8, or `tries`
+ * times `timeout_ms` is above `keep_ms`; else 1. `keep_ms` is the keeping time of the device.
+ */
+uint8_t needleoat_requester_new(uint8_t own, uint8_t device, uint32_t keep_ms, uint32_t timeout_ms, uint8_t tries,
+                                struct needleoat_requester *requester);
+
+/* A request that was opened. Where `refusal` is not 0, the other fields have no meaning. */
+struct needleoat_opening {
+    uint8_t refusal;     /* 0, or the first of 3, 2, 13, 11, 12 and 1 of enum needleoat_refusal */
+    uint8_t instance_id; /* 0 to 31 */
+    uint8_t tag;         /* 0 to 7 */
+    uint64_t number;     /* counted from 0 over all requests of this requester */
+};
+
+/*
+ * Opens a request for the command of a request message, as needleoat_command_write writes it; its
+ * instance ID is not looked at. Its packet is to be sent at that moment. Only the first 32 want memory.
+ */
+struct needleoat_opening needleoat_requester_open(struct needleoat_requester *requester, uint64_t now_ms,
+                                                  const uint8_t *request, size_t length);
+
+/* The requests that are due, by their numbers. */
+struct needleoat_due {
+    size_t again_count;    /* at most 8 */
+    size_t given_up_count; /* at most 8 */
+    uint64_t again[8];     /* those to be sent again now: the first of these */
+    uint64_t given_up[8];  /* those that were given up: the first of these */
+};
+
+/* Lists the requests that are due at a moment: 0, or 3 or 2 of enum needleoat_refusal. */
+uint8_t needleoat_requester_tick(struct needleoat_requester *requester, uint64_t now_ms, struct needleoat_due *due);
+
+/* What becomes of a packet. */
+struct needleoat_receiving {
+    uint8_t kind;    /* 0 refused, 1 dropped, 2 partial, 3 the answer to a request */
+    uint8_t reason;  /* of 0: 3, 2 or 1 of enum needleoat_refusal; of 1: why, 1 to 20 but 16; else 0 */
+    uint64_t number; /* of 3: the request that was answered */
+};
+
+/* Receives the bytes of a packet that came at a moment. */
+struct needleoat_receiving needleoat_requester_receive(struct needleoat_requester *requester, uint64_t now_ms,
+                                                       const uint8_t *packet, size_t length);
+
+/*
+ * Writes the packet of a request to the front of `out`, and returns its length in bytes; 0, with `out` as
+ * it was, where the request is not among the last 32. The packet is the same each time that it is sent.
+ */
+size_t needleoat_requester_packet(struct needleoat_requester *requester, uint64_t number,
+                                  uint8_t out[NEEDLEOAT_PACKET_BYTES]);
+
+/* How a request stands. */
+struct needleoat_status {
+    uint8_t kind;  /* 0 not among the last 32, 1 open, 2 answered, 3 given up */
+    size_t length; /* of 2: the length of the response; else 0 */
+};
+
+/* Reports how a request stands, and writes the response that answered it to the front of `message`. */
+struct needleoat_status needleoat_requester_status(struct needleoat_requester *requester, uint64_t number,
+                                                   uint8_t message[NEEDLEOAT_MESSAGE_BYTES]);
+
+/* Frees the requester, where there is one. The handle is then as NEEDLEOAT_REQUESTER_NONE. */
+void needleoat_requester_free(struct needleoat_requester *requester);
+
+/*
+ * The memory that the library asks for. `size` may be 0. A block is aligned to `align`, a power of two up
+ * to 16. Where `is_there` is false, `at` points to some byte all the same, and nothing else changed.
+ */
+struct needleoat_block {
+    bool is_there;
+    uint8_t *at;
+};
+struct needleoat_block rattle_alloc(size_t size, size_t align);
+struct needleoat_block rattle_realloc(uint8_t *block, size_t kept, size_t size, size_t align);
+void rattle_dealloc(uint8_t *block);
+
+/*
+ * The structs lie in memory as the library has them, on x86-64 and on aarch64 alike: where one of these
+ * facts fails, the library is not for the target.
+ */
+#define NEEDLEOAT_AT(type, field, place) NEEDLEOAT_ASSERT(offsetof(struct type, field) == place)
+NEEDLEOAT_ASSERT(sizeof(struct needleoat_packet) == 16);
+NEEDLEOAT_AT(needleoat_packet, reason, 0);
+NEEDLEOAT_AT(needleoat_packet, destination, 1);
+NEEDLEOAT_AT(needleoat_packet, source, 2);
+NEEDLEOAT_AT(needleoat_packet, tag, 3);
+NEEDLEOAT_AT(needleoat_packet, seq, 4);
+NEEDLEOAT_AT(needleoat_packet, owner, 5);
+NEEDLEOAT_AT(needleoat_packet, start, 6);
+NEEDLEOAT_AT(needleoat_packet, end, 7);
+NEEDLEOAT_AT(needleoat_packet, payload_length, 8);
+NEEDLEOAT_ASSERT(sizeof(struct needleoat_message) == 16);
+NEEDLEOAT_AT(needleoat_message, reason, 0);
+NEEDLEOAT_AT(needleoat_message, instance_id, 1);
+NEEDLEOAT_AT(needleoat_message, pldm_type, 2);
+NEEDLEOAT_AT(needleoat_message, command, 3);
+NEEDLEOAT_AT(needleoat_message, code, 4);
+NEEDLEOAT_AT(needleoat_message, data_length, 8);
+NEEDLEOAT_ASSERT(sizeof(struct needleoat_set_state) == 2);
+NEEDLEOAT_AT(needleoat_set_state, set_request, 0);
+NEEDLEOAT_AT(needleoat_set_state, state, 1);
+NEEDLEOAT_ASSERT(sizeof(struct needleoat_command) == 64);
+NEEDLEOAT_AT(needleoat_command, instance_id, 0);
+NEEDLEOAT_AT(needleoat_command, pldm_type, 1);
+NEEDLEOAT_AT(needleoat_command, command, 2);
+NEEDLEOAT_AT(needleoat_command, tid, 3);
+NEEDLEOAT_AT(needleoat_command, asked_type, 4);
+NEEDLEOAT_AT(needleoat_command, transfer_operation_flag, 5);
+NEEDLEOAT_AT(needleoat_command, rearm, 6);
+NEEDLEOAT_AT(needleoat_command, size, 7);
+NEEDLEOAT_AT(needleoat_command, count, 8);
+NEEDLEOAT_AT(needleoat_command, sensor, 10);
+NEEDLEOAT_AT(needleoat_command, effecter, 12);
+NEEDLEOAT_AT(needleoat_command, request_count, 14);
+NEEDLEOAT_AT(needleoat_command, record_change_number, 16);
+NEEDLEOAT_AT(needleoat_command, data_transfer_handle, 20);
+NEEDLEOAT_AT(needleoat_command, record_handle, 24);
+NEEDLEOAT_AT(needleoat_command, value, 32);
+NEEDLEOAT_AT(needleoat_command, version, 40);
+NEEDLEOAT_AT(needleoat_command, sets, 44);
+NEEDLEOAT_ASSERT(sizeof(struct needleoat_command_reading) == 2);
+NEEDLEOAT_AT(needleoat_command_reading, reason, 0);
+NEEDLEOAT_AT(needleoat_command_reading, code, 1);
+NEEDLEOAT_ASSERT(sizeof(struct needleoat_sensor_state) == 4);
+NEEDLEOAT_AT(needleoat_sensor_state, operational, 0);
+NEEDLEOAT_AT(needleoat_sensor_state, present, 1);
+NEEDLEOAT_AT(needleoat_sensor_state, previous, 2);
+NEEDLEOAT_AT(needleoat_sensor_state, event, 3);
+NEEDLEOAT_ASSERT(sizeof(struct needleoat_effecter_state) == 3);
+NEEDLEOAT_AT(needleoat_effecter_state, operational, 0);
+NEEDLEOAT_AT(needleoat_effecter_state, pending, 1);
+NEEDLEOAT_AT(needleoat_effecter_state, present, 2);
+NEEDLEOAT_ASSERT(sizeof(struct needleoat_answer) == 496);
+NEEDLEOAT_AT(needleoat_answer, instance_id, 0);
+NEEDLEOAT_AT(needleoat_answer, pldm_type, 1);
+NEEDLEOAT_AT(needleoat_answer, command, 2);
+NEEDLEOAT_AT(needleoat_answer, code, 3);
+NEEDLEOAT_AT(needleoat_answer, tid, 4);
+NEEDLEOAT_AT(needleoat_answer, transfer_flag, 5);
+NEEDLEOAT_AT(needleoat_answer, transfer_crc, 6);
+NEEDLEOAT_AT(needleoat_answer, size, 7);
+NEEDLEOAT_AT(needleoat_answer, operational, 8);
+NEEDLEOAT_AT(needleoat_answer, sensor_event_message_enable, 9);
+NEEDLEOAT_AT(needleoat_answer, present, 10);
+NEEDLEOAT_AT(needleoat_answer, previous, 11);
+NEEDLEOAT_AT(needleoat_answer, event, 12);
+NEEDLEOAT_AT(needleoat_answer, count, 13);
+NEEDLEOAT_AT(needleoat_answer, repository_state, 14);
+NEEDLEOAT_AT(needleoat_answer, timeout, 15);
+NEEDLEOAT_AT(needleoat_answer, next_record_handle, 16);
+NEEDLEOAT_AT(needleoat_answer, next_data_transfer_handle, 20);
+NEEDLEOAT_AT(needleoat_answer, record_count, 24);
+NEEDLEOAT_AT(needleoat_answer, repository_size, 28);
+NEEDLEOAT_AT(needleoat_answer, largest_record_size, 32);
+NEEDLEOAT_AT(needleoat_answer, value, 40);
+NEEDLEOAT_AT(needleoat_answer, pending_value, 48);
+NEEDLEOAT_AT(needleoat_answer, length, 56);
+NEEDLEOAT_AT(needleoat_answer, sensor_states, 64);
+NEEDLEOAT_AT(needleoat_answer, effecter_states, 96);
+NEEDLEOAT_AT(needleoat_answer, types, 120);
+NEEDLEOAT_AT(needleoat_answer, commands, 128);
+NEEDLEOAT_AT(needleoat_answer, update_time, 160);
+NEEDLEOAT_AT(needleoat_answer, oem_update_time, 173);
+NEEDLEOAT_AT(needleoat_answer, bytes, 186);
+NEEDLEOAT_ASSERT(sizeof(struct needleoat_requester) == 16);
+NEEDLEOAT_AT(needleoat_requester, at, 0);
+NEEDLEOAT_AT(needleoat_requester, is_live, 8);
+NEEDLEOAT_ASSERT(sizeof(struct needleoat_opening) == 16);
+NEEDLEOAT_AT(needleoat_opening, refusal, 0);
+NEEDLEOAT_AT(needleoat_opening, instance_id, 1);
+NEEDLEOAT_AT(needleoat_opening, tag, 2);
+NEEDLEOAT_AT(needleoat_opening, number, 8);
+NEEDLEOAT_ASSERT(sizeof(struct needleoat_due) == 144);
+NEEDLEOAT_AT(needleoat_due, again_count, 0);
+NEEDLEOAT_AT(needleoat_due, given_up_count, 8);
+NEEDLEOAT_AT(needleoat_due, again, 16);
+NEEDLEOAT_AT(needleoat_due, given_up, 80);
+NEEDLEOAT_ASSERT(sizeof(struct needleoat_receiving) == 16);
+NEEDLEOAT_AT(needleoat_receiving, kind, 0);
+NEEDLEOAT_AT(needleoat_receiving, reason, 1);
+NEEDLEOAT_AT(needleoat_receiving, number, 8);
+NEEDLEOAT_ASSERT(sizeof(struct needleoat_status) == 16);
+NEEDLEOAT_AT(needleoat_status, kind, 0);
+NEEDLEOAT_AT(needleoat_status, length, 8);
+NEEDLEOAT_ASSERT(sizeof(struct needleoat_block) == 16);
+NEEDLEOAT_AT(needleoat_block, is_there, 0);
+NEEDLEOAT_AT(needleoat_block, at, 8);
+#undef NEEDLEOAT_AT
+#undef NEEDLEOAT_ASSERT
+
+#ifdef __cplusplus
+}
+#endif
+#endif
