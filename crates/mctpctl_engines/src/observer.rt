@@ -21,8 +21,8 @@ use std::collections::BTreeMap;
 /// that come to any other.
 #[derive(Drop)]
 pub struct Observer {
-    /// The moment of the last packet.
-    last: u64,
+    /// The moment of the last packet, in milliseconds.
+    pub last: u64,
     /// An assembler for each endpoint that a packet has gone to.
     assemblers: BTreeMap<Eid, Assembler>,
 }
@@ -39,7 +39,7 @@ impl Observer {
     }
 
     /// What a packet gives at its destination.
-    fn feed(&mut self, alloc: Global, packet: &PacketRef<'_>) -> Result<Fed, Memory>
+    pub fn feed(&mut self, alloc: Global, packet: &PacketRef<'_>) -> Result<Fed, Memory>
         ensures fed { IfOk result (λ fed. fed ≡ given_at (open_in self.old.assemblers.entries) packet.now) }
         ensures open { OnOk result (open_in self.new.assemblers.entries
             ≡ open_after (open_in self.old.assemblers.entries) packet.now) }
