@@ -3,6 +3,7 @@ pub mod CodeNames
 pub mod CommandTexts
 pub mod DecodeText
 pub mod DecodedLines
+pub mod Decoders
 pub mod FieldTexts
 pub mod LongLines
 pub mod StateNames

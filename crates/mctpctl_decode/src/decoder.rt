@@ -4,9 +4,10 @@ ghost use Rattle.std.specs.Prelude.{◌≡◌, ◌≢◌, ◌++◌, Err, None, O
 ghost use Rattle.mctp_packet.specs.Reading.{reading};
 ghost use Rattle.mctpctl_decode.specs.DecodeText.{decoded_step};
 ghost use Rattle.mctpctl_decode.specs.DecodedLines.{completed_text, decoded_text};
+ghost use Rattle.mctpctl_decode.specs.Decoders.{held_of};
 ghost use Rattle.mctpctl_decode.specs.LongLines.{decoded_refuses};
 ghost use Rattle.mctpctl_engines.specs.LinePieces.{AddsLine};
-ghost use Rattle.mctpctl_engines.specs.ObservedRuns.{Observed, given_at, none_observed, observed_of, open_with};
+ghost use Rattle.mctpctl_engines.specs.ObservedRuns.{Observed, given_at, none_observed, open_with};
 
 use crate::message_line::push_decoded_line;
 use mctp_assembly::Fed;
@@ -21,16 +22,19 @@ use std::alloc::Global;
 /// Looks on at packets of anyone, as an [`Observer`] does, and decodes the messages that they complete.
 #[derive(Drop)]
 pub struct Decoder {
+    /// The moment of the last packet.
+    last: u64,
     /// What is held of the packets that came.
-    pub observer: Observer,
+    observer: Observer,
 }
 
 impl Decoder {
     /// A decoder to whom nothing has come.
     pub fn new(alloc: Global) -> Decoder
-        ensures { observed_of result.observer ≡ none_observed }
+        ensures { held_of result ≡ none_observed }
     {
         Decoder {
+            last: 0,
             observer: Observer::new(alloc),
         }
     }
@@ -44,10 +48,10 @@ impl Decoder {
         text: &mut Vec<u8>,
     ) -> Result<(), Memory>
         ensures text { OnOk result (text.new.items ≡ text.old.items
-            ++ decoded_text moment (reading None bytes.now) (given_at (observed_of self.old.observer).open_at)) }
-        ensures open { OnOk result ((observed_of self.new.observer).open_at
-            ≡ open_with (observed_of self.old.observer).open_at (reading None bytes.now)) }
-        ensures last { self.new.observer.last ≡ self.old.observer.last }
+            ++ decoded_text moment (reading None bytes.now) (given_at (held_of self.old).open_at)) }
+        ensures open { OnOk result ((held_of self.new).open_at
+            ≡ open_with (held_of self.old).open_at (reading None bytes.now)) }
+        ensures last { self.new.last ≡ self.old.last }
     {
         let packet = match read(bytes) {
             Ok(packet) => packet,
@@ -72,7 +76,7 @@ fn push_completed(out: &mut Vec<u8>, fed: &Fed) -> Result<(), Memory>
 impl LineTask for Decoder {
     ghost State = { Observed };
 
-    ghost state_of = { λ decoder. observed_of decoder.observer };
+    ghost state_of = { held_of };
 
     ghost step = { decoded_step };
 
@@ -85,11 +89,11 @@ impl LineTask for Decoder {
         room: &mut LineRoom,
         out: &mut Vec<u8>,
     ) -> Result<(), EngineFault>
-        ensures meets { AddsLine number (decoded_step (observed_of self.old.observer) line.now) (observed_of self.new.observer)
+        ensures meets { AddsLine number (decoded_step (held_of self.old) line.now) (held_of self.new)
             out.old.items out.new.items result }
         ensures device { result ≢ Err (EngineFault.Device FileFault.Memory) }
     {
-        let moment = match read_capture_line(line, self.observer.last, &mut room.packet) {
+        let moment = match read_capture_line(line, self.last, &mut room.packet) {
             Ok(CaptureLine::Packet { moment }) => moment,
             Ok(CaptureLine::Skipped) => return Ok(()),
             Err(CaptureFault::Line(kind)) => return Err(EngineFault::Line(number, kind)),
@@ -102,7 +106,7 @@ impl LineTask for Decoder {
         {
             return Err(EngineFault::Memory);
         }
-        self.observer.last = moment;
+        self.last = moment;
         if out.extend_from_slice(&room.text).is_err() {
             return Err(EngineFault::Memory);
         }

@@ -21,8 +21,8 @@ use std::collections::BTreeMap;
 /// that come to any other.
 #[derive(Drop)]
 pub struct Observer {
-    /// The moment of the last packet, in milliseconds.
-    pub last: u64,
+    /// The moment of the last packet.
+    last: u64,
     /// An assembler for each endpoint that a packet has gone to.
     assemblers: BTreeMap<Eid, Assembler>,
 }

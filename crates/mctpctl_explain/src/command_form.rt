@@ -89,7 +89,7 @@ impl Form {
     /// Whether as many words may stand after the name.
     pub fn takes_count(&self, count: usize) -> bool {
         if self.repeats {
-            self.slots.len() <= count && count <= self.slots.len() + 7
+            self.slots.len() <= count && count <= self.slots.len().saturating_add(7)
         } else {
             count == self.slots.len()
         }

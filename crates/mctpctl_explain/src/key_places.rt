@@ -6,7 +6,7 @@ use mctp_packet::Memory;
 use std::alloc::Global;
 use std::collections::BTreeMap;
 use toml_parser::text::{first, skip, skip_blank, skip_ws};
-use toml_parser::{ParseError, dotted_key, quoted, starts_string, unquoted};
+use toml_parser::{Key, ParseError, dotted_key, quoted, starts_string, unquoted};
 
 /// Where the value at a path stands, or the item of an array, or the header of a table.
 #[derive(Debug, Drop)]
@@ -81,7 +81,7 @@ pub fn key_places(alloc: Global, text: &str) -> Result<Vec<KeyPlace>, Memory> {
         headers: BTreeMap::new(alloc),
     };
     let mut rest = text;
-    loop {
+    'document: loop {
         let here = skip_blank(rest, true);
         let offset = text.len().saturating_sub(here.len());
         match walk.step(alloc, here, offset) {
@@ -116,16 +116,13 @@ impl Walk {
         let inner = if is_list { skip(inner, 1) } else { inner };
         let (key, rest) = dotted_key(alloc, skip_ws(inner))?;
         self.path.truncate(0);
-        for part in key.path {
-            self.push(Part::Key(part))?;
-        }
-        self.push(Part::Key(key.last))?;
+        self.push_key(alloc, key, offset)?;
         if is_list {
             let count = self.count_header(alloc)?;
             self.push(Part::Index(count))?;
+            self.place(alloc, offset)?;
         }
         self.depth = self.path.len();
-        self.place(alloc, offset)?;
         if first(rest) != b']' {
             return Err(Halt::Text);
         }
@@ -152,11 +149,7 @@ impl Walk {
         }
         let (key, rest) = dotted_key(alloc, text)?;
         self.path.truncate(depth);
-        for part in key.path {
-            self.push(Part::Key(part))?;
-        }
-        self.push(Part::Key(key.last))?;
-        self.place(alloc, offset)?;
+        self.push_key(alloc, key, offset)?;
         if first(rest) != b'=' {
             return Err(Halt::Text);
         }
@@ -222,6 +215,16 @@ impl Walk {
             return Err(Memory);
         }
         Ok(())
+    }
+
+    /// Adds the parts of a key to the path, and notes the place of each.
+    fn push_key(&mut self, alloc: Global, key: Key, offset: usize) -> Result<(), Memory> {
+        for part in key.path {
+            self.push(Part::Key(part))?;
+            self.place(alloc, offset)?;
+        }
+        self.push(Part::Key(key.last))?;
+        self.place(alloc, offset)
     }
 
     fn push(&mut self, part: Part) -> Result<(), Memory> {

@@ -22,7 +22,8 @@ impl Place {
             if left <= before.len() {
                 break;
             }
-            left -= before.len() + 1;
+            left -= before.len();
+            left -= 1;
             line = line.saturating_add(1);
             rest = after;
         }

@@ -65,14 +65,16 @@ fn expected_form(alloc: Global, form: &str) -> Result<String, Memory> {
     Ok(format!(in alloc; "expected '{form}'")?)
 }
 
-fn wrong_count(alloc: Global, form: &str, count: usize) -> Result<String, Memory> {
+/// A count of words after a name that is wrong.
+fn wrong_count(alloc: Global, form: &str, name: &[u8], count: usize) -> Result<String, Memory> {
+    let name = quoted(alloc, name)?;
     let plural = if count == 1 { "" } else { "s" };
-    Ok(format!(in alloc; "expected '{form}', found {count} word{plural} after the first")?)
+    Ok(format!(in alloc; "expected '{form}', found {count} word{plural} after {name}")?)
 }
 
 fn wrong_requester(alloc: Global, words: &[&[u8]]) -> Result<String, Memory> {
     let [_, timeout, _, tries, _] = words else {
-        return wrong_count(alloc, REQUESTER, words.len());
+        return wrong_count(alloc, REQUESTER, b"requester", words.len());
     };
     let (word, name) = if *timeout != b"timeout".as_slice() {
         (timeout, "timeout")
@@ -87,7 +89,7 @@ fn wrong_action(alloc: Global, name: &[u8], rest: &[&[u8]]) -> Result<String, Me
     let Some(form) = Form::of_action(name) else {
         return unknown(alloc, name, "is no action", &ACTIONS);
     };
-    wrong_rest(alloc, &form, rest)
+    wrong_rest(alloc, &form, name, rest)
 }
 
 fn wrong_command(alloc: Global, command: &[&[u8]]) -> Result<String, Memory> {
@@ -97,13 +99,18 @@ fn wrong_command(alloc: Global, command: &[&[u8]]) -> Result<String, Memory> {
     let Some(form) = Form::of_command(name) else {
         return unknown(alloc, name, "is no command", &COMMANDS);
     };
-    wrong_rest(alloc, &form, rest)
+    wrong_rest(alloc, &form, name, rest)
 }
 
 /// The wrong count of words after a name, or the first fixed word that is wrong.
-fn wrong_rest(alloc: Global, form: &Form, rest: &[&[u8]]) -> Result<String, Memory> {
+fn wrong_rest(
+    alloc: Global,
+    form: &Form,
+    name: &[u8],
+    rest: &[&[u8]],
+) -> Result<String, Memory> {
     if !form.takes_count(rest.len()) {
-        return wrong_count(alloc, form.text, rest.len());
+        return wrong_count(alloc, form.text, name, rest.len());
     }
     for (place, word) in rest.iter().enumerate() {
         if let Some(slot) = form.slot(place)

@@ -3,7 +3,7 @@
 use crate::capture_line::is_forgotten_moment;
 use crate::description::{place_text, places_of};
 use crate::divided::Divided;
-use crate::explain::Subject;
+use crate::explanation::Subject;
 use crate::finding::Path;
 use crate::key_places::KeyPlace;
 use crate::known_keys::{LISTS, TOP_KEYS, entry_keys};

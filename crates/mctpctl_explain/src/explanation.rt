@@ -43,7 +43,7 @@ pub fn explain(
         EngineFault::NoDivider => no_divider(alloc, subject),
         EngineFault::Line(number, kind) => explain_line(alloc, subject, input, *number, *kind),
         EngineFault::Timing(eid, fault) => explain_requester(alloc, input, *eid, *fault),
-        EngineFault::TooLarge => too_large(alloc, input),
+        EngineFault::TooLarge => too_large(alloc, subject, input),
     }
 }
 
@@ -104,8 +104,8 @@ fn explain_requester(
 }
 
 /// Says which limit was passed.
-fn too_large(alloc: Global, input: &[u8]) -> Result<String, Memory> {
-    if description_in(input).len() > MAX_DESCRIPTION {
+fn too_large(alloc: Global, subject: Subject, input: &[u8]) -> Result<String, Memory> {
+    if subject != Subject::Show && description_in(input).len() > MAX_DESCRIPTION {
         return Ok(
             format!(in alloc; "the description before the line '%%' has more than {MAX_DESCRIPTION} bytes")?,
         );
