@@ -27,11 +27,19 @@ refused_text kind code = word (codes "refused") ++ code_word (code_name kind cod
 abbrev pub state_text : ℕ → List ℕ
 state_text state = named (sensor_state_name state) state
 
+-- a state of a numeric sensor after its name
+abbrev pub state_field : List ℕ → ℕ → List ℕ
+state_field name state = word name ++ state_text state
+
+-- a number's data size, and the number after its name
+abbrev pub sized_text : List ℕ → SizedNumber → List ℕ
+sized_text name number = word (size_name number.size) ++ signed_field name number.value
+
 -- a numeric sensor's reading, and its present, previous and event state
 abbrev pub reading_text : SizedNumber → ℕ → ℕ → ℕ → List ℕ
 reading_text reading present previous event =
-    word (size_name reading.size) ++ signed_field (codes "reading") reading.value ++ state_text present
-    ++ word (codes "previous") ++ state_text previous ++ word (codes "event") ++ state_text event
+    sized_text (codes "reading") reading ++ state_text present ++ state_field (codes "previous") previous
+    ++ state_field (codes "event") event
 
 abbrev pub operation_text : ℕ → ℕ → List ℕ
 operation_text operational enable =
@@ -50,8 +58,8 @@ effecter_operation_text operational =
 
 abbrev pub values_text : ℕ → TwoNumbers → List ℕ
 values_text operational values =
-    word (size_name values.present.size) ++ signed_field (codes "value") values.present.value
-    ++ signed_field (codes "pending") values.pending.value ++ effecter_operation_text operational
+    sized_text (codes "value") values.present ++ signed_field (codes "pending") values.pending.value
+    ++ effecter_operation_text operational
 
 abbrev pub effecter_field_text : EffecterStateField → List ℕ
 effecter_field_text f =

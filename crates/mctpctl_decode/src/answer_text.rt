@@ -2,7 +2,7 @@
 
 ghost use Rattle.std.specs.Prelude.{◌≡◌, ◌++◌, OnOk};
 ghost use Rattle.std.specs.List.{flat_map};
-ghost use Rattle.mctpctl_decode.specs.AnswerTexts.{answer_text, effecter_field_text, part_of_record_text, reading_text, refused_text, sensor_field_text, operation_text, sizes_text, transfer_text, values_text};
+ghost use Rattle.mctpctl_decode.specs.AnswerTexts.{answer_text, effecter_field_text, effecter_operation_text, part_of_record_text, reading_text, refused_text, sensor_field_text, operation_text, sized_text, sizes_text, state_field, transfer_text, values_text};
 
 use crate::code_names::code_name;
 use crate::field_text::{
@@ -107,13 +107,26 @@ fn push_reading(
 ) -> Result<(), Memory>
     ensures { OnOk result (out.new.items ≡ out.old.items ++ reading_text reading present previous event) }
 {
-    push_word(out, reading.size().name())?;
-    push_signed_field(out, "reading", reading.value())?;
+    push_sized(out, "reading", reading)?;
     push_named(out, sensor_state_name(present), present)?;
-    push_word(out, "previous")?;
-    push_named(out, sensor_state_name(previous), previous)?;
-    push_word(out, "event")?;
-    push_named(out, sensor_state_name(event), event)
+    push_state(out, "previous", previous)?;
+    push_state(out, "event", event)
+}
+
+/// Adds a number's data size, and the number after its name.
+fn push_sized(out: &mut Vec<u8>, name: &str, number: Number) -> Result<(), Memory>
+    ensures { OnOk result (out.new.items ≡ out.old.items ++ sized_text name.now number) }
+{
+    push_word(out, number.size().name())?;
+    push_signed_field(out, name, number.value())
+}
+
+/// Adds a state of a numeric sensor after its name.
+fn push_state(out: &mut Vec<u8>, name: &str, state: u8) -> Result<(), Memory>
+    ensures { OnOk result (out.new.items ≡ out.old.items ++ state_field name.now state) }
+{
+    push_word(out, name)?;
+    push_named(out, sensor_state_name(state), state)
 }
 
 /// Adds a numeric sensor's operational state, and which of its events are enabled.
@@ -143,19 +156,20 @@ fn push_sensor_field(out: &mut Vec<u8>, field: &SensorStateField) -> Result<(), 
     push_field(out, "previous", field.previous.into())?;
     push_field(out, "event", field.event.into())?;
     push_word(out, "operational")?;
-    push_named(out, sensor_operation_name(field.operational), field.operational)
+    push_named(
+        out,
+        sensor_operation_name(field.operational),
+        field.operational,
+    )
 }
 
 /// Adds a numeric effecter's values.
 fn push_values(out: &mut Vec<u8>, operational: u8, values: EffecterValues) -> Result<(), Memory>
     ensures { OnOk result (out.new.items ≡ out.old.items ++ values_text operational values) }
 {
-    let (present, pending) = (values.present(), values.pending());
-    push_word(out, present.size().name())?;
-    push_signed_field(out, "value", present.value())?;
-    push_signed_field(out, "pending", pending.value())?;
-    push_word(out, "operational")?;
-    push_named(out, effecter_state_name(operational), operational)
+    push_sized(out, "value", values.present())?;
+    push_signed_field(out, "pending", values.pending().value())?;
+    push_effecter_state(out, operational)
 }
 
 /// Adds the states of the fields of a state effecter.
@@ -174,7 +188,19 @@ fn push_effecter_field(out: &mut Vec<u8>, field: &EffecterStateField) -> Result<
     push_field(out, "state", field.present.into())?;
     push_field(out, "pending", field.pending.into())?;
     push_word(out, "operational")?;
-    push_named(out, effecter_state_name(field.operational), field.operational)
+    push_named(
+        out,
+        effecter_state_name(field.operational),
+        field.operational,
+    )
+}
+
+/// Adds the operational state of an effecter.
+fn push_effecter_state(out: &mut Vec<u8>, operational: u8) -> Result<(), Memory>
+    ensures { OnOk result (out.new.items ≡ out.old.items ++ effecter_operation_text operational) }
+{
+    push_word(out, "operational")?;
+    push_named(out, effecter_state_name(operational), operational)
 }
 
 /// Adds how many records a repository has, its size and that of its largest record, in bytes.

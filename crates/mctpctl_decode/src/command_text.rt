@@ -20,7 +20,12 @@ pub fn push_command(out: &mut Vec<u8>, command: &Command) -> Result<(), Memory>
             data_transfer_handle,
             transfer_operation_flag,
             pldm_type,
-        } => push_version(out, *data_transfer_handle, *transfer_operation_flag, *pldm_type),
+        } => push_version(
+            out,
+            *data_transfer_handle,
+            *transfer_operation_flag,
+            *pldm_type,
+        ),
         Command::GetPldmCommands { pldm_type, version } => {
             push_field(out, "type", (*pldm_type).into())?;
             push_hex_field(out, "version", version)

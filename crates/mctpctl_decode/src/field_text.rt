@@ -48,7 +48,7 @@ pub fn push_hex_field(out: &mut Vec<u8>, name: &str, bytes: &[u8]) -> Result<(),
 
 /// Adds a state by its name, or by its number where it has none.
 pub fn push_named(out: &mut Vec<u8>, name: Option<&str>, number: u8) -> Result<(), Memory>
-    ensures { OnOk result (out.new.items ≡ out.old.items ++ named (option_map (λ text. text.now) name) number) }
+    ensures { OnOk result (out.new.items ≡ out.old.items ++ named (option_map (λ text. text.now) name.entry) number) }
 {
     match name {
         Some(text) => push_word(out, text),
@@ -61,7 +61,7 @@ pub fn push_named(out: &mut Vec<u8>, name: Option<&str>, number: u8) -> Result<(
 
 /// Adds a completion code by its name, or in hex where it has none.
 pub fn push_code(out: &mut Vec<u8>, name: Option<&str>, code: u8) -> Result<(), Memory>
-    ensures { OnOk result (out.new.items ≡ out.old.items ++ code_word (option_map (λ text. text.now) name) code) }
+    ensures { OnOk result (out.new.items ≡ out.old.items ++ code_word (option_map (λ text. text.now) name.entry) code) }
 {
     match name {
         Some(text) => push_word(out, text),

@@ -17,9 +17,9 @@ pub fn explain_line(
 ) -> Result<String, Memory> {
     if kind == LineKind::LongLine {
         let length = line.len();
-        return Ok(
-            format!(in alloc; "the line has {length} bytes or more: at most {MAX_CAPTURE_LINE} are allowed")?,
-        );
+        return Ok(format!(in alloc;
+            "the line has {length} bytes or more: at most {MAX_CAPTURE_LINE} are allowed"
+        )?);
     }
     let words = words_of(alloc, line)?;
     match (kind, words.as_slice()) {
@@ -65,9 +65,9 @@ fn bad_hex(alloc: Global, packet: &[u8]) -> Result<String, Memory> {
         if !byte.is_ascii_hexdigit() {
             let found = quoted(alloc, &[*byte])?;
             let number = place.saturating_add(1);
-            return Ok(
-                format!(in alloc; "{found}, character {number} of the packet, is no hex digit")?,
-            );
+            return Ok(format!(in alloc;
+                "{found}, character {number} of the packet, is no hex digit"
+            )?);
         }
     }
     let found = quoted(alloc, packet)?;

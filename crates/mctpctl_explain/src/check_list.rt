@@ -282,7 +282,9 @@ fn handle_of(record: &[u8]) -> Result<i64, &'static str> {
         return Err("the record's header version, byte 4, is not 1");
     }
     if data.len() != usize::from(u16::from_le_bytes([*l0, *l1])) {
-        return Err("the count of data, bytes 8 and 9, lowest first, is not that of the bytes after the header");
+        return Err(
+            "the count of data, bytes 8 and 9, lowest first, is not that of the bytes after the header",
+        );
     }
     Ok(i64::from(handle))
 }

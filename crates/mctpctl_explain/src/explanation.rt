@@ -3,11 +3,10 @@
 ghost use Rattle.std.specs.Prelude.{◌≡◌, [], IfOk, string_bytes};
 ghost use Rattle.mctpctl_engines.specs.LineRuns.{IsOutside};
 
-use crate::capture_line;
 use crate::description::explain_description;
 use crate::divided::{Divided, numbered_line};
-use crate::schedule_line;
 use crate::timing::explain_timing;
+use crate::{capture_line, schedule_line};
 use mctp_packet::{Eid, Memory};
 use mctpctl_engines::{EngineFault, LineKind, MAX_DESCRIPTION, MAX_INPUT};
 use pldm_device::Description;
@@ -106,9 +105,9 @@ fn explain_requester(
 /// Says which limit was passed.
 fn too_large(alloc: Global, subject: Subject, input: &[u8]) -> Result<String, Memory> {
     if subject != Subject::Show && description_in(input).len() > MAX_DESCRIPTION {
-        return Ok(
-            format!(in alloc; "the description before the line '%%' has more than {MAX_DESCRIPTION} bytes")?,
-        );
+        return Ok(format!(in alloc;
+            "the description before the line '%%' has more than {MAX_DESCRIPTION} bytes"
+        )?);
     }
     Ok(format!(in alloc; "the whole input has more than {MAX_INPUT} bytes")?)
 }

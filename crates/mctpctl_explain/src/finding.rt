@@ -123,11 +123,7 @@ pub enum Stop<'a> {
 
 impl<'a> Stop<'a> {
     /// The fault at a path, with what was found there and what is allowed.
-    pub fn fault(
-        path: Path<'a>,
-        fault: FileFault,
-        text: Result<String, Memory>,
-    ) -> Stop<'a> {
+    pub fn fault(path: Path<'a>, fault: FileFault, text: Result<String, Memory>) -> Stop<'a> {
         match text {
             Ok(text) => Stop::Found(Finding { path, fault, text }),
             Err(Memory) => Stop::Memory,

@@ -72,16 +72,14 @@ fn warn_of_line(
     if !is_forgotten_moment(line) {
         return Ok(());
     }
-    let text = format!(in alloc; "input line {number}: a moment alone, which looks like a packet: is the moment before it missing?")?;
+    let text = format!(in alloc;
+        "input line {number}: a moment alone, which looks like a packet: is the moment before it missing?"
+    )?;
     add(found, text)
 }
 
 /// The keys of a description that are ignored.
-fn unknown_keys(
-    alloc: Global,
-    description: &[u8],
-    found: &mut Vec<String>,
-) -> Result<(), Memory> {
+fn unknown_keys(alloc: Global, description: &[u8], found: &mut Vec<String>) -> Result<(), Memory> {
     let table = match toml::table_from_slice(alloc, description) {
         Ok(table) => table,
         Err(error) if error.is_memory() => return Err(Memory),
@@ -90,7 +88,15 @@ fn unknown_keys(
     let places = places_of(alloc, description)?;
     for key in table.keys() {
         let path = Path::top(key.as_str());
-        warn_of_key(alloc, description, &places, path, key.as_str(), &TOP_KEYS, found)?;
+        warn_of_key(
+            alloc,
+            description,
+            &places,
+            path,
+            key.as_str(),
+            &TOP_KEYS,
+            found,
+        )?;
     }
     for list in LISTS.iter() {
         unknown_in_list(alloc, description, &places, &table, list, found)?;
@@ -142,5 +148,8 @@ fn warn_of_key(
     let name = path.text(alloc)?;
     let name = quoted(alloc, name.as_bytes())?;
     let hint = suggestion(alloc, key.as_bytes(), known)?;
-    add(found, format!(in alloc; "{place}{name} is no key of a description, and is ignored{hint}")?)
+    add(
+        found,
+        format!(in alloc; "{place}{name} is no key of a description, and is ignored{hint}")?,
+    )
 }

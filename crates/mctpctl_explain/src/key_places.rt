@@ -95,7 +95,12 @@ pub fn key_places(alloc: Global, text: &str) -> Result<Vec<KeyPlace>, Memory> {
 impl Walk {
     /// Reads a header, a key or an item with the front of its value, or a sign; `None` at the end. What is
     /// left is shorter.
-    fn step<'t>(&mut self, alloc: Global, text: &'t str, offset: usize) -> Result<Option<&'t str>, Halt>
+    fn step<'t>(
+        &mut self,
+        alloc: Global,
+        text: &'t str,
+        offset: usize,
+    ) -> Result<Option<&'t str>, Halt>
         ensures { IfOk result (λ after. IfSome after (λ rest. length rest.now < length text.now)) }
     {
         match self.open.last().copied() {
@@ -107,7 +112,12 @@ impl Walk {
     }
 
     /// The header of a table.
-    fn header<'t>(&mut self, alloc: Global, text: &'t str, offset: usize) -> Result<Option<&'t str>, Halt>
+    fn header<'t>(
+        &mut self,
+        alloc: Global,
+        text: &'t str,
+        offset: usize,
+    ) -> Result<Option<&'t str>, Halt>
         requires { slice_index text.now 0 ≡ 91 }
         ensures { IfOk result (λ after. IfSome after (λ rest. length rest.now < length text.now)) }
     {
@@ -127,7 +137,11 @@ impl Walk {
             return Err(Halt::Text);
         }
         let rest = skip(rest, 1);
-        Ok(Some(if is_list && first(rest) == b']' { skip(rest, 1) } else { rest }))
+        Ok(Some(if is_list && first(rest) == b']' {
+            skip(rest, 1)
+        } else {
+            rest
+        }))
     }
 
     /// How many headers of the path came before, of which there is one more from now on.
@@ -141,7 +155,13 @@ impl Walk {
     }
 
     /// A key, `=` and the front of its value.
-    fn entry<'t>(&mut self, alloc: Global, text: &'t str, offset: usize, depth: usize) -> Result<Option<&'t str>, Halt>
+    fn entry<'t>(
+        &mut self,
+        alloc: Global,
+        text: &'t str,
+        offset: usize,
+        depth: usize,
+    ) -> Result<Option<&'t str>, Halt>
         ensures { IfOk result (λ after. IfSome after (λ rest. length rest.now < length text.now)) }
     {
         if text.is_empty() {
@@ -157,7 +177,14 @@ impl Walk {
     }
 
     /// An item of an array, or a sign after one.
-    fn item<'t>(&mut self, alloc: Global, text: &'t str, offset: usize, depth: usize, next: usize) -> Result<Option<&'t str>, Halt>
+    fn item<'t>(
+        &mut self,
+        alloc: Global,
+        text: &'t str,
+        offset: usize,
+        depth: usize,
+        next: usize,
+    ) -> Result<Option<&'t str>, Halt>
         ensures { IfOk result (λ after. IfSome after (λ rest. length rest.now < length text.now)) }
     {
         if first(text) == b',' {
@@ -176,7 +203,13 @@ impl Walk {
     }
 
     /// A key of an inline table, or a sign after one.
-    fn field<'t>(&mut self, alloc: Global, text: &'t str, offset: usize, depth: usize) -> Result<Option<&'t str>, Halt>
+    fn field<'t>(
+        &mut self,
+        alloc: Global,
+        text: &'t str,
+        offset: usize,
+        depth: usize,
+    ) -> Result<Option<&'t str>, Halt>
         ensures { IfOk result (λ after. IfSome after (λ rest. length rest.now < length text.now)) }
     {
         if first(text) == b',' {

@@ -49,12 +49,7 @@ fn wrong_words(alloc: Global, words: &[&[u8]]) -> Result<String, Memory> {
 }
 
 /// A word that is none of those that may stand there.
-fn unknown(
-    alloc: Global,
-    word: &[u8],
-    what: &str,
-    known: &[&str],
-) -> Result<String, Memory> {
+fn unknown(alloc: Global, word: &[u8], what: &str, known: &[&str]) -> Result<String, Memory> {
     let found = quoted(alloc, word)?;
     let expected = choice(alloc, known)?;
     let hint = suggestion(alloc, word, known)?;
@@ -103,12 +98,7 @@ fn wrong_command(alloc: Global, command: &[&[u8]]) -> Result<String, Memory> {
 }
 
 /// The wrong count of words after a name, or the first fixed word that is wrong.
-fn wrong_rest(
-    alloc: Global,
-    form: &Form,
-    name: &[u8],
-    rest: &[&[u8]],
-) -> Result<String, Memory> {
+fn wrong_rest(alloc: Global, form: &Form, name: &[u8], rest: &[&[u8]]) -> Result<String, Memory> {
     if !form.takes_count(rest.len()) {
         return wrong_count(alloc, form.text, name, rest.len());
     }
@@ -232,7 +222,9 @@ fn no_requester(alloc: Global, words: &[&[u8]]) -> Result<String, Memory> {
         return Ok(String::new(alloc));
     };
     let eid = quoted(alloc, eid)?;
-    Ok(format!(in alloc; "no earlier line is of the requester {eid}: expected '{REQUESTER}' above")?)
+    Ok(format!(in alloc;
+        "no earlier line is of the requester {eid}: expected '{REQUESTER}' above"
+    )?)
 }
 
 fn same_requester(alloc: Global, words: &[&[u8]]) -> Result<String, Memory> {

@@ -7,7 +7,11 @@ use strsim::damerau_levenshtein;
 
 /// The known word that differs from this one in the fewest letters, and in at most [`MAX_EDITS`]; of
 /// several the first. Letters of another case differ by nothing.
-pub fn similar<'a>(alloc: Global, word: &[u8], known: &[&'a str]) -> Result<Option<&'a str>, Memory> {
+pub fn similar<'a>(
+    alloc: Global,
+    word: &[u8],
+    known: &[&'a str],
+) -> Result<Option<&'a str>, Memory> {
     if word.len() > MAX_SUGGESTED {
         return Ok(None);
     }

@@ -29,17 +29,25 @@ pub fn explain_timing(
     let Some(numbers) = numbers_of(alloc, lines, eid)? else {
         return Ok(String::new(alloc));
     };
-    let Numbers { line, timeout, tries } = numbers;
+    let Numbers {
+        line,
+        timeout,
+        tries,
+    } = numbers;
     let line = line.saturating_add(lines_before);
     let eid = eid.get();
     let text = match fault {
         TimingFault::Timeout => {
             format!(in alloc; "the timeout is 0: expected 1 to {LONGEST_TIMEOUT} milliseconds")?
         }
-        TimingFault::Tries => format!(in alloc; "the tries are {tries}: expected 1 to {MOST_TRIES}")?,
+        TimingFault::Tries => format!(in alloc;
+            "the tries are {tries}: expected 1 to {MOST_TRIES}"
+        )?,
         TimingFault::TooLate => {
             let life = timeout.saturating_mul(tries);
-            format!(in alloc; "{tries} tries of {timeout} ms take {life} ms: at most keep_ms, {keep}, is allowed")?
+            format!(in alloc;
+                "{tries} tries of {timeout} ms take {life} ms: at most keep_ms, {keep}, is allowed"
+            )?
         }
         TimingFault::SameEid => {
             format!(in alloc; "{eid} is the eid of the device: expected another from 8 to 254")?
@@ -72,12 +80,18 @@ fn numbers_in(
     let [b"requester", own, _, timeout, _, tries] = words.as_slice() else {
         return Ok(None);
     };
-    match (read_decimal(own), read_decimal(timeout), read_decimal(tries)) {
-        (Some(own), Some(timeout), Some(tries)) if own == u64::from(eid.get()) => Ok(Some(Numbers {
-            line: number,
-            timeout,
-            tries,
-        })),
+    match (
+        read_decimal(own),
+        read_decimal(timeout),
+        read_decimal(tries),
+    ) {
+        (Some(own), Some(timeout), Some(tries)) if own == u64::from(eid.get()) => Ok(Some(
+            Numbers {
+                line: number,
+                timeout,
+                tries,
+            },
+        )),
         _ => Ok(None),
     }
 }

@@ -3,8 +3,11 @@ use Rattle.std.proofs.Common.{◌≡◌, ◌≤◌, ◌+◌, ◌*◌, ◌++◌, 
 use Rattle.mctpctl_decode.specs.FieldTexts.{bits_from}
 use Rattle.mctpctl_decode.proofs.field_text.push_bits.Given as goal
 
-abbrev pub invariant-loop-byte : goal.invariant-loop-byte
-invariant-loop-byte l = record {
+abbrev pub invariant-loop-rest : goal.invariant-loop-rest
+invariant-loop-rest l = record {
   text : l.out.items ++ bits_from l.first l.rest ≡ l.initial.out.items ++ bits_from 0 l.bytes;
   count : l.first + 8 * length l.rest ≤ 256;
 }
+
+abbrev pub decreases-loop-rest : goal.decreases-loop-rest
+decreases-loop-rest l = length l.rest
