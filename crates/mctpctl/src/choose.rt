@@ -3,7 +3,7 @@
 ghost use Rattle.std.specs.Prelude.{◌≡◌, IfOk, IfErr, Some, false, map, option_and_then};
 ghost use Rattle.clap.specs.Words.{app_of, fields_of, found_of, kind_of, rows_of, rule_of, subcommand_rows_of};
 ghost use Rattle.mctpctl.specs.FaultNumbers.{number_of_choose_fault};
-ghost use Rattle.mctpctl.specs.Choice.{choice_in, choice_of, command as the_command, device_command as the_device_command, flag as the_flag, is_given, program as the_program, subcommand as the_subcommand, task_named, TellsKind, TellsRefusal};
+ghost use Rattle.mctpctl.specs.Choice.{choice_in as the_choice, choice_of, command as the_command, device_command as the_device_command, flag as the_flag, is_given, program as the_program, subcommand as the_subcommand, task_named, TellsKind, TellsRefusal};
 
 use crate::help::{ANSWER, DECODE, EXPLAIN, RUN, SHOW, STATUSES, VERSION};
 use clap::error::ErrorKind;
@@ -132,10 +132,18 @@ fn program<'a>(alloc: Global) -> Command<'a>
 }
 
 /// What the subcommand that `clap` found asks for.
+#[tactic(auto, using(crate::proofs::FoundSubcommands::none_found, crate::proofs::FoundSubcommands::one_found))]
 fn choice_in(matches: &ArgMatches<'_>) -> Option<Choice>
-    ensures { result ≡ option_and_then choice_in (subcommand_rows_of matches.now) }
+    ensures { result ≡ option_and_then the_choice (subcommand_rows_of matches.now) }
 {
     let (name, matches) = matches.subcommand()?;
+    choice_for(name, matches)
+}
+
+/// What a subcommand of this name asks for, by its flags.
+fn choice_for(name: &str, matches: &ArgMatches<'_>) -> Option<Choice>
+    ensures { result ≡ the_choice (name.now, rows_of (found_of matches.now)) }
+{
     let task = named(name)?;
     Some(Choice {
         task,
@@ -145,10 +153,14 @@ fn choice_in(matches: &ArgMatches<'_>) -> Option<Choice>
 }
 
 /// Whether a flag was given: `clap` then has the text `true` for it.
+#[tactic(auto, using(crate::proofs::GivenFlags::value_by_rows))]
 fn is_given(matches: &ArgMatches<'_>, name: &str) -> bool
     ensures { result ≡ is_given name.now (rows_of (found_of matches.now)) }
 {
-    matches.get_str(name) == Some("true")
+    match matches.get_str(name) {
+        Some(text) => text == "true",
+        None => false,
+    }
 }
 
 /// The task of a subcommand's name.

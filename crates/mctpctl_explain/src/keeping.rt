@@ -1,6 +1,6 @@
 //! A reader that keeps a copy of what was read through it.
 
-ghost use Rattle.std.specs.Prelude.{◌≡◌, ◌≤◌, ◌↔◌, ◌++◌, [], false, true, IfOk, IfSome, IsSome, OnErr, take, vec_len};
+ghost use Rattle.std.specs.Prelude.{◌≡◌, ◌-◌, ◌↔◌, ◌++◌, [], false, true, IfOk, IfSome, IsSome, OnErr, length, take};
 ghost use Rattle.std.specs.Io.{ReadsAtMost};
 ghost use Rattle.std.specs.Io.KnownBytes.{ReadConsumes};
 ghost use Rattle.mctpctl_explain.specs.KeptBytes.{has_lost, inner_of, kept_of};
@@ -20,7 +20,6 @@ pub struct Keeping<R> {
     kept: Vec<u8>,
     /// A growth of the copy was refused.
     lost: bool,
-    ghost bounded: { vec_len kept ≤ MAX_INPUT },
 }
 
 impl<R> Keeping<R> {
@@ -48,10 +47,11 @@ impl<R> Keeping<R> {
     /// Keeps bytes that were read, up to the limit.
     fn keep(&mut self, bytes: &[u8])
         ensures inner { inner_of self.new ≡ inner_of self.old }
-        ensures kept { has_lost self.new ≡ false → kept_of self.new ≡ take MAX_INPUT (kept_of self.old ++ bytes.now) }
+        ensures kept { has_lost self.new ≡ false
+            → kept_of self.new ≡ kept_of self.old ++ take (MAX_INPUT - length (kept_of self.old)) bytes.now }
         ensures lost { has_lost self.old ≡ true → has_lost self.new ≡ true }
     {
-        let room = MAX_INPUT - self.kept.len();
+        let room = MAX_INPUT.saturating_sub(self.kept.len());
         let count = bytes.len().min(room);
         if self.kept.extend_from_slice(&bytes[..count]).is_err() {
             self.lost = true;
@@ -67,7 +67,7 @@ impl<R: Read> Read for Keeping<R> {
         ensures bound { ReadsAtMost result buf.new }
         ensures bytes { ReadConsumes (R.remaining (inner_of self.old)) (R.remaining (inner_of self.new)) result buf.new }
         ensures kept { IfOk result (λ n. has_lost self.new ≡ false
-            → kept_of self.new ≡ take MAX_INPUT (kept_of self.old ++ take n buf.new)) }
+            → kept_of self.new ≡ kept_of self.old ++ take (MAX_INPUT - length (kept_of self.old)) (take n buf.new)) }
         ensures error { OnErr result (kept_of self.new ≡ kept_of self.old) }
     {
         let count = self.inner.read(buf)?;
