@@ -8,7 +8,6 @@ ABOUT = {
     "run": "Runs requesters and the described device over a schedule of what is delivered",
     "show": "Shows the packets of a capture and the messages that they complete",
 }
-OPTIONS = "Options:\n  -h, --help  Print help\n"
 TOP_OPTIONS = "Options:\n  -h, --help     Print help\n  -V, --version  Print version\n"
 
 
@@ -36,8 +35,11 @@ def whole(texts):
     yield ["--help"], top
     yield ["-h"], top
     yield ["help"], top
+    explain, decode = (f"      --{name:<9}{texts[name.upper()]}\n" for name in ("explain", "decode"))
+    options = f"Options:\n{explain}{{0}}  -h, --help     Print help\n"
     for name, about in ABOUT.items():
-        page = f"{about}\n\nUsage: mctpctl {name}\n\n{OPTIONS}\n{texts[name.upper()]}\n"
+        flags = options.format(decode if name == "show" else "")
+        page = f"{about}\n\nUsage: mctpctl {name} [OPTIONS]\n\n{flags}\n{texts[name.upper()]}\n"
         yield [name, "--help"], page
         yield ["help", name], page
 

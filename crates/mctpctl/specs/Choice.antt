@@ -1,9 +1,13 @@
--- Which task a command line names, by the definition of `clap`.
-use Rattle.std.specs.Prelude.{◌≡◌, ◌≢◌, ◌==◌, ◌⊎◌, ℕ, Bool, true, if◌then◌else◌}
-use Rattle.std.specs.Prelude.{List, [], ◌∷◌, length, codes, bytes_eq, Option, None, Some, option_and_then}
+-- What a command line asks for, by the definition of `clap`.
+use Rattle.std.specs.Option.{option_map_or}
+use Rattle.std.specs.Prelude.{◌≡◌, ◌≢◌, ◌==◌, ◌⊎◌, ℕ, Bool, true, false, if◌then◌else◌}
+use Rattle.std.specs.Prelude.{List, [], ◌∷◌, length, codes, bytes_eq, Option, None, Some, option_and_then, option_map}
 use Rattle.clap.specs.Words.{App, new_app, with_subcommand, fault_of, subcommand_of, IsAmong}
+use Rattle.clap.specs.Words.{Row, Rule, first_of, new_rule, with_rule}
+use Rattle.clap.specs.declared.builder.action.ArgAction.TheVariants.{SetTrue}
 use Rattle.clap.specs.declared.error.kind.ErrorKind.{ErrorKind}
 use Rattle.clap.specs.declared.error.kind.ErrorKind.TheVariants.{DisplayHelp, DisplayVersion, OutOfMemory}
+use Rattle.mctpctl.specs.declared.choose.Choice.{Choice}
 use Rattle.mctpctl.specs.declared.choose.Task.{Task}
 use Rattle.mctpctl.specs.declared.choose.Task.TheVariants.{Answer, Run, Show}
 use Rattle.mctpctl.specs.declared.choose.ChooseFault.{ChooseFault}
@@ -13,12 +17,22 @@ use Rattle.mctpctl.specs.declared.choose.ChooseFault.TheVariants.{Help, Refused,
 abbrev pub program : App
 program = record { top = record (new_app (codes "mctpctl")).top { subcommand_required = true; has_version = true }; subs = [] }
 
+-- a flag of this name, as `--explain`
+abbrev pub flag : List ℕ → Rule
+flag name = record (new_rule name) { long = Some name; action = Some SetTrue }
+
+-- a subcommand of this name, which may be asked to explain the faults of its input
+abbrev pub subcommand : List ℕ → App
+subcommand name = with_rule (new_app name) (flag (codes "explain"))
+
 -- the subcommands that simulate a device
 abbrev pub device_command : App
-device_command = with_subcommand (with_subcommand program (new_app (codes "answer")).top) (new_app (codes "run")).top
+device_command =
+    with_subcommand (with_subcommand program (subcommand (codes "answer")).top) (subcommand (codes "run")).top
 
+-- `show` may also be asked to decode messages
 abbrev pub command : App
-command = with_subcommand device_command (new_app (codes "show")).top
+command = with_subcommand device_command (with_rule (subcommand (codes "show")) (flag (codes "decode"))).top
 
 -- whether `clap` takes the words, of which the first is the program's name
 abbrev pub takes_line : List (List ℕ) → Bool
@@ -31,17 +45,31 @@ task_named name =
     else if bytes_eq name (codes "show") then Some Show
     else None
 
--- the task of a line that is taken
-abbrev pub task_of : List (List ℕ) → Option Task
-task_of words =
-    if takes_line words then option_and_then (λ found. task_named found.0) (subcommand_of command words) else None
+-- whether a flag was given, by what `clap` found of the subcommand's arguments
+abbrev pub is_given : List ℕ → List Row → Bool
+is_given name rows = option_map_or (λ text. bytes_eq text (codes "true")) (first_of name rows) false
 
--- what a refusal says of the line: that it names no task, and whether help or the version was asked for; memory may be wanting at any
--- line
+-- what is asked for by a subcommand's name and what was found of its arguments
+abbrev pub choice_in : List ℕ × List Row → Option Choice
+choice_in found =
+    option_map
+    (λ task. record {
+      task = task;
+      explain = is_given (codes "explain") found.1;
+      decode = is_given (codes "decode") found.1;
+    })
+    (task_named found.0)
+
+-- what a line that is taken asks for
+abbrev pub choice_of : List (List ℕ) → Option Choice
+choice_of words = if takes_line words then option_and_then choice_in (subcommand_of command words) else None
+
+-- what a refusal says of the line: that it names no task, and whether help or the version was asked for; a call may
+-- run out of memory at any line
 abbrev pub TellsRefusal : List (List ℕ) → ChooseFault → Type 0
-TellsRefusal words (Help text) = (task_of words ≡ None)
+TellsRefusal words (Help text) = (choice_of words ≡ None)
     × (IsAmong DisplayHelp (fault_of command words) ⊎ IsAmong DisplayVersion (fault_of command words))
-TellsRefusal words (Refused text) = (task_of words ≡ None)
+TellsRefusal words (Refused text) = (choice_of words ≡ None)
     × (fault_of command words ≢ DisplayHelp ∷ []) × (fault_of command words ≢ DisplayVersion ∷ [])
 TellsRefusal words Memory = Unit {0}
 

@@ -4,6 +4,12 @@
 /// and built with.
 pub const VERSION: &str = "1.0.0 (rattle-kit-13f logic dac8208d650f15bf)";
 
+/// What `--explain` does.
+pub const EXPLAIN: &str = "Say more of a refused input on standard error, and warn of what is ignored";
+
+/// What `--decode` does.
+pub const DECODE: &str = "Show the fields of commands and answers by name";
+
 /// What each subcommand reads, and the exit statuses.
 pub const STATUSES: &str = "\
 Exit status:
@@ -101,6 +107,11 @@ and after 'whole' the message, as soon as the line has been read. A request is f
     request 0 GetTID - ok
   1 9>8 tag 0 to 0 som 1 eom 1 seq 0 len 6 whole
     response 0 GetTID 00 01
+
+With --decode the line of a message has the fields of its command or answer by name:
+
+    request 0 GetTID
+    response 0 GetTID tid 1
 
 Exit status:
   0  done

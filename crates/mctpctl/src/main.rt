@@ -5,10 +5,16 @@
 mod choose;
 mod help;
 
-use crate::choose::{ChooseFault, Task, choose};
-use mctpctl_engines::{EngineFault, Port, answer_all, fault_line, run_all, show_all, status_of};
+ghost use Rattle.std.specs.Prelude.{◌≡◌, false};
+ghost use Rattle.mctpctl_input.specs.Ports.{has_failed};
+
+use crate::choose::{Choice, ChooseFault, Task, choose};
+use mctpctl_decode::decode_all;
+use mctpctl_engines::{answer_all, run_all, show_all};
+use mctpctl_input::{EngineFault, Port, fault_line, status_of};
+use mctpctl_explain::{Keeping, Subject, explain, warnings};
 use std::env;
-use std::io::{BufWriter, ErrorKind, IsTerminal};
+use std::io::{BufWriter, ErrorKind, IsTerminal, Read};
 use std::process::ExitCode;
 
 /// How many bytes of the text of a run are gathered before they are written.
@@ -16,13 +22,7 @@ const GATHERED: usize = 65_536;
 
 fn main(rt: HostRuntime) -> ExitCode {
     let status = match chosen(&rt) {
-        Ok(task) => match perform(&rt, task) {
-            Ok(()) => 0,
-            Err(fault) => {
-                tell(&rt, &fault);
-                status_of(&fault)
-            }
-        },
+        Ok(choice) => perform(&rt, choice),
         Err(ChooseFault::Help(text)) => {
             let _ = print!(rt; "{text}");
             0
@@ -36,8 +36,8 @@ fn main(rt: HostRuntime) -> ExitCode {
     ExitCode::from(status)
 }
 
-/// The task that the command line names.
-fn chosen(rt: &HostRuntime) -> Result<Task, ChooseFault> {
+/// What the command line asks for.
+fn chosen(rt: &HostRuntime) -> Result<Choice, ChooseFault> {
     let alloc = rt.alloc();
     let args = match env::args(rt) {
         Ok(args) => args,
@@ -60,28 +60,75 @@ fn chosen(rt: &HostRuntime) -> Result<Task, ChooseFault> {
     choose(alloc, &words)
 }
 
-/// Does the task over standard input, on standard output.
-fn perform(rt: &HostRuntime, task: Task) -> Result<(), EngineFault> {
-    let alloc = rt.alloc();
+/// Does what is asked for over standard input, on standard output, and returns the exit status. Only with
+/// `--explain` is a copy of the input kept.
+fn perform(rt: &HostRuntime, choice: Choice) -> u8 {
     if rt.stdin().is_terminal() {
         let _ = eprintln!(rt; "mctpctl: reading standard input; Ctrl-D ends it");
     }
-    let mut reader = Port::new(rt.stdin());
-    match task {
-        Task::Answer => answer_all(alloc, &mut reader, &mut Port::new(rt.stdout())),
+    if !choice.explain {
+        let result = run(rt, choice, &mut Port::new(rt.stdin()));
+        return status(rt, &result);
+    }
+    let mut reader = Port::new(Keeping::new(rt.alloc(), rt.stdin()));
+    let result = run(rt, choice, &mut reader);
+    let status = status(rt, &result);
+    if let Some(input) = reader.into_inner().kept() {
+        say_more(rt, choice.task, input, &result);
+    }
+    status
+}
+
+/// Runs the engine of the task over a reader, on standard output.
+fn run<R: Read>(
+    rt: &HostRuntime,
+    choice: Choice,
+    reader: &mut Port<R>,
+) -> Result<(), EngineFault>
+    requires { has_failed reader.old ≡ false }
+{
+    let alloc = rt.alloc();
+    match choice.task {
+        Task::Answer => answer_all(alloc, reader, &mut Port::new(rt.stdout())),
         Task::Run => {
             let Ok(gathering) = BufWriter::with_capacity(alloc, GATHERED, rt.stdout()) else {
                 return Err(EngineFault::Memory);
             };
-            run_all(alloc, &mut reader, &mut Port::new(gathering))
+            run_all(alloc, reader, &mut Port::new(gathering))
         }
-        Task::Show => show_all(alloc, &mut reader, &mut Port::new(rt.stdout())),
+        Task::Show if choice.decode => decode_all(alloc, reader, &mut Port::new(rt.stdout())),
+        Task::Show => show_all(alloc, reader, &mut Port::new(rt.stdout())),
     }
 }
 
-/// Tells the fault on standard error; where there is no memory for the line, none is printed.
-fn tell(rt: &HostRuntime, fault: &EngineFault) {
+/// The exit status of a run, whose fault is printed on standard error; where there is no memory for its
+/// line, none is printed.
+fn status(rt: &HostRuntime, ended: &Result<(), EngineFault>) -> u8 {
+    let Err(fault) = ended else {
+        return 0;
+    };
     if let Ok(line) = fault_line(rt.alloc(), fault) {
         let _ = eprintln!(rt; "mctpctl: {line}");
+    }
+    status_of(fault)
+}
+
+/// Explains the fault of a run on standard error, and warns of what is ignored in its input.
+fn say_more(rt: &HostRuntime, task: Task, input: &[u8], ended: &Result<(), EngineFault>) {
+    let subject = match task {
+        Task::Answer => Subject::Answer,
+        Task::Run => Subject::Run,
+        Task::Show => Subject::Show,
+    };
+    if let Err(fault) = ended
+        && let Ok(text) = explain(rt.alloc(), subject, input, fault)
+        && !text.is_empty()
+    {
+        let _ = eprintln!(rt; "mctpctl: {text}");
+    }
+    if let Ok(found) = warnings(rt.alloc(), subject, input) {
+        for text in found.iter() {
+            let _ = eprintln!(rt; "mctpctl: warning: {text}");
+        }
     }
 }

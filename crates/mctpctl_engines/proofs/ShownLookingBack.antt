@@ -20,9 +20,9 @@ use Rattle.mctpctl_input.proofs.RunsOverLines.{SameStep, same_run, some_line}
 use Rattle.mctpctl_input.proofs.SameCaptures.{same_capture_step}
 
 -- what is held is what the packets that came leave, at each destination
-record IsLeft (observed : Observed) (seen : List TimedPacket) : Type 0 where
-  last : observed.last ≡ last_seen seen
-  open_at : (destination : ℕ) → IsLeftBy (observed.open_at destination) (fed_to destination seen)
+pub record IsLeft (observed : Observed) (seen : List TimedPacket) : Type 0 where
+  pub last : observed.last ≡ last_seen seen
+  pub open_at : (destination : ℕ) → IsLeftBy (observed.open_at destination) (fed_to destination seen)
 
 module _ (feeds : FeedLooksBack) where
   same_text : (observed : Observed) (seen : List TimedPacket) (moment : ℕ) (read : Result Packet Reason) → IsLeft observed seen → shown_text moment read (given_at observed.open_at) ≡ shown_text moment read (gives_after seen)
@@ -36,7 +36,7 @@ module _ (feeds : FeedLooksBack) where
       (feeds MAX_PACKETS (observed.open_at destination) (fed_to destination seen) p (lit≤ tt) (left.open_at destination)).1
   left_by false observed seen p destination left = left.open_at destination
 
-  left_with : (observed : Observed) (seen : List TimedPacket) (read : Result Packet Reason) → IsLeft observed seen
+  pub left_with : (observed : Observed) (seen : List TimedPacket) (read : Result Packet Reason) → IsLeft observed seen
       → (destination : ℕ) → IsLeftBy (open_with observed.open_at read destination) (fed_more destination read (fed_to destination seen))
   left_with observed seen (Err reason) left destination = left.open_at destination
   left_with observed seen (Ok p) left destination = left_by (p.route.destination == destination) observed seen p destination left
@@ -50,7 +50,7 @@ module _ (feeds : FeedLooksBack) where
       })
 
   module _ (new : NewLooksBack) where
-    none_left : IsLeft none_observed []
+    pub none_left : IsLeft none_observed []
     none_left = record { last = refl; open_at = λ destination. new MAX_PACKETS }
 
     -- the run over what is held is the run that looks back

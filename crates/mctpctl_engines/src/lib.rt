@@ -9,9 +9,11 @@ mod schedule_run;
 mod show;
 
 pub use answer_run::answer_all;
+pub use line_run::{LineRoom, LineRun, LineTask};
 pub use mctpctl_input::{
     DescriptionFault, EngineFault, LineKind, MAX_CAPTURE_LINE, MAX_DESCRIPTION, MAX_DIVIDER,
     MAX_INPUT, Port, fault_line, status_of,
 };
+pub use observer::Observer;
 pub use schedule_run::run_all;
 pub use show::show_all;

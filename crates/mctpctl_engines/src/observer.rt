@@ -37,7 +37,7 @@ impl Observer {
     }
 
     /// What a packet gives at its destination.
-    fn feed(&mut self, alloc: Global, packet: &PacketRef<'_>) -> Result<Fed, Memory>
+    pub fn feed(&mut self, alloc: Global, packet: &PacketRef<'_>) -> Result<Fed, Memory>
         ensures fed { IfOk result (λ fed. fed ≡ given_at (open_in self.old.assemblers.entries) packet.now) }
         ensures open { OnOk result (open_in self.new.assemblers.entries
             ≡ open_after (open_in self.old.assemblers.entries) packet.now) }

@@ -11,7 +11,9 @@ mod packet_line;
 mod report_text;
 mod written_text;
 
+pub use bytes_text::{push_hex, push_number, push_text};
 pub use device_lines::device_text;
+pub use message_line::push_message_line;
 pub use outcome::push_outcome;
 pub use packet_line::{push_completed, push_no_packet_line, push_packet_line};
 pub use report_text::write_report;

@@ -1,0 +1,9 @@
+pub mod AnswerTexts
+pub mod CodeNames
+pub mod CommandTexts
+pub mod DecodeText
+pub mod DecodedLines
+pub mod Decoders
+pub mod FieldTexts
+pub mod LongLines
+pub mod StateNames

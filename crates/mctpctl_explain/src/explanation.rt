@@ -1,0 +1,113 @@
+//! What a fault of the input is, in more words.
+
+ghost use Rattle.std.specs.Prelude.{◌≡◌, [], IfOk, string_bytes};
+ghost use Rattle.mctpctl_input.specs.LineRuns.{IsOutside};
+
+use crate::description::explain_description;
+use crate::divided::{Divided, numbered_line};
+use crate::timing::explain_timing;
+use crate::{capture_line, schedule_line};
+use mctp_packet::{Eid, Memory};
+use mctpctl_input::{EngineFault, LineKind, MAX_DESCRIPTION, MAX_INPUT};
+use pldm_device::Description;
+use pldm_requester::TimingFault;
+use std::alloc::Global;
+
+/// Whose input it is.
+#[derive(Clone, Copy, Debug, PartialEq, Eq)]
+pub enum Subject {
+    /// That of `answer`: a description and a capture.
+    Answer,
+    /// That of `run`: a description and a schedule.
+    Run,
+    /// That of `show`: a capture.
+    Show,
+}
+
+/// Says more of a fault that an engine returned for an input, of which this is what was read, up to
+/// `MAX_INPUT` bytes: where it is, what was found there, and what is allowed. It is one line, without a line
+/// end, and empty where there is nothing more to say: the ports' own faults and out of memory are no
+/// faults of the input.
+pub fn explain(
+    alloc: Global,
+    subject: Subject,
+    input: &[u8],
+    fault: &EngineFault,
+) -> Result<String, Memory>
+    ensures outside { IsOutside fault.now → IfOk result (λ text. string_bytes text ≡ []) }
+{
+    match fault {
+        EngineFault::Read | EngineFault::Write | EngineFault::Memory => Ok(String::new(alloc)),
+        EngineFault::Device(fault) => explain_description(alloc, description_in(input), *fault),
+        EngineFault::NoDivider => no_divider(alloc, subject),
+        EngineFault::Line(number, kind) => explain_line(alloc, subject, input, *number, *kind),
+        EngineFault::Timing(eid, fault) => explain_requester(alloc, input, *eid, *fault),
+        EngineFault::TooLarge => too_large(alloc, subject, input),
+    }
+}
+
+/// The description of an input; all of it where no line divides.
+fn description_in(input: &[u8]) -> &[u8] {
+    match Divided::new(input) {
+        Some(divided) => divided.description,
+        None => input,
+    }
+}
+
+fn no_divider(alloc: Global, subject: Subject) -> Result<String, Memory> {
+    let what = match subject {
+        Subject::Answer | Subject::Show => "capture",
+        Subject::Run => "schedule",
+    };
+    Ok(format!(in alloc; "expected a line '%%' between the description and the {what}")?)
+}
+
+/// Says which line it is in the whole input, and what is wrong with it.
+fn explain_line(
+    alloc: Global,
+    subject: Subject,
+    input: &[u8],
+    number: u64,
+    kind: LineKind,
+) -> Result<String, Memory> {
+    let (lines, lines_before) = match (subject, Divided::new(input)) {
+        (Subject::Show, _) | (_, None) => (input, 0),
+        (_, Some(divided)) => (divided.lines, divided.lines_before),
+    };
+    let Some((line, before)) = numbered_line(lines, number) else {
+        return Ok(String::new(alloc));
+    };
+    let text = match subject {
+        Subject::Run => schedule_line::explain_line(alloc, line, before, kind)?,
+        Subject::Answer | Subject::Show => capture_line::explain_line(alloc, line, before, kind)?,
+    };
+    let number = number.saturating_add(lines_before);
+    let sign = if text.is_empty() { "" } else { ": " };
+    Ok(format!(in alloc; "input line {number}{sign}{text}")?)
+}
+
+fn explain_requester(
+    alloc: Global,
+    input: &[u8],
+    eid: Eid,
+    fault: TimingFault,
+) -> Result<String, Memory> {
+    let Some(divided) = Divided::new(input) else {
+        return Ok(String::new(alloc));
+    };
+    let Ok(description) = Description::read(alloc, divided.description) else {
+        return Ok(String::new(alloc));
+    };
+    let keep = description.keep.get();
+    explain_timing(alloc, divided.lines, divided.lines_before, keep, eid, fault)
+}
+
+/// Says which limit was passed.
+fn too_large(alloc: Global, subject: Subject, input: &[u8]) -> Result<String, Memory> {
+    if subject != Subject::Show && description_in(input).len() > MAX_DESCRIPTION {
+        return Ok(format!(in alloc;
+            "the description before the line '%%' has more than {MAX_DESCRIPTION} bytes"
+        )?);
+    }
+    Ok(format!(in alloc; "the whole input has more than {MAX_INPUT} bytes")?)
+}

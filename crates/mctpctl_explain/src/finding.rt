@@ -1,0 +1,148 @@
+//! What is wrong with a description, and where.
+
+use mctp_packet::Memory;
+use pldm_device::FileFault;
+use std::alloc::Global;
+use toml::Value;
+
+/// The path of a value in a description, as `numeric_effecter[2].max`.
+#[derive(Clone, Copy, Debug)]
+pub struct Path<'a> {
+    /// The list, where the value is in one.
+    pub list: Option<&'a str>,
+    /// Which entry of the list, counted from 0.
+    pub entry: Option<usize>,
+    /// The key of the entry or of the whole description.
+    pub key: Option<&'a str>,
+    /// Which item of an array, and which one of an array in that.
+    pub items: [Option<usize>; 2],
+}
+
+impl<'a> Path<'a> {
+    /// A key of the whole description.
+    pub fn top(key: &'a str) -> Path<'a> {
+        Path {
+            list: None,
+            entry: None,
+            key: Some(key),
+            items: [None, None],
+        }
+    }
+
+    /// An entry of a list.
+    pub fn entry(list: &'a str, entry: usize) -> Path<'a> {
+        Path {
+            list: Some(list),
+            entry: Some(entry),
+            key: None,
+            items: [None, None],
+        }
+    }
+
+    /// A key of this entry.
+    pub fn key(self, key: &'a str) -> Path<'a> {
+        Path {
+            key: Some(key),
+            ..self
+        }
+    }
+
+    /// An item of this array.
+    pub fn item(self, item: usize) -> Path<'a> {
+        match self.items {
+            [None, _] => Path {
+                items: [Some(item), None],
+                ..self
+            },
+            [first, _] => Path {
+                items: [first, Some(item)],
+                ..self
+            },
+        }
+    }
+
+    /// The path of what this is in; `None` for a whole key or list.
+    pub fn parent(self) -> Option<Path<'a>> {
+        match (self.items, self.list, self.key) {
+            ([first, Some(_)], _, _) => Some(Path {
+                items: [first, None],
+                ..self
+            }),
+            ([Some(_), None], _, _) => Some(Path {
+                items: [None, None],
+                ..self
+            }),
+            (_, Some(_), Some(_)) => Some(Path { key: None, ..self }),
+            _ => None,
+        }
+    }
+
+    /// The path as text.
+    pub fn text(&self, alloc: Global) -> Result<String, Memory> {
+        let mut text = String::new(alloc);
+        if let Some(list) = self.list {
+            text.push_str(list)?;
+        }
+        if let Some(entry) = self.entry {
+            text.push_str(format!(in alloc; "[{entry}]")?.as_str())?;
+        }
+        if let Some(key) = self.key {
+            if self.list.is_some() {
+                text.push_str(".")?;
+            }
+            text.push_str(key)?;
+        }
+        for item in self.items.iter() {
+            if let Some(item) = item {
+                text.push_str(format!(in alloc; "[{item}]")?.as_str())?;
+            }
+        }
+        Ok(text)
+    }
+}
+
+/// What is wrong at a path.
+#[derive(Debug, Drop)]
+pub struct Finding<'a> {
+    /// Where.
+    pub path: Path<'a>,
+    /// Which fault it is.
+    pub fault: FileFault,
+    /// What was found and what is allowed, in words.
+    pub text: String,
+}
+
+/// What ends the looking.
+#[derive(Debug, Drop)]
+pub enum Stop<'a> {
+    /// The first fault was found.
+    Found(Finding<'a>),
+    /// No memory was left.
+    Memory,
+}
+
+impl<'a> Stop<'a> {
+    /// The fault at a path, with what was found there and what is allowed.
+    pub fn fault(path: Path<'a>, fault: FileFault, text: Result<String, Memory>) -> Stop<'a> {
+        match text {
+            Ok(text) => Stop::Found(Finding { path, fault, text }),
+            Err(Memory) => Stop::Memory,
+        }
+    }
+}
+
+/// A value in words.
+pub fn value_text(alloc: Global, value: &Value) -> Result<String, Memory> {
+    if let Some(number) = value.as_integer() {
+        return Ok(format!(in alloc; "{number}")?);
+    }
+    if let Some(text) = value.as_str() {
+        return crate::quoted::quoted(alloc, text.as_bytes());
+    }
+    if let Some(items) = value.as_array() {
+        let count = items.len();
+        return Ok(format!(in alloc; "an array of {count}")?);
+    }
+    let kind = value.type_str();
+    Ok(format!(in alloc; "a {kind}")?)
+}

@@ -1,0 +1,28 @@
+//! `--explain`: what a fault of the input is, in more words, and warnings of what is ignored.
+#![tactic(auto)]
+
+mod capture_line;
+mod check;
+mod check_list;
+mod command_form;
+mod description;
+mod divided;
+mod explanation;
+mod finding;
+mod ignored;
+mod keeping;
+mod key_places;
+mod known_keys;
+mod limits;
+mod place;
+mod quoted;
+mod schedule_line;
+mod slot;
+mod suggest;
+mod timing;
+mod words;
+
+pub use explanation::{Subject, explain};
+pub use ignored::warnings;
+pub use keeping::Keeping;
+pub use limits::{MAX_QUOTED, MAX_WARNINGS};
