@@ -9,8 +9,8 @@ use Rattle.mctp_packet.specs.declared.reason.Reason.{Reason}
 use Rattle.mctpctl_decode.specs.DecodeText.{decoded_run, decoded_step, observed_decoded, seen_decoded, seen_decoded_step}
 use Rattle.mctpctl_decode.specs.DecodedLines.{completed_text, decoded_text}
 use Rattle.mctpctl_engines.proofs.LineGlue.{glued_nil}
-use Rattle.mctpctl_engines.proofs.RunsOverLines.{SameStep, same_run, some_line}
-use Rattle.mctpctl_engines.proofs.SameCaptures.{same_capture_step}
+use Rattle.mctpctl_input.proofs.RunsOverLines.{SameStep, same_run, some_line}
+use Rattle.mctpctl_input.proofs.SameCaptures.{same_capture_step}
 use Rattle.mctpctl_engines.proofs.ShownLookingBack.{IsLeft, left_with, none_left}
 use Rattle.mctpctl_input.specs.CaptureLine.{TimedPacket}
 use Rattle.mctpctl_engines.specs.LinePieces.{line_gives}

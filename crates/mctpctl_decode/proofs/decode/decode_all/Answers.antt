@@ -4,7 +4,7 @@ use Rattle.mctpctl_engines.specs.LinePieces.{line_gives}
 use Rattle.mctpctl_decode.specs.Decoders.{held_of}
 use Rattle.mctpctl_input.specs.Pieces.{Gives}
 use Rattle.mctpctl_decode.specs.DecodeText.{decoded_run, decoded_step}
-use Rattle.mctpctl_engines.proofs.RunsToEnd.{same_text, same_read, same_front}
+use Rattle.mctpctl_input.proofs.RunsToEnd.{same_text, same_read, same_front}
 use Rattle.mctpctl_decode.proofs.DecodedLookingBack.{first_decodes}
 use Rattle.mctpctl_decode.proofs.decode.decode_all.Goals as goal
 
