@@ -10,7 +10,6 @@ use crate::decoder::Decoder;
 use mctp_assembly::laws;
 use mctpctl_engines::{LineRoom, LineRun};
 use mctpctl_input::{EngineFault, Port, run_to_end};
-use pldm_device::FileFault;
 use std::alloc::Global;
 use std::io::{Read, Write};
 
@@ -34,7 +33,6 @@ pub fn decode_all<R: Read, W: Write>(
         (W.contents (inner_of writer.old)) (W.contents (inner_of writer.new)) }
     ensures read { IsErrOf result EngineFault.Read ↔ (has_failed reader.new ≡ true) }
     ensures write { IsErrOf result EngineFault.Write ↔ (has_failed writer.new ≡ true) }
-    ensures device { result ≢ Err (EngineFault.Device FileFault.Memory) }
 {
     laws::looks_back();
     let task = Decoder::new(alloc);

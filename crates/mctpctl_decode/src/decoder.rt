@@ -15,7 +15,6 @@ use mctp_packet::{Memory, read};
 use mctpctl_engines::{LineRoom, LineTask, Observer};
 use mctpctl_input::{CaptureFault, CaptureLine, EngineFault, read_capture_line};
 use mctpctl_texts::{push_no_packet_line, push_packet_line};
-use pldm_device::FileFault;
 use std::alloc::Global;
 
 /// Looks on at packets of anyone, as an [`Observer`] does, and decodes the messages that they complete.
@@ -90,7 +89,6 @@ impl LineTask for Decoder {
     ) -> Result<(), EngineFault>
         ensures meets { AddsLine number (decoded_step (held_of self.old) line.now) (held_of self.new)
             out.old.items out.new.items result }
-        ensures device { result ≢ Err (EngineFault.Device FileFault.Memory) }
     {
         let moment = match read_capture_line(line, self.last, &mut room.packet) {
             Ok(CaptureLine::Packet { moment }) => moment,
