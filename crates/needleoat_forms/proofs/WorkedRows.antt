@@ -1,5 +1,5 @@
 -- The definitions computed on structs and messages: which bytes a struct is written as, and what a response is to a request.
-use Rattle.std.proofs.Common.{◌≡◌, ℕ, pos, negsuc, List, [], ◌∷◌, replicate, Some, None, Ok, Err, refl}
+use Rattle.std.proofs.Common.{◌≡◌, ℕ, pos, negsuc, List, [], ◌∷◌, replicate, Some, None, refl}
 use Rattle.pldm_wire.specs.AnswerReading.{success_of}
 use Rattle.pldm_wire.specs.CommandReading.{command_of}
 use Rattle.pldm_wire.specs.Requests.{request_of}
@@ -9,9 +9,6 @@ use Rattle.needleoat_forms.specs.AnswersToRequests.{answer_between, number_of_ou
 use Rattle.needleoat_forms.specs.Commands.{command_in, request_in}
 use Rattle.needleoat_forms.specs.declared.answer.AnswerFields.{AnswerFields}
 use Rattle.needleoat_forms.specs.declared.command.CommandFields.{CommandFields}
-use Rattle.needleoat_forms.specs.declared.states.EffecterState.{EffecterState}
-use Rattle.needleoat_forms.specs.declared.states.SensorState.{SensorState}
-use Rattle.needleoat_forms.specs.declared.states.SetState.{SetState}
 
 -- structs of zeros
 
