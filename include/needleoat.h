@@ -40,7 +40,7 @@ enum {
     NEEDLEOAT_STATES = 8           /* the most fields of a state sensor or effecter */
 };
 
-/* Reasons to drop a packet or a message, in the order of the checks. 0 is none. */
+/* Reasons to drop a packet or a message, in the order of the checks, but 18 before 17. 0 is none. */
 enum needleoat_reason {
     NEEDLEOAT_SHORT = 1,               /* the packet has fewer than 4 bytes */
     NEEDLEOAT_BAD_VERSION = 2,         /* its header version is not 1 */
@@ -48,6 +48,11 @@ enum needleoat_reason {
     NEEDLEOAT_BAD_SOURCE = 4,          /* its source is not 8 to 254, or is the own endpoint ID */
     NEEDLEOAT_NO_PAYLOAD = 5,          /* it has no payload */
     NEEDLEOAT_UNSUPPORTED_UNIT = 6,    /* its payload has more than 64 bytes */
+    NEEDLEOAT_BAD_TAG = 7,             /* no open request of that device has its tag, or TO is 1 */
+    NEEDLEOAT_UNEXPECTED_PACKET = 8,   /* a middle or end packet where no message is in progress */
+    NEEDLEOAT_OUT_OF_SEQUENCE = 9,     /* its number is not the last one plus 1 modulo 4 */
+    NEEDLEOAT_TOO_LONG = 10,           /* 5 packets of the message are there already */
+    NEEDLEOAT_WRONG_UNIT = 11,         /* a middle packet of another length than the first, or a longer end */
     NEEDLEOAT_NOT_PLDM = 12,           /* the message type is not 1 */
     NEEDLEOAT_INTEGRITY = 13,          /* the integrity bit is set */
     NEEDLEOAT_SHORT_HEADER = 14,       /* no byte; or fewer than 4 of a request, than 5 of a response */
@@ -55,6 +60,8 @@ enum needleoat_reason {
     NEEDLEOAT_NOT_REQUEST = 16,        /* Rq is 0 */
     NEEDLEOAT_DATAGRAM = 17,           /* D is 1 */
     NEEDLEOAT_NOT_RESPONSE = 18,       /* Rq is 1 */
+    NEEDLEOAT_NOT_MINE = 19,           /* another instance ID, PLDM type or command than the request's */
+    NEEDLEOAT_NOT_READY = 20,          /* the completion code is 0x04: the request stays open */
     NEEDLEOAT_NOT_AN_ENDPOINT = 255    /* the own endpoint ID is not 8 to 254, so nothing was read */
 };
 

@@ -1,6 +1,6 @@
 /*
- * Prints how many bytes of stack each call took, and ends with status 1 where one took more than 4,096. Each call runs on
- * a stack of its own, which is filled with one byte before and looked through after. So this is what these calls took,
+ * Prints how many bytes of stack each call took, and ends with status 1 where one took more than its limit. Each call runs
+ * on a stack of its own, which is filled with one byte before and looked through after. So this is what these calls took,
  * over inputs that go a long way, and no bound.
  */
 #define _XOPEN_SOURCE 700
@@ -9,7 +9,8 @@
 #include <string.h>
 #include <ucontext.h>
 
-enum { FILL = 0xa5, LIMIT = 4096 };
+/* The limit is for all but the last packet of several, which takes a message out of the tree of open ones. */
+enum { FILL = 0xa5, LIMIT = 4096, LAST_PACKET_LIMIT = 6144 };
 
 static _Alignas(16) uint8_t stack[1 << 16];
 static ucontext_t back, call;
@@ -91,11 +92,11 @@ int main(void) {
     answer.length = NEEDLEOAT_PART_BYTES;
     /* Once without a look at the stack, so that the linker has found each function and malloc has its first memory. */
     for (size_t i = 0; i < sizeof calls / sizeof *calls; i++) calls[i].function();
-    size_t before = taken_by(none), most = 0;
+    size_t before = taken_by(none), too_much = 0;
     for (size_t i = 0; i < sizeof calls / sizeof *calls; i++) {
         size_t taken = taken_by(calls[i].function) - before;
-        if (taken > most) most = taken;
+        if (taken > (calls[i].function == receive_last ? LAST_PACKET_LIMIT : LIMIT)) too_much++;
         printf("stack of %s %zu\n", calls[i].name, taken);
     }
-    return most > LIMIT;
+    return too_much > 0;
 }

@@ -1,1 +1,2 @@
 pub mod AsRequesterBox
+pub mod Numbers

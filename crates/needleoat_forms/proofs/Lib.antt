@@ -1,1 +1,3 @@
 pub mod FirstStates
+pub mod Constants
+pub mod WorkedRows
