@@ -1,6 +1,6 @@
 /*
- * The requesting end: a request whose answer is lost, its retry, a second request, and one that is given up. The device is
- * a fan that keeps one answer. Each call that had no memory is made again, since it changed nothing.
+ * The requesting end: a request whose answer is lost, its retry, a second request, and one that is given up. The device
+ * is a fan that keeps one answer. Each call that had no memory is made again, since it changed nothing.
  */
 #include "needleoat.h"
 #include <inttypes.h>
@@ -61,7 +61,8 @@ static void open(uint64_t now, const struct needleoat_command *command) {
     while (opening.refusal == NEEDLEOAT_NO_MEMORY);
     if (opening.refusal != 0) printf("%" PRIu64 " not opened: %u\n", now, opening.refusal);
     else
-        printf("%" PRIu64 " opened %" PRIu64 ", instance ID %u, tag %u\n", now, opening.number, opening.instance_id, opening.tag);
+        printf("%" PRIu64 " opened %" PRIu64 ", instance ID %u, tag %u\n", now, opening.number, opening.instance_id,
+               opening.tag);
 }
 
 static size_t send(uint64_t number) {

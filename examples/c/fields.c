@@ -40,8 +40,8 @@ static void read_packet(uint8_t own, const char *hex) {
     struct needleoat_packet p = needleoat_packet_read(own, bytes, length);
     printf("packet at %u: reason %u", own, p.reason);
     if (p.reason == 0)
-        printf(" destination %u source %u tag %u seq %u owner %d start %d end %d payload %zu", p.destination, p.source, p.tag,
-               p.seq, p.owner, p.start, p.end, p.payload_length);
+        printf(" destination %u source %u tag %u seq %u owner %d start %d end %d payload %zu", p.destination,
+               p.source, p.tag, p.seq, p.owner, p.start, p.end, p.payload_length);
     printf("\n");
 }
 
@@ -93,7 +93,8 @@ static void written_packets(void) {
 static void print_message(const char *name, struct needleoat_message m) {
     printf("%s: reason %u", name, m.reason);
     if (m.reason == 0)
-        printf(" id %u type %u command %u code %u data %zu", m.instance_id, m.pldm_type, m.command, m.code, m.data_length);
+        printf(" id %u type %u command %u code %u data %zu", m.instance_id, m.pldm_type, m.command, m.code,
+               m.data_length);
     printf("\n");
 }
 
@@ -113,8 +114,9 @@ static void messages(void) {
     static const char *const requests[] = {"01800002", "019d3f7a0102030405", "02800002", "81800002", "0180", "",
                                            "01804002", "01000002", "01c00002"};
     for (size_t i = 0; i < COUNT(requests); i++) read_request(requests[i]);
-    static const char *const responses[] = {"010000020001", "011d025182aabbcc", "020000020001", "810000020001", "01000002",
-                                            "", "010040020001", "018000020001", "014000020001"};
+    static const char *const responses[] = {"010000020001", "011d025182aabbcc", "020000020001",
+                                            "810000020001", "01000002",         "",
+                                            "010040020001", "018000020001",     "014000020001"};
     for (size_t i = 0; i < COUNT(responses); i++) read_response(responses[i]);
 }
 
@@ -126,7 +128,8 @@ static void messages(void) {
 static const struct needleoat_command commands[] = {
     {BASE(1, NEEDLEOAT_SET_TID), .tid = 40},
     {BASE(2, NEEDLEOAT_GET_TID)},
-    {BASE(3, NEEDLEOAT_GET_PLDM_VERSION), .data_transfer_handle = 0x04030201, .transfer_operation_flag = 6, .asked_type = 5},
+    {BASE(3, NEEDLEOAT_GET_PLDM_VERSION), .data_transfer_handle = 0x04030201, .transfer_operation_flag = 6,
+     .asked_type = 5},
     {BASE(4, NEEDLEOAT_GET_PLDM_TYPES)},
     {BASE(5, NEEDLEOAT_GET_PLDM_COMMANDS), .asked_type = 2, .version = {0xf1, 0xf2, 0xf3, 0xf4}},
     {PLATFORM(6, NEEDLEOAT_GET_SENSOR_READING), .sensor = 0x0201, .rearm = 3},
@@ -160,8 +163,8 @@ static const struct needleoat_command no_commands[] = {
 /* Whether each field is the same; the bytes between them may be any. */
 static bool same_command(const struct needleoat_command *a, const struct needleoat_command *b) {
     return SAME(instance_id) && SAME(pldm_type) && SAME(command) && SAME(tid) && SAME(asked_type) &&
-           SAME(transfer_operation_flag) && SAME(rearm) && SAME(size) && SAME(count) && SAME(sensor) && SAME(effecter) &&
-           SAME(request_count) && SAME(record_change_number) && SAME(data_transfer_handle) && SAME(record_handle) &&
+           SAME(transfer_operation_flag) && SAME(rearm) && SAME(size) && SAME(count) && SAME(sensor) &&
+           SAME(effecter) && SAME(request_count) && SAME(record_change_number) && SAME(data_transfer_handle) && SAME(record_handle) &&
            SAME(value) && SAME(version) && SAME(sets);
 }
 
@@ -209,11 +212,12 @@ static const struct needleoat_answer answers[] = {
     {BASE(5, NEEDLEOAT_GET_PLDM_COMMANDS),
      .commands = {0x20, 0x21, 0x22, 0x23, 0x24, 0x25, 0x26, 0x27, 0x28, 0x29, 0x2a, 0x2b, 0x2c, 0x2d, 0x2e, 0x2f,
                   0x30, 0x31, 0x32, 0x33, 0x34, 0x35, 0x36, 0x37, 0x38, 0x39, 0x3a, 0x3b, 0x3c, 0x3d, 0x3e, 0x3f}},
-    {PLATFORM(6, NEEDLEOAT_GET_SENSOR_READING), .size = NEEDLEOAT_SINT32, .operational = 2, .sensor_event_message_enable = 3,
-     .present = 4, .previous = 5, .event = 6, .value = -2},
+    {PLATFORM(6, NEEDLEOAT_GET_SENSOR_READING), .size = NEEDLEOAT_SINT32, .operational = 2,
+     .sensor_event_message_enable = 3, .present = 4, .previous = 5, .event = 6, .value = -2},
     {PLATFORM(7, NEEDLEOAT_GET_STATE_SENSOR_READINGS), .count = 8,
-     .sensor_states = {{0x10, 0x20, 0x30, 0x40}, {0x11, 0x21, 0x31, 0x41}, {0x12, 0x22, 0x32, 0x42}, {0x13, 0x23, 0x33, 0x43},
-                       {0x14, 0x24, 0x34, 0x44}, {0x15, 0x25, 0x35, 0x45}, {0x16, 0x26, 0x36, 0x46}, {0x17, 0x27, 0x37, 0x47}}},
+     .sensor_states = {{0x10, 0x20, 0x30, 0x40}, {0x11, 0x21, 0x31, 0x41}, {0x12, 0x22, 0x32, 0x42},
+                       {0x13, 0x23, 0x33, 0x43}, {0x14, 0x24, 0x34, 0x44}, {0x15, 0x25, 0x35, 0x45},
+                       {0x16, 0x26, 0x36, 0x46}, {0x17, 0x27, 0x37, 0x47}}},
     {PLATFORM(8, NEEDLEOAT_SET_NUMERIC_EFFECTER_VALUE)},
     {PLATFORM(3, NEEDLEOAT_GET_NUMERIC_EFFECTER_VALUE), .size = NEEDLEOAT_UINT8, .operational = 1, .value = 40,
      .pending_value = 40},
@@ -253,11 +257,12 @@ static const struct needleoat_answer no_answers[] = {
 
 static bool same_answer(const struct needleoat_answer *a, const struct needleoat_answer *b) {
     return SAME(instance_id) && SAME(pldm_type) && SAME(command) && SAME(code) && SAME(tid) && SAME(transfer_flag) &&
-           SAME(transfer_crc) && SAME(size) && SAME(operational) && SAME(sensor_event_message_enable) && SAME(present) &&
-           SAME(previous) && SAME(event) && SAME(count) && SAME(repository_state) && SAME(timeout) &&
+           SAME(transfer_crc) && SAME(size) && SAME(operational) && SAME(sensor_event_message_enable) &&
+           SAME(present) && SAME(previous) && SAME(event) && SAME(count) && SAME(repository_state) && SAME(timeout) &&
            SAME(next_record_handle) && SAME(next_data_transfer_handle) && SAME(record_count) && SAME(repository_size) &&
            SAME(largest_record_size) && SAME(value) && SAME(pending_value) && SAME(length) && SAME(sensor_states) &&
-           SAME(effecter_states) && SAME(types) && SAME(commands) && SAME(update_time) && SAME(oem_update_time) && SAME(bytes);
+           SAME(effecter_states) && SAME(types) && SAME(commands) && SAME(update_time) && SAME(oem_update_time) &&
+           SAME(bytes);
 }
 
 /* A request that the answer is one to. */
@@ -289,7 +294,8 @@ static void written_answers(void) {
         memset(&answer, UNTOUCHED, sizeof answer);
         size_t count = needleoat_answer_write(&answers[i], out);
         size_t request_length = request_for(&answers[i], request);
-        bool same = needleoat_answer_read(request, request_length, out, count, &answer) == 0 && same_answer(&answers[i], &answer);
+        uint8_t fault = needleoat_answer_read(request, request_length, out, count, &answer);
+        bool same = fault == 0 && same_answer(&answers[i], &answer);
         printf("answer ");
         print_bytes(out, count);
         printf(" %s, read back %s\n", rest(out, count, sizeof out), same ? "the same" : "OTHERWISE");

@@ -1,6 +1,6 @@
 /*
- * The memory of the library over malloc. Where the environment has REFUSED_GROWTH=N, the Nth growth is refused; at its end
- * the program writes how many there were, as `growths N` on standard error.
+ * The memory of the library over malloc. Where the environment has REFUSED_GROWTH=N, the Nth growth is refused; at its
+ * end the program writes how many there were, as `growths N` on standard error.
  */
 #include "needleoat.h"
 #include <stdio.h>

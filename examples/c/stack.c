@@ -1,7 +1,7 @@
 /*
- * Prints how many bytes of stack each call took, and ends with status 1 where one took more than its limit. Each call runs
- * on a stack of its own, which is filled with one byte before and looked through after. So this is what these calls took,
- * over inputs that go a long way, and no bound.
+ * Prints how many bytes of stack each call took, and ends with status 1 where one took more than its limit. Each call
+ * runs on a stack of its own, which is filled with one byte before and looked through after. So this is what these calls
+ * took, over inputs that go a long way, and no bound.
  */
 #define _XOPEN_SOURCE 700
 #include "needleoat.h"

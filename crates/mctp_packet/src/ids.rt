@@ -50,17 +50,17 @@ impl Eid {
 /// A message tag, 0 to 7 (DSP0236, "MCTP packet fields").
 #[derive(Clone, Copy, Debug, PartialEq, Eq, PartialOrd, Ord)]
 pub struct Tag {
-    number: u8,
+    tag: u8,
 }
 
 impl Model for Tag {
     ghost Value = { ℕ };
 
-    ghost view = { λ tag. tag.number };
+    ghost view = { λ tag. tag.tag };
 
-    ghost invariant = { λ tag. IsTag tag.number };
+    ghost invariant = { λ tag. IsTag tag.tag };
 
-    ghost inverse = { λ n. record { number = n } };
+    ghost inverse = { λ n. record { tag = n } };
 }
 
 impl Tag {
@@ -71,7 +71,7 @@ impl Tag {
         ensures range { IfSome result IsTag }
     {
         if number < TAGS {
-            Some(Tag { number })
+            Some(Tag { tag: number })
         } else {
             None
         }
@@ -82,24 +82,24 @@ impl Tag {
         ensures value { result ≡ self }
         ensures range { IsTag self }
     {
-        self.number
+        self.tag
     }
 }
 
 /// A packet sequence number, 0 to 3 (DSP0236, "MCTP packet fields").
 #[derive(Clone, Copy, Debug, PartialEq, Eq, PartialOrd, Ord)]
 pub struct Seq {
-    number: u8,
+    seq: u8,
 }
 
 impl Model for Seq {
     ghost Value = { ℕ };
 
-    ghost view = { λ seq. seq.number };
+    ghost view = { λ seq. seq.seq };
 
-    ghost invariant = { λ seq. IsSeq seq.number };
+    ghost invariant = { λ seq. IsSeq seq.seq };
 
-    ghost inverse = { λ n. record { number = n } };
+    ghost inverse = { λ n. record { seq = n } };
 }
 
 impl Seq {
@@ -110,7 +110,7 @@ impl Seq {
         ensures range { IfSome result IsSeq }
     {
         if number < SEQUENCE_NUMBERS {
-            Some(Seq { number })
+            Some(Seq { seq: number })
         } else {
             None
         }
@@ -121,6 +121,6 @@ impl Seq {
         ensures value { result ≡ self }
         ensures range { IsSeq self }
     {
-        self.number
+        self.seq
     }
 }

@@ -9,17 +9,17 @@ use std::marker::Model;
 /// A moment in milliseconds on the clock that is handed in: 0 to [`MAX_MOMENT`].
 #[derive(Clone, Copy, Debug, PartialEq, Eq, PartialOrd, Ord)]
 pub struct Moment {
-    milliseconds: u64,
+    since_start: u64,
 }
 
 impl Model for Moment {
     ghost Value = { ℕ };
 
-    ghost view = { λ moment. moment.milliseconds };
+    ghost view = { λ moment. moment.since_start };
 
-    ghost invariant = { λ moment. IsMoment moment.milliseconds };
+    ghost invariant = { λ moment. IsMoment moment.since_start };
 
-    ghost inverse = { λ n. record { milliseconds = n } };
+    ghost inverse = { λ n. record { since_start = n } };
 }
 
 impl Moment {
@@ -30,7 +30,7 @@ impl Moment {
         ensures range { IfSome result IsMoment }
     {
         if milliseconds <= MAX_MOMENT {
-            Some(Moment { milliseconds })
+            Some(Moment { since_start: milliseconds })
         } else {
             None
         }
@@ -41,7 +41,7 @@ impl Moment {
         ensures value { result ≡ self }
         ensures range { IsMoment self }
     {
-        self.milliseconds
+        self.since_start
     }
 }
 

@@ -184,7 +184,8 @@ memo_of number held = option_and_then (λ (h : Held). h.remembered number) held
 abbrev pub packet_of : ℕ → Option Held → Option (List ℕ)
 packet_of number held =
     option_and_then (fitting MAX_PACKET_BYTES)
-    (option_and_then (λ packets. slice_get packets 0) (option_map (λ (memo : Memo). memo.packets) (memo_of number held)))
+    (option_and_then (λ packets. slice_get packets 0)
+    (option_map (λ (memo : Memo). memo.packets) (memo_of number held)))
 
 -- how a request stands, and its answer in front of the room
 abbrev pub ReportsStanding : Option Standing → StatusReport → List ℕ → List ℕ → Type 0

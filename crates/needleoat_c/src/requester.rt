@@ -55,7 +55,8 @@ fn fault_number(fault: OpenFault) -> u8
 pub(crate) fn open(requester: &mut Requester, now_ms: u64, request: &[u8]) -> OpeningReport
     ensures report { ReportsOpening (opening_in now_ms request.now (held_of requester.old)) result }
     ensures memory { result.refusal ≡ NO_MEMORY → (held_of requester.old).count < MAX_REMEMBERED }
-    ensures held { IsHeld (held_of requester.new) (opened_by now_ms request.now result.refusal (held_of requester.old)) }
+    ensures held { IsHeld (held_of requester.new)
+        (opened_by now_ms request.now result.refusal (held_of requester.old)) }
 {
     let Some(now) = next_moment(requester, now_ms) else {
         return OpeningReport::refused(BAD_MOMENT);
@@ -140,7 +141,8 @@ pub(crate) fn packet(requester: &Requester, number: u64, out: &mut [u8; MAX_PACK
 
 /// Writes a packet, where there is one and it has room.
 fn put_packet(packet: Option<&[u8]>, out: &mut [u8; MAX_PACKET_BYTES]) -> usize
-    ensures { IsWritten (option_and_then (fitting MAX_PACKET_BYTES) (option_copied packet.entry)) result out.old out.new }
+    ensures { IsWritten (option_and_then (fitting MAX_PACKET_BYTES) (option_copied packet.entry)) result
+        out.old out.new }
 {
     match packet {
         Some(packet) => put_fitting(out, packet),

@@ -26,8 +26,10 @@ pub extern "C" fn needleoat_requester_new(
     requires { IsUpheld requester.old }
     ensures upheld { IsUpheld requester.new }
     ensures already { requester.old.is_live ≡ true → result ≡ ALREADY_THERE }
-    ensures out_of_range { requester.old.is_live ≡ false → (IsSetup own device (timing keep_ms timeout_ms tries) → ⊥) → result ≡ OUT_OF_RANGE }
-    ensures number { requester.old.is_live ≡ false → IsSetup own device (timing keep_ms timeout_ms tries) → (result ≡ 0) ⊎ (result ≡ NO_MEMORY) }
+    ensures out_of_range { requester.old.is_live ≡ false → (IsSetup own device (timing keep_ms timeout_ms tries) → ⊥)
+        → result ≡ OUT_OF_RANGE }
+    ensures number { requester.old.is_live ≡ false → IsSetup own device (timing keep_ms timeout_ms tries)
+        → (result ≡ 0) ⊎ (result ≡ NO_MEMORY) }
     ensures made { result ≡ 0 → IsNew own device (timing keep_ms timeout_ms tries) requester.new.handle.held }
     ensures refused { result ≢ 0 → HoldsAfter unchanged requester.old.handle.held requester.new.handle.held }
 {
@@ -72,7 +74,8 @@ pub extern "C" fn needleoat_requester_open(
     ensures upheld { IsUpheld requester.new }
     ensures report { ReportsOpening (opening_at now_ms request.now (holding requester.old.handle.held)) result }
     ensures memory { result.refusal ≡ NO_MEMORY → MayWantRoom MAX_REMEMBERED (holding requester.old.handle.held) }
-    ensures held { HoldsAfter (opened_by now_ms request.now result.refusal) requester.old.handle.held requester.new.handle.held }
+    ensures held { HoldsAfter (opened_by now_ms request.now result.refusal)
+        requester.old.handle.held requester.new.handle.held }
 {
     if !requester.is_live {
         return OpeningReport::refused(NOTHING_THERE);
@@ -118,7 +121,8 @@ pub extern "C" fn needleoat_requester_receive(
     requires { IsUpheld requester.old }
     ensures upheld { IsUpheld requester.new }
     ensures report { ReportsPacket now_ms packet.now result (holding requester.old.handle.held) }
-    ensures held { HoldsAfter (received_by now_ms packet.now result.kind) requester.old.handle.held requester.new.handle.held }
+    ensures held { HoldsAfter (received_by now_ms packet.now result.kind)
+        requester.old.handle.held requester.new.handle.held }
 {
     if !requester.is_live {
         return PacketReport::without(0, NOTHING_THERE);
@@ -161,7 +165,8 @@ pub extern "C" fn needleoat_requester_status(
 ) -> StatusReport
     requires { IsUpheld requester.old }
     ensures upheld { IsUpheld requester.new }
-    ensures report { ReportsStanding (standing_of number (holding requester.old.handle.held)) result message.old message.new }
+    ensures report { ReportsStanding (standing_of number (holding requester.old.handle.held)) result
+        message.old message.new }
     ensures held { HoldsAfter unchanged requester.old.handle.held requester.new.handle.held }
 {
     if !requester.is_live {

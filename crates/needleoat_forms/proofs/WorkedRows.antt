@@ -1,4 +1,5 @@
--- The definitions computed on structs and messages: which bytes a struct is written as, and what a response is to a request.
+-- The definitions computed on structs and messages: which bytes a struct is written as, and what a response is to a
+-- request.
 use Rattle.std.proofs.Common.{◌≡◌, ℕ, pos, negsuc, List, [], ◌∷◌, replicate, Some, None, refl}
 use Rattle.pldm_wire.specs.AnswerReading.{success_of}
 use Rattle.pldm_wire.specs.CommandReading.{command_of}
@@ -71,7 +72,8 @@ no_answer = record {
 
 -- effecter 1 to the sint16 -2; a uint8 of 256 is no number
 
-effecter_to_minus_two : request_in (record no_command { instance_id = 1; pldm_type = 2; command = 0x31; effecter = 1; size = 3; value = negsuc 1 })
+effecter_to_minus_two :
+    request_in (record no_command { instance_id = 1; pldm_type = 2; command = 0x31; effecter = 1; size = 3; value = negsuc 1 })
     ≡ Some (0x01 ∷ 0x81 ∷ 0x02 ∷ 0x31 ∷ 0x01 ∷ 0x00 ∷ 0x03 ∷ 0xfe ∷ 0xff ∷ [])
 unfolding command_in
 effecter_to_minus_two = refl

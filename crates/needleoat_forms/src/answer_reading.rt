@@ -14,7 +14,8 @@ use pldm_wire::{Command, ResponseRef, read_answer, read_command, read_request, r
 /// is no response, 4 it has another instance ID, 5 it is to another command, 6 its data is shorter or
 /// longer than the answer's, 7 a data size, a count or a flag of it has no such value.
 pub fn answer_read(request: &[u8], response: &[u8], fields: &mut AnswerFields) -> u8
-    ensures { IsAnswerRead (answer_between (request_of request.now) (response_of response.now)) result fields.old fields.new }
+    ensures { IsAnswerRead (answer_between (request_of request.now) (response_of response.now)) result
+        fields.old fields.new }
 {
     let (command, response) = match messages_in(request, response) {
         Ok(messages) => messages,
@@ -46,9 +47,10 @@ pub fn answer_check(request: &[u8], response: &[u8]) -> u8
 /// The command of a request and a response with its instance ID, or the number that says why there
 /// is none.
 fn messages_in<'a>(request: &[u8], response: &'a [u8]) -> Result<(Command, ResponseRef<'a>), u8>
-    ensures found { IfOk result (λ r. answer_between (request_of request.now) (response_of response.now) ≡ answered_or_fault r.1
-        (answer_of (kind_of r.0) r.1.kind r.1.code r.1.rest)) }
-    ensures none { IfErr result (λ number. answer_between (request_of request.now) (response_of response.now) ≡ Err number) }
+    ensures found { IfOk result (λ r. answer_between (request_of request.now) (response_of response.now)
+        ≡ answered_or_fault r.1 (answer_of (kind_of r.0) r.1.kind r.1.code r.1.rest)) }
+    ensures none { IfErr result (λ number. answer_between (request_of request.now) (response_of response.now)
+        ≡ Err number) }
 {
     let Ok(request) = read_request(request) else {
         return Err(1);

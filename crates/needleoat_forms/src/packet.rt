@@ -118,7 +118,8 @@ pub fn packet_write(
     index: usize,
     out: &mut [u8; MAX_PACKET_BYTES],
 ) -> usize
-    ensures written { IsRoute destination source tag → length message.now ≤ MAX_MESSAGE_BYTES → index < piece_count message.now
+    ensures written { IsRoute destination source tag → length message.now ≤ MAX_MESSAGE_BYTES
+        → index < piece_count message.now
         → HasFront (packet_bytes destination source owner tag message.now index) result out.old out.new }
     ensures past_the_last { piece_count message.now ≤ index → IsUntouched result out.old out.new }
     ensures too_long { MAX_MESSAGE_BYTES < length message.now → IsUntouched result out.old out.new }
