@@ -30,7 +30,9 @@ impl Moment {
         ensures range { IfSome result IsMoment }
     {
         if milliseconds <= MAX_MOMENT {
-            Some(Moment { since_start: milliseconds })
+            Some(Moment {
+                since_start: milliseconds,
+            })
         } else {
             None
         }

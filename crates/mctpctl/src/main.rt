@@ -11,8 +11,8 @@ ghost use Rattle.mctpctl_input.specs.Ports.{has_failed};
 use crate::choose::{Choice, ChooseFault, Task, choose};
 use mctpctl_decode::decode_all;
 use mctpctl_engines::{answer_all, run_all, show_all};
-use mctpctl_input::{EngineFault, Port, fault_line, status_of};
 use mctpctl_explain::{Keeping, Subject, explain, warnings};
+use mctpctl_input::{EngineFault, Port, fault_line, status_of};
 use std::env;
 use std::io::{BufWriter, ErrorKind, IsTerminal, Read};
 use std::process::ExitCode;
@@ -80,11 +80,7 @@ fn perform(rt: &HostRuntime, choice: Choice) -> u8 {
 }
 
 /// Runs the engine of the task over a reader, on standard output.
-fn run<R: Read>(
-    rt: &HostRuntime,
-    choice: Choice,
-    reader: &mut Port<R>,
-) -> Result<(), EngineFault>
+fn run<R: Read>(rt: &HostRuntime, choice: Choice, reader: &mut Port<R>) -> Result<(), EngineFault>
     requires { has_failed reader.old ≡ false }
 {
     let alloc = rt.alloc();

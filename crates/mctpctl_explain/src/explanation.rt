@@ -38,7 +38,11 @@ pub fn explain(
 {
     match fault {
         EngineFault::Read | EngineFault::Write | EngineFault::Memory => Ok(String::new(alloc)),
-        EngineFault::Device(fault) => explain_description(alloc, description_in(input), fault.fault()),
+        EngineFault::Device(fault) => explain_description(
+            alloc,
+            description_in(input),
+            fault.fault(),
+        ),
         EngineFault::NoDivider => no_divider(alloc, subject),
         EngineFault::Line(number, kind) => explain_line(alloc, subject, input, *number, *kind),
         EngineFault::Timing(eid, fault) => explain_requester(alloc, input, *eid, *fault),

@@ -3,7 +3,7 @@
 use crate::quoted::quoted;
 use crate::suggest::suggestion;
 use line_words::{read_decimal, read_number, read_value};
-use mctp_packet::{MIN_EID, MAX_EID, MAX_MOMENT, Memory};
+use mctp_packet::{MAX_EID, MAX_MOMENT, MIN_EID, Memory};
 use schedule_text::{MAX_BYTE, MAX_HANDLE, MAX_ID, MAX_TIMEOUT};
 use std::alloc::Global;
 

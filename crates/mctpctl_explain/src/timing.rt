@@ -3,8 +3,8 @@
 use crate::words::words_of;
 use line_words::{read_decimal, split_line};
 use mctp_packet::{Eid, Memory};
-use schedule_text::MAX_TIMEOUT;
 use pldm_requester::{MAX_TRIES, TimingFault};
+use schedule_text::MAX_TIMEOUT;
 use std::alloc::Global;
 
 /// What the line of a requester says.

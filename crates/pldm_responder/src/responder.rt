@@ -497,7 +497,8 @@ impl<P: Platform> Responder<P> {
             → map.len self.now.open_messages < self.now.bounds.open_messages }
         ensures no { result ≡ false → map.contains_key self.now.open_messages key ≡ false }
     {
-        self.assembler.pending() < self.bounds.open_messages || self.assembler.is_open(key)
+        let open = self.assembler.pending();
+        open < self.bounds.open_messages || self.assembler.is_open(key)
     }
 
     /// Serves a whole message, whose packets had this source and tag. The message that answers it is put
