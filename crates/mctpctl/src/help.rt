@@ -5,7 +5,8 @@
 pub const VERSION: &str = "1.0.0 (rattle-kit-13f logic dac8208d650f15bf)";
 
 /// What `--explain` does.
-pub const EXPLAIN: &str = "Say more of a refused input on standard error, and warn of what is ignored";
+pub const EXPLAIN: &str =
+    "Say more of a refused input on standard error, and warn of what is ignored";
 
 /// What `--decode` does.
 pub const DECODE: &str = "Show the fields of commands and answers by name";

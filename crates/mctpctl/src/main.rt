@@ -79,11 +79,7 @@ fn perform(rt: &HostRuntime, choice: Choice) -> u8 {
 }
 
 /// Runs the engine of the task over a reader, on standard output.
-fn run<R: Read>(
-    rt: &HostRuntime,
-    choice: Choice,
-    reader: &mut Port<R>,
-) -> Result<(), EngineFault>
+fn run<R: Read>(rt: &HostRuntime, choice: Choice, reader: &mut Port<R>) -> Result<(), EngineFault>
     requires { has_failed reader.old ≡ false }
 {
     let alloc = rt.alloc();
