@@ -14,7 +14,7 @@ TOP_OPTIONS = "Options:\n  -h, --help     Print help\n  -V, --version  Print ver
 def constants(here):
     """The texts of the source file, by their names."""
     with open(os.path.join(here, "..", "crates", "mctpctl", "src", "help.rt")) as source:
-        found = re.findall(r'pub const (\w+): &str = "(?:\\\n)?(.*?)";', source.read(), re.S)
+        found = re.findall(r'pub const (\w+): &str =\s+"(?:\\\n)?(.*?)";', source.read(), re.S)
     return {name: text.replace('\\"', '"').replace("\\n", "\n") for name, text in found}
 
 

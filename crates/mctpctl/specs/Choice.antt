@@ -5,6 +5,8 @@ use Rattle.std.specs.Prelude.{List, [], ◌∷◌, length, codes, bytes_eq, Opti
 use Rattle.clap.specs.Words.{App, new_app, with_subcommand, fault_of, subcommand_of, IsAmong}
 use Rattle.clap.specs.Words.{Row, Rule, first_of, new_rule, with_rule}
 use Rattle.clap.specs.declared.builder.action.ArgAction.TheVariants.{SetTrue}
+use Rattle.clap.specs.declared.builder.command.Command.{Command}
+use Rattle.clap.specs.declared.builder.command.Command.TheViews.{out-Command}
 use Rattle.clap.specs.declared.error.kind.ErrorKind.{ErrorKind}
 use Rattle.clap.specs.declared.error.kind.ErrorKind.TheVariants.{DisplayHelp, DisplayVersion, OutOfMemory}
 use Rattle.mctpctl.specs.declared.choose.Choice.{Choice}
@@ -16,6 +18,10 @@ use Rattle.mctpctl.specs.declared.choose.ChooseFault.TheVariants.{Help, Refused,
 -- `mctpctl` requires one of its subcommands, and has a version
 abbrev pub program : App
 program = record { top = record (new_app (codes "mctpctl")).top { subcommand_required = true; has_version = true }; subs = [] }
+
+-- an argument of the command is one of its subcommands too
+abbrev pub has_globals : Command → Bool
+has_globals command = (out-Command command).has_globals
 
 -- a flag of this name, as `--explain`
 abbrev pub flag : List ℕ → Rule

@@ -1,9 +1,9 @@
 //! The command line.
 
 ghost use Rattle.std.specs.Prelude.{◌≡◌, IfOk, IfErr, Some, false, map, option_and_then};
-ghost use Rattle.clap.specs.Words.{app_of, fields_of, found_of, kind_of, rows_of, rule_of, subcommand_rows_of};
+ghost use Rattle.clap.specs.Words.{app_of, found_of, kind_of, rows_of, rule_of, subcommand_rows_of};
 ghost use Rattle.mctpctl.specs.FaultNumbers.{number_of_choose_fault};
-ghost use Rattle.mctpctl.specs.Choice.{choice_in as the_choice, choice_of, command as the_command, device_command as the_device_command, flag as the_flag, is_given, program as the_program, subcommand as the_subcommand, task_named, TellsKind, TellsRefusal};
+ghost use Rattle.mctpctl.specs.Choice.{choice_in as the_choice, choice_of, command as the_command, device_command as the_device_command, flag as the_flag, has_globals, is_given, program as the_program, subcommand as the_subcommand, task_named, TellsKind, TellsRefusal};
 
 use crate::help::{ANSWER, DECODE, EXPLAIN, RUN, SHOW, STATUSES, VERSION};
 use clap::error::ErrorKind;
@@ -104,7 +104,7 @@ fn device_command<'a>(alloc: Global) -> Result<Command<'a>, AllocError>
 /// A subcommand of this name, with `--explain`.
 fn subcommand<'a>(alloc: Global, name: &'static str) -> Result<Command<'a>, AllocError>
     ensures app { IfOk result (λ command. app_of command ≡ the_subcommand name.now) }
-    ensures local { IfOk result (λ command. (fields_of command).has_globals ≡ false) }
+    ensures local { IfOk result (λ command. has_globals command ≡ false) }
 {
     Command::new(alloc, name).arg(flag(alloc, "explain", EXPLAIN))
 }
