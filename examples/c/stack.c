@@ -48,6 +48,24 @@ static void request_read(void) { needleoat_request_read(request, request_length)
 static void response_read(void) { needleoat_response_read(response, response_length); }
 static void checksum(void) { needleoat_crc8(response, response_length); }
 
+/* An endpoint that is asked for that part: its answer has five packets. */
+static struct needleoat_endpoint endpoint = NEEDLEOAT_ENDPOINT_NONE;
+static struct needleoat_command asked;
+static uint8_t packets[NEEDLEOAT_PACKETS][NEEDLEOAT_PACKET_BYTES];
+
+static void endpoint_new(void) { needleoat_endpoint_new(9, 1000, 1, 1, 0, false, &endpoint); }
+static void endpoint_receive(uint64_t now_ms, const uint8_t *message, size_t length) {
+    packet_length = needleoat_packet_write(9, 8, true, 0, message, length, 0, packet);
+    needleoat_endpoint_receive(&endpoint, now_ms, packet, packet_length, &asked, packets);
+}
+static void receive_busy(void) { endpoint_receive(999, request, request_length); }
+static void receive_request(void) { endpoint_receive(1000, request, request_length); }
+static void endpoint_answer(void) { needleoat_endpoint_answer(&endpoint, &answer, packets); }
+static void receive_copy(void) { endpoint_receive(1001, request, request_length); }
+static void receive_start(void) { endpoint_receive(1002, response, response_length); }
+static void endpoint_restart(void) { needleoat_endpoint_restart(&endpoint, 1003); }
+static void endpoint_free(void) { needleoat_endpoint_free(&endpoint); }
+
 /* A requester that asks for that part: its answer has five packets. */
 static struct needleoat_requester requester = NEEDLEOAT_REQUESTER_NONE;
 static struct needleoat_due due;
@@ -77,6 +95,13 @@ static const struct {
     {"needleoat_answer_check", answer_check},   {"needleoat_packet_write", packet_write},
     {"needleoat_packet_read", packet_read},     {"needleoat_request_read", request_read},
     {"needleoat_response_read", response_read}, {"needleoat_crc8", checksum},
+    {"needleoat_endpoint_new", endpoint_new},
+    {"needleoat_endpoint_receive, not ready", receive_busy},
+    {"needleoat_endpoint_receive, a command", receive_request},
+    {"needleoat_endpoint_answer", endpoint_answer},
+    {"needleoat_endpoint_receive, a copy", receive_copy},
+    {"needleoat_endpoint_receive, first packet", receive_start},
+    {"needleoat_endpoint_restart", endpoint_restart}, {"needleoat_endpoint_free", endpoint_free},
     {"needleoat_requester_new", requester_new}, {"needleoat_requester_open", requester_open},
     {"needleoat_requester_packet", requester_packet}, {"needleoat_requester_tick", requester_tick},
     {"needleoat_requester_receive, first packet", receive_first},
