@@ -128,6 +128,7 @@ pub(crate) fn answer(
 }
 
 /// The answer that these fields are to a command, or the number that says why they are none.
+#[inline(never)]
 fn given_to(command: &Command, fields: &AnswerFields) -> Result<Answer, u8>
     ensures answer { result ≡ given_to command.now fields.now }
     ensures kind { IfOk result (λ answer. IsAnswerTo (kind_of command.now) answer) }
