@@ -1,9 +1,9 @@
 /*
  * Needleoat for C: MCTP packets (DSP0236) and PLDM messages (DSP0240, DSP0248) read and written, and
- * the requesting end.
+ * both ends.
  *
- * libneedleoat_wire_c.a has what stands before the section on the requesting end. It takes no memory,
- * keeps nothing between two calls, and needs memcpy and memset alone. libneedleoat_c.a has that section.
+ * libneedleoat_wire_c.a has what stands before the section on the two ends. It takes no memory, keeps
+ * nothing between two calls, and needs memcpy and memset alone. libneedleoat_c.a has what comes then.
  * Each call returns, whatever the bytes are. docs/PROTOCOL.md has the protocol whole, docs/C.md says
  * what is proved of these calls and how to build the libraries.
  *
@@ -292,39 +292,116 @@ size_t needleoat_answer_write(const struct needleoat_answer *fields, uint8_t out
  */
 uint8_t needleoat_crc8(const uint8_t *bytes, size_t length);
 
-/* ---- The requesting end: libneedleoat_c.a ----
+/* ---- Both ends: libneedleoat_c.a ----
  *
- * A requester stands at one endpoint and asks one device. It gives out instance IDs and tags, says which
- * requests are to be sent again or are given up, and finds the answer to a request among packets.
+ * An endpoint answers, a requester asks. Each is behind a handle of its own. They need memory: link the
+ * three functions at the end of this file, or examples/c/heap.c, which has them over malloc, or
+ * examples/c/pool_heap.c, over an array. What the caller has to see to, beside what the head of this file
+ * says:
  *
- * It needs memory: link the three functions at the end of this section, or examples/c/heap.c, which has
- * them over malloc. What the caller has to see to, beside what the head of this file says:
- *
- *   - A handle begins as NEEDLEOAT_REQUESTER_NONE. The caller reads and writes no field of it and uses
- *     no copy of it; it may stand anywhere, and may be moved between two calls.
+ *   - A handle begins as NEEDLEOAT_ENDPOINT_NONE or NEEDLEOAT_REQUESTER_NONE. The caller reads and writes
+ *     no field of it and uses no copy of it; it may stand anywhere, and may be moved between two calls.
  *   - One call at a time with one handle. No call from a signal handler, nor in the child of a fork of a
  *     process with threads.
  *   - Moments are milliseconds of one clock that never goes back, at most 4,000,000,000,000,000. A call
  *     with a moment before that of an earlier call is refused.
- *   - A handle that is forgotten leaks: end with needleoat_requester_free.
+ *   - A handle that is forgotten leaks: end with needleoat_endpoint_free or needleoat_requester_free.
+ */
+
+/* Why a call was refused. What is behind the handle is then as before. */
+enum needleoat_refusal {
+    NEEDLEOAT_NO_MEMORY = 1,        /* a growth was refused, or a bound would be passed; it may be tried again */
+    NEEDLEOAT_BAD_MOMENT = 2,       /* the moment is past the last one, or before that of an earlier call */
+    NEEDLEOAT_NOTHING_THERE = 3,    /* there is nothing behind the handle */
+    NEEDLEOAT_OUT_OF_TURN = 4,      /* a command is being performed; of an answer: none is */
+    NEEDLEOAT_NOT_ITS_ANSWER = 5,   /* it is the answer to another command */
+    NEEDLEOAT_OUT_OF_RANGE = 6,     /* a number is out of its range */
+    NEEDLEOAT_ALREADY_THERE = 7,    /* there is something behind the handle */
+    NEEDLEOAT_TAG_IN_USE = 11,      /* the request 8 before this one is still open */
+    NEEDLEOAT_ID_IN_USE = 12,       /* the request 32 before was opened less than twice keep_ms ago */
+    NEEDLEOAT_NOT_A_COMMAND = 13    /* the bytes are no request that carries a command */
+};
+
+/* ---- The answering end ----
+ *
+ * An endpoint takes packets, has each command performed once, and gives the packets of the answers. A copy
+ * of a request gets the kept answer. The device is the caller's: where needleoat_endpoint_receive says that
+ * a command is to be performed, the caller performs it, however long that takes, and hands its answer to
+ * needleoat_endpoint_answer. Until then each packet is refused (NEEDLEOAT_OUT_OF_TURN): it counts as lost
+ * on the bus, and its sender sends it again. An answer is kept from the moment of its packet on, so a
+ * device that takes longer than the keeping time may be asked again by a late copy.
+ */
+struct needleoat_endpoint {
+    void *at;
+    bool is_live;
+};
+#define NEEDLEOAT_ENDPOINT_NONE {0, false}
+
+/*
+ * Makes an endpoint: 0, or enum needleoat_refusal: 7, else 6 where `own` is not 8 to 254 or `keep_ms` is
+ * not 1 to 60,000; else 2; else 1. `keep_ms` is how long an answer is kept for copies. Answers are kept for
+ * at most `sources` other endpoints, 32 for each, and at most `open_messages` messages of several packets
+ * are open: a packet that would pass one of these bounds is refused before anything is performed
+ * (NEEDLEOAT_NO_MEMORY), and nothing that is kept makes room for it. `first_start` is true only where this
+ * endpoint never ran before. After a reset of the processor it is false: a request that was performed
+ * before could come once more, so for `keep_ms` from `now_ms` on each fresh request is answered with
+ * ERROR_NOT_READY and nothing is performed.
+ */
+uint8_t needleoat_endpoint_new(uint8_t own, uint32_t keep_ms, size_t sources, size_t open_messages, uint64_t now_ms,
+                               bool first_start, struct needleoat_endpoint *endpoint);
+
+/* What becomes of a packet, or of the device's answer. */
+struct needleoat_step {
+    uint8_t kind;   /* 0 refused, 1 dropped, 2 partial, 3 answered, 4 a command is to be performed */
+    uint8_t reason; /* of 0: enum needleoat_refusal; of 1: why, 1 to 17; else 0 */
+    bool fresh;     /* of 3: the request was performed now. Else it is a copy, or nothing is performed yet */
+    bool changed;   /* of 3: it was, is of a command that sets, and was not refused */
+    size_t count;   /* of 3: how many packets the answer has, 1 to 5; else 0 */
+    size_t lengths[NEEDLEOAT_PACKETS]; /* the length of each in bytes, 5 to 68 */
+};
+
+/*
+ * Receives the bytes of a packet that came at a moment: refused with the first of 3, 2, 4 and 1, or one of
+ * the other kinds. Where a command is to be performed, its fields are in `command`, with the instance ID 0;
+ * otherwise `command` is as it was. Where the packet is answered, packet i of the answer is in front of
+ * `packets[i]`. It goes to the source of the request. What else is in `packets` has no meaning.
+ */
+struct needleoat_step needleoat_endpoint_receive(struct needleoat_endpoint *endpoint, uint64_t now_ms,
+                                                 const uint8_t *packet, size_t length,
+                                                 struct needleoat_command *command,
+                                                 uint8_t packets[NEEDLEOAT_PACKETS][NEEDLEOAT_PACKET_BYTES]);
+
+/*
+ * Hands in the answer to the command that is being performed, and gives the packets of it: kind 3, or
+ * refused with the first of 3, 4, 6 and 5. The answer is the one that needleoat_answer_write writes: 6 comes
+ * exactly where that call writes nothing, 5 where `pldm_type` or `command` is another than the command's,
+ * also where `code` is not 0. The instance ID is not looked at beyond that; the request's is sent. It takes
+ * no memory. Where it is refused, the command is still to be answered.
+ */
+struct needleoat_step needleoat_endpoint_answer(struct needleoat_endpoint *endpoint,
+                                                const struct needleoat_answer *answer,
+                                                uint8_t packets[NEEDLEOAT_PACKETS][NEEDLEOAT_PACKET_BYTES]);
+
+/*
+ * Restarts at a moment: 0, or 3 or 2 of enum needleoat_refusal. The kept answers, the messages that have
+ * begun and the command that is being performed are forgotten, and for the keeping time from then on
+ * nothing is performed.
+ */
+uint8_t needleoat_endpoint_restart(struct needleoat_endpoint *endpoint, uint64_t now_ms);
+
+/* Frees the endpoint, where there is one. The handle is then as NEEDLEOAT_ENDPOINT_NONE. */
+void needleoat_endpoint_free(struct needleoat_endpoint *endpoint);
+
+/* ---- The requesting end ----
+ *
+ * A requester stands at one endpoint and asks one device. It gives out instance IDs and tags, says which
+ * requests are to be sent again or are given up, and finds the answer to a request among packets.
  */
 struct needleoat_requester {
     void *at;
     bool is_live;
 };
 #define NEEDLEOAT_REQUESTER_NONE {0, false}
-
-/* Why a call was refused. What is behind the handle is then as before. */
-enum needleoat_refusal {
-    NEEDLEOAT_NO_MEMORY = 1,     /* a growth was refused; the same call may be made again */
-    NEEDLEOAT_BAD_MOMENT = 2,    /* the moment is past the last one, or before that of an earlier call */
-    NEEDLEOAT_NOTHING_THERE = 3, /* there is nothing behind the handle */
-    NEEDLEOAT_OUT_OF_RANGE = 6,  /* a number is out of its range */
-    NEEDLEOAT_ALREADY_THERE = 7, /* there is something behind the handle */
-    NEEDLEOAT_TAG_IN_USE = 11,   /* the request 8 before this one is still open */
-    NEEDLEOAT_ID_IN_USE = 12,    /* the request 32 before was opened less than twice keep_ms ago */
-    NEEDLEOAT_NOT_A_COMMAND = 13 /* the bytes are no request that carries a command */
-};
 
 /*
  * Makes a requester: 0, or enum needleoat_refusal: 7, else 6 where `own` or `device` is not 8 to 254 or
@@ -491,6 +568,16 @@ NEEDLEOAT_AT(needleoat_answer, commands, 128);
 NEEDLEOAT_AT(needleoat_answer, update_time, 160);
 NEEDLEOAT_AT(needleoat_answer, oem_update_time, 173);
 NEEDLEOAT_AT(needleoat_answer, bytes, 186);
+NEEDLEOAT_ASSERT(sizeof(struct needleoat_endpoint) == 16);
+NEEDLEOAT_AT(needleoat_endpoint, at, 0);
+NEEDLEOAT_AT(needleoat_endpoint, is_live, 8);
+NEEDLEOAT_ASSERT(sizeof(struct needleoat_step) == 56);
+NEEDLEOAT_AT(needleoat_step, kind, 0);
+NEEDLEOAT_AT(needleoat_step, reason, 1);
+NEEDLEOAT_AT(needleoat_step, fresh, 2);
+NEEDLEOAT_AT(needleoat_step, changed, 3);
+NEEDLEOAT_AT(needleoat_step, count, 8);
+NEEDLEOAT_AT(needleoat_step, lengths, 16);
 NEEDLEOAT_ASSERT(sizeof(struct needleoat_requester) == 16);
 NEEDLEOAT_AT(needleoat_requester, at, 0);
 NEEDLEOAT_AT(needleoat_requester, is_live, 8);

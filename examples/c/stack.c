@@ -9,8 +9,11 @@
 #include <string.h>
 #include <ucontext.h>
 
-/* The limit is for all but the last packet of several, which takes a message out of the tree of open ones. */
-enum { FILL = 0xa5, LIMIT = 4096, LAST_PACKET_LIMIT = 6144 };
+/*
+ * The limit is for the codecs and the requesting end, but for the last packet of several, which takes a message out of
+ * the tree of open ones. The answering end passes whole answers and their packets on.
+ */
+enum { FILL = 0xa5, LIMIT = 4096, LAST_PACKET_LIMIT = 6144, ENDPOINT_LIMIT = 9216 };
 
 static _Alignas(16) uint8_t stack[1 << 16];
 static ucontext_t back, call;
@@ -48,6 +51,24 @@ static void request_read(void) { needleoat_request_read(request, request_length)
 static void response_read(void) { needleoat_response_read(response, response_length); }
 static void checksum(void) { needleoat_crc8(response, response_length); }
 
+/* An endpoint that is asked for that part: its answer has five packets. */
+static struct needleoat_endpoint endpoint = NEEDLEOAT_ENDPOINT_NONE;
+static struct needleoat_command asked;
+static uint8_t packets[NEEDLEOAT_PACKETS][NEEDLEOAT_PACKET_BYTES];
+
+static void endpoint_new(void) { needleoat_endpoint_new(9, 1000, 1, 1, 0, false, &endpoint); }
+static void endpoint_receive(uint64_t now_ms, const uint8_t *message, size_t length) {
+    packet_length = needleoat_packet_write(9, 8, true, 0, message, length, 0, packet);
+    needleoat_endpoint_receive(&endpoint, now_ms, packet, packet_length, &asked, packets);
+}
+static void receive_busy(void) { endpoint_receive(999, request, request_length); }
+static void receive_request(void) { endpoint_receive(1000, request, request_length); }
+static void endpoint_answer(void) { needleoat_endpoint_answer(&endpoint, &answer, packets); }
+static void receive_copy(void) { endpoint_receive(1001, request, request_length); }
+static void receive_start(void) { endpoint_receive(1002, response, response_length); }
+static void endpoint_restart(void) { needleoat_endpoint_restart(&endpoint, 1003); }
+static void endpoint_free(void) { needleoat_endpoint_free(&endpoint); }
+
 /* A requester that asks for that part: its answer has five packets. */
 static struct needleoat_requester requester = NEEDLEOAT_REQUESTER_NONE;
 static struct needleoat_due due;
@@ -71,18 +92,26 @@ static void requester_free(void) { needleoat_requester_free(&requester); }
 static const struct {
     const char *name;
     void (*function)(void);
+    size_t limit; /* 0: LIMIT */
 } calls[] = {
-    {"needleoat_command_write", command_write}, {"needleoat_command_read", command_read},
-    {"needleoat_answer_write", answer_write},   {"needleoat_answer_read", answer_read},
-    {"needleoat_answer_check", answer_check},   {"needleoat_packet_write", packet_write},
-    {"needleoat_packet_read", packet_read},     {"needleoat_request_read", request_read},
-    {"needleoat_response_read", response_read}, {"needleoat_crc8", checksum},
-    {"needleoat_requester_new", requester_new}, {"needleoat_requester_open", requester_open},
-    {"needleoat_requester_packet", requester_packet}, {"needleoat_requester_tick", requester_tick},
-    {"needleoat_requester_receive, first packet", receive_first},
-    {"needleoat_requester_receive, middle packets", receive_middle},
-    {"needleoat_requester_receive, last packet", receive_last},
-    {"needleoat_requester_status", requester_status}, {"needleoat_requester_free", requester_free},
+    {"needleoat_command_write", command_write, 0}, {"needleoat_command_read", command_read, 0},
+    {"needleoat_answer_write", answer_write, 0},   {"needleoat_answer_read", answer_read, 0},
+    {"needleoat_answer_check", answer_check, 0},   {"needleoat_packet_write", packet_write, 0},
+    {"needleoat_packet_read", packet_read, 0},     {"needleoat_request_read", request_read, 0},
+    {"needleoat_response_read", response_read, 0}, {"needleoat_crc8", checksum, 0},
+    {"needleoat_endpoint_new", endpoint_new, 0},
+    {"needleoat_endpoint_receive, not ready", receive_busy, ENDPOINT_LIMIT},
+    {"needleoat_endpoint_receive, a command", receive_request, ENDPOINT_LIMIT},
+    {"needleoat_endpoint_answer", endpoint_answer, ENDPOINT_LIMIT},
+    {"needleoat_endpoint_receive, a copy", receive_copy, ENDPOINT_LIMIT},
+    {"needleoat_endpoint_receive, first packet", receive_start, ENDPOINT_LIMIT},
+    {"needleoat_endpoint_restart", endpoint_restart, 0}, {"needleoat_endpoint_free", endpoint_free, 0},
+    {"needleoat_requester_new", requester_new, 0}, {"needleoat_requester_open", requester_open, 0},
+    {"needleoat_requester_packet", requester_packet, 0}, {"needleoat_requester_tick", requester_tick, 0},
+    {"needleoat_requester_receive, first packet", receive_first, 0},
+    {"needleoat_requester_receive, middle packets", receive_middle, 0},
+    {"needleoat_requester_receive, last packet", receive_last, LAST_PACKET_LIMIT},
+    {"needleoat_requester_status", requester_status, 0}, {"needleoat_requester_free", requester_free, 0},
 };
 
 int main(void) {
@@ -95,7 +124,7 @@ int main(void) {
     size_t before = taken_by(none), too_much = 0;
     for (size_t i = 0; i < sizeof calls / sizeof *calls; i++) {
         size_t taken = taken_by(calls[i].function) - before;
-        if (taken > (calls[i].function == receive_last ? LAST_PACKET_LIMIT : LIMIT)) too_much++;
+        if (taken > (calls[i].limit ? calls[i].limit : LIMIT)) too_much++;
         printf("stack of %s %zu\n", calls[i].name, taken);
     }
     return too_much > 0;

@@ -1,2 +1,3 @@
+pub mod AsEndpointBox
 pub mod AsRequesterBox
 pub mod Numbers

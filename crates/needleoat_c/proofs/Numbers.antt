@@ -1,7 +1,8 @@
 -- The numbers of refusals, written a second time.
 use Rattle.std.proofs.Common.{◌≡◌, refl}
 use Rattle.needleoat_c.specs.declared.refusals.TheConstants.{ALREADY_THERE, BAD_MOMENT, ID_IN_USE, NOTHING_THERE}
-use Rattle.needleoat_c.specs.declared.refusals.TheConstants.{NO_COMMAND, NO_MEMORY, OUT_OF_RANGE, TAG_IN_USE}
+use Rattle.needleoat_c.specs.declared.refusals.TheConstants.{NO_COMMAND, NO_MEMORY, NOT_ITS_ANSWER, OUT_OF_RANGE}
+use Rattle.needleoat_c.specs.declared.refusals.TheConstants.{OUT_OF_TURN, TAG_IN_USE}
 
 no_memory : NO_MEMORY ≡ 1
 no_memory = refl
@@ -11,6 +12,12 @@ bad_moment = refl
 
 nothing_there : NOTHING_THERE ≡ 3
 nothing_there = refl
+
+out_of_turn : OUT_OF_TURN ≡ 4
+out_of_turn = refl
+
+not_its_answer : NOT_ITS_ANSWER ≡ 5
+not_its_answer = refl
 
 out_of_range : OUT_OF_RANGE ≡ 6
 out_of_range = refl

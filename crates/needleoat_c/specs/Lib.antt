@@ -1,2 +1,4 @@
+pub mod EndpointHandles
+pub mod Endpoints
 pub mod RequesterHandles
 pub mod Requesters

@@ -1,7 +1,10 @@
-//! The requesting end of PLDM over MCTP for C, behind a handle of two words: `include/needleoat.h`
+//! Both ends of PLDM over MCTP for C, each behind a handle of two words: `include/needleoat.h`
 //! declares these calls.
 #![tactic(auto)]
 
+mod endpoint;
+mod endpoint_calls;
+mod endpoint_handle;
 mod parts;
 mod refusals;
 mod reports;
@@ -9,7 +12,12 @@ mod requester;
 mod requester_calls;
 mod requester_handle;
 
-pub use reports::{DueReport, OpeningReport, PacketReport, StatusReport};
+pub use endpoint_calls::{
+    needleoat_endpoint_answer, needleoat_endpoint_free, needleoat_endpoint_new,
+    needleoat_endpoint_receive, needleoat_endpoint_restart,
+};
+pub use endpoint_handle::{EndpointForC, EndpointHandle, HiddenEndpoint};
+pub use reports::{DueReport, OpeningReport, PacketReport, StatusReport, StepReport};
 pub use requester_calls::{
     needleoat_requester_free, needleoat_requester_new, needleoat_requester_open,
     needleoat_requester_packet, needleoat_requester_receive, needleoat_requester_status,

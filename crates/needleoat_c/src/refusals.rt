@@ -9,6 +9,12 @@ pub const BAD_MOMENT: u8 = 2;
 /// There is nothing behind the handle.
 pub const NOTHING_THERE: u8 = 3;
 
+/// The endpoint's device is performing a command, or, for an answer, is performing none.
+pub const OUT_OF_TURN: u8 = 4;
+
+/// It is the answer to another command.
+pub const NOT_ITS_ANSWER: u8 = 5;
+
 /// A number is out of its range.
 pub const OUT_OF_RANGE: u8 = 6;
 

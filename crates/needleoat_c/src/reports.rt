@@ -1,7 +1,9 @@
-//! The reports that a requester's calls return to C.
+//! The reports that the calls return to C.
 
-ghost use Rattle.std.specs.Prelude.{◌≡◌};
+ghost use Rattle.std.specs.Prelude.{◌≡◌, false};
+ghost use Rattle.needleoat_c.specs.Endpoints.{HasNumbers};
 
+use mctp_packet::MAX_PACKETS;
 use pldm_requester::MAX_OPEN;
 
 /// A request that was opened, or why none was.
@@ -80,4 +82,38 @@ pub struct StatusReport {
     pub kind: u8,
     /// The length of its answer in bytes.
     pub length: usize,
+}
+
+/// What becomes of a packet at an endpoint, or of the device's answer.
+#[repr(C)]
+#[derive(Drop)]
+pub struct StepReport {
+    /// 0 refused, 1 dropped, 2 partial, 3 answered, 4 a command is to be performed.
+    pub kind: u8,
+    /// Why it was refused, or the number of the reason to drop it, else 0.
+    pub reason: u8,
+    /// Whether the request was performed now.
+    pub fresh: bool,
+    /// Whether it was performed now, is of a command that sets, and was not refused.
+    pub changed: bool,
+    /// How many packets the answer has, at most [`MAX_PACKETS`].
+    pub count: usize,
+    /// The length of each in bytes.
+    pub lengths: [usize; MAX_PACKETS],
+}
+
+impl StepReport {
+    /// There are no packets.
+    pub(crate) fn without(kind: u8, reason: u8) -> StepReport
+        ensures { HasNumbers kind reason false false 0 result }
+    {
+        StepReport {
+            kind,
+            reason,
+            fresh: false,
+            changed: false,
+            count: 0,
+            lengths: [0; MAX_PACKETS],
+        }
+    }
 }

@@ -1,0 +1,235 @@
+-- The calls of an endpoint behind a handle: what they report to C, and what is behind the handle then.
+use Rattle.std.specs.Prelude.{◌≡◌, ℕ, ◌==◌, nat_le, ◌&&◌, Bool, true, false, MatchBool, List, [], length, take, slice_get}
+use Rattle.std.specs.Prelude.{slice_index_or, Option, Some, None, IsSome, option_and_then, Result, Ok, Err, ◌⊎◌}
+use Rattle.std.specs.Prelude.{if◌then◌else◌}
+use Rattle.mctp_packet.specs.Ids.{IsEid, IsKeep}
+use Rattle.mctp_packet.specs.Reasons.{number_of}
+use Rattle.mctp_packet.specs.declared.TheConstants.{MAX_MOMENT, MAX_PACKET_BYTES}
+use Rattle.mctp_packet.specs.declared.reason.Reason.{Reason}
+use Rattle.pldm_wire.specs.AnswerReading.{answer_of}
+use Rattle.pldm_wire.specs.Commands.{kind_of}
+use Rattle.pldm_wire.specs.Responses.{Response, response_of}
+use Rattle.pldm_wire.specs.declared.answer.Answer.{Answer}
+use Rattle.pldm_wire.specs.declared.answer_reading.AnswerFault.{AnswerFault}
+use Rattle.pldm_wire.specs.declared.command.Command.{Command}
+use Rattle.pldm_responder.specs.Asked.{gives}
+use Rattle.pldm_responder.specs.Held.{Held, IsHeld}
+use Rattle.pldm_responder.specs.Stations.{held_of}
+use Rattle.pldm_responder.specs.Steps.{received_commands, received_held, received_outcome, restarted_held}
+use Rattle.pldm_responder.specs.Wants.{WantsMemory}
+use Rattle.pldm_responder.specs.declared.bounds.Bounds.{Bounds}
+use Rattle.pldm_responder.specs.declared.outcome.Outcome.{Outcome}
+use Rattle.pldm_responder.specs.declared.outcome.Outcome.TheVariants.{Dropped, Partial, Answered}
+use Rattle.pldm_endpoint.specs.TwoSteps.{asks_after, bare, held_at_first, left_by, received_step}
+use Rattle.pldm_endpoint.specs.declared.endpoint.Asked.{Asked}
+use Rattle.pldm_endpoint.specs.declared.step.Step.{Step}
+use Rattle.pldm_endpoint.specs.declared.step.Step.TheVariants.{Perform, Done}
+use Rattle.needleoat_forms.specs.Answers.{response_in}
+use Rattle.needleoat_forms.specs.Commands.{command_in}
+use Rattle.needleoat_forms.specs.declared.answer.AnswerFields.{AnswerFields}
+use Rattle.needleoat_forms.specs.declared.command.CommandFields.{CommandFields}
+use Rattle.needleoat_c.specs.EndpointHandles.{Inside}
+use Rattle.needleoat_c.specs.declared.refusals.TheConstants.{BAD_MOMENT, NOTHING_THERE, NOT_ITS_ANSWER, NO_MEMORY}
+use Rattle.needleoat_c.specs.declared.refusals.TheConstants.{OUT_OF_RANGE, OUT_OF_TURN}
+use Rattle.needleoat_c.specs.declared.reports.StepReport.{StepReport}
+use Rattle.needleoat_c.specs.declared.endpoint_handle.EndpointForC.{EndpointForC}
+
+-- a handle says truly whether there is something behind it
+abbrev pub SaysWhether : Bool → Option Inside → Type 0
+SaysWhether true held = IsSome held
+SaysWhether false held = held ≡ None
+
+-- what C keeps: a handle of zeros keeps it, and so does each call
+abbrev pub IsUpheld : EndpointForC → Type 0
+IsUpheld endpoint = SaysWhether endpoint.is_live endpoint.handle.held
+
+-- the command that the endpoint behind a handle asked to have performed
+abbrev pub asking : Option Inside → Option Asked
+asking held = option_and_then (λ (inside : Inside). inside.asks) held
+
+-- what the endpoint behind the handle holds is what this change makes of it as it was, with the same bounds
+abbrev pub HoldsAfter : (Inside → Held (Unit {0})) → Option Inside → Option Inside → Type 0
+HoldsAfter change (Some old) (Some new) =
+    IsHeld (bare (held_of new.station)) (change old) × (new.station.bounds ≡ old.station.bounds)
+HoldsAfter change None None = Unit {0}
+HoldsAfter change old new = ⊥
+
+-- and so is the command that it asked
+abbrev pub AsksAfter : (Inside → Option Asked) → Option Inside → Option Inside → Type 0
+AsksAfter change (Some old) (Some new) = new.asks ≡ change old
+AsksAfter change None None = Unit {0}
+AsksAfter change old new = ⊥
+
+abbrev pub unchanged : Inside → Held (Unit {0})
+unchanged inside = bare (held_of inside.station)
+
+abbrev pub asked : Inside → Option Asked
+asked inside = inside.asks
+
+-- a moment that may come next
+abbrev pub is_next : ℕ → Inside → Bool
+is_next now inside = nat_le now MAX_MOMENT && nat_le (held_of inside.station).last now
+
+-- why a call at a moment is refused, whatever it is: 0 where it is not
+abbrev pub refusal_at : ℕ → Option Inside → ℕ
+refusal_at now None = NOTHING_THERE
+refusal_at now (Some inside) = if is_next now inside then 0 else BAD_MOMENT
+
+-- ---- making ----
+
+abbrev pub bounds : ℕ → ℕ → Bounds
+bounds sources open_messages = record { sources = sources; open_messages = open_messages }
+
+-- an endpoint ID and a keeping time
+abbrev pub IsSetup : ℕ → ℕ → Type 0
+IsSetup own keep = IsEid own × IsKeep keep
+
+-- what it holds: at the first start that of a new one, else that of one which restarts at this moment
+abbrev pub started : ℕ → ℕ → Bool → ℕ → Held (Unit {0})
+started own keep true now = held_at_first own keep
+started own keep false now = restarted_held (held_at_first own keep) now
+
+-- it is behind the handle, and no command is asked
+abbrev pub IsNew : Held (Unit {0}) → Bounds → Option Inside → Type 0
+IsNew held most None = ⊥
+IsNew held most (Some new) =
+    IsHeld (bare (held_of new.station)) held × (new.station.bounds ≡ most) × (new.asks ≡ None)
+
+-- ---- restarting ----
+
+abbrev pub restarted_by : ℕ → ℕ → Inside → Held (Unit {0})
+restarted_by now refusal inside =
+    if refusal == 0 then restarted_held (bare (held_of inside.station)) now else bare (held_of inside.station)
+
+abbrev pub forgotten_by : ℕ → Inside → Option Asked
+forgotten_by refusal inside = if refusal == 0 then None else inside.asks
+
+-- ---- reports ----
+
+abbrev pub HasNumbers : ℕ → ℕ → Bool → Bool → ℕ → StepReport → Type 0
+HasNumbers kind reason fresh changed count r =
+    (r.kind ≡ kind) × (r.reason ≡ reason) × (r.fresh ≡ fresh) × (r.changed ≡ changed) × (r.count ≡ count)
+
+abbrev pub IsRefused : ℕ → StepReport → Type 0
+IsRefused number r = HasNumbers 0 number false false 0 r
+
+-- bytes that are a packet, where they are so few
+abbrev pub fitting : Option (List ℕ) → Option (List ℕ)
+fitting packet =
+    option_and_then (λ bytes. if nat_le (length bytes) MAX_PACKET_BYTES then Some bytes else None) packet
+
+-- a packet is in front of its room, and this is its length
+abbrev pub IsInFront : Option (List ℕ) → ℕ → List ℕ → Type 0
+IsInFront None count room = count ≡ 0
+IsInFront (Some packet) count room = (count ≡ length packet) × (take count room ≡ packet)
+
+abbrev pub IsPacket : ℕ → List (List ℕ) → List ℕ → List (List ℕ) → Type 0
+IsPacket place packets lengths rooms =
+    IsInFront (fitting (slice_get packets place)) (slice_index_or lengths place 0) (slice_index_or rooms place [])
+
+-- each packet is in front of its room
+abbrev pub ArePackets : List (List ℕ) → List ℕ → List (List ℕ) → Type 0
+ArePackets packets lengths rooms =
+    IsPacket 0 packets lengths rooms
+    × IsPacket 1 packets lengths rooms
+    × IsPacket 2 packets lengths rooms
+    × IsPacket 3 packets lengths rooms
+    × IsPacket 4 packets lengths rooms
+
+-- the numbers of an outcome, and its packets
+abbrev pub ReportsOutcome : Outcome → StepReport → List (List ℕ) → Type 0
+ReportsOutcome (Dropped reason) r rooms = HasNumbers 1 (number_of reason) false false 0 r
+ReportsOutcome Partial r rooms = HasNumbers 2 0 false false 0 r
+ReportsOutcome (Answered fresh changed packets) r rooms =
+    HasNumbers 3 0 fresh changed (length packets) r × ArePackets packets r.lengths rooms
+
+abbrev pub ReportsStep : Step → StepReport → List (List ℕ) → Type 0
+ReportsStep Perform r rooms = HasNumbers 4 0 false false 0 r
+ReportsStep (Done outcome) r rooms = ReportsOutcome outcome r rooms
+
+-- ---- packets that come ----
+
+-- what becomes of it; it is refused for want of memory, or at a bound, only where it may want memory
+abbrev pub ReportsTaken : ℕ → List ℕ → StepReport → List (List ℕ) → Inside → Type 0
+ReportsTaken now bytes r rooms inside =
+    ReportsStep (received_step (held_of inside.station) now bytes) r rooms
+    ⊎ (IsRefused NO_MEMORY r × WantsMemory (held_of inside.station) true now bytes)
+
+abbrev pub ReportsInTurn : Option Asked → ℕ → List ℕ → StepReport → List (List ℕ) → Inside → Type 0
+ReportsInTurn None now bytes r rooms inside = ReportsTaken now bytes r rooms inside
+ReportsInTurn (Some a) now bytes r rooms inside = IsRefused OUT_OF_TURN r
+
+abbrev pub ReportsPacketIn : ℕ → List ℕ → StepReport → List (List ℕ) → Inside → Type 0
+ReportsPacketIn now bytes r rooms inside =
+    MatchBool (is_next now inside) (ReportsInTurn inside.asks now bytes r rooms inside) (IsRefused BAD_MOMENT r)
+
+abbrev pub ReportsPacket : ℕ → List ℕ → StepReport → List (List ℕ) → Option Inside → Type 0
+ReportsPacket now bytes r rooms None = IsRefused NOTHING_THERE r
+ReportsPacket now bytes r rooms (Some inside) = ReportsPacketIn now bytes r rooms inside
+
+abbrev pub received_by : ℕ → List ℕ → ℕ → Inside → Held (Unit {0})
+received_by now bytes kind inside =
+    if kind == 0 then bare (held_of inside.station)
+    else left_by (held_of inside.station) now bytes (received_commands (held_of inside.station) now bytes)
+
+abbrev pub asked_by : ℕ → List ℕ → ℕ → Inside → Option Asked
+asked_by now bytes kind inside = if kind == 0 then inside.asks else asks_after (held_of inside.station) now bytes
+
+-- the fields are those of the command that is asked
+abbrev pub AreOf : Option Asked → CommandFields → Type 0
+AreOf None fields = ⊥
+AreOf (Some a) fields = (fields.instance_id ≡ 0) × (command_in fields ≡ Some a.command)
+
+-- where a command is to be performed, its fields are there; else they are as before
+abbrev pub HasCommand : ℕ → Option Asked → CommandFields → CommandFields → Type 0
+HasCommand kind asks old new = MatchBool (kind == 4) (AreOf asks new) (new ≡ old)
+
+-- ---- answers of the device ----
+
+-- the answer that the response of these fields is to a command, or why it is none
+
+abbrev pub given_or_number : Result Answer AnswerFault → Result Answer ℕ
+given_or_number (Ok answer) = Ok answer
+given_or_number (Err fault) = Err NOT_ITS_ANSWER
+
+abbrev pub given_by : Command → Result Response Reason → Result Answer ℕ
+given_by command (Ok r) = given_or_number (answer_of (kind_of command) r.kind r.code r.rest)
+given_by command (Err reason) = Err OUT_OF_RANGE
+
+abbrev pub given_in : Command → Option (List ℕ) → Result Answer ℕ
+given_in command None = Err OUT_OF_RANGE
+given_in command (Some response) = given_by command (response_of response)
+
+abbrev pub given_to : Command → AnswerFields → Result Answer ℕ
+given_to command fields = given_in command (response_in fields)
+
+-- the outcome is the responder's, for a platform that gives this answer, at the packet and moment of the asking
+
+abbrev pub ReportsGiven : Result Answer ℕ → Asked → StepReport → List (List ℕ) → Held (List ℕ) → Type 0
+ReportsGiven (Ok given) a r rooms held =
+    ReportsOutcome (received_outcome (gives given) (bare held) a.moment a.packet.items) r rooms
+ReportsGiven (Err number) a r rooms held = IsRefused number r
+
+abbrev pub ReportsAnswerTo : Option Asked → AnswerFields → StepReport → List (List ℕ) → Held (List ℕ) → Type 0
+ReportsAnswerTo None fields r rooms held = IsRefused OUT_OF_TURN r
+ReportsAnswerTo (Some a) fields r rooms held = ReportsGiven (given_to a.command fields) a r rooms held
+
+abbrev pub ReportsAnswer : AnswerFields → StepReport → List (List ℕ) → Option Inside → Type 0
+ReportsAnswer fields r rooms None = IsRefused NOTHING_THERE r
+ReportsAnswer fields r rooms (Some inside) = ReportsAnswerTo inside.asks fields r rooms (held_of inside.station)
+
+-- and so is what is held then
+
+abbrev pub left_by_given : Result Answer ℕ → Asked → Held (List ℕ) → Held (Unit {0})
+left_by_given (Ok given) a held = received_held (gives given) (bare held) a.moment a.packet.items
+left_by_given (Err number) a held = bare held
+
+abbrev pub left_by_answer : Option Asked → AnswerFields → Held (List ℕ) → Held (Unit {0})
+left_by_answer None fields held = bare held
+left_by_answer (Some a) fields held = left_by_given (given_to a.command fields) a held
+
+abbrev pub answered_by : AnswerFields → Inside → Held (Unit {0})
+answered_by fields inside = left_by_answer inside.asks fields (held_of inside.station)
+
+abbrev pub asked_after : ℕ → Inside → Option Asked
+asked_after kind inside = if kind == 0 then inside.asks else None

@@ -1,0 +1,157 @@
+//! The calls of an endpoint for C.
+
+ghost use Rattle.std.specs.Prelude.{◌≡◌, ◌≢◌, ◌≤◌, ◌⊎◌, false, true};
+ghost use Rattle.mctp_packet.specs.declared.TheConstants.{MAX_MOMENT};
+ghost use Rattle.needleoat_c.specs.Endpoints.{AsksAfter, HasCommand, HoldsAfter, IsNew, IsSetup, IsUpheld, ReportsAnswer, ReportsPacket, answered_by, asked, asked_after, asked_by, asking, bounds, forgotten_by, received_by, refusal_at, restarted_by, started, unchanged};
+
+use crate::endpoint;
+use crate::endpoint_handle::EndpointForC;
+use crate::refusals::{ALREADY_THERE, BAD_MOMENT, NO_MEMORY, NOTHING_THERE, OUT_OF_RANGE};
+use crate::reports::StepReport;
+use mctp_packet::{Eid, Keep, MAX_PACKET_BYTES, MAX_PACKETS, Moment};
+use needleoat_forms::{AnswerFields, CommandFields};
+use pldm_responder::Bounds;
+use std::alloc::Global;
+
+/// Makes an endpoint with room for the answers to so many sources, and for so many messages of several
+/// packets that have begun: 0, or why not. It performs nothing for the keeping time from `now_ms` on,
+/// unless this is the first start ever: a processor that was reset may have performed a request before.
+#[unsafe(no_mangle)]
+pub extern "C" fn needleoat_endpoint_new(
+    alloc: Global,
+    own: u8,
+    keep_ms: u32,
+    sources: usize,
+    open_messages: usize,
+    now_ms: u64,
+    first_start: bool,
+    endpoint: &mut EndpointForC,
+) -> u8
+    requires { IsUpheld endpoint.old }
+    ensures upheld { IsUpheld endpoint.new }
+    ensures already { endpoint.old.is_live ≡ true → result ≡ ALREADY_THERE }
+    ensures out_of_range { endpoint.old.is_live ≡ false → (IsSetup own keep_ms → ⊥) → result ≡ OUT_OF_RANGE }
+    ensures moment { endpoint.old.is_live ≡ false → IsSetup own keep_ms → (now_ms ≤ MAX_MOMENT → ⊥)
+        → result ≡ BAD_MOMENT }
+    ensures number { endpoint.old.is_live ≡ false → IsSetup own keep_ms → now_ms ≤ MAX_MOMENT
+        → (result ≡ 0) ⊎ (result ≡ NO_MEMORY) }
+    ensures made { result ≡ 0 →
+        IsNew (started own keep_ms first_start now_ms) (bounds sources open_messages) endpoint.new.handle.held }
+    ensures refused { result ≢ 0 → HoldsAfter unchanged endpoint.old.handle.held endpoint.new.handle.held }
+    ensures asks { result ≢ 0 → AsksAfter asked endpoint.old.handle.held endpoint.new.handle.held }
+{
+    if endpoint.is_live {
+        return ALREADY_THERE;
+    }
+    let (Some(own), Some(keep)) = (Eid::new(own), Keep::new(keep_ms)) else {
+        return OUT_OF_RANGE;
+    };
+    let Some(now) = Moment::new(now_ms) else {
+        return BAD_MOMENT;
+    };
+    let bounds = Bounds {
+        sources,
+        open_messages,
+    };
+    match Box::new(
+        alloc,
+        endpoint::start(alloc, own, keep, bounds, now, first_start),
+    ) {
+        Ok(inside) => {
+            endpoint.handle.put(inside);
+            endpoint.is_live = true;
+            0
+        }
+        Err(_) => NO_MEMORY,
+    }
+}
+
+/// Receives the bytes of a packet that came at a moment. Where the report says that a command is to be
+/// performed, its fields are in `command`; where it says that the packet is answered, the packets of
+/// the answer are in front of the rooms of `packets`.
+#[unsafe(no_mangle)]
+pub extern "C" fn needleoat_endpoint_receive(
+    alloc: Global,
+    endpoint: &mut EndpointForC,
+    now_ms: u64,
+    packet: &[u8],
+    command: &mut CommandFields,
+    packets: &mut [[u8; MAX_PACKET_BYTES]; MAX_PACKETS],
+) -> StepReport
+    requires { IsUpheld endpoint.old }
+    ensures upheld { IsUpheld endpoint.new }
+    ensures report { ReportsPacket now_ms packet.now result packets.new endpoint.old.handle.held }
+    ensures command { HasCommand result.kind (asking endpoint.new.handle.held) command.old command.new }
+    ensures held { HoldsAfter (received_by now_ms packet.now result.kind)
+        endpoint.old.handle.held endpoint.new.handle.held }
+    ensures asks { AsksAfter (asked_by now_ms packet.now result.kind)
+        endpoint.old.handle.held endpoint.new.handle.held }
+{
+    if !endpoint.is_live {
+        return StepReport::without(0, NOTHING_THERE);
+    }
+    let mut inside = endpoint.handle.take(alloc);
+    let report = endpoint::receive(&mut inside, now_ms, packet, command, packets);
+    endpoint.handle.put(inside);
+    report
+}
+
+/// Hands in the device's answer to the command that it performs. The report has the packets of the
+/// answer, or says why it was refused; the command is then still to be answered.
+#[unsafe(no_mangle)]
+pub extern "C" fn needleoat_endpoint_answer(
+    alloc: Global,
+    endpoint: &mut EndpointForC,
+    answer: &AnswerFields,
+    packets: &mut [[u8; MAX_PACKET_BYTES]; MAX_PACKETS],
+) -> StepReport
+    requires { IsUpheld endpoint.old }
+    ensures upheld { IsUpheld endpoint.new }
+    ensures report { ReportsAnswer answer.now result packets.new endpoint.old.handle.held }
+    ensures held { HoldsAfter (answered_by answer.now) endpoint.old.handle.held endpoint.new.handle.held }
+    ensures asks { AsksAfter (asked_after result.kind) endpoint.old.handle.held endpoint.new.handle.held }
+{
+    if !endpoint.is_live {
+        return StepReport::without(0, NOTHING_THERE);
+    }
+    let mut inside = endpoint.handle.take(alloc);
+    let report = endpoint::answer(&mut inside, answer, packets);
+    endpoint.handle.put(inside);
+    report
+}
+
+/// Restarts the endpoint at a moment: 0, or why not. The kept answers and the command that is asked are
+/// forgotten, and nothing is performed for the keeping time from then on.
+#[unsafe(no_mangle)]
+pub extern "C" fn needleoat_endpoint_restart(
+    alloc: Global,
+    endpoint: &mut EndpointForC,
+    now_ms: u64,
+) -> u8
+    requires { IsUpheld endpoint.old }
+    ensures upheld { IsUpheld endpoint.new }
+    ensures refusal { result ≡ refusal_at now_ms endpoint.old.handle.held }
+    ensures held { HoldsAfter (restarted_by now_ms result) endpoint.old.handle.held endpoint.new.handle.held }
+    ensures asks { AsksAfter (forgotten_by result) endpoint.old.handle.held endpoint.new.handle.held }
+{
+    if !endpoint.is_live {
+        return NOTHING_THERE;
+    }
+    let mut inside = endpoint.handle.take(alloc);
+    let refusal = endpoint::restart(&mut inside, now_ms);
+    endpoint.handle.put(inside);
+    refusal
+}
+
+/// Frees the endpoint, where there is one. The handle is then as one of zeros.
+#[unsafe(no_mangle)]
+pub extern "C" fn needleoat_endpoint_free(alloc: Global, endpoint: &mut EndpointForC)
+    requires { IsUpheld endpoint.old }
+    ensures upheld { IsUpheld endpoint.new }
+    ensures freed { endpoint.new.is_live ≡ false }
+{
+    if endpoint.is_live {
+        drop(endpoint.handle.take(alloc));
+        endpoint.is_live = false;
+    }
+}

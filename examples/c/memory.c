@@ -1,0 +1,69 @@
+/*
+ * Prints how many bytes of heap the ends take, and ends with status 1 where some are left at the end. Its allocator has
+ * the size of each block in front of it.
+ */
+#include "needleoat.h"
+#include <stdio.h>
+#include <stdlib.h>
+
+enum { FRONT = 16, MANY_SOURCES = 4 };
+
+static size_t in_use;
+
+static struct needleoat_block block(uint8_t *at, size_t size) {
+    static uint8_t some_byte;
+    if (!at) return (struct needleoat_block){false, &some_byte};
+    *(size_t *)(void *)at = size;
+    in_use += size;
+    return (struct needleoat_block){true, at + FRONT};
+}
+
+static size_t size_of(uint8_t *at) { return *(size_t *)(void *)(at - FRONT); }
+
+struct needleoat_block rattle_alloc(size_t size, size_t align) {
+    (void)align; /* malloc aligns to 16 */
+    return block(malloc(FRONT + size), size);
+}
+
+struct needleoat_block rattle_realloc(uint8_t *old, size_t kept, size_t size, size_t align) {
+    size_t before = size_of(old);
+    (void)kept, (void)align;
+    struct needleoat_block next = block(realloc(old - FRONT, FRONT + size), size);
+    if (next.is_there) in_use -= before;
+    return next;
+}
+
+void rattle_dealloc(uint8_t *old) {
+    in_use -= size_of(old);
+    free(old - FRONT);
+}
+
+static struct needleoat_endpoint endpoint = NEEDLEOAT_ENDPOINT_NONE;
+static struct needleoat_requester requester = NEEDLEOAT_REQUESTER_NONE;
+static uint8_t packet[NEEDLEOAT_PACKET_BYTES], packets[NEEDLEOAT_PACKETS][NEEDLEOAT_PACKET_BYTES];
+
+static struct needleoat_step receive(uint8_t source, const uint8_t *message, size_t length) {
+    struct needleoat_command command;
+    size_t count = needleoat_packet_write(9, source, true, 0, message, length, 0, packet);
+    return needleoat_endpoint_receive(&endpoint, 0, packet, count, &command, packets);
+}
+
+int main(void) {
+    static const uint8_t get_tid[] = {1, 0x80, NEEDLEOAT_BASE, NEEDLEOAT_GET_TID}, two_packets[100] = {1};
+    static const struct needleoat_answer tid = {.pldm_type = NEEDLEOAT_BASE, .command = NEEDLEOAT_GET_TID, .tid = 7};
+    needleoat_endpoint_new(9, 1000, MANY_SOURCES, 1, 0, true, &endpoint);
+    printf("heap of an endpoint at first %zu\n", in_use);
+    for (uint8_t i = 0; i < MANY_SOURCES; i++) {
+        if (receive(10 + i, get_tid, sizeof get_tid).kind != 4) return 1;
+        if (needleoat_endpoint_answer(&endpoint, &tid, packets).kind != 3) return 1;
+        printf("heap of an endpoint with answers for %d sources %zu\n", i + 1, in_use);
+    }
+    if (receive(14, get_tid, sizeof get_tid).reason != NEEDLEOAT_NO_MEMORY) return 1;
+    if (receive(14, two_packets, sizeof two_packets).kind != 2) return 1;
+    printf("heap of an endpoint with an open message too %zu\n", in_use);
+    needleoat_endpoint_free(&endpoint);
+    needleoat_requester_new(8, 9, 1000, 200, 3, &requester);
+    printf("heap of a requester at first %zu\n", in_use);
+    needleoat_requester_free(&requester);
+    return in_use != 0;
+}
