@@ -213,7 +213,10 @@ fn refused_requesters_are_told(rt: HostRuntime) -> Result<(), Fail> {
     let late = RunFault::Timing(Eid::new(8).ok_or("no endpoint ID")?, TimingFault::TooLate);
     let text = "the timing of a requester was refused: the tries take longer than the keeping time";
     assert_eq!(rt; late.to_string(rt.alloc())?.as_str(), text);
-    assert_eq!(rt; RunFault::Memory.to_string(rt.alloc())?.as_str(), "out of memory");
+    assert_eq!(rt;
+        RunFault::Memory.to_string(rt.alloc())?.as_str(),
+        "out of memory"
+    );
     let twice = b"requester 8 timeout 200 tries 3\nrequester 8 timeout 200 tries 3".as_slice();
     let Err(fault) = Schedule::read(rt.alloc(), twice) else {
         return Err(Fail::from("no fault"));

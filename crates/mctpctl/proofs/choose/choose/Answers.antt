@@ -79,8 +79,7 @@ unnamed app words m same has fails none =
     let here : P the_command = subst P same has in
     let F : App → Type 0 = λ a. is_simple_and_free a ≡ true → fault_of a words ≡ [] in
     let faults : F the_command = subst F same fails in
-    let empty : fault_of the_command words ≡ [] = faults is_free in
-    (
+    let empty : fault_of the_command words ≡ [] = faults is_free in (
       nothing_asked (takes_line words) _ (ap (option_and_then the_choice) (sym (here is_plain).1) ∙ none),
       rw empty (λ e. cc),
       rw empty (λ e. cc),
@@ -89,4 +88,4 @@ unnamed app words m same has fails none =
 pub returns-in-Ok-try_get_matches_from-clause-err : goal.returns-in-Ok-try_get_matches_from-clause-err
 returns-in-Ok-try_get_matches_from-clause-err c =
     unnamed (app_of c.in-Ok.command) (map (λ word. word.now) c.args.words.now) c.in-Ok-try_get_matches_from.matches c.in-Ok.ensures c.in-Ok-try_get_matches_from.ensures.matches c.in-Ok-try_get_matches_from.ensures.kinds
-        (sym c.choice_in.ensures ∙ c.in-None.is)
+    (sym c.choice_in.ensures ∙ c.in-None.is)
