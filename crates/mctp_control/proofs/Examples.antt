@@ -1,0 +1,79 @@
+-- What an endpoint answers to a bus owner, computed from the definitions: endpoint ID 9, asked by endpoint 8.
+use Rattle.std.proofs.Common.{◌≡◌, ℕ, List, [], ◌∷◌, Some, None, false, true, Bool, refl}
+use Rattle.mctp_control.specs.CommandReading.{command_of}
+use Rattle.mctp_control.specs.Messages.{request_of}
+use Rattle.mctp_control.specs.Packets.{eid_left, reply_to}
+use Rattle.mctp_control.specs.declared.endpoint.Endpoint.{Endpoint}
+
+abbrev uuid : List ℕ
+uuid = 16 ∷ 17 ∷ 18 ∷ 19 ∷ 20 ∷ 21 ∷ 70 ∷ 23 ∷ 136 ∷ 25 ∷ 26 ∷ 27 ∷ 28 ∷ 29 ∷ 30 ∷ 31 ∷ []
+
+-- versions 1.3.1 of the base specification and the control protocol, 1.0.0 of PLDM over MCTP
+abbrev nine : Bool → Endpoint
+nine takes_eid = record {
+  eid = 9;
+  takes_eid = takes_eid;
+  uuid = uuid;
+  base_version = 241 ∷ 243 ∷ 241 ∷ 0 ∷ [];
+  control_version = 241 ∷ 243 ∷ 241 ∷ 0 ∷ [];
+  pldm_version = 241 ∷ 240 ∷ 240 ∷ 0 ∷ [];
+}
+
+-- to the null endpoint ID, by the physical address
+get_endpoint_id : reply_to (nine false) (1 ∷ 0 ∷ 8 ∷ 200 ∷ 0 ∷ 128 ∷ 2 ∷ []) ≡ Some (1 ∷ 8 ∷ 9 ∷ 192 ∷ 0 ∷ 0 ∷ 2 ∷ 0 ∷ 9 ∷ 1 ∷ 0 ∷ [])
+unfolding request_of command_of
+get_endpoint_id = refl
+
+set_own : reply_to (nine false) (1 ∷ 0 ∷ 8 ∷ 201 ∷ 0 ∷ 129 ∷ 1 ∷ 0 ∷ 9 ∷ []) ≡ Some (1 ∷ 8 ∷ 9 ∷ 193 ∷ 0 ∷ 1 ∷ 1 ∷ 0 ∷ 0 ∷ 9 ∷ 0 ∷ [])
+unfolding request_of command_of
+set_own = refl
+
+-- forced, and still rejected with the endpoint ID that it has
+set_other : reply_to (nine false) (1 ∷ 9 ∷ 8 ∷ 202 ∷ 0 ∷ 130 ∷ 1 ∷ 1 ∷ 10 ∷ []) ≡ Some (1 ∷ 8 ∷ 9 ∷ 194 ∷ 0 ∷ 2 ∷ 1 ∷ 0 ∷ 16 ∷ 9 ∷ 0 ∷ [])
+unfolding request_of command_of
+set_other = refl
+
+stays : eid_left (nine false) (1 ∷ 9 ∷ 8 ∷ 202 ∷ 0 ∷ 130 ∷ 1 ∷ 1 ∷ 10 ∷ []) ≡ 9
+unfolding request_of command_of
+stays = refl
+
+moves : eid_left (nine true) (1 ∷ 9 ∷ 8 ∷ 202 ∷ 0 ∷ 130 ∷ 1 ∷ 1 ∷ 10 ∷ []) ≡ 10
+unfolding request_of command_of
+moves = refl
+
+set_broadcast : reply_to (nine true) (1 ∷ 0 ∷ 8 ∷ 200 ∷ 0 ∷ 128 ∷ 1 ∷ 0 ∷ 255 ∷ []) ≡ Some (1 ∷ 8 ∷ 9 ∷ 192 ∷ 0 ∷ 0 ∷ 1 ∷ 2 ∷ [])
+unfolding request_of command_of
+set_broadcast = refl
+
+base_versions : reply_to (nine false) (1 ∷ 9 ∷ 8 ∷ 200 ∷ 0 ∷ 131 ∷ 4 ∷ 255 ∷ []) ≡ Some (1 ∷ 8 ∷ 9 ∷ 192 ∷ 0 ∷ 3 ∷ 4 ∷ 0 ∷ 1 ∷ 241 ∷ 243 ∷ 241 ∷ 0 ∷ [])
+unfolding request_of command_of
+base_versions = refl
+
+vendor_versions : reply_to (nine false) (1 ∷ 9 ∷ 8 ∷ 200 ∷ 0 ∷ 131 ∷ 4 ∷ 126 ∷ []) ≡ Some (1 ∷ 8 ∷ 9 ∷ 192 ∷ 0 ∷ 3 ∷ 4 ∷ 128 ∷ [])
+unfolding request_of command_of
+vendor_versions = refl
+
+message_types : reply_to (nine false) (1 ∷ 9 ∷ 8 ∷ 200 ∷ 0 ∷ 132 ∷ 5 ∷ []) ≡ Some (1 ∷ 8 ∷ 9 ∷ 192 ∷ 0 ∷ 4 ∷ 5 ∷ 0 ∷ 2 ∷ 0 ∷ 1 ∷ [])
+unfolding request_of command_of
+message_types = refl
+
+vendor_types : reply_to (nine false) (1 ∷ 9 ∷ 8 ∷ 200 ∷ 0 ∷ 133 ∷ 6 ∷ 0 ∷ []) ≡ Some (1 ∷ 8 ∷ 9 ∷ 192 ∷ 0 ∷ 5 ∷ 6 ∷ 5 ∷ [])
+unfolding request_of command_of
+vendor_types = refl
+
+one_byte_too_many : reply_to (nine false) (1 ∷ 9 ∷ 8 ∷ 200 ∷ 0 ∷ 134 ∷ 2 ∷ 0 ∷ []) ≡ Some (1 ∷ 8 ∷ 9 ∷ 192 ∷ 0 ∷ 6 ∷ 2 ∷ 3 ∷ [])
+unfolding request_of command_of
+one_byte_too_many = refl
+
+-- a datagram, a response, and a packet of PLDM are not answered
+datagram : reply_to (nine false) (1 ∷ 9 ∷ 8 ∷ 200 ∷ 0 ∷ 192 ∷ 2 ∷ []) ≡ None
+unfolding request_of command_of
+datagram = refl
+
+response : reply_to (nine false) (1 ∷ 9 ∷ 8 ∷ 192 ∷ 0 ∷ 0 ∷ 2 ∷ 0 ∷ 8 ∷ 17 ∷ 0 ∷ []) ≡ None
+unfolding request_of command_of
+response = refl
+
+pldm : reply_to (nine false) (1 ∷ 9 ∷ 8 ∷ 200 ∷ 1 ∷ 128 ∷ 0 ∷ 2 ∷ []) ≡ None
+unfolding request_of command_of
+pldm = refl

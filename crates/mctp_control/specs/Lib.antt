@@ -1,0 +1,11 @@
+pub mod AnswerReading
+pub mod Answers
+pub mod Codes
+pub mod CommandReading
+pub mod Commands
+pub mod Laws
+pub mod Lists
+pub mod Messages
+pub mod Packets
+pub mod Settings
+pub mod Written

@@ -1,0 +1,35 @@
+//! MCTP control messages (DSP0236, "MCTP control protocol") of a simple endpoint: commands and answers, read and
+//! written, and what an endpoint with a static endpoint ID answers.
+#![tactic(auto)]
+
+mod answer;
+mod answer_reading;
+mod answer_writing;
+mod assigned;
+mod code;
+mod command;
+mod command_reading;
+mod command_writing;
+mod endpoint;
+pub mod laws;
+mod message;
+mod message_types;
+mod versions;
+
+pub use answer::{Answer, Assignment, EidKind, EndpointKind};
+pub use answer_reading::read_answer;
+pub use answer_writing::write_answer;
+pub use assigned::{
+    BASE_SPECIFICATION, CONTROL, GET_ENDPOINT_ID, GET_ENDPOINT_UUID, GET_MESSAGE_TYPE_SUPPORT,
+    GET_VERSION_SUPPORT, INSTANCE_IDS, MAX_DATA, MAX_MESSAGE_TYPES, MAX_VERSION_BYTES,
+    MAX_VERSIONS, NULL_EID, PLDM, REQUEST_HEADER, RESPONSE_HEADER, SET_ENDPOINT_ID, SUCCESS,
+    UUID_BYTES, VERSION_BYTES,
+};
+pub use code::CompletionCode;
+pub use command::{Command, EidOperation};
+pub use command_reading::read_command;
+pub use command_writing::write_command;
+pub use endpoint::{ControlPacket, Endpoint};
+pub use message::{RequestRef, ResponseRef, read_request, read_response};
+pub use message_types::MessageTypes;
+pub use versions::Versions;
