@@ -1,0 +1,5 @@
+pub mod FramesRead
+pub mod Registers
+pub mod Spelling
+pub mod Numbers
+pub mod WorkedFrames

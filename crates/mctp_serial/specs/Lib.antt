@@ -1,0 +1,6 @@
+pub mod CheckSequences
+pub mod FrameFaults
+pub mod Frames
+pub mod Readings
+pub mod Places
+pub mod Laws

@@ -1,0 +1,20 @@
+//! Laws over the definitions alone: each is the contract of a function that does nothing.
+
+ghost use Rattle.mctp_serial.specs.Laws.{ReadsBack, PiecesJoin, ThreeFlagsOpen, OneFlagOpens};
+
+/// The frame of a packet is read back as the packet, whatever comes after it.
+pub fn frames_read_back()
+    ensures { ReadsBack }
+{}
+
+/// What bytes tell does not depend on the pieces in which they come.
+pub fn pieces_join()
+    ensures { PiecesJoin }
+{}
+
+/// A flag opens a frame, but for one that is taken for a byte of a check sequence; so three open one
+/// wherever the reader stands.
+pub fn flags_open()
+    ensures three { ThreeFlagsOpen }
+    ensures one { OneFlagOpens }
+{}
