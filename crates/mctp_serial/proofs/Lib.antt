@@ -3,3 +3,5 @@ pub mod Registers
 pub mod Spelling
 pub mod Numbers
 pub mod WorkedFrames
+pub mod Polynomials
+pub mod Divided

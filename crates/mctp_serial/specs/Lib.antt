@@ -3,4 +3,6 @@ pub mod FrameFaults
 pub mod Frames
 pub mod Readings
 pub mod Places
+pub mod Remainders
+pub mod CheckLaws
 pub mod Laws

@@ -1,5 +1,6 @@
 //! Laws over the definitions alone: each is the contract of a function that does nothing.
 
+ghost use Rattle.mctp_serial.specs.CheckLaws.{SequenceIsRemainder, OneRemainder, ShortBurstsTold};
 ghost use Rattle.mctp_serial.specs.Laws.{ReadsBack, PiecesJoin, ThreeFlagsOpen, OneFlagOpens};
 
 /// The frame of a packet is read back as the packet, whatever comes after it.
@@ -17,4 +18,12 @@ pub fn pieces_join()
 pub fn flags_open()
     ensures three { ThreeFlagsOpen }
     ensures one { OneFlagOpens }
+{}
+
+/// The check sequence is the one remainder of the bits by x^16 + x^12 + x^5 + 1, so no two strings of
+/// one length that differ only within sixteen bits in a row have the same.
+pub fn check_sequence_is_a_remainder()
+    ensures remainder { SequenceIsRemainder }
+    ensures one { OneRemainder }
+    ensures bursts { ShortBurstsTold }
 {}
