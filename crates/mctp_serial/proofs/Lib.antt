@@ -5,3 +5,4 @@ pub mod Numbers
 pub mod WorkedFrames
 pub mod Polynomials
 pub mod Divided
+pub mod FramesTold

@@ -4,7 +4,7 @@ use Rattle.std.proofs.lemmas.List.{take_more}
 use Rattle.mctp_serial.specs.Frames.{spelled, spelled_all}
 use Rattle.mctp_serial.specs.declared.TheConstants.{FLAG, ESCAPE}
 
-spelled_all-append : (a b : List ℕ) → spelled_all (a ++ b) ≡ spelled_all a ++ spelled_all b
+pub spelled_all-append : (a b : List ℕ) → spelled_all (a ++ b) ≡ spelled_all a ++ spelled_all b
 spelled_all-append [] b = refl
 spelled_all-append (x ∷ a) b = ap (λ l. spelled x ++ l) (spelled_all-append a b) ∙ sym (append_assoc (spelled x) (spelled_all a) (spelled_all b))
 

@@ -1,7 +1,8 @@
 -- Laws over the definitions alone.
-use Rattle.std.specs.Prelude.{◌≡◌, ℕ, List, [], ◌∷◌, ◌++◌, Bool, true, false}
+use Rattle.std.specs.Prelude.{◌≡◌, ℕ, ◌<◌, List, [], ◌∷◌, ◌++◌, Bool, true, false}
+use Rattle.mctp_serial.specs.CheckLaws.{AreBytes}
 use Rattle.mctp_serial.specs.Frames.{HasFrame, frame}
-use Rattle.mctp_serial.specs.Readings.{Reading, idle, opened, high, low, packet_of, after, told_by}
+use Rattle.mctp_serial.specs.Readings.{Reading, idle, opened, high, low, packet_of, step, after, told_by}
 use Rattle.mctp_serial.specs.declared.TheConstants.{FLAG}
 
 -- what is written is read back, by a reader that waits for a frame
@@ -10,6 +11,13 @@ ReadsBack =
     (packet rest : List ℕ) → HasFrame packet
     → (told_by idle (frame packet ++ rest) ≡ packet_of packet ∷ told_by opened rest)
     × (told_by opened (frame packet ++ rest) ≡ packet_of packet ∷ told_by opened rest)
+
+-- a packet is told only where the bytes end with its frame
+abbrev pub OnlyFramesTold : Type 0
+OnlyFramesTold =
+    (bytes packet : List ℕ) (byte : ℕ)
+    → AreBytes bytes → byte < 256 → (step (after idle bytes) byte).told ≡ packet_of packet
+    → HasFrame packet × ((before : List ℕ) × (bytes ++ byte ∷ [] ≡ before ++ frame packet))
 
 -- in whatever pieces the bytes come
 abbrev pub PiecesJoin : Type 0

@@ -1,11 +1,13 @@
 //! Laws over the definitions alone: each is the contract of a function that does nothing.
 
 ghost use Rattle.mctp_serial.specs.CheckLaws.{SequenceIsRemainder, OneRemainder, ShortBurstsTold};
-ghost use Rattle.mctp_serial.specs.Laws.{ReadsBack, PiecesJoin, ThreeFlagsOpen, OneFlagOpens};
+ghost use Rattle.mctp_serial.specs.Laws.{ReadsBack, OnlyFramesTold, PiecesJoin, ThreeFlagsOpen, OneFlagOpens};
 
-/// The frame of a packet is read back as the packet, whatever comes after it.
+/// The frame of a packet is read back as the packet, whatever comes after it; and a packet is told only
+/// where its frame has come.
 pub fn frames_read_back()
-    ensures { ReadsBack }
+    ensures back { ReadsBack }
+    ensures only { OnlyFramesTold }
 {}
 
 /// What bytes tell does not depend on the pieces in which they come.
