@@ -1,6 +1,7 @@
--- The check sequence as a remainder of polynomials over two values. A serial line sends the lowest bit of a byte first,
--- and that is the coefficient of the highest power. So a polynomial is a number here with the coefficient of its highest
--- power in the lowest bit. The sum of two is their bit_xor, as is the difference, and * 2 ^ k puts k higher powers before.
+-- The check sequence as a remainder of polynomials over two values. A serial line sends the lowest bit of a byte
+-- first, and that is the coefficient of the highest power. So a polynomial is a number here with the coefficient of
+-- its highest power in the lowest bit. The sum of two is their bit_xor, as is the difference, and * 2 ^ k puts k higher
+-- powers before.
 use Rattle.std.specs.Prelude.{◌≡◌, ℕ, ◌+◌, ◌*◌, ◌^◌, ◌<◌, bit_xor, List, [], ◌∷◌, length}
 use Rattle.mctp_serial.specs.declared.TheConstants.{POLYNOMIAL, START_REGISTER}
 
