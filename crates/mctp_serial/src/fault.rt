@@ -1,0 +1,53 @@
+ghost use Rattle.std.specs.Prelude.{◌≡◌};
+ghost use Rattle.mctp_serial.specs.FrameFaults.{number_of, name_of};
+
+/// Why bytes after a flag are no frame.
+#[derive(Clone, Copy, Debug, PartialEq, Eq)]
+pub enum FrameFault {
+    /// 1: a revision other than 1.
+    WrongRevision,
+    /// 2: a count of 0.
+    Empty,
+    /// 3: a count of more bytes than a packet may have.
+    TooLong,
+    /// 4: a flag before all bytes of the packet have come.
+    CutShort,
+    /// 5: an escape with a byte after it that stands for none.
+    BadEscape,
+    /// 6: a check sequence other than that of the packet.
+    WrongCheck,
+    /// 7: another byte than a flag after the check sequence.
+    NoEnd,
+}
+
+impl FrameFault {
+    /// Its number in this profile's list, 1 to 7.
+    pub fn number(self) -> u8
+        ensures { result ≡ number_of self }
+    {
+        match self {
+            FrameFault::WrongRevision => 1,
+            FrameFault::Empty => 2,
+            FrameFault::TooLong => 3,
+            FrameFault::CutShort => 4,
+            FrameFault::BadEscape => 5,
+            FrameFault::WrongCheck => 6,
+            FrameFault::NoEnd => 7,
+        }
+    }
+
+    /// Its name, as logs print it.
+    pub fn name(self) -> &'static str
+        ensures { result.now ≡ name_of self }
+    {
+        match self {
+            FrameFault::WrongRevision => "WrongRevision",
+            FrameFault::Empty => "Empty",
+            FrameFault::TooLong => "TooLong",
+            FrameFault::CutShort => "CutShort",
+            FrameFault::BadEscape => "BadEscape",
+            FrameFault::WrongCheck => "WrongCheck",
+            FrameFault::NoEnd => "NoEnd",
+        }
+    }
+}

@@ -1,0 +1,173 @@
+ghost use Rattle.std.specs.Prelude.{◌≡◌, ◌++◌, ◌∷◌, [], List, ℕ};
+ghost use Rattle.mctp_serial.specs.Places.{reading_of, HasRoom};
+ghost use Rattle.mctp_serial.specs.Readings.{idle, opened, counting, inside, escaped, closing, step, after_end, drops, inside_or_past};
+ghost use Rattle.mctp_serial.specs.declared.place.Place.TheVariants.{Inside, Escaped};
+
+use crate::checking::check_sequence;
+use crate::place::Place;
+use crate::{ESCAPE, ESCAPED_ESCAPE, ESCAPED_FLAG, FLAG, FrameFault, PacketBytes, REVISION, Told};
+use mctp_packet::MAX_PACKET_BYTES;
+use std::marker::Model;
+use std::mem;
+
+/// A reader of frames (DSP0253), which takes one byte after the other. It goes by the count, since a
+/// check sequence may have a flag in it.
+#[derive(Debug, Drop)]
+pub struct FrameReader {
+    place: Place,
+    /// What has come of the packet.
+    bytes: PacketBytes,
+}
+
+impl Model for FrameReader {
+    ghost use Rattle.mctp_serial.specs.Readings.{Reading};
+    ghost use Rattle.mctp_serial.specs.Places.{reading_of, HasRoom};
+
+    ghost Value = { Reading };
+
+    ghost view = { λ r. reading_of r.place r.bytes.items };
+
+    ghost invariant = { λ r. HasRoom r.place r.bytes.items };
+}
+
+impl FrameReader {
+    /// A reader that waits for a flag.
+    pub fn new() -> FrameReader
+        ensures { result ≡ idle }
+    {
+        FrameReader {
+            place: Place::Idle,
+            bytes: PacketBytes::new(),
+        }
+    }
+
+    /// Takes the next byte, and gives what it tells: the packet where it ends a frame, or why the bytes
+    /// since the last flag are no frame.
+    pub fn take(&mut self, byte: u8) -> Told
+        ensures { step self.old byte ≡ record { told = result; next = self.new } }
+    {
+        let (place, told) = match self.place {
+            Place::Idle => (after_end(byte), Told::Nothing),
+            Place::Opened => take_revision(byte),
+            Place::Counting => take_count(byte, &mut self.bytes),
+            Place::Inside(count) => take_inside(count, byte, &mut self.bytes),
+            Place::Escaped(count) => take_escaped(count, byte, &mut self.bytes),
+            Place::High => (Place::Low(byte), Told::Nothing),
+            Place::Low(high) => (
+                Place::Closing(u16::from_be_bytes([high, byte])),
+                Told::Nothing,
+            ),
+            Place::Closing(sent) => take_end(sent, byte, &mut self.bytes),
+        };
+        self.place = place;
+        told
+    }
+}
+
+/// The place after a frame has ended, or a drop, with this byte.
+fn after_end(byte: u8) -> Place
+    ensures reading { (bytes : List ℕ) → reading_of result bytes ≡ after_end byte }
+    ensures room { (bytes : List ℕ) → HasRoom result bytes }
+{
+    if byte == FLAG {
+        Place::Opened
+    } else {
+        Place::Idle
+    }
+}
+
+/// The place after this byte, for which the bytes since the last flag are no frame.
+fn drop(fault: FrameFault, byte: u8) -> (Place, Told)
+    ensures reading { (bytes : List ℕ) → drops fault byte ≡ record { told = result.1; next = reading_of result.0 bytes } }
+    ensures room { (bytes : List ℕ) → HasRoom result.0 bytes }
+{
+    (after_end(byte), Told::Dropped(fault))
+}
+
+/// Takes the byte after a flag.
+fn take_revision(byte: u8) -> (Place, Told)
+    ensures reading { (bytes : List ℕ) → step opened byte ≡ record { told = result.1; next = reading_of result.0 bytes } }
+    ensures room { (bytes : List ℕ) → HasRoom result.0 bytes }
+{
+    match byte {
+        FLAG => (Place::Opened, Told::Nothing),
+        REVISION => (Place::Counting, Told::Nothing),
+        _ => drop(FrameFault::WrongRevision, byte),
+    }
+}
+
+/// Takes the count of a packet's bytes.
+fn take_count(byte: u8, bytes: &mut PacketBytes) -> (Place, Told)
+    ensures reading { step counting byte ≡ record { told = result.1; next = reading_of result.0 bytes.new.items } }
+    ensures room { HasRoom result.0 bytes.new.items }
+{
+    if byte == 0 {
+        return drop(FrameFault::Empty, byte);
+    }
+    if usize::from(byte) > MAX_PACKET_BYTES {
+        return drop(FrameFault::TooLong, byte);
+    }
+    bytes.clear();
+    (Place::Inside(byte), Told::Nothing)
+}
+
+/// Takes a byte in a packet of `count`.
+fn take_inside(count: u8, byte: u8, bytes: &mut PacketBytes) -> (Place, Told)
+    requires { HasRoom (Inside count) bytes.old.items }
+    ensures reading { step (inside count bytes.old.items) byte
+        ≡ record { told = result.1; next = reading_of result.0 bytes.new.items } }
+    ensures room { HasRoom result.0 bytes.new.items }
+{
+    match byte {
+        FLAG => drop(FrameFault::CutShort, byte),
+        ESCAPE => (Place::Escaped(count), Told::Nothing),
+        _ => (add(count, byte, bytes), Told::Nothing),
+    }
+}
+
+/// Takes the byte after an escape.
+fn take_escaped(count: u8, byte: u8, bytes: &mut PacketBytes) -> (Place, Told)
+    requires { HasRoom (Escaped count) bytes.old.items }
+    ensures reading { step (escaped count bytes.old.items) byte
+        ≡ record { told = result.1; next = reading_of result.0 bytes.new.items } }
+    ensures room { HasRoom result.0 bytes.new.items }
+{
+    match byte {
+        ESCAPED_FLAG => (add(count, FLAG, bytes), Told::Nothing),
+        ESCAPED_ESCAPE => (add(count, ESCAPE, bytes), Told::Nothing),
+        _ => drop(FrameFault::BadEscape, byte),
+    }
+}
+
+/// Adds a byte to the packet, which has `count` of them.
+fn add(count: u8, byte: u8, bytes: &mut PacketBytes) -> Place
+    requires { HasRoom (Inside count) bytes.old.items }
+    ensures bytes { bytes.new.items ≡ bytes.old.items ++ byte ∷ [] }
+    ensures reading { reading_of result bytes.new.items ≡ inside_or_past count bytes.new.items }
+    ensures room { HasRoom result bytes.new.items }
+{
+    bytes.push(byte);
+    if bytes.len() == usize::from(count) {
+        Place::High
+    } else {
+        Place::Inside(count)
+    }
+}
+
+/// Takes the byte after the check sequence that was sent.
+fn take_end(sent: u16, byte: u8, bytes: &mut PacketBytes) -> (Place, Told)
+    ensures reading { step (closing bytes.old.items sent) byte
+        ≡ record { told = result.1; next = reading_of result.0 bytes.new.items } }
+    ensures room { HasRoom result.0 bytes.new.items }
+{
+    if byte != FLAG {
+        return drop(FrameFault::NoEnd, byte);
+    }
+    if check_sequence(bytes) != sent {
+        return drop(FrameFault::WrongCheck, byte);
+    }
+    (
+        Place::Opened,
+        Told::Packet(mem::replace(bytes, PacketBytes::new())),
+    )
+}

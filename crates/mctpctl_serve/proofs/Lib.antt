@@ -1,0 +1,4 @@
+pub mod AnswerFrames
+pub mod Hearing
+pub mod SameHeld
+pub mod Numbers

@@ -1,0 +1,31 @@
+//! What happens on a line, for one who watches it.
+
+use mctp_packet::{Moment, Reason, Route};
+use mctp_serial::FrameFault;
+
+/// What happened on the line.
+#[derive(Debug, Drop)]
+pub enum Event<'a> {
+    /// Bytes after a flag were no frame.
+    NoFrame(FrameFault),
+    /// A packet of these bytes came at this moment.
+    Came(Moment, &'a [u8]),
+    /// The packet that just came was dropped.
+    Dropped(Reason),
+    /// The packets of this message were sent on this route, at this moment.
+    Sent(Moment, Route, &'a [u8]),
+}
+
+/// Is told what happens on the line. Nothing that it does changes what is answered.
+pub trait Watch {
+    /// Takes what happened.
+    fn saw(&mut self, event: &Event<'_>);
+}
+
+/// Watches nothing.
+#[derive(Clone, Copy, Debug)]
+pub struct Unwatched;
+
+impl Watch for Unwatched {
+    fn saw(&mut self, _event: &Event<'_>) {}
+}

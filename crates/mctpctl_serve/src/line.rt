@@ -1,0 +1,208 @@
+//! The loop: bytes are read, each packet is answered at its moment, and the answer is written and flushed
+//! before more is read.
+
+ghost use Rattle.std.specs.Prelude.{◌≡◌, ◌≢◌, ◌↔◌, ℕ, List, [], ◌∷◌, Some, Err, IfErr, OnOk, IfSome, IsErrOf, max, min, length, ◌≤◌, ◌<◌, true, false};
+ghost use Rattle.std.specs.Io.KnownBytes.{Appends, Consumes, Keeps};
+ghost use Rattle.mctp_packet.specs.Ids.{IsMoment};
+ghost use Rattle.mctp_packet.specs.Pieces.{written_packets};
+ghost use Rattle.mctp_serial.specs.Frames.{frame};
+ghost use Rattle.mctpctl_input.specs.Ports.{inner_of, has_failed};
+ghost use Rattle.mctpctl_serve.specs.Serving.{Hears, HearsFront, frames_of, moment_after};
+ghost use Rattle.pldm_responder.specs.Performing.{rules_of};
+ghost use Rattle.pldm_responder.specs.Stations.{held_of};
+ghost use Rattle.pldm_responder.specs.Steps.{received_held, received_outcome};
+ghost use Rattle.std.specs.List.{flat_map};
+
+use crate::answers::frames_of;
+use crate::events::{Event, Watch};
+use crate::fault::ServeFault;
+use crate::ticks::Ticks;
+use mctp_packet::{Body, MAX_MOMENT, Moment};
+use mctp_serial::{FrameReader, Told};
+use mctpctl_input::Port;
+use pldm_platform::Platform;
+use pldm_responder::{Responder, Taken};
+use std::io::{Read, Write};
+
+/// How many bytes are asked for at once.
+const PIECE: usize = 4_096;
+
+/// A line: what finds packets in its bytes, what answers them, the clock, and who watches.
+#[derive(Drop)]
+pub struct Line<P: Platform, C, L> {
+    /// Finds the packets.
+    pub frames: FrameReader,
+    /// Answers them.
+    pub responder: Responder<P>,
+    /// Tells their moments.
+    pub ticks: C,
+    /// Is told what happens.
+    pub watch: L,
+}
+
+/// The moment of a packet: the later of the last one and the clock's reading, which is cut at the
+/// greatest moment.
+fn moment_after(last: Moment, reading: u64) -> Moment
+    ensures value { result ≡ moment_after last reading }
+    ensures range { IsMoment result }
+    ensures forward { last ≤ result }
+{
+    let latest = last.get().max(reading.min(MAX_MOMENT));
+    Moment::new(latest).unwrap()
+}
+
+/// Writes an answer whole, and flushes it.
+fn send<W: Write>(frames: &[u8], writer: &mut Port<W>) -> Result<(), ServeFault>
+    requires { has_failed writer.old ≡ false }
+    ensures bytes { OnOk result (Appends (W.contents (inner_of writer.old)) (W.contents (inner_of writer.new)) frames.now) }
+    ensures fault { IfErr result (λ fault. fault ≡ ServeFault.Write) }
+    ensures write { IsErrOf result ServeFault.Write ↔ (has_failed writer.new ≡ true) }
+{
+    if writer.write_all(frames).is_err() || writer.flush().is_err() {
+        return Err(ServeFault::Write);
+    }
+    Ok(())
+}
+
+/// Answers a packet at its moment.
+#[tactic(auto, using(crate::proofs::SameHeld::same_held))]
+fn hear_packet<P: Platform, C: Ticks, L: Watch, W: Write>(
+    line: &mut Line<P, C, L>,
+    packet: &[u8],
+    reply: &mut Body,
+    writer: &mut Port<W>,
+) -> Result<(), ServeFault>
+    requires { has_failed writer.old ≡ false }
+    ensures heard { OnOk result ((reading : ℕ) × Consumes (C.to_come line.old.ticks) (C.to_come line.new.ticks) (reading ∷ [])
+        × (held_of line.new.responder ≡ received_held (rules_of P.answer P.after P.sensed) (held_of line.old.responder)
+        (moment_after (held_of line.old.responder).last reading) packet.now)
+        × Appends (W.contents (inner_of writer.old)) (W.contents (inner_of writer.new))
+        (frames_of (received_outcome (rules_of P.answer P.after P.sensed) (held_of line.old.responder)
+        (moment_after (held_of line.old.responder).last reading) packet.now))) }
+    ensures frames { line.new.frames ≡ line.old.frames }
+    ensures stopped { IfErr result (λ fault. fault ≢ ServeFault.Write
+        → Keeps (W.contents (inner_of writer.old)) (W.contents (inner_of writer.new))) }
+    ensures read { result ≢ Err ServeFault.Read }
+    ensures write { IsErrOf result ServeFault.Write ↔ (has_failed writer.new ≡ true) }
+{
+    let Ok(reading) = line.ticks.tick() else {
+        return Err(ServeFault::Clock);
+    };
+    let now = moment_after(line.responder.last_moment(), reading);
+    line.watch.saw(&Event::Came(now, packet));
+    let Ok(taken) = line.responder.receive_message(now, packet, reply) else {
+        return Err(ServeFault::Memory);
+    };
+    match taken {
+        Taken::Dropped(reason) => line.watch.saw(&Event::Dropped(reason)),
+        Taken::Partial => {}
+        Taken::Answered { route, .. } => {
+            send(&frames_of(&route, reply), writer)?;
+            line.watch.saw(&Event::Sent(now, route, reply));
+        }
+    }
+    Ok(())
+}
+
+/// Takes a byte. Where it ends the frame of a packet, that is answered.
+fn hear_byte<P: Platform, C: Ticks, L: Watch, W: Write>(
+    line: &mut Line<P, C, L>,
+    byte: u8,
+    reply: &mut Body,
+    writer: &mut Port<W>,
+) -> Result<(), ServeFault>
+    requires { has_failed writer.old ≡ false }
+    ensures heard { OnOk result (Hears (rules_of P.answer P.after P.sensed) (held_of line.old.responder) line.old.frames
+        (byte ∷ []) (held_of line.new.responder) line.new.frames (C.to_come line.old.ticks) (C.to_come line.new.ticks)
+        (W.contents (inner_of writer.old)) (W.contents (inner_of writer.new))) }
+    ensures stopped { IfErr result (λ fault. fault ≢ ServeFault.Write
+        → Keeps (W.contents (inner_of writer.old)) (W.contents (inner_of writer.new))) }
+    ensures read { result ≢ Err ServeFault.Read }
+    ensures write { IsErrOf result ServeFault.Write ↔ (has_failed writer.new ≡ true) }
+{
+    match line.frames.take(byte) {
+        Told::Nothing => Ok(()),
+        Told::Packet(packet) => hear_packet(line, &packet, reply, writer),
+        Told::Dropped(fault) => {
+            line.watch.saw(&Event::NoFrame(fault));
+            Ok(())
+        }
+    }
+}
+
+/// Takes a piece of the input.
+fn hear_piece<P: Platform, C: Ticks, L: Watch, W: Write>(
+    line: &mut Line<P, C, L>,
+    piece: &[u8],
+    reply: &mut Body,
+    writer: &mut Port<W>,
+) -> Result<(), ServeFault>
+    requires { has_failed writer.old ≡ false }
+    ensures heard { OnOk result (Hears (rules_of P.answer P.after P.sensed) (held_of line.old.responder) line.old.frames
+        piece.now (held_of line.new.responder) line.new.frames (C.to_come line.old.ticks) (C.to_come line.new.ticks)
+        (W.contents (inner_of writer.old)) (W.contents (inner_of writer.new))) }
+    ensures stopped { IfErr result (λ fault. fault ≢ ServeFault.Write
+        → HearsFront (rules_of P.answer P.after P.sensed) (held_of line.old.responder) line.old.frames (Some piece.now)
+        (C.to_come line.old.ticks) (W.contents (inner_of writer.old)) (W.contents (inner_of writer.new))) }
+    ensures read { result ≢ Err ServeFault.Read }
+    ensures write { IsErrOf result ServeFault.Write ↔ (has_failed writer.new ≡ true) }
+{
+    let mut rest = piece;
+    while let Some((first, others)) = rest.split_first() {
+        match hear_byte(line, *first, reply, writer) {
+            Ok(()) => {}
+            Err(fault) => return Err(fault),
+        }
+        rest = others;
+    }
+    Ok(())
+}
+
+/// Serves a line until its input ends: each packet whose frame ends is answered at its moment, and the
+/// frames of its answer are written and flushed before more is read. There is no limit of the input.
+///
+/// # Errors
+///
+/// `Read` where the read port has failed: the answers to all packets whose frames ended in what was read
+/// have been written. `Write` where the write port has failed; what a failed writer took is not known.
+/// At `Clock` and `Memory` the answers to the packets before have been written. `TooMany` after
+/// `u64::MAX` pieces.
+pub fn serve<P: Platform, C: Ticks, L: Watch, R: Read, W: Write>(
+    line: &mut Line<P, C, L>,
+    reader: &mut Port<R>,
+    writer: &mut Port<W>,
+) -> Result<(), ServeFault>
+    requires reads { has_failed reader.old ≡ false }
+    requires writes { has_failed writer.old ≡ false }
+    ensures heard { OnOk result (IfSome (R.remaining (inner_of reader.old)) (λ all.
+        Hears (rules_of P.answer P.after P.sensed) (held_of line.old.responder) line.old.frames
+        all (held_of line.new.responder) line.new.frames (C.to_come line.old.ticks) (C.to_come line.new.ticks)
+        (W.contents (inner_of writer.old)) (W.contents (inner_of writer.new)))) }
+    ensures at_read { IsErrOf result ServeFault.Read → (taken : List ℕ)
+        × Consumes (R.remaining (inner_of reader.old)) (R.remaining (inner_of reader.new)) taken
+        × Hears (rules_of P.answer P.after P.sensed) (held_of line.old.responder) line.old.frames
+        taken (held_of line.new.responder) line.new.frames (C.to_come line.old.ticks) (C.to_come line.new.ticks)
+        (W.contents (inner_of writer.old)) (W.contents (inner_of writer.new)) }
+    ensures stopped { IfErr result (λ fault. fault ≢ ServeFault.Write
+        → HearsFront (rules_of P.answer P.after P.sensed) (held_of line.old.responder) line.old.frames
+        (R.remaining (inner_of reader.old)) (C.to_come line.old.ticks)
+        (W.contents (inner_of writer.old)) (W.contents (inner_of writer.new))) }
+    ensures read { IsErrOf result ServeFault.Read ↔ (has_failed reader.new ≡ true) }
+    ensures write { IsErrOf result ServeFault.Write ↔ (has_failed writer.new ≡ true) }
+{
+    let mut reply = Body::new();
+    let mut room = [0; PIECE];
+    for _ in 0..u64::MAX {
+        let Ok(count) = reader.read(&mut room) else {
+            return Err(ServeFault::Read);
+        };
+        if count == 0 {
+            return Ok(());
+        }
+        match hear_piece(line, &room[..count], &mut reply, writer) {
+            Ok(()) => {}
+            Err(fault) => return Err(fault),
+        }
+    }
+    Err(ServeFault::TooMany)
+}
