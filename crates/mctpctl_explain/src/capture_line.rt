@@ -9,7 +9,7 @@ use mctpctl_input::{LineKind, MAX_CAPTURE_LINE};
 use std::alloc::Global;
 
 /// Says what is wrong with a line of a capture that was refused for this, after these lines.
-pub fn explain_line(
+pub(crate) fn explain_line(
     alloc: Global,
     line: &[u8],
     before: &[u8],
@@ -76,7 +76,7 @@ fn bad_hex(alloc: Global, packet: &[u8]) -> Result<String, Memory> {
 }
 
 /// Whether a line of a capture says a moment alone that looks like a packet whose moment was forgotten.
-pub fn is_forgotten_moment(line: &[u8]) -> bool {
+pub(crate) fn is_forgotten_moment(line: &[u8]) -> bool {
     let Some((word, rest)) = first_word(line) else {
         return false;
     };

@@ -4,11 +4,11 @@ use crate::finding::{Path, Stop, value_text};
 use mctp_packet::Memory;
 use pldm_device::FileFault;
 use pldm_wire::{MAX_STATES, Number, Size};
-use std::alloc::Global;
+use std::alloc::{AllocError, Global};
 use toml::{Table, Value};
 
 /// A value that is of another kind, or outside its range.
-pub fn refused<'a>(
+pub(crate) fn refused<'a>(
     alloc: Global,
     path: Path<'a>,
     fault: FileFault,
@@ -24,7 +24,7 @@ fn refused_text(alloc: Global, value: &Value, allowed: &str) -> Result<String, M
 }
 
 /// The value at a key that has to be there.
-pub fn value_at<'t, 'a>(
+pub(crate) fn value_at<'t, 'a>(
     alloc: Global,
     table: &'t Table,
     path: Path<'a>,
@@ -45,16 +45,14 @@ fn missing_text(alloc: Global, allowed: &str) -> Result<String, Memory> {
 }
 
 /// An integer from `low` to `high`.
-pub fn number<'a>(
+pub(crate) fn number<'a>(
     alloc: Global,
     value: &Value,
     path: Path<'a>,
     low: i64,
     high: i64,
 ) -> Result<i64, Stop<'a>> {
-    let Ok(allowed) = range_text(alloc, low, high) else {
-        return Err(Stop::Memory);
-    };
+    let allowed = range_text(alloc, low, high)?;
     match value.as_integer() {
         Some(integer) if low <= integer && integer <= high => Ok(integer),
         Some(_) => Err(refused(alloc, path, FileFault::OutOfRange, value, allowed.as_str())),
@@ -63,12 +61,12 @@ pub fn number<'a>(
 }
 
 /// An integer from `low` to `high`, in words.
-pub fn range_text(alloc: Global, low: i64, high: i64) -> Result<String, Memory> {
+pub(crate) fn range_text(alloc: Global, low: i64, high: i64) -> Result<String, Memory> {
     Ok(format!(in alloc; "an integer from {low} to {high}")?)
 }
 
 /// The bytes of a hex text.
-pub fn bytes<'a>(
+pub(crate) fn bytes<'a>(
     alloc: Global,
     value: &Value,
     path: Path<'a>,
@@ -79,13 +77,13 @@ pub fn bytes<'a>(
     };
     match hex::decode(alloc, text) {
         Ok(bytes) => Ok(bytes),
-        Err(hex::FromHexError::OutOfMemory) => Err(Stop::Memory),
+        Err(hex::FromHexError::OutOfMemory) => Err(Stop::Memory(AllocError.into())),
         Err(_) => Err(refused(alloc, path, FileFault::BadHex, value, allowed)),
     }
 }
 
 /// The data size that a text names.
-pub fn size<'a>(alloc: Global, value: &Value, path: Path<'a>) -> Result<Size, Stop<'a>> {
+pub(crate) fn size<'a>(alloc: Global, value: &Value, path: Path<'a>) -> Result<Size, Stop<'a>> {
     let allowed = "'uint8', 'sint8', 'uint16', 'sint16', 'uint32' or 'sint32'";
     let Some(name) = value.as_str() else {
         return Err(refused(alloc, path, FileFault::WrongKind, value, allowed));
@@ -97,7 +95,7 @@ pub fn size<'a>(alloc: Global, value: &Value, path: Path<'a>) -> Result<Size, St
 }
 
 /// An integer that fits the size, and is from `low` to `high`.
-pub fn sized<'a>(
+pub(crate) fn sized<'a>(
     alloc: Global,
     value: &Value,
     path: Path<'a>,
@@ -116,7 +114,7 @@ pub fn sized<'a>(
 }
 
 /// The least and the greatest number of a size.
-pub fn limits(size: Size) -> (i64, i64) {
+pub(crate) fn limits(size: Size) -> (i64, i64) {
     match size {
         Size::Uint8 => (0, 255),
         Size::Sint8 => (-128, 127),
@@ -128,7 +126,7 @@ pub fn limits(size: Size) -> (i64, i64) {
 }
 
 /// The items of an array of integers, however many.
-pub fn integers<'t, 'a>(
+pub(crate) fn integers<'t, 'a>(
     alloc: Global,
     value: &'t Value,
     path: Path<'a>,
@@ -147,7 +145,7 @@ pub fn integers<'t, 'a>(
 }
 
 /// Numbers from 0 to `high`, from `least` to `most` of them.
-pub fn numbers<'t, 'a>(
+pub(crate) fn numbers<'t, 'a>(
     alloc: Global,
     value: &'t Value,
     path: Path<'a>,
@@ -156,9 +154,7 @@ pub fn numbers<'t, 'a>(
     most: usize,
 ) -> Result<&'t [Value], Stop<'a>> {
     let items = integers(alloc, value, path)?;
-    let Ok(allowed) = numbers_text(alloc, high, least, most) else {
-        return Err(Stop::Memory);
-    };
+    let allowed = numbers_text(alloc, high, least, most)?;
     if items.len() > most {
         return Err(refused(alloc, path, FileFault::OutOfRange, value, allowed.as_str()));
     }
@@ -180,7 +176,7 @@ fn numbers_text(alloc: Global, high: i64, least: usize, most: usize) -> Result<S
 }
 
 /// The items of an array of arrays of integers, one to eight of them.
-pub fn number_lists<'t, 'a>(
+pub(crate) fn number_lists<'t, 'a>(
     alloc: Global,
     value: &'t Value,
     path: Path<'a>,

@@ -24,13 +24,13 @@ const MAX_ALLOWED: usize = 256;
 
 /// IDs or handles that were given, each with the entry that has it.
 #[derive(Drop)]
-pub struct Given<'a> {
+pub(crate) struct Given<'a> {
     numbers: Vec<(i64, Path<'a>)>,
 }
 
 impl<'a> Given<'a> {
     /// None yet.
-    pub fn new(alloc: Global) -> Given<'a> {
+    pub(crate) fn new(alloc: Global) -> Given<'a> {
         Given {
             numbers: Vec::new(alloc),
         }
@@ -46,7 +46,7 @@ impl<'a> Given<'a> {
         }
         match self.numbers.push((number, path)) {
             Ok(()) => Ok(()),
-            Err(_) => Err(Stop::Memory),
+            Err(refused) => Err(Stop::Memory(refused.into())),
         }
     }
 }
@@ -89,9 +89,7 @@ fn table_of<'t, 'a>(
 /// The ID of an entry.
 fn id<'a>(alloc: Global, table: &Table, path: Path<'a>) -> Result<i64, Stop<'a>> {
     let path = path.key("id");
-    let Ok(allowed) = range_text(alloc, 0, MAX_ID) else {
-        return Err(Stop::Memory);
-    };
+    let allowed = range_text(alloc, 0, MAX_ID)?;
     let value = value_at(alloc, table, path, "id", allowed.as_str())?;
     number(alloc, value, path, 0, MAX_ID)
 }
@@ -110,7 +108,7 @@ fn any_at<'t, 'a>(
 }
 
 /// The numeric sensors.
-pub fn numeric_sensors<'a>(
+pub(crate) fn numeric_sensors<'a>(
     alloc: Global,
     table: &Table,
     given: &mut Given<'a>,
@@ -132,7 +130,7 @@ pub fn numeric_sensors<'a>(
 }
 
 /// The state sensors.
-pub fn state_sensors<'a>(
+pub(crate) fn state_sensors<'a>(
     alloc: Global,
     table: &Table,
     given: &mut Given<'a>,
@@ -157,7 +155,7 @@ pub fn state_sensors<'a>(
 }
 
 /// The numeric effecters.
-pub fn numeric_effecters<'a>(
+pub(crate) fn numeric_effecters<'a>(
     alloc: Global,
     table: &Table,
     given: &mut Given<'a>,
@@ -181,7 +179,7 @@ pub fn numeric_effecters<'a>(
 }
 
 /// The state effecters.
-pub fn state_effecters<'a>(
+pub(crate) fn state_effecters<'a>(
     alloc: Global,
     table: &Table,
     given: &mut Given<'a>,
@@ -247,7 +245,11 @@ fn contains(list: &Value, state: &Value) -> bool {
 }
 
 /// The records.
-pub fn records<'a>(alloc: Global, table: &Table, given: &mut Given<'a>) -> Result<(), Stop<'a>> {
+pub(crate) fn records<'a>(
+    alloc: Global,
+    table: &Table,
+    given: &mut Given<'a>,
+) -> Result<(), Stop<'a>> {
     let list = "pdr";
     for (place, entry) in entries(alloc, table, list)?.iter().enumerate() {
         let path = Path::entry(list, place);

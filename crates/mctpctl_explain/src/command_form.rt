@@ -3,7 +3,7 @@
 use crate::slot::Slot;
 
 /// The names of the commands.
-pub const COMMANDS: [&str; 13] = [
+pub(crate) const COMMANDS: [&str; 13] = [
     "gettid",
     "settid",
     "getversion",
@@ -20,17 +20,17 @@ pub const COMMANDS: [&str; 13] = [
 ];
 
 /// The names of the actions.
-pub const ACTIONS: [&str; 7] = ["open", "tick", "req", "rep", "sense", "restart", "busy"];
+pub(crate) const ACTIONS: [&str; 7] = ["open", "tick", "req", "rep", "sense", "restart", "busy"];
 
 /// What stands after a name.
 #[derive(Clone, Copy, Debug)]
-pub struct Form {
+pub(crate) struct Form {
     /// The name and what stands after it, as help spells it.
-    pub text: &'static str,
+    pub(crate) text: &'static str,
     /// What may stand at each place after the name.
-    pub slots: &'static [Slot],
+    pub(crate) slots: &'static [Slot],
     /// Whether the last place may stand up to eight times.
-    pub repeats: bool,
+    pub(crate) repeats: bool,
 }
 
 impl Form {
@@ -44,7 +44,7 @@ impl Form {
     }
 
     /// The form of the command of this name.
-    pub fn of_command(name: &[u8]) -> Option<Form> {
+    pub(crate) fn of_command(name: &[u8]) -> Option<Form> {
         match name {
             b"gettid" => Some(Form::new("gettid", &[])),
             b"settid" => Some(Form::new("settid N", &[Slot::Byte])),
@@ -74,7 +74,7 @@ impl Form {
     }
 
     /// The form of the action of this name, but for `open`, after which a command stands.
-    pub fn of_action(name: &[u8]) -> Option<Form> {
+    pub(crate) fn of_action(name: &[u8]) -> Option<Form> {
         match name {
             b"tick" => Some(Form::new("tick EID", &[Slot::Eid])),
             b"req" => Some(Form::new("req K", &[Slot::Number])),
@@ -87,7 +87,7 @@ impl Form {
     }
 
     /// Whether as many words may stand after the name.
-    pub fn takes_count(&self, count: usize) -> bool {
+    pub(crate) fn takes_count(&self, count: usize) -> bool {
         if self.repeats {
             self.slots.len() <= count && count <= self.slots.len().saturating_add(7)
         } else {
@@ -96,7 +96,7 @@ impl Form {
     }
 
     /// What may stand at a place after the name, counted from 0.
-    pub fn slot(&self, place: usize) -> Option<Slot> {
+    pub(crate) fn slot(&self, place: usize) -> Option<Slot> {
         match self.slots.get(place) {
             Some(slot) => Some(*slot),
             None if self.repeats => self.slots.last().copied(),

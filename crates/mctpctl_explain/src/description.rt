@@ -15,7 +15,7 @@ use toml::Table;
 
 /// Says what is wrong with a description that was refused for this: the key, its line and column, what was
 /// found and what is allowed; for text that is no TOML the parser's own message.
-pub fn explain_description(
+pub(crate) fn explain_description(
     alloc: Global,
     description: &[u8],
     fault: FileFault,
@@ -50,7 +50,7 @@ fn explain_toml(
 }
 
 /// The places of the keys of a description that is TOML.
-pub fn places_of(alloc: Global, description: &[u8]) -> Result<Vec<KeyPlace>, Memory> {
+pub(crate) fn places_of(alloc: Global, description: &[u8]) -> Result<Vec<KeyPlace>, Memory> {
     match str::from_utf8(description) {
         Ok(text) => key_places(alloc, text),
         Err(_) => Ok(Vec::new(alloc)),
@@ -58,7 +58,7 @@ pub fn places_of(alloc: Global, description: &[u8]) -> Result<Vec<KeyPlace>, Mem
 }
 
 /// The line and the column of a path, or of what it is in; nothing where that is not found.
-pub fn place_text(
+pub(crate) fn place_text(
     alloc: Global,
     description: &[u8],
     places: &[KeyPlace],
@@ -97,7 +97,7 @@ fn first_fault(alloc: Global, table: &Table) -> Result<Option<Finding<'static>>,
     match check(alloc, table) {
         Ok(()) => Ok(None),
         Err(Stop::Found(finding)) => Ok(Some(finding)),
-        Err(Stop::Memory) => Err(Memory),
+        Err(Stop::Memory(memory)) => Err(memory),
     }
 }
 
@@ -125,9 +125,7 @@ fn number_at(
     low: i64,
     high: i64,
 ) -> Result<(), Stop<'static>> {
-    let Ok(allowed) = range_text(alloc, low, high) else {
-        return Err(Stop::Memory);
-    };
+    let allowed = range_text(alloc, low, high)?;
     let path = Path::top(key);
     let value = value_at(alloc, table, path, key, allowed.as_str())?;
     number(alloc, value, path, low, high)?;

@@ -5,18 +5,18 @@ use mctpctl_input::is_divider;
 
 /// An input, divided at its first line that is `%%`.
 #[derive(Clone, Copy, Debug)]
-pub struct Divided<'a> {
+pub(crate) struct Divided<'a> {
     /// The bytes before that line.
-    pub description: &'a [u8],
+    pub(crate) description: &'a [u8],
     /// The lines after it.
-    pub lines: &'a [u8],
+    pub(crate) lines: &'a [u8],
     /// How many lines end before them, the divider among them.
-    pub lines_before: u64,
+    pub(crate) lines_before: u64,
 }
 
 impl<'a> Divided<'a> {
     /// Divides an input; `None` where no line divides.
-    pub fn new(input: &'a [u8]) -> Option<Divided<'a>> {
+    pub(crate) fn new(input: &'a [u8]) -> Option<Divided<'a>> {
         let mut rest = input;
         let mut lines_before = 0u64;
         while let Some((line, after)) = split_line(rest) {
@@ -47,7 +47,7 @@ fn front<'a>(text: &'a [u8], rest: &[u8]) -> &'a [u8] {
 }
 
 /// A line, counted from 1, and the lines before it; `None` where there are not as many.
-pub fn numbered_line(lines: &[u8], number: u64) -> Option<(&[u8], &[u8])> {
+pub(crate) fn numbered_line(lines: &[u8], number: u64) -> Option<(&[u8], &[u8])> {
     let mut rest = lines;
     let mut left = number;
     while let Some((line, after)) = split_line(rest) {

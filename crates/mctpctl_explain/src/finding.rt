@@ -7,20 +7,20 @@ use toml::Value;
 
 /// The path of a value in a description, as `numeric_effecter[2].max`.
 #[derive(Clone, Copy, Debug)]
-pub struct Path<'a> {
+pub(crate) struct Path<'a> {
     /// The list, where the value is in one.
-    pub list: Option<&'a str>,
+    pub(crate) list: Option<&'a str>,
     /// Which entry of the list, counted from 0.
-    pub entry: Option<usize>,
+    pub(crate) entry: Option<usize>,
     /// The key of the entry or of the whole description.
-    pub key: Option<&'a str>,
+    pub(crate) key: Option<&'a str>,
     /// Which item of an array, and which one of an array in that.
-    pub items: [Option<usize>; 2],
+    pub(crate) items: [Option<usize>; 2],
 }
 
 impl<'a> Path<'a> {
     /// A key of the whole description.
-    pub fn top(key: &'a str) -> Path<'a> {
+    pub(crate) fn top(key: &'a str) -> Path<'a> {
         Path {
             list: None,
             entry: None,
@@ -30,7 +30,7 @@ impl<'a> Path<'a> {
     }
 
     /// An entry of a list.
-    pub fn entry(list: &'a str, entry: usize) -> Path<'a> {
+    pub(crate) fn entry(list: &'a str, entry: usize) -> Path<'a> {
         Path {
             list: Some(list),
             entry: Some(entry),
@@ -40,7 +40,7 @@ impl<'a> Path<'a> {
     }
 
     /// A key of this entry.
-    pub fn key(self, key: &'a str) -> Path<'a> {
+    pub(crate) fn key(self, key: &'a str) -> Path<'a> {
         Path {
             key: Some(key),
             ..self
@@ -48,7 +48,7 @@ impl<'a> Path<'a> {
     }
 
     /// An item of this array.
-    pub fn item(self, item: usize) -> Path<'a> {
+    pub(crate) fn item(self, item: usize) -> Path<'a> {
         match self.items {
             [None, _] => Path {
                 items: [Some(item), None],
@@ -62,7 +62,7 @@ impl<'a> Path<'a> {
     }
 
     /// The path of what this is in; `None` for a whole key or list.
-    pub fn parent(self) -> Option<Path<'a>> {
+    pub(crate) fn parent(self) -> Option<Path<'a>> {
         match (self.items, self.list, self.key) {
             ([first, Some(_)], _, _) => Some(Path {
                 items: [first, None],
@@ -78,7 +78,7 @@ impl<'a> Path<'a> {
     }
 
     /// The path as text.
-    pub fn text(&self, alloc: Global) -> Result<String, Memory> {
+    pub(crate) fn text(&self, alloc: Global) -> Result<String, Memory> {
         let mut text = String::new(alloc);
         if let Some(list) = self.list {
             text.push_str(list)?;
@@ -103,36 +103,46 @@ impl<'a> Path<'a> {
 
 /// What is wrong at a path.
 #[derive(Debug, Drop)]
-pub struct Finding<'a> {
+pub(crate) struct Finding<'a> {
     /// Where.
-    pub path: Path<'a>,
+    pub(crate) path: Path<'a>,
     /// Which fault it is.
-    pub fault: FileFault,
+    pub(crate) fault: FileFault,
     /// What was found and what is allowed, in words.
-    pub text: String,
+    pub(crate) text: String,
 }
 
 /// What ends the looking.
 #[derive(Debug, Drop)]
-pub enum Stop<'a> {
+pub(crate) enum Stop<'a> {
     /// The first fault was found.
     Found(Finding<'a>),
     /// No memory was left.
-    Memory,
+    Memory(Memory),
+}
+
+impl<'a> From<Memory> for Stop<'a> {
+    fn from(memory: Memory) -> Stop<'a> {
+        Stop::Memory(memory)
+    }
 }
 
 impl<'a> Stop<'a> {
     /// The fault at a path, with what was found there and what is allowed.
-    pub fn fault(path: Path<'a>, fault: FileFault, text: Result<String, Memory>) -> Stop<'a> {
+    pub(crate) fn fault(
+        path: Path<'a>,
+        fault: FileFault,
+        text: Result<String, Memory>,
+    ) -> Stop<'a> {
         match text {
             Ok(text) => Stop::Found(Finding { path, fault, text }),
-            Err(Memory) => Stop::Memory,
+            Err(memory) => Stop::Memory(memory),
         }
     }
 }
 
 /// A value in words.
-pub fn value_text(alloc: Global, value: &Value) -> Result<String, Memory> {
+pub(crate) fn value_text(alloc: Global, value: &Value) -> Result<String, Memory> {
     if let Some(number) = value.as_integer() {
         return Ok(format!(in alloc; "{number}")?);
     }

@@ -1,5 +1,8 @@
 //! Warnings of what is ignored, or is likely to be a mistake.
 
+ghost use Rattle.std.specs.Prelude.{◌≤◌, IfOk, length};
+ghost use Rattle.mctpctl_explain.specs.declared.limits.TheConstants.{MAX_WARNINGS};
+
 use crate::capture_line::is_forgotten_moment;
 use crate::description::{place_text, places_of};
 use crate::divided::Divided;
@@ -12,12 +15,21 @@ use crate::quoted::quoted;
 use crate::suggest::suggestion;
 use line_words::split_line;
 use mctp_packet::Memory;
-use std::alloc::Global;
+use std::alloc::{AllocError, Global};
 use toml::Table;
 
 /// Warnings of an input, [`MAX_WARNINGS`] at most: keys of a description that are ignored, and lines of a
 /// capture that are a moment alone and look like a packet. None of them is a fault.
-pub fn warnings(alloc: Global, subject: Subject, input: &[u8]) -> Result<Vec<String>, Memory> {
+pub fn warnings(alloc: Global, subject: Subject, input: &[u8]) -> Result<Vec<String>, Memory>
+    ensures few { IfOk result (λ found. length found.items ≤ MAX_WARNINGS) }
+{
+    let mut found = all_warnings(alloc, subject, input)?;
+    found.truncate(MAX_WARNINGS);
+    Ok(found)
+}
+
+/// As [`warnings`].
+fn all_warnings(alloc: Global, subject: Subject, input: &[u8]) -> Result<Vec<String>, Memory> {
     let mut found = Vec::new(alloc);
     let (lines, lines_before) = match subject {
         Subject::Show => (input, 0),
@@ -40,8 +52,8 @@ pub fn warnings(alloc: Global, subject: Subject, input: &[u8]) -> Result<Vec<Str
 
 /// Adds a warning, unless there are as many as may be.
 fn add(found: &mut Vec<String>, text: String) -> Result<(), Memory> {
-    if found.len() < MAX_WARNINGS && found.push(text).is_err() {
-        return Err(Memory);
+    if found.len() < MAX_WARNINGS {
+        found.push(text)?;
     }
     Ok(())
 }
@@ -82,7 +94,7 @@ fn warn_of_line(
 fn unknown_keys(alloc: Global, description: &[u8], found: &mut Vec<String>) -> Result<(), Memory> {
     let table = match toml::table_from_slice(alloc, description) {
         Ok(table) => table,
-        Err(error) if error.is_memory() => return Err(Memory),
+        Err(error) if error.is_memory() => return Err(AllocError.into()),
         Err(_) => return Ok(()),
     };
     let places = places_of(alloc, description)?;

@@ -3,18 +3,18 @@
 ghost use Rattle.std.specs.Prelude.{◌≡◌, ◌<◌, IfOk, IfSome, length, slice_index};
 
 use mctp_packet::Memory;
-use std::alloc::Global;
+use std::alloc::{AllocError, Global};
 use std::collections::BTreeMap;
 use toml_parser::text::{first, skip, skip_blank, skip_ws};
 use toml_parser::{Key, ParseError, dotted_key, quoted, starts_string, unquoted};
 
 /// Where the value at a path stands, or the item of an array, or the header of a table.
 #[derive(Debug, Drop)]
-pub struct KeyPlace {
+pub(crate) struct KeyPlace {
     /// The path, as `numeric_effecter[2].max`.
-    pub path: String,
+    pub(crate) path: String,
     /// The number of its first byte, counted from 0.
-    pub offset: usize,
+    pub(crate) offset: usize,
 }
 
 /// A part of a path.
@@ -39,21 +39,21 @@ enum Halt {
     /// The text is no TOML.
     Text,
     /// No memory was left.
-    Memory,
+    Memory(Memory),
 }
 
 impl From<ParseError> for Halt {
     fn from(error: ParseError) -> Halt {
         match error {
-            ParseError::OutOfMemory => Halt::Memory,
+            ParseError::OutOfMemory => Halt::Memory(AllocError.into()),
             ParseError::At(_, _, _) => Halt::Text,
         }
     }
 }
 
 impl From<Memory> for Halt {
-    fn from(_memory: Memory) -> Halt {
-        Halt::Memory
+    fn from(memory: Memory) -> Halt {
+        Halt::Memory(memory)
     }
 }
 
@@ -72,7 +72,7 @@ struct Walk {
 
 /// The places of the keys, the items and the headers of a document, in the order of its text. Where the
 /// text is no TOML, those before that place.
-pub fn key_places(alloc: Global, text: &str) -> Result<Vec<KeyPlace>, Memory> {
+pub(crate) fn key_places(alloc: Global, text: &str) -> Result<Vec<KeyPlace>, Memory> {
     let mut walk = Walk {
         places: Vec::new(alloc),
         path: Vec::new(alloc),
@@ -87,7 +87,7 @@ pub fn key_places(alloc: Global, text: &str) -> Result<Vec<KeyPlace>, Memory> {
         match walk.step(alloc, here, offset) {
             Ok(Some(after)) => rest = after,
             Ok(None) | Err(Halt::Text) => return Ok(walk.places),
-            Err(Halt::Memory) => return Err(Memory),
+            Err(Halt::Memory(memory)) => return Err(memory),
         }
     }
 }
@@ -148,9 +148,7 @@ impl Walk {
     fn count_header(&mut self, alloc: Global) -> Result<usize, Memory> {
         let name = path_text(alloc, &self.path)?;
         let count = self.headers.get(&name).copied().unwrap_or(0);
-        if self.headers.insert(name, count.saturating_add(1)).is_err() {
-            return Err(Memory);
-        }
+        self.headers.insert(name, count.saturating_add(1))?;
         Ok(count)
     }
 
@@ -244,10 +242,7 @@ impl Walk {
     }
 
     fn begin(&mut self, open: Open) -> Result<(), Memory> {
-        if self.open.push(open).is_err() {
-            return Err(Memory);
-        }
-        Ok(())
+        Ok(self.open.push(open)?)
     }
 
     /// Adds the parts of a key to the path, and notes the place of each.
@@ -261,19 +256,13 @@ impl Walk {
     }
 
     fn push(&mut self, part: Part) -> Result<(), Memory> {
-        if self.path.push(part).is_err() {
-            return Err(Memory);
-        }
-        Ok(())
+        Ok(self.path.push(part)?)
     }
 
     /// Notes where the value of the path stands.
     fn place(&mut self, alloc: Global, offset: usize) -> Result<(), Memory> {
         let path = path_text(alloc, &self.path)?;
-        if self.places.push(KeyPlace { path, offset }).is_err() {
-            return Err(Memory);
-        }
-        Ok(())
+        Ok(self.places.push(KeyPlace { path, offset })?)
     }
 }
 

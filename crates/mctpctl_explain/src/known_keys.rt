@@ -1,7 +1,7 @@
 //! The keys of a description.
 
 /// The keys of the whole description.
-pub const TOP_KEYS: [&str; 12] = [
+pub(crate) const TOP_KEYS: [&str; 12] = [
     "eid",
     "keep_ms",
     "tid",
@@ -17,7 +17,7 @@ pub const TOP_KEYS: [&str; 12] = [
 ];
 
 /// The keys of the lists, in the order in which they are looked at.
-pub const LISTS: [&str; 5] = [
+pub(crate) const LISTS: [&str; 5] = [
     "numeric_sensor",
     "state_sensor",
     "numeric_effecter",
@@ -26,7 +26,7 @@ pub const LISTS: [&str; 5] = [
 ];
 
 /// The keys of an entry of a list.
-pub fn entry_keys(list: &str) -> &'static [&'static str] {
+pub(crate) fn entry_keys(list: &str) -> &'static [&'static str] {
     if list == "numeric_sensor" {
         &["id", "size", "states", "value"]
     } else if list == "state_sensor" {

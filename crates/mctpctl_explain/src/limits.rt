@@ -7,7 +7,7 @@ pub const MAX_QUOTED: usize = 40;
 pub const MAX_WARNINGS: usize = 20;
 
 /// The longest word, in bytes, for which a known word like it is looked for.
-pub const MAX_SUGGESTED: usize = 32;
+pub(crate) const MAX_SUGGESTED: usize = 32;
 
 /// How many letters a word may differ from the known word that is suggested for it.
-pub const MAX_EDITS: usize = 2;
+pub(crate) const MAX_EDITS: usize = 2;

@@ -4,17 +4,17 @@ use line_words::split_line;
 
 /// A place in a text: its line and its column, both counted from 1. A column counts bytes.
 #[derive(Clone, Copy, Debug)]
-pub struct Place {
+pub(crate) struct Place {
     /// The line.
-    pub line: usize,
+    pub(crate) line: usize,
     /// The column.
-    pub column: usize,
+    pub(crate) column: usize,
 }
 
 impl Place {
     /// The place of the byte with this number, counted from 0. Past the end of the text it is in the last
     /// line.
-    pub fn at(text: &[u8], offset: usize) -> Place {
+    pub(crate) fn at(text: &[u8], offset: usize) -> Place {
         let mut line = 1usize;
         let mut rest = text;
         let mut left = offset;

@@ -6,7 +6,7 @@ use std::alloc::Global;
 
 /// A word between quotes: a byte that is no printable ASCII character is `\xNN`, and of a word that is
 /// longer than [`MAX_QUOTED`] bytes the front stands alone, with `..` after it.
-pub fn quoted(alloc: Global, word: &[u8]) -> Result<String, Memory> {
+pub(crate) fn quoted(alloc: Global, word: &[u8]) -> Result<String, Memory> {
     let mut text = String::from_str(alloc, "'")?;
     for (place, byte) in word.iter().enumerate() {
         if place == MAX_QUOTED {

@@ -15,7 +15,7 @@ use std::alloc::Global;
 const REQUESTER: &str = "requester EID timeout MS tries N";
 
 /// Says what is wrong with a line of a schedule that was refused for this, after these lines.
-pub fn explain_line(
+pub(crate) fn explain_line(
     alloc: Global,
     line: &[u8],
     before: &[u8],

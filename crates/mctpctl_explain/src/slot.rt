@@ -8,14 +8,14 @@ use schedule_text::{MAX_BYTE, MAX_HANDLE, MAX_ID, MAX_TIMEOUT};
 use std::alloc::Global;
 
 /// The names of the data sizes.
-pub const SIZES: [&str; 6] = ["uint8", "sint8", "uint16", "sint16", "uint32", "sint32"];
+pub(crate) const SIZES: [&str; 6] = ["uint8", "sint8", "uint16", "sint16", "uint32", "sint32"];
 
 /// The parts of a record that may be asked for.
-pub const PARTS: [&str; 2] = ["first", "next"];
+pub(crate) const PARTS: [&str; 2] = ["first", "next"];
 
 /// What a word may be.
 #[derive(Clone, Copy, Debug, PartialEq, Eq)]
-pub enum Slot {
+pub(crate) enum Slot {
     /// An endpoint ID.
     Eid,
     /// A moment in milliseconds.
@@ -42,7 +42,7 @@ pub enum Slot {
 
 impl Slot {
     /// Whether it is a fixed word, and no number.
-    pub fn is_word(self) -> bool {
+    pub(crate) fn is_word(self) -> bool {
         matches!(self, Slot::Size | Slot::Part)
     }
 
@@ -60,7 +60,7 @@ impl Slot {
     }
 
     /// Whether a word may stand here.
-    pub fn takes(self, word: &[u8]) -> bool {
+    pub(crate) fn takes(self, word: &[u8]) -> bool {
         match self {
             Slot::Size => is_among(word, &SIZES),
             Slot::Part => is_among(word, &PARTS),
@@ -78,7 +78,7 @@ impl Slot {
     }
 
     /// What may stand here, in words.
-    pub fn expected(self, alloc: Global) -> Result<String, Memory> {
+    pub(crate) fn expected(self, alloc: Global) -> Result<String, Memory> {
         let what = match self {
             Slot::Eid => "an endpoint ID",
             Slot::Moment => "a moment in milliseconds",
@@ -101,7 +101,7 @@ impl Slot {
     }
 
     /// What is wrong with a word that may not stand here.
-    pub fn refused(self, alloc: Global, word: &[u8]) -> Result<String, Memory> {
+    pub(crate) fn refused(self, alloc: Global, word: &[u8]) -> Result<String, Memory> {
         let found = quoted(alloc, word)?;
         let expected = self.expected(alloc)?;
         let hint = match self {
@@ -114,7 +114,7 @@ impl Slot {
 }
 
 /// Whether a word is one of these.
-pub fn is_among(word: &[u8], known: &[&str]) -> bool {
+pub(crate) fn is_among(word: &[u8], known: &[&str]) -> bool {
     for name in known {
         if word == name.as_bytes() {
             return true;

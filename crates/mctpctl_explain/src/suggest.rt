@@ -7,7 +7,7 @@ use strsim::damerau_levenshtein;
 
 /// The known word that differs from this one in the fewest letters, and in at most [`MAX_EDITS`]; of
 /// several the first. Letters of another case differ by nothing.
-pub fn similar<'a>(
+pub(crate) fn similar<'a>(
     alloc: Global,
     word: &[u8],
     known: &[&'a str],
@@ -32,7 +32,7 @@ pub fn similar<'a>(
 }
 
 /// What is said after a wrong word: the word that it was meant to be, or nothing.
-pub fn suggestion(alloc: Global, word: &[u8], known: &[&str]) -> Result<String, Memory> {
+pub(crate) fn suggestion(alloc: Global, word: &[u8], known: &[&str]) -> Result<String, Memory> {
     match similar(alloc, word, known)? {
         Some(name) => Ok(format!(in alloc; "; did you mean '{name}'?")?),
         None => Ok(String::new(alloc)),
@@ -40,7 +40,7 @@ pub fn suggestion(alloc: Global, word: &[u8], known: &[&str]) -> Result<String, 
 }
 
 /// Known words as a choice: `'a', 'b' or 'c'`.
-pub fn choice(alloc: Global, known: &[&str]) -> Result<String, Memory> {
+pub(crate) fn choice(alloc: Global, known: &[&str]) -> Result<String, Memory> {
     let mut text = String::new(alloc);
     for (place, name) in known.iter().enumerate() {
         if place > 0 {

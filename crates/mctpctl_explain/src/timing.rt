@@ -18,7 +18,7 @@ struct Numbers {
 
 /// Says what is wrong with the timing of the requester at this endpoint, by its line among these and the
 /// keeping time in milliseconds, where it is known. Lines are numbered on from `lines_before`.
-pub fn explain_timing(
+pub(crate) fn explain_timing(
     alloc: Global,
     lines: &[u8],
     lines_before: u64,

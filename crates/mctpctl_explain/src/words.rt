@@ -5,7 +5,7 @@ use mctp_packet::Memory;
 use std::alloc::Global;
 
 /// The words of a line, given without its LF; none where it is blank or a comment.
-pub fn words_of<'a>(alloc: Global, line: &'a [u8]) -> Result<Vec<&'a [u8]>, Memory> {
+pub(crate) fn words_of<'a>(alloc: Global, line: &'a [u8]) -> Result<Vec<&'a [u8]>, Memory> {
     let mut words = Vec::new(alloc);
     let Some((first, after)) = first_word(line) else {
         return Ok(words);
