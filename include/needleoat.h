@@ -1,6 +1,6 @@
 /*
- * Needleoat for C: MCTP packets (DSP0236) and PLDM messages (DSP0240, DSP0248) read and written, and
- * both ends.
+ * Needleoat for C: MCTP packets (DSP0236) and PLDM messages (DSP0240, DSP0248) read and written, control
+ * messages (DSP0236) answered, and both ends.
  *
  * libneedleoat_wire_c.a has what stands before the section on the two ends. It takes no memory, keeps
  * nothing between two calls, and needs memcpy and memset alone. libneedleoat_c.a has what comes then.
@@ -292,6 +292,41 @@ size_t needleoat_answer_write(const struct needleoat_answer *fields, uint8_t out
  */
 uint8_t needleoat_crc8(const uint8_t *bytes, size_t length);
 
+/* ---- Control messages ----
+ *
+ * A bus owner finds an endpoint by MCTP control messages (DSP0236, message type 0). What answers them stands
+ * beside the answering end of PLDM and keeps nothing: the settings are the caller's, and no message changes
+ * them.
+ */
+
+/*
+ * What a simple endpoint with a static endpoint ID tells a bus owner. A version has four bytes, as on the wire
+ * (DSP0236, "Version field encoding"): 1.3.1 is F1 F3 F1 00.
+ */
+struct needleoat_control {
+    uint8_t eid;                /* its endpoint ID, 8 to 254: the `own` of its answering end. It takes no other */
+    uint8_t uuid[16];           /* its UUID, in the order of RFC 4122 */
+    uint8_t base_version[4];    /* the version of the base specification (DSP0236) that it keeps to */
+    uint8_t control_version[4]; /* the version of the control protocol that it keeps to */
+    uint8_t pldm_version[4];    /* the version of PLDM over MCTP (DSP0241) that it keeps to */
+};
+
+/*
+ * Writes the packet that answers a control message to the front of `out`, and returns its length in bytes, 8 to
+ * 24. Call it where a step of needleoat_endpoint_receive has kind 1, that is where the packet was dropped, with
+ * the `reason` of the step and the bytes of that packet; send what it gives to where the packet came from. Each
+ * control message is one packet. Set Endpoint ID to another endpoint ID is answered, and rejected.
+ *
+ * It returns 0 and leaves `out` as it was where there is no answer: `reason` is neither NEEDLEOAT_NOT_PLDM nor,
+ * of a packet to the null endpoint ID (0), NEEDLEOAT_UNKNOWN_DESTINATION; the packet is no control request to
+ * `eid` or to the null endpoint ID; or `eid` is not 8 to 254.
+ *
+ * With the codecs alone the reason is that of needleoat_packet_read or, where that is 0 and the packet has a
+ * whole message, that of needleoat_request_read.
+ */
+size_t needleoat_control_reply(const struct needleoat_control *fields, uint8_t reason, const uint8_t *packet,
+                               size_t length, uint8_t out[NEEDLEOAT_PACKET_BYTES]);
+
 /* ---- Both ends: libneedleoat_c.a ----
  *
  * An endpoint answers, a requester asks. Each is behind a handle of its own. They need memory: link the
@@ -313,10 +348,11 @@ enum needleoat_refusal {
     NEEDLEOAT_NO_MEMORY = 1,        /* a growth was refused, or a bound would be passed; it may be tried again */
     NEEDLEOAT_BAD_MOMENT = 2,       /* the moment is past the last one, or before that of an earlier call */
     NEEDLEOAT_NOTHING_THERE = 3,    /* there is nothing behind the handle */
-    NEEDLEOAT_OUT_OF_TURN = 4,      /* a command is being performed; of an answer: none is */
+    NEEDLEOAT_OUT_OF_TURN = 4,      /* a command is being performed, and not of this request; of an answer: none is */
     NEEDLEOAT_NOT_ITS_ANSWER = 5,   /* it is the answer to another command */
     NEEDLEOAT_OUT_OF_RANGE = 6,     /* a number is out of its range */
     NEEDLEOAT_ALREADY_THERE = 7,    /* there is something behind the handle */
+    NEEDLEOAT_BEING_PERFORMED = 8,  /* the command of this very request is being performed */
     NEEDLEOAT_TAG_IN_USE = 11,      /* the request 8 before this one is still open */
     NEEDLEOAT_ID_IN_USE = 12,       /* the request 32 before was opened less than twice keep_ms ago */
     NEEDLEOAT_NOT_A_COMMAND = 13    /* the bytes are no request that carries a command */
@@ -327,9 +363,11 @@ enum needleoat_refusal {
  * An endpoint takes packets, has each command performed once, and gives the packets of the answers. A copy
  * of a request gets the kept answer. The device is the caller's: where needleoat_endpoint_receive says that
  * a command is to be performed, the caller performs it, however long that takes, and hands its answer to
- * needleoat_endpoint_answer. Until then each packet is refused (NEEDLEOAT_OUT_OF_TURN): it counts as lost
- * on the bus, and its sender sends it again. An answer is kept from the moment of its packet on, so a
- * device that takes longer than the keeping time may be asked again by a late copy.
+ * needleoat_endpoint_answer. Until then each packet is refused: it counts as lost on the bus, and its sender
+ * sends it again. A packet that alone is a copy of the request, a whole message of its source, instance ID and
+ * bytes, is refused with NEEDLEOAT_BEING_PERFORMED, any other with NEEDLEOAT_OUT_OF_TURN. An answer is kept
+ * from the moment of its packet on, so a device that takes longer than the keeping time may be asked again by
+ * a late copy.
  */
 struct needleoat_endpoint {
     void *at;
@@ -361,10 +399,11 @@ struct needleoat_step {
 };
 
 /*
- * Receives the bytes of a packet that came at a moment: refused with the first of 3, 2, 4 and 1, or one of
+ * Receives the bytes of a packet that came at a moment: refused with the first of 3, 2, 8, 4 and 1, or one of
  * the other kinds. Where a command is to be performed, its fields are in `command`, with the instance ID 0;
  * otherwise `command` is as it was. Where the packet is answered, packet i of the answer is in front of
- * `packets[i]`. It goes to the source of the request. What else is in `packets` has no meaning.
+ * `packets[i]`. It goes to the source of the request. What else is in `packets` has no meaning. Where the packet
+ * was dropped, it may be a control message: hand it on to needleoat_control_reply.
  */
 struct needleoat_step needleoat_endpoint_receive(struct needleoat_endpoint *endpoint, uint64_t now_ms,
                                                  const uint8_t *packet, size_t length,
@@ -568,6 +607,12 @@ NEEDLEOAT_AT(needleoat_answer, commands, 128);
 NEEDLEOAT_AT(needleoat_answer, update_time, 160);
 NEEDLEOAT_AT(needleoat_answer, oem_update_time, 173);
 NEEDLEOAT_AT(needleoat_answer, bytes, 186);
+NEEDLEOAT_ASSERT(sizeof(struct needleoat_control) == 29);
+NEEDLEOAT_AT(needleoat_control, eid, 0);
+NEEDLEOAT_AT(needleoat_control, uuid, 1);
+NEEDLEOAT_AT(needleoat_control, base_version, 17);
+NEEDLEOAT_AT(needleoat_control, control_version, 21);
+NEEDLEOAT_AT(needleoat_control, pldm_version, 25);
 NEEDLEOAT_ASSERT(sizeof(struct needleoat_endpoint) == 16);
 NEEDLEOAT_AT(needleoat_endpoint, at, 0);
 NEEDLEOAT_AT(needleoat_endpoint, is_live, 8);

@@ -1,7 +1,6 @@
 //! Records fetched in parts.
 
 use crate::platforms::{answer, example};
-use mctp_packet::Memory;
 use memory_hoard::Hoard;
 use pldm_device::{Fetch, FetchFault, FetchState, Platform, RECORD_HEADER};
 use pldm_wire::{Answer, Command, RecordPart, TransferFlag};
@@ -39,7 +38,7 @@ fn part(flag: TransferFlag, next: u32, bytes: &[u8], checksum: Option<u8>) -> Op
 /// The first answer of the example device to a fetch.
 fn first_answer(alloc: Global, fetch: &Fetch) -> Result<Answer, Fail> {
     let mut device = example(alloc)?;
-    Ok(device.perform(alloc, &fetch.next().ok_or(Memory)?)?)
+    Ok(device.perform(alloc, &fetch.next().ok_or("no request")?)?)
 }
 
 /// A record that came whole is kept, and no further answer is taken.
@@ -89,7 +88,7 @@ fn take_bytes(rt: &impl Abort, fetch: &mut Fetch, record: [u8; 300]) -> Result<(
             299 => (TransferFlag::StartAndEnd, FetchState::Done(0)),
             _ => (TransferFlag::Middle, FetchState::More),
         };
-        let one = part(flag, place.saturating_add(1), &[byte], None).ok_or(Memory)?;
+        let one = part(flag, place.saturating_add(1), &[byte], None).ok_or("no part")?;
         assert_eq!(rt; fetch.take(&one), Ok(state), "at {place}");
     }
     Ok(())
@@ -111,8 +110,8 @@ fn a_changed_record_is_fetched_byte_by_byte(rt: HostRuntime) -> Result<(), Fail>
 fn a_wrong_checksum_ends_a_fetch(rt: HostRuntime) -> Result<(), Fail> {
     let record = record();
     let (before, after) = record.split_at(239);
-    let first = part(TransferFlag::Start, 239, before, None).ok_or(Memory)?;
-    let last = part(TransferFlag::End, 0, after, Some(0xf4)).ok_or(Memory)?;
+    let first = part(TransferFlag::Start, 239, before, None).ok_or("no part")?;
+    let last = part(TransferFlag::End, 0, after, Some(0xf4)).ok_or("no part")?;
     let mut fetch = Fetch::new(rt.alloc(), 1);
     assert_eq!(rt; fetch.take(&first), Ok(FetchState::More));
     assert_eq!(rt; fetch.take(&last), Err(FetchFault::Crc));
@@ -145,11 +144,11 @@ fn answers_that_a_fetch_does_not_take(rt: HostRuntime) -> Result<(), Fail> {
     assert_eq!(rt; fetch.next(), request(1, 0));
     let refused = answer(alloc, &Command::GetTid, "0100000282")?;
     let Answer::Refused(code) = refused else {
-        return Err(Fail::from(Memory));
+        return Err(Fail::from("no refusal"));
     };
     assert_eq!(rt; fetch.take(&refused), Err(FetchFault::Refused(code)));
     assert_eq!(rt; fetch.take(&other), Err(FetchFault::Refused(code)));
-    let empty = part(TransferFlag::Start, 0, &[], None).ok_or(Memory)?;
+    let empty = part(TransferFlag::Start, 0, &[], None).ok_or("no part")?;
     let mut fetch = Fetch::new(alloc, 1);
     assert_eq!(rt; fetch.take(&empty), Err(FetchFault::Count));
     assert_eq!(rt; fetch.take(&other), Err(FetchFault::Count));
@@ -159,7 +158,7 @@ fn answers_that_a_fetch_does_not_take(rt: HostRuntime) -> Result<(), Fail> {
 #[test]
 fn a_record_of_another_handle_is_not_taken(rt: HostRuntime) -> Result<(), Fail> {
     let whole = hex::decode(rt.alloc(), "01000000010100000000")?;
-    let whole = part(TransferFlag::StartAndEnd, 0, &whole, None).ok_or(Memory)?;
+    let whole = part(TransferFlag::StartAndEnd, 0, &whole, None).ok_or("no part")?;
     expect_first(&rt, rt.alloc(), 2, &whole, Err(FetchFault::Handle));
     for handle in [0, 1] {
         expect_first(&rt, rt.alloc(), handle, &whole, Ok(FetchState::Done(0)));
@@ -185,7 +184,7 @@ fn take_at_last(
     for refusals in 0..MAX_REFUSALS {
         assert_eq!(rt; fetch.next(), asked);
         let taken = fetch.take(answer);
-        if taken != Err(FetchFault::Memory) {
+        if !matches!(taken, Err(FetchFault::Memory(_))) {
             assert!(rt; refusals > 0, "{asked:?}");
             return Ok(taken?);
         }
@@ -202,8 +201,8 @@ fn take_parts(
     record: &[u8; 300],
 ) -> Result<(), Fail> {
     let (before, after) = record.split_at(239);
-    let first = part(TransferFlag::Start, 239, before, None).ok_or(Memory)?;
-    let last = part(TransferFlag::StartAndEnd, 0, after, None).ok_or(Memory)?;
+    let first = part(TransferFlag::Start, 239, before, None).ok_or("no part")?;
+    let last = part(TransferFlag::StartAndEnd, 0, after, None).ok_or("no part")?;
     let mut hoard = Hoard::take(alloc, 0)?;
     let state = take_at_last(rt, &mut hoard, fetch, &first, request(1, 0))?;
     assert_eq!(rt; state, FetchState::More);

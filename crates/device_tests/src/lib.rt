@@ -2,6 +2,8 @@
 #![tactic(auto)]
 
 #[cfg(test)]
+mod control_tables;
+#[cfg(test)]
 mod faults;
 #[cfg(test)]
 mod fetch;

@@ -21,7 +21,12 @@ fn read_at_last(rt: &impl Abort, alloc: Global, text: &str) -> Result<Descriptio
                 assert!(rt; refusals > 100, "{refusals} refusals");
                 return Ok(read);
             }
-            Err(fault) => assert_eq!(rt; fault, FileFault::Memory, "after {refusals}"),
+            Err(fault) => {
+                assert!(rt;
+                    matches!(fault, FileFault::Memory(_)),
+                    "{fault} after {refusals}"
+                );
+            }
         }
         hoard.give(STEP);
     }

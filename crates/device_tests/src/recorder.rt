@@ -59,9 +59,7 @@ impl Platform for Recorder {
     fn perform(&mut self, _alloc: Global, command: &Command) -> Result<Answer, Memory> {
         match command {
             Command::SetTid { tid } => {
-                if self.tids.push(*tid).is_err() {
-                    return Err(Memory);
-                }
+                self.tids.push(*tid)?;
                 Ok(Answer::SetTid)
             }
             Command::GetTid => {

@@ -57,6 +57,8 @@ fn a_copy_gets_the_answer_that_the_device_gave(rt: HostRuntime) -> Result<(), Fa
     assert!(rt; matches!(&step, Ok(Step::Perform)));
     assert!(rt; matches!(endpoint.command(), Some(Command::GetTid)));
     let refused = receive(&rt, &mut endpoint, 1, &GET_TID)?;
+    assert!(rt; matches!(&refused, Err(ReceiveRefusal::BeingPerformed)));
+    let refused = receive(&rt, &mut endpoint, 1, &GET_TID_OF_ANOTHER)?;
     assert!(rt; matches!(&refused, Err(ReceiveRefusal::Performing)));
     let wrong = endpoint.answer(&Answer::SetTid);
     assert!(rt; matches!(&wrong, Err(AnswerRefusal::OtherCommand)));
@@ -75,7 +77,7 @@ fn a_second_source_is_refused_until_a_restart(rt: HostRuntime) -> Result<(), Fai
     let outcome = endpoint.answer(&Answer::Refused(Code::ERROR));
     assert!(rt; outcome.is_ok());
     let refused = receive(&rt, &mut endpoint, 1, &GET_TID_OF_ANOTHER)?;
-    assert!(rt; matches!(&refused, Err(ReceiveRefusal::Memory)));
+    assert!(rt; matches!(&refused, Err(ReceiveRefusal::Memory(_))));
     let now = Moment::new(5).ok_or("no moment")?;
     let last = endpoint.last_moment();
     assert!(rt; last <= now);

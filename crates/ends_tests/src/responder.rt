@@ -5,7 +5,7 @@ use memory_hoard::Hoard;
 use pldm_device::{Description, Platform, ReadingFault, SimDevice};
 use pldm_responder::{Outcome, Responder};
 use pldm_wire::INSTANCE_IDS;
-use std::alloc::Global;
+use std::alloc::{AllocError, Global};
 use std::process::Abort;
 use std::test::Fail;
 
@@ -240,7 +240,10 @@ fn copies_and_drops(
     let reason = dropped(rt, light, 1000, &[0x01, 0x09, 0x08])?;
     let part = dropped(rt, light, 1001, START)?;
     drop(hoard);
-    assert_eq!(rt; (reason, part), (Ok(Some(Reason::Short)), Err(Memory)));
+    assert_eq!(rt;
+        (reason, part),
+        (Ok(Some(Reason::Short)), Err(Memory::from(AllocError)))
+    );
     Ok(())
 }
 
@@ -365,7 +368,7 @@ fn fill_a_row(rt: &impl Abort, alloc: Global, light: &mut Responder<Dimmer>) -> 
     }
     let other = dropped(rt, light, 0, &get_tid_from(10, 0))?;
     drop(hoard);
-    assert_eq!(rt; other, Err(Memory));
+    assert_eq!(rt; other, Err(Memory::from(AllocError)));
     Ok(())
 }
 

@@ -4,6 +4,7 @@ use mctp_packet::Eid;
 use mctpctl_engines::{DescriptionFault, EngineFault, LineKind, fault_line, status_of};
 use pldm_device::FileFault;
 use pldm_requester::TimingFault;
+use std::alloc::AllocError;
 use std::test::Fail;
 
 #[test]
@@ -42,7 +43,7 @@ fn tells_each_fault(rt: HostRuntime) -> Result<(), Fail> {
         (EngineFault::TooLarge, "input too large", 1),
         (EngineFault::Read, "read fault", 3),
         (EngineFault::Write, "write fault", 3),
-        (EngineFault::Memory, "out of memory", 3),
+        (AllocError.into(), "out of memory", 3),
     ];
     for (fault, text, status) in rows {
         let line = fault_line(rt.alloc(), &fault)?;

@@ -4,7 +4,7 @@ use crate::engines::{Engine, RUNS, is_front};
 use crate::fakes::OneByteWriter;
 use mctpctl_engines::{EngineFault, Port};
 use memory_hoard::Hoard;
-use std::alloc::Global;
+use std::alloc::{AllocError, Global};
 use std::process::Abort;
 use std::test::Fail;
 
@@ -52,7 +52,7 @@ pub fn refuse_each_growth(
             assert!(rt; refusals > 100, "{refusals} refusals");
             return Ok(());
         }
-        assert_eq!(rt; result, Err(EngineFault::Memory), "after {refusals}");
+        assert_eq!(rt; result, Err(AllocError.into()), "after {refusals}");
         let is_empty = writer.taken.is_empty();
         assert!(rt; is_front(&writer.taken, text) && (is_empty || !engine.waits()));
         writer.taken.clear();

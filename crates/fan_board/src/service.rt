@@ -9,7 +9,7 @@ ghost use Rattle.fan_board.specs.Served.{IsServed};
 
 use crate::board::Board;
 use mctp_packet::{Memory, Moment};
-use pldm_endpoint::{Endpoint, Step};
+use pldm_endpoint::{Endpoint, ReceiveRefusal, Step};
 use pldm_responder::Outcome;
 
 /// Gives a packet to the endpoint, and has the board perform the command that it asks for, if any. Here the board
@@ -45,6 +45,7 @@ pub fn serve(
             }
             None => unreachable!(),
         },
-        Err(_) => Err(Memory),
+        Err(ReceiveRefusal::Memory(memory)) => Err(memory),
+        Err(ReceiveRefusal::Performing | ReceiveRefusal::BeingPerformed) => unreachable!(),
     }
 }

@@ -5,7 +5,7 @@ use mctp_packet::{Eid, Keep};
 use mctp_schedule::{LineFaultKind, RunFault, Schedule, Setup, run};
 use pldm_device::{Description, SimDevice};
 use pldm_requester::TimingFault;
-use std::alloc::Global;
+use std::alloc::{AllocError, Global};
 use std::test::Fail;
 
 /// The example device at endpoint 9, with a keeping time of a second.
@@ -214,7 +214,9 @@ fn refused_requesters_are_told(rt: HostRuntime) -> Result<(), Fail> {
     let text = "the timing of a requester was refused: the tries take longer than the keeping time";
     assert_eq!(rt; late.to_string(rt.alloc())?.as_str(), text);
     assert_eq!(rt;
-        RunFault::Memory.to_string(rt.alloc())?.as_str(),
+        RunFault::Memory(AllocError.into())
+            .to_string(rt.alloc())?
+            .as_str(),
         "out of memory"
     );
     let twice = b"requester 8 timeout 200 tries 3\nrequester 8 timeout 200 tries 3".as_slice();

@@ -22,7 +22,7 @@ impl Key {
         ensures range { IsKey result }
     {
         let route = packet.route();
-        let _ranges = (route.source.get(), route.tag.get());
+        let _ranges = (route.source.get(), route.tag.get()); // for the proof: an endpoint ID and a tag
         Key {
             source: route.source,
             tag: route.tag,

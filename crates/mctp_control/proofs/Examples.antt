@@ -1,6 +1,8 @@
 -- What an endpoint answers to a bus owner, computed from the definitions: endpoint ID 9, asked by endpoint 8.
 use Rattle.std.proofs.Common.{◌≡◌, ℕ, List, [], ◌∷◌, Some, None, false, true, Bool, refl}
+use Rattle.mctp_packet.specs.declared.reason.Reason.TheVariants.{BadSource, NotPldm, UnknownDestination}
 use Rattle.mctp_control.specs.CommandReading.{command_of}
+use Rattle.mctp_control.specs.Dropped.{is_handed_on}
 use Rattle.mctp_control.specs.Messages.{request_of}
 use Rattle.mctp_control.specs.Packets.{eid_left, reply_to}
 use Rattle.mctp_control.specs.declared.endpoint.Endpoint.{Endpoint}
@@ -77,3 +79,17 @@ response = refl
 pldm : reply_to (nine false) (1 ∷ 9 ∷ 8 ∷ 200 ∷ 1 ∷ 128 ∷ 0 ∷ 2 ∷ []) ≡ None
 unfolding request_of command_of
 pldm = refl
+
+-- which packets are handed on that the responder dropped
+
+by_physical_address : is_handed_on UnknownDestination (1 ∷ 0 ∷ 8 ∷ 200 ∷ 0 ∷ 128 ∷ 2 ∷ []) ≡ true
+by_physical_address = refl
+
+to_another_endpoint : is_handed_on UnknownDestination (1 ∷ 10 ∷ 8 ∷ 200 ∷ 0 ∷ 128 ∷ 2 ∷ []) ≡ false
+to_another_endpoint = refl
+
+of_another_type : is_handed_on NotPldm (1 ∷ 9 ∷ 8 ∷ 200 ∷ 0 ∷ 128 ∷ 2 ∷ []) ≡ true
+of_another_type = refl
+
+of_no_source : is_handed_on BadSource (1 ∷ 0 ∷ 255 ∷ 200 ∷ 0 ∷ 128 ∷ 2 ∷ []) ≡ false
+of_no_source = refl

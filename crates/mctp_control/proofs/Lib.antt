@@ -1,5 +1,7 @@
 pub mod Cells
+pub mod DroppedReplies
 pub mod Examples
+pub mod Numbers
 pub mod ReadAnswers
 pub mod ReadCommands
 pub mod ReadMessages

@@ -1,5 +1,5 @@
--- The answers, one row each: to which command it is, its completion code, and the bytes of its data (DSP0236, the tables
--- of the commands).
+-- The answers, one row each: to which command it is, its completion code, and the bytes of its data (DSP0236, the
+-- tables of the commands).
 use Rattle.std.specs.Prelude.{◌≡◌, ℕ, ◌+◌, ◌*◌, ◌<◌, ◌/◌, ◌%◌, ◌==◌, List, [], ◌∷◌, length}
 use Rattle.std.specs.Prelude.{Option, None, Some, if◌then◌else◌}
 use Rattle.mctp_control.specs.Codes.{IsCode}
@@ -44,7 +44,8 @@ eid_kind_code StaticNotNow = 3
 -- bits 1:0
 abbrev pub eid_kind_of : ℕ → EidKind
 eid_kind_of byte =
-    if byte % 4 == 0 then Dynamic else if byte % 4 == 1 then Static else if byte % 4 == 2 then StaticNow else StaticNotNow
+    if byte % 4 == 0 then Dynamic else if byte % 4 == 1 then Static
+    else if byte % 4 == 2 then StaticNow else StaticNotNow
 
 -- two fields of two bits in a byte, in bits 5:4 and 1:0, with any reserved bits between
 abbrev pub HasTwoFields : ℕ → ℕ → ℕ → Type 0
@@ -64,8 +65,8 @@ abbrev pub code_of : Answer → ℕ
 code_of (Refused code) = code
 code_of _ = SUCCESS
 
--- the answer's fields stand in these bytes; reserved bits may be any, and so the bytes after a refusal. Set Endpoint ID has its status, where no pool is
--- said in bits 1:0, the endpoint ID and the size of the pool, 0.
+-- the answer's fields stand in these bytes; reserved bits may be any, and so may the bytes after a refusal. Set Endpoint
+-- ID has its status, where bits 1:0 say that there is no pool, the endpoint ID, and the size of the pool, 0.
 abbrev pub HasData : Answer → List ℕ → Type 0
 HasData (Refused code) bytes = IsCode code
 HasData (EndpointIdSet assignment eid) bytes =

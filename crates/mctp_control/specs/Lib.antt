@@ -3,6 +3,7 @@ pub mod Answers
 pub mod Codes
 pub mod CommandReading
 pub mod Commands
+pub mod Dropped
 pub mod Laws
 pub mod Lists
 pub mod Messages

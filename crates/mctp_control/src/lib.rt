@@ -10,6 +10,7 @@ mod code;
 mod command;
 mod command_reading;
 mod command_writing;
+mod dropped;
 mod endpoint;
 pub mod laws;
 mod message;

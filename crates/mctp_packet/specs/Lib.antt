@@ -9,3 +9,4 @@ pub mod Passing
 pub mod Pieces
 pub mod SplitFaults
 pub mod Laws
+pub mod Memories

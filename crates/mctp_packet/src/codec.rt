@@ -26,7 +26,7 @@ pub fn read_for(own: Eid, bytes: &[u8]) -> Result<PacketRef<'_>, Reason>
     ensures refused { IfErr result (λ reason. refusal (Some own) bytes.now ≡ Some reason) }
     ensures answer { result ≡ reading (Some own) bytes.now }
 {
-    let _range = own.get();
+    let _range = own.get(); // for the proof: an endpoint ID
     read_at(Some(own), bytes)
 }
 

@@ -1,19 +1,38 @@
+ghost use Rattle.std.specs.Prelude.{◌≡◌, ◌≤◌};
+ghost use Rattle.mctp_packet.specs.Memories.{out_of_memory};
+
 use std::alloc::{AllocError, AllocFailed};
 use thiserror::Error;
 
-/// No memory was to be had: a growth was refused.
+/// No memory was to be had: a growth was refused, or a value holds as much as it may.
+///
+/// It is made from what the allocator refused, by `?` or `From`, or at a limit, by
+/// [`Memory::at_limit`].
 #[derive(Clone, Copy, Debug, PartialEq, Eq, Error)]
 #[error("out of memory")]
-pub struct Memory;
+pub struct Memory(());
+
+impl Memory {
+    /// No room in a value that holds `count` where it may hold `limit`.
+    pub fn at_limit(count: usize, limit: usize) -> Memory
+        requires { limit ≤ count }
+    {
+        Memory(())
+    }
+}
 
 impl From<AllocError> for Memory {
+    ghost from_gives = { λ _ e. e ≡ out_of_memory };
+
     fn from(_error: AllocError) -> Memory {
-        Memory
+        Memory(())
     }
 }
 
 impl<T: Drop> From<AllocFailed<T>> for Memory {
+    ghost from_gives = { λ _ e. e ≡ out_of_memory };
+
     fn from(_failed: AllocFailed<T>) -> Memory {
-        Memory
+        Memory(())
     }
 }

@@ -9,7 +9,7 @@ use Rattle.mctp_schedule.specs.declared.run_fault.RunFault.TheVariants.{Timing, 
 
 abbrev pub number_of_run_fault : RunFault → ℕ
 number_of_run_fault (Timing requester fault) = 1
-number_of_run_fault Memory = 2
+number_of_run_fault (Memory memory) = 2
 
 abbrev pub refusal_of : ℕ → Option TimingFault → Option RunFault → Option RunFault
 refusal_of requester None later = later

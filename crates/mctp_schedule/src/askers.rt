@@ -95,7 +95,7 @@ impl Asker {
         pldm_wire::laws::messages_fit();
         let opened = match self.requester.open(now, command) {
             Ok(opened) => opened,
-            Err(OpenFault::Memory) => return Err(Memory),
+            Err(OpenFault::Memory(memory)) => return Err(memory),
             Err(fault) => return Ok(Err(fault)),
         };
         let packet = self.packet(opened.number);

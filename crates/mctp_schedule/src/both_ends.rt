@@ -1,6 +1,7 @@
 //! Both ends over a schedule.
 
 ghost use Rattle.std.specs.Prelude.{◌≡◌, ◌⊎◌, [], true, None, Some, IfOk, IfErr, OnOk};
+ghost use Rattle.mctp_packet.specs.Memories.{out_of_memory};
 ghost use Rattle.pldm_responder.specs.Performing.{rules_of};
 ghost use Rattle.mctp_schedule.specs.Reports.{IsReport};
 ghost use Rattle.mctp_schedule.specs.RunFaults.{refusal};
@@ -67,7 +68,7 @@ pub fn run<P: Platform>(
     schedule: &Schedule,
 ) -> Result<Report<P>, RunFault>
     ensures ok { IfOk result (λ report. refusal setup.eid setup.keep schedule.now.requesters ≡ None) }
-    ensures err { IfErr result (λ fault. (fault ≡ RunFault.Memory) ⊎ (refusal setup.eid setup.keep
+    ensures err { IfErr result (λ fault. (fault ≡ RunFault.Memory out_of_memory) ⊎ (refusal setup.eid setup.keep
         schedule.now.requesters ≡ Some fault)) }
     ensures report { IfOk result (λ report. IsReport
         (setting_of_run (rules_of P.answer P.after P.sensed) (P.state setup.device) setup.eid setup.keep schedule.now)
@@ -87,7 +88,7 @@ pub fn run<P: Platform>(
     logs_are_timely::<P>();
     requesters_take_the_one_reply::<P>();
     let Setup { eid, keep, device } = setup;
-    let _range = eid.get();
+    let _range = eid.get(); // for the proof: an endpoint ID
     let mut ends = Ends {
         alloc,
         keep,
@@ -97,9 +98,7 @@ pub fn run<P: Platform>(
         reply: Body::new(),
     };
     for step in schedule.steps() {
-        let Ok(()) = ends.take(step) else {
-            return Err(RunFault::Memory);
-        };
+        ends.take(step)?;
     }
     let Ends {
         responder,

@@ -1,6 +1,7 @@
 //! Where the requesters of a run stand.
 
 ghost use Rattle.std.specs.Prelude.{◌≡◌, ◌⊎◌, ◌+◌, ◌∷◌, [], None, Some, IfOk, IfErr, length};
+ghost use Rattle.mctp_packet.specs.Memories.{out_of_memory};
 ghost use Rattle.pldm_requester.specs.Slots.{held_of};
 ghost use Rattle.pldm_requester.specs.Steps.{IsHeld, held_at_first};
 ghost use Rattle.pldm_requester.specs.Timings.{timing_fault};
@@ -33,11 +34,9 @@ pub(crate) fn begin_requesters(
     requires { AreDistinct lines.now }
     ensures ok { IfOk result (λ places. refusal device keep lines.now ≡ None) }
     ensures begin { IfOk result (λ places. BeginEach device keep lines.now places.items) }
-    ensures err { IfErr result (λ fault. (fault ≡ RunFault.Memory) ⊎ (refusal device keep lines.now ≡ Some fault)) }
+    ensures err { IfErr result (λ fault. (fault ≡ RunFault.Memory out_of_memory) ⊎ (refusal device keep lines.now ≡ Some fault)) }
 {
-    let Ok(mut places) = empty_places(alloc) else {
-        return Err(RunFault::Memory);
-    };
+    let mut places = empty_places(alloc)?;
     for line in lines {
         let requester = begin_requester(alloc, device, keep, line)?;
         places[usize::from(line.eid.get())] = Some(Asker::new(alloc, requester));

@@ -1,7 +1,7 @@
 ghost use Rattle.std.specs.Prelude.{◌≡◌};
 ghost use Rattle.mctp_schedule.specs.RunFaults.{number_of_run_fault};
 
-use mctp_packet::Eid;
+use mctp_packet::{Eid, Memory};
 use pldm_requester::TimingFault;
 use thiserror::Error;
 
@@ -13,7 +13,7 @@ pub enum RunFault {
     Timing(Eid, TimingFault),
     /// No memory was left.
     #[error("out of memory")]
-    Memory,
+    Memory(Memory),
 }
 
 impl RunFault {
@@ -23,7 +23,17 @@ impl RunFault {
     {
         match self {
             RunFault::Timing(..) => 1,
-            RunFault::Memory => 2,
+            RunFault::Memory(_) => 2,
         }
+    }
+}
+
+impl From<Memory> for RunFault {
+    ghost use Rattle.mctp_schedule.specs.declared.run_fault.RunFault.TheVariants as faults;
+
+    ghost from_gives = { λ memory fault. fault ≡ faults.Memory memory };
+
+    fn from(memory: Memory) -> RunFault {
+        RunFault::Memory(memory)
     }
 }

@@ -1,16 +1,18 @@
 -- What command lines that are written out ask for.
-use Rattle.std.proofs.Common.{◌≡◌, [], ◌∷◌, Bool, true, false, codes, None, Some, refl}
+use Rattle.std.proofs.Common.{◌≡◌, ℕ, List, [], ◌∷◌, Bool, true, false, codes, Option, None, Some, refl}
 use Rattle.clap.proofs.OnLiterals.{clap_on_literals}
 use Rattle.clap.specs.Words.{fault_of}
-use Rattle.clap.specs.declared.error.kind.ErrorKind.TheVariants.{DisplayHelp, MissingSubcommand}
+use Rattle.clap.specs.declared.error.kind.ErrorKind.TheVariants.{ArgumentConflict, DisplayHelp, MissingRequiredArgument, MissingSubcommand}
 use Rattle.mctpctl.specs.Choice.{command as the_command}
-use Rattle.mctpctl.specs.Choice.{choice_of}
-use Rattle.mctpctl.specs.declared.choose.Choice.{Choice}
+use Rattle.mctpctl.specs.Choice.{choice_of, Asked, to_perform, to_serve}
 use Rattle.mctpctl.specs.declared.choose.Task.{Task}
 use Rattle.mctpctl.specs.declared.choose.Task.TheVariants.{Answer, Run, Show}
 
-abbrev asks : Task → Bool → Bool → Choice
-asks task explain decode = record { task = task; explain = explain; decode = decode }
+abbrev asks : Task → Bool → Bool → Asked
+asks task explain decode = to_perform (record { task = task; explain = explain; decode = decode })
+
+abbrev serves : List ℕ → Option (List ℕ) → Bool → Asked
+serves device log verbose = to_serve (record { device = device; log = log; verbose = verbose })
 
 answer : choice_of (codes "mctpctl" ∷ codes "answer" ∷ []) ≡ Some (asks Answer false false)
 unfolding clap_on_literals
@@ -60,3 +62,34 @@ both_flags = refl
 not_decoded : choice_of (codes "mctpctl" ∷ codes "answer" ∷ codes "--decode" ∷ []) ≡ None
 unfolding clap_on_literals
 not_decoded = refl
+
+serve : choice_of (codes "mctpctl" ∷ codes "serve" ∷ codes "--device" ∷ codes "fan.toml" ∷ [])
+    ≡ Some (serves (codes "fan.toml") None false)
+unfolding clap_on_literals
+serve = refl
+
+served_with_all :
+    choice_of (codes "mctpctl" ∷ codes "serve" ∷ codes "--verbose" ∷ codes "--log=line" ∷ codes "--device=fan.toml" ∷ [])
+    ≡ Some (serves (codes "fan.toml") (Some (codes "line")) true)
+unfolding clap_on_literals
+served_with_all = refl
+
+no_device : choice_of (codes "mctpctl" ∷ codes "serve" ∷ []) ≡ None
+unfolding clap_on_literals
+no_device = refl
+
+missing_device : fault_of the_command (codes "mctpctl" ∷ codes "serve" ∷ []) ≡ MissingRequiredArgument ∷ []
+unfolding clap_on_literals
+missing_device = refl
+
+two_devices :
+    fault_of the_command
+    (codes "mctpctl" ∷ codes "serve" ∷ codes "--device" ∷ codes "a" ∷ codes "--device" ∷ codes "b" ∷ [])
+    ≡ ArgumentConflict ∷ []
+unfolding clap_on_literals
+two_devices = refl
+
+-- a line is not explained
+not_explained : choice_of (codes "mctpctl" ∷ codes "serve" ∷ codes "--device" ∷ codes "a" ∷ codes "--explain" ∷ []) ≡ None
+unfolding clap_on_literals
+not_explained = refl

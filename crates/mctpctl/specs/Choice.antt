@@ -4,12 +4,15 @@ use Rattle.std.specs.Prelude.{◌≡◌, ◌≢◌, ◌==◌, ◌⊎◌, ℕ, Bo
 use Rattle.std.specs.Prelude.{List, [], ◌∷◌, length, codes, bytes_eq, Option, None, Some, option_and_then, option_map}
 use Rattle.clap.specs.Words.{App, new_app, with_subcommand, fault_of, subcommand_of, IsAmong}
 use Rattle.clap.specs.Words.{Row, Rule, first_of, new_rule, with_rule}
-use Rattle.clap.specs.declared.builder.action.ArgAction.TheVariants.{SetTrue}
+use Rattle.clap.specs.declared.builder.action.ArgAction.TheVariants.{Set, SetTrue}
 use Rattle.clap.specs.declared.builder.command.Command.{Command}
 use Rattle.clap.specs.declared.builder.command.Command.TheViews.{out-Command}
 use Rattle.clap.specs.declared.error.kind.ErrorKind.{ErrorKind}
 use Rattle.clap.specs.declared.error.kind.ErrorKind.TheVariants.{DisplayHelp, DisplayVersion, OutOfMemory}
 use Rattle.mctpctl.specs.declared.choose.Choice.{Choice}
+use Rattle.mctpctl.specs.declared.choose.Choice.TheVariants as choice
+use Rattle.mctpctl.specs.declared.choose.Service.{Service}
+use Rattle.mctpctl.specs.declared.choose.TextTask.{TextTask}
 use Rattle.mctpctl.specs.declared.choose.Task.{Task}
 use Rattle.mctpctl.specs.declared.choose.Task.TheVariants.{Answer, Run, Show}
 use Rattle.mctpctl.specs.declared.choose.ChooseFault.{ChooseFault}
@@ -27,18 +30,31 @@ has_globals command = (out-Command command).has_globals
 abbrev pub flag : List ℕ → Rule
 flag name = record (new_rule name) { long = Some name; action = Some SetTrue }
 
--- a subcommand of this name, which may be asked to explain the faults of its input
-abbrev pub subcommand : List ℕ → App
-subcommand name = with_rule (new_app name) (flag (codes "explain"))
+-- an option of this name, as `--log FILE`, whose value names a file
+abbrev pub file_option : List ℕ → Rule
+file_option name = record (new_rule name) { long = Some name; action = Some Set; value_names = 1 }
 
--- the subcommands that simulate a device
+-- a subcommand of this name, which may be asked to explain the faults of its input
+abbrev pub text_subcommand : List ℕ → App
+text_subcommand name = with_rule (new_app name) (flag (codes "explain"))
+
+-- `serve` requires the file of a description
+abbrev pub serve_subcommand : App
+serve_subcommand =
+    with_rule (with_rule (with_rule (new_app (codes "serve")) (record (file_option (codes "device")) { required = true }))
+    (file_option (codes "log"))) (flag (codes "verbose"))
+
+-- the subcommands that simulate a device over a text
 abbrev pub device_command : App
 device_command =
-    with_subcommand (with_subcommand program (subcommand (codes "answer")).top) (subcommand (codes "run")).top
+    with_subcommand (with_subcommand program (text_subcommand (codes "answer")).top) (text_subcommand (codes "run")).top
 
 -- `show` may also be asked to decode messages
+abbrev pub text_command : App
+text_command = with_subcommand device_command (with_rule (text_subcommand (codes "show")) (flag (codes "decode"))).top
+
 abbrev pub command : App
-command = with_subcommand device_command (with_rule (subcommand (codes "show")) (flag (codes "decode"))).top
+command = with_subcommand text_command serve_subcommand.top
 
 -- whether `clap` takes the words, of which the first is the program's name
 abbrev pub takes_line : List (List ℕ) → Bool
@@ -55,9 +71,40 @@ task_named name =
 abbrev pub is_given : List ℕ → List Row → Bool
 is_given name rows = option_map_or (λ text. bytes_eq text (codes "true")) (first_of name rows) false
 
--- what is asked for by a subcommand's name and what was found of its arguments
-abbrev pub choice_in : List ℕ × List Row → Option Choice
-choice_in found =
+-- a device that is served: the names of its files, and whether drops are named
+pub record Served : Type 0 where
+  pub device : List ℕ
+  pub log : Option (List ℕ)
+  pub verbose : Bool
+
+-- what a command line may ask for
+pub data Asked : Type 0 where
+  to_perform : TextTask → Asked
+  to_serve : Served → Asked
+
+-- what a value of the code asks for
+abbrev pub served : Service → Served
+served service =
+    record { device = service.device.now; log = option_map (λ file. file.now) service.log; verbose = service.verbose }
+
+abbrev pub asked : Choice → Asked
+asked (choice.Text task) = to_perform task
+asked (choice.Serve service) = to_serve (served service)
+
+-- what is asked for by what was found of the arguments of `serve`
+abbrev pub service_in : List Row → Option Served
+service_in rows =
+    option_map
+    (λ device. record {
+      device = device;
+      log = first_of (codes "log") rows;
+      verbose = is_given (codes "verbose") rows;
+    })
+    (first_of (codes "device") rows)
+
+-- what is asked for by the name of another subcommand and what was found of its arguments
+abbrev pub text_task_in : List ℕ × List Row → Option TextTask
+text_task_in found =
     option_map
     (λ task. record {
       task = task;
@@ -66,8 +113,14 @@ choice_in found =
     })
     (task_named found.0)
 
+-- what is asked for by a subcommand's name and what was found of its arguments
+abbrev pub choice_in : List ℕ × List Row → Option Asked
+choice_in found =
+    if bytes_eq found.0 (codes "serve") then option_map to_serve (service_in found.1)
+    else option_map to_perform (text_task_in found)
+
 -- what a line that is taken asks for
-abbrev pub choice_of : List (List ℕ) → Option Choice
+abbrev pub choice_of : List (List ℕ) → Option Asked
 choice_of words = if takes_line words then option_and_then choice_in (subcommand_of command words) else None
 
 -- what a refusal says of the line: that it names no task, and whether help or the version was asked for; a call may
@@ -77,10 +130,10 @@ TellsRefusal words (Help text) = (choice_of words ≡ None)
     × (IsAmong DisplayHelp (fault_of command words) ⊎ IsAmong DisplayVersion (fault_of command words))
 TellsRefusal words (Refused text) = (choice_of words ≡ None)
     × (fault_of command words ≢ DisplayHelp ∷ []) × (fault_of command words ≢ DisplayVersion ∷ [])
-TellsRefusal words Memory = Unit {0}
+TellsRefusal words (Memory refused) = Unit {0}
 
 -- what a refusal says of the kind of `clap`'s error
 abbrev pub TellsKind : ErrorKind → ChooseFault → Type 0
 TellsKind kind (Help text) = (kind ≡ DisplayHelp) ⊎ (kind ≡ DisplayVersion)
 TellsKind kind (Refused text) = (kind ≢ DisplayHelp) × (kind ≢ DisplayVersion) × (kind ≢ OutOfMemory)
-TellsKind kind Memory = Unit {0}
+TellsKind kind (Memory refused) = Unit {0}

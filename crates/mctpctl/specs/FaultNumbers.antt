@@ -6,4 +6,4 @@ use Rattle.mctpctl.specs.declared.choose.ChooseFault.TheVariants.{Help, Refused,
 abbrev pub number_of_choose_fault : ChooseFault → ℕ
 number_of_choose_fault (Help text) = 1
 number_of_choose_fault (Refused text) = 2
-number_of_choose_fault Memory = 3
+number_of_choose_fault (Memory refused) = 3

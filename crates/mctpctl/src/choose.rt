@@ -1,17 +1,30 @@
 //! The command line.
 
-ghost use Rattle.std.specs.Prelude.{◌≡◌, IfOk, IfErr, Some, false, map, option_and_then};
-ghost use Rattle.clap.specs.Words.{app_of, found_of, kind_of, rows_of, rule_of, subcommand_rows_of};
+ghost use Rattle.std.specs.Prelude.{◌≡◌, IfOk, IfErr, Some, false, map, option_and_then, option_map};
+ghost use Rattle.mctp_packet.specs.Memories.{out_of_memory};
+ghost use Rattle.clap.specs.Words.{app_of, first_of, found_of, kind_of, rows_of, rule_of, subcommand_rows_of};
 ghost use Rattle.mctpctl.specs.FaultNumbers.{number_of_choose_fault};
-ghost use Rattle.mctpctl.specs.Choice.{choice_in as the_choice, choice_of, command as the_command, device_command as the_device_command, flag as the_flag, has_globals, is_given, program as the_program, subcommand as the_subcommand, task_named, TellsKind, TellsRefusal};
+ghost use Rattle.mctpctl.specs.Choice.{asked, choice_in as the_choice, choice_of, command as the_command, device_command as the_device_command, file_option as the_file_option, flag as the_flag, has_globals, is_given, program as the_program, serve_subcommand as the_serve_subcommand, served, service_in, task_named, text_command as the_text_command, text_subcommand as the_text_subcommand, text_task_in, TellsKind, TellsRefusal};
 
-use crate::help::{ANSWER, DECODE, EXPLAIN, RUN, SHOW, STATUSES, VERSION};
+use crate::help::{
+    ANSWER, DECODE, DEVICE, EXPLAIN, LOG, RUN, SERVE, SHOW, STATUSES, VERBOSE, VERSION,
+};
 use clap::error::ErrorKind;
 use clap::{Arg, ArgAction, ArgMatches, Command};
+use mctp_packet::Memory;
 use std::alloc::{AllocError, Global};
 use thiserror::Error;
 
 /// What the program is asked to do.
+#[derive(Clone, Copy, Debug)]
+pub enum Choice<'a> {
+    /// A task over a text, on standard input.
+    Text(TextTask),
+    /// A device on a serial line, which is standard input and output.
+    Serve(Service<'a>),
+}
+
+/// What is done with a text.
 #[derive(Clone, Copy, Debug, PartialEq, Eq)]
 pub enum Task {
     /// Answer a capture of packets as the described device.
@@ -22,15 +35,26 @@ pub enum Task {
     Show,
 }
 
-/// A task, and how it is done.
+/// A task over a text, and how it is done.
 #[derive(Clone, Copy, Debug, PartialEq, Eq)]
-pub struct Choice {
+pub struct TextTask {
     /// The task.
     pub task: Task,
     /// Whether a fault of the input is explained (`--explain`).
     pub explain: bool,
     /// Whether messages are decoded (`--decode`, of `show`).
     pub decode: bool,
+}
+
+/// A device that is served.
+#[derive(Clone, Copy, Debug)]
+pub struct Service<'a> {
+    /// The file of its description (`--device`).
+    pub device: &'a str,
+    /// The file that a capture of the line is written to (`--log`).
+    pub log: Option<&'a str>,
+    /// Whether drops are named on standard error (`--verbose`).
+    pub verbose: bool,
 }
 
 /// Why there is no task.
@@ -44,7 +68,17 @@ pub enum ChooseFault {
     Refused(String),
     /// No memory was left; the exit status is 3.
     #[error("out of memory")]
-    Memory,
+    Memory(Memory),
+}
+
+impl From<AllocError> for ChooseFault {
+    ghost use Rattle.mctpctl.specs.declared.choose.ChooseFault.TheVariants as faults;
+
+    ghost from_gives = { λ _ fault. fault ≡ faults.Memory out_of_memory };
+
+    fn from(refused: AllocError) -> ChooseFault {
+        ChooseFault::Memory(refused.into())
+    }
 }
 
 impl ChooseFault {
@@ -55,19 +89,17 @@ impl ChooseFault {
         match self {
             ChooseFault::Help(_) => 1,
             ChooseFault::Refused(_) => 2,
-            ChooseFault::Memory => 3,
+            ChooseFault::Memory(_) => 3,
         }
     }
 }
 
 /// What a command line asks for, the program's name first.
-pub fn choose(alloc: Global, words: &[&str]) -> Result<Choice, ChooseFault>
-    ensures ok { IfOk result (λ choice. choice_of (map (λ word. word.now) words.now) ≡ Some choice) }
+pub fn choose<'a>(alloc: Global, words: &'a [&'a str]) -> Result<Choice<'a>, ChooseFault>
+    ensures ok { IfOk result (λ choice. choice_of (map (λ word. word.now) words.now) ≡ Some (asked choice)) }
     ensures err { IfErr result (TellsRefusal (map (λ word. word.now) words.now)) }
 {
-    let Ok(command) = command(alloc) else {
-        return Err(ChooseFault::Memory);
-    };
+    let command = command(alloc)?;
     match command.try_get_matches_from(words) {
         Ok(matches) => match choice_in(&matches) {
             Some(choice) => Ok(choice),
@@ -81,32 +113,54 @@ pub fn choose(alloc: Global, words: &[&str]) -> Result<Choice, ChooseFault>
 fn command<'a>(alloc: Global) -> Result<Command<'a>, AllocError>
     ensures { IfOk result (λ command. app_of command ≡ the_command) }
 {
-    let show = subcommand(alloc, "show")?
+    let serve = serve_subcommand(alloc)?
+        .about("Serves the described device on a serial line, standard input and output")
+        .after_help(SERVE);
+    text_command(alloc)?.subcommand(serve)
+}
+
+/// The program with the subcommands that take a text.
+fn text_command<'a>(alloc: Global) -> Result<Command<'a>, AllocError>
+    ensures { IfOk result (λ command. app_of command ≡ the_text_command) }
+{
+    let show = text_subcommand(alloc, "show")?
         .arg(flag(alloc, "decode", DECODE))?
         .about("Shows the packets of a capture and the messages that they complete")
         .after_help(SHOW);
     device_command(alloc)?.subcommand(show)
 }
 
-/// The program with the subcommands that simulate a device.
+/// The program with the subcommands that simulate a device over a text.
 fn device_command<'a>(alloc: Global) -> Result<Command<'a>, AllocError>
     ensures { IfOk result (λ command. app_of command ≡ the_device_command) }
 {
-    let answer = subcommand(alloc, "answer")?
+    let answer = text_subcommand(alloc, "answer")?
         .about("Answers the packets of a capture as the described device does")
         .after_help(ANSWER);
-    let run = subcommand(alloc, "run")?
+    let run = text_subcommand(alloc, "run")?
         .about("Runs requesters and the described device over a schedule of what is delivered")
         .after_help(RUN);
     program(alloc).subcommand(answer)?.subcommand(run)
 }
 
 /// A subcommand of this name, with `--explain`.
-fn subcommand<'a>(alloc: Global, name: &'static str) -> Result<Command<'a>, AllocError>
-    ensures app { IfOk result (λ command. app_of command ≡ the_subcommand name.now) }
+fn text_subcommand<'a>(alloc: Global, name: &'static str) -> Result<Command<'a>, AllocError>
+    ensures app { IfOk result (λ command. app_of command ≡ the_text_subcommand name.now) }
     ensures local { IfOk result (λ command. has_globals command ≡ false) }
 {
     Command::new(alloc, name).arg(flag(alloc, "explain", EXPLAIN))
+}
+
+/// The subcommand `serve`, with its options.
+fn serve_subcommand<'a>(alloc: Global) -> Result<Command<'a>, AllocError>
+    ensures app { IfOk result (λ command. app_of command ≡ the_serve_subcommand) }
+    ensures local { IfOk result (λ command. has_globals command ≡ false) }
+{
+    let device = file_option(alloc, "device", DEVICE).required(true);
+    Command::new(alloc, "serve")
+        .arg(device)?
+        .arg(file_option(alloc, "log", LOG))?
+        .arg(flag(alloc, "verbose", VERBOSE))
 }
 
 /// A flag of this name, with what help says of it.
@@ -117,6 +171,18 @@ fn flag<'a>(alloc: Global, name: &'static str, help: &'static str) -> Arg<'a>
     Arg::new(alloc, name)
         .long(name)
         .action(ArgAction::SetTrue)
+        .help(help)
+}
+
+/// An option of this name whose value names a file, with what help says of it.
+fn file_option<'a>(alloc: Global, name: &'static str, help: &'static str) -> Arg<'a>
+    ensures rule { rule_of result ≡ the_file_option name.now }
+    ensures local { result.global ≡ false }
+{
+    Arg::new(alloc, name)
+        .long(name)
+        .value_name("FILE")
+        .action(ArgAction::Set)
         .help(help)
 }
 
@@ -133,23 +199,53 @@ fn program<'a>(alloc: Global) -> Command<'a>
 
 /// What the subcommand that `clap` found asks for.
 #[tactic(auto, using(crate::proofs::FoundSubcommands::none_found, crate::proofs::FoundSubcommands::one_found))]
-fn choice_in(matches: &ArgMatches<'_>) -> Option<Choice>
-    ensures { result ≡ option_and_then the_choice (subcommand_rows_of matches.now) }
+fn choice_in<'a>(matches: &ArgMatches<'a>) -> Option<Choice<'a>>
+    ensures { option_map asked result ≡ option_and_then the_choice (subcommand_rows_of matches.now) }
 {
     let (name, matches) = matches.subcommand()?;
     choice_for(name, matches)
 }
 
-/// What a subcommand of this name asks for, by its flags.
-fn choice_for(name: &str, matches: &ArgMatches<'_>) -> Option<Choice>
-    ensures { result ≡ the_choice (name.now, rows_of (found_of matches.now)) }
+/// What a subcommand of this name asks for, by its arguments.
+fn choice_for<'a>(name: &str, matches: &ArgMatches<'a>) -> Option<Choice<'a>>
+    ensures { option_map asked result ≡ the_choice (name.now, rows_of (found_of matches.now)) }
+{
+    match name {
+        "serve" => Some(Choice::Serve(service_of(matches)?)),
+        _ => Some(Choice::Text(text_task(name, matches)?)),
+    }
+}
+
+/// What a subcommand of this name does with a text, by its flags.
+fn text_task(name: &str, matches: &ArgMatches<'_>) -> Option<TextTask>
+    ensures { result ≡ text_task_in (name.now, rows_of (found_of matches.now)) }
 {
     let task = named(name)?;
-    Some(Choice {
+    Some(TextTask {
         task,
         explain: is_given(matches, "explain"),
         decode: is_given(matches, "decode"),
     })
+}
+
+/// The device that is served, by the arguments of `serve`.
+fn service_of<'a>(matches: &ArgMatches<'a>) -> Option<Service<'a>>
+    ensures { option_map served result ≡ service_in (rows_of (found_of matches.now)) }
+{
+    let device = value(matches, "device")?;
+    Some(Service {
+        device,
+        log: value(matches, "log"),
+        verbose: is_given(matches, "verbose"),
+    })
+}
+
+/// The value of an option, where it was given.
+#[tactic(auto, using(crate::proofs::GivenFlags::value_by_rows))]
+fn value<'a>(matches: &ArgMatches<'a>, name: &str) -> Option<&'a str>
+    ensures { option_map (λ text. text.now) result ≡ first_of name.now (rows_of (found_of matches.now)) }
+{
+    matches.get_str(name)
 }
 
 /// Whether a flag was given: `clap` then has the text `true` for it.
@@ -181,13 +277,13 @@ fn refusal(alloc: Global, error: &clap::Error) -> ChooseFault
 {
     let kind = error.kind();
     if kind == ErrorKind::OutOfMemory {
-        return ChooseFault::Memory;
+        return AllocError.into(); // `clap` keeps nothing more of it
     }
     match error.to_string(alloc) {
         Ok(text) if kind == ErrorKind::DisplayHelp || kind == ErrorKind::DisplayVersion => {
             ChooseFault::Help(text)
         }
         Ok(text) => ChooseFault::Refused(text),
-        Err(_) => ChooseFault::Memory,
+        Err(refused) => refused.into(),
     }
 }

@@ -2,7 +2,7 @@
 
 /// What `--version` says after the program's name: its own version, and the toolchain that it is proved
 /// and built with.
-pub const VERSION: &str = "1.0.0 (rattle-kit-13f logic dac8208d650f15bf)";
+pub const VERSION: &str = "1.0.0 (rattle-kit-13b logic dac8208d650f15bf)";
 
 /// What `--explain` does.
 pub const EXPLAIN: &str =
@@ -11,13 +11,22 @@ pub const EXPLAIN: &str =
 /// What `--decode` does.
 pub const DECODE: &str = "Show the fields of commands and answers by name";
 
-/// What each subcommand reads, and the exit statuses.
+/// What `--device` names.
+pub const DEVICE: &str = "The description of the device, in TOML";
+
+/// What `--log` names.
+pub const LOG: &str = "Write the packets that come and those that are sent to this file, a capture";
+
+/// What `--verbose` does.
+pub const VERBOSE: &str = "Say on standard error what is dropped, and why";
+
+/// The exit statuses.
 pub const STATUSES: &str = "\
 Exit status:
   0  done, or help was asked for
   1  the input was refused: one line on standard error says why
   2  the command line was refused
-  3  a read or a write failed, or there was no memory";
+  3  a file, a read, a write or the clock failed, or there was no memory";
 
 /// What `answer` reads and writes.
 pub const ANSWER: &str = "\
@@ -109,7 +118,8 @@ and after 'whole' the message, as soon as the line has been read. A request is f
   1 9>8 tag 0 to 0 som 1 eom 1 seq 0 len 6 whole
     response 0 GetTID 00 01
 
-With --decode the line of a message has the fields of its command or answer by name:
+With --decode the line of a message has the fields of its command or answer by name, also
+that of an MCTP control message:
 
     request 0 GetTID
     response 0 GetTID tid 1
@@ -118,3 +128,29 @@ Exit status:
   0  done
   1  the input was refused: one line on standard error says why
   3  a read or a write failed, or there was no memory";
+
+/// What `serve` reads and writes.
+pub const SERVE: &str = "\
+Input, from standard input: the bytes of a serial line, on which each packet is in a frame
+of DSP0253. The description is read first. In hex, the frame by which endpoint 8 asks
+device 9 for its terminus ID:
+
+  7e 01 08 01 09 08 c8 01 80 00 02 0c a6 7e
+
+Output: the frames of the device's answer, as soon as the frame of a packet has ended. What
+is no frame, and what the device drops, gets no answer. Where the terminus ID is 1:
+
+  7e 01 0a 01 08 09 c0 01 00 00 02 00 01 13 13 7e
+
+The moment of a packet is the time since the start, in milliseconds. A capture that --log
+writes is for 'show' and, after the description and a line '%%', for 'answer'. Where the
+line is a terminal, that has to be raw:
+
+  stty -F /dev/ttyS1 raw -echo
+  mctpctl serve --device device.toml < /dev/ttyS1 > /dev/ttyS1
+
+Exit status:
+  0  the input has ended
+  1  the description was refused: one line on standard error says why
+  2  the command line was refused
+  3  a file, a read, a write or the clock failed, or there was no memory";

@@ -3,16 +3,23 @@
 #![tactic(auto)]
 
 mod choose;
+mod control_endpoint;
+mod device_file;
+mod faults;
 mod help;
+mod serial_line;
 
 ghost use Rattle.std.specs.Prelude.{◌≡◌, false};
 ghost use Rattle.mctpctl_input.specs.Ports.{has_failed};
 
-use crate::choose::{Choice, ChooseFault, Task, choose};
+use crate::choose::{Choice, ChooseFault, Task, TextTask, choose};
+use crate::faults::print_fault;
+use crate::serial_line::serve_device;
 use mctpctl_decode::decode_all;
 use mctpctl_engines::{answer_all, run_all, show_all};
 use mctpctl_explain::{Keeping, Subject, explain, warnings};
-use mctpctl_input::{EngineFault, Port, fault_line, status_of};
+use mctpctl_input::{EngineFault, Port};
+use std::alloc::AllocError;
 use std::env;
 use std::io::{BufWriter, ErrorKind, IsTerminal, Read};
 use std::process::ExitCode;
@@ -21,8 +28,8 @@ use std::process::ExitCode;
 const GATHERED: usize = 65_536;
 
 fn main(rt: HostRuntime) -> ExitCode {
-    let status = match chosen(&rt) {
-        Ok(choice) => perform(&rt, choice),
+    let status = match perform(&rt) {
+        Ok(status) => status,
         Err(ChooseFault::Help(text)) => {
             let _ = print!(rt; "{text}");
             0
@@ -31,82 +38,83 @@ fn main(rt: HostRuntime) -> ExitCode {
             let _ = eprint!(rt; "{text}");
             2
         }
-        Err(ChooseFault::Memory) => 3,
+        Err(ChooseFault::Memory(_)) => 3,
     };
     ExitCode::from(status)
 }
 
-/// What the command line asks for.
-fn chosen(rt: &HostRuntime) -> Result<Choice, ChooseFault> {
+/// Does what the command line asks for, and returns the exit status.
+fn perform(rt: &HostRuntime) -> Result<u8, ChooseFault> {
+    let alloc = rt.alloc();
+    let args = arguments(rt)?;
+    let words = args
+        .iter()
+        .map(|arg| arg.as_str())
+        .collect::<Vec<&str>>(alloc)?;
+    match choose(alloc, &words) {
+        Ok(Choice::Text(text)) => Ok(perform_text(rt, text)),
+        Ok(Choice::Serve(service)) => Ok(serve_device(rt, &service)),
+        Err(fault) => Err(fault),
+    }
+}
+
+/// The words of the command line.
+fn arguments(rt: &HostRuntime) -> Result<Vec<String>, ChooseFault> {
     let alloc = rt.alloc();
     let args = match env::args(rt) {
         Ok(args) => args,
-        Err(fault) if fault.kind() == ErrorKind::OutOfMemory => return Err(ChooseFault::Memory),
+        Err(fault) if fault.kind() == ErrorKind::OutOfMemory => return Err(AllocError.into()),
         Err(_) => {
-            let text = String::from_str(alloc, "error: an argument is not UTF-8\n");
-            return Err(text.map_or(ChooseFault::Memory, ChooseFault::Refused));
+            let text = String::from_str(alloc, "error: an argument is not UTF-8\n")?;
+            return Err(ChooseFault::Refused(text));
         }
     };
-    let Ok(args) = args.collect::<Vec<String>>(alloc) else {
-        return Err(ChooseFault::Memory);
-    };
-    let Ok(words) = args
-        .iter()
-        .map(|arg| arg.as_str())
-        .collect::<Vec<&str>>(alloc)
-    else {
-        return Err(ChooseFault::Memory);
-    };
-    choose(alloc, &words)
+    Ok(args.collect::<Vec<String>>(alloc)?)
 }
 
-/// Does what is asked for over standard input, on standard output, and returns the exit status. Only with
-/// `--explain` is a copy of the input kept.
-fn perform(rt: &HostRuntime, choice: Choice) -> u8 {
+/// Does a task over standard input, on standard output, and returns the exit status. Only with `--explain` is a
+/// copy of the input kept.
+fn perform_text(rt: &HostRuntime, text: TextTask) -> u8 {
     if rt.stdin().is_terminal() {
         let _ = eprintln!(rt; "mctpctl: reading standard input; Ctrl-D ends it");
     }
-    if !choice.explain {
-        let result = run(rt, choice, &mut Port::new(rt.stdin()));
+    if !text.explain {
+        let result = run(rt, text, &mut Port::new(rt.stdin()));
         return status(rt, &result);
     }
     let mut reader = Port::new(Keeping::new(rt.alloc(), rt.stdin()));
-    let result = run(rt, choice, &mut reader);
+    let result = run(rt, text, &mut reader);
     let status = status(rt, &result);
     if let Some(input) = reader.into_inner().kept() {
-        say_more(rt, choice.task, input, &result);
+        say_more(rt, text.task, input, &result);
     }
     status
 }
 
 /// Runs the engine of the task over a reader, on standard output.
-fn run<R: Read>(rt: &HostRuntime, choice: Choice, reader: &mut Port<R>) -> Result<(), EngineFault>
+fn run<R: Read>(rt: &HostRuntime, text: TextTask, reader: &mut Port<R>) -> Result<(), EngineFault>
     requires { has_failed reader.old ≡ false }
 {
     let alloc = rt.alloc();
-    match choice.task {
+    match text.task {
         Task::Answer => answer_all(alloc, reader, &mut Port::new(rt.stdout())),
         Task::Run => {
             let Ok(gathering) = BufWriter::with_capacity(alloc, GATHERED, rt.stdout()) else {
-                return Err(EngineFault::Memory);
+                return Err(AllocError.into()); // no more is kept of it
             };
             run_all(alloc, reader, &mut Port::new(gathering))
         }
-        Task::Show if choice.decode => decode_all(alloc, reader, &mut Port::new(rt.stdout())),
+        Task::Show if text.decode => decode_all(alloc, reader, &mut Port::new(rt.stdout())),
         Task::Show => show_all(alloc, reader, &mut Port::new(rt.stdout())),
     }
 }
 
-/// The exit status of a run, whose fault is printed on standard error; where there is no memory for its
-/// line, none is printed.
+/// The exit status of a run, whose fault is printed on standard error.
 fn status(rt: &HostRuntime, ended: &Result<(), EngineFault>) -> u8 {
-    let Err(fault) = ended else {
-        return 0;
-    };
-    if let Ok(line) = fault_line(rt.alloc(), fault) {
-        let _ = eprintln!(rt; "mctpctl: {line}");
+    match ended {
+        Ok(()) => 0,
+        Err(fault) => print_fault(rt, fault),
     }
-    status_of(fault)
 }
 
 /// Explains the fault of a run on standard error, and warns of what is ignored in its input.

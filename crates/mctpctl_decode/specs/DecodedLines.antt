@@ -1,14 +1,11 @@
--- The lines that `mctpctl show --decode` writes of a packet and of the message that it completes.
-use Rattle.std.specs.Prelude.{ℕ, List, [], ◌∷◌, ◌++◌, codes, Result, Ok, Err, if◌then◌else◌}
+-- The line that `mctpctl show --decode` writes of a whole message.
+use Rattle.std.specs.Prelude.{ℕ, List, [], ◌∷◌, ◌++◌, codes, unwrap_or, Result, Ok, Err, if◌then◌else◌}
 use Rattle.std.specs.Fmt.{decimal}
-use Rattle.mctp_assembly.specs.declared.fed.Fed.{Fed}
-use Rattle.mctp_assembly.specs.declared.fed.Fed.TheVariants.{Whole, Partial, Dropped}
-use Rattle.mctp_packet.specs.Packets.{Packet}
 use Rattle.mctp_packet.specs.declared.reason.Reason.{Reason}
 use Rattle.mctpctl_decode.specs.AnswerTexts.{answer_text, refused_text}
 use Rattle.mctpctl_decode.specs.CommandTexts as commands
-use Rattle.mctpctl_texts.specs.ShownLines.{command_text, data_text, drop_text, is_shown_as_response, message_line}
-use Rattle.mctpctl_texts.specs.ShownLines.{packet_line, spaced_line}
+use Rattle.mctpctl_decode.specs.ControlTexts.{control_line}
+use Rattle.mctpctl_texts.specs.ShownLines.{command_text, data_text, is_shown_as_response, message_line}
 use Rattle.pldm_wire.specs.AnswerReading.{answer_of}
 use Rattle.pldm_wire.specs.CommandReading.{command_of}
 use Rattle.pldm_wire.specs.Kinds.{TypeAndCommand}
@@ -45,19 +42,12 @@ response_line message (Err reason) = message_line message
 response_line message (Ok response) =
     answered_line message response (answer_of response.kind response.kind response.code response.rest)
 
--- the line of a whole message
-abbrev pub decoded_line : List ℕ → List ℕ
-decoded_line message =
+-- the line of a message that is no control message
+abbrev pub pldm_line : List ℕ → List ℕ
+pldm_line message =
     if is_shown_as_response message then response_line message (response_of message)
     else request_line message (request_of message)
 
--- after a packet that completes a message comes the line of that message
-abbrev pub completed_text : Fed → List ℕ
-completed_text (Whole body) = decoded_line body.items
-completed_text Partial = []
-completed_text (Dropped reason) = []
-
--- what is written of the bytes that came at this moment; `gives` says what the packet that they spell gave
-abbrev pub decoded_text : ℕ → Result Packet Reason → (Packet → Fed) → List ℕ
-decoded_text moment (Err reason) gives = spaced_line (decimal moment ∷ drop_text reason ∷ [])
-decoded_text moment (Ok p) gives = packet_line moment p (gives p) ++ completed_text (gives p)
+-- the line of a whole message
+abbrev pub decoded_line : List ℕ → List ℕ
+decoded_line message = unwrap_or (control_line message) (pldm_line message)

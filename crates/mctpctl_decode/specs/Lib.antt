@@ -1,9 +1,8 @@
 pub mod AnswerTexts
 pub mod CodeNames
 pub mod CommandTexts
-pub mod DecodeText
+pub mod ControlNames
+pub mod ControlTexts
 pub mod DecodedLines
-pub mod Decoders
 pub mod FieldTexts
-pub mod LongLines
 pub mod StateNames

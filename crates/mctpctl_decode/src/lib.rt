@@ -4,13 +4,15 @@
 mod answer_text;
 mod code_names;
 mod command_text;
+mod control_line;
+mod control_names;
+mod control_text;
 mod decode;
-mod decoder;
 mod field_text;
 mod message_line;
 mod own_answer;
 mod state_names;
 
-pub use decode::decode_all;
+pub use decode::{ByName, decode_all};
 pub use message_line::push_decoded_line;
 pub use own_answer::read_own_answer;

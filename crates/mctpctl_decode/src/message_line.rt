@@ -1,8 +1,8 @@
 //! The line of a whole message, decoded.
 
 ghost use Rattle.std.specs.Prelude.{◌≡◌, ◌++◌, OnOk};
-ghost use Rattle.mctpctl_decode.specs.DecodedLines.{asked_text, decoded_line, request_line, response_line, subject_text};
-ghost use Rattle.mctpctl_texts.specs.ShownLines.{command_text, data_text, is_shown_as_response};
+ghost use Rattle.mctpctl_decode.specs.DecodedLines.{asked_text, decoded_line, pldm_line, request_line, response_line, subject_text};
+ghost use Rattle.mctpctl_texts.specs.ShownLines.{is_shown_as_response};
 ghost use Rattle.pldm_wire.specs.CommandReading.{command_of};
 ghost use Rattle.pldm_wire.specs.Requests.{request_of};
 ghost use Rattle.pldm_wire.specs.Responses.{response_of};
@@ -10,31 +10,43 @@ ghost use Rattle.pldm_wire.specs.Responses.{response_of};
 use crate::answer_text::push_answer;
 use crate::code_names::code_name;
 use crate::command_text::push_command;
+use crate::control_line::{push_control_request, push_control_response};
 use crate::field_text::{push_code, push_word};
 use crate::own_answer::read_own_answer;
 use mctp_packet::Memory;
-use mctpctl_texts::{push_hex, push_message_line, push_number, push_text};
+use mctpctl_texts as texts;
+use mctpctl_texts::{is_shown_as_response, push_data, push_message_line, push_number, push_text};
 use pldm_wire::{Kind, RequestRef, read_command, read_request, read_response};
 
-/// Adds the line of a whole message, two spaces in: the fields of the command that a request carries or
-/// of the answer that a response is, by name. A request whose command cannot be read has its data in hex
-/// and the name of the completion code that refuses it. A response that cannot be read, and a message
-/// whose header is refused, have the line that `show` writes without `--decode`.
+/// Adds the line of a whole message, two spaces in. A control message (DSP0236) has the fields of its command or its
+/// answer by name; any other one, and a control message that cannot be read, has the line of a PLDM message.
 pub fn push_decoded_line(out: &mut Vec<u8>, message: &[u8]) -> Result<(), Memory>
     ensures { OnOk result (out.new.items ≡ out.old.items ++ decoded_line message.now) }
 {
-    if is_response(message) {
+    if let Some(request) = mctp_control::read_request(message) {
+        return push_control_request(out, &request);
+    }
+    let Some(response) = mctp_control::read_response(message) else {
+        return push_pldm_line(out, message);
+    };
+    let Some(answer) = mctp_control::read_answer(&response) else {
+        return push_pldm_line(out, message);
+    };
+    push_control_response(out, &response, &answer)
+}
+
+/// Adds the line of a PLDM message: the fields of the command that a request carries or of the answer that a response
+/// is, by name. A request whose command cannot be read has its data in hex and the name of the completion code that
+/// refuses it. A response that cannot be read, and a message whose header is refused, have the line that `show` writes
+/// without `--decode`.
+fn push_pldm_line(out: &mut Vec<u8>, message: &[u8]) -> Result<(), Memory>
+    ensures { OnOk result (out.new.items ≡ out.old.items ++ pldm_line message.now) }
+{
+    if is_shown_as_response(message) {
         push_response(out, message)
     } else {
         push_request(out, message)
     }
-}
-
-/// Whether there are two bytes at least, and the request bit of the second is 0.
-fn is_response(message: &[u8]) -> bool
-    ensures { result ≡ is_shown_as_response message.now }
-{
-    message.len() >= 2 && message[1] >> 7 & 1 != 1
 }
 
 fn push_request(out: &mut Vec<u8>, message: &[u8]) -> Result<(), Memory>
@@ -63,16 +75,6 @@ fn push_asked(out: &mut Vec<u8>, request: &RequestRef<'_>) -> Result<(), Memory>
     push_code(out, code_name(request.kind(), code), code)
 }
 
-/// Adds bytes in lower-case hex, or `-` where there are none.
-fn push_data(out: &mut Vec<u8>, bytes: &[u8]) -> Result<(), Memory>
-    ensures { OnOk result (out.new.items ≡ out.old.items ++ data_text bytes.now) }
-{
-    if bytes.is_empty() {
-        return push_text(out, "-");
-    }
-    push_hex(out, bytes)
-}
-
 fn push_response(out: &mut Vec<u8>, message: &[u8]) -> Result<(), Memory>
     ensures { OnOk result (out.new.items ≡ out.old.items ++ response_line message.now (response_of message.now)) }
 {
@@ -94,17 +96,5 @@ fn push_subject(out: &mut Vec<u8>, what: &str, id: u8, kind: Kind) -> Result<(),
     push_text(out, what)?;
     push_number(out, id.into())?;
     push_text(out, " ")?;
-    push_command_name(out, kind)
-}
-
-/// Adds the command's name, or its PLDM type and its number.
-fn push_command_name(out: &mut Vec<u8>, kind: Kind) -> Result<(), Memory>
-    ensures { OnOk result (out.new.items ≡ out.old.items ++ command_text kind) }
-{
-    if let Some(name) = kind.name() {
-        return push_text(out, name);
-    }
-    push_number(out, kind.pldm_type.into())?;
-    push_text(out, "/")?;
-    push_hex(out, &[kind.command])
+    texts::push_command(out, kind)
 }

@@ -9,7 +9,7 @@ use Rattle.mctpctl_engines.specs.AnswerText.{described_run, divided_run, run_of}
 use Rattle.mctpctl_engines.specs.DescribedPieces.{run_described, description_gives, begun, device_begun}
 use Rattle.mctpctl_engines.specs.HeldRuns.{held_step, held_run}
 use Rattle.mctpctl_engines.specs.LinePieces.{glued, line_gives}
-use Rattle.mctpctl_input.specs.LineRuns.{Written, stops_at, lines_written}
+use Rattle.mctpctl_input.specs.LineRuns.{Written, no_memory, stops_at, lines_written}
 use Rattle.mctpctl_input.specs.Pieces.{Gives, GoesOn, StopsWith, Takes, Finishes}
 use Rattle.mctpctl_engines.specs.AnswerPieces.{nothing_where_cut}
 use Rattle.mctpctl_input.proofs.PieceRuns.{goes_after, stops_after, front_text}
@@ -216,8 +216,8 @@ module _ (run : Description → Bool → List (List ℕ) → Written) where
 
   -- what the text begins at the divider, or why the run ends there
   pub divider_ends : (text told kept line both : List ℕ) (fault : EngineFault) → told ≡ text → HasNoFeed line → both ≡ kept ++ line → is_divider both ≡ true
-      → (fault ≡ faults.Memory) ⊎ ((fault ≢ faults.Memory) × (begun told ≡ Err fault))
-      → (fault ≡ faults.Memory) ⊎ ((fault ≢ faults.Memory) × StopsWith (description_gives run text kept) (line ++ 10 ∷ []) [] fault)
+      → (fault ≡ no_memory) ⊎ ((fault ≢ no_memory) × (begun told ≡ Err fault))
+      → (fault ≡ no_memory) ⊎ ((fault ≢ no_memory) × StopsWith (description_gives run text kept) (line ++ 10 ∷ []) [] fault)
   divider_ends text told kept line both fault same none is here (inl memory) = inl memory
   divider_ends text told kept line both fault same none is here (inr (apart, e)) =
       inr (apart, divider_stops text kept line fault none (sym (ap is_divider is) ∙ here) (ap begun (sym same) ∙ e))
@@ -242,14 +242,14 @@ pub front_too_long_described : (text kept front both : List ℕ) (h : Gives) →
 front_too_long_described text kept front both h none is long =
     ([], refl, inr ((λ e. cc), front_stops held_run text kept front both none is long))
 
-pub nothing_described : (text kept piece out : List ℕ) (h : Gives) → Takes (description_gives held_run text kept) piece h out out (Err faults.Memory)
+pub nothing_described : (text kept piece out : List ℕ) (h : Gives) → Takes (description_gives held_run text kept) piece h out out (Err no_memory)
 nothing_described text kept piece out h =
     ([], sym (append-nil out), inl (refl, ([], piece, refl, sym (nothing_where_cut text kept None))))
 
 -- a fault of a line of the description, after the lines before it
 pub described_fault : (f g h : Gives) (before line after whole out0 out1 : List ℕ) (fault : EngineFault) → GoesOn f before [] g → (g true []).text ≡ []
     → whole ≡ before ++ (line ++ 10 ∷ after) → out1 ≡ out0
-    → (fault ≡ faults.Memory) ⊎ ((fault ≢ faults.Memory) × StopsWith g (line ++ 10 ∷ []) [] fault)
+    → (fault ≡ no_memory) ⊎ ((fault ≢ no_memory) × StopsWith g (line ++ 10 ∷ []) [] fault)
     → Takes f whole h out0 out1 (Err fault)
 described_fault f g h before line after whole out0 out1 fault goes nothing is same (inl memory) =
     ([], same ∙ sym (append-nil out0), inl (memory, (before, line ++ 10 ∷ after, is, sym (front_text f g before [] goes nothing))))
@@ -288,7 +288,7 @@ described_front f g h before front whole out0 out1 result goes is same takes =
     (takes_after f g h before front [] out0 out1 out1 result goes (same ∙ sym (append-nil out0)) (takes_nothing g h front out1 result takes))
 
 -- the end of the input before a line has divided
-pub undivided : (text kept : List ℕ) (is_cut : Bool) (fault : EngineFault) → is_divider kept ≡ false → fault ≢ faults.Memory
+pub undivided : (text kept : List ℕ) (is_cut : Bool) (fault : EngineFault) → is_divider kept ≡ false → fault ≢ no_memory
     → fault ≡ (if nat_lt MAX_DESCRIPTION (length text + length kept) then faults.TooLarge else faults.NoDivider)
     → Finishes (description_gives held_run text kept is_cut []) [] [] (Err fault)
 undivided text kept is_cut fault stays apart is =
@@ -310,7 +310,7 @@ divided_ends text kept is_cut device result here e is =
       by_cut false = (refl, refl)
 
 pub divided_refused : (text kept : List ℕ) (is_cut : Bool) (fault : EngineFault) → is_divider kept ≡ true
-    → (fault ≡ faults.Memory) ⊎ ((fault ≢ faults.Memory) × (begun text ≡ Err fault)) → Finishes (description_gives held_run text kept is_cut []) [] [] (Err fault)
+    → (fault ≡ no_memory) ⊎ ((fault ≢ no_memory) × (begun text ≡ Err fault)) → Finishes (description_gives held_run text kept is_cut []) [] [] (Err fault)
 divided_refused text kept is_cut fault here (inl memory) = inl (memory, refl)
 divided_refused text kept is_cut fault here (inr (apart, e)) =
     let ends : description_gives held_run text kept is_cut [] ≡ stops_at fault =

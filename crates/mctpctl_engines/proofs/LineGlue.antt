@@ -5,10 +5,10 @@ use Rattle.std.proofs.lemmas.List.Splits.{slice_split_at, slice_split-cons_no}
 use Rattle.std.proofs.lemmas.Bool.Decides.{nat_tests}
 use Rattle.line_words.specs.TextLines.{HasNoFeed, lines_of}
 use Rattle.mctpctl_engines.specs.LinePieces.{RefusesLong, AddsLine, glued, line_gives}
-use Rattle.mctpctl_input.specs.LineRuns.{Written, ends, stops_at, after_text, line_then, lines_from, lines_written}
+use Rattle.mctpctl_input.specs.LineRuns.{Written, ends, no_memory, stops_at, after_text, line_then, lines_from, lines_written}
 use Rattle.mctpctl_input.specs.Pieces.{Gives, GoesOn, StopsWith, Takes, Finishes}
 use Rattle.mctpctl_input.specs.declared.faults.EngineFault.{EngineFault}
-use Rattle.mctpctl_input.specs.declared.faults.EngineFault.TheVariants.{Line, Memory}
+use Rattle.mctpctl_input.specs.declared.faults.EngineFault.TheVariants.{Line}
 use Rattle.mctpctl_input.specs.declared.faults.LineKind.{LineKind}
 use Rattle.mctpctl_input.specs.declared.faults.LineKind.TheVariants.{LongLine}
 use Rattle.mctpctl_input.specs.declared.limits.TheConstants.{MAX_CAPTURE_LINE}
@@ -63,7 +63,7 @@ ends_before f h k piece more out0 out1 fault (text, added, inr (apart, stops)) =
 
 module _ {S : Type 0} (step : S → List ℕ → Result (List ℕ × S) LineKind) where
   -- want of memory at a piece of which nothing was done
-  pub nothing_done : (n : ℕ) (s : S) (kept piece out : List ℕ) (h : Gives) → Takes (line_gives step n s kept) piece h out out (Err Memory)
+  pub nothing_done : (n : ℕ) (s : S) (kept piece out : List ℕ) (h : Gives) → Takes (line_gives step n s kept) piece h out out (Err no_memory)
   nothing_done n s kept piece out h = ([], sym (append-nil out), inl (refl, ([], piece, refl, refl)))
 
   -- what a run over lines gives, after the line that ends here
@@ -86,8 +86,8 @@ module _ {S : Type 0} (step : S → List ℕ → Result (List ℕ × S) LineKind
   line_takes n s t kept line old new (Err fault) none (same, inr (kind, is, refused)) =
       ([], same ∙ sym (append-nil old), inr (apart fault kind is, rw is (line_stops n s kept line kind none refused)))
     where
-      apart : (f : EngineFault) (k : LineKind) → f ≡ Line n k → f ≢ Memory
-      apart f k e = λ m. let wrong : Line n k ≡ Memory = sym e ∙ m in cc
+      apart : (f : EngineFault) (k : LineKind) → f ≡ Line n k → f ≢ no_memory
+      apart f k e = λ m. let wrong : Line n k ≡ no_memory = sym e ∙ m in cc
 
   -- the front of a line is kept
   pub front_kept : (n : ℕ) (s : S) (kept front : List ℕ) → HasNoFeed front → GoesOn (line_gives step n s kept) front [] (line_gives step n s (kept ++ front))
@@ -121,8 +121,8 @@ module _ {S : Type 0} (step : S → List ℕ → Result (List ℕ × S) LineKind
       let whole = ap (λ l. line_then n (step s l) (λ _. ends)) (append-nil kept) ∙ ap (λ r. line_then n r (λ _. ends)) refused in
       inr (apart fault kind is, ap (λ (w : Written). w.fault) whole ∙ ap Some (sym is), same ∙ sym (append-nil old) ∙ ap (λ l. old ++ l) (sym (ap (λ (w : Written). w.text) whole)))
     where
-      apart : (f : EngineFault) (k : LineKind) → f ≡ Line n k → f ≢ Memory
-      apart f k e = λ m. let wrong : Line n k ≡ Memory = sym e ∙ m in cc
+      apart : (f : EngineFault) (k : LineKind) → f ≡ Line n k → f ≢ no_memory
+      apart f k e = λ m. let wrong : Line n k ≡ no_memory = sym e ∙ m in cc
 
   pub line_takes_kept : (n : ℕ) (s t : S) (kept line both left old new : List ℕ) (result : Result Unit EngineFault) → HasNoFeed line → both ≡ kept ++ line → left ≡ [] → AddsLine n (step s both) t old new result → Takes (line_gives step n s kept) (line ++ 10 ∷ []) (line_gives step (n + 1) t left) old new result
   line_takes_kept n s t kept line both left old new result none is empty told =
@@ -136,7 +136,7 @@ module _ {S : Type 0} (step : S → List ℕ → Result (List ℕ × S) LineKind
 
   pub front_too_long : RefusesLong step → (n : ℕ) (s : S) (kept front both : List ℕ) (h : Gives) → HasNoFeed front → both ≡ kept ++ front → MAX_CAPTURE_LINE < length both → Takes (line_gives step n s kept) front h [] [] (Err (Line n LongLine))
   front_too_long refuses n s kept front both h none is long =
-      let apart : Line n LongLine ≢ Memory = λ e. cc in
+      let apart : Line n LongLine ≢ no_memory = λ e. cc in
       ([], refl, inr (apart, front_long refuses n s kept front none (rw is at long)))
 
 -- a line feed ends the line

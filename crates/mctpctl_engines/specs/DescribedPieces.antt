@@ -4,7 +4,7 @@ use Rattle.std.specs.Prelude.{Bool, if◌then◌else◌, List, ◌++◌, length,
 use Rattle.line_words.specs.TextLines.{lines_of}
 use Rattle.mctpctl_engines.specs.AnswerText.{described_run}
 use Rattle.mctpctl_engines.specs.LinePieces.{glued}
-use Rattle.mctpctl_input.specs.LineRuns.{Written, stops_at}
+use Rattle.mctpctl_input.specs.LineRuns.{Written, no_memory, stops_at}
 use Rattle.mctpctl_input.specs.Pieces.{Gives, GoesOn, StopsWith}
 use Rattle.mctpctl_input.specs.TextLines.{capture_lines, description_of}
 use Rattle.mctpctl_input.specs.declared.faults.EngineFault.{EngineFault}
@@ -44,7 +44,7 @@ abbrev pub Describes : {T : Type 0} → (T → Gives) → Gives → List ℕ →
 Describes past before piece after (Ok None) = GoesOn before piece [] after
 Describes past before piece after (Ok (Some run)) = GoesOn before piece [] (past run)
 Describes past before piece after (Err fault) =
-    (fault ≡ faults.Memory) ⊎ ((fault ≢ faults.Memory) × StopsWith before piece [] fault)
+    (fault ≡ no_memory) ⊎ ((fault ≢ no_memory) × StopsWith before piece [] fault)
 
 -- how many lines of the capture have ended
 abbrev pub described_count : {T : Type 0} → (T → ℕ) → Option T → ℕ
@@ -62,11 +62,11 @@ begun text = if nat_lt MAX_DESCRIPTION (length text) then Err faults.TooLarge el
 -- the result is the value or the fault that there is; memory may run out at any input
 abbrev pub Tells : {T : Type 0} → Result T EngineFault → Result T EngineFault → Type 0
 Tells owed (Ok value) = owed ≡ Ok value
-Tells owed (Err fault) = (fault ≡ faults.Memory) ⊎ ((fault ≢ faults.Memory) × (owed ≡ Err fault))
+Tells owed (Err fault) = (fault ≡ no_memory) ⊎ ((fault ≢ no_memory) × (owed ≡ Err fault))
 
 -- what is begun is held as by a new responder of the described device
 abbrev pub Begins : {T : Type 0} → (T → Held Device) → List ℕ → Result T EngineFault → Type 0
 Begins held text (Ok task) =
     (description : Description) × (begun text ≡ Ok description)
     × (held task ≡ held_at_first description.eid description.keep description.device)
-Begins held text (Err fault) = (fault ≡ faults.Memory) ⊎ ((fault ≢ faults.Memory) × (begun text ≡ Err fault))
+Begins held text (Err fault) = (fault ≡ no_memory) ⊎ ((fault ≢ no_memory) × (begun text ≡ Err fault))

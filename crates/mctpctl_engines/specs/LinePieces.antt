@@ -2,10 +2,10 @@
 use Rattle.std.specs.Prelude.{◌≡◌, ◌⊎◌, ◌<◌, ℕ, length}
 use Rattle.std.specs.Prelude.{List, [], ◌∷◌, ◌++◌, Result, Ok, Err, MatchResult}
 use Rattle.line_words.specs.TextLines.{lines_of}
-use Rattle.mctpctl_input.specs.LineRuns.{lines_written}
+use Rattle.mctpctl_input.specs.LineRuns.{lines_written, no_memory}
 use Rattle.mctpctl_input.specs.Pieces.{Gives}
 use Rattle.mctpctl_input.specs.declared.faults.EngineFault.{EngineFault}
-use Rattle.mctpctl_input.specs.declared.faults.EngineFault.TheVariants.{Line, Memory}
+use Rattle.mctpctl_input.specs.declared.faults.EngineFault.TheVariants.{Line}
 use Rattle.mctpctl_input.specs.declared.faults.LineKind.{LineKind}
 use Rattle.mctpctl_input.specs.declared.faults.LineKind.TheVariants.{LongLine}
 use Rattle.mctpctl_input.specs.declared.limits.TheConstants.{MAX_CAPTURE_LINE}
@@ -25,7 +25,7 @@ abbrev pub AddsLine : {S : Type 0} → ℕ → Result (List ℕ × S) LineKind �
 AddsLine n stepped state old new result =
     MatchResult result
     (λ _. (text : List ℕ) × (stepped ≡ Ok (text, state)) × (new ≡ old ++ text))
-    (λ fault. (new ≡ old) × ((fault ≡ Memory) ⊎ ((kind : LineKind) × (fault ≡ Line n kind) × (stepped ≡ Err kind))))
+    (λ fault. (new ≡ old) × ((fault ≡ no_memory) ⊎ ((kind : LineKind) × (fault ≡ Line n kind) × (stepped ≡ Err kind))))
 
 -- a line over the limit is refused, whatever it says
 abbrev pub RefusesLong : {S : Type 0} → (S → List ℕ → Result (List ℕ × S) LineKind) → Type 0

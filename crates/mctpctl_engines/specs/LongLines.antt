@@ -1,5 +1,5 @@
 -- A line over the limit is refused, whatever came before it.
-use Rattle.std.specs.Prelude.{length, refl}
+use Rattle.std.specs.Prelude.{ℕ, List, length, refl}
 use borrow.Author.Tests.{lt-ltb}
 use Rattle.mctpctl_input.specs.CaptureLine.{capture_of}
 use Rattle.mctpctl_engines.specs.HeldRuns.{held_step}
@@ -11,6 +11,6 @@ pub held_refuses : RefusesLong held_step
 unfolding capture_of
 held_refuses state line long = rw (lt-ltb MAX_CAPTURE_LINE (length line) long) refl
 
-pub observed_refuses : RefusesLong observed_step
+pub observed_refuses : (shows : List ℕ → List ℕ) → RefusesLong (observed_step shows)
 unfolding capture_of
-observed_refuses state line long = rw (lt-ltb MAX_CAPTURE_LINE (length line) long) refl
+observed_refuses shows state line long = rw (lt-ltb MAX_CAPTURE_LINE (length line) long) refl

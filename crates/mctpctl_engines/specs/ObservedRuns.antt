@@ -23,7 +23,7 @@ pub record Observed : Type 0 where
 abbrev pub open_in : List (ℕ × Held) → ℕ → Held
 open_in assemblers destination = unwrap_or (lookup (is_at (nat_cmp destination)) assemblers) map.empty
 
-abbrev pub observed_of : Observer → Observed
+abbrev pub observed_of : {F : Type 0} → Observer F → Observed
 observed_of observer = record { last = observer.last; open_at = open_in observer.assemblers.entries }
 
 -- nothing has come
@@ -44,13 +44,15 @@ abbrev pub open_with : (ℕ → Held) → Result Packet Reason → ℕ → Held
 open_with open_at (Err reason) = open_at
 open_with open_at (Ok p) = open_after open_at p
 
-abbrev pub observed_text : Observed → ℕ → List ℕ → List ℕ
-observed_text observed moment bytes = shown_text moment (reading None bytes) (given_at observed.open_at)
-
 abbrev pub observed_with : Observed → ℕ → List ℕ → Observed
 observed_with observed moment bytes =
     record { last = moment; open_at = open_with observed.open_at (reading None bytes) }
 
--- what one line gives
-abbrev pub observed_step : Observed → List ℕ → Result (List ℕ × Observed) LineKind
-observed_step = capture_step (λ observed. observed.last) observed_text observed_with
+-- `line` says how the line of a whole message is written
+module _ (line : List ℕ → List ℕ) where
+  abbrev pub observed_text : Observed → ℕ → List ℕ → List ℕ
+  observed_text observed moment bytes = shown_text line moment (reading None bytes) (given_at observed.open_at)
+
+  -- what one line gives
+  abbrev pub observed_step : Observed → List ℕ → Result (List ℕ × Observed) LineKind
+  observed_step = capture_step (λ observed. observed.last) observed_text observed_with

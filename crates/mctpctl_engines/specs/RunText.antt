@@ -12,7 +12,7 @@ use Rattle.schedule_text.specs.declared.line_fault.LineFaultKind.TheVariants as 
 use Rattle.mctp_schedule.specs.declared.run_fault.RunFault.{RunFault}
 use Rattle.mctp_schedule.specs.declared.run_fault.RunFault.TheVariants as runs
 use Rattle.mctpctl_engines.specs.AnswerText.{run_of, simulated}
-use Rattle.mctpctl_input.specs.LineRuns.{Written, stops_at}
+use Rattle.mctpctl_input.specs.LineRuns.{Written, no_memory, stops_at}
 use Rattle.mctpctl_texts.specs.ReportTexts.{device_text, report_text}
 use Rattle.mctpctl_input.specs.declared.faults.EngineFault.{EngineFault}
 use Rattle.mctpctl_input.specs.declared.faults.EngineFault.TheVariants as faults
@@ -28,7 +28,7 @@ stop_of_kind line told.Number = faults.Line line kinds.Number
 stop_of_kind line told.BackInTime = faults.Line line kinds.BackInTime
 stop_of_kind line told.NoSuchRequester = faults.Line line kinds.NoSuchRequester
 stop_of_kind line told.SameRequester = faults.Line line kinds.SameRequester
-stop_of_kind line told.Memory = faults.Memory
+stop_of_kind line (told.Memory refused) = no_memory
 
 abbrev pub stop_of_line : LineFault → EngineFault
 stop_of_line fault = stop_of_kind fault.line fault.kind
@@ -36,7 +36,7 @@ stop_of_line fault = stop_of_kind fault.line fault.kind
 -- a requester whose timing is refused
 abbrev pub stop_of_run : RunFault → EngineFault
 stop_of_run (runs.Timing requester fault) = faults.Timing requester fault
-stop_of_run runs.Memory = faults.Memory
+stop_of_run (runs.Memory refused) = no_memory
 
 -- what the schedule is about: the described device, in the state that is described
 abbrev pub setting_of : Description → Spelled → Setting Device

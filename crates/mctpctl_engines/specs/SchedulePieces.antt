@@ -3,7 +3,7 @@ use Rattle.std.specs.Prelude.{◌≡◌, ◌≢◌, ◌⊎◌, ℕ, nat_lt, Bool
 use Rattle.std.specs.Prelude.{List, [], ◌++◌, length, Option, None, Some, Result, Ok, Err, refl, string_bytes}
 use Rattle.line_words.specs.TextLines.{lines_of}
 use Rattle.mctpctl_engines.specs.AnswerText.{described_run, divided_run, run_of}
-use Rattle.mctpctl_input.specs.LineRuns.{Written, stops_at}
+use Rattle.mctpctl_input.specs.LineRuns.{Written, no_memory, stops_at}
 use Rattle.mctpctl_input.specs.Pieces.{Gives}
 use Rattle.mctpctl_texts.specs.ReportTexts.{report_text}
 use Rattle.mctpctl_engines.specs.RunText.{scheduled_run}
@@ -23,7 +23,7 @@ schedule_gives kept = λ is_cut bytes. run_of scheduled_run is_cut (kept ++ byte
 -- the text of a run that has no fault, or its fault, before which there is no text
 abbrev pub TellsText : {T : Type 0} → (T → List ℕ) → Written → Result T EngineFault → Type 0
 TellsText bytes written (Ok text) = (written.fault ≡ None) × (written.text ≡ bytes text)
-TellsText bytes written (Err fault) = (fault ≡ faults.Memory) ⊎ ((fault ≢ faults.Memory) × (written ≡ stops_at fault))
+TellsText bytes written (Err fault) = (fault ≡ no_memory) ⊎ ((fault ≢ no_memory) × (written ≡ stops_at fault))
 
 -- the text of a schedule and what came of it
 abbrev pub text_of_ran : Ran → List ℕ

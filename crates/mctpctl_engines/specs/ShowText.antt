@@ -36,20 +36,22 @@ fed_to destination (packet ∷ before) =
 abbrev pub gives_after : List TimedPacket → Packet → Fed
 gives_after seen p = next (since (key_of p) (fed_to p.route.destination seen)) p
 
-abbrev pub seen_text : List TimedPacket → ℕ → List ℕ → List ℕ
-seen_text seen moment bytes = shown_text moment (reading None bytes) (gives_after seen)
-
 abbrev pub seen_with : List TimedPacket → ℕ → List ℕ → List TimedPacket
 seen_with seen moment bytes = record { moment = moment; bytes = bytes } ∷ seen
 
--- what one line gives, by looking back over all packets that came
-abbrev pub seen_step : List TimedPacket → List ℕ → Result (List ℕ × List TimedPacket) LineKind
-seen_step = capture_step last_seen seen_text seen_with
+-- `line` says how the line of a whole message is written
+module _ (line : List ℕ → List ℕ) where
+  abbrev pub seen_text : List TimedPacket → ℕ → List ℕ → List ℕ
+  seen_text seen moment bytes = shown_text line moment (reading None bytes) (gives_after seen)
 
--- the run over a capture's bytes, of which there are more where it is cut
-abbrev pub seen_run : Bool → List ℕ → Written
-seen_run is_cut text = lines_written seen_step is_cut 1 [] (lines_of text)
+  -- what one line gives, by looking back over all packets that came
+  abbrev pub seen_step : List TimedPacket → List ℕ → Result (List ℕ × List TimedPacket) LineKind
+  seen_step = capture_step last_seen seen_text seen_with
 
--- the run over all that a reader gives: the bytes past the limit are not looked at
-abbrev pub show_text : List ℕ → Written
-show_text all = seen_run (nat_lt MAX_INPUT (length all)) (take MAX_INPUT all)
+  -- the run over a capture's bytes, of which there are more where it is cut
+  abbrev pub seen_run : Bool → List ℕ → Written
+  seen_run is_cut text = lines_written seen_step is_cut 1 [] (lines_of text)
+
+  -- the run over all that a reader gives: the bytes past the limit are not looked at
+  abbrev pub show_text : List ℕ → Written
+  show_text all = seen_run (nat_lt MAX_INPUT (length all)) (take MAX_INPUT all)

@@ -13,7 +13,7 @@ ghost use Rattle.pldm_responder.specs.Stations.{held_of};
 ghost use Rattle.pldm_responder.specs.Held.{Held};
 ghost use Rattle.pldm_device.specs.Devices.{Device};
 ghost use Rattle.mctpctl_engines.specs.AnswerText.{answer_text, called_run, run_of};
-ghost use Rattle.mctpctl_input.specs.LineRuns.{Writes};
+ghost use Rattle.mctpctl_input.specs.LineRuns.{Writes, no_memory};
 
 use crate::described::read_description;
 use crate::line_run::{LineRoom, LineRun, LineTask};
@@ -53,16 +53,11 @@ impl LineTask for Responder<SimDevice> {
             Ok(CaptureLine::Packet { moment }) => moment,
             Ok(CaptureLine::Skipped) => return Ok(()),
             Err(CaptureFault::Line(kind)) => return Err(EngineFault::Line(number, kind)),
-            Err(CaptureFault::Memory) => return Err(EngineFault::Memory),
+            Err(CaptureFault::Memory(memory)) => return Err(memory.into()),
         };
         let now = Moment::new(moment).unwrap();
-        let Ok(taken) = self.receive_message(now, &room.packet, &mut room.reply) else {
-            return Err(EngineFault::Memory);
-        };
-        match push_outcome(out, &taken, &room.reply) {
-            Ok(()) => Ok(()),
-            Err(_) => Err(EngineFault::Memory),
-        }
+        let taken = self.receive_message(now, &room.packet, &mut room.reply)?;
+        Ok(push_outcome(out, &taken, &room.reply)?)
     }
 
     ghost refuses_long = { held_refuses };
@@ -121,12 +116,11 @@ impl AnswerRun {
         ensures read { result ≢ Err EngineFault.Read }
         ensures write { result ≢ Err EngineFault.Write }
     {
-        if self.kept.extend_from_slice(line).is_err() {
-            return Err(EngineFault::Memory);
-        }
+        self.kept.extend_from_slice(line)?;
         if !is_divider(&self.kept) {
-            if self.text.extend_from_slice(&self.kept).is_err() || self.text.push(b'\n').is_err() {
-                return Err(EngineFault::Memory);
+            self.text.extend_from_slice(&self.kept)?;
+            if let Err(refused) = self.text.push(b'\n') {
+                return Err(EngineFault::Memory(refused.into()));
             }
             self.kept.clear();
             return Ok(None);
@@ -135,13 +129,7 @@ impl AnswerRun {
             Ok(task) => task,
             Err(fault) => return Err(fault),
         };
-        let kept = Vec::new(alloc);
-        Ok(Some(LineRun {
-            task,
-            ended: 0,
-            kept,
-            room: LineRoom::new(alloc),
-        }))
+        Ok(Some(LineRun::new(alloc, task)))
     }
 
     /// Keeps the front of a line of the description. A description that is too long, whatever comes
@@ -156,9 +144,7 @@ impl AnswerRun {
         ensures read { result ≢ Err EngineFault.Read }
         ensures write { result ≢ Err EngineFault.Write }
     {
-        if self.kept.extend_from_slice(front).is_err() {
-            return Err(EngineFault::Memory);
-        }
+        self.kept.extend_from_slice(front)?;
         if self.text.len().saturating_add(self.kept.len()) > MAX_DESCRIPTION + MAX_DIVIDER {
             return Err(EngineFault::TooLarge);
         }
@@ -301,7 +287,7 @@ pub fn answer_all<R: Read, W: Write>(
     ensures at_read { IsErrOf result EngineFault.Read
         → WroteOfRead (run_of called_run) (R.remaining (inner_of reader.old)) (R.remaining (inner_of reader.new))
         (W.contents (inner_of writer.old)) (W.contents (inner_of writer.new)) }
-    ensures at_memory { IsErrOf result EngineFault.Memory
+    ensures at_memory { IsErrOf result no_memory
         → WroteOfFront (run_of called_run) (R.remaining (inner_of reader.old)) (W.contents (inner_of writer.old))
         (W.contents (inner_of writer.new)) }
     ensures read { IsErrOf result EngineFault.Read ↔ (has_failed reader.new ≡ true) }

@@ -1,6 +1,6 @@
 //! The description of a device in front of the line that divides.
 
-ghost use Rattle.std.specs.Prelude.{◌≡◌, ◌≢◌, Err, None, Some};
+ghost use Rattle.std.specs.Prelude.{◌≡◌, ◌≢◌, Err};
 ghost use Rattle.mctpctl_engines.specs.DescribedPieces.{Tells, begun};
 
 use mctpctl_input::{DescriptionFault, EngineFault, MAX_DESCRIPTION};
@@ -18,9 +18,6 @@ pub fn read_description(alloc: Global, text: &[u8]) -> Result<Description, Engin
     }
     match Description::read(alloc, text) {
         Ok(description) => Ok(description),
-        Err(fault) => match DescriptionFault::new(fault) {
-            Some(refusal) => Err(EngineFault::Device(refusal)),
-            None => Err(EngineFault::Memory),
-        },
+        Err(fault) => Err(EngineFault::Device(DescriptionFault::new(fault)?)),
     }
 }

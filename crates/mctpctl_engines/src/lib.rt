@@ -4,6 +4,7 @@
 mod answer_run;
 mod described;
 mod line_run;
+mod message_form;
 mod observer;
 mod schedule_run;
 mod show;
@@ -14,6 +15,7 @@ pub use mctpctl_input::{
     DescriptionFault, EngineFault, LineKind, MAX_CAPTURE_LINE, MAX_DESCRIPTION, MAX_DIVIDER,
     MAX_INPUT, Port, fault_line, status_of,
 };
+pub use message_form::{InHex, MessageForm};
 pub use observer::Observer;
 pub use schedule_run::run_all;
 pub use show::show_all;

@@ -81,6 +81,20 @@ pub struct LineRun<T> {
 }
 
 impl<T: LineTask> LineRun<T> {
+    /// A run of which no line has come.
+    pub fn new(alloc: Global, task: T) -> LineRun<T>
+        ensures task { result.task ≡ task }
+        ensures ended { result.ended ≡ 0 }
+        ensures kept { result.kept.items ≡ [] }
+    {
+        LineRun {
+            task,
+            ended: 0,
+            kept: Vec::new(alloc),
+            room: LineRoom::new(alloc),
+        }
+    }
+
     /// Answers the line that this LF ends.
     fn end_line(&mut self, alloc: Global, line: &[u8], out: &mut Vec<u8>) -> Result<(), EngineFault>
         requires feed { HasNoFeed line.now }
@@ -99,8 +113,8 @@ impl<T: LineTask> LineRun<T> {
             self.ended = number;
             return result;
         }
-        if self.kept.extend_from_slice(line).is_err() {
-            return Err(EngineFault::Memory);
+        if let Err(refused) = self.kept.extend_from_slice(line) {
+            return Err(EngineFault::Memory(refused.into()));
         }
         let result = self
             .task
@@ -122,9 +136,7 @@ impl<T: LineTask> LineRun<T> {
         ensures read { result ≢ Err EngineFault.Read }
         ensures write { result ≢ Err EngineFault.Write }
     {
-        if self.kept.extend_from_slice(front).is_err() {
-            return Err(EngineFault::Memory);
-        }
+        self.kept.extend_from_slice(front)?;
         if self.kept.len() > MAX_CAPTURE_LINE {
             return Err(EngineFault::Line(self.ended + 1, LineKind::LongLine));
         }

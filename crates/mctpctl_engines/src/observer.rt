@@ -1,57 +1,42 @@
-//! What `mctpctl show` makes of the packets of a capture.
+//! What `mctpctl show` makes of the packets of a capture, however it writes their messages.
 
 ghost use Rattle.std.specs.Prelude.{◌≡◌, ◌≢◌, ◌++◌, Err, IfOk, OnOk};
 ghost use Rattle.mctpctl_engines.specs.LinePieces.{AddsLine};
 ghost use Rattle.mctpctl_engines.specs.LongLines.{observed_refuses};
 ghost use Rattle.mctpctl_engines.specs.ObservedRuns.{Observed, given_at, none_observed, observed_of, observed_step, open_after, open_in, open_with};
-ghost use Rattle.mctpctl_texts.specs.ShownLines.{shown_text};
+ghost use Rattle.mctpctl_texts.specs.ShownLines.{completed_text, shown_text};
 ghost use Rattle.mctp_packet.specs.Reading.{reading};
 
 use crate::line_run::{LineRoom, LineTask};
+use crate::message_form::MessageForm;
 use mctp_assembly::{Assembler, Fed};
 use mctp_packet::{Eid, Memory, PacketRef, read};
 use mctpctl_input::{CaptureFault, CaptureLine, EngineFault, read_capture_line};
-use mctpctl_texts::{push_completed, push_no_packet_line, push_packet_line};
+use mctpctl_texts::{push_no_packet_line, push_packet_line};
 use std::alloc::Global;
 use std::collections::BTreeMap;
 
 /// Looks on at packets of anyone, and assembles the messages that come to each endpoint apart from those
-/// that come to any other.
+/// that come to any other. `F` says how their lines are written.
 #[derive(Drop)]
-pub struct Observer {
+pub struct Observer<F> {
+    form: F,
     /// The moment of the last packet.
     last: u64,
     /// An assembler for each endpoint that a packet has gone to.
     assemblers: BTreeMap<Eid, Assembler>,
 }
 
-impl Observer {
+impl<F: MessageForm> Observer<F> {
     /// An observer to whom nothing has come.
-    pub fn new(alloc: Global) -> Observer
+    pub fn new(alloc: Global, form: F) -> Observer<F>
         ensures { observed_of result ≡ none_observed }
     {
         Observer {
+            form,
             last: 0,
             assemblers: BTreeMap::new(alloc),
         }
-    }
-
-    /// What a packet gives at its destination.
-    pub fn feed(&mut self, alloc: Global, packet: &PacketRef<'_>) -> Result<Fed, Memory>
-        ensures fed { IfOk result (λ fed. fed ≡ given_at (open_in self.old.assemblers.entries) packet.now) }
-        ensures open { OnOk result (open_in self.new.assemblers.entries
-            ≡ open_after (open_in self.old.assemblers.entries) packet.now) }
-        ensures last { self.new.last ≡ self.old.last }
-    {
-        let destination = packet.route().destination;
-        match self.assemblers.get_mut(&destination) {
-            Some(assembler) => return assembler.feed(packet),
-            None => {}
-        }
-        let mut assembler = Assembler::new(alloc);
-        let fed = assembler.feed(packet)?;
-        self.assemblers.insert(destination, assembler)?;
-        Ok(fed)
     }
 
     /// Adds what is written of bytes that came at a moment.
@@ -63,7 +48,7 @@ impl Observer {
         text: &mut Vec<u8>,
     ) -> Result<(), Memory>
         ensures text { OnOk result (text.new.items ≡ text.old.items
-            ++ shown_text moment (reading None bytes.now) (given_at (open_in self.old.assemblers.entries))) }
+            ++ shown_text F.line moment (reading None bytes.now) (given_at (open_in self.old.assemblers.entries))) }
         ensures open { OnOk result (open_in self.new.assemblers.entries
             ≡ open_with (open_in self.old.assemblers.entries) (reading None bytes.now)) }
         ensures last { self.new.last ≡ self.old.last }
@@ -72,18 +57,49 @@ impl Observer {
             Ok(packet) => packet,
             Err(reason) => return push_no_packet_line(text, moment, reason),
         };
-        let fed = self.feed(alloc, &packet)?;
+        let fed = feed(alloc, &mut self.assemblers, &packet)?;
         push_packet_line(text, moment, &packet, &fed)?;
-        push_completed(text, &fed)
+        self.push_completed(text, &fed)
+    }
+
+    /// Adds the line of the message that a packet completes, or nothing.
+    fn push_completed(&self, out: &mut Vec<u8>, fed: &Fed) -> Result<(), Memory>
+        ensures { OnOk result (out.new.items ≡ out.old.items ++ completed_text F.line fed.now) }
+    {
+        match fed {
+            Fed::Whole(message) => self.form.push_line(out, message),
+            Fed::Partial | Fed::Dropped(_) => Ok(()),
+        }
     }
 }
 
-impl LineTask for Observer {
+/// What a packet gives at its destination.
+fn feed(
+    alloc: Global,
+    assemblers: &mut BTreeMap<Eid, Assembler>,
+    packet: &PacketRef<'_>,
+) -> Result<Fed, Memory>
+    ensures fed { IfOk result (λ fed. fed ≡ given_at (open_in assemblers.old.entries) packet.now) }
+    ensures open { OnOk result (open_in assemblers.new.entries
+        ≡ open_after (open_in assemblers.old.entries) packet.now) }
+{
+    let destination = packet.route().destination;
+    match assemblers.get_mut(&destination) {
+        Some(assembler) => return assembler.feed(packet),
+        None => {}
+    }
+    let mut assembler = Assembler::new(alloc);
+    let fed = assembler.feed(packet)?;
+    assemblers.insert(destination, assembler)?;
+    Ok(fed)
+}
+
+impl<F: MessageForm> LineTask for Observer<F> {
     ghost State = { Observed };
 
     ghost state_of = { observed_of };
 
-    ghost step = { observed_step };
+    ghost step = { observed_step F.line };
 
     /// Shows the packet of a line.
     fn answer(
@@ -94,28 +110,20 @@ impl LineTask for Observer {
         room: &mut LineRoom,
         out: &mut Vec<u8>,
     ) -> Result<(), EngineFault>
-        ensures meets { AddsLine number (observed_step (observed_of self.old) line.now) (observed_of self.new)
+        ensures meets { AddsLine number (observed_step F.line (observed_of self.old) line.now) (observed_of self.new)
             out.old.items out.new.items result }
     {
         let moment = match read_capture_line(line, self.last, &mut room.packet) {
             Ok(CaptureLine::Packet { moment }) => moment,
             Ok(CaptureLine::Skipped) => return Ok(()),
             Err(CaptureFault::Line(kind)) => return Err(EngineFault::Line(number, kind)),
-            Err(CaptureFault::Memory) => return Err(EngineFault::Memory),
+            Err(CaptureFault::Memory(memory)) => return Err(memory.into()),
         };
         room.text.clear();
-        if self
-            .show(alloc, moment, &room.packet, &mut room.text)
-            .is_err()
-        {
-            return Err(EngineFault::Memory);
-        }
+        self.show(alloc, moment, &room.packet, &mut room.text)?;
         self.last = moment;
-        if out.extend_from_slice(&room.text).is_err() {
-            return Err(EngineFault::Memory);
-        }
-        Ok(())
+        Ok(out.extend_from_slice(&room.text)?)
     }
 
-    ghost refuses_long = { observed_refuses };
+    ghost refuses_long = { observed_refuses F.line };
 }

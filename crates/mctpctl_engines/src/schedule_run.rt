@@ -11,7 +11,7 @@ ghost use Rattle.mctpctl_input.specs.Ports.{inner_of, has_failed};
 ghost use Rattle.mctpctl_engines.specs.RunText.{schedule_written, scheduled_run, spelled_by, stop_of_line, stop_of_run, run_text};
 ghost use Rattle.mctpctl_engines.specs.SchedulePieces.{TellsText, nothing_where_cut, schedule_gives, text_of_ran};
 ghost use Rattle.mctpctl_input.specs.TextLines.{capture_lines, description_of};
-ghost use Rattle.mctpctl_input.specs.LineRuns.{Writes};
+ghost use Rattle.mctpctl_input.specs.LineRuns.{Writes, no_memory};
 
 use crate::described::read_description;
 use line_words::split_line;
@@ -86,7 +86,7 @@ fn stop_of_line(fault: LineFault) -> EngineFault
         LineFaultKind::BackInTime => LineKind::BackInTime,
         LineFaultKind::NoSuchRequester => LineKind::NoSuchRequester,
         LineFaultKind::SameRequester => LineKind::SameRequester,
-        LineFaultKind::Memory => return EngineFault::Memory,
+        LineFaultKind::Memory(memory) => return EngineFault::Memory(memory),
     };
     EngineFault::Line(fault.line, kind)
 }
@@ -97,7 +97,7 @@ fn stop_of_run(fault: RunFault) -> EngineFault
 {
     match fault {
         RunFault::Timing(requester, fault) => EngineFault::Timing(requester, fault),
-        RunFault::Memory => EngineFault::Memory,
+        RunFault::Memory(memory) => EngineFault::Memory(memory),
     }
 }
 
@@ -129,9 +129,7 @@ fn run_schedule(
         Ok(report) => report,
         Err(fault) => return Err(stop_of_run(fault)),
     };
-    let Ok(device) = device_text(alloc, &report.device) else {
-        return Err(EngineFault::Memory);
-    };
+    let device = device_text(alloc, &report.device)?;
     Ok(Ran {
         schedule,
         report,
@@ -190,8 +188,8 @@ impl Run for ScheduleRun {
         ensures read { result ≢ Err EngineFault.Read }
         ensures write { result ≢ Err EngineFault.Write }
     {
-        if self.kept.extend_from_slice(piece).is_err() {
-            return Err(EngineFault::Memory);
+        if let Err(refused) = self.kept.extend_from_slice(piece) {
+            return Err(EngineFault::Memory(refused.into()));
         }
         Ok(())
     }
@@ -241,7 +239,7 @@ pub fn run_all<R: Read, W: Write>(
         (λ all. Writes (run_text all) (W.contents (inner_of writer.old)) (W.contents (inner_of writer.new)) result) }
     ensures at_read { IsErrOf result EngineFault.Read
         → Keeps (W.contents (inner_of writer.old)) (W.contents (inner_of writer.new)) }
-    ensures at_memory { IsErrOf result EngineFault.Memory
+    ensures at_memory { IsErrOf result no_memory
         → Keeps (W.contents (inner_of writer.old)) (W.contents (inner_of writer.new)) }
     ensures read { IsErrOf result EngineFault.Read ↔ (has_failed reader.new ≡ true) }
     ensures write { IsErrOf result EngineFault.Write ↔ (has_failed writer.new ≡ true) }

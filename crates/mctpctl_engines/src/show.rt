@@ -1,12 +1,14 @@
 //! The engine of `mctpctl show`: a capture, and what its packets and messages say.
 
 ghost use Rattle.std.specs.Prelude.{◌≡◌, ◌≢◌, ◌↔◌, Err, IfSome, IsErrOf, true, false};
-ghost use Rattle.mctpctl_input.specs.LineRuns.{Writes};
+ghost use Rattle.mctpctl_input.specs.LineRuns.{Writes, no_memory};
 ghost use Rattle.mctpctl_input.specs.Pieces.{WroteOfFront, WroteOfRead};
 ghost use Rattle.mctpctl_input.specs.Ports.{inner_of, has_failed};
 ghost use Rattle.mctpctl_engines.specs.ShowText.{seen_run, show_text};
+ghost use Rattle.mctpctl_texts.specs.ShownLines.{message_line};
 
-use crate::line_run::{LineRoom, LineRun};
+use crate::line_run::LineRun;
+use crate::message_form::InHex;
 use crate::observer::Observer;
 use mctp_assembly::laws;
 use mctpctl_input::{EngineFault, Port, run_to_end};
@@ -32,24 +34,18 @@ pub fn show_all<R: Read, W: Write>(
     requires reads { has_failed reader.old ≡ false }
     requires writes { has_failed writer.old ≡ false }
     ensures text { IfSome (R.remaining (inner_of reader.old))
-        (λ all. Writes (show_text all) (W.contents (inner_of writer.old)) (W.contents (inner_of writer.new)) result) }
+        (λ all. Writes (show_text message_line all) (W.contents (inner_of writer.old))
+        (W.contents (inner_of writer.new)) result) }
     ensures at_read { IsErrOf result EngineFault.Read
-        → WroteOfRead seen_run (R.remaining (inner_of reader.old)) (R.remaining (inner_of reader.new))
+        → WroteOfRead (seen_run message_line) (R.remaining (inner_of reader.old)) (R.remaining (inner_of reader.new))
         (W.contents (inner_of writer.old)) (W.contents (inner_of writer.new)) }
-    ensures at_memory { IsErrOf result EngineFault.Memory
-        → WroteOfFront seen_run (R.remaining (inner_of reader.old))
+    ensures at_memory { IsErrOf result no_memory
+        → WroteOfFront (seen_run message_line) (R.remaining (inner_of reader.old))
         (W.contents (inner_of writer.old)) (W.contents (inner_of writer.new)) }
     ensures read { IsErrOf result EngineFault.Read ↔ (has_failed reader.new ≡ true) }
     ensures write { IsErrOf result EngineFault.Write ↔ (has_failed writer.new ≡ true) }
 {
     laws::looks_back();
-    let task = Observer::new(alloc);
-    let kept = Vec::new(alloc);
-    let mut run = LineRun {
-        task,
-        ended: 0,
-        kept,
-        room: LineRoom::new(alloc),
-    };
+    let mut run = LineRun::new(alloc, Observer::new(alloc, InHex));
     run_to_end(alloc, &mut run, reader, writer)
 }

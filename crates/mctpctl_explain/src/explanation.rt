@@ -37,7 +37,7 @@ pub fn explain(
     ensures outside { IsOutside fault.now → IfOk result (λ text. string_bytes text ≡ []) }
 {
     match fault {
-        EngineFault::Read | EngineFault::Write | EngineFault::Memory => Ok(String::new(alloc)),
+        EngineFault::Read | EngineFault::Write | EngineFault::Memory(_) => Ok(String::new(alloc)),
         EngineFault::Device(fault) => explain_description(
             alloc,
             description_in(input),

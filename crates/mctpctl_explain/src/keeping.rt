@@ -65,7 +65,8 @@ impl<R: Read> Read for Keeping<R> {
     /// One read of the reader. What it gave is kept; at an error nothing is.
     fn read(&mut self, buf: &mut [u8]) -> io::Result<usize>
         ensures bound { ReadsAtMost result buf.new }
-        ensures bytes { ReadConsumes (R.remaining (inner_of self.old)) (R.remaining (inner_of self.new)) result buf.new }
+        ensures bytes { ReadConsumes (R.remaining (inner_of self.old)) (R.remaining (inner_of self.new)) result
+            buf.new }
         ensures kept { IfOk result (λ n. has_lost self.new ≡ false
             → kept_of self.new ≡ kept_of self.old ++ take (MAX_INPUT - length (kept_of self.old)) (take n buf.new)) }
         ensures error { OnErr result (kept_of self.new ≡ kept_of self.old) }

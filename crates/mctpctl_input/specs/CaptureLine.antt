@@ -61,4 +61,4 @@ packet_in (Packet moment) bytes = Some (record { moment = moment; bytes = bytes 
 -- a fault of the line is the one that it has; memory may be wanting at any line
 abbrev pub TellsFault : Result (Option TimedPacket) LineKind → CaptureFault → Type 0
 TellsFault said (Line kind) = said ≡ Err kind
-TellsFault said Memory = Unit {0}
+TellsFault said (Memory refused) = Unit {0}

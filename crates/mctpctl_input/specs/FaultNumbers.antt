@@ -15,7 +15,7 @@ number_of_engine_fault (Timing requester fault) = 4
 number_of_engine_fault TooLarge = 5
 number_of_engine_fault Read = 6
 number_of_engine_fault Write = 7
-number_of_engine_fault Memory = 8
+number_of_engine_fault (Memory refused) = 8
 
 abbrev pub number_of_line_kind : LineKind → ℕ
 number_of_line_kind LongLine = 1

@@ -35,4 +35,4 @@ fault_text (Timing requester fault) =
 fault_text TooLarge = codes "input too large"
 fault_text Read = codes "read fault"
 fault_text Write = codes "write fault"
-fault_text Memory = codes "out of memory"
+fault_text (Memory refused) = codes "out of memory"

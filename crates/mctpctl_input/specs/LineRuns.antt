@@ -2,6 +2,7 @@
 use Rattle.std.specs.Prelude.{◌≡◌, ◌⊎◌, ℕ, ◌+◌, Bool, nat_lt, if◌then◌else◌}
 use Rattle.std.specs.Prelude.{List, [], ◌∷◌, ◌++◌, length, Option, None, Some, Result, Ok, Err, MatchResult}
 use Rattle.std.specs.Io.KnownBytes.{Appends, Keeps}
+use Rattle.mctp_packet.specs.Memories.{out_of_memory}
 use Rattle.mctpctl_input.specs.declared.faults.EngineFault.{EngineFault}
 use Rattle.mctpctl_input.specs.declared.faults.EngineFault.TheVariants.{Line, TooLarge, Read, Write, Memory}
 use Rattle.mctpctl_input.specs.declared.faults.LineKind.{LineKind}
@@ -47,9 +48,13 @@ module _ {S : Type 0} (step : S → List ℕ → Result (List ℕ × S) LineKind
   lines_written is_cut n state [] = if is_cut then stops_at TooLarge else ends
   lines_written is_cut n state (line ∷ more) = lines_from is_cut n state line more
 
--- a fault of the ports, or want of memory: the input does not tell it
+-- out of memory
+abbrev pub no_memory : EngineFault
+no_memory = Memory out_of_memory
+
+-- a fault of the ports, or out of memory: the input does not tell it
 abbrev pub IsOutside : EngineFault → Type 0
-IsOutside fault = (fault ≡ Read) ⊎ (fault ≡ Write) ⊎ (fault ≡ Memory)
+IsOutside fault = (fault ≡ Read) ⊎ (fault ≡ Write) ⊎ (fault ≡ no_memory)
 
 -- a run that is Ok has written all the text, and the input has no fault; a fault of the input is told after the text
 -- before it

@@ -2,9 +2,9 @@
 use Rattle.std.specs.Prelude.{◌≡◌, ◌≢◌, ◌⊎◌, ℕ, Bool, true, List, [], ◌++◌}
 use Rattle.std.specs.Prelude.{Option, None, Some, Result, MatchResult}
 use Rattle.std.specs.Io.KnownBytes.{Appends, Consumes}
-use Rattle.mctpctl_input.specs.LineRuns.{Written, stops_at, after_text}
+use Rattle.mctpctl_input.specs.LineRuns.{Written, stops_at, after_text, no_memory}
 use Rattle.mctpctl_input.specs.declared.faults.EngineFault.{EngineFault}
-use Rattle.mctpctl_input.specs.declared.faults.EngineFault.TheVariants.{Write, Memory}
+use Rattle.mctpctl_input.specs.declared.faults.EngineFault.TheVariants.{Write}
 
 -- what a run writes of the bytes that are to come, if they are cut off or all
 abbrev pub Gives : Type 0
@@ -30,22 +30,22 @@ Takes before piece after old new result =
     MatchResult result
     (λ _. (text : List ℕ) × (new ≡ old ++ text) × GoesOn before piece text after)
     (λ fault. (text : List ℕ) × (new ≡ old ++ text)
-    × (((fault ≡ Memory) × IsFront before piece text) ⊎ ((fault ≢ Memory) × StopsWith before piece text fault)))
+    × (((fault ≡ no_memory) × IsFront before piece text) ⊎ ((fault ≢ no_memory) × StopsWith before piece text fault)))
 
 -- the end of the input gives the text of what was left of it
 abbrev pub Finishes : Written → List ℕ → List ℕ → Result Unit EngineFault → Type 0
 Finishes rest old new result =
     MatchResult result
     (λ _. (rest.fault ≡ None) × (new ≡ old ++ rest.text))
-    (λ fault. ((fault ≡ Memory) × (new ≡ old))
-    ⊎ ((fault ≢ Memory) × (rest.fault ≡ Some fault) × (new ≡ old ++ rest.text)))
+    (λ fault. ((fault ≡ no_memory) × (new ≡ old))
+    ⊎ ((fault ≢ no_memory) × (rest.fault ≡ Some fault) × (new ≡ old ++ rest.text)))
 
 -- a fault after a piece
 abbrev pub TakesErr : Gives → List ℕ → Option (List ℕ) → Option (List ℕ) → EngineFault → Type 0
 TakesErr before piece old new fault =
     (fault ≡ Write)
     ⊎ ((text : List ℕ) × Appends old new text
-    × (((fault ≡ Memory) × IsFront before piece text) ⊎ ((fault ≢ Memory) × StopsWith before piece text fault)))
+    × (((fault ≡ no_memory) × IsFront before piece text) ⊎ ((fault ≢ no_memory) × StopsWith before piece text fault)))
 
 -- as `Takes`, of what a writer took
 abbrev pub TakesTo : Gives → List ℕ → Gives → Option (List ℕ) → Option (List ℕ) → Result Unit EngineFault → Type 0
@@ -57,8 +57,8 @@ TakesTo before piece after old new result =
 -- a fault at the end
 abbrev pub FinishesErr : Written → Option (List ℕ) → Option (List ℕ) → EngineFault → Type 0
 FinishesErr rest old new fault =
-    (fault ≡ Write) ⊎ ((fault ≡ Memory) × Appends old new [])
-    ⊎ ((fault ≢ Memory) × (rest.fault ≡ Some fault) × Appends old new rest.text)
+    (fault ≡ Write) ⊎ ((fault ≡ no_memory) × Appends old new [])
+    ⊎ ((fault ≢ no_memory) × (rest.fault ≡ Some fault) × Appends old new rest.text)
 
 -- as `Finishes`, of what a writer took
 abbrev pub FinishesTo : Written → Option (List ℕ) → Option (List ℕ) → Result Unit EngineFault → Type 0

@@ -13,4 +13,4 @@ status_of_fault (Timing requester fault) = 1
 status_of_fault TooLarge = 1
 status_of_fault Read = 3
 status_of_fault Write = 3
-status_of_fault Memory = 3
+status_of_fault (Memory refused) = 3

@@ -2,13 +2,15 @@
 
 ghost use Rattle.std.specs.Prelude.{◌≡◌, ◌≤◌, ℕ, MatchResult, drop, Ok, Err, IfOk, IfErr, IfSome, OnOk, true};
 ghost use Rattle.line_words.specs.Lines.{words_of};
+ghost use Rattle.mctp_packet.specs.Memories.{out_of_memory};
 ghost use Rattle.mctpctl_input.specs.CaptureLine.{capture_of, packet_in, packet_at, packet_word, timed_packet, moment_of, TellsFault};
 ghost use Rattle.hex.specs.Hex.{decode_of};
 
 use crate::faults::LineKind;
 use crate::limits::MAX_CAPTURE_LINE;
 use line_words::{first_word, read_number, split_word};
-use mctp_packet::MAX_MOMENT;
+use mctp_packet::{MAX_MOMENT, Memory};
+use std::alloc::AllocError;
 use thiserror::Error;
 
 /// What a line of a capture says.
@@ -31,7 +33,17 @@ pub enum CaptureFault {
     Line(LineKind),
     /// No memory was left.
     #[error("out of memory")]
-    Memory,
+    Memory(Memory),
+}
+
+impl From<AllocError> for CaptureFault {
+    ghost use Rattle.mctpctl_input.specs.declared.capture.CaptureFault.TheVariants as faults;
+
+    ghost from_gives = { λ _ fault. fault ≡ faults.Memory out_of_memory };
+
+    fn from(refused: AllocError) -> CaptureFault {
+        CaptureFault::Memory(refused.into())
+    }
 }
 
 /// What one line says, given without its LF, where `last` is the moment of an earlier line, in
@@ -137,9 +149,7 @@ fn read_hex(digits: &[u8], packet: &mut Vec<u8>) -> Result<(), CaptureFault>
     ensures ok { OnOk result (decode_of digits.now ≡ Ok packet.new.items) }
     ensures err { IfErr result (λ fault. (moment : ℕ) → TellsFault (packet_at moment (decode_of digits.now)) fault) }
 {
-    if packet.resize(digits.len() / 2, 0).is_err() {
-        return Err(CaptureFault::Memory);
-    }
+    packet.resize(digits.len() / 2, 0)?;
     match hex::decode_to_slice(digits, packet.as_mut_slice()) {
         Ok(()) => Ok(()),
         Err(_) => Err(CaptureFault::Line(LineKind::BadHex)),

@@ -1,14 +1,16 @@
 //! What ends a run before its time, the text that tells it, and the program's exit status.
 
-ghost use Rattle.std.specs.Prelude.{◌≡◌, ◌≢◌, IfOk, IfSome, IfNone, Some, string_bytes};
+ghost use Rattle.std.specs.Prelude.{◌≡◌, ◌≢◌, IfOk, OnErr, Some, string_bytes};
+ghost use Rattle.mctp_packet.specs.Memories.{out_of_memory};
 ghost use Rattle.mctpctl_input.specs.FaultNumbers.{number_of_engine_fault, number_of_line_kind};
 ghost use Rattle.mctpctl_input.specs.FaultTexts.{fault_text, name_of_line_kind, name_of_timing_fault};
+ghost use Rattle.mctpctl_input.specs.LineRuns.{no_memory};
 ghost use Rattle.mctpctl_input.specs.Statuses.{status_of_fault};
 
 use mctp_packet::{Eid, Memory};
 use pldm_device::FileFault;
 use pldm_requester::TimingFault;
-use std::alloc::Global;
+use std::alloc::{AllocError, Global};
 use std::marker::Model;
 use std::{error, fmt};
 use thiserror::Error;
@@ -66,33 +68,34 @@ pub struct DescriptionFault {
 impl Model for DescriptionFault {
     ghost use Rattle.std.specs.Prelude.{◌≢◌};
     ghost use Rattle.pldm_device.specs.declared.description_fault.FileFault.{FileFault};
+    ghost use Rattle.mctp_packet.specs.Memories.{out_of_memory};
     ghost use Rattle.pldm_device.specs.declared.description_fault.FileFault.TheVariants as faults;
 
     ghost Value = { FileFault };
 
     ghost view = { λ refusal. refusal.fault };
 
-    ghost invariant = { λ refusal. refusal.fault ≢ faults.Memory };
+    ghost invariant = { λ refusal. refusal.fault ≢ faults.Memory out_of_memory };
 
     ghost inverse = { λ fault. record { fault = fault } };
 }
 
 impl DescriptionFault {
-    /// The fault of a description that was refused; `None` where memory ran out.
-    pub fn new(fault: FileFault) -> Option<DescriptionFault>
-        ensures some { IfSome result (λ refusal. refusal ≡ fault) }
-        ensures none { IfNone result (fault ≡ FileFault.Memory) }
+    /// The fault of a description that was refused; `Memory` where memory ran out.
+    pub fn new(fault: FileFault) -> Result<DescriptionFault, Memory>
+        ensures ok { IfOk result (λ refusal. refusal ≡ fault) }
+        ensures memory { OnErr result (fault ≡ FileFault.Memory out_of_memory) }
     {
         match fault {
-            FileFault::Memory => None,
-            _ => Some(DescriptionFault { fault }),
+            FileFault::Memory(memory) => Err(memory),
+            _ => Ok(DescriptionFault { fault }),
         }
     }
 
     /// The fault of the description.
     pub fn fault(&self) -> FileFault
         ensures value { result ≡ self.now }
-        ensures no_memory { result ≢ FileFault.Memory }
+        ensures no_memory { result ≢ FileFault.Memory out_of_memory }
     {
         self.fault
     }
@@ -116,7 +119,23 @@ pub enum EngineFault {
     /// The writer failed.
     Write,
     /// No memory was left.
-    Memory,
+    Memory(Memory),
+}
+
+impl From<Memory> for EngineFault {
+    ghost from_gives = { λ memory fault. fault ≡ no_memory };
+
+    fn from(memory: Memory) -> EngineFault {
+        EngineFault::Memory(memory)
+    }
+}
+
+impl From<AllocError> for EngineFault {
+    ghost from_gives = { λ refused fault. fault ≡ no_memory };
+
+    fn from(refused: AllocError) -> EngineFault {
+        EngineFault::Memory(refused.into())
+    }
 }
 
 impl fmt::Display for EngineFault {
@@ -133,7 +152,7 @@ impl fmt::Display for EngineFault {
             EngineFault::TooLarge => write!(f, "input too large"),
             EngineFault::Read => write!(f, "read fault"),
             EngineFault::Write => write!(f, "write fault"),
-            EngineFault::Memory => write!(f, "out of memory"),
+            EngineFault::Memory(_) => write!(f, "out of memory"),
         }
     }
 }
@@ -153,7 +172,7 @@ impl EngineFault {
             EngineFault::TooLarge => 5,
             EngineFault::Read => 6,
             EngineFault::Write => 7,
-            EngineFault::Memory => 8,
+            EngineFault::Memory(_) => 8,
         }
     }
 }
@@ -181,7 +200,7 @@ pub fn status_of(fault: &EngineFault) -> u8
         | EngineFault::Line(_, _)
         | EngineFault::Timing(_, _)
         | EngineFault::TooLarge => 1,
-        EngineFault::Read | EngineFault::Write | EngineFault::Memory => 3,
+        EngineFault::Read | EngineFault::Write | EngineFault::Memory(_) => 3,
     }
 }
 

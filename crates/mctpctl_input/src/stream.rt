@@ -2,7 +2,7 @@
 //! written before more input is asked for.
 
 ghost use Rattle.std.specs.Prelude.{◌≡◌, ◌≢◌, ◌≤◌, ◌<◌, ◌+◌, ◌↔◌, ℕ, Bool, List, [], Err, OnOk, IfOk, IfSome, IsErrOf, length, nat_lt, take, vec_len, true, false};
-ghost use Rattle.mctpctl_input.specs.LineRuns.{Written, Writes};
+ghost use Rattle.mctpctl_input.specs.LineRuns.{Writes, Written, no_memory};
 ghost use Rattle.mctpctl_input.specs.Pieces.{Takes, TakesTo, FinishesTo, WroteOfRead, WroteOfFront};
 ghost use Rattle.mctpctl_input.specs.Ports.{inner_of, has_failed};
 
@@ -12,7 +12,7 @@ use crate::port::Port;
 use std::alloc::{AllocError, Global};
 use std::io::{Read, Write};
 
-/// How many bytes are asked for at once.
+/// How many bytes are asked for at once: as many as a pipe of Linux holds, so that one read empties it.
 const PIECE: usize = 65_536;
 
 /// A run over an input that comes in pieces. `gives` says what it writes of the bytes to come, which are
@@ -106,7 +106,7 @@ fn run_pieces<T: Run, R: Read, W: Write>(
     ensures at_read { IsErrOf result EngineFault.Read
         → WroteOfRead (T.gives run.old) (R.remaining (inner_of reader.old)) (R.remaining (inner_of reader.new))
         (W.contents (inner_of writer.old)) (W.contents (inner_of writer.new)) }
-    ensures at_memory { IsErrOf result EngineFault.Memory
+    ensures at_memory { IsErrOf result no_memory
         → WroteOfFront (T.gives run.old) (R.remaining (inner_of reader.old)) (W.contents (inner_of writer.old))
         (W.contents (inner_of writer.new)) }
     ensures read { IsErrOf result EngineFault.Read ↔ (has_failed reader.new ≡ true) }
@@ -150,15 +150,13 @@ fn run_input<T: Run, R: Read, W: Write>(
     ensures at_read { IsErrOf result EngineFault.Read
         → WroteOfRead (T.gives run.old) (R.remaining (inner_of reader.old)) (R.remaining (inner_of reader.new))
         (W.contents (inner_of writer.old)) (W.contents (inner_of writer.new)) }
-    ensures at_memory { IsErrOf result EngineFault.Memory
+    ensures at_memory { IsErrOf result no_memory
         → WroteOfFront (T.gives run.old) (R.remaining (inner_of reader.old)) (W.contents (inner_of writer.old))
         (W.contents (inner_of writer.new)) }
     ensures read { IsErrOf result EngineFault.Read ↔ (has_failed reader.new ≡ true) }
     ensures write { IsErrOf result EngineFault.Write ↔ (has_failed writer.new ≡ true) }
 {
-    let Ok(mut piece) = room_for_a_piece(alloc) else {
-        return Err(EngineFault::Memory);
-    };
+    let mut piece = room_for_a_piece(alloc)?;
     run_pieces(alloc, run, reader, writer, &mut piece)
 }
 
@@ -179,7 +177,7 @@ pub fn run_to_end<T: Run, R: Read, W: Write>(
     ensures at_read { IsErrOf result EngineFault.Read
         → WroteOfRead (T.gives run.old) (R.remaining (inner_of reader.old)) (R.remaining (inner_of reader.new))
         (W.contents (inner_of writer.old)) (W.contents (inner_of writer.new)) }
-    ensures at_memory { IsErrOf result EngineFault.Memory
+    ensures at_memory { IsErrOf result no_memory
         → WroteOfFront (T.gives run.old) (R.remaining (inner_of reader.old)) (W.contents (inner_of writer.old))
         (W.contents (inner_of writer.new)) }
     ensures read { IsErrOf result EngineFault.Read ↔ (has_failed reader.new ≡ true) }

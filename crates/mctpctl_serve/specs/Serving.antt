@@ -1,7 +1,10 @@
 -- What a device that is served over a serial line writes of the bytes that come and of the clock's readings.
-use Rattle.std.specs.Prelude.{◌≡◌, ℕ, max, min, List, [], ◌∷◌, ◌++◌, length, Option}
+use Rattle.std.specs.Prelude.{◌≡◌, ℕ, max, min}
+use Rattle.std.specs.Prelude.{List, [], ◌∷◌, ◌++◌, length, Option, None, Some}
 use Rattle.std.specs.Io.KnownBytes.{Appends, Consumes}
 use Rattle.std.specs.List.{flat_map}
+use Rattle.mctp_control.specs.Dropped.{control_left, control_reply}
+use Rattle.mctp_control.specs.declared.endpoint.Endpoint.{Endpoint}
 use Rattle.mctp_packet.specs.declared.TheConstants.{MAX_MOMENT}
 use Rattle.mctp_serial.specs.Frames.{frame}
 use Rattle.mctp_serial.specs.Readings.{Reading, after, told_by}
@@ -36,45 +39,72 @@ timed last (reading ∷ readings) [] = []
 timed last (reading ∷ readings) (packet ∷ packets) =
     record { moment = moment_after last reading; bytes = packet } ∷ timed (moment_after last reading) readings packets
 
--- the frames of an answer's packets
-abbrev pub frames_of : Outcome → List ℕ
-frames_of (outcome.Dropped reason) = []
-frames_of outcome.Partial = []
-frames_of (outcome.Answered fresh changed packets) = flat_map frame packets
+-- what answers on a line: the responder, by what it holds, and the endpoint of control messages
+pub record Answerers (S : Type 0) : Type 0 where
+  pub held : Held S
+  pub control : Endpoint
+
+abbrev pub answerers : {S : Type 0} → Held S → Endpoint → Answerers S
+answerers held control = record { held = held; control = control }
+
+abbrev pub frames_if : Option (List ℕ) → List ℕ
+frames_if None = []
+frames_if (Some packet) = frame packet
+
+-- the frames of the answer to a packet, of which this came at the responder
+abbrev pub frames_of : Endpoint → List ℕ → Outcome → List ℕ
+frames_of control packet (outcome.Dropped reason) = frames_if (control_reply control reason packet)
+frames_of control packet outcome.Partial = []
+frames_of control packet (outcome.Answered fresh changed packets) = flat_map frame packets
+
+-- the control endpoint after a packet, of which this came at the responder
+abbrev pub control_after : Endpoint → List ℕ → Outcome → Endpoint
+control_after control packet (outcome.Dropped reason) = control_left control reason packet
+control_after control packet outcome.Partial = control
+control_after control packet (outcome.Answered fresh changed packets) = control
 
 module _ {S : Type 0} (device : Rules S) where
-  -- what is held after packets at their moments
-  abbrev pub held_after : Held S → List TimedPacket → Held S
-  held_after held [] = held
-  held_after held (packet ∷ packets) = held_after (received_held device held packet.moment packet.bytes) packets
+  -- the frames of the answer to a packet at a moment
+  abbrev pub packet_frames : Answerers S → ℕ → List ℕ → List ℕ
+  packet_frames a moment packet = frames_of a.control packet (received_outcome device a.held moment packet)
+
+  -- what answers after a packet at a moment: the responder comes first
+  abbrev pub packet_after : Answerers S → ℕ → List ℕ → Answerers S
+  packet_after a moment packet =
+      answerers (received_held device a.held moment packet)
+      (control_after a.control packet (received_outcome device a.held moment packet))
+
+  -- what answers after packets at their moments
+  abbrev pub packets_after : Answerers S → List TimedPacket → Answerers S
+  packets_after a [] = a
+  packets_after a (packet ∷ packets) = packets_after (packet_after a packet.moment packet.bytes) packets
 
   -- the frames of the answers to packets at their moments
-  abbrev pub answers : Held S → List TimedPacket → List ℕ
-  answers held [] = []
-  answers held (packet ∷ packets) =
-      frames_of (received_outcome device held packet.moment packet.bytes)
-      ++ answers (received_held device held packet.moment packet.bytes) packets
+  abbrev pub answers : Answerers S → List TimedPacket → List ℕ
+  answers a [] = []
+  answers a (packet ∷ packets) =
+      packet_frames a packet.moment packet.bytes ++ answers (packet_after a packet.moment packet.bytes) packets
 
   -- the packets whose frames end in the bytes, at their moments
-  abbrev pub came : Held S → Reading → List ℕ → List ℕ → List TimedPacket
-  came held reading bytes readings = timed held.last readings (packets_in reading bytes)
+  abbrev pub came : Answerers S → Reading → List ℕ → List ℕ → List TimedPacket
+  came a reading bytes readings = timed a.held.last readings (packets_in reading bytes)
 
   -- of these bytes, with readings that the clock gave, one for each packet, the answers were written
-  pub record Hears (held : Held S) (reading : Reading) (bytes : List ℕ) (held1 : Held S) (reading1 : Reading)
+  pub record Hears (a : Answerers S) (reading : Reading) (bytes : List ℕ) (a1 : Answerers S) (reading1 : Reading)
       (clock clock1 old new : Option (List ℕ)) : Type 0 where
     pub readings : List ℕ
     pub each : length readings ≡ length (packets_in reading bytes)
     pub ticked : Consumes clock clock1 readings
     pub reader : reading1 ≡ after reading bytes
-    pub responder : held1 ≡ held_after held (came held reading bytes readings)
-    pub wrote : Appends old new (answers held (came held reading bytes readings))
+    pub answer : a1 ≡ packets_after a (came a reading bytes readings)
+    pub wrote : Appends old new (answers a (came a reading bytes readings))
 
   -- of a front of all bytes
-  pub record HearsFront (held : Held S) (reading : Reading) (all clock old new : Option (List ℕ)) : Type 0 where
+  pub record HearsFront (a : Answerers S) (reading : Reading) (all clock old new : Option (List ℕ)) : Type 0 where
     pub front : List ℕ
     pub back : Option (List ℕ)
     pub all_are : Consumes all back front
-    pub held1 : Held S
+    pub a1 : Answerers S
     pub reading1 : Reading
     pub clock1 : Option (List ℕ)
-    pub hears : Hears held reading front held1 reading1 clock clock1 old new
+    pub hears : Hears a reading front a1 reading1 clock clock1 old new

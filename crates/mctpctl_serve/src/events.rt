@@ -14,6 +14,8 @@ pub enum Event<'a> {
     Dropped(Reason),
     /// The packets of this message were sent on this route, at this moment.
     Sent(Moment, Route, &'a [u8]),
+    /// The packet of these bytes was sent at this moment. It answers a control message, which the responder dropped.
+    SentControl(Moment, &'a [u8]),
 }
 
 /// Is told what happens on the line. Nothing that it does changes what is answered.

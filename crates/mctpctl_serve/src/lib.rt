@@ -6,12 +6,15 @@ mod answers;
 mod events;
 mod fault;
 mod line;
+mod log;
+mod texts;
 mod ticks;
 
 use arrayvec::ArrayVec;
 pub use events::{Event, Unwatched, Watch};
 pub use fault::ServeFault;
 pub use line::{Line, serve};
+pub use log::Log;
 use mctp_packet::MAX_PACKETS;
 use mctp_serial::MAX_FRAME_BYTES;
 pub use mctpctl_input::Port;

@@ -3,11 +3,12 @@
 
 ghost use Rattle.std.specs.Prelude.{◌≡◌, ◌≢◌, ◌↔◌, ℕ, List, [], ◌∷◌, Some, Err, IfErr, OnOk, IfSome, IsErrOf, max, min, length, ◌≤◌, ◌<◌, true, false};
 ghost use Rattle.std.specs.Io.KnownBytes.{Appends, Consumes, Keeps};
+ghost use Rattle.mctp_control.specs.Dropped.{control_left, control_reply};
 ghost use Rattle.mctp_packet.specs.Ids.{IsMoment};
 ghost use Rattle.mctp_packet.specs.Pieces.{written_packets};
 ghost use Rattle.mctp_serial.specs.Frames.{frame};
 ghost use Rattle.mctpctl_input.specs.Ports.{inner_of, has_failed};
-ghost use Rattle.mctpctl_serve.specs.Serving.{Hears, HearsFront, frames_of, moment_after};
+ghost use Rattle.mctpctl_serve.specs.Serving.{Hears, HearsFront, answerers, control_after, frames_if, frames_of, moment_after};
 ghost use Rattle.pldm_responder.specs.Performing.{rules_of};
 ghost use Rattle.pldm_responder.specs.Stations.{held_of};
 ghost use Rattle.pldm_responder.specs.Steps.{received_held, received_outcome};
@@ -17,8 +18,9 @@ use crate::answers::frames_of;
 use crate::events::{Event, Watch};
 use crate::fault::ServeFault;
 use crate::ticks::Ticks;
-use mctp_packet::{Body, MAX_MOMENT, Moment};
-use mctp_serial::{FrameReader, Told};
+use mctp_control::Endpoint;
+use mctp_packet::{Body, MAX_MOMENT, Moment, Reason};
+use mctp_serial::{FrameReader, Told, frame};
 use mctpctl_input::Port;
 use pldm_platform::Platform;
 use pldm_responder::{Responder, Taken};
@@ -34,6 +36,8 @@ pub struct Line<P: Platform, C, L> {
     pub frames: FrameReader,
     /// Answers them.
     pub responder: Responder<P>,
+    /// Answers those of control messages, which the responder drops.
+    pub control: Endpoint,
     /// Tells their moments.
     pub ticks: C,
     /// Is told what happens.
@@ -73,12 +77,16 @@ fn hear_packet<P: Platform, C: Ticks, L: Watch, W: Write>(
     writer: &mut Port<W>,
 ) -> Result<(), ServeFault>
     requires { has_failed writer.old ≡ false }
-    ensures heard { OnOk result ((reading : ℕ) × Consumes (C.to_come line.old.ticks) (C.to_come line.new.ticks) (reading ∷ [])
+    ensures heard { OnOk result ((reading : ℕ)
+        × Consumes (C.to_come line.old.ticks) (C.to_come line.new.ticks) (reading ∷ [])
         × (held_of line.new.responder ≡ received_held (rules_of P.answer P.after P.sensed) (held_of line.old.responder)
         (moment_after (held_of line.old.responder).last reading) packet.now)
+        × (line.new.control ≡ control_after line.old.control packet.now (received_outcome
+        (rules_of P.answer P.after P.sensed) (held_of line.old.responder)
+        (moment_after (held_of line.old.responder).last reading) packet.now))
         × Appends (W.contents (inner_of writer.old)) (W.contents (inner_of writer.new))
-        (frames_of (received_outcome (rules_of P.answer P.after P.sensed) (held_of line.old.responder)
-        (moment_after (held_of line.old.responder).last reading) packet.now))) }
+        (frames_of line.old.control packet.now (received_outcome (rules_of P.answer P.after P.sensed)
+        (held_of line.old.responder) (moment_after (held_of line.old.responder).last reading) packet.now))) }
     ensures frames { line.new.frames ≡ line.old.frames }
     ensures stopped { IfErr result (λ fault. fault ≢ ServeFault.Write
         → Keeps (W.contents (inner_of writer.old)) (W.contents (inner_of writer.new))) }
@@ -94,13 +102,50 @@ fn hear_packet<P: Platform, C: Ticks, L: Watch, W: Write>(
         return Err(ServeFault::Memory);
     };
     match taken {
-        Taken::Dropped(reason) => line.watch.saw(&Event::Dropped(reason)),
+        Taken::Dropped(reason) => {
+            answer_drop(
+                &mut line.control,
+                &mut line.watch,
+                now,
+                reason,
+                packet,
+                writer,
+            )?;
+        }
         Taken::Partial => {}
         Taken::Answered { route, .. } => {
             send(&frames_of(&route, reply), writer)?;
             line.watch.saw(&Event::Sent(now, route, reply));
         }
     }
+    Ok(())
+}
+
+/// Sends the answer to a packet that the responder dropped; where there is none, the drop is told.
+fn answer_drop<L: Watch, W: Write>(
+    control: &mut Endpoint,
+    watch: &mut L,
+    now: Moment,
+    reason: Reason,
+    packet: &[u8],
+    writer: &mut Port<W>,
+) -> Result<(), ServeFault>
+    requires { has_failed writer.old ≡ false }
+    ensures bytes { OnOk result (Appends (W.contents (inner_of writer.old)) (W.contents (inner_of writer.new))
+        (frames_if (control_reply control.old reason packet.now))) }
+    ensures control { control.new ≡ control_left control.old reason packet.now }
+    ensures fault { IfErr result (λ fault. fault ≡ ServeFault.Write) }
+    ensures write { IsErrOf result ServeFault.Write ↔ (has_failed writer.new ≡ true) }
+{
+    let Some(reply) = control.receive_dropped(reason, packet) else {
+        watch.saw(&Event::Dropped(reason));
+        return Ok(());
+    };
+    let Some(frame) = frame(&reply) else {
+        unreachable!();
+    };
+    send(&frame, writer)?;
+    watch.saw(&Event::SentControl(now, &reply));
     Ok(())
 }
 
@@ -112,8 +157,10 @@ fn hear_byte<P: Platform, C: Ticks, L: Watch, W: Write>(
     writer: &mut Port<W>,
 ) -> Result<(), ServeFault>
     requires { has_failed writer.old ≡ false }
-    ensures heard { OnOk result (Hears (rules_of P.answer P.after P.sensed) (held_of line.old.responder) line.old.frames
-        (byte ∷ []) (held_of line.new.responder) line.new.frames (C.to_come line.old.ticks) (C.to_come line.new.ticks)
+    ensures heard { OnOk result (Hears (rules_of P.answer P.after P.sensed)
+        (answerers (held_of line.old.responder) line.old.control) line.old.frames (byte ∷ [])
+        (answerers (held_of line.new.responder) line.new.control) line.new.frames
+        (C.to_come line.old.ticks) (C.to_come line.new.ticks)
         (W.contents (inner_of writer.old)) (W.contents (inner_of writer.new))) }
     ensures stopped { IfErr result (λ fault. fault ≢ ServeFault.Write
         → Keeps (W.contents (inner_of writer.old)) (W.contents (inner_of writer.new))) }
@@ -138,11 +185,14 @@ fn hear_piece<P: Platform, C: Ticks, L: Watch, W: Write>(
     writer: &mut Port<W>,
 ) -> Result<(), ServeFault>
     requires { has_failed writer.old ≡ false }
-    ensures heard { OnOk result (Hears (rules_of P.answer P.after P.sensed) (held_of line.old.responder) line.old.frames
-        piece.now (held_of line.new.responder) line.new.frames (C.to_come line.old.ticks) (C.to_come line.new.ticks)
+    ensures heard { OnOk result (Hears (rules_of P.answer P.after P.sensed)
+        (answerers (held_of line.old.responder) line.old.control) line.old.frames piece.now
+        (answerers (held_of line.new.responder) line.new.control) line.new.frames
+        (C.to_come line.old.ticks) (C.to_come line.new.ticks)
         (W.contents (inner_of writer.old)) (W.contents (inner_of writer.new))) }
     ensures stopped { IfErr result (λ fault. fault ≢ ServeFault.Write
-        → HearsFront (rules_of P.answer P.after P.sensed) (held_of line.old.responder) line.old.frames (Some piece.now)
+        → HearsFront (rules_of P.answer P.after P.sensed)
+        (answerers (held_of line.old.responder) line.old.control) line.old.frames (Some piece.now)
         (C.to_come line.old.ticks) (W.contents (inner_of writer.old)) (W.contents (inner_of writer.new))) }
     ensures read { result ≢ Err ServeFault.Read }
     ensures write { IsErrOf result ServeFault.Write ↔ (has_failed writer.new ≡ true) }
@@ -175,16 +225,21 @@ pub fn serve<P: Platform, C: Ticks, L: Watch, R: Read, W: Write>(
     requires reads { has_failed reader.old ≡ false }
     requires writes { has_failed writer.old ≡ false }
     ensures heard { OnOk result (IfSome (R.remaining (inner_of reader.old)) (λ all.
-        Hears (rules_of P.answer P.after P.sensed) (held_of line.old.responder) line.old.frames
-        all (held_of line.new.responder) line.new.frames (C.to_come line.old.ticks) (C.to_come line.new.ticks)
+        Hears (rules_of P.answer P.after P.sensed)
+        (answerers (held_of line.old.responder) line.old.control) line.old.frames all
+        (answerers (held_of line.new.responder) line.new.control) line.new.frames
+        (C.to_come line.old.ticks) (C.to_come line.new.ticks)
         (W.contents (inner_of writer.old)) (W.contents (inner_of writer.new)))) }
     ensures at_read { IsErrOf result ServeFault.Read → (taken : List ℕ)
         × Consumes (R.remaining (inner_of reader.old)) (R.remaining (inner_of reader.new)) taken
-        × Hears (rules_of P.answer P.after P.sensed) (held_of line.old.responder) line.old.frames
-        taken (held_of line.new.responder) line.new.frames (C.to_come line.old.ticks) (C.to_come line.new.ticks)
+        × Hears (rules_of P.answer P.after P.sensed)
+        (answerers (held_of line.old.responder) line.old.control) line.old.frames taken
+        (answerers (held_of line.new.responder) line.new.control) line.new.frames
+        (C.to_come line.old.ticks) (C.to_come line.new.ticks)
         (W.contents (inner_of writer.old)) (W.contents (inner_of writer.new)) }
     ensures stopped { IfErr result (λ fault. fault ≢ ServeFault.Write
-        → HearsFront (rules_of P.answer P.after P.sensed) (held_of line.old.responder) line.old.frames
+        → HearsFront (rules_of P.answer P.after P.sensed)
+        (answerers (held_of line.old.responder) line.old.control) line.old.frames
         (R.remaining (inner_of reader.old)) (C.to_come line.old.ticks)
         (W.contents (inner_of writer.old)) (W.contents (inner_of writer.new))) }
     ensures read { IsErrOf result ServeFault.Read ↔ (has_failed reader.new ≡ true) }

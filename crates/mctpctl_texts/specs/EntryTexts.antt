@@ -23,7 +23,7 @@ numbers_text numbers = flat_map (λ number. 32 ∷ decimal number) numbers
 abbrev pub not_opened_text : OpenFault → List ℕ
 not_opened_text TagInUse = codes "tag in use"
 not_opened_text IdInUse = codes "id in use"
-not_opened_text Memory = codes "out of memory"
+not_opened_text (Memory refused) = codes "out of memory"
 
 abbrev pub again_text : List ℕ → List ℕ
 again_text numbers = codes "again" ++ numbers_text numbers

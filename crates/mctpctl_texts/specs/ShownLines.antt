@@ -102,13 +102,15 @@ place_text p = spaced (place_words p)
 abbrev pub packet_line : ℕ → Packet → Fed → List ℕ
 packet_line moment p fed = spaced_line (decimal moment ∷ route_text p.route ∷ place_text p ∷ fed_text fed ∷ [])
 
--- after a packet that completes a message comes the line of that message
-abbrev pub completed_text : Fed → List ℕ
-completed_text (Whole body) = message_line body.items
-completed_text Partial = []
-completed_text (Dropped reason) = []
+-- `line` says how the line of a whole message is written
+module _ (line : List ℕ → List ℕ) where
+  -- after a packet that completes a message comes the line of that message
+  abbrev pub completed_text : Fed → List ℕ
+  completed_text (Whole body) = line body.items
+  completed_text Partial = []
+  completed_text (Dropped reason) = []
 
--- what is written of the bytes that came at this moment; `gives` says what the packet that they spell gave
-abbrev pub shown_text : ℕ → Result Packet Reason → (Packet → Fed) → List ℕ
-shown_text moment (Err reason) gives = spaced_line (decimal moment ∷ drop_text reason ∷ [])
-shown_text moment (Ok p) gives = packet_line moment p (gives p) ++ completed_text (gives p)
+  -- what is written of the bytes that came at this moment; `gives` says what the packet that they spell gave
+  abbrev pub shown_text : ℕ → Result Packet Reason → (Packet → Fed) → List ℕ
+  shown_text moment (Err reason) gives = spaced_line (decimal moment ∷ drop_text reason ∷ [])
+  shown_text moment (Ok p) gives = packet_line moment p (gives p) ++ completed_text (gives p)

@@ -7,6 +7,7 @@ ghost use Rattle.mctpctl_texts.specs.ShownLines.{drop_text};
 
 use itoa::Buffer;
 use mctp_packet::{Memory, Reason};
+use std::alloc::AllocError;
 
 /// Adds text.
 pub fn push_text(out: &mut Vec<u8>, text: &str) -> Result<(), Memory>
@@ -30,7 +31,7 @@ pub fn push_hex(out: &mut Vec<u8>, bytes: &[u8]) -> Result<(), Memory>
 {
     let start = out.len();
     let Some(end) = start.checked_add(2 * bytes.len()) else {
-        return Err(Memory);
+        return Err(AllocError.into()); // more bytes than an allocator can give
     };
     out.resize(end, 0)?;
     match hex::encode_to_slice(bytes, &mut out[start..]) {

@@ -69,7 +69,7 @@ fn not_opened_text(fault: OpenFault) -> &'static str
     match fault {
         OpenFault::TagInUse => "tag in use\n",
         OpenFault::IdInUse => "id in use\n",
-        OpenFault::Memory => "out of memory\n",
+        OpenFault::Memory(_) => "out of memory\n",
     }
 }
 

@@ -24,8 +24,8 @@ pub fn push_message_line(out: &mut Vec<u8>, message: &[u8]) -> Result<(), Memory
     }
 }
 
-/// Whether there are two bytes at least, and the request bit of the second is 0.
-fn is_shown_as_response(message: &[u8]) -> bool
+/// Whether a message is shown as a response: it has two bytes at least, and the request bit of the second is 0.
+pub fn is_shown_as_response(message: &[u8]) -> bool
     ensures { result ≡ is_shown_as_response message.now }
 {
     message.len() >= 2 && message[1] >> 7 & 1 != 1
@@ -84,7 +84,7 @@ fn push_refused_line(out: &mut Vec<u8>, reason: Reason) -> Result<(), Memory>
 }
 
 /// Adds the command's name, or its PLDM type and its number.
-fn push_command(out: &mut Vec<u8>, kind: Kind) -> Result<(), Memory>
+pub fn push_command(out: &mut Vec<u8>, kind: Kind) -> Result<(), Memory>
     ensures { OnOk result (out.new.items ≡ out.old.items ++ command_text kind) }
 {
     if let Some(name) = kind.name() {
@@ -110,7 +110,7 @@ fn push_verdict(out: &mut Vec<u8>, request: &RequestRef<'_>) -> Result<(), Memor
 }
 
 /// Adds bytes in lower-case hex, or `-` where there are none.
-fn push_data(out: &mut Vec<u8>, bytes: &[u8]) -> Result<(), Memory>
+pub fn push_data(out: &mut Vec<u8>, bytes: &[u8]) -> Result<(), Memory>
     ensures { OnOk result (out.new.items ≡ out.old.items ++ data_text bytes.now) }
 {
     if bytes.is_empty() {

@@ -3,10 +3,9 @@
 ghost use Rattle.std.specs.Prelude.{◌≡◌, ◌++◌, ◌∷◌, [], OnOk, codes};
 ghost use Rattle.std.specs.Fmt.{decimal};
 ghost use Rattle.mctp_packet.specs.Bits.{bit};
-ghost use Rattle.mctpctl_texts.specs.ShownLines.{completed_text, drop_text, fed_text, packet_line, place_text, route_text, spaced_line};
+ghost use Rattle.mctpctl_texts.specs.ShownLines.{drop_text, fed_text, packet_line, place_text, route_text, spaced_line};
 
 use crate::bytes_text::{push_drop, push_number, push_text};
-use crate::message_line::push_message_line;
 use mctp_assembly::Fed;
 use mctp_packet::{Memory, PacketRef, Reason, Route};
 
@@ -92,16 +91,6 @@ fn push_fed(out: &mut Vec<u8>, fed: &Fed) -> Result<(), Memory>
         Fed::Whole(_) => push_text(out, "whole"),
         Fed::Partial => push_text(out, "partial"),
         Fed::Dropped(reason) => push_drop(out, *reason),
-    }
-}
-
-/// Adds the line of the message that a packet completes, or nothing.
-pub fn push_completed(out: &mut Vec<u8>, fed: &Fed) -> Result<(), Memory>
-    ensures { OnOk result (out.new.items ≡ out.old.items ++ completed_text fed.now) }
-{
-    match fed {
-        Fed::Whole(message) => push_message_line(out, message),
-        Fed::Partial | Fed::Dropped(_) => Ok(()),
     }
 }
 

@@ -1,3 +1,4 @@
 pub mod AsEndpointBox
 pub mod AsRequesterBox
 pub mod Numbers
+pub mod PacketPlaces

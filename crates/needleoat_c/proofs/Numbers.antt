@@ -1,6 +1,6 @@
 -- The numbers of refusals, written a second time.
 use Rattle.std.proofs.Common.{◌≡◌, refl}
-use Rattle.needleoat_c.specs.declared.refusals.TheConstants.{ALREADY_THERE, BAD_MOMENT, ID_IN_USE, NOTHING_THERE}
+use Rattle.needleoat_c.specs.declared.refusals.TheConstants.{ALREADY_THERE, BAD_MOMENT, BEING_PERFORMED, ID_IN_USE, NOTHING_THERE}
 use Rattle.needleoat_c.specs.declared.refusals.TheConstants.{NO_COMMAND, NO_MEMORY, NOT_ITS_ANSWER, OUT_OF_RANGE}
 use Rattle.needleoat_c.specs.declared.refusals.TheConstants.{OUT_OF_TURN, TAG_IN_USE}
 
@@ -24,6 +24,9 @@ out_of_range = refl
 
 already_there : ALREADY_THERE ≡ 7
 already_there = refl
+
+being_performed : BEING_PERFORMED ≡ 8
+being_performed = refl
 
 tag_in_use : TAG_IN_USE ≡ 11
 tag_in_use = refl

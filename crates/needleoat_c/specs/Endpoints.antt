@@ -1,16 +1,14 @@
 -- The calls of an endpoint behind a handle: what they report to C, and what is behind the handle then.
-use Rattle.std.specs.Prelude.{◌≡◌, ℕ, ◌==◌, nat_le, ◌&&◌, Bool, true, false, MatchBool, List, [], length, take, slice_get}
+use Rattle.std.specs.Prelude.{◌≡◌, ℕ, ◌==◌, nat_le, nat_lt, ◌&&◌, Bool, true, false, MatchBool, List, [], length, take, slice_get}
 use Rattle.std.specs.Prelude.{slice_index_or, Option, Some, None, IsSome, option_and_then, Result, Ok, Err, ◌⊎◌}
 use Rattle.std.specs.Prelude.{if◌then◌else◌}
 use Rattle.mctp_packet.specs.Ids.{IsEid, IsKeep}
 use Rattle.mctp_packet.specs.Reasons.{number_of}
-use Rattle.mctp_packet.specs.declared.TheConstants.{MAX_MOMENT, MAX_PACKET_BYTES}
-use Rattle.mctp_packet.specs.declared.reason.Reason.{Reason}
-use Rattle.pldm_wire.specs.AnswerReading.{answer_of}
+use Rattle.mctp_packet.specs.declared.TheConstants.{MAX_MOMENT}
 use Rattle.pldm_wire.specs.Commands.{kind_of}
-use Rattle.pldm_wire.specs.Responses.{Response, response_of}
+use Rattle.pldm_wire.specs.Kinds.{TypeAndCommand}
 use Rattle.pldm_wire.specs.declared.answer.Answer.{Answer}
-use Rattle.pldm_wire.specs.declared.answer_reading.AnswerFault.{AnswerFault}
+use Rattle.pldm_wire.specs.declared.assigned.TheConstants.{INSTANCE_IDS}
 use Rattle.pldm_wire.specs.declared.command.Command.{Command}
 use Rattle.pldm_responder.specs.Asked.{gives}
 use Rattle.pldm_responder.specs.Held.{Held, IsHeld}
@@ -20,16 +18,17 @@ use Rattle.pldm_responder.specs.Wants.{WantsMemory}
 use Rattle.pldm_responder.specs.declared.bounds.Bounds.{Bounds}
 use Rattle.pldm_responder.specs.declared.outcome.Outcome.{Outcome}
 use Rattle.pldm_responder.specs.declared.outcome.Outcome.TheVariants.{Dropped, Partial, Answered}
+use Rattle.pldm_endpoint.specs.Refusing.{is_copy_of_asked}
 use Rattle.pldm_endpoint.specs.TwoSteps.{asks_after, bare, held_at_first, left_by, received_step}
 use Rattle.pldm_endpoint.specs.declared.endpoint.Asked.{Asked}
 use Rattle.pldm_endpoint.specs.declared.step.Step.{Step}
 use Rattle.pldm_endpoint.specs.declared.step.Step.TheVariants.{Perform, Done}
-use Rattle.needleoat_forms.specs.Answers.{response_in}
+use Rattle.needleoat_forms.specs.Answers.{answer_in}
 use Rattle.needleoat_forms.specs.Commands.{command_in}
 use Rattle.needleoat_forms.specs.declared.answer.AnswerFields.{AnswerFields}
 use Rattle.needleoat_forms.specs.declared.command.CommandFields.{CommandFields}
 use Rattle.needleoat_c.specs.EndpointHandles.{Inside}
-use Rattle.needleoat_c.specs.declared.refusals.TheConstants.{BAD_MOMENT, NOTHING_THERE, NOT_ITS_ANSWER, NO_MEMORY}
+use Rattle.needleoat_c.specs.declared.refusals.TheConstants.{BAD_MOMENT, BEING_PERFORMED, NOTHING_THERE, NOT_ITS_ANSWER, NO_MEMORY}
 use Rattle.needleoat_c.specs.declared.refusals.TheConstants.{OUT_OF_RANGE, OUT_OF_TURN}
 use Rattle.needleoat_c.specs.declared.reports.StepReport.{StepReport}
 use Rattle.needleoat_c.specs.declared.endpoint_handle.EndpointForC.{EndpointForC}
@@ -113,11 +112,6 @@ HasNumbers kind reason fresh changed count r =
 abbrev pub IsRefused : ℕ → StepReport → Type 0
 IsRefused number r = HasNumbers 0 number false false 0 r
 
--- bytes that are a packet, where they are so few
-abbrev pub fitting : Option (List ℕ) → Option (List ℕ)
-fitting packet =
-    option_and_then (λ bytes. if nat_le (length bytes) MAX_PACKET_BYTES then Some bytes else None) packet
-
 -- a packet is in front of its room, and this is its length
 abbrev pub IsInFront : Option (List ℕ) → ℕ → List ℕ → Type 0
 IsInFront None count room = count ≡ 0
@@ -125,7 +119,7 @@ IsInFront (Some packet) count room = (count ≡ length packet) × (take count ro
 
 abbrev pub IsPacket : ℕ → List (List ℕ) → List ℕ → List (List ℕ) → Type 0
 IsPacket place packets lengths rooms =
-    IsInFront (fitting (slice_get packets place)) (slice_index_or lengths place 0) (slice_index_or rooms place [])
+    IsInFront (slice_get packets place) (slice_index_or lengths place 0) (slice_index_or rooms place [])
 
 -- each packet is in front of its room
 abbrev pub ArePackets : List (List ℕ) → List ℕ → List (List ℕ) → Type 0
@@ -155,9 +149,14 @@ ReportsTaken now bytes r rooms inside =
     ReportsStep (received_step (held_of inside.station) now bytes) r rooms
     ⊎ (IsRefused NO_MEMORY r × WantsMemory (held_of inside.station) true now bytes)
 
+-- while a command is performed, a copy of its request is refused with a number of its own
+abbrev pub while_performing : ℕ → List ℕ → Inside → ℕ
+while_performing now bytes inside =
+    if is_copy_of_asked (held_of inside.station) inside.asks now bytes then BEING_PERFORMED else OUT_OF_TURN
+
 abbrev pub ReportsInTurn : Option Asked → ℕ → List ℕ → StepReport → List (List ℕ) → Inside → Type 0
 ReportsInTurn None now bytes r rooms inside = ReportsTaken now bytes r rooms inside
-ReportsInTurn (Some a) now bytes r rooms inside = IsRefused OUT_OF_TURN r
+ReportsInTurn (Some a) now bytes r rooms inside = IsRefused (while_performing now bytes inside) r
 
 abbrev pub ReportsPacketIn : ℕ → List ℕ → StepReport → List (List ℕ) → Inside → Type 0
 ReportsPacketIn now bytes r rooms inside =
@@ -186,22 +185,17 @@ HasCommand kind asks old new = MatchBool (kind == 4) (AreOf asks new) (new ≡ o
 
 -- ---- answers of the device ----
 
--- the answer that the response of these fields is to a command, or why it is none
-
-abbrev pub given_or_number : Result Answer AnswerFault → Result Answer ℕ
-given_or_number (Ok answer) = Ok answer
-given_or_number (Err fault) = Err NOT_ITS_ANSWER
-
-abbrev pub given_by : Command → Result Response Reason → Result Answer ℕ
-given_by command (Ok r) = given_or_number (answer_of (kind_of command) r.kind r.code r.rest)
-given_by command (Err reason) = Err OUT_OF_RANGE
-
-abbrev pub given_in : Command → Option (List ℕ) → Result Answer ℕ
-given_in command None = Err OUT_OF_RANGE
-given_in command (Some response) = given_by command (response_of response)
+-- the answer that these fields are to a command of this kind, or why they are none: a number is out of its range, else
+-- the PLDM type or the command is another
+abbrev pub given_in : TypeAndCommand → AnswerFields → Option Answer → Result Answer ℕ
+given_in kind fields None = Err OUT_OF_RANGE
+given_in kind fields (Some answer) =
+    if fields.pldm_type == kind.pldm_type && fields.command == kind.command then Ok answer else Err NOT_ITS_ANSWER
 
 abbrev pub given_to : Command → AnswerFields → Result Answer ℕ
-given_to command fields = given_in command (response_in fields)
+given_to command fields =
+    if nat_lt fields.instance_id INSTANCE_IDS then given_in (kind_of command) fields (answer_in fields)
+    else Err OUT_OF_RANGE
 
 -- the outcome is the responder's, for a platform that gives this answer, at the packet and moment of the asking
 

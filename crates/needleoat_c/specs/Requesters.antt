@@ -94,7 +94,7 @@ command_in message = command_read (request_of message)
 abbrev pub fault_number : OpenFault → ℕ
 fault_number cause.TagInUse = TAG_IN_USE
 fault_number cause.IdInUse = ID_IN_USE
-fault_number cause.Memory = NO_MEMORY
+fault_number (cause.Memory refused) = NO_MEMORY
 
 abbrev pub opened_or_number : Result Opened OpenFault → Result Opened ℕ
 opened_or_number (Ok opened) = Ok opened

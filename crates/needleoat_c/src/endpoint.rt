@@ -1,21 +1,26 @@
 //! The work of each call on the endpoint behind a handle.
 
-ghost use Rattle.std.specs.Prelude.{◌≡◌, ◌≤◌, Some, IfOk, IfSome, IsSome, is_some};
-ghost use Rattle.std.specs.Option.{option_copied};
+ghost use Rattle.std.specs.Prelude.{◌≡◌, ◌≤◌, Some, Ok, Err, IfErr, IfSome, IsSome, OnOk, is_some, slice_get};
+ghost use Rattle.mctp_packet.specs.Pieces.{written_packets};
 ghost use Rattle.pldm_wire.specs.Answers.{IsAnswerTo};
 ghost use Rattle.pldm_wire.specs.Commands.{kind_of};
+ghost use Rattle.pldm_responder.specs.Answering.{answering};
 ghost use Rattle.pldm_responder.specs.Held.{IsHeld};
 ghost use Rattle.pldm_responder.specs.Stations.{held_of};
 ghost use Rattle.pldm_endpoint.specs.TwoSteps.{bare};
-ghost use Rattle.needleoat_c.specs.Endpoints.{AreOf, HasCommand, IsInFront, IsNew, ReportsAnswer, ReportsOutcome, ReportsPacketIn, answered_by, asked_after, asked_by, fitting, forgotten_by, given_to, is_next, received_by, refusal_at, restarted_by, started};
+ghost use Rattle.needleoat_c.specs.Endpoints.{AreOf, ArePackets, HasCommand, IsInFront, IsNew, ReportsAnswer, ReportsOutcome, ReportsPacketIn, answered_by, asked_after, asked_by, forgotten_by, given_to, is_next, received_by, refusal_at, restarted_by, started};
 
-use crate::refusals::{BAD_MOMENT, NO_MEMORY, NOT_ITS_ANSWER, OUT_OF_RANGE, OUT_OF_TURN};
+use crate::refusals::{
+    BAD_MOMENT, BEING_PERFORMED, NO_MEMORY, NOT_ITS_ANSWER, OUT_OF_RANGE, OUT_OF_TURN,
+};
 use crate::reports::StepReport;
-use mctp_packet::{Eid, Keep, MAX_MESSAGE_BYTES, MAX_PACKET_BYTES, MAX_PACKETS, Moment};
-use needleoat_forms::{AnswerFields, CommandFields, answer_write};
-use pldm_endpoint::{Endpoint, ReceiveRefusal, Step};
-use pldm_responder::{Bounds, Outcome};
-use pldm_wire::{Answer, Command, read_answer, read_response};
+use mctp_packet::{
+    Body, Eid, Keep, MAX_PACKET_BYTES, MAX_PACKETS, Moment, Route, UNIT, packet_at, write,
+};
+use needleoat_forms::{AnswerFields, CommandFields, answer_of};
+use pldm_endpoint::{Endpoint, ReceiveRefusal, TakenStep};
+use pldm_responder::{Bounds, Taken};
+use pldm_wire::{Answer, Command, INSTANCE_IDS};
 use std::alloc::Global;
 
 /// A new endpoint, which at any start but the first performs nothing for the keeping time.
@@ -81,14 +86,16 @@ pub(crate) fn receive(
     let Some(now) = next_moment(endpoint, now_ms) else {
         return StepReport::without(0, BAD_MOMENT);
     };
-    match endpoint.receive(now, packet) {
-        Ok(Step::Perform) => {
+    let mut reply = Body::new();
+    match endpoint.receive_message(now, packet, &mut reply) {
+        Ok(TakenStep::Perform) => {
             put_command(endpoint, command);
             StepReport::without(4, 0)
         }
-        Ok(Step::Done(outcome)) => report_of(&outcome, packets),
+        Ok(TakenStep::Done(taken)) => report_of(&taken, &reply, packets),
         Err(ReceiveRefusal::Performing) => StepReport::without(0, OUT_OF_TURN),
-        Err(ReceiveRefusal::Memory) => StepReport::without(0, NO_MEMORY),
+        Err(ReceiveRefusal::BeingPerformed) => StepReport::without(0, BEING_PERFORMED),
+        Err(ReceiveRefusal::Memory(_)) => StepReport::without(0, NO_MEMORY),
     }
 }
 
@@ -117,74 +124,95 @@ pub(crate) fn answer(
     let Some(command) = endpoint.command() else {
         return StepReport::without(0, OUT_OF_TURN);
     };
-    let answer = match given_to(command, fields) {
-        Ok(answer) => answer,
-        Err(number) => return StepReport::without(0, number),
-    };
-    match endpoint.answer(&answer) {
-        Ok(outcome) => report_of(&outcome, packets),
+    let mut answer = Answer::SetTid;
+    if let Err(number) = put_given(command, fields, &mut answer) {
+        return StepReport::without(0, number);
+    }
+    let mut reply = Body::new();
+    match endpoint.answer_message(&answer, &mut reply) {
+        Ok(taken) => report_of(&taken, &reply, packets),
         Err(_) => unreachable!(),
     }
 }
 
-/// The answer that these fields are to a command, or the number that says why they are none.
+/// Puts the answer that these fields are to a command in the place of what `given` holds. An `Err` has the number that
+/// says why they are none.
 #[inline(never)]
-fn given_to(command: &Command, fields: &AnswerFields) -> Result<Answer, u8>
-    ensures answer { result ≡ given_to command.now fields.now }
-    ensures kind { IfOk result (λ answer. IsAnswerTo (kind_of command.now) answer) }
+fn put_given(command: &Command, fields: &AnswerFields, given: &mut Answer) -> Result<(), u8>
+    ensures answer { OnOk result (given_to command.now fields.now ≡ Ok given.new) }
+    ensures kind { OnOk result (IsAnswerTo (kind_of command.now) given.new) }
+    ensures number { IfErr result (λ number. given_to command.now fields.now ≡ Err number) }
 {
-    let mut message = [0; MAX_MESSAGE_BYTES];
-    let length = answer_write(fields, &mut message);
-    let Ok(response) = read_response(&message[..length]) else {
+    if fields.instance_id >= INSTANCE_IDS {
+        return Err(OUT_OF_RANGE);
+    }
+    let Some(answer) = answer_of(fields) else {
         return Err(OUT_OF_RANGE);
     };
-    match read_answer(command, &response) {
-        Ok(answer) => Ok(answer),
-        Err(_) => Err(NOT_ITS_ANSWER),
+    let kind = command.kind();
+    if fields.pldm_type != kind.pldm_type || fields.command != kind.command {
+        return Err(NOT_ITS_ANSWER);
     }
+    *given = answer;
+    Ok(())
 }
 
-/// The report of an outcome, with its packets.
-fn report_of(outcome: &Outcome, rooms: &mut [[u8; MAX_PACKET_BYTES]; MAX_PACKETS]) -> StepReport
-    ensures report { ReportsOutcome outcome.now result rooms.new }
+/// The report of what becomes of a packet, with the packets of `reply`, the message that answers.
+fn report_of(
+    taken: &Taken,
+    reply: &[u8],
+    rooms: &mut [[u8; MAX_PACKET_BYTES]; MAX_PACKETS],
+) -> StepReport
+    ensures report { ReportsOutcome (answering reply.now taken.now) result rooms.new }
     ensures kind { 1 ≤ result.kind }
     ensures other { result.kind ≤ 3 }
 {
-    match outcome {
-        Outcome::Dropped(reason) => StepReport::without(1, reason.number()),
-        Outcome::Partial => StepReport::without(2, 0),
-        Outcome::Answered {
+    match taken {
+        Taken::Dropped(reason) => StepReport::without(1, reason.number()),
+        Taken::Partial => StepReport::without(2, 0),
+        Taken::Answered {
             fresh,
             changed,
-            packets,
-        } => {
-            let first = put_packet(packets.get(0), &mut rooms[0]);
-            let second = put_packet(packets.get(1), &mut rooms[1]);
-            let third = put_packet(packets.get(2), &mut rooms[2]);
-            let fourth = put_packet(packets.get(3), &mut rooms[3]);
-            let fifth = put_packet(packets.get(4), &mut rooms[4]);
-            StepReport {
-                kind: 3,
-                reason: 0,
-                fresh: *fresh,
-                changed: *changed,
-                count: packets.len(),
-                lengths: [first, second, third, fourth, fifth],
-            }
-        }
+            route,
+        } => StepReport {
+            kind: 3,
+            reason: 0,
+            fresh: *fresh,
+            changed: *changed,
+            count: reply.len().div_ceil(UNIT),
+            lengths: put_packets(route, reply, rooms),
+        },
     }
 }
 
-/// Puts a packet in front of a room, where there is one that fits, and returns its length, else 0.
-fn put_packet(packet: Option<&[u8]>, room: &mut [u8; MAX_PACKET_BYTES]) -> usize
-    ensures { IsInFront (fitting (option_copied packet.entry)) result room.new }
+/// Puts the packets of a message in front of the rooms, and returns their lengths, 0 past the last one.
+fn put_packets(
+    route: &Route,
+    message: &[u8],
+    rooms: &mut [[u8; MAX_PACKET_BYTES]; MAX_PACKETS],
+) -> [usize; MAX_PACKETS]
+    ensures { ArePackets (written_packets route.now message.now) result rooms.new }
 {
-    let Some(packet) = packet else {
-        return 0;
-    };
-    if packet.len() > MAX_PACKET_BYTES {
-        return 0;
+    let first = put_packet(route, message, 0, &mut rooms[0]);
+    let second = put_packet(route, message, 1, &mut rooms[1]);
+    let third = put_packet(route, message, 2, &mut rooms[2]);
+    let fourth = put_packet(route, message, 3, &mut rooms[3]);
+    let fifth = put_packet(route, message, 4, &mut rooms[4]);
+    [first, second, third, fourth, fifth]
+}
+
+/// Puts packet `index` of a message in front of a room, where there is one, and returns its length, else 0.
+#[inline(never)]
+fn put_packet(
+    route: &Route,
+    message: &[u8],
+    index: usize,
+    room: &mut [u8; MAX_PACKET_BYTES],
+) -> usize
+    ensures { IsInFront (slice_get (written_packets route.now message.now) index) result room.new }
+{
+    match packet_at(route, message, index) {
+        Some(packet) => write(&packet, room),
+        None => 0,
     }
-    room[..packet.len()].copy_from_slice(packet);
-    packet.len()
 }

@@ -47,7 +47,7 @@ fn fault_number(fault: OpenFault) -> u8
     match fault {
         OpenFault::TagInUse => TAG_IN_USE,
         OpenFault::IdInUse => ID_IN_USE,
-        OpenFault::Memory => NO_MEMORY,
+        OpenFault::Memory(_) => NO_MEMORY,
     }
 }
 

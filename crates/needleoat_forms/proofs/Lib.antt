@@ -1,3 +1,4 @@
 pub mod FirstStates
 pub mod Constants
+pub mod WorkedControl
 pub mod WorkedRows

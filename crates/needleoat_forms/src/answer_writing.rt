@@ -46,9 +46,10 @@ pub fn answer_write(fields: &AnswerFields, out: &mut [u8; MAX_MESSAGE_BYTES]) ->
     }
 }
 
-/// The answer, where there is one of this kind and code and its fields are in range.
+/// The answer that these fields are, where there is one of this kind and code and they are in range. The instance ID
+/// is not looked at.
 #[tactic(auto, unfolding(crate::specs::Answers::answer_in))]
-fn answer_of(fields: &AnswerFields) -> Option<Answer>
+pub fn answer_of(fields: &AnswerFields) -> Option<Answer>
     ensures answer { result ≡ answer_in fields.now }
     ensures kind { IfSome result (λ answer. IsKind (kind_in fields.now) × IsAnswerTo (kind_in fields.now) answer) }
 {

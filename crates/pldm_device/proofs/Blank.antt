@@ -8,7 +8,9 @@ use Rattle.toml.specs.Errors.{IsBlank}
 use Rattle.toml.specs.Parse.{parse_document, lines}
 use Rattle.pldm_device.specs.declared.description_fault.FileFault.{FileFault}
 use Rattle.pldm_device.specs.declared.description_fault.FileFault.TheVariants.{MissingKey, Toml}
+use Rattle.pldm_device.specs.declared.control_table.ControlTable.{ControlTable}
 use Rattle.pldm_device.specs.declared.description.Description.{Description}
+use Rattle.pldm_device.specs.ControlTables.{control_in, control_of}
 use Rattle.pldm_device.specs.Descriptions.{description_of, stated}
 use Rattle.pldm_device.specs.Documents.{document_of}
 use Rattle.pldm_device.specs.FileFaults.{IsOrMemoryWhere}
@@ -33,8 +35,17 @@ no_keys true key document e there = let same : no_members ≡ document = cc in f
 key_not_blank : (key bytes : List ℕ) (document : Members) → document_of bytes ≡ Ok document → IsSome (get_member key document) → ¬ IsBlank bytes
 key_not_blank key bytes document read there blank = no_keys (is_utf8 bytes) key document (rw (blank_document bytes blank) at read) there
 
+-- what is read of the document of the bytes is read of the bytes
+pub read_of_bytes : {A : Type 0} (key bytes : List ℕ) (read : Members → Result A FileFault) (document : Members) (result : Result A FileFault) → document_of bytes ≡ Ok document → IsOrMemoryWhere (IsSome (get_member key document)) result (read document) → IsOrMemoryWhere (¬ IsBlank bytes) result (document_of bytes >>= read)
+read_of_bytes key bytes read document result there given =
+    elim given [ inl failed ↦ inl (failed.0, key_not_blank key bytes document there failed.1) | inr same ↦ inr (rw there same) ]
+
 -- what the document of the bytes states, the bytes state
 pub stated_by_bytes : (bytes : List ℕ) (document : Members) (result : Result Description FileFault) → document_of bytes ≡ Ok document → IsOrMemoryWhere (IsSome (get_member (codes "eid") document)) result (description_of document) → IsOrMemoryWhere (¬ IsBlank bytes) result (stated bytes)
 unfolding stated
-stated_by_bytes bytes document result read given =
-    elim given [ inl failed ↦ inl (failed.0, key_not_blank (codes "eid") bytes document read failed.1) | inr same ↦ inr (rw read same) ]
+stated_by_bytes bytes = read_of_bytes (codes "eid") bytes description_of
+
+-- what the document of the bytes says of control messages, the bytes say
+pub control_by_bytes : (bytes : List ℕ) (document : Members) (result : Result ControlTable FileFault) → document_of bytes ≡ Ok document → IsOrMemoryWhere (IsSome (get_member (codes "control") document)) result (control_in document) → IsOrMemoryWhere (¬ IsBlank bytes) result (control_of bytes)
+unfolding control_of
+control_by_bytes bytes = read_of_bytes (codes "control") bytes control_in

@@ -4,6 +4,7 @@ pub mod Counts
 pub mod Blank
 pub mod DescriptionLiterals
 pub mod WorkedDescriptions
+mod WorkedControlTables
 pub mod Numbers
 mod WorkedAnswers
 mod WorkedRecordEntries

@@ -20,6 +20,10 @@ bytes_in value = text_in value >>= λ text. decoded (decode_of text)
 abbrev pub versions_in : Data → Result (List ℕ) FileFault
 versions_in value = bytes_in value >>= λ bytes. if is_version_data bytes then Ok bytes else Err OutOfRange
 
+-- as many bytes as that
+abbrev pub exactly_in : ℕ → Data → Result (List ℕ) FileFault
+exactly_in count value = bytes_in value >>= λ bytes. if length bytes == count then Ok bytes else Err OutOfRange
+
 -- a time of thirteen bytes
 abbrev pub time_in : Data → Result (List ℕ) FileFault
-time_in value = bytes_in value >>= λ bytes. if length bytes == TIME_BYTES then Ok bytes else Err OutOfRange
+time_in = exactly_in TIME_BYTES

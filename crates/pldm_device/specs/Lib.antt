@@ -5,6 +5,7 @@ pub mod SensorAnswers
 pub mod EffecterAnswers
 pub mod DeviceAnswers
 pub mod DeviceLaws
+pub mod ControlTables
 pub mod Descriptions
 pub mod Documents
 pub mod FileFaults

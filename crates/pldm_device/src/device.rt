@@ -120,6 +120,7 @@ impl SimDevice {
     }
 
     // Puts the answer to GetPLDMVersion into `given`.
+    // Not inlined: the longest answer's room is then on the stack for this command alone.
     #[inline(never)]
     pub(crate) fn put_versions(
         &self,

@@ -43,9 +43,7 @@ fn numeric_effecters_of(
         if effecters.contains_key(&id) {
             return Err(FileFault::Duplicate);
         }
-        if effecters.insert(id, effecter).is_err() {
-            return Err(FileFault::Memory);
-        }
+        effecters.insert(id, effecter)?;
     }
     Ok(effecters)
 }
@@ -123,9 +121,7 @@ fn state_effecters_of(
         if numeric.contains_key(&id) || effecters.contains_key(&id) {
             return Err(FileFault::Duplicate);
         }
-        if effecters.insert(id, effecter).is_err() {
-            return Err(FileFault::Memory);
-        }
+        effecters.insert(id, effecter)?;
     }
     Ok(effecters)
 }
@@ -164,9 +160,7 @@ fn allowed_of(alloc: Global, lists: &[Value]) -> Result<Vec<AllowedStates>, File
     let mut allowed = Vec::new(alloc);
     for list in lists {
         let states = AllowedStates::new(states_in(alloc, list)?);
-        if allowed.push(states).is_err() {
-            return Err(FileFault::Memory);
-        }
+        allowed.push(states)?;
     }
     Ok(allowed)
 }
@@ -200,9 +194,7 @@ fn numbers_of(alloc: Global, items: &[Value]) -> Result<Vec<u8>, FileFault>
     let mut numbers = Vec::new(alloc);
     for item in items {
         let number = number_in(item, 0, MAX_BYTE)? as u8;
-        if numbers.push(number).is_err() {
-            return Err(FileFault::Memory);
-        }
+        numbers.push(number)?;
     }
     Ok(numbers)
 }

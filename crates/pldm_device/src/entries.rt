@@ -1,13 +1,12 @@
 //! The lists of sensors, effecters and records in a description.
 
-ghost use Rattle.std.specs.Prelude.{◌≡◌, ◌≤◌, IfOk, length, option_map};
+ghost use Rattle.std.specs.Prelude.{◌≡◌, ◌≤◌, IfOk, length};
 ghost use Rattle.pldm_device.specs.Entries.{entries_at, id_at, not_too_many};
 ghost use Rattle.pldm_device.specs.KeyValues.{map_ok};
-ghost use Rattle.toml.specs.Data.{get_member};
-ghost use Rattle.toml.specs.View.{items_view, table_view, view};
+ghost use Rattle.toml.specs.View.{items_view, table_view};
 
 use crate::description_fault::FileFault;
-use crate::keys::{array_in, number_at};
+use crate::keys::{array_in, number_at, value_if_any};
 use crate::limits::{MAX_ENTRIES, MAX_ID};
 use toml::{Table, Value};
 
@@ -21,13 +20,6 @@ pub(crate) fn entries_at<'a>(table: &'a Table, key: &str) -> Result<&'a [Value],
         Some(value) => not_too_many(array_in(value)?),
         None => Ok(&[]),
     }
-}
-
-/// The value at the key, if there is one.
-fn value_if_any<'a>(table: &'a Table, key: &str) -> Option<&'a Value>
-    ensures { option_map (λ value. view value.now) result ≡ get_member key.now (table_view table.now) }
-{
-    table.get(key)
 }
 
 /// The entries; `OutOfRange` where they are too many.

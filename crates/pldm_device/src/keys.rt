@@ -1,11 +1,19 @@
 //! What stands at a key of a TOML table.
 
-ghost use Rattle.std.specs.Prelude.{◌≡◌, ◌≤◌, IfOk};
+ghost use Rattle.std.specs.Prelude.{◌≡◌, ◌≤◌, IfOk, option_map};
 ghost use Rattle.pldm_device.specs.KeyValues.{array_in, map_ok, number_at, number_in, table_in, text_in, value_at};
+ghost use Rattle.toml.specs.Data.{get_member};
 ghost use Rattle.toml.specs.View.{items_view, table_view, view};
 
 use crate::description_fault::FileFault;
 use toml::{Table, Value};
+
+/// The value at the key, if there is one.
+pub(crate) fn value_if_any<'a>(table: &'a Table, key: &str) -> Option<&'a Value>
+    ensures { option_map (λ value. view value.now) result ≡ get_member key.now (table_view table.now) }
+{
+    table.get(key)
+}
 
 /// The value at the key; `MissingKey` where there is none.
 pub(crate) fn value_at<'a>(table: &'a Table, key: &str) -> Result<&'a Value, FileFault>

@@ -1,6 +1,7 @@
 //! A simulated device behind a PLDM terminus, and the description that states it.
 #![tactic(auto)]
 
+mod control_table;
 mod description;
 mod description_fault;
 mod device;
@@ -18,6 +19,7 @@ mod sensor_entries;
 mod size_names;
 mod state_effecter;
 
+pub use control_table::ControlTable;
 pub use description::Description;
 pub use description_fault::FileFault;
 pub use device::SimDevice;

@@ -33,3 +33,9 @@ pub const UNASSIGNED_TID: u8 = 0;
 
 /// The terminus ID that is reserved (DSP0240, "SetTID").
 pub const RESERVED_TID: u8 = 255;
+
+/// The bytes of a UUID (DSP0236, "Get Endpoint UUID").
+pub const UUID_BYTES: usize = 16;
+
+/// The bytes of a version in a control message (DSP0236, "Version field encoding").
+pub const VERSION_BYTES: usize = 4;

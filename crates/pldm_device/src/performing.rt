@@ -15,6 +15,7 @@ use std::alloc::Global;
 
 impl SimDevice {
     // Performs the command and puts its answer into `given`.
+    // Not inlined, so that the answer is written where it is wanted and not copied there.
     #[inline(never)]
     fn answer_into(&mut self, command: &Command, given: &mut Answer)
         ensures answer { given.new ≡ answer self.old command.now }

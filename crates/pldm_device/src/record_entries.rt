@@ -31,9 +31,7 @@ fn records_of(alloc: Global, entries: &[Value]) -> Result<Repository, FileFault>
         if records.position_of(record.handle()).is_some() {
             return Err(FileFault::Duplicate);
         }
-        if records.push(record).is_err() {
-            return Err(FileFault::Memory);
-        }
+        records.push(record)?;
     }
     Ok(records)
 }

@@ -42,9 +42,7 @@ fn numeric_sensors_of(
         if sensors.contains_key(&id) {
             return Err(FileFault::Duplicate);
         }
-        if sensors.insert(id, sensor).is_err() {
-            return Err(FileFault::Memory);
-        }
+        sensors.insert(id, sensor)?;
     }
     Ok(sensors)
 }
@@ -109,9 +107,7 @@ fn state_sensors_of(
         if numeric.contains_key(&id) || sensors.contains_key(&id) {
             return Err(FileFault::Duplicate);
         }
-        if sensors.insert(id, fields).is_err() {
-            return Err(FileFault::Memory);
-        }
+        sensors.insert(id, fields)?;
     }
     Ok(sensors)
 }

@@ -1,5 +1,5 @@
 -- What the two steps of an endpoint return and leave, from what its responder returns and leaves.
-use Rattle.std.proofs.Common.{◌≡◌, ℕ, ◌<◌, List, [], ◌∷◌, Option, Some, None, IsSome, if◌then◌else◌, refl, sym, ap, ◌∙◌, subst, arith}
+use Rattle.std.proofs.Common.{◌≡◌, ℕ, ◌<◌, Bool, List, [], ◌∷◌, Option, Some, None, IsSome, if◌then◌else◌, refl, sym, ap, ◌∙◌, subst, arith}
 use Rattle.std.proofs.lemmas.Bool.{lt-ltb}
 use Rattle.pldm_wire.specs.AnswerReading.{answer_of}
 use Rattle.pldm_wire.specs.Answers.{IsAnswer, IsAnswerTo, answer_data, answer_message, code_of}
@@ -13,12 +13,15 @@ use Rattle.pldm_responder.specs.Arrivals.{Arrival, Drop, Part, Whole}
 use Rattle.pldm_responder.specs.Asked.{AnswerDecides, NoneIsAsked, gives, listed}
 use Rattle.pldm_responder.specs.Held.{Held, IsHeld}
 use Rattle.pldm_responder.specs.Performing.{Rules, rules_of}
+use Rattle.pldm_responder.specs.Repeating.{repeats_alone}
 use Rattle.pldm_responder.specs.Rooms.{ArrivalHasRow, ArrivalLacksRow}
 use Rattle.pldm_responder.specs.Slots.{Rows, row_of}
 use Rattle.pldm_responder.specs.Steps.{arrival_commands, received_commands, received_held, received_outcome}
 use Rattle.pldm_responder.specs.declared.outcome.Outcome.{Outcome}
 use Rattle.pldm_endpoint.specs.OutsideDevices.{answer_by, or_not_ready, outside_after, outside_answer, outside_sensed}
+use Rattle.pldm_endpoint.specs.Refusing.{is_copy_of_asked}
 use Rattle.pldm_endpoint.specs.TwoSteps.{bare, left_by, received_step, step_by, unasked}
+use Rattle.pldm_endpoint.specs.declared.endpoint.Asked.{Asked}
 use Rattle.pldm_endpoint.specs.declared.step.Step.TheVariants.{Done}
 
 -- ---- held over and over
@@ -116,3 +119,13 @@ pub room_is_there : {S : Type 0} (held : Held S) (rows : Rows) (a : Arrival) (co
 room_is_there held rows (Drop reason) command asked has lacks = cc
 room_is_there held rows Part command asked has lacks = cc
 room_is_there held rows (Whole m) command asked has lacks = some_none (row_of rows m.source) has lacks
+
+-- ---- whether a packet is a copy of what is asked
+pub copy_by : {S : Type 0} (held : Held S) (asks : Option Asked) (a : Asked) (moment : ℕ) (bytes first : List ℕ) (r is : Bool)
+    → asks ≡ Some a → first ≡ a.packet.items → ((first_moment at : ℕ) → r ≡ repeats_alone held first_moment first at bytes) → r ≡ is
+    → is_copy_of_asked held asks moment bytes ≡ is
+copy_by held asks a moment bytes first r is asked items repeats r_is =
+    ap (λ (o : Option Asked). is_copy_of_asked held o moment bytes) asked
+    ∙ ap (λ xs. repeats_alone held a.moment xs moment bytes) (sym items)
+    ∙ sym (repeats a.moment moment)
+    ∙ r_is

@@ -1,4 +1,6 @@
 pub mod OutsideDevices
 pub mod TwoSteps
+pub mod Refusing
+pub mod Stepping
 pub mod Histories
 pub mod Turns

@@ -1,20 +1,24 @@
 //! An endpoint whose device is outside.
 
-ghost use Rattle.std.specs.Prelude.{◌≡◌, ◌≤◌, ◌*◌, None, true, false, option_map, IfOk, IsOk, IsErrOf, IsSome, OnOk, OnErr};
+ghost use Rattle.std.specs.Prelude.{◌≡◌, ◌≤◌, ◌*◌, None, true, false, option_map, IfOk, IfErr, IsOk, IsErrOf, IsSome, OnOk, OnErr};
 ghost use Rattle.pldm_wire.specs.declared.assigned.TheConstants.{INSTANCE_IDS};
+ghost use Rattle.pldm_wire.specs.Answers.{IsAnswer, IsAnswerTo, answer_message};
+ghost use Rattle.pldm_responder.specs.Answering.{HasReply, answering};
 ghost use Rattle.pldm_responder.specs.Counts.{CountsKept};
 ghost use Rattle.pldm_responder.specs.Held.{IsHeld};
 ghost use Rattle.pldm_responder.specs.Stations.{held_of};
 ghost use Rattle.pldm_responder.specs.Steps.{restarted_held};
 ghost use Rattle.pldm_responder.specs.Wants.{WantsMemory};
+ghost use Rattle.pldm_endpoint.specs.Refusing.{IsOfMemory, is_copy_of_asked};
+ghost use Rattle.pldm_endpoint.specs.Stepping.{StepHasReply, stepping};
 ghost use Rattle.pldm_endpoint.specs.TwoSteps.{AsksAfter, IsAnsweredBy, IsItsAnswer, IsLeftByAnswer, IsLeftByStep, asks_after, bare, held_at_first, received_step};
 
 use crate::outside_device::OutsideDevice;
-use crate::step::{AnswerRefusal, ReceiveRefusal, Step, is_answer_to};
+use crate::step::{AnswerRefusal, ReceiveRefusal, Step, TakenStep, is_answer_to};
 use arrayvec::ArrayVec;
 use mctp_packet::{Body, Eid, Keep, MAX_PACKET_BYTES, Memory, Moment};
-use pldm_responder::{Bounds, Outcome, Responder};
-use pldm_wire::{Answer, Command, write_answer};
+use pldm_responder::{Bounds, Outcome, Responder, Taken};
+use pldm_wire::{Answer, Command, Kind, write_answer};
 use std::alloc::Global;
 use std::marker::Model;
 
@@ -115,38 +119,88 @@ impl Endpoint {
     ///
     /// # Errors
     ///
-    /// `Performing` exactly while the device performs a command. `Memory` where a growth was refused or a bound would
-    /// be passed. The endpoint is then as before.
+    /// While the device performs a command, and only then, `BeingPerformed` for a packet that alone is a copy of its
+    /// request, a whole message of the same source, instance ID and bytes, and `Performing` for any other. `Memory`
+    /// where a growth was refused or a bound would be passed. The endpoint is then as before.
     pub fn receive(&mut self, now: Moment, bytes: &[u8]) -> Result<Step, ReceiveRefusal>
         requires { (held_of self.old.station).last ≤ now }
         ensures step { IfOk result (λ step. step ≡ received_step (held_of self.old.station) now bytes.now) }
         ensures asks { OnOk result (self.new.asks ≡ asks_after (held_of self.old.station) now bytes.now) }
         ensures pending { IfOk result (λ step. AsksAfter step self.new.asks) }
         ensures held { OnOk result (IsLeftByStep (held_of self.old.station) now bytes.now (held_of self.new.station)) }
-        ensures performing { IsErrOf result ReceiveRefusal.Performing → IsSome self.old.asks }
+        ensures performing { IsErrOf result ReceiveRefusal.Performing → IsSome self.old.asks
+            × (is_copy_of_asked (held_of self.old.station) self.old.asks now bytes.now ≡ false) }
+        ensures being_performed { IsErrOf result ReceiveRefusal.BeingPerformed → IsSome self.old.asks
+            × (is_copy_of_asked (held_of self.old.station) self.old.asks now bytes.now ≡ true) }
         ensures idle { OnOk result (self.old.asks ≡ None) }
-        ensures memory { IsErrOf result ReceiveRefusal.Memory →
-            (self.old.asks ≡ None) × WantsMemory (held_of self.old.station) true now bytes.now }
+        ensures memory { IfErr result (λ refusal. IsOfMemory refusal
+            → (self.old.asks ≡ None) × WantsMemory (held_of self.old.station) true now bytes.now) }
         ensures still_asked { OnErr result (self.new.asks ≡ self.old.asks) }
         ensures err { OnErr result (IsHeld (bare (held_of self.new.station)) (bare (held_of self.old.station))) }
         ensures bounds { self.new.station.bounds ≡ self.old.station.bounds }
     {
-        if self.asked.is_some() {
+        let mut reply = Body::new();
+        match self.receive_message(now, bytes, &mut reply)? {
+            TakenStep::Perform => Ok(Step::Perform),
+            TakenStep::Done(taken) => Ok(Step::Done(taken.outcome(&reply))),
+        }
+    }
+
+    /// Takes the bytes of a packet as [`Endpoint::receive`] does. The message that answers it is put into `reply`
+    /// whole, with no packet made of it. Where nothing is answered, what `reply` then holds is not specified.
+    ///
+    /// # Errors
+    ///
+    /// As from [`Endpoint::receive`]; what `reply` then holds is not specified.
+    pub fn receive_message(
+        &mut self,
+        now: Moment,
+        bytes: &[u8],
+        reply: &mut Body,
+    ) -> Result<TakenStep, ReceiveRefusal>
+        requires { (held_of self.old.station).last ≤ now }
+        ensures step { IfOk result (λ step. stepping reply.new.items step ≡ received_step (held_of self.old.station) now bytes.now) }
+        ensures some { IfOk result (StepHasReply reply.new.items) }
+        ensures asks { OnOk result (self.new.asks ≡ asks_after (held_of self.old.station) now bytes.now) }
+        ensures pending { IfOk result (λ step. AsksAfter (stepping reply.new.items step) self.new.asks) }
+        ensures held { OnOk result (IsLeftByStep (held_of self.old.station) now bytes.now (held_of self.new.station)) }
+        ensures performing { IsErrOf result ReceiveRefusal.Performing → IsSome self.old.asks
+            × (is_copy_of_asked (held_of self.old.station) self.old.asks now bytes.now ≡ false) }
+        ensures being_performed { IsErrOf result ReceiveRefusal.BeingPerformed → IsSome self.old.asks
+            × (is_copy_of_asked (held_of self.old.station) self.old.asks now bytes.now ≡ true) }
+        ensures idle { OnOk result (self.old.asks ≡ None) }
+        ensures memory { IfErr result (λ refusal. IsOfMemory refusal
+            → (self.old.asks ≡ None) × WantsMemory (held_of self.old.station) true now bytes.now) }
+        ensures still_asked { OnErr result (self.new.asks ≡ self.old.asks) }
+        ensures err { OnErr result (IsHeld (bare (held_of self.new.station)) (bare (held_of self.old.station))) }
+        ensures bounds { self.new.station.bounds ≡ self.old.station.bounds }
+    {
+        if let Some(asked) = &self.asked {
+            if self.responder.repeats_alone(&asked.packet, bytes) {
+                return Err(ReceiveRefusal::BeingPerformed);
+            }
             return Err(ReceiveRefusal::Performing);
         }
-        match self.receive_idle(now, bytes) {
+        match self.receive_idle(now, bytes, reply) {
             Ok(step) => Ok(step),
-            Err(_) => Err(ReceiveRefusal::Memory),
+            Err(memory) => Err(ReceiveRefusal::Memory(memory)),
         }
     }
 
     /// Takes a packet while the device performs no command.
-    fn receive_idle(&mut self, now: Moment, bytes: &[u8]) -> Result<Step, Memory>
+    fn receive_idle(
+        &mut self,
+        now: Moment,
+        bytes: &[u8],
+        reply: &mut Body,
+    ) -> Result<TakenStep, Memory>
         requires idle { self.old.asks ≡ None }
         requires later { (held_of self.old.station).last ≤ now }
-        ensures step { IfOk result (λ step. step ≡ received_step (held_of self.old.station) now bytes.now) }
+        ensures step { IfOk result (λ step. stepping reply.new.items step
+            ≡ received_step (held_of self.old.station) now bytes.now) }
+        ensures some { IfOk result (StepHasReply reply.new.items) }
         ensures asks { OnOk result (self.new.asks ≡ asks_after (held_of self.old.station) now bytes.now) }
-        ensures pending { IfOk result (λ step. AsksAfter step self.new.asks) }
+        ensures pending { IfOk result (λ step. AsksAfter (stepping reply.new.items step) self.new.asks) }
         ensures held { OnOk result (IsLeftByStep (held_of self.old.station) now bytes.now (held_of self.new.station)) }
         ensures memory { OnErr result (WantsMemory (held_of self.old.station) true now bytes.now) }
         ensures still_idle { OnErr result (self.new.asks ≡ None) }
@@ -162,10 +216,10 @@ impl Endpoint {
                 packet,
                 command,
             });
-            return Ok(Step::Perform);
+            return Ok(TakenStep::Perform);
         }
-        let outcome = self.responder.receive(now, bytes)?;
-        Ok(Step::Done(outcome))
+        let taken = self.responder.receive_message(now, bytes, reply)?;
+        Ok(TakenStep::Done(taken))
     }
 
     /// Takes the device's answer to the command that it was asked, and gives the packets of it. They go to the source
@@ -190,6 +244,36 @@ impl Endpoint {
         ensures err { OnErr result (IsHeld (bare (held_of self.new.station)) (bare (held_of self.old.station))) }
         ensures bounds { self.new.station.bounds ≡ self.old.station.bounds }
     {
+        let mut reply = Body::new();
+        let taken = self.answer_message(answer, &mut reply)?;
+        Ok(taken.outcome(&reply))
+    }
+
+    /// Takes the device's answer as [`Endpoint::answer`] does. The message that answers the request is put into
+    /// `reply` whole, with no packet made of it.
+    ///
+    /// # Errors
+    ///
+    /// As from [`Endpoint::answer`].
+    pub fn answer_message(
+        &mut self,
+        answer: &Answer,
+        reply: &mut Body,
+    ) -> Result<Taken, AnswerRefusal>
+        ensures outcome { IfOk result (λ taken. IsAnsweredBy (held_of self.old.station) self.old.asks answer.now
+            (answering reply.new.items taken)) }
+        ensures some { IfOk result (HasReply reply.new.items) }
+        ensures held { OnOk result
+            (IsLeftByAnswer (held_of self.old.station) self.old.asks answer.now (held_of self.new.station)) }
+        ensures idle { OnOk result (self.new.asks ≡ None) }
+        ensures its_answer { OnOk result (IsItsAnswer self.old.asks answer.now) }
+        ensures not_asked { IsErrOf result AnswerRefusal.NotAsked → self.old.asks ≡ None }
+        ensures other { IsErrOf result AnswerRefusal.OtherCommand →
+            IsSome self.old.asks × (IsItsAnswer self.old.asks answer.now → ⊥) }
+        ensures still_asked { OnErr result (self.new.asks ≡ self.old.asks) }
+        ensures err { OnErr result (IsHeld (bare (held_of self.new.station)) (bare (held_of self.old.station))) }
+        ensures bounds { self.new.station.bounds ≡ self.old.station.bounds }
+    {
         pldm_responder::laws::answers_come_from_outside::<OutsideDevice>();
         pldm_wire::laws::answers_are_read_back();
         let Some(asked) = &self.asked else {
@@ -199,12 +283,14 @@ impl Endpoint {
         if !is_answer_to(answer, kind) {
             return Err(AnswerRefusal::OtherCommand);
         }
-        let response = write_answer(0, kind, answer);
-        self.responder.replace(OutsideDevice { response });
-        match self.responder.receive(asked.moment, &asked.packet) {
-            Ok(outcome) => {
+        put_response(&mut self.responder, kind, answer);
+        match self
+            .responder
+            .receive_message(asked.moment, &asked.packet, reply)
+        {
+            Ok(taken) => {
                 self.asked = None;
-                Ok(outcome)
+                Ok(taken)
             }
             Err(_) => unreachable!(),
         }
@@ -222,4 +308,18 @@ impl Endpoint {
         self.asked = None; // the device may have performed it or not
         self.responder.restart(now);
     }
+}
+
+/// Has the device outside give this answer to a command of this kind.
+#[inline(never)]
+fn put_response(responder: &mut Responder<OutsideDevice>, kind: Kind, answer: &Answer)
+    requires { IsAnswerTo kind answer.now }
+    ensures held { held_of responder.new
+        ≡ record (held_of responder.old) { state = answer_message 0 kind answer.now } }
+    ensures rows { responder.new.rows ≡ responder.old.rows }
+    ensures bounds { responder.new.bounds ≡ responder.old.bounds }
+    ensures range { IsAnswer answer.now }
+{
+    let response = write_answer(0, kind, answer);
+    responder.replace(OutsideDevice { response });
 }

@@ -9,4 +9,4 @@ mod step;
 
 pub use endpoint::{Asked, Endpoint};
 pub use outside_device::OutsideDevice;
-pub use step::{AnswerRefusal, ReceiveRefusal, Step};
+pub use step::{AnswerRefusal, ReceiveRefusal, Step, TakenStep};

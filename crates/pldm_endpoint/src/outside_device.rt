@@ -15,17 +15,19 @@ pub struct OutsideDevice {
 }
 
 impl OutsideDevice {
-    /// What the response is to a command: ERROR_NOT_READY where it answers another.
-    fn answer_to(&self, command: &Command) -> Answer
-        ensures { result ≡ outside_answer self.now.response.items command.now }
+    /// Puts what the response is to a command in the place of what `given` holds: ERROR_NOT_READY where it answers
+    /// another.
+    fn answer_into(&self, command: &Command, given: &mut Answer)
+        ensures { given.new ≡ outside_answer self.now.response.items command.now }
     {
         let Ok(response) = read_response(&self.response) else {
-            return Answer::Refused(Code::ERROR_NOT_READY);
+            *given = Answer::Refused(Code::ERROR_NOT_READY);
+            return;
         };
         let _range = response.code();
         match read_answer(command, &response) {
-            Ok(answer) => answer,
-            Err(_) => Answer::Refused(Code::ERROR_NOT_READY),
+            Ok(answer) => *given = answer,
+            Err(_) => *given = Answer::Refused(Code::ERROR_NOT_READY),
         }
     }
 }
@@ -58,7 +60,19 @@ impl Platform for OutsideDevice {
     ghost performed_in_turn = { λ first second third before after one other. tt };
 
     fn perform(&mut self, _alloc: Global, command: &Command) -> Result<Answer, Memory> {
-        Ok(self.answer_to(command))
+        let mut given = Answer::SetTid;
+        self.answer_into(command, &mut given);
+        Ok(given)
+    }
+
+    fn perform_into(
+        &mut self,
+        _alloc: Global,
+        command: &Command,
+        given: &mut Answer,
+    ) -> Result<(), Memory> {
+        self.answer_into(command, given);
+        Ok(())
     }
 
     fn set_reading(&mut self, _id: u16, _value: i64) -> Result<(), ReadingFault> {

@@ -4,7 +4,7 @@ ghost use Rattle.std.specs.Prelude.{◌≡◌, true, false};
 ghost use Rattle.pldm_wire.specs.Answers.{IsAnswerTo, answered_kind};
 
 use mctp_packet::Memory;
-use pldm_responder::Outcome;
+use pldm_responder::{Outcome, Taken};
 use pldm_wire::{
     Answer, BASE, GET_NUMERIC_EFFECTER_VALUE, GET_PDR, GET_PDR_REPOSITORY_INFO, GET_PLDM_COMMANDS,
     GET_PLDM_TYPES, GET_PLDM_VERSION, GET_SENSOR_READING, GET_STATE_EFFECTER_STATES,
@@ -22,15 +22,27 @@ pub enum Step {
     Done(Outcome),
 }
 
+/// What becomes of the bytes of a packet, where the message that answers them stands beside it.
+#[derive(Debug, Drop)]
+pub enum TakenStep {
+    /// They complete a request whose command the device has to perform now, once.
+    Perform,
+    /// They are done with: dropped, a part of a message, or answered.
+    Done(Taken),
+}
+
 /// Why a packet was refused. It counts as lost on the bus, and the endpoint is as before.
 #[derive(Clone, Copy, Debug, PartialEq, Eq, Error)]
 pub enum ReceiveRefusal {
-    /// The device is performing a command.
+    /// The device is performing a command, and the packet is no copy of its request.
     #[error("the device is performing a command")]
     Performing,
+    /// The device is performing the command of this very request.
+    #[error("the device is performing the command of this request")]
+    BeingPerformed,
     /// No memory was to be had, or a bound would be passed.
     #[error("out of memory")]
-    Memory,
+    Memory(Memory),
 }
 
 /// Why an answer was refused. The endpoint is as before.

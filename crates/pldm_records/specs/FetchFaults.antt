@@ -9,5 +9,5 @@ number_of_fetch_fault (Refused code) = 1
 number_of_fetch_fault Count = 2
 number_of_fetch_fault Handle = 3
 number_of_fetch_fault Crc = 4
-number_of_fetch_fault Memory = 5
+number_of_fetch_fault (Memory memory) = 5
 number_of_fetch_fault Unexpected = 6

@@ -30,7 +30,7 @@ pub record Fetching : Type 0 where
 
 -- want of memory, and an answer that was not asked for, end no fetch
 abbrev pub Ends : FetchFault → Type 0
-Ends faults.Memory = ⊥
+Ends (faults.Memory memory) = ⊥
 Ends faults.Unexpected = ⊥
 Ends _ = Unit {0}
 

@@ -1,16 +1,18 @@
 //! A record fetched in parts: the requester's side of a transfer (DSP0248, "GetPDR command").
 
 ghost use Rattle.std.specs.Prelude.{◌≡◌, ◌≢◌, true, Err, IfSome, option_map};
+ghost use Rattle.mctp_packet.specs.Memories.{out_of_memory};
 ghost use Rattle.pldm_records.specs.FetchFaults.{number_of_fetch_fault};
 ghost use Rattle.pldm_records.specs.Fetches.{Ends, IsSmall, adds, after_taking, begun, failed, has_room_for, is_last, next_request, now_of, part_after, part_taken, record_fault, fetched_record, taken};
 
 use crate::limits::{CHANGE_NUMBER_END, FIRST_RECORD, MAX_RECORD_BYTES, RECORD_HEADER};
 use crate::record::{change_number_of, data_length_of, handle_of};
+use mctp_packet::Memory;
 use pldm_wire::{
     Answer, Code, Command, GET_FIRST_PART, GET_NEXT_PART, MAX_PART_BYTES, RecordPart, TransferFlag,
     crc8,
 };
-use std::alloc::Global;
+use std::alloc::{AllocError, Global};
 use std::marker::Model;
 use thiserror::Error;
 
@@ -33,7 +35,7 @@ pub enum FetchFault {
     Crc,
     /// No memory was left.
     #[error("out of memory")]
-    Memory,
+    Memory(Memory),
     /// It is no answer to GetPDR, or the fetch has finished.
     #[error("the answer was not asked for")]
     Unexpected,
@@ -49,9 +51,29 @@ impl FetchFault {
             FetchFault::Count => 2,
             FetchFault::Handle => 3,
             FetchFault::Crc => 4,
-            FetchFault::Memory => 5,
+            FetchFault::Memory(_) => 5,
             FetchFault::Unexpected => 6,
         }
+    }
+}
+
+impl From<Memory> for FetchFault {
+    ghost use Rattle.pldm_records.specs.declared.fetch.FetchFault.TheVariants as faults;
+
+    ghost from_gives = { λ memory fault. fault ≡ faults.Memory memory };
+
+    fn from(memory: Memory) -> FetchFault {
+        FetchFault::Memory(memory)
+    }
+}
+
+impl From<AllocError> for FetchFault {
+    ghost use Rattle.pldm_records.specs.declared.fetch.FetchFault.TheVariants as faults;
+
+    ghost from_gives = { λ _ fault. fault ≡ faults.Memory out_of_memory };
+
+    fn from(refused: AllocError) -> FetchFault {
+        FetchFault::Memory(refused.into())
     }
 }
 
@@ -156,10 +178,11 @@ impl Fetch {
     /// `Refused`, `Count`, `Handle` and `Crc` end the fetch: each later call answers the same fault.
     /// After `Memory` and `Unexpected` the fetch is as before.
     pub fn take(&mut self, answer: &Answer) -> Result<FetchState, FetchFault>
-        ensures taken { result ≢ Err FetchFault.Memory → result ≡ taken self.old answer.now }
-        ensures after_taking { result ≢ Err FetchFault.Memory → self.new ≡ after_taking self.old answer.now }
-        ensures memory { result ≡ Err FetchFault.Memory → adds self.old answer.now ≡ true }
-        ensures unchanged { result ≡ Err FetchFault.Memory → self.new ≡ self.old }
+        ensures taken { result ≢ Err (FetchFault.Memory out_of_memory) → result ≡ taken self.old answer.now }
+        ensures after_taking { result ≢ Err (FetchFault.Memory out_of_memory) →
+            self.new ≡ after_taking self.old answer.now }
+        ensures memory { result ≡ Err (FetchFault.Memory out_of_memory) → adds self.old answer.now ≡ true }
+        ensures unchanged { result ≡ Err (FetchFault.Memory out_of_memory) → self.new ≡ self.old }
         ensures small { IsSmall self.new }
     {
         match self.stage {
@@ -186,19 +209,18 @@ impl Fetch {
         part: &RecordPart,
     ) -> Result<FetchState, FetchFault>
         requires { self.old.stage ≡ Stage.Going }
-        ensures taken { result ≢ Err FetchFault.Memory → result ≡ part_taken self.old next_record_handle part.now }
-        ensures after_taking { result ≢ Err FetchFault.Memory → self.new ≡ part_after self.old
+        ensures taken { result ≢ Err (FetchFault.Memory out_of_memory) →
+            result ≡ part_taken self.old next_record_handle part.now }
+        ensures after_taking { result ≢ Err (FetchFault.Memory out_of_memory) → self.new ≡ part_after self.old
             next_data_transfer_handle part.now (part_taken self.old next_record_handle part.now) }
-        ensures memory { result ≡ Err FetchFault.Memory → has_room_for self.old.bytes part.now ≡ true }
-        ensures unchanged { result ≡ Err FetchFault.Memory → self.new ≡ self.old }
+        ensures memory { result ≡ Err (FetchFault.Memory out_of_memory) → has_room_for self.old.bytes part.now ≡ true }
+        ensures unchanged { result ≡ Err (FetchFault.Memory out_of_memory) → self.new ≡ self.old }
         ensures small { IsSmall self.new }
     {
         if !self.has_room_for(part) {
             return self.fail(&FetchFault::Count);
         }
-        if self.bytes.extend_from_slice(part.as_slice()).is_err() {
-            return Err(FetchFault::Memory);
-        }
+        self.bytes.extend_from_slice(part.as_slice())?;
         if !is_last(part.flag()) {
             self.next_data_transfer_handle = next_data_transfer_handle;
             return Ok(FetchState::More);

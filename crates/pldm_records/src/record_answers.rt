@@ -32,6 +32,7 @@ pub fn repository_info(
 }
 
 /// Puts the answer to GetPDR into `given`.
+// Not inlined: the longest answer's room is then on the stack for this command alone.
 #[inline(never)]
 pub fn put_record_part(
     records: &Repository,

@@ -112,7 +112,7 @@ impl Repository {
         self.records.reserve(1)?;
         let bytes = pdr.as_slice().len() as u32;
         let _ = self.positions.insert(pdr.handle(), self.records.len())?;
-        let _ = self.records.push(pdr);
+        let _ = self.records.push(pdr); // there is room for it
         self.size += bytes;
         self.largest = self.largest.max(bytes);
         Ok(())

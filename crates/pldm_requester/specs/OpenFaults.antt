@@ -6,4 +6,4 @@ use Rattle.pldm_requester.specs.declared.results.OpenFault.TheVariants.{TagInUse
 abbrev pub number_of_open_fault : OpenFault → ℕ
 number_of_open_fault TagInUse = 1
 number_of_open_fault IdInUse = 2
-number_of_open_fault Memory = 3
+number_of_open_fault (Memory memory) = 3

@@ -3,6 +3,7 @@ ghost use Rattle.std.specs.Bool.{OnFalse};
 ghost use Rattle.std.specs.Option.{option_copied};
 ghost use Rattle.arrayvec.specs.ArrayVec.{array_vec_len};
 ghost use Rattle.mctp_packet.specs.Ids.{IsTag};
+ghost use Rattle.mctp_packet.specs.Memories.{out_of_memory};
 ghost use Rattle.mctp_packet.specs.Passing.{passed as where_expected};
 ghost use Rattle.mctp_packet.specs.Pieces.{written_packets};
 ghost use Rattle.pldm_wire.specs.Commands.{IsCommand};
@@ -125,7 +126,7 @@ impl Requester {
         ensures value { result ≡ (held_of self.now).count }
         ensures range { result < 2 ^ 63 }
     {
-        let _range = self.last.get();
+        let _range = self.last.get(); // for the proof: a moment
         self.count
     }
 
@@ -205,9 +206,10 @@ impl Requester {
     pub fn open(&mut self, now: Moment, command: &Command) -> Result<Opened, OpenFault>
         requires { (held_of self.old).last ≤ now }
         ensures answer { IfOk result (λ opened. opening_answer (held_of self.old) now ≡ Ok opened) }
-        ensures fault { IfErr result (λ fault. ((fault ≡ OpenFault.Memory) × (accepts (held_of self.old) now ≡ true))
+        ensures fault { IfErr result (λ fault.
+            ((fault ≡ OpenFault.Memory out_of_memory) × (accepts (held_of self.old) now ≡ true))
             ⊎ (opening_answer (held_of self.old) now ≡ Err fault)) }
-        ensures room { IsErrOf result OpenFault.Memory → (held_of self.old).count < MAX_REMEMBERED }
+        ensures room { IsErrOf result (OpenFault.Memory out_of_memory) → (held_of self.old).count < MAX_REMEMBERED }
         ensures readable { OnOk result (IsCommand command.now) }
         ensures held { OnOk result (IsHeld (held_of self.new) (opened_held (held_of self.old) now command.now)) }
         ensures err { OnErr result (IsHeld (held_of self.new) (held_of self.old)) }
@@ -219,9 +221,7 @@ impl Requester {
         if self.is_id_in_use(now) {
             return Err(OpenFault::IdInUse);
         }
-        if make_room(&mut self.slots).is_err() {
-            return Err(OpenFault::Memory);
-        }
+        make_room(&mut self.slots)?;
         let number = self.count;
         let id = id_of(number);
         let tag = tag_of(number);

@@ -5,7 +5,7 @@ ghost use Rattle.pldm_requester.specs.OpenFaults.{number_of_open_fault};
 
 use crate::MAX_OPEN;
 use arrayvec::ArrayVec;
-use mctp_packet::{Reason, Tag};
+use mctp_packet::{Memory, Reason, Tag};
 use thiserror::Error;
 
 /// The requests that a tick found due, by their numbers, each list in ascending order.
@@ -44,13 +44,13 @@ pub struct Opened {
 pub enum OpenFault {
     /// The last request with the next tag is still open.
     #[error("the next tag is in use")]
-    TagInUse = 1,
+    TagInUse,
     /// The last request with the next instance ID was opened less than twice the keeping time ago.
     #[error("the next instance ID is in use")]
-    IdInUse = 2,
+    IdInUse,
     /// No memory was left.
     #[error("out of memory")]
-    Memory = 3,
+    Memory(Memory),
 }
 
 impl OpenFault {
@@ -58,7 +58,21 @@ impl OpenFault {
     pub fn number(self) -> u8
         ensures { result ≡ number_of_open_fault self }
     {
-        self as u8
+        match self {
+            OpenFault::TagInUse => 1,
+            OpenFault::IdInUse => 2,
+            OpenFault::Memory(_) => 3,
+        }
+    }
+}
+
+impl From<Memory> for OpenFault {
+    ghost use Rattle.pldm_requester.specs.declared.results.OpenFault.TheVariants as faults;
+
+    ghost from_gives = { λ memory fault. fault ≡ faults.Memory memory };
+
+    fn from(memory: Memory) -> OpenFault {
+        OpenFault::Memory(memory)
     }
 }
 

@@ -13,5 +13,6 @@ pub mod Stations
 pub mod Laws
 pub mod Dimmers
 pub mod Asked
+pub mod Repeating
 pub mod Rooms
 pub mod Askings

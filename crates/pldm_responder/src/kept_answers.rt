@@ -77,7 +77,7 @@ impl KeptAnswers {
             return Ok(());
         }
         if self.sources >= max {
-            return Err(Memory);
+            return Err(Memory::at_limit(self.sources, max));
         }
         let row = Row::new(self.alloc)?;
         make_place(&mut self.rows, source)?;
@@ -99,7 +99,7 @@ impl KeptAnswers {
             else kept_in self.old other i) }
         ensures sources { source_count self.new ≡ source_count self.old }
     {
-        let _range = source.get();
+        let _range = source.get(); // for the proof: an endpoint ID
         let is_first = match &mut self.rows[usize::from(source.get())] {
             Some(row) => row.put(id, moment, bytes, answer),
             None => unreachable!(),

@@ -1,6 +1,9 @@
 //! What a packet gives at a responder.
 
-use mctp_packet::{Packets, Reason, Route};
+ghost use Rattle.std.specs.Prelude.{◌≡◌};
+ghost use Rattle.pldm_responder.specs.Answering.{HasReply, answering};
+
+use mctp_packet::{Body, Packets, Reason, Route, split};
 
 /// What becomes of bytes that were received.
 #[derive(Debug, Drop)]
@@ -38,4 +41,29 @@ pub enum Taken {
         /// The route of the answer's packets.
         route: Route,
     },
+}
+
+impl Taken {
+    /// The same with the packets of `reply`, the message that answers.
+    pub fn outcome(self, reply: &Body) -> Outcome
+        requires { HasReply reply.now.items self }
+        ensures { result ≡ answering reply.now.items self }
+    {
+        match self {
+            Taken::Dropped(reason) => Outcome::Dropped(reason),
+            Taken::Partial => Outcome::Partial,
+            Taken::Answered {
+                fresh,
+                changed,
+                route,
+            } => match split(&route, reply) {
+                Ok(packets) => Outcome::Answered {
+                    fresh,
+                    changed,
+                    packets,
+                },
+                Err(_) => unreachable!(),
+            },
+        }
+    }
 }

@@ -11,6 +11,7 @@ use std::alloc::Global;
 /// Performs a request: its command where it has one, else it is refused. The message that answers it
 /// is put into `reply`, and the result is whether it is of a command that sets, and was not refused.
 /// An `Err` changes nothing of the platform.
+#[inline(never)]
 pub(crate) fn perform<P: Platform>(
     alloc: Global,
     platform: &mut P,
@@ -41,11 +42,12 @@ pub(crate) fn perform<P: Platform>(
     let mut answer = Answer::SetTid;
     platform.perform_into(alloc, &command, &mut answer)?;
     put_answer(reply, request.id(), request.kind(), &answer);
-    let _few = reply.len();
+    let _few = reply.len(); // for the proof: at most 256 bytes
     Ok(command.sets() && succeeded(&answer))
 }
 
 /// Puts the message that refuses a request into `reply`.
+// Not inlined: refusals are seldom, and the answer's room is not taken on the way of each request.
 #[inline(never)]
 pub(crate) fn refuse(request: &RequestRef<'_>, code: Code, reply: &mut Body)
     ensures answer { reply.new.items ≡ answer_message request.now.id request.now.kind (Refused code) }

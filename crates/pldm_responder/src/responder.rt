@@ -1,5 +1,5 @@
 ghost use Rattle.std.specs.FinMap as map;
-ghost use Rattle.std.specs.Prelude.{◌≡◌, ◌≢◌, ℕ, false, ◌*◌, ◌≤◌, ◌<◌, true, Bool, [], length, nat_lt, Ok, IfOk, IfSome, IsSome, OnOk, OnErr};
+ghost use Rattle.std.specs.Prelude.{◌≡◌, ◌≢◌, ℕ, false, ◌*◌, ◌≤◌, ◌<◌, ◌&&◌, true, Bool, [], length, nat_lt, Ok, IfOk, IfSome, IsSome, is_some, OnOk, OnErr};
 ghost use Rattle.mctp_packet.specs.Passing.{passed};
 ghost use Rattle.mctp_assembly.specs.Keys.{IsKey, key_of};
 ghost use Rattle.mctp_assembly.specs.Steps.{answer};
@@ -15,6 +15,7 @@ ghost use Rattle.pldm_responder.specs.Counts.{CountsKept};
 ghost use Rattle.pldm_responder.specs.Fitting.{ArrivalFits, ReceivedFits};
 ghost use Rattle.pldm_responder.specs.Held.{IsHeld, held_at_first};
 ghost use Rattle.pldm_responder.specs.Performing.{rules_of};
+ghost use Rattle.pldm_responder.specs.Repeating.{is_alone, is_same, repeats_alone};
 ghost use Rattle.pldm_responder.specs.Rooms.{ArrivalLacksRow, HasRow, IsCommanded, LacksRow};
 ghost use Rattle.pldm_responder.specs.Slots.{kept_in};
 ghost use Rattle.pldm_responder.specs.Stations.{held_of};
@@ -29,7 +30,7 @@ use crate::performing::{perform, refuse};
 use mctp_assembly::{Assembler, Fed, Key};
 use mctp_packet::{
     Body, Eid, Keep, MAX_EID, MAX_MESSAGE_BYTES, MAX_PACKET_BYTES, MIN_EID, Memory, Moment,
-    PacketRef, Packets, Reason, Route, TAGS, Tag, read_for, split,
+    PacketRef, Reason, Route, TAGS, Tag, read_for,
 };
 use pldm_platform::{Platform, ReadingFault};
 use pldm_wire::{Code, Command, INSTANCE_IDS, read_command, read_request};
@@ -189,7 +190,7 @@ impl<P: Platform> Responder<P> {
         let Ok(packet) = read_for(self.own, bytes) else {
             return None;
         };
-        let _size = packet.payload();
+        let _size = packet.payload(); // for the proof: at most 64 bytes
         self.packet_command(now, &packet)
     }
 
@@ -214,7 +215,7 @@ impl<P: Platform> Responder<P> {
         let Ok(packet) = read_for(self.own, bytes) else {
             return Ok(None);
         };
-        let _size = packet.payload();
+        let _size = packet.payload(); // for the proof: at most 64 bytes
         let Some(command) = self.packet_command(now, &packet) else {
             return Ok(None);
         };
@@ -225,6 +226,7 @@ impl<P: Platform> Responder<P> {
 
     /// The command that a packet would have the platform perform. It is addressed to the endpoint by another
     /// one.
+    #[inline(never)]
     fn packet_command(&self, now: Moment, packet: &PacketRef<'_>) -> Option<Command>
         ensures { listed result ≡ arrival_commands (held_of self.now)
             (packet_arrival (answer self.now.open_messages) now packet.now) }
@@ -262,10 +264,43 @@ impl<P: Platform> Responder<P> {
         ensures { result
             ≡ repeats self.now.keep (message_of source tag now message.now) (kept_in self.now.rows source id) }
     {
-        let _tag = tag.get();
+        let _tag = tag.get(); // for the proof: a tag
         match self.kept.get(source, id) {
             Some(kept) => kept.is_repeated(self.keep, now, message),
             None => false,
+        }
+    }
+
+    /// Whether the bytes of a packet are, alone, the request that the bytes `first` complete: a whole message
+    /// with its source and bytes, and so with its instance ID. When they come is nothing to it.
+    pub fn repeats_alone(&self, first: &[u8], bytes: &[u8]) -> bool
+        ensures { (first_moment moment : ℕ)
+            → result ≡ repeats_alone (held_of self.now) first_moment first.now moment bytes.now }
+    {
+        let (Ok(first), Ok(packet)) = (read_for(self.own, first), read_for(self.own, bytes)) else {
+            return false;
+        };
+        self.repeats(&first, &packet)
+    }
+
+    /// Whether a packet is, alone, the request that the first one completes.
+    #[inline(never)]
+    fn repeats(&self, first: &PacketRef<'_>, packet: &PacketRef<'_>) -> bool
+        ensures { (first_moment moment : ℕ)
+            → result ≡ (is_alone (passed is_expected (Ok packet.now))
+            && is_same (packet_arrival (answer self.now.open_messages) first_moment first.now)
+            (packet_arrival (answer self.now.open_messages) moment packet.now)) }
+    {
+        let (route, other) = (first.route(), packet.route());
+        if !route.owner || !other.owner || route.source != other.source {
+            return false;
+        }
+        let Some(message) = self.alone(packet) else {
+            return false;
+        };
+        match &self.assembler.look(first) {
+            Fed::Whole(whole) => whole.as_slice() == message && read_request(message).is_ok(),
+            _ => false,
         }
     }
 
@@ -320,22 +355,8 @@ impl<P: Platform> Responder<P> {
         ensures bounds { self.new.bounds ≡ self.old.bounds }
     {
         let mut reply = Body::new();
-        match self.receive_message(now, bytes, &mut reply)? {
-            Taken::Dropped(reason) => Ok(Outcome::Dropped(reason)),
-            Taken::Partial => Ok(Outcome::Partial),
-            Taken::Answered {
-                fresh,
-                changed,
-                route,
-            } => match split(&route, &reply) {
-                Ok(packets) => Ok(Outcome::Answered {
-                    fresh,
-                    changed,
-                    packets,
-                }),
-                Err(_) => unreachable!(),
-            },
-        }
+        let taken = self.receive_message(now, bytes, &mut reply)?;
+        Ok(taken.outcome(&reply))
     }
 
     /// Takes the bytes of a packet as [`Responder::receive`] does. The message that answers it is put
@@ -429,6 +450,7 @@ impl<P: Platform> Responder<P> {
         ensures whole { IfSome result
             (λ message. Whole (record { items = message.now }) ≡ answer self.now.open_messages packet.now) }
         ensures few { IfSome result (λ message. length message.now ≤ MAX_MESSAGE_BYTES) }
+        ensures alone { is_some result ≡ (packet.now.start && packet.now.end) }
     {
         if packet.start() && packet.end() {
             Some(packet.payload())
@@ -438,6 +460,7 @@ impl<P: Platform> Responder<P> {
     }
 
     /// Takes a packet with TO 1, whatever its place in its message.
+    // Not inlined: a message of one packet, the usual one, then needs none of its stack.
     #[inline(never)]
     fn take_piece(
         &mut self,
@@ -479,7 +502,8 @@ impl<P: Platform> Responder<P> {
             }
             Fed::Partial => {
                 if !self.has_room(key) {
-                    return Err(Memory);
+                    let open = self.assembler.pending();
+                    return Err(Memory::at_limit(open, self.bounds.open_messages));
                 }
                 self.assembler.keep(packet)?;
                 Ok(Taken::Partial)
@@ -496,6 +520,7 @@ impl<P: Platform> Responder<P> {
         ensures yes { result ≡ true → map.contains_key self.now.open_messages key ≡ false
             → map.len self.now.open_messages < self.now.bounds.open_messages }
         ensures no { result ≡ false → map.contains_key self.now.open_messages key ≡ false }
+        ensures full { result ≡ false → self.now.bounds.open_messages ≤ map.len self.now.open_messages }
     {
         let open = self.assembler.pending();
         open < self.bounds.open_messages || self.assembler.is_open(key)
@@ -594,7 +619,7 @@ impl<P: Platform> Responder<P> {
         ensures small { (source id : ℕ) → IfSome ((held_of self.now).kept source id)
             (λ entry. length entry.answer ≤ MAX_MESSAGE_BYTES) }
     {
-        let _range = self.own.get();
+        let _range = self.own.get(); // for the proof: an endpoint ID
         self.kept.count()
     }
 
@@ -607,7 +632,7 @@ impl<P: Platform> Responder<P> {
         ensures small { (key : KeyValue) → IfSome (map.get (held_of self.now).open_messages key)
             (λ o. length o.bytes ≤ MAX_MESSAGE_BYTES) }
     {
-        let _range = self.own.get();
+        let _range = self.own.get(); // for the proof: an endpoint ID
         self.assembler.pending()
     }
 }
@@ -618,7 +643,7 @@ fn key_of(packet: &PacketRef<'_>) -> Key
     ensures range { IsKey result }
 {
     let route = packet.route();
-    let _ranges = (route.source.get(), route.tag.get());
+    let _ranges = (route.source.get(), route.tag.get()); // for the proof: an endpoint ID and a tag
     Key {
         source: route.source,
         tag: route.tag,

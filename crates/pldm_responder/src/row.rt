@@ -32,6 +32,7 @@ impl Model for Row {
 
 impl Row {
     /// A row of empty slots, taken in one reservation.
+    // Not inlined: it runs once for each source, in a function that runs for each request.
     #[inline(never)]
     pub(crate) fn new(alloc: Global) -> Result<Row, Memory>
         ensures { IfOk result (λ row. (id : ℕ) → in_slot row id ≡ None) }
@@ -73,6 +74,7 @@ impl Row {
     }
 
     /// Puts an answer into the slot of an instance ID.
+    // Not inlined, so that the slot is written in place and no copy of it is made on the caller's stack.
     #[inline(never)]
     fn fill(&mut self, id: u8, moment: Moment, bytes: &[u8], answer: &[u8])
         requires id { id < ids }

@@ -51,7 +51,7 @@ pub(crate) fn push_bytes(body: &mut Body, bytes: &[u8])
     ensures items { body.new.items ≡ body.old.items ++ bytes.now }
     ensures len { array_vec_len body.new ≡ array_vec_len body.old + length bytes.now }
 {
-    let _ = body.try_extend_from_slice(bytes);
+    let _ = body.try_extend_from_slice(bytes); // they fit
 }
 
 /// Adds all bytes of an array.

@@ -54,7 +54,7 @@ impl RecordPart {
         ensures { result ≡ part flag bytes.now transfer_crc }
     {
         let mut kept = ArrayVec::new();
-        let _ = kept.try_extend_from_slice(bytes);
+        let _ = kept.try_extend_from_slice(bytes); // they fit
         RecordPart {
             flag,
             bytes: kept,

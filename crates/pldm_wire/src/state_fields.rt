@@ -69,7 +69,7 @@ impl<T: Copy + Default> StateFields<T> {
             return None;
         }
         let mut kept = ArrayVec::new();
-        let _ = kept.try_extend_from_slice(fields);
+        let _ = kept.try_extend_from_slice(fields); // they fit
         Some(StateFields { fields: kept })
     }
 }

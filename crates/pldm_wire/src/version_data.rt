@@ -37,7 +37,7 @@ impl VersionData {
             return None;
         }
         let mut kept = ArrayVec::new();
-        let _ = kept.try_extend_from_slice(bytes);
+        let _ = kept.try_extend_from_slice(bytes); // they fit
         Some(VersionData { bytes: kept })
     }
 

@@ -9,7 +9,7 @@ number_of_fault Number = 2
 number_of_fault BackInTime = 3
 number_of_fault NoSuchRequester = 4
 number_of_fault SameRequester = 5
-number_of_fault Memory = 6
+number_of_fault (Memory memory) = 6
 
 abbrev pub name_of_fault : LineFaultKind → List ℕ
 name_of_fault Words = codes "Words"
@@ -17,4 +17,4 @@ name_of_fault Number = codes "Number"
 name_of_fault BackInTime = codes "BackInTime"
 name_of_fault NoSuchRequester = codes "NoSuchRequester"
 name_of_fault SameRequester = codes "SameRequester"
-name_of_fault Memory = codes "Memory"
+name_of_fault (Memory memory) = codes "Memory"

@@ -9,6 +9,7 @@ use Rattle.schedule_text.specs.declared.line.Line.{Line}
 use Rattle.schedule_text.specs.declared.line.Line.TheVariants as lines
 use Rattle.schedule_text.specs.declared.line_fault.LineFault.{LineFault}
 use Rattle.schedule_text.specs.declared.line_fault.LineFaultKind.{LineFaultKind}
+use Rattle.mctp_packet.specs.Memories.{out_of_memory}
 use Rattle.schedule_text.specs.declared.line_fault.LineFaultKind.TheVariants.{BackInTime, NoSuchRequester, SameRequester, Memory}
 use Rattle.schedule_text.specs.declared.step.RequesterLine.{RequesterLine}
 use Rattle.schedule_text.specs.declared.step.Action.{Action}
@@ -105,11 +106,11 @@ schedule_of text = spelled_from 1 none_spelled (lines_of text)
 
 -- a fault is the first one of the text; memory may be wanting at any line
 abbrev pub TellsFault : Result Spelled LineFault → LineFault → Type 0
-TellsFault spelled fault = (fault.kind ≡ Memory) ⊎ (spelled ≡ Err fault)
+TellsFault spelled fault = (fault.kind ≡ Memory out_of_memory) ⊎ (spelled ≡ Err fault)
 
 -- the same of one line
 abbrev pub TellsKind : Result Spelled LineFaultKind → LineFaultKind → Type 0
-TellsKind spelled kind = (kind ≡ Memory) ⊎ (spelled ≡ Err kind)
+TellsKind spelled kind = (kind ≡ Memory out_of_memory) ⊎ (spelled ≡ Err kind)
 
 -- line n is one of these, and all lines before it are good, so that the first faulty one is not before it
 pub record IsReached (lines : List (List ℕ)) (n : ℕ) : Type 0 where

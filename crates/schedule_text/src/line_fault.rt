@@ -1,8 +1,11 @@
 //! Why a schedule was refused.
 
 ghost use Rattle.std.specs.Prelude.{◌≡◌};
+ghost use Rattle.mctp_packet.specs.Memories.{out_of_memory};
 ghost use Rattle.schedule_text.specs.LineFaults.{name_of_fault, number_of_fault};
 
+use mctp_packet::Memory;
+use std::alloc::AllocFailed;
 use thiserror::Error;
 
 /// The first line of a schedule that is refused, and why.
@@ -31,7 +34,7 @@ pub enum LineFaultKind {
     /// An earlier line is of the requester at this endpoint ID.
     SameRequester,
     /// No memory was left.
-    Memory,
+    Memory(Memory),
 }
 
 impl LineFaultKind {
@@ -45,7 +48,7 @@ impl LineFaultKind {
             LineFaultKind::BackInTime => 3,
             LineFaultKind::NoSuchRequester => 4,
             LineFaultKind::SameRequester => 5,
-            LineFaultKind::Memory => 6,
+            LineFaultKind::Memory(_) => 6,
         }
     }
 
@@ -59,7 +62,27 @@ impl LineFaultKind {
             LineFaultKind::BackInTime => "BackInTime",
             LineFaultKind::NoSuchRequester => "NoSuchRequester",
             LineFaultKind::SameRequester => "SameRequester",
-            LineFaultKind::Memory => "Memory",
+            LineFaultKind::Memory(_) => "Memory",
         }
+    }
+}
+
+impl From<Memory> for LineFaultKind {
+    ghost use Rattle.schedule_text.specs.declared.line_fault.LineFaultKind.TheVariants as faults;
+
+    ghost from_gives = { λ memory fault. fault ≡ faults.Memory memory };
+
+    fn from(memory: Memory) -> LineFaultKind {
+        LineFaultKind::Memory(memory)
+    }
+}
+
+impl<T: Drop> From<AllocFailed<T>> for LineFaultKind {
+    ghost use Rattle.schedule_text.specs.declared.line_fault.LineFaultKind.TheVariants as faults;
+
+    ghost from_gives = { λ _ fault. fault ≡ faults.Memory out_of_memory };
+
+    fn from(refused: AllocFailed<T>) -> LineFaultKind {
+        LineFaultKind::Memory(refused.into())
     }
 }

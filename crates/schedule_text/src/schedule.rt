@@ -112,9 +112,7 @@ impl Schedule {
         if has_requester(&self.requesters, line.eid) {
             return Err(LineFaultKind::SameRequester);
         }
-        let Ok(()) = self.requesters.push(line) else {
-            return Err(LineFaultKind::Memory);
-        };
+        self.requesters.push(line)?;
         Ok(())
     }
 
@@ -129,9 +127,7 @@ impl Schedule {
         if !is_known(&self.requesters, &step.action) {
             return Err(LineFaultKind::NoSuchRequester);
         }
-        let Ok(()) = self.steps.push(step) else {
-            return Err(LineFaultKind::Memory);
-        };
+        self.steps.push(step)?;
         Ok(())
     }
 }

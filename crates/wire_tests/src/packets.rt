@@ -2,6 +2,7 @@ use mctp_packet::{
     Eid, Keep, MAX_PACKET_BYTES, Memory, Moment, PacketRef, Packets, Reason, Route, Seq,
     SplitFault, Tag, read, read_for, split, write,
 };
+use std::alloc::AllocError;
 use std::process::Abort;
 use std::test::Fail;
 
@@ -138,7 +139,7 @@ fn splits_messages(rt: HostRuntime) -> Result<(), Fail> {
 
 #[test]
 fn want_of_memory_is_told(rt: HostRuntime) -> Result<(), Fail> {
-    let text = Memory.to_string(rt.alloc())?;
+    let text = Memory::from(AllocError).to_string(rt.alloc())?;
     assert_eq!(rt; text.as_str(), "out of memory");
     Ok(())
 }

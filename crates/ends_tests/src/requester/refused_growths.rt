@@ -51,7 +51,7 @@ impl Short {
             let now = moment(rt, &self.requester, milliseconds)?;
             match self.requester.open(now, command) {
                 Ok(opened) => return Ok(Ok((opened.number, opened.id, opened.tag.get()))),
-                Err(OpenFault::Memory) => self.refuse(rt, count, last),
+                Err(OpenFault::Memory(_)) => self.refuse(rt, count, last),
                 Err(fault) => return Ok(Err(fault)),
             }
         }
@@ -65,7 +65,7 @@ impl Short {
             let (count, last) = (self.requester.count(), self.requester.last_moment());
             match receive(rt, &mut self.requester, last.get(), bytes)? {
                 Ok(got) => return Ok(got),
-                Err(Memory) => self.refuse(rt, count, last),
+                Err(_) => self.refuse(rt, count, last),
             }
         }
         Err(Fail::from("never taken"))

@@ -3,10 +3,10 @@
 use super::run;
 use example_device::description;
 use mctp_assembly::{Assembler, Fed};
-use mctp_packet::{Body, Eid, Memory, Route, Tag, read_for, split};
+use mctp_packet::{Body, Eid, Route, Tag, read_for, split};
 use pldm_device::{Fetch, FetchState, MAX_RECORD_BYTES};
 use pldm_wire::{Command, MAX_PART_BYTES, read_answer, read_response, write_command};
-use std::alloc::Global;
+use std::alloc::{AllocError, Global};
 use std::process::Abort;
 use std::test::Fail;
 
@@ -39,15 +39,15 @@ fn input(alloc: Global, record: &[u8]) -> Result<String, Fail> {
     let digits = hex::encode(alloc, record)?;
     let mut text = format!(in alloc; "{device}[[pdr]]\nhex = \"{digits}\"\n%%\n")?;
     let route = Route {
-        destination: Eid::new(9).ok_or(Memory)?,
-        source: Eid::new(8).ok_or(Memory)?,
+        destination: Eid::new(9).ok_or(AllocError)?,
+        source: Eid::new(8).ok_or(AllocError)?,
         owner: true,
-        tag: Tag::new(3).ok_or(Memory)?,
+        tag: Tag::new(3).ok_or(AllocError)?,
     };
     for part in 0..PARTS {
         let message = write_command((part % 32) as u8, &request(part));
         let packets = split(&route, &message)?;
-        let packet = hex::encode(alloc, packets.get(0).ok_or(Memory)?)?;
+        let packet = hex::encode(alloc, packets.get(0).ok_or(AllocError)?)?;
         let line = format!(in alloc; "{part} {packet}\n")?;
         text.push_str(line.as_str())?;
     }
@@ -56,7 +56,7 @@ fn input(alloc: Global, record: &[u8]) -> Result<String, Fail> {
 
 /// The messages whose packets stand in these lines.
 fn messages(alloc: Global, lines: &[u8]) -> Result<Vec<Body>, Fail> {
-    let own = Eid::new(8).ok_or(Memory)?;
+    let own = Eid::new(8).ok_or(AllocError)?;
     let mut assembler = Assembler::new(alloc);
     let mut messages = Vec::new(alloc);
     for line in lines.split(|byte| *byte == b'\n') {

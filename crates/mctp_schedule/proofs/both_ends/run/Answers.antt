@@ -60,18 +60,18 @@ loop-step-preserved g c =
     let at = c.step-item.is ∙ ap (λ (xs : List Step). slice_index_or xs i step) items in
     let here = get_or schedule.steps i step within ∙ ap Some (sym at) in
     let may = may_come schedule.requesters schedule.steps i step valid.in_order valid.known here in
-    let runs = c.in-Ok.ensures.runs terms (reverse (take i schedule.steps)) c.loop-step.invariant.runs may in
+    let runs = c.in_ok-take.ensures.runs terms (reverse (take i schedule.steps)) c.loop-step.invariant.runs may in
     record {
       items = items;
       in_order = subst NeverWentBack (sym (taken_more schedule.steps i step within at)) (may.later, c.loop-step.invariant.in_order);
-      runs = subst (λ keep. IsRunning setting (reverse (take (i + 1) schedule.steps)) keep c.take.new.self.responder c.take.new.self.places.items c.take.new.self.journal) (sym c.in-Ok.ensures.keep)
+      runs = subst (λ keep. IsRunning setting (reverse (take (i + 1) schedule.steps)) keep c.take.new.self.responder c.take.new.self.places.items c.take.new.self.journal) (sym c.in_ok-take.ensures.keep)
           (subst (λ past. IsRunning setting past c.loop-step.ends.keep c.take.new.self.responder c.take.new.self.places.items c.take.new.self.journal) (sym (taken_more schedule.steps i step within at)) runs);
       performed = subst (λ past. g.P.Platform.performed c.args.setup.device (commands_performed c.args.setup.keep (world setting past).log) c.take.new.self.responder.platform) (sym (taken_more schedule.steps i step within at))
           (subst (λ (cs : List Command). g.P.Platform.performed c.args.setup.device cs c.take.new.self.responder.platform) (sym (commands_added setting (world setting (reverse (take i schedule.steps))) step.moment step.action))
           (g.met.P.Platform.performed_in_turn c.args.setup.device c.loop-step.ends.responder.platform c.take.new.self.responder.platform
           (commands_performed c.args.setup.keep (world setting (reverse (take i schedule.steps))).log)
           (commands_at_step c.args.setup.keep (world setting (reverse (take i schedule.steps))).log step.moment step.action)
-          c.loop-step.invariant.performed (c.in-Ok.ensures.performs terms (reverse (take i schedule.steps)) c.loop-step.invariant.runs may)));
+          c.loop-step.invariant.performed (c.in_ok-take.ensures.performs terms (reverse (take i schedule.steps)) c.loop-step.invariant.runs may)));
     }
 
 pub returns-clause-report : goal.returns-clause-report

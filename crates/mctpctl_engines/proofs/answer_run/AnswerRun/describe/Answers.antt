@@ -13,12 +13,12 @@ returns-then-not-is_divider-clause-meets c =
     let text : c.push.new.self.items ≡ (c.args.self.now.text.items ++ c.extend_from_slice.new.self.items) ++ 10 ∷ [] = search rules in
     stays_described held_run c.args.self.now.text.items c.args.self.now.kept.items c.args.line.now c.extend_from_slice.new.self.items c.push.new.self.items c.clear.new.self.items c.requires both tested text c.clear.ensures.items
 
-pub returns-in-Err-clause-meets : goal.returns-in-Err-clause-meets
-returns-in-Err-clause-meets c =
+pub returns-in-Err-begin-clause-meets : goal.returns-in-Err-begin-clause-meets
+returns-in-Err-begin-clause-meets c =
     let both : c.extend_from_slice.new.self.items ≡ c.args.self.now.kept.items ++ c.args.line.now = search rules in
     let tested : is_divider c.extend_from_slice.new.self.items ≡ true = search rules in
     let told : c.deref-2.result.now ≡ c.args.self.now.text.items = search rules in
-    divider_ends held_run c.args.self.now.text.items c.deref-2.result.now c.args.self.now.kept.items c.args.line.now c.extend_from_slice.new.self.items c.in-Err.fault told c.requires both tested c.in-Err.ensures.meets
+    divider_ends held_run c.args.self.now.text.items c.deref-2.result.now c.args.self.now.kept.items c.args.line.now c.extend_from_slice.new.self.items c.in-Err-begin.fault told c.requires both tested c.in-Err-begin.ensures.meets
 
 pub returns-clause-meets : goal.returns-clause-meets
 returns-clause-meets c =
@@ -26,4 +26,4 @@ returns-clause-meets c =
     let tested : is_divider c.extend_from_slice.new.self.items ≡ true = search rules in
     let begins = c.in-Ok.ensures.meets in
     let told : c.deref-2.result.now ≡ c.args.self.now.text.items = search rules in
-    starts_past c.args.self.now.text.items c.deref-2.result.now c.args.self.now.kept.items c.args.line.now c.extend_from_slice.new.self.items c.new-kept.result.items begins.0 (held_of c.in-Ok.task) told c.requires both tested begins.1 c.new-kept.ensures.items begins.2
+    rw (c.new.ensures.ended, c.new.ensures.task) (starts_past c.args.self.now.text.items c.deref-2.result.now c.args.self.now.kept.items c.args.line.now c.extend_from_slice.new.self.items c.new.result.kept.items begins.0 (held_of c.in-Ok.task) told c.requires both tested begins.1 c.new.ensures.kept begins.2)

@@ -12,4 +12,4 @@ invariant_of-self-2 c =
     let moment = c.get.ensures.value in
     let later : last_from 0 steps ≤ c.args.step.moment = omega arith in
     let known : is_known lines c.args.step.action ≡ true = ap (λ l. is_known l c.args.step.action) (sym c.deref-2.ensures.value) ∙ sym c.is_known.ensures ∙ c.if-not-is_known.false in
-    rw c.in-Ok.ensures.items (with_step_kept (record { requesters = lines; steps = steps }) c.args.step c.self.invariant later known)
+    rw c.in_ok-push.ensures.items (with_step_kept (record { requesters = lines; steps = steps }) c.args.step c.self.invariant later known)

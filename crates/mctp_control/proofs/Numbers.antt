@@ -1,0 +1,64 @@
+-- Every constant of the source, written a second time.
+use Rattle.std.proofs.Common.{◌≡◌, refl}
+use Rattle.mctp_control.specs.declared.assigned.TheConstants.{BASE_SPECIFICATION, CONTROL, INSTANCE_IDS, NULL_EID, PLDM}
+use Rattle.mctp_control.specs.declared.assigned.TheConstants.{GET_ENDPOINT_ID, GET_ENDPOINT_UUID, GET_MESSAGE_TYPE_SUPPORT}
+use Rattle.mctp_control.specs.declared.assigned.TheConstants.{GET_VERSION_SUPPORT, SET_ENDPOINT_ID, SUCCESS}
+use Rattle.mctp_control.specs.declared.assigned.TheConstants.{MAX_DATA, MAX_MESSAGE_TYPES, MAX_VERSIONS, MAX_VERSION_BYTES}
+use Rattle.mctp_control.specs.declared.assigned.TheConstants.{REQUEST_HEADER, RESPONSE_HEADER, UUID_BYTES, VERSION_BYTES}
+
+control : CONTROL ≡ 0
+control = refl
+
+pldm : PLDM ≡ 1
+pldm = refl
+
+base_specification : BASE_SPECIFICATION ≡ 255
+base_specification = refl
+
+null_eid : NULL_EID ≡ 0
+null_eid = refl
+
+instance_ids : INSTANCE_IDS ≡ 32
+instance_ids = refl
+
+request_header : REQUEST_HEADER ≡ 3
+request_header = refl
+
+response_header : RESPONSE_HEADER ≡ 4
+response_header = refl
+
+bytes_of_data : MAX_DATA ≡ 60
+bytes_of_data = refl
+
+set_endpoint_id : SET_ENDPOINT_ID ≡ 1
+set_endpoint_id = refl
+
+get_endpoint_id : GET_ENDPOINT_ID ≡ 2
+get_endpoint_id = refl
+
+get_endpoint_uuid : GET_ENDPOINT_UUID ≡ 3
+get_endpoint_uuid = refl
+
+get_version_support : GET_VERSION_SUPPORT ≡ 4
+get_version_support = refl
+
+get_message_type_support : GET_MESSAGE_TYPE_SUPPORT ≡ 5
+get_message_type_support = refl
+
+success : SUCCESS ≡ 0
+success = refl
+
+uuid_bytes : UUID_BYTES ≡ 16
+uuid_bytes = refl
+
+version_bytes : VERSION_BYTES ≡ 4
+version_bytes = refl
+
+versions : MAX_VERSIONS ≡ 14
+versions = refl
+
+bytes_of_versions : MAX_VERSION_BYTES ≡ 56
+bytes_of_versions = refl
+
+message_types : MAX_MESSAGE_TYPES ≡ 59
+message_types = refl

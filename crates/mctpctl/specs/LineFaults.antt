@@ -1,0 +1,15 @@
+-- The faults of a serial line as those of an engine, with their lines on standard error and their exit statuses.
+use Rattle.std.specs.Prelude.{Option, None, Some}
+use Rattle.mctpctl_input.specs.LineRuns.{no_memory}
+use Rattle.mctpctl_input.specs.declared.faults.EngineFault.{EngineFault}
+use Rattle.mctpctl_input.specs.declared.faults.EngineFault.TheVariants as engine
+use Rattle.mctpctl_serve.specs.declared.fault.ServeFault.{ServeFault}
+use Rattle.mctpctl_serve.specs.declared.fault.ServeFault.TheVariants as line
+
+-- no engine reads a clock
+abbrev pub engine_fault_of : ServeFault → Option EngineFault
+engine_fault_of line.Read = Some engine.Read
+engine_fault_of line.Write = Some engine.Write
+engine_fault_of line.Clock = None
+engine_fault_of line.Memory = Some no_memory
+engine_fault_of line.TooMany = Some engine.TooLarge

@@ -1,0 +1,44 @@
+//! The description of a device, in a file.
+
+ghost use Rattle.mctpctl.specs.ServedTexts.{served_of};
+ghost use Rattle.mctpctl_engines.specs.DescribedPieces.{Tells, begun};
+
+use mctpctl_input::{DescriptionFault, EngineFault, MAX_DESCRIPTION};
+use pldm_device::{ControlTable, Description};
+use std::alloc::Global;
+use std::io::Read;
+use std::{fs, io};
+
+/// The text of a file, or a front of it that is too long for a description.
+pub fn device_text(rt: &HostRuntime, name: &str) -> io::Result<Vec<u8>> {
+    let file = fs::open(rt, name)?;
+    let mut text = Vec::new(rt.alloc());
+    file.take(MAX_DESCRIPTION as u64 + 1)
+        .read_to_end(&mut text)?;
+    Ok(text)
+}
+
+/// The device that a text describes, or the fault that `answer` has of it.
+pub fn read_device(alloc: Global, text: &[u8]) -> Result<Description, EngineFault>
+    ensures { Tells (begun text.now) result }
+{
+    if text.len() > MAX_DESCRIPTION {
+        return Err(EngineFault::TooLarge);
+    }
+    match Description::read(alloc, text) {
+        Ok(description) => Ok(description),
+        Err(fault) => Err(EngineFault::Device(DescriptionFault::new(fault)?)),
+    }
+}
+
+/// The device that a text describes, and what the text says of its control messages; else the first fault, as
+/// `read_device` has it.
+pub fn read_served(alloc: Global, text: &[u8]) -> Result<(Description, ControlTable), EngineFault>
+    ensures { Tells (served_of text.now) result }
+{
+    let description = read_device(alloc, text)?;
+    match ControlTable::read(alloc, text) {
+        Ok(table) => Ok((description, table)),
+        Err(fault) => Err(EngineFault::Device(DescriptionFault::new(fault)?)),
+    }
+}

@@ -1,0 +1,30 @@
+//! Faults on standard error, and their exit statuses.
+
+ghost use Rattle.std.specs.Prelude.{◌≡◌};
+ghost use Rattle.mctpctl.specs.LineFaults.{engine_fault_of};
+
+use mctpctl_input::{EngineFault, fault_line, status_of};
+use mctpctl_serve::ServeFault;
+use std::alloc::AllocError;
+
+/// Prints the line of a fault on standard error, and returns its exit status. Where there is no memory for the line,
+/// none is printed.
+pub fn print_fault(rt: &HostRuntime, fault: &EngineFault) -> u8 {
+    if let Ok(line) = fault_line(rt.alloc(), fault) {
+        let _ = eprintln!(rt; "mctpctl: {line}");
+    }
+    status_of(fault)
+}
+
+/// The fault of an engine that a fault of a serial line is; the clock's is none.
+pub fn engine_fault(fault: ServeFault) -> Option<EngineFault>
+    ensures { result ≡ engine_fault_of fault }
+{
+    match fault {
+        ServeFault::Read => Some(EngineFault::Read),
+        ServeFault::Write => Some(EngineFault::Write),
+        ServeFault::Clock => None,
+        ServeFault::Memory => Some(AllocError.into()), // the line keeps no more of it
+        ServeFault::TooMany => Some(EngineFault::TooLarge),
+    }
+}

@@ -1,0 +1,116 @@
+//! `serve`: the described device on a serial line, which is standard input and output.
+
+use crate::choose::Service;
+use crate::control_endpoint::control_endpoint;
+use crate::device_file::{device_text, read_served};
+use crate::faults::{engine_fault, print_fault};
+use mctp_serial::FrameReader;
+use mctpctl_input::{EngineFault, Port};
+use mctpctl_serve::{Line, Log, SystemTicks, serve};
+use pldm_device::{ControlTable, Description};
+use pldm_responder::Responder;
+use std::alloc::AllocError;
+use std::fs::File;
+use std::io::{ErrorKind, Stderr};
+use std::{fs, io};
+
+/// The exit status where a file or the clock fails: that of a read fault.
+const FAILED: u8 = 3;
+
+/// Why a device was not served until its line ended.
+#[derive(Drop)]
+enum ServiceFault {
+    /// The description's file was not opened or read.
+    Device(io::Error),
+    /// The capture's file was not made.
+    Capture(io::Error),
+    /// The clock gave no reading.
+    Clock,
+    /// Not all drops were named, or the capture is not whole.
+    Log,
+    /// Another fault, which an engine has too.
+    Engine(EngineFault),
+}
+
+/// Serves the device until its line ends, and returns the exit status. A fault is printed on standard error.
+pub fn serve_device(rt: &HostRuntime, service: &Service<'_>) -> u8 {
+    match run(rt, service) {
+        Ok(()) => 0,
+        Err(ServiceFault::Device(error)) => file_failed(rt, service.device, &error),
+        Err(ServiceFault::Capture(error)) => {
+            let name = service.log.unwrap_or(""); // there is one, where a capture was to be made
+            file_failed(rt, name, &error)
+        }
+        Err(ServiceFault::Clock) => {
+            let _ = eprintln!(rt; "mctpctl: clock fault");
+            FAILED
+        }
+        Err(ServiceFault::Log) => {
+            let _ = eprintln!(rt; "mctpctl: log fault");
+            FAILED
+        }
+        Err(ServiceFault::Engine(fault)) => print_fault(rt, &fault),
+    }
+}
+
+/// Prints that the file of this name failed, and returns the exit status.
+fn file_failed(rt: &HostRuntime, name: &str, error: &io::Error) -> u8 {
+    let _ = eprintln!(rt; "mctpctl: {name}: {error}");
+    FAILED
+}
+
+/// Reads the description, and then the line to its end.
+fn run(rt: &HostRuntime, service: &Service<'_>) -> Result<(), ServiceFault> {
+    let alloc = rt.alloc();
+    let (description, table) = described(rt, service.device)?;
+    let Description { eid, keep, device } = description;
+    let watch = watcher(rt, service)?;
+    let Ok(ticks) = SystemTicks::new(rt) else {
+        return Err(ServiceFault::Clock);
+    };
+    let mut line = Line {
+        frames: FrameReader::new(),
+        responder: Responder::new(alloc, eid, keep, device),
+        control: control_endpoint(eid, &table),
+        ticks,
+        watch,
+    };
+    let mut reader = Port::new(rt.stdin());
+    let mut writer = Port::new(rt.stdout());
+    match serve(&mut line, &mut reader, &mut writer) {
+        Ok(()) if line.watch.log_failed() => Err(ServiceFault::Log),
+        Ok(()) => Ok(()),
+        Err(fault) => Err(match engine_fault(fault) {
+            Some(fault) => ServiceFault::Engine(fault),
+            None => ServiceFault::Clock,
+        }),
+    }
+}
+
+/// Who watches the line: drops are named on standard error with `--verbose`, and a capture is written with `--log`.
+fn watcher(rt: &HostRuntime, service: &Service<'_>) -> Result<Log<Stderr, File>, ServiceFault> {
+    let capture = match service.log {
+        Some(name) => match fs::create(rt, name) {
+            Ok(file) => Some(Port::new(file)),
+            Err(error) => return Err(ServiceFault::Capture(error)),
+        },
+        None => None,
+    };
+    let drops = service.verbose.then(|| Port::new(rt.stderr()));
+    Ok(Log::new(rt.alloc(), drops, capture))
+}
+
+/// The device that the file of this name describes, and what the file says of its control messages.
+fn described(rt: &HostRuntime, name: &str) -> Result<(Description, ControlTable), ServiceFault> {
+    let text = match device_text(rt, name) {
+        Ok(text) => text,
+        Err(error) if error.kind() == ErrorKind::OutOfMemory => {
+            return Err(ServiceFault::Engine(AllocError.into()));
+        }
+        Err(error) => return Err(ServiceFault::Device(error)),
+    };
+    match read_served(rt.alloc(), &text) {
+        Ok(served) => Ok(served),
+        Err(fault) => Err(ServiceFault::Engine(fault)),
+    }
+}

@@ -1,0 +1,19 @@
+-- A packet further, its line stands behind the others.
+use Rattle.std.proofs.Common.{◌≡◌, ◌++◌, ap, ◌∙◌, string_bytes}
+use Rattle.mctp_packet.specs.Packets.{Packet, written}
+use Rattle.mctp_packet.specs.Pieces.{packet_at}
+use Rattle.mctpctl_serve.specs.Logs.{capture_line}
+use Rattle.mctpctl_serve.proofs.AnswerFrames.{told_more}
+use Rattle.mctpctl_serve.proofs.texts.capture_lines.Goals as goal
+
+pub loop-i-preserved : goal.loop-i-preserved
+loop-i-preserved c =
+    let i = c.loop-i.invariant in
+    let at = packet_at c.args.route.now c.args.message.now in
+    let line = capture_line c.args.moment in
+    let added : string_bytes c.push_packet.new.lines ≡ string_bytes c.loop-i.lines ++ line (written (at c.loop-i.i)) =
+    c.in_ok-push_packet.ensures ∙ ap (λ (p : Packet). string_bytes c.loop-i.lines ++ line (written p)) c.in-Some.ensures.value in
+    record {
+      added = told_more line (λ k. written (at k)) c.loop-i.i (string_bytes c.loop-i.lines) (string_bytes c.push_packet.new.lines) i.added added;
+      end = i.end;
+    }

@@ -1,0 +1,16 @@
+-- What becomes of a packet, once `reply`, the message that answers it, is cut into packets.
+use Rattle.std.specs.Prelude.{ℕ, List}
+use Rattle.pldm_responder.specs.Answering.{HasReply, answering}
+use Rattle.pldm_endpoint.specs.declared.step.Step.{Step}
+use Rattle.pldm_endpoint.specs.declared.step.Step.TheVariants as step
+use Rattle.pldm_endpoint.specs.declared.step.TakenStep.{TakenStep}
+use Rattle.pldm_endpoint.specs.declared.step.TakenStep.TheVariants.{Perform, Done}
+
+abbrev pub stepping : List ℕ → TakenStep → Step
+stepping reply Perform = step.Perform
+stepping reply (Done taken) = step.Done (answering reply taken)
+
+-- where there is an answer, its message has bytes
+abbrev pub StepHasReply : List ℕ → TakenStep → Type 0
+StepHasReply reply Perform = Unit {0}
+StepHasReply reply (Done taken) = HasReply reply taken
