@@ -1,6 +1,6 @@
 """What `show --decode` writes: each command and each answer, refusals, and what cannot be read.
 
-The bytes and the names are those of DSP0240 and DSP0248.
+The bytes and the names are those of DSP0240 and DSP0248, and of control messages those of DSP0236.
 """
 import glob
 import os
@@ -112,6 +112,86 @@ UNREAD = [
     ("02", "  drop NotPldm"),
 ]
 
+# a control command's name, its number, its data, and its fields
+CONTROL_COMMANDS = [
+    ("SetEndpointID", "01", "0009", " operation set eid 9"),
+    ("SetEndpointID", "01", "010a", " operation force eid 10"),
+    ("SetEndpointID", "01", "0200", " operation reset eid 0"),
+    ("SetEndpointID", "01", "0300", " operation setDiscoveredFlag eid 0"),
+    ("SetEndpointID", "01", "fdfe", " operation force eid 254"),
+    ("GetEndpointID", "02", "", ""),
+    ("GetEndpointUUID", "03", "", ""),
+    ("GetMCTPVersionSupport", "04", "ff", " type 255"),
+    ("GetMCTPVersionSupport", "04", "00", " type 0"),
+    ("GetMCTPVersionSupport", "04", "01", " type 1"),
+    ("GetMessageTypeSupport", "05", "", ""),
+]
+
+UUID = "4e6565646c658f618074000000000009"
+
+# a control command's name, its number, the data of its answer after the completion code SUCCESS, and its fields
+CONTROL_ANSWERS = [
+    ("SetEndpointID", "01", "000900", " assignment accepted eid 9 pool 0"),
+    ("SetEndpointID", "01", "100900", " assignment rejected eid 9 pool 0"),
+    ("SetEndpointID", "01", "cc0900", " assignment accepted eid 9 pool 0"),
+    ("GetEndpointID", "02", "090100", " eid 9 simple static medium 0"),
+    ("GetEndpointID", "02", "080000", " eid 8 simple dynamic medium 0"),
+    ("GetEndpointID", "02", "0812ff", " eid 8 busOwnerOrBridge staticSame medium 255"),
+    ("GetEndpointID", "02", "080307", " eid 8 simple staticOther medium 7"),
+    ("GetEndpointUUID", "03", UUID, f" uuid {UUID}"),
+    ("GetMCTPVersionSupport", "04", "01" "f1f3f100", " versions f1f3f100"),
+    ("GetMCTPVersionSupport", "04", "01" "f1f0f000", " versions f1f0f000"),
+    ("GetMCTPVersionSupport", "04", "02" "f1f0f000" "f1f3f100", " versions f1f0f000f1f3f100"),
+    ("GetMessageTypeSupport", "05", "020001", " types 0 1"),
+    ("GetMessageTypeSupport", "05", "03017e7f", " types 1 126 127"),
+    ("GetMessageTypeSupport", "05", "00", " types"),
+]
+
+# the number of a control command, a completion code with what may follow it, and the line after the instance ID
+CONTROL_REFUSALS = [
+    ("01", "01", "SetEndpointID refused ERROR"),
+    ("01", "02", "SetEndpointID refused ERROR_INVALID_DATA"),
+    ("02", "03", "GetEndpointID refused ERROR_INVALID_LENGTH"),
+    ("03", "04", "GetEndpointUUID refused ERROR_NOT_READY"),
+    ("05", "05", "GetMessageTypeSupport refused ERROR_UNSUPPORTED_CMD"),
+    ("05", "06", "GetMessageTypeSupport refused 06"),
+    ("04", "80", "GetMCTPVersionSupport refused MESSAGE_TYPE_NOT_SUPPORTED"),
+    ("04", "81", "GetMCTPVersionSupport refused 81"),
+    ("02", "80", "GetEndpointID refused 80"),
+    ("02", "02090100", "GetEndpointID refused ERROR_INVALID_DATA"),
+    ("06", "05", "control/06 refused ERROR_UNSUPPORTED_CMD"),
+    ("ff", "05", "control/ff refused ERROR_UNSUPPORTED_CMD"),
+    ("ff", "80", "control/ff refused 80"),
+]
+
+# a control message whose reserved bit is set, or whose command or answer cannot be read, and its whole line
+CONTROL_UNREAD = [
+    ("00bf02", "  request 31 GetEndpointID"),
+    ("003f0200090100", "  response 31 GetEndpointID eid 9 simple static medium 0"),
+    ("008a0200", "  request 10 GetEndpointID 00 refused ERROR_INVALID_LENGTH"),
+    ("00800100", "  request 0 SetEndpointID 00 refused ERROR_INVALID_LENGTH"),
+    ("0080010009" "00", "  request 0 SetEndpointID 000900 refused ERROR_INVALID_LENGTH"),
+    ("008004", "  request 0 GetMCTPVersionSupport - refused ERROR_INVALID_LENGTH"),
+    ("0089ff", "  request 9 control/ff - refused ERROR_UNSUPPORTED_CMD"),
+    ("00800600", "  request 0 control/06 00 refused ERROR_UNSUPPORTED_CMD"),
+    ("00000600", "  drop NotPldm"),
+    ("0000010000" "09", "  drop NotPldm"),
+    ("00000100" "010920", "  drop NotPldm"),
+    ("00000100" "200900", "  drop NotPldm"),
+    ("00000200" "092000", "  drop NotPldm"),
+    ("00000300" + UUID[2:], "  drop NotPldm"),
+    ("00000400" "02" "f1f3f100", "  drop NotPldm"),
+    ("00000400" "00", "  drop NotPldm"),
+    ("00000500" "030001", "  drop NotPldm"),
+    ("000002", "  drop NotPldm"),
+    ("0080", "  drop NotPldm"),
+    ("00", "  drop NotPldm"),
+    ("00c002", "  drop NotPldm"),
+    ("00400200090100", "  drop NotPldm"),
+    ("808002", "  drop NotPldm"),
+    ("7e8002", "  drop NotPldm"),
+]
+
 
 def lines(message):
     """The capture's lines of a message that is cut into packets of 64 bytes, from endpoint 8 to endpoint 9."""
@@ -134,8 +214,14 @@ def messages():
         yield f"the answer to {name}:{fields}", f"0101{kind}00{data}", f"  response 1 {name}{fields}"
     for kind, code, text in REFUSALS:
         yield f"the refusal {text}", f"0102{kind}{code}", f"  response 2 {text}"
-    for message, line in UNREAD:
+    for message, line in UNREAD + CONTROL_UNREAD:
         yield f"the message {message}", message, line
+    for name, number, data, fields in CONTROL_COMMANDS:
+        yield f"the control command {name}{fields}", f"0081{number}{data}", f"  request 1 {name}{fields}"
+    for name, number, data, fields in CONTROL_ANSWERS:
+        yield f"the answer to {name}:{fields}", f"0001{number}00{data}", f"  response 1 {name}{fields}"
+    for number, code, text in CONTROL_REFUSALS:
+        yield f"the control refusal {text}", f"0002{number}{code}", f"  response 2 {text}"
 
 
 def check(rows, run, here):

@@ -2,12 +2,14 @@
 import os
 import re
 import subprocess
+import tempfile
 
 ABOUT = {
     "answer": "Answers the packets of a capture as the described device does",
     "run": "Runs requesters and the described device over a schedule of what is delivered",
     "show": "Shows the packets of a capture and the messages that they complete",
 }
+SERVES = "Serves the described device on a serial line, standard input and output"
 TOP_OPTIONS = "Options:\n  -h, --help     Print help\n  -V, --version  Print version\n"
 
 
@@ -26,7 +28,7 @@ def examples_in(text):
 
 def whole(texts):
     """Each command line that asks for help, and all that is to be written for it."""
-    commands = "".join(f"  {name:<8}{about}\n" for name, about in ABOUT.items())
+    commands = "".join(f"  {name:<8}{about}\n" for name, about in (*ABOUT.items(), ("serve", SERVES)))
     commands += "  help    Print this message or the help of the given subcommand(s)\n"
     first = "A simulated PLDM device behind MCTP, on standard input and output\n\nUsage: mctpctl <COMMAND>\n\n"
     top = f"{first}Commands:\n{commands}\n{TOP_OPTIONS}\n{texts['STATUSES']}\n"
@@ -42,17 +44,43 @@ def whole(texts):
         page = f"{about}\n\nUsage: mctpctl {name} [OPTIONS]\n\n{flags}\n{texts[name.upper()]}\n"
         yield [name, "--help"], page
         yield ["help", name], page
+    options = (("--device <FILE>", "DEVICE"), ("--log <FILE>", "LOG"), ("--verbose", "VERBOSE"))
+    flags = "".join(f"      {option:<17}{texts[name]}\n" for option, name in options)
+    flags += "  -h, --help           Print help\n"
+    page = f"{SERVES}\n\nUsage: mctpctl serve [OPTIONS] --device <FILE>\n\nOptions:\n{flags}\n{texts['SERVE']}\n"
+    yield ["serve", "--help"], page
+    yield ["help", "serve"], page
 
 
-def check(rows, run, here):
-    """Checks each row; `run(arguments, text)` runs the program."""
+def served(rows, program, device, text):
+    """The frames in the help of `serve`, which stand there in hex."""
+    asked, answered = (bytes.fromhex(example) for example in examples_in(text)[:2])
+    with tempfile.NamedTemporaryFile("w", suffix=".toml") as file:
+        file.write(device)
+        file.flush()
+        words = [program, "serve", "--device", file.name]
+        ran = subprocess.run(words, input=asked, stdout=subprocess.PIPE, stderr=subprocess.PIPE, timeout=60)
+    rows.check("the example in the help of serve", (ran.returncode, ran.stdout) == (0, answered), repr(ran))
+
+
+def toolchain(rows, here, version):
+    """The version and the README name one toolchain, and its logic is that of the one that is here."""
+    named = re.search(r"\((.* logic (\w+))\)$", version)
+    with open(os.path.join(here, "..", "README.md")) as text:
+        well = named is not None and f"`{named[1]}`" in text.read()
+    rows.check("the version names the README's toolchain", well, version)
+    kit = subprocess.run(["rt", "version"], stdout=subprocess.PIPE, text=True).stdout.strip()
+    rows.check("the version names the toolchain's logic", named is not None and kit.endswith(f" logic {named[2]}"), kit)
+
+
+def check(rows, run, here, program):
+    """Checks each row; `run(arguments, text)` runs the program, whose name is None where `serve` cannot be run."""
     texts = constants(here)
     for arguments, text in whole(texts):
         ran = run(arguments, "")
         well = (ran.returncode, ran.stdout.decode(), ran.stderr) == (0, text, b"")
         rows.check(f"the whole help of {arguments}", well, repr(ran.stdout[:80]))
-    kit = subprocess.run(["rt", "version"], stdout=subprocess.PIPE, text=True).stdout.strip()
-    rows.check("the version names the toolchain", kit != "" and f"({kit})" in texts["VERSION"], kit)
+    toolchain(rows, here, texts["VERSION"])
     given, answered = examples_in(texts["ANSWER"])[:2]
     device = given[: given.index("%%")]
     _, schedule, report = examples_in(texts["RUN"])[:3]
@@ -60,3 +88,5 @@ def check(rows, run, here):
     for name, text, want in (("answer", given, answered), ("run", f"{device}%%\n{schedule}", report), ("show", capture, shown)):
         ran = run([name], text)
         rows.check(f"the example in the help of {name}", ran.stdout.decode() == want, repr(ran.stdout[:80]))
+    if program:
+        served(rows, program, device, texts["SERVE"])

@@ -4,10 +4,13 @@ import shutil
 import subprocess
 import tempfile
 
+from serial_frames import frame
+
 TOP = os.path.join(os.path.dirname(os.path.realpath(__file__)), "..")
 TAKEN = ("mctpctl", "prove", "install", "crates.txt", "HANDLES", "contrib/proved.sh", "docs/mctpctl.1", "examples/device.toml")
 STAMP = 'root=$1; . "$root/contrib/proved.sh"; printf "%s\\n%s\\n" "$(content_of_sources)" "$(times_of_sources)" >"$stamp"'
 SOURCE = "crates/mctpctl/src/main.rt"
+QUESTION, ANSWER = bytes.fromhex("010908c801800002"), bytes.fromhex("010809c0010000020001")
 
 
 def call(words, text="", **how):
@@ -51,6 +54,18 @@ def files(rows, top):
     rows.check("the wrapper's refused word", ran.returncode == 2 and "Usage: mctpctl" in ran.stderr, repr(ran))
 
 
+def serve(top):
+    """What the wrapper makes of a frame on a serial line."""
+    words = [os.path.join(top, "mctpctl"), "serve", "--device", os.path.join(top, "examples/device.toml")]
+    return subprocess.run(words, input=frame(QUESTION), stdout=subprocess.PIPE, stderr=subprocess.PIPE, timeout=60)
+
+
+def lines(rows, top):
+    """A serial line goes through the wrapper as it is."""
+    ran = serve(top)
+    rows.check("a serial line", (ran.returncode, ran.stdout, ran.stderr) == (0, frame(ANSWER), b""), repr(ran))
+
+
 def stamps(rows, top):
     """A source whose time alone has changed builds nothing anew; one whose content has changed is no longer proved."""
     source = os.path.join(top, SOURCE)
@@ -61,6 +76,9 @@ def stamps(rows, top):
     with open(source, "a") as text:
         text.write("// more\n")
     rows.check("a source with other content", call(test).returncode != 0)
+    ran = serve(top)
+    well = (ran.returncode, ran.stdout) == (3, b"") and b"serve needs the proved program" in ran.stderr
+    rows.check("a serial line without a proved program", well, repr(ran))
 
 
 def installs(rows, top):
@@ -78,5 +96,5 @@ def installs(rows, top):
 def check(rows, program):
     with tempfile.TemporaryDirectory() as top:
         make(top, program)
-        for part in (files, installs, stamps):
+        for part in (files, lines, installs, stamps):
             part(rows, top)

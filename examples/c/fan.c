@@ -1,7 +1,8 @@
 /*
  * A fan behind numeric effecter 1 of the endpoint 9: its speed is 0 to 100 percent, and 10 at first. The input is lines
  * of a moment and a packet in hexadecimal, after a line `%%` (examples/copies.txt); the output is each packet of each
- * answer. A packet that was refused for want of memory is received again, as if its sender had sent it again.
+ * answer, also to the control messages of a bus owner. A packet that was refused for want of memory is received again,
+ * as if its sender had sent it again.
  */
 #include "needleoat.h"
 #include <inttypes.h>
@@ -30,6 +31,15 @@ static struct needleoat_answer perform(const struct needleoat_command *command) 
     return answer;
 }
 
+/* What a bus owner is told: the versions 1.3.1 of the base specification and of the control protocol, and 1.0.0. */
+static const struct needleoat_control settings = {
+    .eid = OWN,
+    .uuid = {0x4e, 0x65, 0x65, 0x64, 0x6c, 0x65, 0x8f, 0x61, 0x80, 0x74, 0, 0, 0, 0, 0, OWN},
+    .base_version = {0xf1, 0xf3, 0xf1, 0x00},
+    .control_version = {0xf1, 0xf3, 0xf1, 0x00},
+    .pldm_version = {0xf1, 0xf0, 0xf0, 0x00},
+};
+
 static struct needleoat_endpoint endpoint = NEEDLEOAT_ENDPOINT_NONE;
 static uint8_t packets[NEEDLEOAT_PACKETS][NEEDLEOAT_PACKET_BYTES];
 
@@ -42,6 +52,9 @@ static bool serve(uint64_t now_ms, const uint8_t *packet, size_t length) {
     if (step.kind == 4) {
         struct needleoat_answer answer = perform(&command);
         step = needleoat_endpoint_answer(&endpoint, &answer, packets);
+    } else if (step.kind == 1) {
+        step.lengths[0] = needleoat_control_reply(&settings, step.reason, packet, length, packets[0]);
+        step.count = step.lengths[0] > 0;
     }
     for (size_t i = 0; i < step.count; i++) {
         for (size_t j = 0; j < step.lengths[i]; j++) printf("%02x", packets[i][j]);

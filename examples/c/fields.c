@@ -320,12 +320,136 @@ static void written_answers(void) {
     check("018002510000000000000000012f010000", "01000251000000000000000000053001");
 }
 
+/* ---- Control messages ---- */
+
+/* The answer to a packet that was dropped for this reason, at the endpoint ID `eid`. */
+static void control(const char *what, uint8_t eid, uint8_t reason, const char *hex) {
+    struct needleoat_control settings = {.eid = eid};
+    uint8_t bytes[80], out[NEEDLEOAT_PACKET_BYTES];
+    for (size_t i = 0; i < sizeof settings.uuid; i++) settings.uuid[i] = (uint8_t)(0x10 + i);
+    for (size_t i = 0; i < sizeof settings.base_version; i++) {
+        settings.base_version[i] = (uint8_t)(0xa1 + i);
+        settings.control_version[i] = (uint8_t)(0xb1 + i);
+        settings.pldm_version[i] = (uint8_t)(0xc1 + i);
+    }
+    memset(out, UNTOUCHED, sizeof out);
+    size_t count = needleoat_control_reply(&settings, reason, bytes, from_hex(hex, bytes), out);
+    printf("control, %s: %zu ", what, count);
+    print_bytes(out, count);
+    printf(" %s\n", rest(out, count, sizeof out));
+}
+
+static void controls(void) {
+    control("endpoint ID", 200, NEEDLEOAT_NOT_PLDM, "01c808cb" "008302");
+    control("UUID", 200, NEEDLEOAT_NOT_PLDM, "01c808cc" "008403");
+    control("versions of the base specification", 200, NEEDLEOAT_NOT_PLDM, "01c808cd" "008504ff");
+    control("versions of the control protocol", 200, NEEDLEOAT_NOT_PLDM, "01c808ce" "00860400");
+    control("versions of PLDM over MCTP", 200, NEEDLEOAT_NOT_PLDM, "01c808cf" "00870401");
+    control("message types", 200, NEEDLEOAT_NOT_PLDM, "01c808c8" "008805");
+    control("to be the endpoint 200", 200, NEEDLEOAT_NOT_PLDM, "01c8fec9" "00890100c8");
+    control("to be the endpoint 201", 200, NEEDLEOAT_NOT_PLDM, "01c8feca" "009f0100c9");
+    control("to the null endpoint ID", 200, NEEDLEOAT_UNKNOWN_DESTINATION, "010008c8" "008002");
+    control("from the null endpoint ID", 200, NEEDLEOAT_UNKNOWN_DESTINATION, "010000c8" "008002");
+    control("endpoint ID of the lowest", 8, NEEDLEOAT_NOT_PLDM, "0108fec8" "008002");
+    control("to another endpoint", 200, NEEDLEOAT_UNKNOWN_DESTINATION, "01c908c8" "008002");
+    control("to this one, unknown", 200, NEEDLEOAT_UNKNOWN_DESTINATION, "01c808c8" "008002");
+    control("a source that is none", 200, NEEDLEOAT_BAD_SOURCE, "010008c8" "008002");
+    control("no reason", 200, 0, "010008c8" "008002");
+    control("a reason that is none", 200, 21, "010008c8" "008002");
+    control("not an endpoint", 200, NEEDLEOAT_NOT_AN_ENDPOINT, "010008c8" "008002");
+    control("a reserved endpoint ID", 7, NEEDLEOAT_UNKNOWN_DESTINATION, "010008c8" "008002");
+    control("the broadcast endpoint ID", 255, NEEDLEOAT_UNKNOWN_DESTINATION, "010008c8" "008002");
+    control("a response", 200, NEEDLEOAT_NOT_PLDM, "01c808c8" "000002");
+    control("a packet of PLDM", 200, NEEDLEOAT_NOT_PLDM, "01c808c8" "01800002");
+    control("no bytes", 200, NEEDLEOAT_UNKNOWN_DESTINATION, "");
+}
+
+/* ---- Steps of an endpoint ---- */
+
+static struct needleoat_endpoint endpoint = NEEDLEOAT_ENDPOINT_NONE;
+static uint8_t rooms[NEEDLEOAT_PACKETS][NEEDLEOAT_PACKET_BYTES];
+
+/* The numbers of a step, and the first five bytes of each packet. */
+static void print_step(const char *what, struct needleoat_step step) {
+    printf("%s: kind %u reason %u fresh %d changed %d count %zu lengths", what, step.kind, step.reason, step.fresh,
+           step.changed, step.count);
+    for (size_t i = 0; i < NEEDLEOAT_PACKETS; i++) printf(" %zu", step.lengths[i]);
+    for (size_t i = 0; i < step.count && i < NEEDLEOAT_PACKETS; i++) {
+        printf(" ");
+        print_bytes(rooms[i], 5);
+    }
+    printf("\n");
+}
+
+static void step_receive(const char *what, uint64_t now_ms, const char *hex) {
+    uint8_t bytes[NEEDLEOAT_PACKET_BYTES];
+    size_t length = from_hex(hex, bytes);
+    struct needleoat_command command;
+    print_step(what, needleoat_endpoint_receive(&endpoint, now_ms, bytes, length, &command, rooms));
+}
+
+static void step_answer(const char *what, const struct needleoat_answer *answer) {
+    print_step(what, needleoat_endpoint_answer(&endpoint, answer, rooms));
+}
+
+/* A part of a record with so many bytes, each of which is its own place. */
+static void step_part(uint8_t transfer_flag, size_t length) {
+    struct needleoat_answer part = {PLATFORM(0, NEEDLEOAT_GET_PDR), .transfer_flag = transfer_flag, .length = length};
+    for (size_t i = 0; i < length; i++) part.bytes[i] = (uint8_t)i;
+    step_answer("answer with a part", &part);
+}
+
+#define SET_OF_8 "010908c8" "0180023101000028"
+#define PART_OF_8(flags, id) "010908" flags "01" id "025100000000000000000100010000"
+
+static void steps(void) {
+    static const struct needleoat_answer done = {PLATFORM(0, NEEDLEOAT_SET_NUMERIC_EFFECTER_VALUE)};
+    static const struct needleoat_answer refused = {PLATFORM(0, NEEDLEOAT_GET_PDR), .code = 0x82};
+    static const struct needleoat_answer of_another = {BASE(0, NEEDLEOAT_SET_TID)};
+    static const struct needleoat_answer out_of_range = {PLATFORM(32, NEEDLEOAT_SET_NUMERIC_EFFECTER_VALUE)};
+    step_receive("nothing there", 0, SET_OF_8);
+    step_answer("nothing there", &done);
+    printf("made %u", needleoat_endpoint_new(9, 1000, 1, 1, 0, true, &endpoint));
+    printf(" again %u\n", needleoat_endpoint_new(9, 1000, 1, 1, 0, true, &endpoint));
+    step_answer("nothing asked", &done);
+    step_receive("set", 5, SET_OF_8);
+    step_receive("set again", 5, SET_OF_8);
+    step_receive("set by another", 5, "01090ac8" "0180023101000028");
+    step_receive("set with another instance ID", 5, "010908c8" "0181023101000028");
+    step_receive("set to another value", 5, "010908c8" "0180023101000029");
+    step_receive("first half of the set", 5, "01090888" "0180023101000028");
+    step_answer("answer to another command", &of_another);
+    step_answer("answer out of range", &out_of_range);
+    step_answer("answer", &done);
+    step_receive("copy", 6, SET_OF_8);
+    step_receive("before the last moment", 5, SET_OF_8);
+    step_receive("for another endpoint", 6, "010a08c8" "0180023101000028");
+    step_receive("first packet", 6, "0109088d" "0180023101000028");
+    step_receive("another source", 6, "01090ac8" "0180023101000028");
+    step_receive("part", 6, PART_OF_8("c9", "81"));
+    step_part(4, 300);
+    step_receive("part", 6, PART_OF_8("ca", "82"));
+    step_part(0, 60);
+    step_receive("part", 6, PART_OF_8("cb", "83"));
+    step_part(0, 130);
+    step_receive("part", 6, PART_OF_8("cc", "84"));
+    step_part(0, 200);
+    step_receive("part", 6, PART_OF_8("cd", "85"));
+    step_answer("answer with a code", &refused);
+    printf("restarted %u", needleoat_endpoint_restart(&endpoint, 7));
+    printf(" before %u", needleoat_endpoint_restart(&endpoint, 6));
+    needleoat_endpoint_free(&endpoint);
+    printf(" freed %u\n", needleoat_endpoint_restart(&endpoint, 8));
+}
+
 int main(void) {
     packets();
     written_packets();
     messages();
     written_commands();
     written_answers();
+    controls();
+    steps();
     printf("checksum %02x\n", needleoat_crc8((const uint8_t *)"123456789", 9));
     printf("checksum %02x\n", needleoat_crc8((const uint8_t *)"", 0));
     return 0;

@@ -10,10 +10,10 @@
 #include <ucontext.h>
 
 /*
- * The limit is for the codecs and the requesting end, but for the last packet of several, which takes a message out of
- * the tree of open ones. The answering end passes whole answers and their packets on.
+ * The limit of each call, but for what takes a message of several packets out of the tree of open ones: its last packet,
+ * and the answer to a request that came so.
  */
-enum { FILL = 0xa5, LIMIT = 4096, LAST_PACKET_LIMIT = 6144, ENDPOINT_LIMIT = 9216 };
+enum { FILL = 0xa5, LIMIT = 4096, SEVERAL_LIMIT = 6144 };
 
 static _Alignas(16) uint8_t stack[1 << 16];
 static ucontext_t back, call;
@@ -51,6 +51,13 @@ static void request_read(void) { needleoat_request_read(request, request_length)
 static void response_read(void) { needleoat_response_read(response, response_length); }
 static void checksum(void) { needleoat_crc8(response, response_length); }
 
+/* An endpoint whose versions a bus owner asks for. */
+static const struct needleoat_control settings = {.eid = 9};
+static void control_reply(void) {
+    static const uint8_t versions[] = {1, 9, 8, 0xc8, 0x00, 0x80, 0x04, 0xff};
+    needleoat_control_reply(&settings, NEEDLEOAT_NOT_PLDM, versions, sizeof versions, packet);
+}
+
 /* An endpoint that is asked for that part: its answer has five packets. */
 static struct needleoat_endpoint endpoint = NEEDLEOAT_ENDPOINT_NONE;
 static struct needleoat_command asked;
@@ -65,6 +72,19 @@ static void receive_busy(void) { endpoint_receive(999, request, request_length);
 static void receive_request(void) { endpoint_receive(1000, request, request_length); }
 static void endpoint_answer(void) { needleoat_endpoint_answer(&endpoint, &answer, packets); }
 static void receive_copy(void) { endpoint_receive(1001, request, request_length); }
+/* The request once more, with another instance ID and in two packets. */
+static void receive_two(void) {
+    enum { HEAD = 4, FIRST = 10 };
+    static uint8_t other[NEEDLEOAT_REQUEST_BYTES], bytes[NEEDLEOAT_PACKET_BYTES] = {1, 9, 8};
+    memcpy(other, request, request_length);
+    other[1]++;
+    bytes[3] = 0x88;
+    memcpy(bytes + HEAD, other, FIRST);
+    needleoat_endpoint_receive(&endpoint, 1001, bytes, HEAD + FIRST, &asked, packets);
+    bytes[3] = 0x58;
+    memcpy(bytes + HEAD, other + FIRST, request_length - FIRST);
+    needleoat_endpoint_receive(&endpoint, 1001, bytes, HEAD + request_length - FIRST, &asked, packets);
+}
 static void receive_start(void) { endpoint_receive(1002, response, response_length); }
 static void endpoint_restart(void) { needleoat_endpoint_restart(&endpoint, 1003); }
 static void endpoint_free(void) { needleoat_endpoint_free(&endpoint); }
@@ -99,18 +119,20 @@ static const struct {
     {"needleoat_answer_check", answer_check, 0},   {"needleoat_packet_write", packet_write, 0},
     {"needleoat_packet_read", packet_read, 0},     {"needleoat_request_read", request_read, 0},
     {"needleoat_response_read", response_read, 0}, {"needleoat_crc8", checksum, 0},
-    {"needleoat_endpoint_new", endpoint_new, 0},
-    {"needleoat_endpoint_receive, not ready", receive_busy, ENDPOINT_LIMIT},
-    {"needleoat_endpoint_receive, a command", receive_request, ENDPOINT_LIMIT},
-    {"needleoat_endpoint_answer", endpoint_answer, ENDPOINT_LIMIT},
-    {"needleoat_endpoint_receive, a copy", receive_copy, ENDPOINT_LIMIT},
-    {"needleoat_endpoint_receive, first packet", receive_start, ENDPOINT_LIMIT},
+    {"needleoat_control_reply", control_reply, 0}, {"needleoat_endpoint_new", endpoint_new, 0},
+    {"needleoat_endpoint_receive, not ready", receive_busy, 0},
+    {"needleoat_endpoint_receive, a command", receive_request, 0},
+    {"needleoat_endpoint_answer", endpoint_answer, 0},
+    {"needleoat_endpoint_receive, a copy", receive_copy, 0},
+    {"needleoat_endpoint_receive, a command in two packets", receive_two, SEVERAL_LIMIT},
+    {"needleoat_endpoint_answer, to a command in two packets", endpoint_answer, SEVERAL_LIMIT},
+    {"needleoat_endpoint_receive, first packet", receive_start, 0},
     {"needleoat_endpoint_restart", endpoint_restart, 0}, {"needleoat_endpoint_free", endpoint_free, 0},
     {"needleoat_requester_new", requester_new, 0}, {"needleoat_requester_open", requester_open, 0},
     {"needleoat_requester_packet", requester_packet, 0}, {"needleoat_requester_tick", requester_tick, 0},
     {"needleoat_requester_receive, first packet", receive_first, 0},
     {"needleoat_requester_receive, middle packets", receive_middle, 0},
-    {"needleoat_requester_receive, last packet", receive_last, LAST_PACKET_LIMIT},
+    {"needleoat_requester_receive, last packet", receive_last, SEVERAL_LIMIT},
     {"needleoat_requester_status", requester_status, 0}, {"needleoat_requester_free", requester_free, 0},
 };
 

@@ -1,0 +1,136 @@
+"""The guest: Linux as a program of user mode, with client.c for its user land, which does what it is told here."""
+import os
+import select
+import shutil
+import signal
+import socket
+import subprocess
+import time
+from dataclasses import dataclass
+
+OWN_EID = 8
+PICK_TAG = 8  # the tag that asks the kernel to pick one
+BOOT_SECONDS = 120
+
+
+@dataclass(frozen=True)
+class Message:
+    """A message that the guest's socket received, its bytes without the message type, which Linux takes off."""
+
+    source: int
+    kind: int
+    tag: int
+    data: bytes
+
+
+class Guest:
+    def __init__(self, work, folder):
+        """Starts the kernel of the folder `work`. Its root file system is a folder in `folder`."""
+        root = os.path.join(folder, "root")
+        os.makedirs(os.path.join(root, "dev"))
+        shutil.copy(os.path.join(work, "client"), root)
+        self.line, line_end = socket.socketpair()
+        self.commands, command_end = socket.socketpair()
+        self.held = b""
+        ends = [line_end.fileno(), command_end.fileno()]
+        words = [
+            os.path.join(work, "vmlinux-um"),
+            *("mem=64M", f"ssl0=fd:{ends[0]}", f"ssl1=fd:{ends[1]}", "con0=null,fd:1", "con=null"),
+            *("root=/dev/root", "rootfstype=hostfs", f"rootflags={os.path.abspath(root)}", "rw", "init=/client"),
+        ]
+        with open(os.path.join(folder, "boot.log"), "wb") as boot:
+            self.process = subprocess.Popen(
+                words, stdin=subprocess.DEVNULL, stdout=boot, stderr=boot, pass_fds=ends, start_new_session=True
+            )
+        line_end.close()
+        command_end.close()
+
+    def wait_until_ready(self):
+        answer = self.read_line(BOOT_SECONDS)
+        if answer != "ready":
+            raise RuntimeError(f"the guest did not start: {answer}")
+
+    def read_line(self, seconds):
+        end = time.monotonic() + seconds
+        while b"\n" not in self.held:
+            if not select.select([self.commands], [], [], max(0, end - time.monotonic()))[0]:
+                raise RuntimeError(f"the guest wrote no line in {seconds} seconds")
+            data = self.commands.recv(65536)
+            if not data:
+                raise RuntimeError("the guest has gone")
+            self.held += data
+        line, self.held = self.held.split(b"\n", 1)
+        return line.decode().strip()
+
+    def command(self, *words, seconds=30):
+        self.commands.sendall((" ".join(map(str, words)) + "\n").encode())
+        return self.read_line(seconds)
+
+    def do(self, *words):
+        """A command that has to be done."""
+        answer = self.command(*words)
+        if answer != "ok":
+            raise RuntimeError(f"{' '.join(map(str, words))}: {answer}")
+
+    def set_address(self, eid):
+        self.do("address", eid)
+
+    def add_route(self, eid, unit=0):
+        """A route to an endpoint; `unit` is the most bytes of a packet, 0 for those of the line."""
+        self.do("route", eid, unit)
+
+    def remove_route(self, eid):
+        self.do("unroute", eid)
+
+    def keep_tag(self, eid):
+        answer = self.command("tag", eid)
+        if not answer.startswith("tag "):
+            raise RuntimeError(f"no tag: {answer}")
+        return int(answer[4:])
+
+    def drop_tag(self, eid, tag):
+        self.do("untag", eid, tag)
+
+    def send(self, eid, kind, data, tag=PICK_TAG):
+        """Sends a message, and returns `ok` or the kernel's refusal, `error NAME`."""
+        return self.command("send", eid, kind, tag, data.hex())
+
+    def send_physical(self, eid, kind, data):
+        """The same by the line alone, without a route."""
+        return self.command("physical", eid, kind, data.hex())
+
+    def receive(self, milliseconds):
+        return message_in(self.command("receive", milliseconds, seconds=30 + milliseconds / 1000))
+
+    def ask(self, eid, kind, data, milliseconds, tag=PICK_TAG):
+        """A message that was received, None where none was, or the kernel's refusal."""
+        words = ("ask", eid, kind, tag, milliseconds, data.hex())
+        return message_in(self.command(*words, seconds=30 + milliseconds / 1000))
+
+    def statistics(self):
+        words = self.command("statistics").split()
+        return dict(zip(words[::2], map(int, words[1::2])))
+
+    def end(self):
+        """Powers the guest off, and returns its exit status."""
+        self.command("end")
+        return self.process.wait(timeout=30)
+
+    def close(self):
+        if self.process.poll() is None:
+            # Each process of the guest is one of the host, in the group of the kernel.
+            os.killpg(self.process.pid, signal.SIGKILL)
+            self.process.wait()
+        self.line.close()
+        self.commands.close()
+
+
+def message_in(answer):
+    if answer == "nothing":
+        return None
+    if answer.startswith("error "):
+        return answer
+    words = answer.split()
+    if words[0] != "message":
+        raise RuntimeError(f"the guest said {answer!r}")
+    return Message(int(words[1]), int(words[2]), int(words[3]), bytes.fromhex("".join(words[4:])))

@@ -1,0 +1,205 @@
+/*
+ * A requester on a serial line (DSP0253): it sets the value of an effecter and reads it back, as often as it is asked
+ * to. Argument 1 is the line, a terminal such as /dev/ttyS0; argument 2 how many values are set. The device is at
+ * endpoint 9, has the numeric effecter 1 of size uint8 with values 0 to 100, and keeps answers for a second, as
+ * examples/device.toml says. It writes a line for each value, and ends with 0 where each was read back.
+ */
+#define _DEFAULT_SOURCE
+#include "needleoat.h"
+#include <fcntl.h>
+#include <poll.h>
+#include <stdio.h>
+#include <stdlib.h>
+#include <termios.h>
+#include <time.h>
+#include <unistd.h>
+
+enum { OWN = 8, DEVICE = 9, KEEP_MS = 1000, TIMEOUT_MS = 200, TRIES = 5 };
+
+static int line;
+static struct needleoat_requester requester = NEEDLEOAT_REQUESTER_NONE;
+
+static void fail(const char *what) {
+    perror(what);
+    exit(1);
+}
+
+/* Milliseconds of a clock that never goes back. */
+static uint64_t now(void) {
+    struct timespec time;
+    if (clock_gettime(CLOCK_MONOTONIC, &time) != 0) fail("clock");
+    return (uint64_t)time.tv_sec * 1000 + (uint64_t)time.tv_nsec / 1000000;
+}
+
+/* ---- Frames ---- */
+
+enum { FLAG = 0x7e, ESCAPE = 0x7d, REVISION = 1 };
+
+/* The frame check sequence after one more byte. */
+static uint16_t checked(uint16_t sequence, uint8_t byte) {
+    sequence ^= byte;
+    for (int i = 0; i < 8; i++) sequence = (uint16_t)(sequence & 1 ? (sequence >> 1) ^ 0x8408 : sequence >> 1);
+    return sequence;
+}
+
+static void send_frame(const uint8_t *packet, size_t length) {
+    uint8_t frame[6 + 2 * NEEDLEOAT_PACKET_BYTES] = {FLAG, REVISION, (uint8_t)length};
+    size_t count = 3;
+    uint16_t sequence = checked(checked(0xffff, REVISION), (uint8_t)length);
+    for (size_t i = 0; i < length; i++) {
+        sequence = checked(sequence, packet[i]);
+        if (packet[i] == FLAG || packet[i] == ESCAPE) {
+            frame[count++] = ESCAPE;
+            frame[count++] = packet[i] ^ 0x20;
+        } else {
+            frame[count++] = packet[i];
+        }
+    }
+    frame[count++] = (uint8_t)(sequence >> 8);
+    frame[count++] = (uint8_t)(sequence & 0xff);
+    frame[count++] = FLAG;
+    for (size_t sent = 0; sent < count;) {
+        ssize_t wrote = write(line, frame + sent, count - sent);
+        if (wrote <= 0) fail("write");
+        sent += (size_t)wrote;
+    }
+}
+
+/* What has come of a frame, and what comes next. */
+static struct {
+    enum { WAITING, REVISED, COUNTED, FILLED, HIGH, LOW, CLOSING } next;
+    bool escaped;
+    uint8_t packet[NEEDLEOAT_PACKET_BYTES];
+    size_t length, count;
+    uint16_t sequence, told;
+} frame;
+
+/* Takes a byte. True where it ends the frame of a packet. */
+static bool take(uint8_t byte) {
+    /* A flag opens a frame, but in the check sequence, which is not escaped, and at its end. */
+    if (byte == FLAG && frame.next <= FILLED) {
+        frame.next = REVISED;
+        return false;
+    }
+    switch (frame.next) {
+    case WAITING:
+        break;
+    case REVISED:
+        frame.next = byte == REVISION ? COUNTED : WAITING;
+        frame.sequence = checked(0xffff, byte);
+        break;
+    case COUNTED:
+        frame.length = byte;
+        frame.count = 0;
+        frame.escaped = false;
+        frame.sequence = checked(frame.sequence, byte);
+        frame.next = byte >= 1 && byte <= NEEDLEOAT_PACKET_BYTES ? FILLED : WAITING;
+        break;
+    case FILLED:
+        if (byte == ESCAPE && !frame.escaped) {
+            frame.escaped = true;
+            break;
+        }
+        if (frame.escaped) byte ^= 0x20;
+        frame.escaped = false;
+        frame.packet[frame.count++] = byte;
+        frame.sequence = checked(frame.sequence, byte);
+        if (frame.count == frame.length) frame.next = HIGH;
+        break;
+    case HIGH:
+        frame.told = (uint16_t)(byte << 8);
+        frame.next = LOW;
+        break;
+    case LOW:
+        frame.told |= byte;
+        frame.next = CLOSING;
+        break;
+    case CLOSING:
+        frame.next = byte == FLAG ? REVISED : WAITING;
+        return byte == FLAG && frame.told == frame.sequence;
+    }
+    return false;
+}
+
+/* ---- Requests ---- */
+
+static void send_request(uint64_t number) {
+    uint8_t packet[NEEDLEOAT_PACKET_BYTES];
+    send_frame(packet, needleoat_requester_packet(&requester, number, packet));
+}
+
+/* Hands in what has come, and waits at most 10 milliseconds for it. */
+static void listen(void) {
+    struct pollfd polled = {.fd = line, .events = POLLIN};
+    if (poll(&polled, 1, 10) < 0) fail("poll");
+    if (!(polled.revents & (POLLIN | POLLHUP | POLLERR))) return;
+    uint8_t bytes[256];
+    ssize_t count = read(line, bytes, sizeof bytes);
+    if (count <= 0) fail("read");
+    for (ssize_t i = 0; i < count; i++) {
+        if (!take(bytes[i])) continue;
+        struct needleoat_receiving received;
+        do received = needleoat_requester_receive(&requester, now(), frame.packet, frame.length);
+        while (received.kind == 0 && received.reason == NEEDLEOAT_NO_MEMORY);
+    }
+}
+
+/* Asks until there is an answer, with a new request where one was given up. */
+static void ask(const struct needleoat_command *command, struct needleoat_answer *answer) {
+    uint8_t request[NEEDLEOAT_REQUEST_BYTES], response[NEEDLEOAT_MESSAGE_BYTES];
+    size_t length = needleoat_command_write(command, request);
+    for (;;) {
+        struct needleoat_opening opening = needleoat_requester_open(&requester, now(), request, length);
+        if (opening.refusal == NEEDLEOAT_ID_IN_USE || opening.refusal == NEEDLEOAT_NO_MEMORY) {
+            listen();
+            continue;
+        }
+        if (opening.refusal != 0) {
+            fprintf(stderr, "not opened: %u\n", opening.refusal);
+            exit(1);
+        }
+        send_request(opening.number);
+        struct needleoat_status status;
+        while ((status = needleoat_requester_status(&requester, opening.number, response)).kind == 1) {
+            listen();
+            struct needleoat_due due;
+            if (needleoat_requester_tick(&requester, now(), &due) != 0) continue;
+            for (size_t i = 0; i < due.again_count; i++) send_request(due.again[i]);
+        }
+        request[0] = (uint8_t)(0x80 | opening.instance_id);
+        if (status.kind == 2 && needleoat_answer_read(request, length, response, status.length, answer) == 0) return;
+    }
+}
+
+int main(int count, char **words) {
+    if (count != 3) {
+        fprintf(stderr, "usage: %s LINE HOW_MANY\n", words[0]);
+        return 2;
+    }
+    line = open(words[1], O_RDWR | O_NOCTTY);
+    if (line < 0) fail(words[1]);
+    struct termios settings;
+    if (tcgetattr(line, &settings) == 0) {
+        cfmakeraw(&settings);
+        if (tcsetattr(line, TCSANOW, &settings) != 0) fail(words[1]);
+    }
+    if (needleoat_requester_new(OWN, DEVICE, KEEP_MS, TIMEOUT_MS, TRIES, &requester) != 0) return 1;
+    int wrong = 0;
+    for (int i = 0; i < atoi(words[2]); i++) {
+        struct needleoat_command set = {.pldm_type = NEEDLEOAT_PLATFORM,
+                                        .command = NEEDLEOAT_SET_NUMERIC_EFFECTER_VALUE,
+                                        .effecter = 1,
+                                        .size = NEEDLEOAT_UINT8,
+                                        .value = i * 37 % 101};
+        struct needleoat_command get = {
+            .pldm_type = NEEDLEOAT_PLATFORM, .command = NEEDLEOAT_GET_NUMERIC_EFFECTER_VALUE, .effecter = 1};
+        struct needleoat_answer answer;
+        ask(&set, &answer);
+        printf("set %d: code %u\n", (int)set.value, answer.code);
+        ask(&get, &answer);
+        printf("read %d\n", answer.code == 0 ? (int)answer.value : -1);
+        wrong += answer.code != 0 || answer.value != set.value;
+    }
+    needleoat_requester_free(&requester);
+    return wrong != 0;
+}
