@@ -228,8 +228,16 @@ def read_end(steps, owners, lines):
     return lines[last]
 
 
-def read_run(schedule_path, output_path):
-    description, lines = divide(read_file(schedule_path, MOST_INPUT))
+def read_input(paths):
+    """The device description and the lines of the schedule, from one file of both or from a file of each."""
+    texts = [read_file(path, MOST_INPUT) for path in paths]
+    return divide(texts[0]) if len(texts) == 1 else (texts[0], texts[1].split("\n"))
+
+
+def read_run(*paths):
+    """The run of these files: its input, one or two, and the output."""
+    *input_paths, output_path = paths
+    description, lines = read_input(input_paths)
     eid, keep = described(description, "eid", *EIDS), described(description, "keep_ms", 1, 60_000)
     requesters, steps = read_schedule(lines)
     if len({eid, *requesters}) != len(requesters) + 1:

@@ -54,6 +54,7 @@ def check(rows, here):
         for name, schedule, output in runs:
             drawing(rows, ladder, name, schedule, output)
             text(rows, ladder, name, schedule, output)
+        apart(rows, ladder, room, runs)
         refusals(rows, ladder, room)
         closed_pipe(rows, ladder, *runs[0][1:])
     command_lines(rows, ladder)
@@ -199,6 +200,20 @@ def text(rows, ladder, name, schedule, output):
     rows.check(f"ladder of {name} as text: columns", most <= MOST_COLUMNS, f"{most} columns")
 
 
+def apart(rows, ladder, room, runs):
+    """A description and a schedule that are files of their own give the picture of the file that has both."""
+    paths = os.path.join(room, "device.toml"), os.path.join(room, "own.schedule")
+    for name, schedule, output in runs:
+        for path, content in zip(paths, read(schedule).split("%%\n", 1)):
+            put(path, content)
+        for flags in ([], ["--text"]):
+            whole, ran = run([ladder, *flags, schedule, output]), run([ladder, *flags, *paths, output])
+            well = (ran.returncode, ran.stdout) == (0, whole.stdout)
+            rows.check(f"ladder of {name} from two files {flags}", well, repr(ran.stderr[:200]))
+    for words in ([paths[1], paths[0], output], [paths[0], schedule, output]):
+        refused(rows, f"ladder refuses {[os.path.basename(word) for word in words]}", [ladder, *words])
+
+
 def refusals(rows, ladder, room):
     """Files that are not as expected, each with one line on standard error."""
     schedule, output = RUNS["two requesters"]
@@ -242,9 +257,10 @@ def closed_pipe(rows, ladder, schedule, output):
 
 def command_lines(rows, ladder):
     ran = run([ladder, "--help"])
-    well = ran.returncode == 0 and ran.stderr == b"" and b"contrib/ladder SCHEDULE OUTPUT" in ran.stdout
+    well = ran.returncode == 0 and ran.stderr == b"" and b"contrib/ladder [DESCRIPTION] SCHEDULE OUTPUT" in ran.stdout
     rows.check("ladder's help", well, f"status {ran.returncode}, {ran.stderr[:200]!r}")
-    for words in ([], ["one"], ["--text", "one"], ["one", "two", "three"], ["--other", "one"], ["one", "--text"]):
+    refused_words = ([], ["one"], ["--text", "one"], ["one", "two", "three", "four"], ["--other", "one"], ["one", "--text"])
+    for words in refused_words:
         ran = run([ladder, *words])
         well = ran.returncode == 2 and ran.stdout == b"" and ran.stderr.startswith(b"usage: contrib/ladder ")
         rows.check(f"ladder refuses the words {words}", well, f"status {ran.returncode}, {ran.stderr[:200]!r}")
