@@ -48,7 +48,7 @@ enum needleoat_reason {
     NEEDLEOAT_BAD_SOURCE = 4,          /* its source is not 8 to 254, or is the own endpoint ID */
     NEEDLEOAT_NO_PAYLOAD = 5,          /* it has no payload */
     NEEDLEOAT_UNSUPPORTED_UNIT = 6,    /* its payload has more than 64 bytes */
-    NEEDLEOAT_BAD_TAG = 7,             /* no open request of that device has its tag, or TO is 1 */
+    NEEDLEOAT_BAD_TAG = 7,             /* at a device TO is 0; at a requester TO is 1, or no open request has it */
     NEEDLEOAT_UNEXPECTED_PACKET = 8,   /* a middle or end packet where no message is in progress */
     NEEDLEOAT_OUT_OF_SEQUENCE = 9,     /* its number is not the last one plus 1 modulo 4 */
     NEEDLEOAT_TOO_LONG = 10,           /* 5 packets of the message are there already */
@@ -382,8 +382,8 @@ struct needleoat_endpoint {
  * are open: a packet that would pass one of these bounds is refused before anything is performed
  * (NEEDLEOAT_NO_MEMORY), and nothing that is kept makes room for it. `first_start` is true only where this
  * endpoint never ran before. After a reset of the processor it is false: a request that was performed
- * before could come once more, so for `keep_ms` from `now_ms` on each fresh request is answered with
- * ERROR_NOT_READY and nothing is performed.
+ * before could come once more, so for `keep_ms` from `now_ms` on each request with a good header is answered
+ * with ERROR_NOT_READY and nothing is performed.
  */
 uint8_t needleoat_endpoint_new(uint8_t own, uint32_t keep_ms, size_t sources, size_t open_messages, uint64_t now_ms,
                                bool first_start, struct needleoat_endpoint *endpoint);
@@ -445,7 +445,8 @@ struct needleoat_requester {
 /*
  * Makes a requester: 0, or enum needleoat_refusal: 7, else 6 where `own` or `device` is not 8 to 254 or
  * both are the same, `keep_ms` is not 1 to 60,000, `timeout_ms` is 0, `tries` is not 1 to 8, or `tries`
- * times `timeout_ms` is above `keep_ms`; else 1. `keep_ms` is the keeping time of the device.
+ * times `timeout_ms` is above `keep_ms`; else 1. `keep_ms` is the keeping time of the device. Instance IDs
+ * begin at 0: after a reset of the processor let twice `keep_ms` pass before the first request.
  */
 uint8_t needleoat_requester_new(uint8_t own, uint8_t device, uint32_t keep_ms, uint32_t timeout_ms, uint8_t tries,
                                 struct needleoat_requester *requester);
