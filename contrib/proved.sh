@@ -1,8 +1,8 @@
 # For ./mctpctl and ./prove, which source it: where the proved program is, and of which sources it was built.
 #
 # Beside the program stands a stamp of two lines. The first is a digest of the sources' content and of the toolchain's
-# identity. The second is a digest of the files' names, sizes and times of change: where it is the same, so is the content,
-# and the files need not be read.
+# identity. The second is a digest of the files' names, sizes and times of change: where it is the same, so is the
+# content, and the files need not be read.
 
 program=$root/crates/mctpctl/out/mctpctl
 stamp=$program.sources

@@ -54,8 +54,8 @@ class LossyLine:
 
 def converse(device, requester, one_in, seed, seconds=120):
     """Runs `device`, a list of words, with one end of a line as its standard input and output, and `requester`, a list
-    of words in which LINE is the name of the other end, until the requester ends. Returns its status, what it wrote, and
-    how many bytes were lost."""
+    of words in which LINE is the name of the other end, until the requester ends. Returns its status, what it wrote,
+    and how many bytes were lost."""
     with LossyLine(one_in, seed) as line:
         server = subprocess.Popen(device, stdin=line.ends[0], stdout=line.ends[0], stderr=subprocess.DEVNULL)
         try:

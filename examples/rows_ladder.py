@@ -259,8 +259,8 @@ def command_lines(rows, ladder):
     ran = run([ladder, "--help"])
     well = ran.returncode == 0 and ran.stderr == b"" and b"contrib/ladder [DESCRIPTION] SCHEDULE OUTPUT" in ran.stdout
     rows.check("ladder's help", well, f"status {ran.returncode}, {ran.stderr[:200]!r}")
-    refused_words = ([], ["one"], ["--text", "one"], ["one", "two", "three", "four"], ["--other", "one"], ["one", "--text"])
-    for words in refused_words:
+    refused_words = ([], ["one"], ["--text", "one"], ["--other", "one"], ["one", "--text"])
+    for words in (*refused_words, ["one", "two", "three", "four"]):
         ran = run([ladder, *words])
         well = ran.returncode == 2 and ran.stdout == b"" and ran.stderr.startswith(b"usage: contrib/ladder ")
         rows.check(f"ladder refuses the words {words}", well, f"status {ran.returncode}, {ran.stderr[:200]!r}")

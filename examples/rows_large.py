@@ -7,7 +7,8 @@ what the program writes: bytes are put together from the tables of docs/PROTOCOL
 KEEP = 1_000
 DEVICE_EID = 9
 
-# A device whose one record has 606 bytes: its part from byte 303 on is the longest that an answer carries, and the last.
+# A device whose one record has 606 bytes: its part from byte 303 on is the longest that an answer carries, and the
+# last.
 RECORD = bytes.fromhex("01000000" "01" "01" "0000") + (596).to_bytes(2, "little") + bytes(596)
 HALF = 303
 DEVICE = f"""eid = {DEVICE_EID}
