@@ -300,7 +300,7 @@ uint8_t needleoat_crc8(const uint8_t *bytes, size_t length);
  */
 
 /*
- * What a simple endpoint with a static endpoint ID tells a bus owner. A version has four bytes, as on the wire
+ * What a simple endpoint with a static endpoint ID answers a bus owner. A version has four bytes, as on the wire
  * (DSP0236, "Version field encoding"): 1.3.1 is F1 F3 F1 00.
  */
 struct needleoat_control {
@@ -364,10 +364,10 @@ enum needleoat_refusal {
  * of a request gets the kept answer. The device is the caller's: where needleoat_endpoint_receive says that
  * a command is to be performed, the caller performs it, however long that takes, and hands its answer to
  * needleoat_endpoint_answer. Until then each packet is refused: it counts as lost on the bus, and its sender
- * sends it again. A packet that alone is a copy of the request, a whole message of its source, instance ID and
- * bytes, is refused with NEEDLEOAT_BEING_PERFORMED, any other with NEEDLEOAT_OUT_OF_TURN. An answer is kept
- * from the moment of its packet on, so a device that takes longer than the keeping time may be asked again by
- * a late copy.
+ * sends it again. A packet that alone repeats the request, a whole message of its source, instance ID and bytes,
+ * is refused with NEEDLEOAT_BEING_PERFORMED, any other with NEEDLEOAT_OUT_OF_TURN. An answer is kept from the
+ * moment of the request's packet on, so a device that takes longer than the keeping time may be asked again by a
+ * late repeat.
  */
 struct needleoat_endpoint {
     void *at;
