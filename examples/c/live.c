@@ -166,7 +166,7 @@ static void ask(const struct needleoat_command *command, struct needleoat_answer
             if (needleoat_requester_tick(&requester, now(), &due) != 0) continue;
             for (size_t i = 0; i < due.again_count; i++) send_request(due.again[i]);
         }
-        request[0] = (uint8_t)(0x80 | opening.instance_id);
+        request[1] = (uint8_t)(0x80 | opening.instance_id); /* byte 0 is the message type */
         if (status.kind == 2 && needleoat_answer_read(request, length, response, status.length, answer) == 0) return;
     }
 }
