@@ -9,11 +9,8 @@
 #include <string.h>
 #include <ucontext.h>
 
-/*
- * The limit of each call, but for what takes a message of several packets out of the tree of open ones: its last packet,
- * and the answer to a request that came so.
- */
-enum { FILL = 0xa5, LIMIT = 4096, SEVERAL_LIMIT = 6144 };
+/* The limit of each call. */
+enum { FILL = 0xa5, LIMIT = 4096 };
 
 static _Alignas(16) uint8_t stack[1 << 16];
 static ucontext_t back, call;
@@ -112,28 +109,27 @@ static void requester_free(void) { needleoat_requester_free(&requester); }
 static const struct {
     const char *name;
     void (*function)(void);
-    size_t limit; /* 0: LIMIT */
 } calls[] = {
-    {"needleoat_command_write", command_write, 0}, {"needleoat_command_read", command_read, 0},
-    {"needleoat_answer_write", answer_write, 0},   {"needleoat_answer_read", answer_read, 0},
-    {"needleoat_answer_check", answer_check, 0},   {"needleoat_packet_write", packet_write, 0},
-    {"needleoat_packet_read", packet_read, 0},     {"needleoat_request_read", request_read, 0},
-    {"needleoat_response_read", response_read, 0}, {"needleoat_crc8", checksum, 0},
-    {"needleoat_control_reply", control_reply, 0}, {"needleoat_endpoint_new", endpoint_new, 0},
-    {"needleoat_endpoint_receive, not ready", receive_busy, 0},
-    {"needleoat_endpoint_receive, a command", receive_request, 0},
-    {"needleoat_endpoint_answer", endpoint_answer, 0},
-    {"needleoat_endpoint_receive, a copy", receive_copy, 0},
-    {"needleoat_endpoint_receive, a command in two packets", receive_two, SEVERAL_LIMIT},
-    {"needleoat_endpoint_answer, to a command in two packets", endpoint_answer, SEVERAL_LIMIT},
-    {"needleoat_endpoint_receive, first packet", receive_start, 0},
-    {"needleoat_endpoint_restart", endpoint_restart, 0}, {"needleoat_endpoint_free", endpoint_free, 0},
-    {"needleoat_requester_new", requester_new, 0}, {"needleoat_requester_open", requester_open, 0},
-    {"needleoat_requester_packet", requester_packet, 0}, {"needleoat_requester_tick", requester_tick, 0},
-    {"needleoat_requester_receive, first packet", receive_first, 0},
-    {"needleoat_requester_receive, middle packets", receive_middle, 0},
-    {"needleoat_requester_receive, last packet", receive_last, SEVERAL_LIMIT},
-    {"needleoat_requester_status", requester_status, 0}, {"needleoat_requester_free", requester_free, 0},
+    {"needleoat_command_write", command_write}, {"needleoat_command_read", command_read},
+    {"needleoat_answer_write", answer_write},   {"needleoat_answer_read", answer_read},
+    {"needleoat_answer_check", answer_check},   {"needleoat_packet_write", packet_write},
+    {"needleoat_packet_read", packet_read},     {"needleoat_request_read", request_read},
+    {"needleoat_response_read", response_read}, {"needleoat_crc8", checksum},
+    {"needleoat_control_reply", control_reply}, {"needleoat_endpoint_new", endpoint_new},
+    {"needleoat_endpoint_receive, not ready", receive_busy},
+    {"needleoat_endpoint_receive, a command", receive_request},
+    {"needleoat_endpoint_answer", endpoint_answer},
+    {"needleoat_endpoint_receive, a copy", receive_copy},
+    {"needleoat_endpoint_receive, a command in two packets", receive_two},
+    {"needleoat_endpoint_answer, to a command in two packets", endpoint_answer},
+    {"needleoat_endpoint_receive, first packet", receive_start},
+    {"needleoat_endpoint_restart", endpoint_restart}, {"needleoat_endpoint_free", endpoint_free},
+    {"needleoat_requester_new", requester_new}, {"needleoat_requester_open", requester_open},
+    {"needleoat_requester_packet", requester_packet}, {"needleoat_requester_tick", requester_tick},
+    {"needleoat_requester_receive, first packet", receive_first},
+    {"needleoat_requester_receive, middle packets", receive_middle},
+    {"needleoat_requester_receive, last packet", receive_last},
+    {"needleoat_requester_status", requester_status}, {"needleoat_requester_free", requester_free},
 };
 
 int main(void) {
@@ -146,7 +142,7 @@ int main(void) {
     size_t before = taken_by(none), too_much = 0;
     for (size_t i = 0; i < sizeof calls / sizeof *calls; i++) {
         size_t taken = taken_by(calls[i].function) - before;
-        if (taken > (calls[i].limit ? calls[i].limit : LIMIT)) too_much++;
+        if (taken > LIMIT) too_much++;
         printf("stack of %s %zu\n", calls[i].name, taken);
     }
     return too_much > 0;

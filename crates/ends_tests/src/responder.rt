@@ -1,5 +1,5 @@
-use dimmer::Dimmer;
 use example_device::description;
+use lamp_board::Dimmer;
 use mctp_packet::{Eid, Keep, MAX_EID, MIN_EID, Memory, Moment, Reason};
 use memory_hoard::Hoard;
 use pldm_device::{Description, Platform, ReadingFault, SimDevice};
@@ -9,7 +9,7 @@ use std::alloc::{AllocError, Global};
 use std::process::Abort;
 use std::test::Fail;
 
-mod dimmer;
+mod changes;
 mod refused_growths;
 
 /// A light at endpoint 9 that keeps answers for a second.

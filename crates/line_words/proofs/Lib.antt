@@ -3,4 +3,5 @@ pub mod FoundPlaces
 pub mod LineRows
 pub mod LineSplits
 pub mod NumberRows
+mod DigitLimit
 pub mod WordSplits

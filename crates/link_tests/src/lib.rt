@@ -2,8 +2,6 @@
 #![tactic(auto)]
 
 #[cfg(test)]
-mod lamp;
-#[cfg(test)]
 mod memory;
 #[cfg(test)]
 mod runs;

@@ -1,6 +1,6 @@
-use crate::lamp::Lamp;
 use crate::told::told;
 use example_device::description;
+use lamp_board::Lamp;
 use mctp_packet::{Eid, Keep};
 use mctp_schedule::{LineFaultKind, RunFault, Schedule, Setup, run};
 use pldm_device::{Description, SimDevice};
@@ -174,20 +174,22 @@ fn two_requesters_number_their_own_requests(rt: HostRuntime) -> Result<(), Fail>
 #[test]
 fn another_platform_is_run(rt: HostRuntime) -> Result<(), Fail> {
     let text = b"requester 10 timeout 200 tries 3\n\
-        at 0 open 10 setnum 7 uint8 40\nat 0 req 0\nat 1 rep 0 0\nat 2 sense 2 9\nat 2 sense 1 -3\n"
+        at 0 open 10 setnum 1 uint8 40\nat 0 req 0\nat 1 rep 0 0\nat 2 sense 2 9\nat 2 sense 1 -3\n\
+        at 3 sense 1 30\n"
         .as_slice();
     let schedule = Schedule::read(rt.alloc(), text)?;
     let setup = Setup {
         eid: Eid::new(20).ok_or("no endpoint ID")?,
         keep: Keep::new(600).ok_or("no keeping time")?,
-        device: Lamp { level: 5 },
+        device: Lamp::new(5).ok_or("no level")?,
     };
     let report = run(rt.alloc(), setup, &schedule)?;
     let told = told(rt.alloc(), schedule.steps(), &report)?;
-    let expected = "0 opened 0\n0 fresh changed\n1 answered 0\n2 not set, fault 1\n2 set\n\
+    let expected =
+        "0 opened 0\n0 fresh changed\n1 answered 0\n2 not set, fault 1\n2 not set, fault 2\n3 set\n\
         request 0 from 10 answered 0100023100\norder 0\ntimely\n";
     assert_eq!(rt; told.as_str(), expected);
-    assert_eq!(rt; report.device.level, -3);
+    assert_eq!(rt; report.device.level(), 30);
     Ok(())
 }
 

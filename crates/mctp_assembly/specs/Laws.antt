@@ -1,4 +1,4 @@
--- What is held after any list of calls, told by looking back over it: for every limit of packets, not only today's.
+-- What is held after any list of calls, read by looking back over it: for every limit of packets, not only ours.
 use Rattle.std.specs.FinMap as map
 use Rattle.std.specs.Prelude.{◌≡◌, ℕ, ◌+◌, ◌*◌, ◌<◌, ◌≤◌, true, List, [], ◌∷◌, length, take, is_some}
 use Rattle.std.specs.List.{AllByRecursion}

@@ -8,8 +8,8 @@ use crate::{Answer, CONTROL, SUCCESS, VERSION_BYTES};
 use arrayvec::ArrayVec;
 use mctp_packet::UNIT;
 
-/// The message of an answer to a command of this number, with this instance ID, 0 to 31: at most 64 bytes, so one packet
-/// has it whole (DSP0236, "MCTP control message format"). Reserved bits are 0.
+/// The message of an answer to a command of this number, with this instance ID, 0 to 31: at most 64 bytes, so one
+/// packet has it whole (DSP0236, "MCTP control message format"). Reserved bits are 0.
 pub fn write_answer(id: u8, command: u8, answer: &Answer) -> ArrayVec<u8, UNIT>
     requires { id < INSTANCE_IDS }
     ensures { result.items ≡ answer_message id command answer.now }

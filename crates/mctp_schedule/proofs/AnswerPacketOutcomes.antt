@@ -74,27 +74,27 @@ module _ {S : Type 0} (setting : Setting S) (lower : Lower) (past : List Step) (
   pub packet_is : (j : ℕ) → reply_packet setting w k j ≡ slice_get (answer_packets setting.eid r m) j
   packet_is j =
       (λ i. packet_of setting (is i) (given_is_the_reply setting.device setting.keep setting.start w.log k timely i) j)
-      ∙ go (first setting.keep w.log k) refl
+      ∙ go (first S setting.keep w.log k) refl
     where
-      go : (f : Option (List Happening)) → first setting.keep w.log k ≡ f → packet_of setting (Some r) (given_once setting.device setting.keep setting.start w.log k) j ≡ slice_get (answer_packets setting.eid r m) j
+      go : (f : Option (List Happening)) → first S setting.keep w.log k ≡ f → packet_of setting (Some r) (given_once setting.device setting.keep setting.start w.log k) j ≡ slice_get (answer_packets setting.eid r m) j
       go None e =
           ap (λ f. packet_of setting (Some r) (reply_at_first setting.device setting.keep setting.start w.log k f) j) e
           ∙ sym (packet_past (way_to setting r) m j (let none = ap piece_count (no_parts setting w k e) in omega (arith, none)))
       go (Some place) e =
           ap (λ f. packet_of setting (Some r) (reply_at_first setting.device setting.keep setting.start w.log k f) j) e
 
-  pub busy_is : was_busy setting.keep w.log k ≡ true → busy_packet setting w k ≡ slice_get (answer_packets setting.eid r (busy_reply r.message)) 0
+  pub busy_is : was_busy S setting.keep w.log k ≡ true → busy_packet setting w k ≡ slice_get (answer_packets setting.eid r (busy_reply r.message)) 0
   busy_is busy i = busy_from setting (is i) (busy i)
 
   -- ---- the reply
-  pub has_arrived : (j : ℕ) → j < part_count setting w k → (place : List Happening) × (first setting.keep w.log k ≡ Some place)
-  has_arrived j l = go (first setting.keep w.log k) refl
+  pub has_arrived : (j : ℕ) → j < part_count setting w k → (place : List Happening) × (first S setting.keep w.log k ≡ Some place)
+  has_arrived j l = go (first S setting.keep w.log k) refl
     where
-      go : (f : Option (List Happening)) → first setting.keep w.log k ≡ f → (place : List Happening) × (f ≡ Some place)
+      go : (f : Option (List Happening)) → first S setting.keep w.log k ≡ f → (place : List Happening) × (f ≡ Some place)
       go None e = absurd (let none = ap piece_count (no_parts setting w k e) in omega (arith, none))
       go (Some place) e = (place, refl)
 
-  pub performed_at : (place : List Happening) → first setting.keep w.log k ≡ Some place → m ≡ reply setting.device (once setting.device setting.keep setting.start place) r.message
+  pub performed_at : (place : List Happening) → first S setting.keep w.log k ≡ Some place → m ≡ reply setting.device (once setting.device setting.keep setting.start place) r.message
   performed_at place e i = reply_from setting.device setting.keep setting.start (bytes_of (is i)) (e i)
 
   answers : (j : ℕ) → j < part_count setting w k → AnswersRequest r.own command m

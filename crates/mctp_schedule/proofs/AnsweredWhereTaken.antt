@@ -46,7 +46,7 @@ module _ {S : Type 0} (setting : Setting S) where
   AllHold steps = (k : ℕ) (r : Asked) → asked_at (Log steps) k ≡ Some r → Holds setting steps k r
 
   abbrev HasArrived : List Step → ℕ → Type 0
-  HasArrived steps k = (place : List Happening) × (first setting.keep (Log steps) k ≡ Some place)
+  HasArrived steps k = (place : List Happening) × (first S setting.keep (Log steps) k ≡ Some place)
 
   -- each request was opened before the step, or by it
   all_of : (step : Step) (past : List Step)
@@ -315,7 +315,7 @@ module _ {S : Type 0} (setting : Setting S) where
     holds_reply own = go (cases_lt j (part_count setting (world setting past) i))
       where
         asked : (l : j < part_count setting (world setting past) i) → (o : Option Asked) → asked_at (Log past) i ≡ o → AllHold (replying ∷ past)
-        asked l None e = absurd (let none = ap piece_count (no_parts setting (world setting past) i (first_unopened setting.keep (Log past) i e)) in omega (arith, none))
+        asked l None e = absurd (let none = ap piece_count (no_parts setting (world setting past) i (first_unopened S setting.keep (Log past) i e)) in omega (arith, none))
         asked l (Some q) e = holds_reply_to own q e l
 
         go : (j < part_count setting (world setting past) i) ⊎ (part_count setting (world setting past) i ≤ j) → AllHold (replying ∷ past)
@@ -331,17 +331,17 @@ module _ {S : Type 0} (setting : Setting S) where
     abbrev busying : Step
     busying = record { moment = moment; action = actions.Busy i }
 
-    holds_no_busy : was_busy setting.keep (Log past) i ≡ false → AllHold (busying ∷ past)
+    holds_no_busy : was_busy S setting.keep (Log past) i ≡ false → AllHold (busying ∷ past)
     holds_no_busy off =
         holds_nothing busying past h
         (ap (handed setting (world setting past) moment (source_of (asked_at (Log past) i))) (ap (busy_from setting (asked_at (Log past) i)) off ∙ no_busy (asked_at (Log past) i)))
         (λ k. ⊎_elim
-        (λ (same : i ≡ k). cond-false (i == k && was_busy setting.keep (Log past) k) _ _ (and_right (i == k) _ (subst (λ n. was_busy setting.keep (Log past) n ≡ false) same off)))
-        (λ (ne : i ≡ k → ⊥). cond-false (i == k && was_busy setting.keep (Log past) k) _ _ (and_left (i == k) _ (ne_eqb i k ne)))
+        (λ (same : i ≡ k). cond-false (i == k && was_busy S setting.keep (Log past) k) _ _ (and_right (i == k) _ (subst (λ n. was_busy S setting.keep (Log past) n ≡ false) same off)))
+        (λ (ne : i ≡ k → ⊥). cond-false (i == k && was_busy S setting.keep (Log past) k) _ _ (and_left (i == k) _ (ne_eqb i k ne)))
         (cases_eq i k))
         (λ k. refl)
 
-    module _ (own : IsTimelyAction setting (world setting past) moment (actions.Busy i)) (q : Asked) (is : asked_at (Log past) i ≡ Some q) (busy : was_busy setting.keep (Log past) i ≡ true) where
+    module _ (own : IsTimelyAction setting (world setting past) moment (actions.Busy i)) (q : Asked) (is : asked_at (Log past) i ≡ Some q) (busy : was_busy S setting.keep (Log past) i ≡ true) where
       abbrev message : List ℕ
       message = busy_reply q.message
 
@@ -377,7 +377,7 @@ module _ {S : Type 0} (setting : Setting S) where
       busy_here =
           let before = h i q is in
           hit busying past i q (packet_at (way_to setting q) message 0) None (Drop NotReady) before came_open came_shut
-          (cond-true (i == i && was_busy setting.keep (Log past) i) _ _ (and_from (i == i) _ (eq-eqb i i refl) busy))
+          (cond-true (i == i && was_busy S setting.keep (Log past) i) _ _ (and_from (i == i) _ (eq-eqb i i refl) busy))
           refl
           (still_below setting busying past i before.below)
           (subst (λ (c : Course). StandingIs setting (busying ∷ past) i c.standing) (sym same_course) (claim_moves setting busying past i (Stands setting past q).course.standing refl before.arrived before.standing))
@@ -386,18 +386,18 @@ module _ {S : Type 0} (setting : Setting S) where
       holds_busy_to : AllHold (busying ∷ past)
       holds_busy_to =
           holds_handed lower past h timely sound busying moment i q is (own busy_bytes one_handed) message 0 busy_bytes one_sent then_is (Drop NotReady) tt brings_none
-          (λ k ne. cond-false (i == k && was_busy setting.keep (Log past) k) _ _ (and_left (i == k) _ (ne_eqb i k (λ e. ne (sym e)))))
+          (λ k ne. cond-false (i == k && was_busy S setting.keep (Log past) k) _ _ (and_left (i == k) _ (ne_eqb i k (λ e. ne (sym e)))))
           (λ k ne. refl)
           busy_here
 
     pub holds_busy : IsTimelyAction setting (world setting past) moment (actions.Busy i) → AllHold (busying ∷ past)
-    holds_busy own = go (cases_Bool (was_busy setting.keep (Log past) i))
+    holds_busy own = go (cases_Bool (was_busy S setting.keep (Log past) i))
       where
-        asked : (busy : was_busy setting.keep (Log past) i ≡ true) → (o : Option Asked) → asked_at (Log past) i ≡ o → AllHold (busying ∷ past)
+        asked : (busy : was_busy S setting.keep (Log past) i ≡ true) → (o : Option Asked) → asked_at (Log past) i ≡ o → AllHold (busying ∷ past)
         asked busy None e = absurd (let wrong : true ≡ false = sym busy ∙ busy_opened setting.device setting.keep setting.start (Log past) i e in cc)
         asked busy (Some q) e = holds_busy_to own q e busy
 
-        go : (was_busy setting.keep (Log past) i ≡ true) ⊎ (was_busy setting.keep (Log past) i ≡ false) → AllHold (busying ∷ past)
+        go : (was_busy S setting.keep (Log past) i ≡ true) ⊎ (was_busy S setting.keep (Log past) i ≡ false) → AllHold (busying ∷ past)
         go (inl busy) = asked busy (asked_at (Log past) i) refl
         go (inr off) = holds_no_busy off
 

@@ -68,7 +68,7 @@ module _ {P S : Type 0} (setting : Setting S) (past : List Step) (keep : ℕ) (s
             );
         carried = ap (λ (ts : List Carried). length ts) enters.traffic ∙ running.carried ∙ ap (λ (v : World). count_of v.log) back;
         entries = enters.entries ∙ ap (λ es. es ++ entry_of setting w moment a ∷ []) running.entries;
-        order = enters.order ∙ running.order ∙ ap (λ (v : World). order setting.keep v.log) back;
+        order = enters.order ∙ running.order ∙ ap (λ (v : World). order S setting.keep v.log) back;
         timely = enters.timely ∙ running.timely ∙ sym timely;
         sent = subst (λ (v : World). AreRequests v.log) back running.sent;
         fit = subst (λ (v : World). RepliesFit setting.device setting.keep setting.start v.log) back running.fit;
@@ -155,7 +155,7 @@ module _ {P S : Type 0} (setting : Setting S) (past : List Step) (keep : ℕ) (s
               );
           carried = ap (λ (ts : List Carried). length ts) c.writes.traffic ∙ running.carried ∙ ap (λ (u : World). count_of u.log) back;
           entries = c.writes.entries ∙ ap (λ es. es ++ x ∷ []) running.entries ∙ ap (λ y. entries setting past ++ y ∷ []) c.is_entry;
-          order = c.writes.order ∙ running.order ∙ ap (λ (u : World). order setting.keep u.log) back;
+          order = c.writes.order ∙ running.order ∙ ap (λ (u : World). order S setting.keep u.log) back;
           timely = c.timely;
           sent = subst (λ (u : World). AreRequests u.log) back running.sent;
           fit = subst (λ (u : World). RepliesFit setting.device setting.keep setting.start u.log) back running.fit;

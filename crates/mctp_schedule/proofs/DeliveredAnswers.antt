@@ -34,7 +34,7 @@ module _ {S : Type 0} (setting : Setting S) (w : World) where
   timely_is false moment k packet = refl
 
   pub none_delivered : (busy : Bool) (k packet : ℕ) → asked_at w.log k ≡ None → delivered busy k packet ≡ None
-  none_delivered true k packet none = ap (λ o. busy_from setting o (was_busy setting.keep w.log k)) none
+  none_delivered true k packet none = ap (λ o. busy_from setting o (was_busy S setting.keep w.log k)) none
   none_delivered false k packet none = ap (λ o. packet_of setting o (given setting.device setting.keep setting.start w.log k) packet) none
 
 -- as it is written down
@@ -58,9 +58,9 @@ module _ {P S : Type 0} (setting : Setting S) (past : List Step) (keep : ℕ) (s
           let t = running.traffic k r is in
           ap (packet_at journal.entries.items packet true) t.1
           ∙ ap (option_and_then (λ packets. slice_get packets packet)) t.2.busy
-          ∙ ap (λ j. option_and_then (λ packets. slice_get packets j) (busy_packets setting.eid r (was_busy setting.keep (world setting past).log k))) (zero refl)
-          ∙ busy_in setting r (was_busy setting.keep (world setting past).log k)
-          ∙ ap (λ o. busy_from setting o (was_busy setting.keep (world setting past).log k)) (sym is)
+          ∙ ap (λ j. option_and_then (λ packets. slice_get packets j) (busy_packets setting.eid r (was_busy S setting.keep (world setting past).log k))) (zero refl)
+          ∙ busy_in setting r (was_busy S setting.keep (world setting past).log k)
+          ∙ ap (λ o. busy_from setting o (was_busy S setting.keep (world setting past).log k)) (sym is)
       some r is false zero =
           let t = running.traffic k r is in
           ap (packet_at journal.entries.items packet false) t.1

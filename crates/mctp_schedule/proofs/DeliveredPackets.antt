@@ -32,7 +32,7 @@ module _ {S : Type 0} (device : Rules S) (keep : ℕ) (start : S) (past : List H
   log = Delivered moment n ∷ past
 
   abbrev busy : Bool
-  busy = is_busy keep (told past) moment
+  busy = is_busy keep (told {S = S} past) moment
 
   pub given_other : (k : ℕ) → (n ≡ k → ⊥) → given device keep start log k ≡ given device keep start past k
   given_other k other = cond-false (n == k && arrives (asked_at past k) busy) _ _ (and_left (n == k) _ (ne_eqb n k other))
@@ -55,22 +55,22 @@ module _ {S : Type 0} (device : Rules S) (keep : ℕ) (start : S) (past : List H
       ∙ ap (λ o. Some (answered_to device keep start moment past o)) is
 
   -- and which busy answers
-  pub busy_other : (k : ℕ) → (n ≡ k → ⊥) → was_busy keep log k ≡ was_busy keep past k
+  pub busy_other : (k : ℕ) → (n ≡ k → ⊥) → was_busy S keep log k ≡ was_busy S keep past k
   busy_other k other = cond-false (n == k && arrives (asked_at past k) (not busy)) _ _ (and_left (n == k) _ (ne_eqb n k other))
 
-  pub busy_none : asked_at past n ≡ None → (k : ℕ) → was_busy keep log k ≡ was_busy keep past k
+  pub busy_none : asked_at past n ≡ None → (k : ℕ) → was_busy S keep log k ≡ was_busy S keep past k
   busy_none none k = go (cases_eq n k)
     where
-      go : (n ≡ k) ⊎ (n ≡ k → ⊥) → was_busy keep log k ≡ was_busy keep past k
+      go : (n ≡ k) ⊎ (n ≡ k → ⊥) → was_busy S keep log k ≡ was_busy S keep past k
       go (inl same) =
           cond-false (n == k && arrives (asked_at past k) (not busy)) _ _ (and_right (n == k) _ (ap (λ o. arrives o (not busy)) (sym (ap (asked_at past) same) ∙ none)))
       go (inr other) = busy_other k other
 
-  pub busy_here : (r : Asked) → asked_at past n ≡ Some r → busy ≡ true → was_busy keep log n ≡ true
+  pub busy_here : (r : Asked) → asked_at past n ≡ Some r → busy ≡ true → was_busy S keep log n ≡ true
   busy_here r is on =
       cond-true (n == n && arrives (asked_at past n) (not busy)) _ _ (ap (λ b. b && arrives (asked_at past n) (not busy)) (eq-eqb n n refl) ∙ ap (λ o. arrives o (not busy)) is ∙ ap (λ b. not (not b)) on)
 
-  pub busy_served : (r : Asked) → asked_at past n ≡ Some r → busy ≡ false → was_busy keep log n ≡ was_busy keep past n
+  pub busy_served : (r : Asked) → asked_at past n ≡ Some r → busy ≡ false → was_busy S keep log n ≡ was_busy S keep past n
   busy_served r is off =
       cond-false (n == n && arrives (asked_at past n) (not busy)) _ _ (and_right (n == n) _ (ap (λ o. arrives o (not busy)) is ∙ ap (λ b. not (not b)) off))
 

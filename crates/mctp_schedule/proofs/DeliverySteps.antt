@@ -41,7 +41,7 @@ use Rattle.mctp_schedule.proofs.QuietSteps.{Enters}
 use Rattle.mctp_schedule.proofs.RunningFrames.{before_more, packets_stay, still_carried, still_opened, still_side}
 
 -- ---- what is owed to a message, by its packets and whether it is fresh
-module _ {S : Type 0} (device : Rules S) (own keep : ℕ) (start : S) (es : List Event) (m : Message) where
+module _ {S : Type 0} (device : Rules S) (own keep : ℕ) (start : S) (es : List (Event S)) (m : Message) where
   abbrev owed : Bool → Bool → Outcome
   owed busy copy =
       if busy then Answered false false (packets_back own m (busy_reply m.bytes))
@@ -67,8 +67,8 @@ module _ {S : Type 0} (device : Rules S) (own keep : ℕ) (start : S) (es : List
       go false false = refl
 
 -- ---- a message is performed exactly where it is fresh
-module _ {S : Type 0} (device : Rules S) (own keep : ℕ) (start : S) (held : Held S) (calls : List responder.Call) (left : IsLeftBy device own keep start held calls) where
-  repeats_is : (m : Message) (place : Option Place) → repeats keep m (entry_at device keep start place) ≡ is_copy_of keep m place
+module _ {S : Type 0} (device : Rules S) (own keep : ℕ) (start : S) (held : Held S) (calls : List (responder.Call S)) (left : IsLeftBy device own keep start held calls) where
+  repeats_is : (m : Message) (place : Option (Place S)) → repeats keep m (entry_at device keep start place) ≡ is_copy_of keep m place
   repeats_is m None = refl
   repeats_is m (Some place) = refl
 
@@ -101,7 +101,7 @@ module _ {P S : Type 0} (setting : Setting S) (past : List Step) (keep : ℕ) (s
     device = record {
       endpoint = running.device.endpoint;
       left = subst (IsLeftBy setting.device setting.eid setting.keep setting.start (held_of station)) (sym (ap (λ o. received setting.eid moment o (device_calls setting.eid w.log)) none)) running.device.left;
-      events = ap (λ o. events setting.eid (received setting.eid moment o (device_calls setting.eid w.log))) none ∙ running.device.events ∙ sym (ap (λ o. told_of moment o (told w.log)) none);
+      events = ap (λ o. events setting.eid (received setting.eid moment o (device_calls setting.eid w.log))) none ∙ running.device.events ∙ sym (ap (λ o. told_of moment o (told {S = S} w.log)) none);
       called = let x = running.device.called in omega (arith, x, later);
     };
     sides = λ e has. let s = running.sides e has in (s.0, s.1, still_side setting w v (time_now past) moment e s.0 refl refl (λ k r is. is) later s.2);
@@ -117,7 +117,7 @@ module _ {P S : Type 0} (setting : Setting S) (past : List Step) (keep : ℕ) (s
         );
     carried = ap (λ (ts : List Carried). length ts) enters.traffic ∙ running.carried;
     entries = enters.entries ∙ ap (λ es. es ++ entry.Nothing ∷ []) running.entries ∙ ap (λ o. entries setting past ++ delivery_entry setting w.log moment o ∷ []) (sym none);
-    order = enters.order ∙ running.order ∙ sym (cond-false (fresh_of setting.keep (told w.log) moment (asked_at w.log n)) _ _ (ap (fresh_of setting.keep (told w.log) moment) none));
+    order = enters.order ∙ running.order ∙ sym (cond-false (fresh_of setting.keep (told {S = S} w.log) moment (asked_at w.log n)) _ _ (ap (fresh_of setting.keep (told {S = S} w.log) moment) none));
     timely = enters.timely ∙ running.timely ∙ ap (λ o. comes_in_time setting moment o && is_timely setting past) (sym none);
     sent = running.sent;
     fit = (λ r is fresh. let wrong : ◌≡◌ {A = Option Asked} None (Some r) = sym none ∙ is in absurd (cc), running.fit);
@@ -128,7 +128,7 @@ module _ {P S : Type 0} (setting : Setting S) (past : List Step) (keep : ℕ) (s
     abbrev m : Message
     m = message_at moment r
 
-    abbrev calls : List responder.Call
+    abbrev calls : List (responder.Call S)
     calls = device_calls setting.eid w.log
 
     pub record Delivers : Type 0 where
@@ -162,7 +162,7 @@ module _ {P S : Type 0} (setting : Setting S) (past : List Step) (keep : ℕ) (s
           × IsLeftBy setting.device setting.eid setting.keep setting.start (received_held setting.device (held_of station) moment bytes) (responder.Received moment bytes ∷ calls)
       looked = looks setting.eid setting.keep setting.start (held_of station) calls moment bytes running.device.left
 
-      busy_is : busy ≡ is_busy setting.keep (told w.log) moment
+      busy_is : busy ≡ is_busy setting.keep (told {S = S} w.log) moment
       busy_is =
           d.given_busy ∙ ap (nat_lt moment) running.device.left.serves_from ∙ ap (λ es. is_busy setting.keep es moment) running.device.events
 
@@ -196,7 +196,7 @@ module _ {P S : Type 0} (setting : Setting S) (past : List Step) (keep : ℕ) (s
               record {
                 packet = t.packet;
                 reply = packets_stay old.entries.items x c.reply t.reply_place ∙ t.reply ∙ ap (option_map (answer_packets setting.eid r)) (sym (given_busy setting.device setting.keep setting.start w.log moment n r is up));
-                busy = at_place ∙ ap packets_of_outcome outcome_is ∙ owed_busy setting.device setting.eid setting.keep setting.start (told w.log) m up ∙ ap (busy_packets setting.eid r) (sym (busy_here setting.device setting.keep setting.start w.log moment n r is up));
+                busy = at_place ∙ ap packets_of_outcome outcome_is ∙ owed_busy setting.device setting.eid setting.keep setting.start (told {S = S} w.log) m up ∙ ap (busy_packets setting.eid r) (sym (busy_here setting.device setting.keep setting.start w.log moment n r is up));
                 reply_place = before_more old.entries.items x c.reply t.reply_place;
                 busy_place = below;
               }
@@ -204,7 +204,7 @@ module _ {P S : Type 0} (setting : Setting S) (past : List Step) (keep : ℕ) (s
               let up = sym busy_is ∙ off in
               record {
                 packet = t.packet;
-                reply = at_place ∙ ap packets_of_outcome outcome_is ∙ owed_served setting.device setting.eid setting.keep setting.start (told w.log) m up ∙ ap (option_map (answer_packets setting.eid r)) (sym (given_here setting.device setting.keep setting.start w.log moment n r is up));
+                reply = at_place ∙ ap packets_of_outcome outcome_is ∙ owed_served setting.device setting.eid setting.keep setting.start (told {S = S} w.log) m up ∙ ap (option_map (answer_packets setting.eid r)) (sym (given_here setting.device setting.keep setting.start w.log moment n r is up));
                 busy = packets_stay old.entries.items x c.busy t.busy_place ∙ t.busy ∙ ap (busy_packets setting.eid r) (sym (busy_served setting.device setting.keep setting.start w.log moment n r is up));
                 reply_place = below;
                 busy_place = before_more old.entries.items x c.busy t.busy_place;
@@ -237,7 +237,7 @@ module _ {P S : Type 0} (setting : Setting S) (past : List Step) (keep : ℕ) (s
                 (still_carried setting w v old.entries.items x k q t.0 (given_other setting.device setting.keep setting.start w.log moment n k (λ e. other (sym e))) (busy_other setting.device setting.keep setting.start w.log moment n k (λ e. other (sym e))) t.2),
           )
 
-      fits_here : (q : Asked) → asked_at w.log n ≡ Some q → is_fresh setting.keep (told w.log) (message_at moment q) ≡ true → FitsPackets (reply setting.device (performed setting.device setting.keep setting.start (told w.log)) q.message)
+      fits_here : (q : Asked) → asked_at w.log n ≡ Some q → is_fresh setting.keep (told {S = S} w.log) (message_at moment q) ≡ true → FitsPackets (reply setting.device (performed setting.device setting.keep setting.start (told w.log)) q.message)
       fits_here q asked fresh =
           let same_request : r ≡ q = let both : Some r ≡ Some q = sym is ∙ asked in cc in
           let held = held_of station in
@@ -245,7 +245,7 @@ module _ {P S : Type 0} (setting : Setting S) (past : List Step) (keep : ℕ) (s
           ap (λ own. arrival (assembly.answer held.open_messages) own moment bytes) running.device.left.endpoint ∙ brings (assembly.answer held.open_messages) (held_whole held.open_messages setting.eid r) in
           let fits : performs held m ≡ true → Fits (reply setting.device held.state m.bytes) = subst (ArrivalFits setting.device held) arrival_is d.given_fits in
           let on : performs held m ≡ true =
-          performs_is setting.device setting.eid setting.keep setting.start held calls running.device.left m ∙ ap (λ es. is_fresh setting.keep es m) running.device.events ∙ subst (λ a. is_fresh setting.keep (told w.log) (message_at moment a) ≡ true) (sym same_request) fresh in
+          performs_is setting.device setting.eid setting.keep setting.start held calls running.device.left m ∙ ap (λ es. is_fresh setting.keep es m) running.device.events ∙ subst (λ a. is_fresh setting.keep (told {S = S} w.log) (message_at moment a) ≡ true) (sym same_request) fresh in
           let both = fits on in
           let state = running.device.left.state ∙ ap (performed setting.device setting.keep setting.start) running.device.events in
           subst (λ (a : Asked). FitsPackets (reply setting.device (performed setting.device setting.keep setting.start (told w.log)) a.message)) same_request
@@ -258,7 +258,7 @@ module _ {P S : Type 0} (setting : Setting S) (past : List Step) (keep : ℕ) (s
           endpoint = running.device.endpoint;
           left = same setting.eid setting.keep setting.start (held_of new) (received_held setting.device (held_of station) moment bytes) (device_calls setting.eid v.log) d.new_held
               (subst (IsLeftBy setting.device setting.eid setting.keep setting.start (received_held setting.device (held_of station) moment bytes)) (sym called_with) looked.1);
-          events = ap (events setting.eid) called_with ∙ ap (λ a. with_arrival a (events setting.eid calls)) arrives_here ∙ ap (λ es. Came m ∷ es) running.device.events ∙ sym (ap (λ o. told_of moment o (told w.log)) is);
+          events = ap (events setting.eid) called_with ∙ ap (λ a. with_arrival a (events setting.eid calls)) arrives_here ∙ ap (λ es. Came m ∷ es) running.device.events ∙ sym (ap (λ o. told_of moment o (told {S = S} w.log)) is);
           called = let y = d.new_held.last in omega (arith, y);
         };
         sides = λ e has. let s = running.sides e has in (s.0, s.1, still_side setting w v (time_now past) moment e s.0 refl refl (λ k q asked. asked) later s.2);
@@ -268,12 +268,12 @@ module _ {P S : Type 0} (setting : Setting S) (past : List Step) (keep : ℕ) (s
         traffic = carried_at;
         carried = d.same_count ∙ running.carried;
         entries = d.new_entries ∙ ap (λ es. es ++ x ∷ []) running.entries
-            ∙ ap (λ y. entries setting past ++ y ∷ []) (ap (λ b. entry.Delivered b outcome) busy_is ∙ ap (entry.Delivered (is_busy setting.keep (told w.log) moment)) outcome_is ∙ sym (ap (delivery_entry setting w.log moment) is));
+            ∙ ap (λ y. entries setting past ++ y ∷ []) (ap (λ b. entry.Delivered b outcome) busy_is ∙ ap (entry.Delivered (is_busy setting.keep (told {S = S} w.log) moment)) outcome_is ∙ sym (ap (delivery_entry setting w.log moment) is));
         order = d.new_order ∙ ap (λ xs. xs ++ fresh_numbers n outcome) running.order
-            ∙ ap (λ o. order setting.keep w.log ++ fresh_numbers n o) outcome_is
-            ∙ ap (λ xs. order setting.keep w.log ++ xs) (owed_fresh setting.device setting.eid setting.keep setting.start (told w.log) m n)
-            ∙ listed (is_fresh setting.keep (told w.log) m) (order setting.keep w.log) n
-            ∙ ap (λ o. if fresh_of setting.keep (told w.log) moment o then order setting.keep w.log ++ n ∷ [] else order setting.keep w.log) (sym is);
+            ∙ ap (λ o. order S setting.keep w.log ++ fresh_numbers n o) outcome_is
+            ∙ ap (λ xs. order S setting.keep w.log ++ xs) (owed_fresh setting.device setting.eid setting.keep setting.start (told {S = S} w.log) m n)
+            ∙ listed (is_fresh setting.keep (told {S = S} w.log) m) (order S setting.keep w.log) n
+            ∙ ap (λ o. if fresh_of setting.keep (told {S = S} w.log) moment o then order S setting.keep w.log ++ n ∷ [] else order S setting.keep w.log) (sym is);
         timely = d.new_timely ∙ ap (λ b. b && old.timely) d.given_in_time ∙ ap (λ b. nat_lt moment (r.opening + setting.keep) && b) running.timely ∙ ap (λ o. comes_in_time setting moment o && is_timely setting past) (sym is);
         sent = running.sent;
         fit = (fits_here, running.fit);

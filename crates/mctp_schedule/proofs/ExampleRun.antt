@@ -72,7 +72,7 @@ abbrev steps : List Step
 steps = at 4120 (Tick 10) ∷ at 3120 (Open 10 GetTid) ∷ restarted
 
 -- ---- what the definitions give for it
-in_this_order : firsts 1000 (world setting steps).log ≡ 1 ∷ 0 ∷ range_with_len 2 34
+in_this_order : firsts Device 1000 (world setting steps).log ≡ 1 ∷ 0 ∷ range_with_len 2 34
 unfolding request_of command_of response_of
 in_this_order = refl
 

@@ -16,40 +16,40 @@ module _ {S : Type 0} (device : Rules S) (keep : ℕ) (start : S) where
   fits_before (Sensed _ _ _) log x = x
   fits_before (WentDown _) log x = x
 
-  pub reply_fits : (log : List Happening) → InOrder log → Apart keep log → InTime keep log → RepliesFit device keep start log → (k : ℕ) (place : List Happening) → first keep log k ≡ Some place → FitsPackets (the_reply device keep start log k)
+  pub reply_fits : (log : List Happening) → InOrder log → Apart keep log → InTime keep log → RepliesFit device keep start log → (k : ℕ) (place : List Happening) → first S keep log k ≡ Some place → FitsPackets (the_reply device keep start log k)
   reply_fits [] o a i x k place e = absurd (cc)
   reply_fits (Sensed _ _ _ ∷ past) o a i x k place e = reply_fits past o.1 a i x k place e
   reply_fits (WentDown _ ∷ past) o a i x k place e = reply_fits past o.1 a i x k place e
   reply_fits (Opened q ∷ past) o a i x k place e =
-      subst (λ (y : Option Asked). FitsPackets (reply_from device keep start (bytes_of y) (first keep past k)))
-      (sym (request_older q past k (first_below keep past k place e)))
+      subst (λ (y : Option Asked). FitsPackets (reply_from device keep start (bytes_of y) (first S keep past k)))
+      (sym (request_older q past k (first_below S keep past k place e)))
       (reply_fits past o.1 a.1 i x k place e)
-  reply_fits (Delivered t j ∷ past) o a i x k place e = go (first keep past k) refl (λ p is. reply_fits past o.1 a i.1 x.1 k p is)
+  reply_fits (Delivered t j ∷ past) o a i x k place e = go (first S keep past k) refl (λ p is. reply_fits past o.1 a i.1 x.1 k p is)
     where
       log : List Happening
       log = Delivered t j ∷ past
 
       busy : Bool
-      busy = is_busy keep (told past) t
+      busy = is_busy keep (told {S = S} past) t
 
-      here : (q : Option Asked) → asked_at past k ≡ q → j ≡ k → arrives q busy ≡ true → first keep past k ≡ None → FitsPackets (the_reply device keep start log k)
+      here : (q : Option Asked) → asked_at past k ≡ q → j ≡ k → arrives q busy ≡ true → first S keep past k ≡ None → FitsPackets (the_reply device keep start log k)
       here None was same on none = absurd (cc)
       here (Some r) was same on none =
           let idle : busy ≡ false = not-true busy on in
           let at = subst (λ n. asked_at past n ≡ Some r) (sym same) was in
           let soon = subst (λ n. InTime keep (Delivered t n ∷ past)) same i in
           let f = entry device keep start past t k r o a soon was idle in
-          let is_the_first : is_first keep past t k ≡ true = ap (λ q. is_first_of q (first keep past k) busy) was ∙ ap (λ g. is_first_of (Some r) g busy) none ∙ not_from_false _ idle in
+          let is_the_first : is_first S keep past t k ≡ true = ap (λ q. is_first_of q (first S keep past k) busy) was ∙ ap (λ g. is_first_of (Some r) g busy) none ∙ not_from_false _ idle in
           let fit = x.0 r at (f.0 ∙ is_the_first) in
-          let place_is : first keep log k ≡ Some past = subst (λ n. first keep (Delivered t n ∷ past) k ≡ Some past) (sym same) (first_here keep past t k r was idle none) in
+          let place_is : first S keep log k ≡ Some past = subst (λ n. first S keep (Delivered t n ∷ past) k ≡ Some past) (sym same) (first_here S keep past t k r was idle none) in
           subst (FitsPackets)
           (ap (λ s. reply device s r.message) (holds device keep start past o.1 a i.1).same
           ∙ ap (λ q. reply device (once device keep start past) (bytes_of q)) (sym was)
           ∙ ap (reply_from device keep start (bytes_of (asked_at past k))) (sym place_is))
           fit
 
-      go : (f : Option (List Happening)) → first keep past k ≡ f → ((p : List Happening) → f ≡ Some p → FitsPackets (the_reply device keep start past k)) → FitsPackets (the_reply device keep start log k)
-      go (Some p) was ih = subst (λ g. FitsPackets (reply_from device keep start (bytes_of (asked_at past k)) g)) (sym (first_stays keep past t j k p was)) (ih p refl)
+      go : (f : Option (List Happening)) → first S keep past k ≡ f → ((p : List Happening) → f ≡ Some p → FitsPackets (the_reply device keep start past k)) → FitsPackets (the_reply device keep start log k)
+      go (Some p) was ih = subst (λ g. FitsPackets (reply_from device keep start (bytes_of (asked_at past k)) g)) (sym (first_stays S keep past t j k p was)) (ih p refl)
       go None none ih =
           let test = j == k && arrives (asked_at past k) busy in
           let new : earlier None test past ≡ Some place = ap (λ g. earlier g test past) (sym none) ∙ e in

@@ -32,8 +32,8 @@ pub record Halves {S : Type 0} (setting : Setting S) : Type 0 where
   pub tested : TimelyIsTested setting
   pub state : StateIsOnce setting.device
   pub delivery : DeliveryIsOwed setting.device
-  pub order : FreshInOrderOfFirsts
-  pub fresh : FreshWhereFirst
+  pub order : FreshInOrderOfFirsts S
+  pub fresh : FreshWhereFirst S
   pub reply : ReplyIsOwed setting
   pub busy : BusyIsOwed setting
   pub answered : AnsweredWhereTaken setting
@@ -50,7 +50,7 @@ module _ {S : Type 0} (setting : Setting S) (laws : Halves setting) where
       → delivery_entry setting (world setting past).log moment o ≡ delivery_owes setting past moment k o
   delivery_is past moment k s None is = refl
   delivery_is past moment k s (Some r) is =
-      ap (Delivered (is_busy setting.keep (told (world setting past).log) moment))
+      ap (Delivered (is_busy setting.keep (told {S = S} (world setting past).log) moment))
       (laws.delivery setting.eid setting.keep setting.start (world setting past).log moment k r (log_of (record { moment = moment; action = actions.Request k } ∷ past) s) is)
 
   entry_is : (past : List Step) (moment : ℕ) (action : Action) → IsTimelySchedule setting (record { moment = moment; action = action } ∷ past) → entry_of setting (world setting past) moment action ≡ entry_owes setting past moment action
@@ -70,8 +70,8 @@ module _ {S : Type 0} (setting : Setting S) (laws : Halves setting) where
       ap (λ es. es ++ entry_of setting (world setting past) step.moment step.action ∷ []) (entries_are past (before step past s))
       ∙ ap (λ x. entries_owed setting past ++ x ∷ []) (entry_is past step.moment step.action s)
 
-  pub headline_holds : (Performed : List Command → Type 0) (steps : List Step) (requests : List EndedRequest) → Performed (commands_performed setting.keep (world setting steps).log) → IsTimelySchedule setting steps → ((k : ℕ) → slice_get requests k ≡ option_map (as_it_stands setting (world setting steps)) (asked_at (world setting steps).log k))
-      → Headline setting steps (entries setting steps) requests (order setting.keep (world setting steps).log) (performed setting.device setting.keep setting.start (told (world setting steps).log)) Performed
+  pub headline_holds : (Performed : List Command → Type 0) (steps : List Step) (requests : List EndedRequest) → Performed (commands_performed S setting.keep (world setting steps).log) → IsTimelySchedule setting steps → ((k : ℕ) → slice_get requests k ≡ option_map (as_it_stands setting (world setting steps)) (asked_at (world setting steps).log k))
+      → Headline setting steps (entries setting steps) requests (order S setting.keep (world setting steps).log) (performed setting.device setting.keep setting.start (told (world setting steps).log)) Performed
   headline_holds Performed steps requests given s each = record {
     each_step = entries_are steps s;
     each_request = λ k r is. record {
@@ -94,12 +94,12 @@ module _ {P S : Type 0} (setting : Setting S) (past : List Step) (keep : ℕ) (s
     fit = running.fit;
   }
 
-  pub run_is_headline : Halves setting → (Performed : List Command → Type 0) → Performed (commands_performed setting.keep (world setting past).log) → NeverWentBack past → journal.timely ≡ true
+  pub run_is_headline : Halves setting → (Performed : List Command → Type 0) → Performed (commands_performed S setting.keep (world setting past).log) → NeverWentBack past → journal.timely ≡ true
       → Headline setting past journal.entries.items journal.requests.items journal.order.items (responder_stations.held_of station).state Performed
   run_is_headline laws Performed given in_order timely =
       let schedule : IsTimelySchedule setting past = record { order = in_order; timely = (laws.tested past).0 (sym running.timely ∙ timely); sound = is_sound } in
       let state = running.device.left.state ∙ ap (performed setting.device setting.keep setting.start) running.device.events in
       subst (λ s. Headline setting past journal.entries.items journal.requests.items journal.order.items s Performed) (sym state)
       (subst (λ os. Headline setting past journal.entries.items journal.requests.items os (performed setting.device setting.keep setting.start (told (world setting past).log)) Performed) (sym running.order)
-      (subst (λ es. Headline setting past es journal.requests.items (order setting.keep (world setting past).log) (performed setting.device setting.keep setting.start (told (world setting past).log)) Performed) (sym running.entries)
+      (subst (λ es. Headline setting past es journal.requests.items (order S setting.keep (world setting past).log) (performed setting.device setting.keep setting.start (told (world setting past).log)) Performed) (sym running.entries)
       (headline_holds setting laws Performed past journal.requests.items given schedule running.requests)))

@@ -15,6 +15,7 @@ pub mod RowsOfReplies
 pub mod OneReplyTaken
 pub mod OpenedSources
 pub mod Origins
+pub mod AnyState
 pub mod StepsOnRequests
 pub mod AnsweredWhereTaken
 pub mod TimelyLogs

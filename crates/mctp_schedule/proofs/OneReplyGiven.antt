@@ -14,11 +14,11 @@ module _ {S : Type 0} (device : Rules S) (keep : ℕ) (start : S) where
   Reply log k = the_reply device keep start log k
 
   -- one more delivery
-  step : (past : List Happening) (moment i k : ℕ) → InOrder (Delivered moment i ∷ past) → Apart keep past → InTime keep (Delivered moment i ∷ past) → given device keep start past k ≡ reply_at_first device keep start past k (first keep past k) → given device keep start (Delivered moment i ∷ past) k ≡ reply_at_first device keep start (Delivered moment i ∷ past) k (first keep (Delivered moment i ∷ past) k)
+  step : (past : List Happening) (moment i k : ℕ) → InOrder (Delivered moment i ∷ past) → Apart keep past → InTime keep (Delivered moment i ∷ past) → given device keep start past k ≡ reply_at_first device keep start past k (first S keep past k) → given device keep start (Delivered moment i ∷ past) k ≡ reply_at_first device keep start (Delivered moment i ∷ past) k (first S keep (Delivered moment i ∷ past) k)
   step past moment i k o a it ih = go (cases_Bool test)
     where
       busy : Bool
-      busy = is_busy keep (told past) moment
+      busy = is_busy keep (told {S = S} past) moment
 
       test : Bool
       test = i == k && arrives (asked_at past k) busy
@@ -26,18 +26,18 @@ module _ {S : Type 0} (device : Rules S) (keep : ℕ) (start : S) where
       log : List Happening
       log = Delivered moment i ∷ past
 
-      old : test ≡ false → first keep log k ≡ first keep past k
-      old off = inner (first keep past k)
+      old : test ≡ false → first S keep log k ≡ first S keep past k
+      old off = inner (first S keep past k)
         where
           inner : (f : Option (List Happening)) → earlier f test past ≡ f
           inner (Some p) = refl
           inner None = ap (λ b. earlier None b past) off
 
-      grown : (f : Option (List Happening)) → first keep past k ≡ f → test ≡ false → reply_at_first device keep start past k f ≡ reply_at_first device keep start log k f
+      grown : (f : Option (List Happening)) → first S keep past k ≡ f → test ≡ false → reply_at_first device keep start past k f ≡ reply_at_first device keep start log k f
       grown None e off = refl
       grown (Some p) e off = ap (λ f. Some (reply_from device keep start (bytes_of (asked_at past k)) f)) (sym (old off))
 
-      here : (o : Option Asked) → asked_at past k ≡ o → arrives o busy ≡ true → i ≡ k → Some (answered_to device keep start moment past o) ≡ reply_at_first device keep start log k (first keep log k)
+      here : (o : Option Asked) → asked_at past k ≡ o → arrives o busy ≡ true → i ≡ k → Some (answered_to device keep start moment past o) ≡ reply_at_first device keep start log k (first S keep log k)
       here None e on same = absurd (cc)
       here (Some r) e on same =
           let idle : busy ≡ false = not-true busy on in
@@ -45,64 +45,64 @@ module _ {S : Type 0} (device : Rules S) (keep : ℕ) (start : S) where
           let x = entry device keep start past moment k r o a it' e idle in
           ap Some x.1
           ∙ ap (λ n. Some (the_reply device keep start (Delivered moment n ∷ past) k)) (sym same)
-          ∙ came (first keep past k) refl
+          ∙ came (first S keep past k) refl
         where
-          came : (f : Option (List Happening)) → first keep past k ≡ f → Some (Reply log k) ≡ reply_at_first device keep start log k (first keep log k)
-          came (Some p) e = ap (reply_at_first device keep start log k) (sym (first_stays keep past moment i k p e ∙ e))
-          came None none = ap (reply_at_first device keep start log k) (sym (subst (λ (n : ℕ). first keep (Delivered moment n ∷ past) k ≡ Some past) (sym same) (first_here keep past moment k r e (not-true busy on) none)))
+          came : (f : Option (List Happening)) → first S keep past k ≡ f → Some (Reply log k) ≡ reply_at_first device keep start log k (first S keep log k)
+          came (Some p) e = ap (reply_at_first device keep start log k) (sym (first_stays S keep past moment i k p e ∙ e))
+          came None none = ap (reply_at_first device keep start log k) (sym (subst (λ (n : ℕ). first S keep (Delivered moment n ∷ past) k ≡ Some past) (sym same) (first_here S keep past moment k r e (not-true busy on) none)))
 
-      go : (test ≡ true) ⊎ (test ≡ false) → given device keep start log k ≡ reply_at_first device keep start log k (first keep log k)
-      go (inr off) = cond-false test _ _ off ∙ ih ∙ grown (first keep past k) refl off ∙ ap (reply_at_first device keep start log k) (sym (old off))
+      go : (test ≡ true) ⊎ (test ≡ false) → given device keep start log k ≡ reply_at_first device keep start log k (first S keep log k)
+      go (inr off) = cond-false test _ _ off ∙ ih ∙ grown (first S keep past k) refl off ∙ ap (reply_at_first device keep start log k) (sym (old off))
       go (inl on) = let p = and_parts (i == k) (arrives (asked_at past k) busy) on in cond-true test _ _ on ∙ here (asked_at past k) refl p.1 (eqb-true i k p.0)
 
-  pub given_is : (log : List Happening) → InOrder log → Apart keep log → InTime keep log → (k : ℕ) → given device keep start log k ≡ reply_at_first device keep start log k (first keep log k)
+  pub given_is : (log : List Happening) → InOrder log → Apart keep log → InTime keep log → (k : ℕ) → given device keep start log k ≡ reply_at_first device keep start log k (first S keep log k)
   given_is [] o a i k = refl
   given_is (Delivered moment n ∷ past) o a i k = step past moment n k o a i (given_is past o.1 a i.1 k)
-  given_is (Sensed m x v ∷ past) o a i k = given_is past o.1 a i k ∙ same (first keep past k)
+  given_is (Sensed m x v ∷ past) o a i k = given_is past o.1 a i k ∙ same (first S keep past k)
     where
       same : (f : Option (List Happening)) → reply_at_first device keep start past k f ≡ reply_at_first device keep start (Sensed m x v ∷ past) k f
       same None = refl
       same (Some p) = refl
-  given_is (WentDown m ∷ past) o a i k = given_is past o.1 a i k ∙ same (first keep past k)
+  given_is (WentDown m ∷ past) o a i k = given_is past o.1 a i k ∙ same (first S keep past k)
     where
       same : (f : Option (List Happening)) → reply_at_first device keep start past k f ≡ reply_at_first device keep start (WentDown m ∷ past) k f
       same None = refl
       same (Some p) = refl
-  given_is (Opened q ∷ past) o a i k = given_is past o.1 a.1 i k ∙ same (first keep past k) refl
+  given_is (Opened q ∷ past) o a i k = given_is past o.1 a.1 i k ∙ same (first S keep past k) refl
     where
-      same : (f : Option (List Happening)) → first keep past k ≡ f → reply_at_first device keep start past k f ≡ reply_at_first device keep start (Opened q ∷ past) k f
+      same : (f : Option (List Happening)) → first S keep past k ≡ f → reply_at_first device keep start past k f ≡ reply_at_first device keep start (Opened q ∷ past) k f
       same None e = refl
-      same (Some p) e = ap (λ (x : Option Asked). Some (reply_from device keep start (bytes_of x) (first keep past k))) (sym (request_older q past k (first_below keep past k p e)))
+      same (Some p) e = ap (λ (x : Option Asked). Some (reply_from device keep start (bytes_of x) (first S keep past k))) (sym (request_older q past k (first_below S keep past k p e)))
 
   -- the one reply stays
   pub once_stays : (h : Happening) (log : List Happening) (k : ℕ) (m : List ℕ) → given_once device keep start log k ≡ Some m → given_once device keep start (h ∷ log) k ≡ Some m
-  once_stays (Sensed a b c) log k m e = go (first keep log k) e
+  once_stays (Sensed a b c) log k m e = go (first S keep log k) e
     where
       go : (f : Option (List Happening)) → reply_at_first device keep start log k f ≡ Some m → reply_at_first device keep start (Sensed a b c ∷ log) k f ≡ Some m
       go None e = absurd (cc)
       go (Some p) e = e
-  once_stays (WentDown n) log k m e = go (first keep log k) e
+  once_stays (WentDown n) log k m e = go (first S keep log k) e
     where
       go : (f : Option (List Happening)) → reply_at_first device keep start log k f ≡ Some m → reply_at_first device keep start (WentDown n ∷ log) k f ≡ Some m
       go None e = absurd (cc)
       go (Some p) e = e
-  once_stays (Opened q) log k m e = go (first keep log k) refl e
+  once_stays (Opened q) log k m e = go (first S keep log k) refl e
     where
-      go : (f : Option (List Happening)) → first keep log k ≡ f → reply_at_first device keep start log k f ≡ Some m → reply_at_first device keep start (Opened q ∷ log) k f ≡ Some m
+      go : (f : Option (List Happening)) → first S keep log k ≡ f → reply_at_first device keep start log k f ≡ Some m → reply_at_first device keep start (Opened q ∷ log) k f ≡ Some m
       go None at e = absurd (cc)
-      go (Some p) at e = ap (λ (x : Option Asked). Some (reply_from device keep start (bytes_of x) (first keep log k))) (request_older q log k (first_below keep log k p at)) ∙ e
-  once_stays (Delivered moment i) log k m e = go (first keep log k) refl e
+      go (Some p) at e = ap (λ (x : Option Asked). Some (reply_from device keep start (bytes_of x) (first S keep log k))) (request_older q log k (first_below S keep log k p at)) ∙ e
+  once_stays (Delivered moment i) log k m e = go (first S keep log k) refl e
     where
-      go : (f : Option (List Happening)) → first keep log k ≡ f → reply_at_first device keep start log k f ≡ Some m → reply_at_first device keep start (Delivered moment i ∷ log) k (first keep (Delivered moment i ∷ log) k) ≡ Some m
+      go : (f : Option (List Happening)) → first S keep log k ≡ f → reply_at_first device keep start log k f ≡ Some m → reply_at_first device keep start (Delivered moment i ∷ log) k (first S keep (Delivered moment i ∷ log) k) ≡ Some m
       go None at e = absurd (cc)
       go (Some p) at e =
-          let same = first_stays keep log moment i k p at in
+          let same = first_stays S keep log moment i k p at in
           ap (reply_at_first device keep start (Delivered moment i ∷ log) k) (same ∙ at)
           ∙ ap (λ f. Some (reply_from device keep start (bytes_of (asked_at log k)) f)) same
           ∙ e
 
   -- no busy answer was given to a number that is not opened
-  pub busy_opened : (log : List Happening) (k : ℕ) → asked_at log k ≡ None → was_busy keep log k ≡ false
+  pub busy_opened : (log : List Happening) (k : ℕ) → asked_at log k ≡ None → was_busy S keep log k ≡ false
   busy_opened [] k off = refl
   busy_opened (Sensed _ _ _ ∷ past) k off = busy_opened past k off
   busy_opened (WentDown _ ∷ past) k off = busy_opened past k off
@@ -112,6 +112,6 @@ module _ {S : Type 0} (device : Rules S) (keep : ℕ) (start : S) where
       go true e = absurd (cc)
       go false e = e
   busy_opened (Delivered moment i ∷ past) k off =
-      cond-false (i == k && arrives (asked_at past k) (not (is_busy keep (told past) moment))) true (was_busy keep past k)
-      (and_right (i == k) _ (ap (λ o. arrives o (not (is_busy keep (told past) moment))) off))
+      cond-false (i == k && arrives (asked_at past k) (not (is_busy keep (told {S = S} past) moment))) true (was_busy S keep past k)
+      (and_right (i == k) _ (ap (λ o. arrives o (not (is_busy keep (told {S = S} past) moment))) off))
       ∙ busy_opened past k off

@@ -90,7 +90,7 @@ module _ {S : Type 0} (setting : Setting S) (lower : Lower) where
       let took = taken_of steps k message (Stands setting steps r).course.standing stands h.standing in
       let came_in = h.arrived took.0 in
       let listing = fresh_in_order_of_firsts setting.keep (world setting steps).log (log_of steps s) in
-      let at = listed_at k (order setting.keep (world setting steps).log) (listing.has k ∙ ap is_some came_in.1) in
+      let at = listed_at k (order S setting.keep (world setting steps).log) (listing.has k ∙ ap is_some came_in.1) in
       record {
         place = came_in.0;
         arrived = came_in.1;
@@ -202,7 +202,7 @@ module _ {S : Type 0} (setting : Setting S) (lower : Lower) where
     abbrev now : World
     now = world setting past
 
-    module _ (r : Asked) (is : asked_at now.log k ≡ Some r) (busy : was_busy setting.keep now.log k ≡ true) where
+    module _ (r : Asked) (is : asked_at now.log k ≡ Some r) (busy : was_busy S setting.keep now.log k ≡ true) where
       abbrev message : List ℕ
       message = busy_reply r.message
 
@@ -228,11 +228,11 @@ module _ {S : Type 0} (setting : Setting S) (lower : Lower) where
       busy_there =
           ap (got_from setting now r.source) one_handed
           ∙ gives_not_ready (cases_Bool (is_waiting setting now r))
-          ∙ sym (cond-true (was_busy setting.keep now.log k) _ _ busy)
+          ∙ sym (cond-true (was_busy S setting.keep now.log k) _ _ busy)
 
-    busy_owed_of : (o : Option Asked) → asked_at now.log k ≡ o → (b : Bool) → was_busy setting.keep now.log k ≡ b → got_of_busy setting now k ≡ busy_owed setting past k
+    busy_owed_of : (o : Option Asked) → asked_at now.log k ≡ o → (b : Bool) → was_busy S setting.keep now.log k ≡ b → got_of_busy setting now k ≡ busy_owed setting past k
     busy_owed_of None off b e =
-        (λ i. got_from setting now (source_of (off i)) (busy_from setting (off i) (was_busy setting.keep now.log k)))
+        (λ i. got_from setting now (source_of (off i)) (busy_from setting (off i) (was_busy S setting.keep now.log k)))
         ∙ sym (ap (busy_owed_to setting past k) off)
     busy_owed_of (Some r) is true busy =
         ap (λ o. got_from setting now (source_of o) (busy_packet setting now k)) is
@@ -240,9 +240,9 @@ module _ {S : Type 0} (setting : Setting S) (lower : Lower) where
         ∙ sym (ap (busy_owed_to setting past k) is)
     busy_owed_of (Some r) is false off =
         (λ i. got_from setting now (source_of (is i)) (busy_from setting (is i) (off i)))
-        ∙ sym (cond-false (was_busy setting.keep now.log k) _ _ off)
+        ∙ sym (cond-false (was_busy S setting.keep now.log k) _ _ off)
         ∙ sym (ap (busy_owed_to setting past k) is)
 
   pub busy_is_owed : BusyIsOwed setting
   busy_is_owed past moment k s timely =
-      busy_owed_of past moment k s timely (asked_at (world setting past).log k) refl (was_busy setting.keep (world setting past).log k) refl
+      busy_owed_of past moment k s timely (asked_at (world setting past).log k) refl (was_busy S setting.keep (world setting past).log k) refl

@@ -58,17 +58,18 @@ module _ {S : Type 0} (device : Rules S) (keep : ℕ) (start : S) where
   none_given (Sensed _ _ _ ∷ past) k l = none_given past k l
   none_given (WentDown _ ∷ past) k l = none_given past k l
   none_given (Delivered t j ∷ past) k l =
-      cond-false (j == k && arrives (asked_at past k) (is_busy keep (told past) t)) _ _ (and_right (j == k) _ (ap (λ o. arrives o (is_busy keep (told past) t)) (none_past past k l)))
+      cond-false (j == k && arrives (asked_at past k) (is_busy keep (told {S = S} past) t)) _ _ (and_right (j == k) _ (ap (λ o. arrives o (is_busy keep (told {S = S} past) t)) (none_past past k l)))
       ∙ none_given past k l
 
-pub never_busy : (keep : ℕ) (log : List Happening) (k : ℕ) → count_of log ≤ k → was_busy keep log k ≡ false
-never_busy keep [] k l = refl
-never_busy keep (Opened r ∷ past) k l = never_busy keep past k (omega arith)
-never_busy keep (Sensed _ _ _ ∷ past) k l = never_busy keep past k l
-never_busy keep (WentDown _ ∷ past) k l = never_busy keep past k l
-never_busy keep (Delivered t j ∷ past) k l =
-    cond-false (j == k && arrives (asked_at past k) (not (is_busy keep (told past) t))) _ _ (and_right (j == k) _ (ap (λ o. arrives o (not (is_busy keep (told past) t))) (none_past past k l)))
-    ∙ never_busy keep past k l
+module _ (S : Type 0) where
+  pub never_busy : (keep : ℕ) (log : List Happening) (k : ℕ) → count_of log ≤ k → was_busy S keep log k ≡ false
+  never_busy keep [] k l = refl
+  never_busy keep (Opened r ∷ past) k l = never_busy keep past k (omega arith)
+  never_busy keep (Sensed _ _ _ ∷ past) k l = never_busy keep past k l
+  never_busy keep (WentDown _ ∷ past) k l = never_busy keep past k l
+  never_busy keep (Delivered t j ∷ past) k l =
+      cond-false (j == k && arrives (asked_at past k) (not (is_busy keep (told {S = S} past) t))) _ _ (and_right (j == k) _ (ap (λ o. arrives o (not (is_busy keep (told {S = S} past) t))) (none_past past k l)))
+      ∙ never_busy keep past k l
 
 module _ {P S : Type 0} (setting : Setting S) (past : List Step) (keep : ℕ) (station : responder_stations.Station P S) (places : List (Option Side)) (old journal : Journal) (running : IsRunning setting past keep station places old) (moment : ℕ) (later : time_now past ≤ moment) (e : ℕ) (has : has_requester setting.requesters e ≡ true) (command : Command) (new : Side) (looks : OpenLooksBack) (same : SameIsLeft) where
   abbrev w : World
@@ -301,7 +302,7 @@ module _ {P S : Type 0} (setting : Setting S) (past : List Step) (keep : ℕ) (s
           ∙ ap (λ peer. packet_bytes e peer (held_of side.station).count (message_of (held_of side.station).count command)) s.left.peer
           ∙ ap (λ n. packet_bytes e setting.eid n (message_of n command)) s.left.count;
       reply = sym (ap (option_map (answer_packets setting.eid q)) (none_given setting.device setting.keep setting.start w.log count (omega arith)));
-      busy = sym (ap (busy_packets setting.eid q) (never_busy setting.keep w.log count (omega arith)));
+      busy = sym (ap (busy_packets setting.eid q) (never_busy S setting.keep w.log count (omega arith)));
       reply_place = tt;
       busy_place = tt;
     }
@@ -361,7 +362,7 @@ module _ {P S : Type 0} (setting : Setting S) (past : List Step) (keep : ℕ) (s
               (t.0, t.1, subst (λ u. IsCarried setting u journal.entries.items k r t.0) back t.2);
           carried = ap (λ (ts : List Carried). length ts) x.new_traffic ∙ length_pushed old.traffic.items carried_new ∙ ap suc running.carried ∙ ap (λ (u : World). count_of u.log) back;
           entries = x.new_entries ∙ ap (λ es. es ++ entry.Opened (length old.requests.items) ∷ []) running.entries ∙ ap (λ y. entries setting past ++ y ∷ []) entry_now;
-          order = x.new_order ∙ running.order ∙ ap (λ (u : World). order setting.keep u.log) back;
+          order = x.new_order ∙ running.order ∙ ap (λ (u : World). order S setting.keep u.log) back;
           timely = x.timely ∙ running.timely;
           sent = subst (λ (u : World). AreRequests u.log) back (is_opened.readable, running.sent);
           fit = subst (λ (u : World). RepliesFit setting.device setting.keep setting.start u.log) back running.fit;

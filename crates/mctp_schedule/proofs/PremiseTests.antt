@@ -188,7 +188,7 @@ module _ {S : Type 0} (device : Rules S) (keep : ℕ) (start : S) where
   abbrev reply_fits : ℕ → List Happening → Option Asked → Bool
   reply_fits moment past None = true
   reply_fits moment past (Some r) =
-      not (is_fresh keep (told past) (message_at moment r))
+      not (is_fresh keep (told {S = S} past) (message_at moment r))
       || fits (reply device (performed device keep start (told past)) r.message)
 
   abbrev pub all_fit : List Happening → Bool
@@ -198,10 +198,10 @@ module _ {S : Type 0} (device : Rules S) (keep : ℕ) (start : S) where
   all_fit (WentDown _ ∷ past) = all_fit past
   all_fit (Delivered moment k ∷ past) = reply_fits moment past (asked_at past k) && all_fit past
 
-  one_fits : (moment : ℕ) (past : List Happening) (o : Option Asked) → reply_fits moment past o ≡ true → (r : Asked) → o ≡ Some r → is_fresh keep (told past) (message_at moment r) ≡ true → FitsPackets (reply device (performed device keep start (told past)) r.message)
+  one_fits : (moment : ℕ) (past : List Happening) (o : Option Asked) → reply_fits moment past o ≡ true → (r : Asked) → o ≡ Some r → is_fresh keep (told {S = S} past) (message_at moment r) ≡ true → FitsPackets (reply device (performed device keep start (told past)) r.message)
   one_fits moment past None t r e = absurd (cc)
   one_fits moment past (Some q) t r e =
-      same (λ r. is_fresh keep (told past) (message_at moment r) ≡ true → FitsPackets (reply device (performed device keep start (told past)) r.message))
+      same (λ r. is_fresh keep (told {S = S} past) (message_at moment r) ≡ true → FitsPackets (reply device (performed device keep start (told past)) r.message))
       q (λ fresh. fits_packets (reply device (performed device keep start (told past)) q.message) (then_so _ _ t fresh)) r e
 
   pub replies_fit : (log : List Happening) → all_fit log ≡ true → RepliesFit device keep start log

@@ -13,7 +13,7 @@ use Rattle.pldm_wire.specs.declared.command.Command.{Command}
 use Rattle.pldm_wire.specs.declared.command.Command.TheVariants.{GetTid, GetPdrRepositoryInfo, GetSensorReading, SetNumericEffecterValue}
 use Rattle.pldm_wire.specs.declared.size.Size.TheVariants.{Uint8}
 use Rattle.pldm_platform.specs.declared.platform.ReadingFault.TheVariants.{NoSuchSensor}
-use Rattle.pldm_responder.specs.Dimmers.{dimmer_answer, dimmer_after, dimmer_sensed}
+use Rattle.pldm_responder.proofs.WorkedLight.{light_answer, light_after, light_sensed}
 use Rattle.pldm_responder.specs.Performing.{Rules, rules_of}
 use Rattle.pldm_requester.specs.Courses as standings
 use Rattle.pldm_requester.specs.Courses.{Standing}
@@ -120,7 +120,7 @@ nothing_to_a_number_that_was_never_opened = refl
 -- ---- a light at endpoint 9, which keeps answers for a second
 abbrev light : Setting ℤ
 light = record {
-  device = rules_of dimmer_answer dimmer_after dimmer_sensed;
+  device = rules_of light_answer light_after light_sensed;
   start = pos 10;
   eid = 9;
   keep = 1000;
@@ -208,7 +208,7 @@ gauge_answer level command = answers.GetSensorReading 0 0 1 1 1 (sized Uint8 lev
 
 abbrev gauge : Setting ℤ
 gauge = record {
-  device = rules_of gauge_answer (λ level command. level) dimmer_sensed;
+  device = rules_of gauge_answer (λ level command. level) light_sensed;
   start = pos 40;
   eid = 9;
   keep = 1000;

@@ -60,7 +60,7 @@ module _ {S : Type 0} (setting : Setting S) where
   }
 
   pub still_carried : (w v : World) (entries : List Entry) (x : Entry) (k : ℕ) (r : Asked) (c : Carried) → given setting.device setting.keep setting.start v.log k ≡ given setting.device setting.keep setting.start w.log k
-      → was_busy setting.keep v.log k ≡ was_busy setting.keep w.log k → IsCarried setting w entries k r c → IsCarried setting v (entries ++ x ∷ []) k r c
+      → was_busy S setting.keep v.log k ≡ was_busy S setting.keep w.log k → IsCarried setting w entries k r c → IsCarried setting v (entries ++ x ∷ []) k r c
   still_carried w v entries x k r c gives busy s = record {
     packet = s.packet;
     reply = packets_stay entries x c.reply s.reply_place ∙ s.reply ∙ ap (option_map (answer_packets setting.eid r)) (sym gives);

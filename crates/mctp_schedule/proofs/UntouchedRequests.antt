@@ -27,26 +27,27 @@ below_more n (None ∷ js) x = below_more n js x
 below_more n (Some j ∷ js) x = absurd (let y = x.0 in omega arith)
 
 -- ---- first arrivals
-pub first_more : (keep : ℕ) (h : Happening) (log : List Happening) (k : ℕ) (place : List Happening) → first keep log k ≡ Some place → first keep (h ∷ log) k ≡ Some place
-first_more keep (Opened r) log k place is = is
-first_more keep (Delivered moment j) log k place is = first_stays keep log moment j k place is ∙ is
-first_more keep (Sensed _ _ _) log k place is = is
-first_more keep (WentDown _) log k place is = is
+module _ (S : Type 0) where
+  pub first_more : (keep : ℕ) (h : Happening) (log : List Happening) (k : ℕ) (place : List Happening) → first S keep log k ≡ Some place → first S keep (h ∷ log) k ≡ Some place
+  first_more keep (Opened r) log k place is = is
+  first_more keep (Delivered moment j) log k place is = first_stays S keep log moment j k place is ∙ is
+  first_more keep (Sensed _ _ _) log k place is = is
+  first_more keep (WentDown _) log k place is = is
 
--- what was never opened never arrived
-pub first_unopened : (keep : ℕ) (log : List Happening) (k : ℕ) → asked_at log k ≡ None → first keep log k ≡ None
-first_unopened keep [] k off = refl
-first_unopened keep (Sensed _ _ _ ∷ past) k off = first_unopened keep past k off
-first_unopened keep (WentDown _ ∷ past) k off = first_unopened keep past k off
-first_unopened keep (Opened q ∷ past) k off = first_unopened keep past k (go (k == count_of past) off)
-  where
-    go : (b : Bool) → (if b then Some q else asked_at past k) ≡ None → asked_at past k ≡ None
-    go true e = absurd (cc)
-    go false e = e
-first_unopened keep (Delivered moment j ∷ past) k off =
-    let test = j == k && arrives (asked_at past k) (is_busy keep (told past) moment) in
-    let never : test ≡ false = and_right (j == k) _ (ap (λ o. arrives o (is_busy keep (told past) moment)) off) in
-    (λ i. earlier (first_unopened keep past k off i) (never i) past)
+  -- what was never opened never arrived
+  pub first_unopened : (keep : ℕ) (log : List Happening) (k : ℕ) → asked_at log k ≡ None → first S keep log k ≡ None
+  first_unopened keep [] k off = refl
+  first_unopened keep (Sensed _ _ _ ∷ past) k off = first_unopened keep past k off
+  first_unopened keep (WentDown _ ∷ past) k off = first_unopened keep past k off
+  first_unopened keep (Opened q ∷ past) k off = first_unopened keep past k (go (k == count_of past) off)
+    where
+      go : (b : Bool) → (if b then Some q else asked_at past k) ≡ None → asked_at past k ≡ None
+      go true e = absurd (cc)
+      go false e = e
+  first_unopened keep (Delivered moment j ∷ past) k off =
+      let test = j == k && arrives (asked_at past k) (is_busy keep (told {S = S} past) moment) in
+      let never : test ≡ false = and_right (j == k) _ (ap (λ o. arrives o (is_busy keep (told {S = S} past) moment)) off) in
+      (λ i. earlier (first_unopened keep past k off i) (never i) past)
 
 -- ---- one request stays as it was, or is given up
 pub record Kept (x y : Request) : Type 0 where
@@ -73,31 +74,31 @@ module _ {S : Type 0} (setting : Setting S) where
 
   -- ---- the one reply
   reply_is : (log : List Happening) (k : ℕ) (m : List ℕ) → given_once setting.device setting.keep setting.start log k ≡ Some m → the_reply setting.device setting.keep setting.start log k ≡ m
-  reply_is log k m e = go (first setting.keep log k) e
+  reply_is log k m e = go (first S setting.keep log k) e
     where
       go : (f : Option (List Happening)) → reply_at_first setting.device setting.keep setting.start log k f ≡ Some m → the_reply setting.device setting.keep setting.start log k ≡ m
       go None e = absurd (cc)
       go (Some place) e = cc
 
-  pub arrived_stays : (step : Step) (past : List Step) (k : ℕ) (place : List Happening) → first setting.keep (Log past) k ≡ Some place → first setting.keep (Log (step ∷ past)) k ≡ Some place
+  pub arrived_stays : (step : Step) (past : List Step) (k : ℕ) (place : List Happening) → first S setting.keep (Log past) k ≡ Some place → first S setting.keep (Log (step ∷ past)) k ≡ Some place
   arrived_stays step past k place is =
-      stays_done setting (λ log. first setting.keep log k ≡ Some place) (λ h log e. first_more setting.keep h log k place e) (world setting past) step.moment step.action is
+      stays_done setting (λ log. first S setting.keep log k ≡ Some place) (λ h log e. first_more S setting.keep h log k place e) (world setting past) step.moment step.action is
 
-  pub reply_stays : (step : Step) (past : List Step) (k : ℕ) (place : List Happening) → first setting.keep (Log past) k ≡ Some place → reply_of setting (world setting (step ∷ past)) k ≡ reply_of setting (world setting past) k
+  pub reply_stays : (step : Step) (past : List Step) (k : ℕ) (place : List Happening) → first S setting.keep (Log past) k ≡ Some place → reply_of setting (world setting (step ∷ past)) k ≡ reply_of setting (world setting past) k
   reply_stays step past k place is =
       let m = reply_of setting (world setting past) k in
       let before : given_once setting.device setting.keep setting.start (Log past) k ≡ Some m = ap (reply_at_first setting.device setting.keep setting.start (Log past) k) is in
       reply_is (Log (step ∷ past)) k m
       (stays_done setting (λ log. given_once setting.device setting.keep setting.start log k ≡ Some m) (λ h log e. once_stays setting.device setting.keep setting.start h log k m e) (world setting past) step.moment step.action before)
 
-  pub no_parts : (world : World) (k : ℕ) → first setting.keep world.log k ≡ None → reply_of setting world k ≡ []
+  pub no_parts : (world : World) (k : ℕ) → first S setting.keep world.log k ≡ None → reply_of setting world k ≡ []
   no_parts world k none = ap (reply_from setting.device setting.keep setting.start (bytes_of (asked_at world.log k))) none
 
   -- it stays, or it had not arrived
   stays_or_none : (step : Step) (past : List Step) (k : ℕ) → (reply_of setting (world setting (step ∷ past)) k ≡ reply_of setting (world setting past) k) ⊎ (part_count setting (world setting past) k ≡ 0)
-  stays_or_none step past k = go (first setting.keep (Log past) k) refl
+  stays_or_none step past k = go (first S setting.keep (Log past) k) refl
     where
-      go : (f : Option (List Happening)) → first setting.keep (Log past) k ≡ f → (reply_of setting (world setting (step ∷ past)) k ≡ reply_of setting (world setting past) k) ⊎ (part_count setting (world setting past) k ≡ 0)
+      go : (f : Option (List Happening)) → first S setting.keep (Log past) k ≡ f → (reply_of setting (world setting (step ∷ past)) k ≡ reply_of setting (world setting past) k) ⊎ (part_count setting (world setting past) k ≡ 0)
       go None e = inr (ap piece_count (no_parts (world setting past) k e))
       go (Some place) e = inl (reply_stays step past k place e)
 
@@ -128,16 +129,16 @@ module _ {S : Type 0} (setting : Setting S) where
     pub fed : is_waiting setting (world setting steps) r ≡ true → (Stands steps r).fed ≡ came setting steps k r
     pub below : Below (part_count setting (world setting steps) k) (replies setting steps k)
     pub standing : StandingIs setting steps k (Stands steps r).course.standing
-    pub arrived : taken setting steps k ≡ true → (place : List Happening) × (first setting.keep (Log steps) k ≡ Some place)
+    pub arrived : taken setting steps k ≡ true → (place : List Happening) × (first S setting.keep (Log steps) k ≡ Some place)
 
-  pub claim_moves : (step : Step) (past : List Step) (k : ℕ) (x : Standing) → taken setting (step ∷ past) k ≡ taken setting past k → (taken setting past k ≡ true → (place : List Happening) × (first setting.keep (Log past) k ≡ Some place)) → StandingIs setting past k x → StandingIs setting (step ∷ past) k x
+  pub claim_moves : (step : Step) (past : List Step) (k : ℕ) (x : Standing) → taken setting (step ∷ past) k ≡ taken setting past k → (taken setting past k ≡ true → (place : List Happening) × (first S setting.keep (Log past) k ≡ Some place)) → StandingIs setting past k x → StandingIs setting (step ∷ past) k x
   claim_moves step past k Waiting same arrived c = same ∙ c
   claim_moves step past k GaveUp same arrived c = same ∙ c
   claim_moves step past k (Answered message) same arrived c =
       let came_in = arrived c.0 in
       (same ∙ c.0, c.1 ∙ sym (reply_stays step past k came_in.0 came_in.1))
 
-  claim_kept : (step : Step) (past : List Step) (k : ℕ) (x y : Request) → Kept x y → taken setting (step ∷ past) k ≡ taken setting past k → (taken setting past k ≡ true → (place : List Happening) × (first setting.keep (Log past) k ≡ Some place)) → StandingIs setting past k x.course.standing → StandingIs setting (step ∷ past) k y.course.standing
+  claim_kept : (step : Step) (past : List Step) (k : ℕ) (x y : Request) → Kept x y → taken setting (step ∷ past) k ≡ taken setting past k → (taken setting past k ≡ true → (place : List Happening) × (first S setting.keep (Log past) k ≡ Some place)) → StandingIs setting past k x.course.standing → StandingIs setting (step ∷ past) k y.course.standing
   claim_kept step past k x y kept same arrived c = go kept.standing
     where
       go : ((y.course.standing ≡ x.course.standing) ⊎ ((x.course.standing ≡ Waiting) × (y.course.standing ≡ GaveUp))) → StandingIs setting (step ∷ past) k y.course.standing
@@ -165,10 +166,10 @@ module _ {S : Type 0} (setting : Setting S) where
 
   nothing_comes : (w : World) (k : ℕ) (action : Action) (js : List (Option ℕ)) → asked_at w.log k ≡ None → with_delivery setting w k action js ≡ js
   nothing_comes w k (actions.Reply i j) js off =
-      let none : part_count setting w k ≡ 0 = ap piece_count (no_parts w k (first_unopened setting.keep w.log k off)) in
+      let none : part_count setting w k ≡ 0 = ap piece_count (no_parts w k (first_unopened S setting.keep w.log k off)) in
       cond-false (i == k && nat_lt j (part_count setting w k)) _ _ (and_right (i == k) _ (le-ltb j (part_count setting w k) (omega arith)))
   nothing_comes w k (actions.Busy i) js off =
-      cond-false (i == k && was_busy setting.keep w.log k) _ _ (and_right (i == k) _ (busy_opened setting.device setting.keep setting.start w.log k off))
+      cond-false (i == k && was_busy S setting.keep w.log k) _ _ (and_right (i == k) _ (busy_opened setting.device setting.keep setting.start w.log k off))
   nothing_comes w k (actions.Open e command) js off = refl
   nothing_comes w k (actions.Tick e) js off = refl
   nothing_comes w k (actions.Request i) js off = refl

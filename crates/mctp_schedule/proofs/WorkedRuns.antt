@@ -56,7 +56,7 @@ retry_entries : entries_owed setting a_retry ≡ Opened 0 ∷ fresh true done �
 unfolding request_of command_of response_of
 retry_entries = refl
 
-retry_order : firsts 1000 (world setting a_retry).log ≡ 0 ∷ []
+retry_order : firsts Device 1000 (world setting a_retry).log ≡ 0 ∷ []
 unfolding request_of command_of response_of
 retry_order = refl
 
@@ -87,7 +87,7 @@ reading_entries : entries_owed setting a_reading ≡ Opened 0 ∷ fresh false (r
 unfolding request_of command_of response_of
 reading_entries = refl
 
-reading_order : firsts 1000 (world setting a_reading).log ≡ 0 ∷ 1 ∷ []
+reading_order : firsts Device 1000 (world setting a_reading).log ≡ 0 ∷ 1 ∷ []
 unfolding request_of command_of response_of
 reading_order = refl
 
@@ -113,7 +113,7 @@ two_entries : entries_owed setting two_of_them
 unfolding request_of command_of response_of
 two_entries = refl
 
-two_order : firsts 1000 (world setting two_of_them).log ≡ 1 ∷ 0 ∷ []
+two_order : firsts Device 1000 (world setting two_of_them).log ≡ 1 ∷ 0 ∷ []
 unfolding request_of command_of response_of
 two_order = refl
 
@@ -237,7 +237,7 @@ untimely_requests : map (λ (r : EndedRequest). r.standing) (requests_after sett
 unfolding request_of command_of response_of
 untimely_requests = refl
 
-untimely_order : order 1000 (world setting untimely).log ≡ 0 ∷ 0 ∷ []
+untimely_order : order Device 1000 (world setting untimely).log ≡ 0 ∷ 0 ∷ []
 unfolding request_of command_of response_of
 untimely_order = refl
 

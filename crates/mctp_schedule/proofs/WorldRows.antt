@@ -8,7 +8,7 @@ use Rattle.pldm_wire.specs.Responses.{response_of}
 use Rattle.pldm_wire.specs.declared.size.Size.TheVariants.{Uint8}
 use Rattle.pldm_wire.specs.declared.command.Command.{Command}
 use Rattle.pldm_wire.specs.declared.command.Command.TheVariants.{GetTid, GetPdr, SetNumericEffecterValue}
-use Rattle.pldm_responder.specs.Dimmers.{dimmer_answer, dimmer_after, dimmer_sensed}
+use Rattle.pldm_responder.proofs.WorkedLight.{light_answer, light_after, light_sensed}
 use Rattle.pldm_responder.specs.Performing.{rules_of}
 use Rattle.pldm_requester.specs.Courses.{Standing, Waiting, Answered, GaveUp}
 use Rattle.mctp_schedule.specs.FirstArrivals.{order}
@@ -25,7 +25,7 @@ at moment action = record { moment = moment; action = action }
 
 abbrev setting : Setting ℤ
 setting = record {
-  device = rules_of dimmer_answer dimmer_after dimmer_sensed;
+  device = rules_of light_answer light_after light_sensed;
   start = pos 10;
   eid = 9;
   keep = 1000;
@@ -39,17 +39,17 @@ abbrev standing : List Step → Standing
 standing steps = ((requests_of setting (world setting steps) 8).each 0).course.standing
 
 abbrev performed_in : List Step → List ℕ
-performed_in steps = order 1000 (world setting steps).log
+performed_in steps = order ℤ 1000 (world setting steps).log
 
 abbrev level : List Step → ℤ
 level steps = once (setting.device) 1000 (pos 10) (world setting steps).log
 
 -- the commands that the platform performs, the newest first, and those of the first arrivals
 abbrev commands_in : List Step → List Command
-commands_in steps = commands_performed 1000 (world setting steps).log
+commands_in steps = commands_performed ℤ 1000 (world setting steps).log
 
 abbrev first_commands : List Step → List Command
-first_commands steps = commands_once 1000 (world setting steps).log
+first_commands steps = commands_once ℤ 1000 (world setting steps).log
 
 -- a request is sent again, and its answer comes
 abbrev a_retry : List Step

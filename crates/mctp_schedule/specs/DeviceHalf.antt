@@ -19,20 +19,21 @@ NoneOpenedSince =
     → q.opening + 2 * keep ≤ r.opening
 
 -- the fresh deliveries are the requests that arrived, in the order of their first arrivals, each once
-abbrev pub FreshInOrderOfFirsts : Type 0
-FreshInOrderOfFirsts =
-    (keep : ℕ) (log : List Happening) → IsTimelyLog keep log → IsOrderOfFirsts keep log (order keep log)
+abbrev pub FreshInOrderOfFirsts : Type 0 → Type 0
+FreshInOrderOfFirsts S =
+    (keep : ℕ) (log : List Happening) → IsTimelyLog keep log → IsOrderOfFirsts S keep log (order S keep log)
 
 -- while the responder serves, a delivery is fresh exactly where it is the request's first arrival, else a copy; at a
 -- copy what is kept for the source and instance ID is this request's own first message, and its time is not over
-abbrev pub FreshWhereFirst : Type 0
-FreshWhereFirst =
+abbrev pub FreshWhereFirst : Type 0 → Type 0
+FreshWhereFirst S =
     (keep : ℕ) (past : List Happening) (moment k : ℕ) (r : Asked)
-    → IsTimelyLog keep (Delivered moment k ∷ past) → asked_at past k ≡ Some r → is_busy keep (told past) moment ≡ false
-    → (is_fresh keep (told past) (message_at moment r) ≡ is_first keep past moment k)
-    × (is_copy keep (told past) (message_at moment r) ≡ not (is_first keep past moment k))
-    × ((place : List Happening) → first keep past k ≡ Some place → (p : Place)
-    × (origin keep (told past) r.source (id_at r.message) ≡ Some p) × (p.message.bytes ≡ r.message)
+    → IsTimelyLog keep (Delivered moment k ∷ past) → asked_at past k ≡ Some r
+    → is_busy keep (told {S = S} past) moment ≡ false
+    → (is_fresh keep (told {S = S} past) (message_at moment r) ≡ is_first S keep past moment k)
+    × (is_copy keep (told {S = S} past) (message_at moment r) ≡ not (is_first S keep past moment k))
+    × ((place : List Happening) → first S keep past k ≡ Some place → (p : Place S)
+    × (origin keep (told {S = S} past) r.source (id_at r.message) ≡ Some p) × (p.message.bytes ≡ r.message)
     × (moment < p.message.moment + keep))
 
 module _ {S : Type 0} (device : Rules S) where
@@ -54,7 +55,7 @@ module _ {S : Type 0} (device : Rules S) where
   abbrev pub NotPerformedAgain : Type 0
   NotPerformedAgain =
       (keep : ℕ) (start : S) (past : List Happening) (moment k : ℕ) (place : List Happening)
-      → IsTimelyLog keep (Delivered moment k ∷ past) → first keep past k ≡ Some place
+      → IsTimelyLog keep (Delivered moment k ∷ past) → first S keep past k ≡ Some place
       → performed device keep start (told (Delivered moment k ∷ past)) ≡ performed device keep start (told past)
 
   -- the latest reply that was given to a request is its one reply, once it has arrived
@@ -67,5 +68,5 @@ module _ {S : Type 0} (device : Rules S) where
   abbrev pub TheReplyFits : Type 0
   TheReplyFits =
       (keep : ℕ) (start : S) (log : List Happening) (k : ℕ) (place : List Happening) → IsTimelyLog keep log
-      → RepliesFit device keep start log → first keep log k ≡ Some place
+      → RepliesFit device keep start log → first S keep log k ≡ Some place
       → FitsPackets (the_reply device keep start log k)

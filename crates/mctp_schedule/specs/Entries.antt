@@ -55,7 +55,7 @@ module _ {S : Type 0} (setting : Setting S) where
   abbrev pub delivery_entry : List Happening → ℕ → Option Asked → Entry
   delivery_entry log moment None = Nothing
   delivery_entry log moment (Some r) =
-      Delivered (is_busy setting.keep (told log) moment)
+      Delivered (is_busy setting.keep (told {S = S} log) moment)
       (answer_owed setting.device setting.eid setting.keep setting.start (told log) (message_at moment r))
 
   abbrev pub reading_entry : List Happening → ℕ → ℤ → Entry

@@ -15,41 +15,44 @@ earlier (Some place) here past = Some place
 earlier None true past = Some past
 earlier None false past = None
 
--- what had happened before the first arrival of request k; `None` where it never arrived
-abbrev pub first : ℕ → List Happening → ℕ → Option (List Happening)
-first keep [] k = None
-first keep (Delivered moment j ∷ past) k =
-    earlier (first keep past k) (j == k && arrives (asked_at past k) (is_busy keep (told past) moment)) past
-first keep (_ ∷ past) k = first keep past k
-
 -- a delivered request that arrives now, and did not before
 abbrev pub is_first_of : Option Asked → Option (List Happening) → Bool → Bool
 is_first_of None place busy = false
 is_first_of (Some r) (Some place) busy = false
 is_first_of (Some r) None busy = not busy
 
--- a delivery of request k at this moment is its first arrival
-abbrev pub is_first : ℕ → List Happening → ℕ → ℕ → Bool
-is_first keep past moment k = is_first_of (asked_at past k) (first keep past k) (is_busy keep (told past) moment)
-
 -- a delivery of this request is fresh at the responder
-abbrev pub fresh_of : ℕ → List Event → ℕ → Option Asked → Bool
+abbrev pub fresh_of : {S : Type 0} → ℕ → List (Event S) → ℕ → Option Asked → Bool
 fresh_of keep events moment None = false
 fresh_of keep events moment (Some r) = is_fresh keep events (message_at moment r)
 
--- the requests whose deliveries were fresh at the responder, the oldest first
-abbrev pub order : ℕ → List Happening → List ℕ
-order keep [] = []
-order keep (Delivered moment k ∷ past) =
-    if fresh_of keep (told past) moment (asked_at past k) then order keep past ++ k ∷ [] else order keep past
-order keep (_ ∷ past) = order keep past
+-- over a device with states S
+module _ (S : Type 0) where
+  -- what had happened before the first arrival of request k; `None` where it never arrived
+  abbrev pub first : ℕ → List Happening → ℕ → Option (List Happening)
+  first keep [] k = None
+  first keep (Delivered moment j ∷ past) k =
+      earlier (first keep past k) (j == k && arrives (asked_at past k) (is_busy keep (told {S = S} past) moment)) past
+  first keep (_ ∷ past) k = first keep past k
 
--- the requests that arrived, each at its first arrival, the oldest first
-abbrev pub firsts : ℕ → List Happening → List ℕ
-firsts keep [] = []
-firsts keep (Delivered moment k ∷ past) =
-    if is_first keep past moment k then firsts keep past ++ k ∷ [] else firsts keep past
-firsts keep (_ ∷ past) = firsts keep past
+  -- a delivery of request k at this moment is its first arrival
+  abbrev pub is_first : ℕ → List Happening → ℕ → ℕ → Bool
+  is_first keep past moment k =
+      is_first_of (asked_at past k) (first keep past k) (is_busy keep (told {S = S} past) moment)
+
+  -- the requests whose deliveries were fresh at the responder, the oldest first
+  abbrev pub order : ℕ → List Happening → List ℕ
+  order keep [] = []
+  order keep (Delivered moment k ∷ past) =
+      if fresh_of keep (told {S = S} past) moment (asked_at past k) then order keep past ++ k ∷ [] else order keep past
+  order keep (_ ∷ past) = order keep past
+
+  -- the requests that arrived, each at its first arrival, the oldest first
+  abbrev pub firsts : ℕ → List Happening → List ℕ
+  firsts keep [] = []
+  firsts keep (Delivered moment k ∷ past) =
+      if is_first keep past moment k then firsts keep past ++ k ∷ [] else firsts keep past
+  firsts keep (_ ∷ past) = firsts keep past
 
 -- one first arrival came before another
 abbrev pub IsSooner : Option (List Happening) → Option (List Happening) → Type 0
@@ -58,8 +61,8 @@ IsSooner (Some p) None = ⊥
 IsSooner None q = ⊥
 
 -- these numbers are the requests that arrived, in the order of their first arrivals, each once
-pub record IsOrderOfFirsts (keep : ℕ) (log : List Happening) (numbers : List ℕ) : Type 0 where
-  pub has : (k : ℕ) → list_any (λ n. n == k) numbers ≡ is_some (first keep log k)
+pub record IsOrderOfFirsts (S : Type 0) (keep : ℕ) (log : List Happening) (numbers : List ℕ) : Type 0 where
+  pub has : (k : ℕ) → list_any (λ n. n == k) numbers ≡ is_some (first S keep log k)
   pub rises : (i n j k : ℕ) → i < n → slice_get numbers i ≡ Some j → slice_get numbers n ≡ Some k
-      → IsSooner (first keep log j) (first keep log k)
+      → IsSooner (first S keep log j) (first S keep log k)
   pub once : (i n k : ℕ) → slice_get numbers i ≡ Some k → slice_get numbers n ≡ Some k → i ≡ n

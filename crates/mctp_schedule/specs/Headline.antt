@@ -34,7 +34,7 @@ module _ {S : Type 0} (setting : Setting S) where
   delivery_owes past moment k None = Nothing
   delivery_owes past moment k (Some r) =
       let log = (world setting past).log in
-      Delivered (is_busy setting.keep (told log) moment)
+      Delivered (is_busy setting.keep (told {S = S} log) moment)
       (delivery_owed setting.device setting.keep setting.start setting.eid log moment k r)
 
   -- what the entry of an action owes after these steps; what an open and a tick owe is told by their requester's calls
@@ -69,6 +69,6 @@ module _ {S : Type 0} (setting : Setting S) where
       : Type 0 where
     pub each_step : entries ≡ entries_owed steps
     pub each_request : (k : ℕ) (r : Asked) → asked_at (world setting steps).log k ≡ Some r → IsTold steps k r requests
-    pub performed_in_order : IsOrderOfFirsts setting.keep (world setting steps).log order
+    pub performed_in_order : IsOrderOfFirsts S setting.keep (world setting steps).log order
     pub performed_once : state ≡ state_once steps
-    pub each_command_once : Performed (commands_once setting.keep (world setting steps).log)
+    pub each_command_once : Performed (commands_once S setting.keep (world setting steps).log)

@@ -47,18 +47,20 @@ asked_at (_ ∷ past) k = asked_at past k
 abbrev pub message_at : ℕ → Asked → Message
 message_at moment r = record { source = r.source; tag = r.own % TAGS; moment = moment; bytes = r.message }
 
--- a request that was never opened brings nothing
-abbrev pub told_of : ℕ → Option Asked → List Event → List Event
-told_of moment None events = events
-told_of moment (Some r) events = Came (message_at moment r) ∷ events
+-- over a device of any state: nothing that happens on the link changes it from outside
+module _ {S : Type 0} where
+  -- a request that was never opened brings nothing
+  abbrev pub told_of : ℕ → Option Asked → List (Event S) → List (Event S)
+  told_of moment None events = events
+  told_of moment (Some r) events = Came (message_at moment r) ∷ events
 
--- what reached the responder
-abbrev pub told : List Happening → List Event
-told [] = []
-told (Opened r ∷ past) = told past
-told (Delivered moment k ∷ past) = told_of moment (asked_at past k) (told past)
-told (Sensed moment id value ∷ past) = Set id value ∷ told past
-told (WentDown moment ∷ past) = Restarted moment ∷ told past
+  -- what reached the responder
+  abbrev pub told : List Happening → List (Event S)
+  told [] = []
+  told (Opened r ∷ past) = told past
+  told (Delivered moment k ∷ past) = told_of moment (asked_at past k) (told past)
+  told (Sensed moment id value ∷ past) = Set id value ∷ told past
+  told (WentDown moment ∷ past) = Restarted moment ∷ told past
 
 -- moments never go back
 abbrev pub InOrder : List Happening → Type 0

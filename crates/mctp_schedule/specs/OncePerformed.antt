@@ -38,7 +38,7 @@ module _ {S : Type 0} (device : Rules S) (keep : ℕ) (start : S) where
   once [] = start
   once (Sensed _ id value ∷ past) = changed_or (once past) (device.sensed (once past) id value)
   once (Delivered moment k ∷ past) =
-      if is_first keep past moment k then next device (once past) (bytes_of (asked_at past k)) else once past
+      if is_first S keep past moment k then next device (once past) (bytes_of (asked_at past k)) else once past
   once (_ ∷ past) = once past
 
   abbrev pub reply_from : List ℕ → Option (List Happening) → List ℕ
@@ -47,13 +47,13 @@ module _ {S : Type 0} (device : Rules S) (keep : ℕ) (start : S) where
 
   -- the one reply of request k: what performing it at its first arrival answers
   abbrev pub the_reply : List Happening → ℕ → List ℕ
-  the_reply log k = reply_from (bytes_of (asked_at log k)) (first keep log k)
+  the_reply log k = reply_from (bytes_of (asked_at log k)) (first S keep log k)
 
   -- each reply that the device made fits packets: those to fresh deliveries, in the states that it was in
   abbrev pub RepliesFit : List Happening → Type 0
   RepliesFit [] = Unit {0}
   RepliesFit (Delivered moment k ∷ past) =
-      ((r : Asked) → asked_at past k ≡ Some r → is_fresh keep (told past) (message_at moment r) ≡ true
+      ((r : Asked) → asked_at past k ≡ Some r → is_fresh keep (told {S = S} past) (message_at moment r) ≡ true
       → FitsPackets (reply device (performed device keep start (told past)) r.message))
       × RepliesFit past
   RepliesFit (_ ∷ past) = RepliesFit past
@@ -66,7 +66,7 @@ module _ {S : Type 0} (device : Rules S) (keep : ℕ) (start : S) where
   abbrev pub given : List Happening → ℕ → Option (List ℕ)
   given [] k = None
   given (Delivered moment j ∷ past) k =
-      if j == k && arrives (asked_at past k) (is_busy keep (told past) moment)
+      if j == k && arrives (asked_at past k) (is_busy keep (told {S = S} past) moment)
       then Some (answered_to moment past (asked_at past k))
       else given past k
   given (_ ∷ past) k = given past k
@@ -77,22 +77,25 @@ module _ {S : Type 0} (device : Rules S) (keep : ℕ) (start : S) where
 
   -- the one reply of request k, where it has arrived
   abbrev pub given_once : List Happening → ℕ → Option (List ℕ)
-  given_once log k = reply_at_first log k (first keep log k)
+  given_once log k = reply_at_first log k (first S keep log k)
 
   -- what the responder at the endpoint `own` owes to a delivery of request k, which is r, at this moment: a busy
   -- answer of code 4 after a restart, else the one reply, told as fresh at its first arrival and as a copy later
   abbrev pub delivery_owed : ℕ → List Happening → ℕ → ℕ → Asked → Outcome
   delivery_owed own past moment k r =
-      if is_busy keep (told past) moment
+      if is_busy keep (told {S = S} past) moment
       then Answered false false (packets_back own (message_at moment r) (busy_reply r.message))
-      else if is_first keep past moment k
+      else if is_first S keep past moment k
       then Answered true (changes device (once past) r.message)
       (packets_back own (message_at moment r) (the_reply (Delivered moment k ∷ past) k))
       else Answered false false (packets_back own (message_at moment r) (the_reply (Delivered moment k ∷ past) k))
 
--- a busy answer was given to request k
-abbrev pub was_busy : ℕ → List Happening → ℕ → Bool
-was_busy keep [] k = false
-was_busy keep (Delivered moment j ∷ past) k =
-    if j == k && arrives (asked_at past k) (not (is_busy keep (told past) moment)) then true else was_busy keep past k
-was_busy keep (_ ∷ past) k = was_busy keep past k
+-- over a device with states S
+module _ (S : Type 0) where
+  -- a busy answer was given to request k
+  abbrev pub was_busy : ℕ → List Happening → ℕ → Bool
+  was_busy keep [] k = false
+  was_busy keep (Delivered moment j ∷ past) k =
+      if j == k && arrives (asked_at past k) (not (is_busy keep (told {S = S} past) moment)) then true
+      else was_busy keep past k
+  was_busy keep (_ ∷ past) k = was_busy keep past k

@@ -14,31 +14,33 @@ commands_if performed None = []
 commands_if false (Some r) = []
 commands_if true (Some r) = commands_of r.message
 
--- the commands that the device performs at a delivery of request k
-abbrev pub commands_at_delivery : ℕ → List Happening → ℕ → ℕ → List Command
-commands_at_delivery keep past moment k =
-    commands_if (fresh_of keep (told past) moment (asked_at past k)) (asked_at past k)
+-- over a device with states S
+module _ (S : Type 0) where
+  -- the commands that the device performs at a delivery of request k
+  abbrev pub commands_at_delivery : ℕ → List Happening → ℕ → ℕ → List Command
+  commands_at_delivery keep past moment k =
+      commands_if (fresh_of keep (told {S = S} past) moment (asked_at past k)) (asked_at past k)
 
--- all that it performed
-abbrev pub commands_performed : ℕ → List Happening → List Command
-commands_performed keep [] = []
-commands_performed keep (Delivered moment k ∷ past) =
-    commands_at_delivery keep past moment k ++ commands_performed keep past
-commands_performed keep (_ ∷ past) = commands_performed keep past
+  -- all that it performed
+  abbrev pub commands_performed : ℕ → List Happening → List Command
+  commands_performed keep [] = []
+  commands_performed keep (Delivered moment k ∷ past) =
+      commands_at_delivery keep past moment k ++ commands_performed keep past
+  commands_performed keep (_ ∷ past) = commands_performed keep past
 
--- what it performs where each request that arrived is performed once, at its first arrival
-abbrev pub commands_once : ℕ → List Happening → List Command
-commands_once keep [] = []
-commands_once keep (Delivered moment k ∷ past) =
-    commands_if (is_first keep past moment k) (asked_at past k) ++ commands_once keep past
-commands_once keep (_ ∷ past) = commands_once keep past
+  -- what it performs where each request that arrived is performed once, at its first arrival
+  abbrev pub commands_once : ℕ → List Happening → List Command
+  commands_once keep [] = []
+  commands_once keep (Delivered moment k ∷ past) =
+      commands_if (is_first S keep past moment k) (asked_at past k) ++ commands_once keep past
+  commands_once keep (_ ∷ past) = commands_once keep past
 
--- the commands that a step has performed after what happened on the link: a delivery alone performs any
-abbrev pub commands_at_step : ℕ → List Happening → ℕ → Action → List Command
-commands_at_step keep log moment (Request k) = commands_at_delivery keep log moment k
-commands_at_step keep log moment (Open e command) = []
-commands_at_step keep log moment (Tick e) = []
-commands_at_step keep log moment (Reply k j) = []
-commands_at_step keep log moment (Sense id value) = []
-commands_at_step keep log moment Restart = []
-commands_at_step keep log moment (Busy k) = []
+  -- the commands that a step has performed after what happened on the link: a delivery alone performs any
+  abbrev pub commands_at_step : ℕ → List Happening → ℕ → Action → List Command
+  commands_at_step keep log moment (Request k) = commands_at_delivery keep log moment k
+  commands_at_step keep log moment (Open e command) = []
+  commands_at_step keep log moment (Tick e) = []
+  commands_at_step keep log moment (Reply k j) = []
+  commands_at_step keep log moment (Sense id value) = []
+  commands_at_step keep log moment Restart = []
+  commands_at_step keep log moment (Busy k) = []

@@ -29,11 +29,11 @@ pub record IsReport {S : Type 0}
   -- each request that was opened, and how it ended
   pub each_request : report.requests ≡ requests_after setting (world setting steps)
   -- the requests that were performed, in their order
-  pub in_order : report.order ≡ order setting.keep (world setting steps).log
+  pub in_order : report.order ≡ order S setting.keep (world setting steps).log
   -- the state that performing them leaves
   pub state : report.device ≡ performed setting.device setting.keep setting.start (told (world setting steps).log)
   -- their commands, and no others, were performed on the platform itself
-  pub commands : has_performed (commands_performed setting.keep (world setting steps).log)
+  pub commands : has_performed (commands_performed S setting.keep (world setting steps).log)
   -- whether the schedule was timely
   pub tested : report.timely ≡ is_timely setting steps
   -- the headline

@@ -35,11 +35,11 @@ pub record IsTimelySchedule {S : Type 0} (setting : Setting S) (steps : List Ste
 pub record WasPerformedOnce {S : Type 0}
     (setting : Setting S) (steps : List Step) (k : ℕ) (r : Asked) (message : List ℕ) : Type 0 where
   pub place : List Happening
-  pub arrived : first setting.keep (world setting steps).log k ≡ Some place
+  pub arrived : first S setting.keep (world setting steps).log k ≡ Some place
   pub answer : message ≡ reply setting.device (once setting.device setting.keep setting.start place) r.message
   pub index : ℕ
-  pub listed : slice_get (order setting.keep (world setting steps).log) index ≡ Some k
-  pub only : (i : ℕ) → slice_get (order setting.keep (world setting steps).log) i ≡ Some k → i ≡ index
+  pub listed : slice_get (order S setting.keep (world setting steps).log) index ≡ Some k
+  pub only : (i : ℕ) → slice_get (order S setting.keep (world setting steps).log) i ≡ Some k → i ≡ index
 
 module _ {S : Type 0} (setting : Setting S) where
   -- what came to an open request are the packets that were delivered to it: of its one reply, and busy answers

@@ -27,13 +27,13 @@ use Rattle.schedule_text.specs.declared.step.Action.TheVariants.{Busy, Reply}
 use Rattle.schedule_text.specs.declared.step.Step.{Step}
 
 -- the packet of a request comes to the responder; a request that was never opened has none
-abbrev pub received : ℕ → ℕ → Option Asked → List responder.Call → List responder.Call
+abbrev pub received : {S : Type 0} → ℕ → ℕ → Option Asked → List (responder.Call S) → List (responder.Call S)
 received eid moment None calls = calls
 received eid moment (Some r) calls =
     responder.Received moment (packet_bytes r.source eid r.own r.message) ∷ calls
 
 -- the calls of the responder at the endpoint `eid`
-abbrev pub device_calls : ℕ → List Happening → List responder.Call
+abbrev pub device_calls : {S : Type 0} → ℕ → List Happening → List (responder.Call S)
 device_calls eid [] = []
 device_calls eid (Opened r ∷ past) = device_calls eid past
 device_calls eid (Delivered moment k ∷ past) = received eid moment (asked_at past k) (device_calls eid past)
@@ -67,7 +67,7 @@ pub record IsDevice {P S : Type 0}
   pub left :
       responder_laws.IsLeftBy setting.device setting.eid setting.keep setting.start
       (responder_stations.held_of station) (device_calls setting.eid w.log)
-  pub events : responder.events setting.eid (device_calls setting.eid w.log) ≡ told w.log
+  pub events : responder.events setting.eid (device_calls setting.eid w.log) ≡ told {S = S} w.log
   pub called : (responder_stations.held_of station).last ≤ now
 
 abbrev pub IsBefore : ℕ → Option ℕ → Type 0
@@ -84,7 +84,7 @@ pub record IsCarried {S : Type 0}
   pub packet : carried.packet ≡ packet_bytes r.source setting.eid r.own r.message
   pub reply : packets_in entries carried.reply
       ≡ option_map (answer_packets setting.eid r) (given setting.device setting.keep setting.start w.log k)
-  pub busy : packets_in entries carried.busy ≡ busy_packets setting.eid r (was_busy setting.keep w.log k)
+  pub busy : packets_in entries carried.busy ≡ busy_packets setting.eid r (was_busy S setting.keep w.log k)
   pub reply_place : IsBefore (length entries) carried.reply
   pub busy_place : IsBefore (length entries) carried.busy
 
@@ -106,7 +106,7 @@ pub record IsRunning {P S : Type 0}
       × IsCarried setting (world setting past) journal.entries.items k r carried
   pub carried : length journal.traffic.items ≡ count_of (world setting past).log
   pub entries : journal.entries.items ≡ entries setting past
-  pub order : journal.order.items ≡ order setting.keep (world setting past).log
+  pub order : journal.order.items ≡ order S setting.keep (world setting past).log
   pub timely : journal.timely ≡ is_timely setting past
   pub sent : AreRequests (world setting past).log
   pub fit : RepliesFit setting.device setting.keep setting.start (world setting past).log
@@ -165,4 +165,5 @@ module _ {P S : Type 0} (device : Rules S) (keep : ℕ) where
       → IsRunning (setting_of device terms) past keep old_station old_places old_journal
       → MayCome terms.requesters past step
       → performed old_station.platform
-      (commands_at_step terms.keep (world (setting_of device terms) past).log step.moment step.action) station.platform
+      (commands_at_step S terms.keep (world (setting_of device terms) past).log step.moment step.action)
+      station.platform

@@ -52,7 +52,7 @@ module _ {S : Type 0} (setting : Setting S) where
   with_delivery world k (Reply i j) deliveries =
       if i == k && nat_lt j (part_count world k) then Some j ∷ deliveries else deliveries
   with_delivery world k (Busy i) deliveries =
-      if i == k && was_busy setting.keep world.log k then None ∷ deliveries else deliveries
+      if i == k && was_busy S setting.keep world.log k then None ∷ deliveries else deliveries
   with_delivery world k _ deliveries = deliveries
 
   -- the deliveries to request k that brought something: `Some j` for packet j of its reply, `None` for a busy answer
@@ -123,7 +123,7 @@ module _ {S : Type 0} (setting : Setting S) where
   abbrev pub busy_owed_to : List Step → ℕ → Option Asked → Option Got
   busy_owed_to past k None = None
   busy_owed_to past k (Some r) =
-      if was_busy setting.keep (world setting past).log k
+      if was_busy S setting.keep (world setting past).log k
       then Some (if_waiting past r (got.Dropped NotReady))
       else None
 

@@ -86,7 +86,7 @@ module _ {S : Type 0} (setting : Setting S) where
 
   -- the packet of the latest busy answer that the device gave to request k; `None` where there is none
   abbrev pub busy_packet : World → ℕ → Option (List ℕ)
-  busy_packet world k = busy_from (asked_at world.log k) (was_busy setting.keep world.log k)
+  busy_packet world k = busy_from (asked_at world.log k) (was_busy S setting.keep world.log k)
 
   -- a packet is handed to the requester at an endpoint; none changes nothing
   abbrev pub handed : World → ℕ → ℕ → Option (List ℕ) → World

@@ -83,7 +83,7 @@ pub fn run<P: Platform>(
 {
     pldm_responder::laws::looks_back::<P>();
     pldm_requester::laws::looks_back();
-    fresh_deliveries_are_first();
+    fresh_deliveries_are_first::<P>();
     performs_once::<P>();
     logs_are_timely::<P>();
     requesters_take_the_one_reply::<P>();

@@ -11,10 +11,10 @@ pub use schedule_text::laws::lines_are_read_as_spelled;
 
 /// Over a timely log a request's deliveries end before its instance ID is used again, each is fresh
 /// exactly where it is the first, and the fresh ones come in the order of first arrivals.
-pub fn fresh_deliveries_are_first()
+pub fn fresh_deliveries_are_first<P: Platform>()
     ensures none_since { NoneOpenedSince }
-    ensures fresh { FreshWhereFirst }
-    ensures order { FreshInOrderOfFirsts }
+    ensures fresh { FreshWhereFirst P.State }
+    ensures order { FreshInOrderOfFirsts P.State }
 {}
 
 /// Over a timely log the responder's state is that of performing each request once, at its first

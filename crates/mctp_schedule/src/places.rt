@@ -34,7 +34,8 @@ pub(crate) fn begin_requesters(
     requires { AreDistinct lines.now }
     ensures ok { IfOk result (λ places. refusal device keep lines.now ≡ None) }
     ensures begin { IfOk result (λ places. BeginEach device keep lines.now places.items) }
-    ensures err { IfErr result (λ fault. (fault ≡ RunFault.Memory out_of_memory) ⊎ (refusal device keep lines.now ≡ Some fault)) }
+    ensures err { IfErr result (λ fault.
+        (fault ≡ RunFault.Memory out_of_memory) ⊎ (refusal device keep lines.now ≡ Some fault)) }
 {
     let mut places = empty_places(alloc)?;
     for line in lines {

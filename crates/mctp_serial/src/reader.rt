@@ -78,7 +78,8 @@ fn after_end(byte: u8) -> Place
 
 /// The place after this byte, for which the bytes since the last flag are no frame.
 fn drop(fault: FrameFault, byte: u8) -> (Place, Told)
-    ensures reading { (bytes : List ℕ) → drops fault byte ≡ record { told = result.1; next = reading_of result.0 bytes } }
+    ensures reading { (bytes : List ℕ)
+        → drops fault byte ≡ record { told = result.1; next = reading_of result.0 bytes } }
     ensures room { (bytes : List ℕ) → HasRoom result.0 bytes }
 {
     (after_end(byte), Told::Dropped(fault))
@@ -86,7 +87,8 @@ fn drop(fault: FrameFault, byte: u8) -> (Place, Told)
 
 /// Takes the byte after a flag.
 fn take_revision(byte: u8) -> (Place, Told)
-    ensures reading { (bytes : List ℕ) → step opened byte ≡ record { told = result.1; next = reading_of result.0 bytes } }
+    ensures reading { (bytes : List ℕ)
+        → step opened byte ≡ record { told = result.1; next = reading_of result.0 bytes } }
     ensures room { (bytes : List ℕ) → HasRoom result.0 bytes }
 {
     match byte {

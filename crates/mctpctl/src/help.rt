@@ -2,7 +2,7 @@
 
 /// What `--version` says after the program's name: its own version, and the toolchain that it is proved
 /// and built with.
-pub const VERSION: &str = "1.0.0 (rattle-kit-13b logic dac8208d650f15bf)";
+pub const VERSION: &str = "1.0.0 (rattle-kit-13f logic dac8208d650f15bf)";
 
 /// What `--explain` does.
 pub const EXPLAIN: &str =
@@ -58,7 +58,7 @@ Exit status:
 pub const RUN: &str = "\
 Input, from standard input: a device description in TOML, a line '%%', and a schedule of
 what is delivered between requesters and the device. Nothing else is, so what no line
-delivers is lost. A schedule has these lines, and '#' begins a comment:
+delivers is lost. A line that begins with '#' is a comment. A schedule has these lines:
 
   requester EID timeout MS tries N   a requester, and when it sends a request again
   at MS open EID COMMAND             it opens a request; requests are numbered from 0

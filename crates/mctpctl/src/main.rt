@@ -1,5 +1,5 @@
-//! `mctpctl` answers captures of MCTP packets as a simulated PLDM device would, runs
-//! requesters and the device over a schedule, and shows what packets say.
+//! `mctpctl` answers captures of MCTP packets as a simulated PLDM device would, serves the device on
+//! a serial line, runs requesters and the device over a schedule, and shows what packets say.
 #![tactic(auto)]
 
 mod choose;

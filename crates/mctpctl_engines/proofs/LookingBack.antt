@@ -20,11 +20,11 @@ use Rattle.pldm_responder.specs.Held.{Held, held_at_first}
 use Rattle.pldm_responder.specs.Steps.{received_outcome, received_held}
 
 -- what is held is what the calls of the described device's responder leave
-abbrev IsLeft : Description → Held Device → List Call → Type 0
+abbrev IsLeft : Description → Held Device → List (Call Device) → Type 0
 IsLeft d held calls = IsLeftBy simulated d.eid d.keep d.device held calls
 
 module _ (received : ReceivedLooksBack simulated) where
-  same_step : (d : Description) (held : Held Device) (calls : List Call) (line : List ℕ) → IsLeft d held calls → SameStep (IsLeft d) (held_step held line) (called_step d calls line)
+  same_step : (d : Description) (held : Held Device) (calls : List (Call Device)) (line : List ℕ) → IsLeft d held calls → SameStep (IsLeft d) (held_step held line) (called_step d calls line)
   same_step d =
       same_capture_step (λ held. held.last) (λ held moment bytes. outcome_text (received_outcome simulated held moment bytes)) (received_held simulated)
       last_moment (λ calls moment bytes. outcome_text (outcome simulated d.eid d.keep d.device calls moment bytes)) with_packet (IsLeft d) (record {

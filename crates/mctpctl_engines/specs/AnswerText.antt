@@ -48,11 +48,11 @@ module _ (run : Description → Bool → List (List ℕ) → Written) where
 abbrev pub simulated : Rules Device
 simulated = rules_of answer after sensed
 
-abbrev pub with_packet : List Call → ℕ → List ℕ → List Call
+abbrev pub with_packet : {S : Type 0} → List (Call S) → ℕ → List ℕ → List (Call S)
 with_packet calls moment bytes = Received moment bytes ∷ calls
 
 -- what one line gives, by looking back over all packets that came
-abbrev pub called_step : Description → List Call → List ℕ → Result (List ℕ × List Call) LineKind
+abbrev pub called_step : Description → List (Call Device) → List ℕ → Result (List ℕ × List (Call Device)) LineKind
 called_step description =
     step last_moment (outcome simulated description.eid description.keep description.device) with_packet
 

@@ -48,7 +48,8 @@ abbrev pub text_of : Description → Spelled → List ℕ
 text_of description schedule =
     let setting = setting_of description schedule in
     report_text schedule.steps (entries setting (newest_first schedule))
-    (requests_after setting (final_world setting schedule)) (order description.keep (final_world setting schedule).log)
+    (requests_after setting (final_world setting schedule))
+    (order Device description.keep (final_world setting schedule).log)
     (device_text (final_state setting schedule)) (is_timely setting (newest_first schedule))
 
 -- a run is not begun where a requester is refused

@@ -9,7 +9,7 @@ use std::io;
 use std::io::{Error, ErrorKind, Read, Write};
 
 /// Passes reads, writes and flushes on to a reader or writer, unchanged and once each: no call is
-/// tried again, whatever its error.
+/// tried again, whatever its error. (That it is once each is tested; no clause says it.)
 #[derive(Drop)]
 pub struct Port<T> {
     inner: T,

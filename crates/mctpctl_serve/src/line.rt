@@ -58,7 +58,8 @@ fn moment_after(last: Moment, reading: u64) -> Moment
 /// Writes an answer whole, and flushes it.
 fn send<W: Write>(frames: &[u8], writer: &mut Port<W>) -> Result<(), ServeFault>
     requires { has_failed writer.old ≡ false }
-    ensures bytes { OnOk result (Appends (W.contents (inner_of writer.old)) (W.contents (inner_of writer.new)) frames.now) }
+    ensures bytes { OnOk result
+        (Appends (W.contents (inner_of writer.old)) (W.contents (inner_of writer.new)) frames.now) }
     ensures fault { IfErr result (λ fault. fault ≡ ServeFault.Write) }
     ensures write { IsErrOf result ServeFault.Write ↔ (has_failed writer.new ≡ true) }
 {

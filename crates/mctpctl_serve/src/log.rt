@@ -27,7 +27,7 @@ impl<W: Write> TextLog<W> {
         self.port.is_some() && !self.failed
     }
 
-    /// Adds a text. Where memory was wanting for it, this is the failure.
+    /// Adds a text. Where there was no memory for it, that is the failure.
     fn add(&mut self, text: Result<String, Memory>)
         ensures text { IfOk text (λ text. self.new.failed ≡ false → Appends (port_contents W.contents self.old.port)
             (port_contents W.contents self.new.port) (string_bytes text)) }

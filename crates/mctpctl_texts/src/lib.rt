@@ -1,4 +1,5 @@
-//! The texts that `mctpctl` writes: the outcome of a packet, a packet and a message that are shown, the report of a run.
+//! The texts that `mctpctl` writes: the outcome of a packet, a packet and a message that are shown, and the report of
+//! a run.
 #![tactic(auto)]
 
 mod bytes_text;

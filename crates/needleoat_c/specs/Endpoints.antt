@@ -10,6 +10,7 @@ use Rattle.pldm_wire.specs.Kinds.{TypeAndCommand}
 use Rattle.pldm_wire.specs.declared.answer.Answer.{Answer}
 use Rattle.pldm_wire.specs.declared.assigned.TheConstants.{INSTANCE_IDS}
 use Rattle.pldm_wire.specs.declared.command.Command.{Command}
+use Rattle.pldm_responder.specs.Answering.{answering}
 use Rattle.pldm_responder.specs.Asked.{gives}
 use Rattle.pldm_responder.specs.Held.{Held, IsHeld}
 use Rattle.pldm_responder.specs.Stations.{held_of}
@@ -17,6 +18,7 @@ use Rattle.pldm_responder.specs.Steps.{received_commands, received_held, receive
 use Rattle.pldm_responder.specs.Wants.{WantsMemory}
 use Rattle.pldm_responder.specs.declared.bounds.Bounds.{Bounds}
 use Rattle.pldm_responder.specs.declared.outcome.Outcome.{Outcome}
+use Rattle.pldm_responder.specs.declared.outcome.Taken.{Taken}
 use Rattle.pldm_responder.specs.declared.outcome.Outcome.TheVariants.{Dropped, Partial, Answered}
 use Rattle.pldm_endpoint.specs.Refusing.{is_copy_of_asked}
 use Rattle.pldm_endpoint.specs.TwoSteps.{asks_after, bare, held_at_first, left_by, received_step}
@@ -199,12 +201,13 @@ given_to command fields =
 
 -- the outcome is the responder's, for a platform that gives this answer, at the packet and moment of the asking
 
-abbrev pub ReportsGiven : Result Answer ℕ → Asked → StepReport → List (List ℕ) → Held (List ℕ) → Type 0
+abbrev pub ReportsGiven : {S : Type 0} → Result Answer ℕ → Asked → StepReport → List (List ℕ) → Held S → Type 0
 ReportsGiven (Ok given) a r rooms held =
     ReportsOutcome (received_outcome (gives given) (bare held) a.moment a.packet.items) r rooms
 ReportsGiven (Err number) a r rooms held = IsRefused number r
 
-abbrev pub ReportsAnswerTo : Option Asked → AnswerFields → StepReport → List (List ℕ) → Held (List ℕ) → Type 0
+abbrev pub ReportsAnswerTo :
+    {S : Type 0} → Option Asked → AnswerFields → StepReport → List (List ℕ) → Held S → Type 0
 ReportsAnswerTo None fields r rooms held = IsRefused OUT_OF_TURN r
 ReportsAnswerTo (Some a) fields r rooms held = ReportsGiven (given_to a.command fields) a r rooms held
 
@@ -212,13 +215,24 @@ abbrev pub ReportsAnswer : AnswerFields → StepReport → List (List ℕ) → O
 ReportsAnswer fields r rooms None = IsRefused NOTHING_THERE r
 ReportsAnswer fields r rooms (Some inside) = ReportsAnswerTo inside.asks fields r rooms (held_of inside.station)
 
+-- the report of an answer that was handed in: of what it gave, with the packets of `reply`, or of why it was refused
+abbrev pub ReportsHandedIn : List ℕ → Result Taken ℕ → StepReport → List (List ℕ) → Type 0
+ReportsHandedIn reply (Ok taken) r rooms = ReportsOutcome (answering reply taken) r rooms
+ReportsHandedIn reply (Err number) r rooms = IsRefused number r
+
+-- whatever the report of this is, it is one of the answer
+abbrev pub IsReportedSo : List ℕ → Result Taken ℕ → AnswerFields → Inside → Type 0
+IsReportedSo reply given fields inside =
+    (r : StepReport) (rooms : List (List ℕ))
+    → ReportsHandedIn reply given r rooms → ReportsAnswer fields r rooms (Some inside)
+
 -- and so is what is held then
 
-abbrev pub left_by_given : Result Answer ℕ → Asked → Held (List ℕ) → Held (Unit {0})
+abbrev pub left_by_given : {S : Type 0} → Result Answer ℕ → Asked → Held S → Held (Unit {0})
 left_by_given (Ok given) a held = received_held (gives given) (bare held) a.moment a.packet.items
 left_by_given (Err number) a held = bare held
 
-abbrev pub left_by_answer : Option Asked → AnswerFields → Held (List ℕ) → Held (Unit {0})
+abbrev pub left_by_answer : {S : Type 0} → Option Asked → AnswerFields → Held S → Held (Unit {0})
 left_by_answer None fields held = bare held
 left_by_answer (Some a) fields held = left_by_given (given_to a.command fields) a held
 

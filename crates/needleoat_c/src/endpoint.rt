@@ -1,6 +1,6 @@
 //! The work of each call on the endpoint behind a handle.
 
-ghost use Rattle.std.specs.Prelude.{◌≡◌, ◌≤◌, Some, Ok, Err, IfErr, IfSome, IsSome, OnOk, is_some, slice_get};
+ghost use Rattle.std.specs.Prelude.{◌≡◌, ◌≤◌, None, Some, Ok, Err, IfErr, IfSome, IsSome, OnOk, OnErr, is_some, slice_get};
 ghost use Rattle.mctp_packet.specs.Pieces.{written_packets};
 ghost use Rattle.pldm_wire.specs.Answers.{IsAnswerTo};
 ghost use Rattle.pldm_wire.specs.Commands.{kind_of};
@@ -8,7 +8,7 @@ ghost use Rattle.pldm_responder.specs.Answering.{answering};
 ghost use Rattle.pldm_responder.specs.Held.{IsHeld};
 ghost use Rattle.pldm_responder.specs.Stations.{held_of};
 ghost use Rattle.pldm_endpoint.specs.TwoSteps.{bare};
-ghost use Rattle.needleoat_c.specs.Endpoints.{AreOf, ArePackets, HasCommand, IsInFront, IsNew, ReportsAnswer, ReportsOutcome, ReportsPacketIn, answered_by, asked_after, asked_by, forgotten_by, given_to, is_next, received_by, refusal_at, restarted_by, started};
+ghost use Rattle.needleoat_c.specs.Endpoints.{AreOf, ArePackets, HasCommand, IsInFront, IsNew, IsReportedSo, ReportsHandedIn, ReportsOutcome, ReportsPacketIn, answered_by, asked_by, forgotten_by, given_to, is_next, received_by, refusal_at, restarted_by, started};
 
 use crate::refusals::{
     BAD_MOMENT, BEING_PERFORMED, NO_MEMORY, NOT_ITS_ANSWER, OUT_OF_RANGE, OUT_OF_TURN,
@@ -110,28 +110,43 @@ fn put_command(endpoint: &Endpoint, fields: &mut CommandFields)
     }
 }
 
-/// Hands in the device's answer.
+/// Hands in the device's answer. The message that answers the request is put into `reply`. An `Err` has the number that
+/// says why the answer was refused.
 pub(crate) fn answer(
     endpoint: &mut Endpoint,
     fields: &AnswerFields,
-    packets: &mut [[u8; MAX_PACKET_BYTES]; MAX_PACKETS],
-) -> StepReport
-    ensures report { ReportsAnswer fields.now result packets.new (Some endpoint.old) }
+    reply: &mut Body,
+) -> Result<Taken, u8>
+    ensures report { IsReportedSo reply.new.items result fields.now endpoint.old }
     ensures held { IsHeld (bare (held_of endpoint.new.station)) (answered_by fields.now endpoint.old) }
     ensures bounds { endpoint.new.station.bounds ≡ endpoint.old.station.bounds }
-    ensures asks { endpoint.new.asks ≡ asked_after result.kind endpoint.old }
+    ensures answered { OnOk result (endpoint.new.asks ≡ None) }
+    ensures refused { OnErr result (endpoint.new.asks ≡ endpoint.old.asks) }
 {
     let Some(command) = endpoint.command() else {
-        return StepReport::without(0, OUT_OF_TURN);
+        return Err(OUT_OF_TURN);
     };
     let mut answer = Answer::SetTid;
-    if let Err(number) = put_given(command, fields, &mut answer) {
-        return StepReport::without(0, number);
-    }
-    let mut reply = Body::new();
-    match endpoint.answer_message(&answer, &mut reply) {
-        Ok(taken) => report_of(&taken, &reply, packets),
+    put_given(command, fields, &mut answer)?;
+    match endpoint.answer_message(&answer, reply) {
+        Ok(taken) => Ok(taken),
         Err(_) => unreachable!(),
+    }
+}
+
+/// The report of an answer that was handed in, with the packets of `reply`, the message that answers.
+pub(crate) fn report(
+    given: &Result<Taken, u8>,
+    reply: &[u8],
+    packets: &mut [[u8; MAX_PACKET_BYTES]; MAX_PACKETS],
+) -> StepReport
+    ensures report { ReportsHandedIn reply.now given.now result packets.new }
+    ensures answered { OnOk given.now (1 ≤ result.kind) }
+    ensures refused { OnErr given.now (result.kind ≡ 0) }
+{
+    match given {
+        Ok(taken) => report_of(taken, reply, packets),
+        Err(number) => StepReport::without(0, *number),
     }
 }
 

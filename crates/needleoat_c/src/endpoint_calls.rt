@@ -8,7 +8,7 @@ use crate::endpoint;
 use crate::endpoint_handle::EndpointForC;
 use crate::refusals::{ALREADY_THERE, BAD_MOMENT, NO_MEMORY, NOTHING_THERE, OUT_OF_RANGE};
 use crate::reports::StepReport;
-use mctp_packet::{Eid, Keep, MAX_PACKET_BYTES, MAX_PACKETS, Moment};
+use mctp_packet::{Body, Eid, Keep, MAX_PACKET_BYTES, MAX_PACKETS, Moment};
 use needleoat_forms::{AnswerFields, CommandFields};
 use pldm_responder::Bounds;
 use std::alloc::Global;
@@ -114,10 +114,11 @@ pub extern "C" fn needleoat_endpoint_answer(
     if !endpoint.is_live {
         return StepReport::without(0, NOTHING_THERE);
     }
+    let mut reply = Body::new();
     let mut inside = endpoint.handle.take(alloc);
-    let report = endpoint::answer(&mut inside, answer, packets);
+    let given = endpoint::answer(&mut inside, answer, &mut reply);
     endpoint.handle.put(inside);
-    report
+    endpoint::report(&given, &reply, packets)
 }
 
 /// Restarts the endpoint at a moment: 0, or why not. The kept answers and the command that is asked are

@@ -14,8 +14,8 @@ use toml::Table;
 /// The document that the bytes are; `Toml` where they are none. `Memory` is for a growth that was
 /// refused, which no text without content needs.
 pub(crate) fn read_document(alloc: Global, bytes: &[u8]) -> Result<Table, FileFault>
-    ensures { (IsErrOf result (FileFault.Memory out_of_memory) × ¬ IsBlank bytes.now) ⊎ (map_ok table_view result ≡ document_of
-        bytes.now) }
+    ensures { (IsErrOf result (FileFault.Memory out_of_memory) × ¬ IsBlank bytes.now)
+        ⊎ (map_ok table_view result ≡ document_of bytes.now) }
 {
     match toml::table_from_slice(alloc, bytes) {
         Ok(table) => Ok(table),

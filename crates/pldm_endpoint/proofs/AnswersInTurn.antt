@@ -50,7 +50,7 @@ coming_after : (held : Held (List Answer)) (moment : ℕ) (bytes : List ℕ) (co
 coming_after held moment bytes commands asked = sym (by_arrival held (received_arrival held moment bytes) ∙ ap (λ cs. drop (length cs) held.state) asked)
 
 module _ (own keep : ℕ) (answers : List Answer) where
-  taken : assembly.FeedLooksBack → (held : Held (List Answer)) (given : Answer) (coming : List Answer) (calls : List Call) (moment : ℕ) (bytes : List ℕ)
+  taken : assembly.FeedLooksBack → (held : Held (List Answer)) (given : Answer) (coming : List Answer) (calls : List (Call (List Answer))) (moment : ℕ) (bytes : List ℕ)
       → IsLeftBy in_turn own keep answers held calls → IsAsGiven in_turn held moment bytes given → coming ≡ (received_held in_turn held moment bytes).state
       → (received_outcome (gives given) (over tt held) moment bytes ≡ outcome in_turn own keep answers calls moment bytes)
       × IsLeftInTurn own keep answers coming (received_held (gives given) (over tt held) moment bytes) (Received moment bytes ∷ calls)

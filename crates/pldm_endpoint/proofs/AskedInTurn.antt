@@ -12,13 +12,13 @@ use Rattle.pldm_responder.specs.Arrivals.{packets_back}
 use Rattle.pldm_responder.specs.Asked.{gives, over}
 use Rattle.pldm_responder.specs.Askings.{askings}
 use Rattle.pldm_responder.specs.Calls.{events}
-use Rattle.pldm_responder.specs.Events.{Event, Came, Set, Restarted, Message, Place, is_busy, is_copy, is_copy_of, is_fresh}
+use Rattle.pldm_responder.specs.Events.{Event, Came, Set, Restarted, Changed, Message, Place, is_busy, is_copy, is_copy_of, is_fresh}
 use Rattle.pldm_responder.specs.Performing.{answered_by, commands_at, performed, reply, reply_at, reply_to, answer_to}
 use Rattle.pldm_responder.specs.declared.outcome.Outcome.{Outcome}
 use Rattle.pldm_responder.specs.declared.outcome.Outcome.TheVariants.{Answered}
 use Rattle.pldm_responder.proofs.AskedOnce.{commands_look_back}
 use Rattle.pldm_endpoint.specs.Histories.{in_turn, next_of}
-use Rattle.pldm_endpoint.specs.Turns.{AnswersInTurn, CopiesAreAnsweredAgain, IsAskedInTurn, answer_at, answers_left}
+use Rattle.pldm_endpoint.specs.Turns.{AnswersInTurn, CopiesAreAnsweredAgain, IsAskedInTurn, OneForEachAsking, answer_at, answers_left}
 use Rattle.pldm_endpoint.proofs.AnswersInTurn.{by_performing}
 
 pub asked_in_turn : assembly.FeedLooksBack → IsAskedInTurn
@@ -34,16 +34,26 @@ more_asked [] before = omega arith
 more_asked (command ∷ commands) before = omega (arith, more_asked commands before)
 
 module _ (keep : ℕ) (answers : List Answer) where
-  pub used : (events : List Event) → performed in_turn keep answers events ≡ answers_left keep answers events
+  pub used : (events : List (Event (List Answer))) → performed in_turn keep answers events ≡ answers_left keep answers events
   used [] = refl
   used (Set id value ∷ events) = used events
   used (Restarted moment ∷ events) = used events
+  used (Changed coming ∷ events) = refl
   used (Came m ∷ events) =
       let asked = if is_fresh keep events m then commands_at (request_of m.bytes) else [] in
       by_performing (is_fresh keep events m) (performed in_turn keep answers events) (request_of m.bytes)
       ∙ ap (λ left. drop (length asked) left) (used events)
-      ∙ drop_more answers (length (askings keep events)) (length asked)
-      ∙ ap (λ n. drop n answers) (sym (more_asked asked (askings keep events)))
+
+pub one_for_each_asking : OneForEachAsking
+one_for_each_asking keep answers [] unchanged = refl
+one_for_each_asking keep answers (Set id value ∷ events) unchanged = one_for_each_asking keep answers events unchanged
+one_for_each_asking keep answers (Restarted moment ∷ events) unchanged = one_for_each_asking keep answers events unchanged
+one_for_each_asking keep answers (Changed coming ∷ events) unchanged = cc
+one_for_each_asking keep answers (Came m ∷ events) unchanged =
+    let asked = if is_fresh keep events m then commands_at (request_of m.bytes) else [] in
+    ap (λ left. drop (length asked) left) (one_for_each_asking keep answers events unchanged)
+    ∙ drop_more answers (length (askings keep events)) (length asked)
+    ∙ ap (λ n. drop n answers) (sym (more_asked asked (askings keep events)))
 
 pub answers_in_turn : AnswersInTurn
 answers_in_turn own keep answers coming held calls left = left.state ∙ used keep answers (events own calls)
@@ -57,7 +67,7 @@ by_request : (left : List Answer) (q : Result Request Reason) → reply_to in_tu
 by_request left (Ok request) = ap (answer_message request.id request.kind) (by_command left (command_of request.kind request.rest))
 by_request left (Err reason) = refl
 
-given_at : (keep : ℕ) (answers : List Answer) (place : Place) → reply_at in_turn keep answers place ≡ reply (gives (answer_at keep answers place)) tt place.message.bytes
+given_at : (keep : ℕ) (answers : List Answer) (place : Place (List Answer)) → reply_at in_turn keep answers place ≡ reply (gives (answer_at keep answers place)) tt place.message.bytes
 given_at keep answers place =
     ap (λ left. reply in_turn left place.message.bytes) (used keep answers place.before)
     ∙ by_request (answers_left keep answers place.before) (request_of place.message.bytes)
@@ -67,7 +77,7 @@ owed_by false true other fresh kept serves is = refl
 owed_by true copy other fresh kept serves is = cc
 owed_by false false other fresh kept serves is = cc
 
-at_origin : (keep : ℕ) (answers : List Answer) (events : List Event) (m : Message) (place : Place) (t : Bool) → t ≡ true
+at_origin : (keep : ℕ) (answers : List Answer) (events : List (Event (List Answer))) (m : Message) (place : Place (List Answer)) (t : Bool) → t ≡ true
     → (if t then reply_at in_turn keep answers place else reply in_turn (performed in_turn keep answers events) m.bytes) ≡ reply_at in_turn keep answers place
 at_origin keep answers events m place true is = refl
 at_origin keep answers events m place false is = cc

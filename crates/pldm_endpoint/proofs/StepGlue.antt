@@ -1,16 +1,8 @@
 -- What the two steps of an endpoint return and leave, from what its responder returns and leaves.
-use Rattle.std.proofs.Common.{◌≡◌, ℕ, ◌<◌, Bool, List, [], ◌∷◌, Option, Some, None, IsSome, if◌then◌else◌, refl, sym, ap, ◌∙◌, subst, arith}
-use Rattle.std.proofs.lemmas.Bool.{lt-ltb}
-use Rattle.pldm_wire.specs.AnswerReading.{answer_of}
-use Rattle.pldm_wire.specs.Answers.{IsAnswer, IsAnswerTo, answer_data, answer_message, code_of}
-use Rattle.pldm_wire.specs.Commands.{kind_of}
-use Rattle.pldm_wire.specs.Laws.{WrittenAnswerReadBack}
-use Rattle.pldm_wire.specs.declared.answer.Answer.{Answer}
-use Rattle.pldm_wire.specs.declared.answer.Answer.TheVariants.{Refused}
-use Rattle.pldm_wire.specs.declared.assigned.TheConstants.{ERROR_NOT_READY}
+use Rattle.std.proofs.Common.{◌≡◌, ℕ, Bool, List, [], ◌∷◌, Option, Some, None, IsSome, refl, sym, ap, ◌∙◌, subst}
 use Rattle.pldm_wire.specs.declared.command.Command.{Command}
 use Rattle.pldm_responder.specs.Arrivals.{Arrival, Drop, Part, Whole}
-use Rattle.pldm_responder.specs.Asked.{AnswerDecides, NoneIsAsked, gives, listed}
+use Rattle.pldm_responder.specs.Asked.{NoneIsAsked, listed}
 use Rattle.pldm_responder.specs.Held.{Held, IsHeld}
 use Rattle.pldm_responder.specs.Performing.{Rules, rules_of}
 use Rattle.pldm_responder.specs.Repeating.{repeats_alone}
@@ -18,10 +10,11 @@ use Rattle.pldm_responder.specs.Rooms.{ArrivalHasRow, ArrivalLacksRow}
 use Rattle.pldm_responder.specs.Slots.{Rows, row_of}
 use Rattle.pldm_responder.specs.Steps.{arrival_commands, received_commands, received_held, received_outcome}
 use Rattle.pldm_responder.specs.declared.outcome.Outcome.{Outcome}
-use Rattle.pldm_endpoint.specs.OutsideDevices.{answer_by, or_not_ready, outside_after, outside_answer, outside_sensed}
+use Rattle.pldm_endpoint.specs.OutsideDevices.{outside_after, outside_answer, outside_sensed}
 use Rattle.pldm_endpoint.specs.Refusing.{is_copy_of_asked}
 use Rattle.pldm_endpoint.specs.TwoSteps.{bare, left_by, received_step, step_by, unasked}
 use Rattle.pldm_endpoint.specs.declared.endpoint.Asked.{Asked}
+use Rattle.pldm_endpoint.specs.declared.outside_device.OutsideDevice.{OutsideDevice}
 use Rattle.pldm_endpoint.specs.declared.step.Step.TheVariants.{Done}
 
 -- ---- held over and over
@@ -80,35 +73,8 @@ left_asking held new moment bytes o command asked is same =
 pub left_as_before : {S : Type 0} (new roomy held : Held S) → roomy ≡ held → IsHeld new roomy → IsHeld (bare new) (bare held)
 left_as_before new roomy held is same = subst (λ h. IsHeld (bare new) (bare h)) is (bare_is_held new roomy same)
 
--- ---- the response that the device's answer is written as
-small_code : (answer : Answer) → IsAnswer answer → code_of answer < 256
-small_code (Refused code) is = omega (arith, is)
-small_code _ is = omega arith
-
--- the platform gives the very answer that was written
-pub answers_itself : WrittenAnswerReadBack → (command : Command) (answer : Answer) (response : List ℕ)
-    → response ≡ answer_message 0 (kind_of command) answer → IsAnswerTo (kind_of command) answer → IsAnswer answer → outside_answer response command ≡ answer
-answers_itself law command answer response spelled its is =
-    let back = law 0 command answer (omega arith) its is in
-    ap (λ bytes. outside_answer bytes command) spelled
-    ∙ ap (answer_by command) back.0
-    ∙ ap (λ t. if t then or_not_ready (answer_of (kind_of command) (kind_of command) (code_of answer) (answer_data answer)) else Refused ERROR_NOT_READY) (lt-ltb (code_of answer) 256 (small_code answer is))
-    ∙ ap or_not_ready back.1
-
-abbrev pub device : Rules (List ℕ)
+abbrev pub device : Rules OutsideDevice
 device = rules_of outside_answer outside_after outside_sensed
-
--- ---- the kept packet is received over the platform that gives the answer
-module _ (law : AnswerDecides device) (held : Held (List ℕ)) (response : List ℕ)
-    (moment : ℕ) (bytes : List ℕ) (command : Command) (given : Answer)
-    (asked : received_commands held moment bytes ≡ command ∷ []) (gave : outside_answer response command ≡ given) where
-  pub answered_outcome : (o : Outcome) → o ≡ received_outcome device (record held { state = response }) moment bytes → o ≡ received_outcome (gives given) (bare held) moment bytes
-  answered_outcome o is = is ∙ (law (record held { state = response }) moment bytes command given asked gave).0.outcome
-
-  pub answered_left : (new : Held (List ℕ)) → IsHeld new (received_held device (record held { state = response }) moment bytes) → IsHeld (bare new) (received_held (gives given) (bare held) moment bytes)
-  answered_left new same =
-      then_held _ _ _ (bare_is_held new (received_held device (record held { state = response }) moment bytes) same)
-      (law (record held { state = response }) moment bytes command given asked gave).0.left
 
 -- there is room for what was asked
 some_none : {A : Type 0} (o : Option A) → IsSome o → o ≡ None → ⊥

@@ -30,13 +30,14 @@ in_turn = record {
 
 -- what is held is what the calls leave, where `answers` are all that the device ever gives, in order, and `coming` those of
 -- them that are still to come
-abbrev pub IsLeftInTurn : ℕ → ℕ → List Answer → List Answer → Held (Unit {0}) → List Call → Type 0
+abbrev pub IsLeftInTurn : ℕ → ℕ → List Answer → List Answer → Held (Unit {0}) → List (Call (List Answer)) → Type 0
 IsLeftInTurn own keep answers coming held calls = IsLeftBy in_turn own keep answers (over coming held) calls
 
 -- bytes for which no command is performed
 abbrev pub UnaskedLooksBack : Type 0
 UnaskedLooksBack =
-    (own keep : ℕ) (answers coming : List Answer) (held : Held (Unit {0})) (calls : List Call) (moment : ℕ) (bytes : List ℕ)
+    (own keep : ℕ) (answers coming : List Answer) (held : Held (Unit {0}))
+    (calls : List (Call (List Answer))) (moment : ℕ) (bytes : List ℕ)
     → IsLeftInTurn own keep answers coming held calls → received_commands held moment bytes ≡ []
     → (received_outcome (gives unasked) held moment bytes ≡ outcome in_turn own keep answers calls moment bytes)
     × IsLeftInTurn own keep answers coming (received_held (gives unasked) held moment bytes) (Received moment bytes ∷ calls)
@@ -44,7 +45,8 @@ UnaskedLooksBack =
 -- bytes whose command was asked, and then answered
 abbrev pub AnsweredLooksBack : Type 0
 AnsweredLooksBack =
-    (own keep : ℕ) (answers coming : List Answer) (held : Held (Unit {0})) (calls : List Call) (moment : ℕ) (bytes : List ℕ)
+    (own keep : ℕ) (answers coming : List Answer) (held : Held (Unit {0}))
+    (calls : List (Call (List Answer))) (moment : ℕ) (bytes : List ℕ)
     (command : Command) (given : Answer)
     → IsLeftInTurn own keep answers (given ∷ coming) held calls → received_commands held moment bytes ≡ command ∷ []
     → (received_outcome (gives given) held moment bytes ≡ outcome in_turn own keep answers calls moment bytes)
@@ -53,14 +55,16 @@ AnsweredLooksBack =
 -- a restart while nothing is asked
 abbrev pub RestartedInTurn : Type 0
 RestartedInTurn =
-    (own keep : ℕ) (answers coming : List Answer) (held : Held (Unit {0})) (calls : List Call) (moment : ℕ)
+    (own keep : ℕ) (answers coming : List Answer) (held : Held (Unit {0}))
+    (calls : List (Call (List Answer))) (moment : ℕ)
     → IsLeftInTurn own keep answers coming held calls
     → IsLeftInTurn own keep answers coming (restarted_held held moment) (Restart moment ∷ calls)
 
 -- a restart while a command is asked: it counts as performed, with an answer that nobody got
 abbrev pub ForgottenInTurn : Type 0
 ForgottenInTurn =
-    (own keep : ℕ) (answers coming : List Answer) (held : Held (Unit {0})) (calls : List Call) (moment later : ℕ) (bytes : List ℕ)
+    (own keep : ℕ) (answers coming : List Answer) (held : Held (Unit {0}))
+    (calls : List (Call (List Answer))) (moment later : ℕ) (bytes : List ℕ)
     (command : Command) (given : Answer)
     → IsLeftInTurn own keep answers (given ∷ coming) held calls → received_commands held moment bytes ≡ command ∷ []
     → IsLeftInTurn own keep answers coming (restarted_held held later) (Restart later ∷ Received moment bytes ∷ calls)
@@ -72,5 +76,5 @@ NewInTurn = (own keep : ℕ) (answers : List Answer) → IsLeftInTurn own keep a
 -- what holds the same is left by the same calls
 abbrev pub SameInTurn : Type 0
 SameInTurn =
-    (own keep : ℕ) (answers coming : List Answer) (new held : Held (Unit {0})) (calls : List Call)
+    (own keep : ℕ) (answers coming : List Answer) (new held : Held (Unit {0})) (calls : List (Call (List Answer)))
     → IsHeld new held → IsLeftInTurn own keep answers coming held calls → IsLeftInTurn own keep answers coming new calls

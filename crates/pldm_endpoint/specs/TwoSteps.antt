@@ -1,7 +1,7 @@
 -- What the two steps of an endpoint return and leave: over the responder's own definitions, for a platform that gives the
 -- very answer that the device gave.
 use Rattle.std.specs.Prelude.{◌≡◌, ℕ, ◌≤◌, List, [], ◌∷◌, Option, Some, None, IsSome, refl}
-use Rattle.std.specs.Coded.{Coded, code_by, coded×, coded_list, coded_option, coded_ℕ}
+use Rattle.std.specs.Coded.{Coded, code_by, coded×, coded_option}
 use Rattle.pldm_wire.specs.Answers.{IsAnswerTo}
 use Rattle.pldm_wire.specs.Commands.{kind_of}
 use Rattle.pldm_wire.specs.declared.answer.Answer.{Answer}
@@ -24,23 +24,23 @@ use Rattle.pldm_endpoint.specs.declared.step.Step.TheVariants.{Perform, Done}
 
 -- the responder, and what the device was asked to perform
 pub record Pending : Type 0 where
-  pub station : Station OutsideDevice (List ℕ)
+  pub station : Station OutsideDevice OutsideDevice
   pub asks : Option Asked
 
 abbrev pub coded_pending : Coded Pending
 coded_pending =
-    code_by (Station OutsideDevice (List ℕ) × Option Asked)
-    (coded× (coded_station device_type.the_row.coded (coded_list coded_ℕ)) (coded_option asked_type.the_row.coded))
+    code_by (Station OutsideDevice OutsideDevice × Option Asked)
+    (coded× (coded_station device_type.the_row.coded device_type.the_row.coded) (coded_option asked_type.the_row.coded))
     (λ p. (p.station, p.asks)) (λ c. record { station = c.0; asks = c.1 }) (λ _. refl)
 
 -- what was asked is what the responder would have performed for the packet that is kept, and there is room for the answer
-abbrev pub IsPending : Station OutsideDevice (List ℕ) → Option Asked → Type 0
+abbrev pub IsPending : Station OutsideDevice OutsideDevice → Option Asked → Type 0
 IsPending station None = Unit {0}
 IsPending station (Some a) =
     (station.last ≤ a.moment) × (received_commands (held_of station) a.moment a.packet.items ≡ a.command ∷ [])
     × HasRow station a.moment a.packet.items
 
--- what is held, but for the device's latest response
+-- what is held, but for the state of the platform, which has none of the device's
 abbrev pub bare : {S : Type 0} → Held S → Held (Unit {0})
 bare held = over tt held
 

@@ -1,8 +1,7 @@
 //! An endpoint whose device is outside.
 
-ghost use Rattle.std.specs.Prelude.{◌≡◌, ◌≤◌, ◌*◌, None, true, false, option_map, IfOk, IfErr, IsOk, IsErrOf, IsSome, OnOk, OnErr};
+ghost use Rattle.std.specs.Prelude.{◌≡◌, ◌≤◌, ◌*◌, length, Some, None, true, false, option_map, IfOk, IfErr, IsOk, IsErrOf, IsSome, OnOk, OnErr};
 ghost use Rattle.pldm_wire.specs.declared.assigned.TheConstants.{INSTANCE_IDS};
-ghost use Rattle.pldm_wire.specs.Answers.{IsAnswer, IsAnswerTo, answer_message};
 ghost use Rattle.pldm_responder.specs.Answering.{HasReply, answering};
 ghost use Rattle.pldm_responder.specs.Counts.{CountsKept};
 ghost use Rattle.pldm_responder.specs.Held.{IsHeld};
@@ -18,7 +17,7 @@ use crate::step::{AnswerRefusal, ReceiveRefusal, Step, TakenStep, is_answer_to};
 use arrayvec::ArrayVec;
 use mctp_packet::{Body, Eid, Keep, MAX_PACKET_BYTES, Memory, Moment};
 use pldm_responder::{Bounds, Outcome, Responder, Taken};
-use pldm_wire::{Answer, Command, Kind, write_answer};
+use pldm_wire::{Answer, Command};
 use std::alloc::Global;
 use std::marker::Model;
 
@@ -61,11 +60,8 @@ impl Endpoint {
         ensures bounds { result.station.bounds ≡ bounds }
         ensures idle { result.asks ≡ None }
     {
-        let device = OutsideDevice {
-            response: Body::new(),
-        };
         Endpoint {
-            responder: Responder::bounded(alloc, own, keep, bounds, device),
+            responder: Responder::bounded(alloc, own, keep, bounds, OutsideDevice),
             asked: None,
         }
     }
@@ -119,7 +115,7 @@ impl Endpoint {
     ///
     /// # Errors
     ///
-    /// While the device performs a command, and only then, `BeingPerformed` for a packet that alone is a copy of its
+    /// While the device performs a command, and only then, `BeingPerformed` for a packet that alone repeats its
     /// request, a whole message of the same source, instance ID and bytes, and `Performing` for any other. `Memory`
     /// where a growth was refused or a bound would be passed. The endpoint is then as before.
     pub fn receive(&mut self, now: Moment, bytes: &[u8]) -> Result<Step, ReceiveRefusal>
@@ -159,7 +155,8 @@ impl Endpoint {
         reply: &mut Body,
     ) -> Result<TakenStep, ReceiveRefusal>
         requires { (held_of self.old.station).last ≤ now }
-        ensures step { IfOk result (λ step. stepping reply.new.items step ≡ received_step (held_of self.old.station) now bytes.now) }
+        ensures step { IfOk result (λ step. stepping reply.new.items step
+            ≡ received_step (held_of self.old.station) now bytes.now) }
         ensures some { IfOk result (StepHasReply reply.new.items) }
         ensures asks { OnOk result (self.new.asks ≡ asks_after (held_of self.old.station) now bytes.now) }
         ensures pending { IfOk result (λ step. AsksAfter (stepping reply.new.items step) self.new.asks) }
@@ -209,13 +206,7 @@ impl Endpoint {
     {
         pldm_responder::laws::answers_come_from_outside::<OutsideDevice>();
         if let Some(command) = self.responder.ask(now, bytes)? {
-            let mut packet = ArrayVec::new();
-            packet.try_extend_from_slice(bytes).unwrap();
-            self.asked = Some(Asked {
-                moment: now,
-                packet,
-                command,
-            });
+            put_asked(&mut self.asked, now, bytes, command);
             return Ok(TakenStep::Perform);
         }
         let taken = self.responder.receive_message(now, bytes, reply)?;
@@ -274,26 +265,17 @@ impl Endpoint {
         ensures err { OnErr result (IsHeld (bare (held_of self.new.station)) (bare (held_of self.old.station))) }
         ensures bounds { self.new.station.bounds ≡ self.old.station.bounds }
     {
-        pldm_responder::laws::answers_come_from_outside::<OutsideDevice>();
-        pldm_wire::laws::answers_are_read_back();
         let Some(asked) = &self.asked else {
             return Err(AnswerRefusal::NotAsked);
         };
-        let kind = asked.command.kind();
-        if !is_answer_to(answer, kind) {
+        if !is_answer_to(answer, asked.command.kind()) {
             return Err(AnswerRefusal::OtherCommand);
         }
-        put_response(&mut self.responder, kind, answer);
-        match self
+        let taken = self
             .responder
-            .receive_message(asked.moment, &asked.packet, reply)
-        {
-            Ok(taken) => {
-                self.asked = None;
-                Ok(taken)
-            }
-            Err(_) => unreachable!(),
-        }
+            .answer_asked(asked.moment, &asked.packet, &asked.command, answer, reply);
+        self.asked = None; // it is answered
+        Ok(taken)
     }
 
     /// Restarts at the moment `now`, which must not be before [`Endpoint::last_moment`]. The kept answers, the messages
@@ -310,16 +292,19 @@ impl Endpoint {
     }
 }
 
-/// Has the device outside give this answer to a command of this kind.
+/// Puts what the device is asked: the command of a packet that came at the moment `now`.
+// Not inlined: the packet is copied here, and no place for it is left on the caller's stack while other packets are
+// put together.
 #[inline(never)]
-fn put_response(responder: &mut Responder<OutsideDevice>, kind: Kind, answer: &Answer)
-    requires { IsAnswerTo kind answer.now }
-    ensures held { held_of responder.new
-        ≡ record (held_of responder.old) { state = answer_message 0 kind answer.now } }
-    ensures rows { responder.new.rows ≡ responder.old.rows }
-    ensures bounds { responder.new.bounds ≡ responder.old.bounds }
-    ensures range { IsAnswer answer.now }
+fn put_asked(asked: &mut Option<Asked>, now: Moment, bytes: &[u8], command: Command)
+    requires { length bytes.now ≤ MAX_PACKET_BYTES }
+    ensures { asked.new ≡ Some (record { moment = now; packet = record { items = bytes.now }; command = command }) }
 {
-    let response = write_answer(0, kind, answer);
-    responder.replace(OutsideDevice { response });
+    let mut packet = ArrayVec::new();
+    packet.try_extend_from_slice(bytes).unwrap();
+    *asked = Some(Asked {
+        moment: now,
+        packet,
+        command,
+    });
 }

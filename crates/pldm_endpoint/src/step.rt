@@ -34,7 +34,7 @@ pub enum TakenStep {
 /// Why a packet was refused. It counts as lost on the bus, and the endpoint is as before.
 #[derive(Clone, Copy, Debug, PartialEq, Eq, Error)]
 pub enum ReceiveRefusal {
-    /// The device is performing a command, and the packet is no copy of its request.
+    /// The device is performing a command, and the packet does not alone repeat its request.
     #[error("the device is performing a command")]
     Performing,
     /// The device is performing the command of this very request.

@@ -48,7 +48,8 @@ EndsRecord next pdr (GetPdr next_record_handle next_data_transfer_handle part) =
     × (IsPart part → part.transfer_crc ≡ checksum_with part.flag pdr)
 EndsRecord next pdr _ = ⊥
 
--- where a fetch is done, the parts joined are a whole record, the one that was asked for, with its checksum
+-- where a fetch is done, the parts joined are a whole record, the one that was asked for, and where a checksum came, it
+-- is the record's
 abbrev pub DoneIsTheRecord : Type 0
 DoneIsTheRecord =
     (asked next : ℕ) (before : List Answer) (answer : Answer) → taken (fetched asked before) answer ≡ Ok (Done next)

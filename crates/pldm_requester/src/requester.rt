@@ -81,7 +81,8 @@ impl Model for Requester {
 
 impl Requester {
     /// A requester at the endpoint `own`, for the device at the endpoint `device`. It has no request,
-    /// and its last moment is 0.
+    /// and its last moment is 0. Instance IDs begin at 0: where there was a requester at this endpoint
+    /// before, let twice the keeping time pass before the first request.
     ///
     /// # Errors
     ///
@@ -201,7 +202,7 @@ impl Requester {
     ///
     /// `TagInUse` where request n - 8 is open; else `IdInUse` where request n - 32 was opened less than
     /// twice the keeping time ago; else `Memory` where the room for the request and its answer was
-    /// refused, which only the first [`MAX_REMEMBERED`] requests want. The requester is then as
+    /// refused, which only the first [`MAX_REMEMBERED`] requests need. The requester is then as
     /// before.
     pub fn open(&mut self, now: Moment, command: &Command) -> Result<Opened, OpenFault>
         requires { (held_of self.old).last ≤ now }
@@ -246,7 +247,7 @@ impl Requester {
         Ok(Opened { number, id, tag })
     }
 
-    /// Tells which requests are due at the moment `now`, which must not be before
+    /// Returns which requests are due at the moment `now`, which must not be before
     /// [`Requester::last_moment`].
     ///
     /// An open request is given up where all its tries have had their time; else it is to be sent
@@ -307,7 +308,7 @@ impl Requester {
     ///
     /// # Errors
     ///
-    /// `Memory` where a growth was refused, which only a start packet that gives `Partial` wants. The
+    /// `Memory` where a growth was refused, which only a start packet that gives `Partial` needs. The
     /// requester is then as before.
     pub fn receive(&mut self, now: Moment, bytes: &[u8]) -> Result<Got, Memory>
         requires { (held_of self.old).last ≤ now }

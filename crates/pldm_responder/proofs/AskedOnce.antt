@@ -7,7 +7,7 @@ use Rattle.pldm_wire.specs.Headers.{id_at}
 use Rattle.pldm_responder.specs.Arrivals.{Arrival, Drop, Part, Whole, request_packet}
 use Rattle.pldm_responder.specs.Askings.{AskedApart, CommandsLookBack, asked_for, is_renewed}
 use Rattle.pldm_responder.specs.Calls.{arrived, events, fed}
-use Rattle.pldm_responder.specs.Events.{Message, Event, Came, Set, Restarted, Place, is_busy, is_copy, is_copy_of, is_fresh, is_of, origin}
+use Rattle.pldm_responder.specs.Events.{Message, Event, Came, Set, Restarted, Changed, Place, is_busy, is_copy, is_copy_of, is_fresh, is_of, origin}
 use Rattle.pldm_responder.specs.Held.{Held}
 use Rattle.pldm_responder.specs.Performing.{Rules, commands_of}
 use Rattle.pldm_responder.specs.Steps.{arrival_commands, received_commands}
@@ -15,7 +15,7 @@ use Rattle.pldm_responder.proofs.CallsLookBack.{held_is, left_by, passed_brings,
 
 -- ---- what is asked is what looking back says
 module _ {S : Type 0} (device : Rules S) where
-  asked_is : (own keep : ℕ) (start : S) (held : Held S) (h : List Event) (a : Arrival)
+  asked_is : (own keep : ℕ) (start : S) (held : Held S) (h : List (Event S)) (a : Arrival)
       → arrival_commands (left_by device own keep start held.open_messages held.last h) a ≡ asked_for keep h a
   asked_is own keep start held h (Drop reason) = refl
   asked_is own keep start held h Part = refl
@@ -32,7 +32,7 @@ module _ {S : Type 0} (device : Rules S) where
       ∙ asked_is own keep start held h (arrived own calls moment bytes)
 
 -- ---- between two askings
-where_none : (t : Bool) (place : Place) (rest : Option Place) (more : Bool) → (t || more) ≡ false → (if t then Some place else rest) ≡ rest
+where_none : {S : Type 0} (t : Bool) (place : Place S) (rest : Option (Place S)) (more : Bool) → (t || more) ≡ false → (if t then Some place else rest) ≡ rest
 where_none true place rest more h = cc
 where_none false place rest more h = refl
 
@@ -41,10 +41,11 @@ later_none true more h = cc
 later_none false more h = h
 
 -- with nothing to renew it, the origin stays
-origin_stays : (keep : ℕ) (before later : List Event) (source id : ℕ) → is_renewed keep before later source id ≡ false → origin keep (later ++ before) source id ≡ origin keep before source id
+origin_stays : {S : Type 0} (keep : ℕ) (before later : List (Event S)) (source id : ℕ) → is_renewed keep before later source id ≡ false → origin keep (later ++ before) source id ≡ origin keep before source id
 origin_stays keep before [] source id h = refl
 origin_stays keep before (Restarted moment ∷ later) source id h = cc
 origin_stays keep before (Set i value ∷ later) source id h = origin_stays keep before later source id h
+origin_stays keep before (Changed state ∷ later) source id h = origin_stays keep before later source id h
 origin_stays keep before (Came m ∷ later) source id h =
     where_none (is_of m source id && is_fresh keep (later ++ before) m) (record { before = later ++ before; message = m }) (origin keep (later ++ before) source id) (is_renewed keep before later source id) h
     ∙ origin_stays keep before later source id (later_none (is_of m source id && is_fresh keep (later ++ before) m) (is_renewed keep before later source id) h)
@@ -60,7 +61,7 @@ both_true false b h g = cc
 is_its_own : (m : Message) → is_of m m.source (id_at m.bytes) ≡ true
 is_its_own m = both_true (m.source == m.source) (id_at m.bytes == id_at m.bytes) (eq-eqb m.source m.source refl) (eq-eqb (id_at m.bytes) (id_at m.bytes) refl)
 
-origin_here : (keep : ℕ) (before : List Event) (m : Message) → is_fresh keep before m ≡ true → origin keep (Came m ∷ before) m.source (id_at m.bytes) ≡ Some (record { before = before; message = m })
+origin_here : {S : Type 0} (keep : ℕ) (before : List (Event S)) (m : Message) → is_fresh keep before m ≡ true → origin keep (Came m ∷ before) m.source (id_at m.bytes) ≡ Some (record { before = before; message = m })
 origin_here keep before m fresh =
     where_is (is_of m m.source (id_at m.bytes) && is_fresh keep before m) _ _ (both_true (is_of m m.source (id_at m.bytes)) (is_fresh keep before m) (is_its_own m) fresh)
 
@@ -77,7 +78,7 @@ second_false : (a b : Bool) → (a && b) ≡ false → a ≡ true → b ≡ fals
 second_false true b h e = h
 second_false false b h e = cc
 
-by_renewal : (t : Bool) (keep : ℕ) (before later : List Event) (first again : Message) → is_renewed keep (Came first ∷ before) later first.source (id_at first.bytes) ≡ t
+by_renewal : {S : Type 0} (t : Bool) (keep : ℕ) (before later : List (Event S)) (first again : Message) → is_renewed keep (Came first ∷ before) later first.source (id_at first.bytes) ≡ t
     → is_fresh keep before first ≡ true → is_fresh keep (later ++ Came first ∷ before) again ≡ true → again.source ≡ first.source → again.bytes ≡ first.bytes
     → (first.moment + keep ≤ again.moment) ⊎ (t ≡ true)
 by_renewal true keep before later first again renewed fresh once source bytes = inr refl
@@ -91,6 +92,6 @@ by_renewal false keep before later first again renewed fresh once source bytes =
     let same : bytes_eq again.bytes first.bytes ≡ true = ap (λ b. bytes_eq b first.bytes) bytes ∙ same_bytes first.bytes in
     inl (ltb-false again.moment (first.moment + keep) (second_false (bytes_eq again.bytes first.bytes) (nat_lt again.moment (first.moment + keep)) copy same))
 
-pub asked_apart : AskedApart
+pub asked_apart : {S : Type 0} → AskedApart S
 asked_apart keep before later first again fresh once source bytes =
     by_renewal (is_renewed keep (Came first ∷ before) later first.source (id_at first.bytes)) keep before later first again refl fresh once source bytes

@@ -11,22 +11,23 @@ use Rattle.pldm_platform.specs.Changes.{changed_or}
 use Rattle.pldm_responder.specs.Arrivals.{Arrival, Drop, Part, Whole, fed_arrival, passed_arrival, arrival, request_packet, packets_back}
 use Rattle.pldm_responder.specs.Calls as calls
 use Rattle.pldm_responder.specs.Calls.{Call, Received, Sensed, with_packet, fed, looked_back, arrived, with_arrival, events, last_moment, outcome}
-use Rattle.pldm_responder.specs.Events.{Message, Event, Came, Set, Restarted, Place, busy_until, is_busy, is_of, is_copy_of, origin, is_fresh, has_fresh}
-use Rattle.pldm_responder.specs.Laws.{entry_at, IsLeftBy, ReceivedLooksBack, SensedLooksBack, RestartedLooksBack, NewLooksBack, SameIsLeft, KeptWhereFresh}
+use Rattle.pldm_responder.specs.Events.{Message, Event, Came, Set, Restarted, Changed, Place, busy_until, is_busy, is_of, is_copy_of, origin, is_fresh, has_fresh}
+use Rattle.pldm_responder.specs.Laws.{entry_at, IsLeftBy, ReceivedLooksBack, SensedLooksBack, RestartedLooksBack, UpdatedLooksBack, PutIsUpdated, NewLooksBack, SameIsLeft, KeptWhereFresh}
 use Rattle.pldm_responder.specs.Performing.{Rules, reply, next, changes, busy_reply, performed, reply_at, answered_by}
 use Rattle.pldm_responder.specs.Held.{Held}
 use Rattle.pldm_responder.specs.Steps.{repeats, copied_packets, open_after, served, message_outcome, entry_of, kept_after, state_after, arrival_outcome, arrival_held, received_outcome, received_held}
 use Rattle.pldm_responder.specs.declared.outcome.Outcome.TheVariants.{Answered}
 
 -- ---- an origin is a fresh message
-either_some : (b : Bool) (place : Place) (o : Option Place) → is_some (if b then Some place else o) ≡ (b || is_some o)
+either_some : {S : Type 0} (b : Bool) (place : Place S) (o : Option (Place S)) → is_some (if b then Some place else o) ≡ (b || is_some o)
 either_some true place o = refl
 either_some false place o = refl
 
-origin_where_fresh : (keep : ℕ) (h : List Event) (source id : ℕ) → is_some (origin keep h source id) ≡ has_fresh keep h source id
+origin_where_fresh : {S : Type 0} (keep : ℕ) (h : List (Event S)) (source id : ℕ) → is_some (origin keep h source id) ≡ has_fresh keep h source id
 origin_where_fresh keep [] source id = refl
 origin_where_fresh keep (Set _ _ ∷ h) source id = origin_where_fresh keep h source id
 origin_where_fresh keep (Restarted _ ∷ h) source id = refl
+origin_where_fresh keep (Changed _ ∷ h) source id = origin_where_fresh keep h source id
 origin_where_fresh keep (Came m ∷ h) source id =
     either_some (is_of m source id && is_fresh keep h m) (record { before = h; message = m }) (origin keep h source id)
     ∙ ap (λ later. is_of m source id && is_fresh keep h m || later) (origin_where_fresh keep h source id)
@@ -45,7 +46,7 @@ module _ (looks : assembly.FeedLooksBack) where
 -- ---- what a message is answered and leaves
 module _ {S : Type 0} (device : Rules S) (own keep : ℕ) (start : S) where
   -- what these events leave, with any open messages and last moment
-  abbrev pub left_by : steps.Held → ℕ → List Event → Held S
+  abbrev pub left_by : steps.Held → ℕ → List (Event S) → Held S
   left_by open_messages last h = record {
     own = own;
     keep = keep;
@@ -56,19 +57,19 @@ module _ {S : Type 0} (device : Rules S) (own keep : ℕ) (start : S) where
     last = last;
   }
 
-  pub repeats_origin : (m : Message) (o : Option Place) → repeats keep m (entry_at device keep start o) ≡ is_copy_of keep m o
+  pub repeats_origin : (m : Message) (o : Option (Place S)) → repeats keep m (entry_at device keep start o) ≡ is_copy_of keep m o
   repeats_origin m None = refl
   repeats_origin m (Some place) = refl
 
   -- t for a copy
-  served_by : (t : Bool) (open_messages : steps.Held) (last : ℕ) (h : List Event) (m : Message) (first : List ℕ)
+  served_by : (t : Bool) (open_messages : steps.Held) (last : ℕ) (h : List (Event S)) (m : Message) (first : List ℕ)
       → served device (left_by open_messages last h) m (if t then Some (packets_back own m first) else None)
       ≡ (if t then Answered false false (packets_back own m (if t then first else reply device (performed device keep start h) m.bytes))
       else Answered true (changes device (performed device keep start h) m.bytes) (packets_back own m (if t then first else reply device (performed device keep start h) m.bytes)))
   served_by true open_messages last h m first = refl
   served_by false open_messages last h m first = refl
 
-  served_is : (open_messages : steps.Held) (last : ℕ) (h : List Event) (m : Message) (o : Option Place)
+  served_is : (open_messages : steps.Held) (last : ℕ) (h : List (Event S)) (m : Message) (o : Option (Place S))
       → served device (left_by open_messages last h) m (copied_packets own keep m (entry_at device keep start o))
       ≡ (if is_copy_of keep m o then Answered false false (packets_back own m (answered_by device keep start h m o))
       else Answered true (changes device (performed device keep start h) m.bytes) (packets_back own m (answered_by device keep start h m o)))
@@ -76,44 +77,44 @@ module _ {S : Type 0} (device : Rules S) (own keep : ℕ) (start : S) where
   served_is open_messages last h m (Some place) =
       served_by (is_copy_of keep m (Some place)) open_messages last h m (reply_at device keep start place)
 
-  message_is : (open_messages : steps.Held) (last : ℕ) (h : List Event) (m : Message) → message_outcome device (left_by open_messages last h) m ≡ calls.answer_owed device own keep start h m
+  message_is : (open_messages : steps.Held) (last : ℕ) (h : List (Event S)) (m : Message) → message_outcome device (left_by open_messages last h) m ≡ calls.answer_owed device own keep start h m
   message_is open_messages last h m =
       ap (λ o. if is_busy keep h m.moment then Answered false false (packets_back own m (busy_reply m.bytes)) else o) (served_is open_messages last h m (origin keep h m.source (id_at m.bytes)))
 
-  arrival_is : (open_messages : steps.Held) (last : ℕ) (h : List Event) (a : Arrival) → arrival_outcome device (left_by open_messages last h) a ≡ calls.outcome_owed device own keep start h a
+  arrival_is : (open_messages : steps.Held) (last : ℕ) (h : List (Event S)) (a : Arrival) → arrival_outcome device (left_by open_messages last h) a ≡ calls.outcome_owed device own keep start h a
   arrival_is open_messages last h (Drop reason) = refl
   arrival_is open_messages last h Part = refl
   arrival_is open_messages last h (Whole m) = message_is open_messages last h m
 
-  entry_where : (b : Bool) (place : Place) (o : Option Place) → entry_at device keep start (if b then Some place else o) ≡ (if b then entry_at device keep start (Some place) else entry_at device keep start o)
+  entry_where : (b : Bool) (place : Place S) (o : Option (Place S)) → entry_at device keep start (if b then Some place else o) ≡ (if b then entry_at device keep start (Some place) else entry_at device keep start o)
   entry_where true place o = refl
   entry_where false place o = refl
 
-  kept_is : (open_messages : steps.Held) (last : ℕ) (h : List Event) (m : Message) (source id : ℕ)
+  kept_is : (open_messages : steps.Held) (last : ℕ) (h : List (Event S)) (m : Message) (source id : ℕ)
       → kept_after device (left_by open_messages last h) m source id ≡ entry_at device keep start (origin keep (Came m ∷ h) source id)
   kept_is open_messages last h m source id =
       ap (λ r. if is_of m source id && (not (is_busy keep h m.moment) && not r) then Some (entry_of device (left_by open_messages last h) m) else entry_at device keep start (origin keep h source id)) (repeats_origin m (origin keep h m.source (id_at m.bytes)))
       ∙ sym (entry_where (is_of m source id && is_fresh keep h m) (record { before = h; message = m }) (origin keep h source id))
 
-  state_is : (open_messages : steps.Held) (last : ℕ) (h : List Event) (m : Message) → state_after device (left_by open_messages last h) m ≡ performed device keep start (Came m ∷ h)
+  state_is : (open_messages : steps.Held) (last : ℕ) (h : List (Event S)) (m : Message) → state_after device (left_by open_messages last h) m ≡ performed device keep start (Came m ∷ h)
   state_is open_messages last h m =
       ap (λ r. if not (is_busy keep h m.moment) && not r then next device (performed device keep start h) m.bytes else performed device keep start h) (repeats_origin m (origin keep h m.source (id_at m.bytes)))
 
   -- what is held but for the open messages and the last moment
-  record Leaves (held : Held S) (h : List Event) : Type 0 where
+  record Leaves (held : Held S) (h : List (Event S)) : Type 0 where
     endpoint : held.own ≡ own
     keeping : held.keep ≡ keep
     kept : (source id : ℕ) → held.kept source id ≡ entry_at device keep start (origin keep h source id)
     state : held.state ≡ performed device keep start h
     serves_from : held.serves_from ≡ busy_until keep h
 
-  arrival_leaves : (open_messages : steps.Held) (last : ℕ) (h : List Event) (a : Arrival) → Leaves (arrival_held device (left_by open_messages last h) a) (with_arrival a h)
+  arrival_leaves : (open_messages : steps.Held) (last : ℕ) (h : List (Event S)) (a : Arrival) → Leaves (arrival_held device (left_by open_messages last h) a) (with_arrival a h)
   arrival_leaves open_messages last h (Drop reason) = record { endpoint = refl; keeping = refl; kept = λ source id. refl; state = refl; serves_from = refl }
   arrival_leaves open_messages last h Part = record { endpoint = refl; keeping = refl; kept = λ source id. refl; state = refl; serves_from = refl }
   arrival_leaves open_messages last h (Whole m) =
       record { endpoint = refl; keeping = refl; kept = kept_is open_messages last h m; state = state_is open_messages last h m; serves_from = refl }
 
-  pub held_is : (held : Held S) (before : List Call) → IsLeftBy device own keep start held before → held ≡ left_by held.open_messages held.last (events own before)
+  pub held_is : (held : Held S) (before : List (Call S)) → IsLeftBy device own keep start held before → held ≡ left_by held.open_messages held.last (events own before)
   held_is held before left =
       λ i. record {
         own = left.endpoint i;
@@ -125,7 +126,7 @@ module _ {S : Type 0} (device : Rules S) (own keep : ℕ) (start : S) where
         last = held.last;
       }
 
-  with_leaves : (held : Held S) (open_messages : steps.Held) (moment : ℕ) (bytes : List ℕ) (before : List Call) → Leaves held (events own (Received moment bytes ∷ before)) → histories.IsLeftBy open_messages (fed own (Received moment bytes ∷ before))
+  with_leaves : (held : Held S) (open_messages : steps.Held) (moment : ℕ) (bytes : List ℕ) (before : List (Call S)) → Leaves held (events own (Received moment bytes ∷ before)) → histories.IsLeftBy open_messages (fed own (Received moment bytes ∷ before))
       → IsLeftBy device own keep start (record held { open_messages = open_messages; last = moment }) (Received moment bytes ∷ before)
   with_leaves held open_messages moment bytes before left opens = record {
     endpoint = left.endpoint;
@@ -138,7 +139,7 @@ module _ {S : Type 0} (device : Rules S) (own keep : ℕ) (start : S) where
   }
 
   module _ (looks : assembly.FeedLooksBack) where
-    left_received : (open_messages : steps.Held) (last : ℕ) (before : List Call) (moment : ℕ) (bytes : List ℕ) → histories.IsLeftBy open_messages (fed own before)
+    left_received : (open_messages : steps.Held) (last : ℕ) (before : List (Call S)) (moment : ℕ) (bytes : List ℕ) → histories.IsLeftBy open_messages (fed own before)
         → (received_outcome device (left_by open_messages last (events own before)) moment bytes ≡ outcome device own keep start before moment bytes)
         × IsLeftBy device own keep start (received_held device (left_by open_messages last (events own before)) moment bytes) (Received moment bytes ∷ before)
     left_received open_messages last before moment bytes left =
@@ -166,6 +167,17 @@ module _ {S : Type 0} (device : Rules S) where
     open_messages = left.open_messages;
     kept = left.kept;
     state = ap (λ s. changed_or s (device.sensed s id value)) left.state;
+    serves_from = left.serves_from;
+    last = left.last;
+  }
+
+  pub updated_looks_back : UpdatedLooksBack device
+  updated_looks_back own keep start held before state left = record {
+    endpoint = left.endpoint;
+    keeping = left.keeping;
+    open_messages = left.open_messages;
+    kept = left.kept;
+    state = refl;
     serves_from = left.serves_from;
     last = left.last;
   }
@@ -203,7 +215,7 @@ module _ {S : Type 0} (device : Rules S) where
     last = same.last ∙ left.last;
   }
 
-  entry_some : (keep : ℕ) (start : S) (o : Option Place) → is_some (entry_at device keep start o) ≡ is_some o
+  entry_some : (keep : ℕ) (start : S) (o : Option (Place S)) → is_some (entry_at device keep start o) ≡ is_some o
   entry_some keep start None = refl
   entry_some keep start (Some place) = refl
 
@@ -211,3 +223,15 @@ module _ {S : Type 0} (device : Rules S) where
   kept_where_fresh own keep start held before left =
       let kept : (source id : ℕ) → is_some (held.kept source id) ≡ has_fresh keep (events own before) source id = λ source id. ap is_some (left.kept source id) ∙ entry_some keep start (origin keep (events own before) source id) ∙ origin_where_fresh keep (events own before) source id in
       (kept, λ count counts. record { pairs = counts.pairs; each = λ source id. sym (kept source id) ∙ counts.each source id; once = counts.once; all = counts.all })
+
+-- ---- a platform that is put in the place of another
+pub put_is_updated : {P S : Type 0} (state_of : P → S) → PutIsUpdated state_of
+put_is_updated state_of station platform = record {
+  own = refl;
+  keep = refl;
+  open_messages = refl;
+  kept = λ source id. refl;
+  state = refl;
+  serves_from = refl;
+  last = refl;
+}

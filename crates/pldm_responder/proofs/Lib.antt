@@ -15,3 +15,5 @@ pub mod SourceCounts
 pub mod AskedRooms
 pub mod AskedOnce
 pub mod OpenBounds
+pub mod WorkedLight
+pub mod AnswersKept

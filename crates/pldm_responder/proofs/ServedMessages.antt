@@ -60,7 +60,7 @@ both : (a b : Bool) → a ≡ true → b ≡ true → (a && b) ≡ true
 both true b g h = h
 both false b g h = cc
 
-where_both : {A : Type 0} (a b : Bool) (x y : A) → b ≡ true → cond (a && b) x y ≡ cond a x y
+pub where_both : {A : Type 0} (a b : Bool) (x y : A) → b ≡ true → cond (a && b) x y ≡ cond a x y
 where_both true true x y h = refl
 where_both true false x y h = cc
 where_both false b x y h = refl

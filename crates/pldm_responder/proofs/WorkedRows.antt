@@ -8,28 +8,28 @@ use Rattle.pldm_wire.specs.CommandReading.{command_of}
 use Rattle.pldm_wire.specs.Requests.{request_of}
 use Rattle.pldm_wire.specs.declared.command.Command.TheVariants.{GetTid}
 use Rattle.pldm_responder.specs.Arrivals.{Arrival, Whole, message_of}
-use Rattle.pldm_responder.specs.Calls.{Call, Received, Sensed, Restart, events, outcome}
-use Rattle.pldm_responder.specs.Dimmers.{dimmer_answer, dimmer_after, dimmer_sensed}
+use Rattle.pldm_responder.specs.Calls.{Call, Received, Sensed, Restart, Updated, events, outcome}
+use Rattle.pldm_responder.proofs.WorkedLight.{light_answer, light_after, light_sensed}
 use Rattle.pldm_responder.specs.Events.{has_fresh}
 use Rattle.pldm_responder.specs.Counts.{CountsKept}
 use Rattle.pldm_responder.specs.Held.{Held, IsHeld, held_at_first}
 use Rattle.pldm_responder.specs.Laws.{IsLeftBy}
 use Rattle.pldm_responder.specs.Performing.{Rules, rules_of, performed}
 use Rattle.pldm_responder.specs.Slots.{AreKept}
-use Rattle.pldm_responder.specs.Steps.{sensed_held, restarted_held, arrival_commands}
+use Rattle.pldm_responder.specs.Steps.{sensed_held, restarted_held, updated_held, arrival_commands}
 use Rattle.pldm_responder.specs.Wants.{KeepsNone}
 use Rattle.pldm_responder.specs.declared.outcome.Outcome.{Outcome}
 use Rattle.pldm_responder.specs.declared.outcome.Outcome.TheVariants.{Dropped, Partial, Answered}
-use Rattle.pldm_responder.proofs.CallsLookBack.{sensed_looks_back}
+use Rattle.pldm_responder.proofs.CallsLookBack.{sensed_looks_back, updated_looks_back}
 use Rattle.pldm_responder.proofs.KeptCounts.{none_are_kept}
 
 abbrev light : Rules ℤ
-light = rules_of dimmer_answer dimmer_after dimmer_sensed
+light = rules_of light_answer light_after light_sensed
 
-abbrev outcome_of : List Call → ℕ → List ℕ → Outcome
+abbrev outcome_of : List (Call ℤ) → ℕ → List ℕ → Outcome
 outcome_of calls moment bytes = outcome light 9 1000 (pos 0) calls moment bytes
 
-abbrev level : List Call → ℤ
+abbrev level : List (Call ℤ) → ℤ
 level calls = performed light 1000 (pos 0) (events 9 calls)
 
 -- GetTID from endpoint 8 with instance ID 0, on tags 0 and 2
@@ -57,7 +57,7 @@ set_50 = 1 ∷ 9 ∷ 8 ∷ 202 ∷ 1 ∷ 130 ∷ 2 ∷ 49 ∷ 1 ∷ 0 ∷ 0 ∷ 
 abbrev was_set : List (List ℕ)
 was_set = (1 ∷ 8 ∷ 9 ∷ 193 ∷ 1 ∷ 1 ∷ 2 ∷ 49 ∷ 0 ∷ []) ∷ []
 
-abbrev both_set : List Call
+abbrev both_set : List (Call ℤ)
 both_set = Received 500 set_50 ∷ Received 0 set_40 ∷ []
 
 copy_at_the_last_moment : outcome_of both_set 999 set_40 ≡ Answered false false was_set
@@ -117,9 +117,30 @@ no_request = refl
 reading_is_set : level (Sensed 2 (pos 8) ∷ Sensed 1 (pos 7) ∷ []) ≡ pos 7
 reading_is_set = refl
 
+-- a change from outside puts the level, and is no message: a copy still gets its old answer, and the next fresh request
+-- changes what was put
+change_is_put : level (Updated (pos 9) ∷ Received 0 set_40 ∷ []) ≡ pos 9
+change_is_put = refl
+
+copy_after_a_change : outcome_of (Updated (pos 9) ∷ Received 0 set_40 ∷ []) 999 set_40 ≡ Answered false false was_set
+unfolding request_of command_of
+copy_after_a_change = refl
+
+copy_leaves_the_change : level (Received 999 set_40 ∷ Updated (pos 9) ∷ Received 0 set_40 ∷ []) ≡ pos 9
+unfolding request_of command_of
+copy_leaves_the_change = refl
+
+fresh_one_after_a_change : level (Received 1000 set_40 ∷ Updated (pos 9) ∷ Received 0 set_40 ∷ []) ≡ pos 40
+unfolding request_of command_of
+fresh_one_after_a_change = refl
+
+pairs_stay_through_a_change : has_fresh 1000 (events 9 (Updated (pos 9) ∷ Received 0 set_40 ∷ [])) 8 1 ≡ true
+unfolding request_of command_of
+pairs_stay_through_a_change = refl
+
 -- after a restart every good message is answered with code 4 for the keeping time, and not performed; then the old
 -- answers are gone
-abbrev restarted : List Call
+abbrev restarted : List (Call ℤ)
 restarted = Restart 100 ∷ Received 0 set_40 ∷ []
 
 busy_at_the_last_moment : outcome_of restarted 1099 set_40 ≡ Answered false false ((1 ∷ 8 ∷ 9 ∷ 193 ∷ 1 ∷ 1 ∷ 2 ∷ 49 ∷ 4 ∷ []) ∷ [])
@@ -151,6 +172,9 @@ new_one_is_left = record {
 
 one_with_a_reading_is_left : IsLeftBy light 9 1000 (pos 0) (sensed_held light new_light 1 (pos 7)) (Sensed 1 (pos 7) ∷ [])
 one_with_a_reading_is_left = sensed_looks_back light 9 1000 (pos 0) new_light [] 1 (pos 7) new_one_is_left
+
+one_that_was_changed_is_left : IsLeftBy light 9 1000 (pos 0) (updated_held new_light (pos 7)) (Updated (pos 7) ∷ [])
+one_that_was_changed_is_left = updated_looks_back light 9 1000 (pos 0) new_light [] (pos 7) new_one_is_left
 
 same_as_itself : IsHeld new_light new_light
 same_as_itself = record {

@@ -6,17 +6,19 @@ use Rattle.mctp_assembly.specs.Histories as assembly
 use Rattle.mctp_assembly.specs.Keys.{key_of}
 use Rattle.mctp_assembly.specs.Rows as rows
 use Rattle.mctp_assembly.specs.declared.fed.Fed.{Fed}
-use Rattle.pldm_responder.specs.Events.{Message, Event, Came, Set, Restarted, is_busy, is_copy}
+use Rattle.pldm_responder.specs.Events.{Message, Event, Came, Set, Restarted, Changed, is_busy, is_copy}
 use Rattle.pldm_responder.specs.Performing.{Rules, changes, busy_reply, performed, answered}
 use Rattle.pldm_responder.specs.Arrivals.{Arrival, Drop, Part, Whole, arrival, request_packet, packets_back}
 use Rattle.pldm_responder.specs.declared.outcome.Outcome.{Outcome}
 use Rattle.pldm_responder.specs.declared.outcome.Outcome.TheVariants.{Dropped, Partial, Answered}
 
--- bytes that were received at a moment, a reading that was set, or a restart at a moment
-pub data Call : Type 0 where
-  Received : (moment : ℕ) → (bytes : List ℕ) → Call
-  Sensed : (id : ℕ) → (value : ℤ) → Call
-  Restart : (moment : ℕ) → Call
+-- bytes that were received at a moment, a reading that was set, a restart at a moment, or a change from outside that
+-- left the platform in a state
+pub data Call (S : Type 0) : Type 0 where
+  Received : (moment : ℕ) → (bytes : List ℕ) → Call S
+  Sensed : (id : ℕ) → (value : ℤ) → Call S
+  Restart : (moment : ℕ) → Call S
+  Updated : (state : S) → Call S
 
 -- a packet that passes comes to assembly
 abbrev pub with_packet : Result Packet Reason → List assembly.Call → List assembly.Call
@@ -24,42 +26,45 @@ with_packet (Ok p) packets = assembly.feed p ∷ packets
 with_packet (Err reason) packets = packets
 
 -- the packets that came to assembly since the last restart
-abbrev pub fed : ℕ → List Call → List assembly.Call
+abbrev pub fed : {S : Type 0} → ℕ → List (Call S) → List assembly.Call
 fed own [] = []
 fed own (Received moment bytes ∷ calls) = with_packet (request_packet own bytes) (fed own calls)
 fed own (Sensed id value ∷ calls) = fed own calls
 fed own (Restart moment ∷ calls) = []
+fed own (Updated state ∷ calls) = fed own calls
 
 -- what a packet gives after those of its key that came before
 abbrev pub looked_back : List assembly.Call → Packet → Fed
 looked_back packets p = rows.next (assembly.since (key_of p) packets) p
 
 -- what bytes bring at this moment, after these calls
-abbrev pub arrived : ℕ → List Call → ℕ → List ℕ → Arrival
+abbrev pub arrived : {S : Type 0} → ℕ → List (Call S) → ℕ → List ℕ → Arrival
 arrived own calls moment bytes = arrival (looked_back (fed own calls)) own moment bytes
 
-abbrev pub with_arrival : Arrival → List Event → List Event
+abbrev pub with_arrival : {S : Type 0} → Arrival → List (Event S) → List (Event S)
 with_arrival (Drop reason) events = events
 with_arrival Part events = events
 with_arrival (Whole m) events = Came m ∷ events
 
--- the whole messages with good headers, the readings and the restarts
-abbrev pub events : ℕ → List Call → List Event
+-- the whole messages with good headers, the readings, the restarts and the changes from outside
+abbrev pub events : {S : Type 0} → ℕ → List (Call S) → List (Event S)
 events own [] = []
 events own (Received moment bytes ∷ calls) = with_arrival (arrived own calls moment bytes) (events own calls)
 events own (Sensed id value ∷ calls) = Set id value ∷ events own calls
 events own (Restart moment ∷ calls) = Restarted moment ∷ events own calls
+events own (Updated state ∷ calls) = Changed state ∷ events own calls
 
 -- the moment of the last call that had one, 0 where none had
-abbrev pub last_moment : List Call → ℕ
+abbrev pub last_moment : {S : Type 0} → List (Call S) → ℕ
 last_moment [] = 0
 last_moment (Received moment bytes ∷ calls) = moment
 last_moment (Sensed id value ∷ calls) = last_moment calls
 last_moment (Restart moment ∷ calls) = moment
+last_moment (Updated state ∷ calls) = last_moment calls
 
 module _ {S : Type 0} (device : Rules S) (own keep : ℕ) (start : S) where
   -- the outcome that is owed to a message after these events: busy, a copy, or fresh
-  abbrev pub answer_owed : List Event → Message → Outcome
+  abbrev pub answer_owed : List (Event S) → Message → Outcome
   answer_owed events m =
       if is_busy keep events m.moment then Answered false false (packets_back own m (busy_reply m.bytes))
       else (if is_copy keep events m
@@ -68,11 +73,11 @@ module _ {S : Type 0} (device : Rules S) (own keep : ℕ) (start : S) where
       (packets_back own m (answered device keep start events m)))
 
   -- the same, of what a packet brings
-  abbrev pub outcome_owed : List Event → Arrival → Outcome
+  abbrev pub outcome_owed : List (Event S) → Arrival → Outcome
   outcome_owed events (Drop reason) = Dropped reason
   outcome_owed events Part = Partial
   outcome_owed events (Whole m) = answer_owed events m
 
   -- the outcome of bytes that are received at a moment after these calls
-  abbrev pub outcome : List Call → ℕ → List ℕ → Outcome
+  abbrev pub outcome : List (Call S) → ℕ → List ℕ → Outcome
   outcome calls moment bytes = outcome_owed (events own calls) (arrived own calls moment bytes)

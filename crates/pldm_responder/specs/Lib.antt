@@ -11,8 +11,8 @@ pub mod Counts
 pub mod Slots
 pub mod Stations
 pub mod Laws
-pub mod Dimmers
 pub mod Asked
 pub mod Repeating
 pub mod Rooms
 pub mod Askings
+pub mod Completing

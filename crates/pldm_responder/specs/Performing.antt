@@ -11,7 +11,7 @@ use Rattle.pldm_wire.specs.declared.assigned.TheConstants.{ERROR_NOT_READY, SUCC
 use Rattle.pldm_wire.specs.declared.command.Command.{Command}
 use Rattle.pldm_platform.specs.Changes.{changed_or}
 use Rattle.pldm_platform.specs.declared.platform.ReadingFault.{ReadingFault}
-use Rattle.pldm_responder.specs.Events.{Message, Event, Came, Set, Restarted, Place, origin, is_copy_of, is_fresh}
+use Rattle.pldm_responder.specs.Events.{Message, Event, Came, Set, Restarted, Changed, Place, origin, is_copy_of, is_fresh}
 use Rattle.pldm_wire.specs.Headers.{id_at}
 
 -- a platform's answer to a command in a state, the state after it, and the state after a reading is set
@@ -84,23 +84,25 @@ abbrev pub busy_reply : List ℕ → List ℕ
 busy_reply bytes = busy_reply_to (request_of bytes)
 
 module _ {S : Type 0} (device : Rules S) (keep : ℕ) (start : S) where
-  -- the platform's state: each fresh message is performed once, and each reading set, in order
-  abbrev pub performed : List Event → S
+  -- the platform's state: each fresh message is performed once, each reading set, and each change from outside put, in
+  -- order
+  abbrev pub performed : List (Event S) → S
   performed [] = start
   performed (Came m ∷ events) =
       if is_fresh keep events m then next device (performed events) m.bytes else performed events
   performed (Set id value ∷ events) = changed_or (performed events) (device.sensed (performed events) id value)
   performed (Restarted _ ∷ events) = performed events
+  performed (Changed state ∷ events) = state
 
   -- the reply of the message at a place, where it is performed there
-  abbrev pub reply_at : Place → List ℕ
+  abbrev pub reply_at : Place S → List ℕ
   reply_at place = reply device (performed place.before) place.message.bytes
 
-  abbrev pub answered_by : List Event → Message → Option Place → List ℕ
+  abbrev pub answered_by : List (Event S) → Message → Option (Place S) → List ℕ
   answered_by events m None = reply device (performed events) m.bytes
   answered_by events m (Some place) =
       if is_copy_of keep m (Some place) then reply_at place else reply device (performed events) m.bytes
 
   -- what a message is answered while the responder serves: its own reply where it is fresh, else its origin's
-  abbrev pub answered : List Event → Message → List ℕ
+  abbrev pub answered : List (Event S) → Message → List ℕ
   answered events m = answered_by events m (origin keep events m.source (id_at m.bytes))

@@ -59,6 +59,10 @@ held_of station = record {
   last = station.last;
 }
 
+-- the same with this platform in the place of its own
+abbrev pub with_platform : {P S : Type 0} → (P → S) → Station P S → P → Station P S
+with_platform state_of station platform = record station { platform = platform; state = state_of platform }
+
 -- the packets of a request from another endpoint
 pub record IsAsked (own : ℕ) (key : Key) : Type 0 where
   pub ranges : IsKey key

@@ -57,6 +57,10 @@ module _ {S : Type 0} (held : Held S) where
     last = moment;
   }
 
+  -- what is held after a change from outside, which left the platform in this state
+  abbrev pub updated_held : S → Held S
+  updated_held state = record held { state = state }
+
 -- a packet that passes comes to assembly
 abbrev pub open_after : assembly.Held → Result Packet Reason → assembly.Held
 open_after open_messages (Ok p) = assembly.after open_messages p

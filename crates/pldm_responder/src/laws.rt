@@ -2,7 +2,7 @@
 
 ghost use Rattle.pldm_responder.specs.Asked.{AnswerDecides, NoneIsAsked};
 ghost use Rattle.pldm_responder.specs.Askings.{AskedApart, CommandsLookBack};
-ghost use Rattle.pldm_responder.specs.Laws.{BusyAnswersAreOnePacket, KeptWhereFresh, NewLooksBack, OneCount, ReceivedLooksBack, RestartedLooksBack, SameIsLeft, SensedLooksBack};
+ghost use Rattle.pldm_responder.specs.Laws.{BusyAnswersAreOnePacket, KeptWhereFresh, NewLooksBack, OneCount, PutIsUpdated, ReceivedLooksBack, RestartedLooksBack, SameIsLeft, SensedLooksBack, UpdatedLooksBack};
 ghost use Rattle.pldm_responder.specs.Performing.{rules_of};
 
 use pldm_platform::Platform;
@@ -12,6 +12,8 @@ use pldm_platform::Platform;
 pub fn looks_back<P: Platform>()
     ensures received { ReceivedLooksBack (rules_of P.answer P.after P.sensed) }
     ensures sensed { SensedLooksBack (rules_of P.answer P.after P.sensed) }
+    ensures updated { UpdatedLooksBack (rules_of P.answer P.after P.sensed) }
+    ensures put { PutIsUpdated P.state }
     ensures restarted { RestartedLooksBack (rules_of P.answer P.after P.sensed) }
     ensures new { NewLooksBack (rules_of P.answer P.after P.sensed) }
     ensures same { SameIsLeft (rules_of P.answer P.after P.sensed) }
@@ -42,7 +44,7 @@ pub fn answers_come_from_outside<P: Platform>()
 /// or another fresh request of that source and instance ID.
 pub fn commands_are_asked_once<P: Platform>()
     ensures looks_back { CommandsLookBack (rules_of P.answer P.after P.sensed) }
-    ensures apart { AskedApart }
+    ensures apart { AskedApart P.State }
 {
     mctp_assembly::laws::looks_back();
 }

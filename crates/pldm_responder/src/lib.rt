@@ -1,7 +1,8 @@
-//! The responding end of PLDM over MCTP: packets in, each request performed once, and answers out. The
+//! The responding end of PLDM over MCTP: packets in, each fresh request performed once, and answers out. The
 //! instance ID tells a new request from a retry (DSP0240, "PLDM message fields").
 #![tactic(auto)]
 
+mod answering;
 mod bounds;
 mod kept_answer;
 mod kept_answers;

@@ -58,7 +58,7 @@ pub(crate) fn refuse(request: &RequestRef<'_>, code: Code, reply: &mut Body)
 }
 
 /// Whether the answer has the completion code SUCCESS.
-fn succeeded(answer: &Answer) -> bool
+pub(crate) fn succeeded(answer: &Answer) -> bool
     ensures { result ≡ (code_of answer.now == SUCCESS) }
 {
     match answer {

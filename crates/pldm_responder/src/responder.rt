@@ -1,15 +1,18 @@
+ghost use Rattle.std.specs.Borrow.{Lends, sem};
 ghost use Rattle.std.specs.FinMap as map;
-ghost use Rattle.std.specs.Prelude.{◌≡◌, ◌≢◌, ℕ, false, ◌*◌, ◌≤◌, ◌<◌, ◌&&◌, true, Bool, [], length, nat_lt, Ok, IfOk, IfSome, IsSome, is_some, OnOk, OnErr};
+ghost use Rattle.std.specs.Prelude.{◌≡◌, ◌≢◌, ℕ, false, ◌*◌, ◌≤◌, ◌<◌, ◌&&◌, true, Bool, [], ◌∷◌, length, nat_lt, Ok, IfOk, IfSome, IsSome, is_some, OnOk, OnErr};
 ghost use Rattle.mctp_packet.specs.Passing.{passed};
 ghost use Rattle.mctp_assembly.specs.Keys.{IsKey, key_of};
 ghost use Rattle.mctp_assembly.specs.Steps.{answer};
 ghost use Rattle.mctp_assembly.specs.declared.fed.Fed.TheVariants.{Whole};
 ghost use Rattle.mctp_assembly.specs.declared.key.Key.{Key as KeyValue};
 ghost use Rattle.pldm_platform.specs.Changes.{made_of};
+ghost use Rattle.pldm_wire.specs.Answers.{IsAnswerTo};
+ghost use Rattle.pldm_wire.specs.Commands.{kind_of};
 ghost use Rattle.pldm_wire.specs.Requests.{request_of};
 ghost use Rattle.pldm_wire.specs.declared.assigned.TheConstants.{INSTANCE_IDS as ids};
 ghost use Rattle.pldm_responder.specs.Answering.{HasReply, answering, packets_if};
-ghost use Rattle.pldm_responder.specs.Asked.{listed};
+ghost use Rattle.pldm_responder.specs.Asked.{gives, listed, stateless};
 ghost use Rattle.pldm_responder.specs.Arrivals.{is_expected, message_arrival, message_of, packet_arrival, packets_back};
 ghost use Rattle.pldm_responder.specs.Counts.{CountsKept};
 ghost use Rattle.pldm_responder.specs.Fitting.{ArrivalFits, ReceivedFits};
@@ -18,22 +21,24 @@ ghost use Rattle.pldm_responder.specs.Performing.{rules_of};
 ghost use Rattle.pldm_responder.specs.Repeating.{is_alone, is_same, repeats_alone};
 ghost use Rattle.pldm_responder.specs.Rooms.{ArrivalLacksRow, HasRow, IsCommanded, LacksRow};
 ghost use Rattle.pldm_responder.specs.Slots.{kept_in};
-ghost use Rattle.pldm_responder.specs.Stations.{held_of};
-ghost use Rattle.pldm_responder.specs.Steps.{arrival_commands, arrival_held, arrival_outcome, copied_packets, passed_held, received_commands, received_held, received_outcome, repeats, restarted_held, sensed_held};
+ghost use Rattle.pldm_responder.specs.Stations.{held_of, with_platform};
+ghost use Rattle.pldm_responder.specs.Steps.{arrival_commands, arrival_held, arrival_outcome, copied_packets, passed_held, received_commands, received_held, received_outcome, repeats, restarted_held, sensed_held, updated_held};
+ghost use Rattle.pldm_responder.specs.contracts.responder.Responder.{the_row};
 ghost use Rattle.pldm_responder.specs.declared.outcome.Taken.TheVariants.{Answered};
 ghost use Rattle.pldm_responder.specs.Wants.{ArrivalWants, PassedWants, WantsMemory};
 
+use crate::answering::answer_packet;
 use crate::bounds::Bounds;
 use crate::kept_answers::KeptAnswers;
 use crate::outcome::{Outcome, Taken};
-use crate::performing::{perform, refuse};
+use crate::performing::{perform, refuse, succeeded};
 use mctp_assembly::{Assembler, Fed, Key};
 use mctp_packet::{
     Body, Eid, Keep, MAX_EID, MAX_MESSAGE_BYTES, MAX_PACKET_BYTES, MIN_EID, Memory, Moment,
     PacketRef, Reason, Route, TAGS, Tag, read_for,
 };
 use pldm_platform::{Platform, ReadingFault};
-use pldm_wire::{Code, Command, INSTANCE_IDS, read_command, read_request};
+use pldm_wire::{Answer, Code, Command, INSTANCE_IDS, read_command, read_request};
 use std::alloc::Global;
 use std::marker::Model;
 
@@ -47,7 +52,7 @@ pub const MAX_KEPT: usize = OTHER_ENDPOINTS * INSTANCE_IDS as usize;
 /// each tag.
 pub const MAX_PENDING: usize = OTHER_ENDPOINTS * TAGS as usize;
 
-/// The responding end at one endpoint: packets in, each request performed once by the platform, and
+/// The responding end at one endpoint: packets in, each fresh request performed once by the platform, and
 /// answers out.
 #[derive(Drop)]
 pub struct Responder<P: Platform> {
@@ -174,11 +179,32 @@ impl<P: Platform> Responder<P> {
         self.last = now;
     }
 
-    /// Puts another platform in the place of this one.
+    /// Puts another platform in the place of this one, and leaves all else as it is: a change from outside, to
+    /// the other one's state.
     pub fn replace(&mut self, platform: P)
-        ensures { self.new ≡ record self.old { platform = platform; state = P.state platform } }
+        ensures value { self.new ≡ with_platform P.state self.old platform }
+        ensures held { IsHeld (held_of self.new) (updated_held (held_of self.old) (P.state platform)) }
     {
         self.platform = platform;
+    }
+
+    /// Lends the platform for a change from outside, as that of a sensor whose reading was taken. What the caller
+    /// leaves behind the reference is the platform from then on; all else stays. A copy of a request that was
+    /// performed before gets its old answer, and the next fresh one is performed on what was left.
+    ///
+    /// # Example
+    ///
+    /// A lamp of the crate `lamp_board` is turned by hand:
+    ///
+    /// ```
+    /// responder.update().turn(70);
+    /// ```
+    pub fn update(&mut self) -> &mut P
+        ensures value { result.now ≡ self.old.platform }
+        ensures* lent { sem 𝓛 (Lends (the_row P.row P.State.row P.Platform) P.row self.entry result
+            (with_platform P.state self.old)) }
+    {
+        &mut self.platform
     }
 
     /// The command that [`Responder::receive`] would have the platform perform for these bytes at the
@@ -222,6 +248,50 @@ impl<P: Platform> Responder<P> {
         self.kept
             .make_room(packet.route().source, self.bounds.sources)?;
         Ok(Some(command))
+    }
+
+    /// Answers the request that these bytes complete, as [`Responder::receive_message`] would at the moment
+    /// `now` with a platform that gives this answer and stays as it is. [`Responder::ask`] took the room and
+    /// gave the command; the platform is not asked. The message that answers is put into `reply` whole, and
+    /// is kept for copies from `now` on. It takes no memory.
+    pub fn answer_asked(
+        &mut self,
+        now: Moment,
+        bytes: &[u8],
+        command: &Command,
+        answer: &Answer,
+        reply: &mut Body,
+    ) -> Taken
+        requires later { (held_of self.old).last ≤ now }
+        requires asked { received_commands (held_of self.old) now bytes.now ≡ command.now ∷ [] }
+        requires room { HasRow self.old now bytes.now }
+        requires its { IsAnswerTo (kind_of command.now) answer.now }
+        ensures outcome { answering reply.new.items result
+            ≡ received_outcome (gives answer.now) (stateless (held_of self.old)) now bytes.now }
+        ensures some { HasReply reply.new.items result }
+        ensures held { IsHeld (stateless (held_of self.new))
+            (received_held (gives answer.now) (stateless (held_of self.old)) now bytes.now) }
+        ensures state { (held_of self.new).state ≡ (held_of self.old).state }
+        ensures platform { self.new.platform ≡ self.old.platform }
+        ensures bounds { self.new.bounds ≡ self.old.bounds }
+    {
+        let Ok(packet) = read_for(self.own, bytes) else {
+            unreachable!();
+        };
+        let route = packet.route();
+        answer_packet(
+            &self.assembler,
+            &mut self.kept,
+            now,
+            &packet,
+            command,
+            answer,
+            reply,
+        );
+        self.assembler.forget(key_of(&packet));
+        self.last = now;
+        let changed = command.sets() && succeeded(answer);
+        performed(changed, way_back(self.own, route.source, route.tag))
     }
 
     /// The command that a packet would have the platform perform. It is addressed to the endpoint by another
@@ -324,18 +394,18 @@ impl<P: Platform> Responder<P> {
     /// [`Responder::last_moment`], and gives what becomes of them.
     ///
     /// A packet that is addressed to the endpoint by another one, with TO 1, is assembled. A request
-    /// that is whole is a copy where the latest one of its source and instance ID that was no copy has
-    /// the same bytes, and came less than the keeping time before: then it gets that one's answer. Else
-    /// it is performed, and its answer is kept, a refusal too (DSP0240, "PLDM message fields", the
-    /// instance ID). While the responder is busy, each request is answered with ERROR_NOT_READY, and
-    /// neither performed nor kept. The answer goes back to the source, with TO 0 and the tag of the
-    /// packets that just came.
+    /// that is whole is a copy where the latest one of its source and instance ID that was performed
+    /// or refused since the last restart has the same bytes, and came less than the keeping time
+    /// before: then it gets that one's answer. Else it is performed, and its answer is kept, a refusal
+    /// too (DSP0240, "PLDM message fields", the instance ID). While the responder is busy, each
+    /// request is answered with ERROR_NOT_READY, and neither performed nor kept. The answer goes back
+    /// to the source, with TO 0 and the tag of the packets that just came.
     ///
     /// # Errors
     ///
     /// `Memory` where a growth was refused; the responder is then as before. Only a start packet that
     /// gives `Partial`, a request that is performed and whose source has no kept answer, and one that
-    /// is performed by a platform that is not steady want memory.
+    /// is performed by a platform that is not steady need memory.
     pub fn receive(&mut self, now: Moment, bytes: &[u8]) -> Result<Outcome, Memory>
         requires { (held_of self.old).last ≤ now }
         ensures outcome { IfOk result
@@ -577,11 +647,7 @@ impl<P: Platform> Responder<P> {
         self.kept.make_room(source, self.bounds.sources)?;
         let changed = perform(self.alloc, &mut self.platform, &request, reply)?;
         self.kept.put(source, id, now, message, reply);
-        Ok(Taken::Answered {
-            fresh: true,
-            changed,
-            route,
-        })
+        Ok(performed(changed, route))
     }
 
     /// Whether a message of this instance ID is a copy. The kept answer is then put into `reply`.
@@ -658,6 +724,17 @@ fn not_performed(route: Route) -> Taken
     Taken::Answered {
         fresh: false,
         changed: false,
+        route,
+    }
+}
+
+/// What becomes of a message that is performed and answered on this route.
+fn performed(changed: bool, route: Route) -> Taken
+    ensures { result ≡ Answered true changed route }
+{
+    Taken::Answered {
+        fresh: true,
+        changed,
         route,
     }
 }

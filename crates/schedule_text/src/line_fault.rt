@@ -18,8 +18,8 @@ pub struct LineFault {
     pub kind: LineFaultKind,
 }
 
-/// Why a line of a schedule is refused. Of several faults of one line the first in this order is told,
-/// but want of memory may come at any line.
+/// Why a line of a schedule is refused. Of several faults of one line the first in this order is
+/// returned, but out of memory may come at any line.
 #[derive(Clone, Copy, Debug, PartialEq, Eq, Error)]
 #[error("{}", self.name())]
 pub enum LineFaultKind {

@@ -66,11 +66,11 @@ loop-step-preserved g c =
       in_order = subst NeverWentBack (sym (taken_more schedule.steps i step within at)) (may.later, c.loop-step.invariant.in_order);
       runs = subst (λ keep. IsRunning setting (reverse (take (i + 1) schedule.steps)) keep c.take.new.self.responder c.take.new.self.places.items c.take.new.self.journal) (sym c.in_ok-take.ensures.keep)
           (subst (λ past. IsRunning setting past c.loop-step.ends.keep c.take.new.self.responder c.take.new.self.places.items c.take.new.self.journal) (sym (taken_more schedule.steps i step within at)) runs);
-      performed = subst (λ past. g.P.Platform.performed c.args.setup.device (commands_performed c.args.setup.keep (world setting past).log) c.take.new.self.responder.platform) (sym (taken_more schedule.steps i step within at))
+      performed = subst (λ past. g.P.Platform.performed c.args.setup.device (commands_performed g.row.P-State.Denot c.args.setup.keep (world setting past).log) c.take.new.self.responder.platform) (sym (taken_more schedule.steps i step within at))
           (subst (λ (cs : List Command). g.P.Platform.performed c.args.setup.device cs c.take.new.self.responder.platform) (sym (commands_added setting (world setting (reverse (take i schedule.steps))) step.moment step.action))
           (g.met.P.Platform.performed_in_turn c.args.setup.device c.loop-step.ends.responder.platform c.take.new.self.responder.platform
-          (commands_performed c.args.setup.keep (world setting (reverse (take i schedule.steps))).log)
-          (commands_at_step c.args.setup.keep (world setting (reverse (take i schedule.steps))).log step.moment step.action)
+          (commands_performed g.row.P-State.Denot c.args.setup.keep (world setting (reverse (take i schedule.steps))).log)
+          (commands_at_step g.row.P-State.Denot c.args.setup.keep (world setting (reverse (take i schedule.steps))).log step.moment step.action)
           c.loop-step.invariant.performed (c.in_ok-take.ensures.performs terms (reverse (take i schedule.steps)) c.loop-step.invariant.runs may)));
     }
 
@@ -100,13 +100,13 @@ returns-clause-report g c =
       performed = both.performed setting;
     } in
     let has_performed = λ (cs : List Command). g.P.Platform.performed c.args.setup.device cs c.into_platform-device.result in
-    let given = subst (λ p. g.P.Platform.performed c.args.setup.device (commands_performed c.args.setup.keep (world setting past).log) p) (sym c.into_platform-device.ensures.value) c.loop-step.invariant.performed in
+    let given = subst (λ p. g.P.Platform.performed c.args.setup.device (commands_performed g.row.P-State.Denot c.args.setup.keep (world setting past).log) p) (sym c.into_platform-device.ensures.value) c.loop-step.invariant.performed in
     record {
       each_step = runs.entries ∙ ap (λ steps. entries setting steps) all;
       each_request = requests_are setting (world setting past) journal.requests.items runs.requests ∙ ap (λ steps. requests_after setting (world setting steps)) all;
-      in_order = runs.order ∙ ap (λ steps. order setting.keep (world setting steps).log) all;
+      in_order = runs.order ∙ ap (λ steps. order g.row.P-State.Denot setting.keep (world setting steps).log) all;
       state = c.into_platform-device.ensures.state ∙ runs.device.left.state ∙ ap (performed setting.device setting.keep setting.start) runs.device.events ∙ ap (λ steps. performed setting.device setting.keep setting.start (told (world setting steps).log)) all;
-      commands = subst (λ steps. has_performed (commands_performed c.args.setup.keep (world setting steps).log)) all given;
+      commands = subst (λ steps. has_performed (commands_performed g.row.P-State.Denot c.args.setup.keep (world setting steps).log)) all given;
       tested = runs.timely ∙ ap (λ steps. is_timely setting steps) all;
       headline = λ timely.
           subst (λ s. Headline setting (newest_first schedule) journal.entries.items journal.requests.items journal.order.items s has_performed) (sym c.into_platform-device.ensures.state)

@@ -15,7 +15,7 @@ invariant-loop-step g l = record {
   runs : IsRunning (setting_of_run (rules_of g.P.Platform.answer g.P.Platform.after g.P.Platform.sensed) (g.P.Platform.state l.fn.setup.device) l.fn.setup.eid l.fn.setup.keep l.fn.schedule)
       (reverse (take l.step-index l.fn.schedule.steps)) l.ends.keep l.ends.responder l.ends.places.items l.ends.journal;
   performed : g.P.Platform.performed l.fn.setup.device
-      (commands_performed l.fn.setup.keep
+      (commands_performed g.row.P-State.Denot l.fn.setup.keep
       (world (setting_of_run (rules_of g.P.Platform.answer g.P.Platform.after g.P.Platform.sensed) (g.P.Platform.state l.fn.setup.device) l.fn.setup.eid l.fn.setup.keep l.fn.schedule)
       (reverse (take l.step-index l.fn.schedule.steps))).log)
       l.ends.responder.platform;

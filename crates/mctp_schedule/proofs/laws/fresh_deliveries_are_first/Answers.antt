@@ -3,4 +3,4 @@ use Rattle.mctp_schedule.proofs.DeliveriesOwed.{none_opened_since, fresh_where_f
 use Rattle.mctp_schedule.proofs.laws.fresh_deliveries_are_first.Goals as goal
 
 pub returns : goal.returns
-returns g = record { none_since = none_opened_since; fresh = fresh_where_first; order = fresh_in_order_of_firsts }
+returns g c = record { none_since = none_opened_since; fresh = fresh_where_first; order = fresh_in_order_of_firsts }

@@ -79,7 +79,7 @@ returns-then-number-len-clause-performs g c = λ terms past running may.
     let count = running.counted in
     let past_all : count_of log ≤ c.args.number = omega (arith, len, above, count) in
     let platform = c.args.self.now.responder.platform in
-    subst (λ o. g.P.Platform.performed platform (commands_if (fresh_of terms.keep (told log) c.args.now o) o) platform) (sym (none_past log c.args.number past_all))
+    subst (λ o. g.P.Platform.performed platform (commands_if (fresh_of terms.keep (told {S = g.row.P-State.Denot} log) c.args.now o) o) platform) (sym (none_past log c.args.number past_all))
     (g.met.P.Platform.none_performed platform)
 
 pub returns-clause-performs : goal.returns-clause-performs

@@ -1,0 +1,2 @@
+pub mod Lamps
+pub mod Counts
