@@ -16,8 +16,8 @@ pub struct Key {
 }
 
 impl Key {
-    /// The key of a packet.
-    pub(crate) fn of(packet: &PacketRef<'_>) -> Key
+    /// The key of a packet: its source, its tag and its tag owner bit.
+    pub fn of(packet: &PacketRef<'_>) -> Key
         ensures value { result ≡ key_of packet.now }
         ensures range { IsKey result }
     {

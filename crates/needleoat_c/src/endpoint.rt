@@ -152,6 +152,7 @@ pub(crate) fn report(
 
 /// Puts the answer that these fields are to a command in the place of what `given` holds. An `Err` has the number that
 /// says why they are none.
+// Not inlined: the answer is made here, and no second place for it is left on the caller's stack.
 #[inline(never)]
 fn put_given(command: &Command, fields: &AnswerFields, given: &mut Answer) -> Result<(), u8>
     ensures answer { OnOk result (given_to command.now fields.now ≡ Ok given.new) }
@@ -217,6 +218,7 @@ fn put_packets(
 }
 
 /// Puts packet `index` of a message in front of a room, where there is one, and returns its length, else 0.
+// Not inlined: it is called five times, and its packet is on the stack once.
 #[inline(never)]
 fn put_packet(
     route: &Route,

@@ -4,7 +4,7 @@ use Rattle.pldm_device.specs.declared.limits.TheConstants.{MAX_ENTRIES, MAX_ID, 
 use Rattle.pldm_device.specs.declared.limits.TheConstants.{MAX_ALLOWED, MAX_SENSOR_STATE}
 use Rattle.pldm_device.specs.declared.limits.TheConstants.{SENSOR_ENABLED, NO_EVENTS, EFFECTER_ENABLED}
 use Rattle.pldm_device.specs.declared.limits.TheConstants.{REQUEST_SET, UNASSIGNED_TID, RESERVED_TID}
-use Rattle.pldm_device.specs.declared.limits.TheConstants.{UUID_BYTES, VERSION_BYTES}
+use Rattle.pldm_device.specs.declared.limits.TheConstants.{UUID_BYTES, VERSION_BYTES, MAX_TID}
 
 most_entries : MAX_ENTRIES ≡ 1000
 most_entries = refl
@@ -44,3 +44,6 @@ uuid_bytes = refl
 
 version_bytes : VERSION_BYTES ≡ 4
 version_bytes = refl
+
+most_tid : MAX_TID ≡ 254
+most_tid = refl

@@ -13,9 +13,10 @@ use crate::document::read_document;
 use crate::effecter_entries::{numeric_effecters_in, state_effecters_in};
 use crate::hex_values::{time_in, versions_in};
 use crate::keys::{number_at, value_at};
+use crate::limits::MAX_TID;
 use crate::record_entries::records_in;
 use crate::sensor_entries::{numeric_sensors_in, state_sensors_in};
-use mctp_packet::{Eid, Keep};
+use mctp_packet::{Eid, Keep, MAX_EID, MAX_KEEP, MIN_EID};
 use std::alloc::Global;
 use toml::Table;
 
@@ -66,9 +67,9 @@ fn in_document(alloc: Global, table: &Table) -> Result<Description, FileFault>
         (table_view table.now)) }
     ensures range { IfOk result IsInRange }
 {
-    let eid = number_at(table, "eid", 8, 254)?;
-    let keep = number_at(table, "keep_ms", 1, 60_000)?;
-    let tid = number_at(table, "tid", 0, 254)?;
+    let eid = number_at(table, "eid", MIN_EID.into(), MAX_EID.into())?;
+    let keep = number_at(table, "keep_ms", 1, MAX_KEEP)?;
+    let tid = number_at(table, "tid", 0, MAX_TID)?;
     let device = device_in(alloc, table, tid as u8)?;
     Ok(Description {
         eid: Eid::new(eid as u8).unwrap(),

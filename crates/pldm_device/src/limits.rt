@@ -31,6 +31,9 @@ pub const REQUEST_SET: u8 = 1;
 /// The terminus ID of a device that was given none (DSP0240, "GetTID").
 pub const UNASSIGNED_TID: u8 = 0;
 
+/// The greatest terminus ID (DSP0240, "SetTID").
+pub const MAX_TID: u32 = 254;
+
 /// The terminus ID that is reserved (DSP0240, "SetTID").
 pub const RESERVED_TID: u8 = 255;
 

@@ -11,6 +11,7 @@ use std::alloc::Global;
 /// Performs a request: its command where it has one, else it is refused. The message that answers it
 /// is put into `reply`, and the result is whether it is of a command that sets, and was not refused.
 /// An `Err` changes nothing of the platform.
+// Not inlined: the answer's room is then on the stack for a request that is performed, and not for a copy.
 #[inline(never)]
 pub(crate) fn perform<P: Platform>(
     alloc: Global,
@@ -62,7 +63,10 @@ pub(crate) fn succeeded(answer: &Answer) -> bool
     ensures { result ≡ (code_of answer.now == SUCCESS) }
 {
     match answer {
-        Answer::Refused(code) => code.get() == SUCCESS,
+        Answer::Refused(code) => {
+            let _range = code.get(); // for the proof: not SUCCESS
+            false
+        }
         _ => true,
     }
 }

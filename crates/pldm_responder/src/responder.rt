@@ -2,7 +2,6 @@ ghost use Rattle.std.specs.Borrow.{Lends, sem};
 ghost use Rattle.std.specs.FinMap as map;
 ghost use Rattle.std.specs.Prelude.{◌≡◌, ◌≢◌, ℕ, false, ◌*◌, ◌≤◌, ◌<◌, ◌&&◌, true, Bool, [], ◌∷◌, length, nat_lt, Ok, IfOk, IfSome, IsSome, is_some, OnOk, OnErr};
 ghost use Rattle.mctp_packet.specs.Passing.{passed};
-ghost use Rattle.mctp_assembly.specs.Keys.{IsKey, key_of};
 ghost use Rattle.mctp_assembly.specs.Steps.{answer};
 ghost use Rattle.mctp_assembly.specs.declared.fed.Fed.TheVariants.{Whole};
 ghost use Rattle.mctp_assembly.specs.declared.key.Key.{Key as KeyValue};
@@ -288,7 +287,7 @@ impl<P: Platform> Responder<P> {
             answer,
             reply,
         );
-        self.assembler.forget(key_of(&packet));
+        self.assembler.forget(Key::of(&packet));
         self.last = now;
         let changed = command.sets() && succeeded(answer);
         performed(changed, way_back(self.own, route.source, route.tag))
@@ -296,6 +295,7 @@ impl<P: Platform> Responder<P> {
 
     /// The command that a packet would have the platform perform. It is addressed to the endpoint by another
     /// one.
+    // Not inlined: a message that is put together is then on the stack for this call alone.
     #[inline(never)]
     fn packet_command(&self, now: Moment, packet: &PacketRef<'_>) -> Option<Command>
         ensures { listed result ≡ arrival_commands (held_of self.now)
@@ -354,6 +354,7 @@ impl<P: Platform> Responder<P> {
     }
 
     /// Whether a packet is, alone, the request that the first one completes.
+    // Not inlined: the first one's message is then on the stack for this call alone.
     #[inline(never)]
     fn repeats(&self, first: &PacketRef<'_>, packet: &PacketRef<'_>) -> bool
         ensures { (first_moment moment : ℕ)
@@ -511,7 +512,7 @@ impl<P: Platform> Responder<P> {
             return self.take_piece(now, packet, reply);
         };
         let taken = self.serve(now, route.source, route.tag, message, reply)?;
-        self.assembler.forget(key_of(packet));
+        self.assembler.forget(Key::of(packet));
         Ok(taken)
     }
 
@@ -563,7 +564,7 @@ impl<P: Platform> Responder<P> {
         ensures bounds { self.new.bounds ≡ self.old.bounds }
     {
         let route = packet.route();
-        let key = key_of(packet);
+        let key = Key::of(packet);
         match &self.assembler.look(packet) {
             Fed::Whole(message) => {
                 let taken = self.serve(now, route.source, route.tag, message, reply)?;
@@ -700,20 +701,6 @@ impl<P: Platform> Responder<P> {
     {
         let _range = self.own.get(); // for the proof: an endpoint ID
         self.assembler.pending()
-    }
-}
-
-/// The key of a packet.
-fn key_of(packet: &PacketRef<'_>) -> Key
-    ensures value { result ≡ key_of packet.now }
-    ensures range { IsKey result }
-{
-    let route = packet.route();
-    let _ranges = (route.source.get(), route.tag.get()); // for the proof: an endpoint ID and a tag
-    Key {
-        source: route.source,
-        tag: route.tag,
-        owner: route.owner,
     }
 }
 

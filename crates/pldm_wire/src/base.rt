@@ -134,6 +134,8 @@ pub(crate) fn tid_answer_in(bytes: &[u8]) -> Result<Answer, AnswerFault>
 }
 
 /// GetPLDMVersion's answer: next transfer handle, transfer flag, version data.
+// Not inlined, so that the answer is written where it is wanted and not copied there.
+#[inline(never)]
 pub(crate) fn version_answer_in(bytes: &[u8]) -> Result<Answer, AnswerFault>
     ensures { result ≡ version_answer_of bytes.now }
 {
@@ -154,6 +156,8 @@ pub(crate) fn version_answer_in(bytes: &[u8]) -> Result<Answer, AnswerFault>
 }
 
 /// GetPLDMTypes' answer: a bit for each PLDM type.
+// Not inlined, so that the answer is written where it is wanted and not copied there.
+#[inline(never)]
 pub(crate) fn types_answer_in(bytes: &[u8]) -> Result<Answer, AnswerFault>
     ensures { result ≡ types_answer_of bytes.now }
 {
@@ -166,6 +170,8 @@ pub(crate) fn types_answer_in(bytes: &[u8]) -> Result<Answer, AnswerFault>
 }
 
 /// GetPLDMCommands' answer: a bit for each command.
+// Not inlined, so that the answer is written where it is wanted and not copied there.
+#[inline(never)]
 pub(crate) fn commands_answer_in(bytes: &[u8]) -> Result<Answer, AnswerFault>
     ensures { result ≡ commands_answer_of bytes.now }
 {

@@ -119,6 +119,8 @@ pub(crate) fn push_set_state_effecter_states(
 }
 
 /// GetNumericEffecterValue's answer: data size, operational state, pending number, present number.
+// Not inlined, so that the answer is written where it is wanted and not copied there.
+#[inline(never)]
 pub(crate) fn values_answer_in(bytes: &[u8]) -> Result<Answer, AnswerFault>
     ensures { result ≡ values_answer_of bytes.now }
 {
@@ -141,6 +143,8 @@ pub(crate) fn values_answer_in(bytes: &[u8]) -> Result<Answer, AnswerFault>
 }
 
 /// GetStateEffecterStates' answer: count, as many fields.
+// Not inlined, so that the answer is written where it is wanted and not copied there.
+#[inline(never)]
 #[tactic(auto, using(crate::proofs::FieldLists::field_counts))]
 pub(crate) fn effecter_states_answer_in(bytes: &[u8]) -> Result<Answer, AnswerFault>
     ensures { result ≡ effecter_states_answer_of bytes.now }

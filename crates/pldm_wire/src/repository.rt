@@ -65,6 +65,8 @@ pub(crate) fn push_get_pdr(
 
 /// GetPDRRepositoryInfo's answer: state, update time, OEM update time, record count, repository
 /// size, largest record, timeout.
+// Not inlined, so that the answer is written where it is wanted and not copied there.
+#[inline(never)]
 pub(crate) fn repository_answer_in(bytes: &[u8]) -> Result<Answer, AnswerFault>
     ensures { result ≡ repository_answer_of bytes.now }
 {
@@ -84,6 +86,8 @@ pub(crate) fn repository_answer_in(bytes: &[u8]) -> Result<Answer, AnswerFault>
 
 /// GetPDR's answer: next record handle, next transfer handle, transfer flag, response count, as many
 /// bytes, and the checksum where the flag is End.
+// Not inlined, so that the answer is written where it is wanted and not copied there.
+#[inline(never)]
 pub(crate) fn part_answer_in(bytes: &[u8]) -> Result<Answer, AnswerFault>
     ensures { result ≡ part_answer_of bytes.now }
 {

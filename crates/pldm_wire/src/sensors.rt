@@ -65,6 +65,8 @@ pub(crate) fn push_get_state_sensor_readings(body: &mut Body, sensor: u16, rearm
 
 /// GetSensorReading's answer: data size, operational state, event enable, present, previous and
 /// event state, number.
+// Not inlined, so that the answer is written where it is wanted and not copied there.
+#[inline(never)]
 pub(crate) fn reading_answer_in(bytes: &[u8]) -> Result<Answer, AnswerFault>
     ensures { result ≡ reading_answer_of bytes.now }
 {
@@ -97,6 +99,8 @@ pub(crate) fn reading_answer_in(bytes: &[u8]) -> Result<Answer, AnswerFault>
 }
 
 /// GetStateSensorReadings' answer: count, as many fields.
+// Not inlined, so that the answer is written where it is wanted and not copied there.
+#[inline(never)]
 #[tactic(auto, using(crate::proofs::FieldLists::field_counts))]
 pub(crate) fn sensor_states_answer_in(bytes: &[u8]) -> Result<Answer, AnswerFault>
     ensures { result ≡ sensor_states_answer_of bytes.now }

@@ -52,7 +52,7 @@ returns-clause-held g c =
     c.requires.asked c.args.answer.now (held_of new)
     (ap (λ (s : Station g.row.P.Denot g.row.P-State.Denot). s.own) view)
     (ap (λ (s : Station g.row.P.Denot g.row.P-State.Denot). s.keep) view)
-    (c.forget.ensures ∙ ap (λ key. map.remove c.self.inside.assembler key) c.key_of.ensures.value
+    (c.forget.ensures ∙ ap (λ key. map.remove c.self.inside.assembler key) c.of.ensures.value
     ∙ ap (λ (s : Station g.row.P.Denot g.row.P-State.Denot). map.remove s.open_messages (key_of p)) view)
     (λ source id. c.answer_packet.ensures.kept source id
     ∙ ap (λ answer. cond (p.route.source == source && id_at bytes == id) (Some (record { moment = c.args.now; bytes = bytes; answer = answer })) (kept_in c.self.inside.kept source id)) c.answer_packet.ensures.reply

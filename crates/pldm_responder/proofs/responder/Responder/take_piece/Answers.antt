@@ -18,13 +18,13 @@ pub invariant_of-self-in-Partial : goal.invariant_of-self-in-Partial
 invariant_of-self-in-Partial g c =
     let own = ap (λ (s : Station g.row.P.Denot g.row.P-State.Denot). s.own) c.self.view_is in
     let asked : IsAsked c.self.inside.own (key_of c.args.packet.now) = record {
-      ranges = subst IsKey c.key_of-key.ensures.value c.key_of-key.ensures.range;
+      ranges = subst IsKey c.of-key.ensures.value c.of-key.ensures.range;
       owner = c.requires.owner;
       other = λ same. c.requires.other (same ∙ own);
     } in
-    let room = subst (λ (s : Station g.row.P.Denot g.row.P-State.Denot). finite.contains_key s.open_messages c.key_of-key.result ≡ false → finite.len s.open_messages < s.bounds.open_messages) (sym c.self.view_is)
+    let room = subst (λ (s : Station g.row.P.Denot g.row.P-State.Denot). finite.contains_key s.open_messages c.of-key.result ≡ false → finite.len s.open_messages < s.bounds.open_messages) (sym c.self.view_is)
     (c.has_room.ensures.yes c.if-not-has_room.false) in
-    (rw c.in_ok-keep-in-Partial.ensures.ok (asked_after c.self.inside.own c.self.inside.assembler c.args.packet.now asked c.self.invariant.0), c.self.invariant.1, (rw c.in_ok-keep-in-Partial.ensures.ok (len_after c.self.inside.assembler c.args.packet.now c.key_of-key.result c.self.inside.bounds.open_messages c.key_of-key.ensures.value c.self.invariant.2.0 room), c.self.invariant.2.1))
+    (rw c.in_ok-keep-in-Partial.ensures.ok (asked_after c.self.inside.own c.self.inside.assembler c.args.packet.now asked c.self.invariant.0), c.self.invariant.1, (rw c.in_ok-keep-in-Partial.ensures.ok (len_after c.self.inside.assembler c.args.packet.now c.of-key.result c.self.inside.bounds.open_messages c.of-key.ensures.value c.self.invariant.2.0 room), c.self.invariant.2.1))
 
 pub invariant_of-self-in-Dropped : goal.invariant_of-self-in-Dropped
 invariant_of-self-in-Dropped g c =
