@@ -1,6 +1,4 @@
-pub mod Maps
 pub mod KeyOrder
-pub mod FewKeys
 pub mod HeldEntries
 pub mod WorkedRows
 pub mod RowsByStep
@@ -8,4 +6,7 @@ pub mod StepsLookBack
 pub mod CallsLookBack
 pub mod RowsAreOne
 pub mod CopiesJoin
+pub mod NumberLookups
+pub mod NumberPlaces
+pub mod KeyNumbers
 mod Numbers

@@ -5,3 +5,4 @@ pub mod Steps
 pub mod Givens
 pub mod Histories
 pub mod Laws
+pub mod Numbered

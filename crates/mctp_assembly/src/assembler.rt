@@ -6,10 +6,10 @@ ghost use Rattle.mctp_assembly.specs.declared.key.Key.{Key};
 ghost use Rattle.mctp_assembly.specs.declared.fed.Fed.TheVariants.{Partial};
 
 use crate::buffer::{Buffer, look_alone};
+use crate::messages::Messages;
 use crate::{Fed, Given, Key};
 use mctp_packet::{Body, MAX_EID, MAX_MESSAGE_BYTES, MIN_EID, Memory, PacketRef, TAGS};
 use std::alloc::Global;
-use std::collections::BTreeMap;
 use std::marker::Model;
 
 /// The most assemblies at a time: one for each endpoint ID that a packet can come from, each tag and
@@ -20,23 +20,20 @@ pub const MAX_ASSEMBLIES: usize = (MAX_EID - MIN_EID + 1) as usize * TAGS as usi
 /// each [`Key`].
 #[derive(Debug, Drop)]
 pub struct Assembler {
-    buffers: BTreeMap<Key, Buffer>,
+    messages: Messages,
 }
 
 impl Model for Assembler {
     ghost use Rattle.std.specs.FinMap as map;
-    ghost use Rattle.std.specs.Prelude.{All};
-    ghost use Rattle.std.specs.BTreeMap.{keys, values};
-    ghost use Rattle.mctp_assembly.specs.Keys.{IsKey, key_cmp, coded_key};
-    ghost use Rattle.mctp_assembly.specs.Opened.{Opened, IsOpened, coded_opened};
+    ghost use Rattle.mctp_assembly.specs.Keys.{key_cmp, coded_key};
+    ghost use Rattle.mctp_assembly.specs.Numbered.{held_in};
+    ghost use Rattle.mctp_assembly.specs.Opened.{Opened, coded_opened};
 
     ghost Value = { map.FinMap key_cmp Opened };
 
     ghost coded = { map.code coded_key coded_opened };
 
-    ghost view = { λ a. map.from_entries a.buffers.entries };
-
-    ghost invariant = { λ a. All IsKey (keys a.buffers) × All IsOpened (values a.buffers) };
+    ghost view = { λ a. held_in a.messages };
 }
 
 impl Assembler {
@@ -45,7 +42,7 @@ impl Assembler {
         ensures { result ≡ map.empty }
     {
         Assembler {
-            buffers: BTreeMap::new(alloc),
+            messages: Messages::new(alloc),
         }
     }
 
@@ -106,7 +103,7 @@ impl Assembler {
     fn look_into(&self, packet: &PacketRef<'_>, message: &mut Body) -> Given
         ensures { fed_with message.new.items result ≡ answer self.now packet.now }
     {
-        match self.buffers.get(&Key::of(packet)) {
+        match self.messages.get(Key::of(packet).number()) {
             Some(buffer) => buffer.look_into(packet, message),
             None => look_alone(packet, message),
         }
@@ -124,15 +121,12 @@ impl Assembler {
         ensures at_start { OnErr result (packet.now.start ≡ true) }
         ensures err { OnErr result (self.new ≡ self.old) }
     {
-        let key = Key::of(packet);
+        let number = Key::of(packet).number();
         if packet.start() {
-            self.buffers.insert(key, Buffer::new(packet))?;
+            self.messages.put(number, Buffer::new(packet))?;
             return Ok(());
         }
-        match self.buffers.get_mut(&key) {
-            Some(buffer) => buffer.append(packet),
-            None => unreachable!(),
-        }
+        self.messages.append(number, packet);
         Ok(())
     }
 
@@ -140,14 +134,14 @@ impl Assembler {
     pub fn forget(&mut self, key: Key)
         ensures { self.new ≡ map.remove self.old key }
     {
-        self.buffers.remove(&key);
+        self.messages.remove(key.number());
     }
 
     /// Whether an assembly of this key is in progress.
     pub fn is_open(&self, key: Key) -> bool
         ensures { result ≡ map.contains_key self.now key }
     {
-        self.buffers.contains_key(&key)
+        self.messages.get(key.number()).is_some()
     }
 
     /// How many assemblies are in progress: at most [`MAX_ASSEMBLIES`], each of at most
@@ -157,6 +151,6 @@ impl Assembler {
         ensures few { result ≤ MAX_ASSEMBLIES }
         ensures small { (key : Key) → IfSome (map.get self.now key) (λ o. length o.bytes ≤ MAX_MESSAGE_BYTES) }
     {
-        self.buffers.len()
+        self.messages.len()
     }
 }

@@ -1,7 +1,8 @@
 ghost use Rattle.std.specs.Prelude.{◌≡◌};
 ghost use Rattle.mctp_assembly.specs.Keys.{IsKey, key_of};
+ghost use Rattle.mctp_assembly.specs.Numbered.{IsNumber, number_of};
 
-use mctp_packet::{Eid, PacketRef, Tag};
+use mctp_packet::{Eid, PacketRef, TAGS, Tag};
 
 /// Whose messages are assembled one at a time: packets of one source, tag and tag owner bit
 /// (DSP0236, "Message assembly").
@@ -28,5 +29,15 @@ impl Key {
             tag: route.tag,
             owner: route.owner,
         }
+    }
+
+    /// Its number: keys are numbered by source, then by tag, then by the tag owner bit.
+    pub(crate) fn number(self) -> u16
+        ensures value { result ≡ number_of self }
+        ensures number { IsNumber result }
+        ensures range { IsKey self }
+    {
+        let (source, tag) = (self.source.get(), self.tag.get());
+        (u16::from(source) * u16::from(TAGS) + u16::from(tag)) * 2 + u16::from(self.owner)
     }
 }

@@ -6,6 +6,7 @@ mod buffer;
 mod fed;
 mod key;
 pub mod laws;
+mod messages;
 
 pub use assembler::{Assembler, MAX_ASSEMBLIES};
 pub use fed::{Fed, Given};

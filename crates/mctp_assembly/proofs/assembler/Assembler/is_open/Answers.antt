@@ -1,14 +1,13 @@
-use Rattle.std.proofs.Common.{ap, sym, ◌∙◌, is_some}
-use Rattle.std.specs.FinMap as map
-use Rattle.mctp_assembly.specs.Keys.{key_cmp}
-use Rattle.mctp_assembly.specs.Opened.{Opened}
-use Rattle.mctp_assembly.specs.declared.key.Key.{Key}
-use Rattle.mctp_assembly.proofs.Maps.{get_is}
-use Rattle.mctp_assembly.proofs.KeyOrder.{keys_total}
+use Rattle.std.proofs.Common.{◌≡◌, Bor, Option, Some, None, ap, ◌∙◌, is_some, refl}
+use Rattle.std.specs.Option.{option_copied}
+use Rattle.mctp_assembly.proofs.HeldEntries.{held_at}
 use Rattle.mctp_assembly.proofs.assembler.Assembler.is_open.Goals as goal
+
+some_copied : {X : Type 0} (o : Option (Bor X)) → is_some o ≡ is_some (option_copied o)
+some_copied None = refl
+some_copied (Some x) = refl
 
 pub returns : goal.returns
 returns c =
-    c.contains_key.ensures
-    ∙ ap is_some (sym (get_is Key Opened key_cmp keys_total c.self.inside.buffers.entries c.args.key))
-    ∙ ap (λ m. map.contains_key m c.args.key) c.self.view_is
+    c.is_some.ensures ∙ some_copied c.get.result
+    ∙ ap is_some (c.get.ensures ∙ held_at c.self.inside.messages c.args.self.now c.args.key c.args.key c.number.result c.self.view_is c.number.ensures.range c.number.ensures.value refl)
