@@ -1,6 +1,6 @@
 -- A requester is asked to open a request: what a run holds then.
 use Rattle.std.proofs.Common.{◌≡◌, ◌⊎◌, ℕ, suc, ◌<◌, ◌≤◌, Bool, true, false, List, [], ◌∷◌, ◌++◌, length, Option, Some, None, Ok, Err, refl, sym, ap, subst, ◌∙◌, inl, inr, arith, eq-eqb}
-use Rattle.std.specs.Prelude.{◌&&◌, ◌==◌, ◌%◌, nat_lt, not, option_map, slice_get, slice_set}
+use Rattle.std.specs.Prelude.{◌&&◌, ◌||◌, ◌==◌, ◌%◌, nat_lt, not, option_map, slice_get, slice_set}
 use Rattle.std.proofs.lemmas.Bool.{and_right, cases_Bool, cases_eq, cond-true, cond-false, ltb-false, ltb-true, ne_eqb}
 use Rattle.pldm_wire.specs.Laws.{WrittenCommandReadBack}
 use Rattle.pldm_wire.specs.MessageSizes.{CommandFitsOnePacket}
@@ -20,7 +20,7 @@ use Rattle.pldm_requester.specs.declared.results.OpenFault.{OpenFault}
 use Rattle.pldm_requester.specs.declared.timing.Timing.{Timing}
 use Rattle.mctp_schedule.specs.Askers.{IsSent, Side, packet_bytes}
 use Rattle.mctp_schedule.specs.Entries.{as_it_stands, entries, entry_of, numbers_of, open_entry}
-use Rattle.mctp_schedule.specs.FirstArrivals.{arrives, order}
+use Rattle.mctp_schedule.specs.FirstArrivals.{arrives, is_owed_busy, order}
 use Rattle.mctp_schedule.specs.Journals.{Carried}
 use Rattle.mctp_schedule.specs.Logs.{Asked, Happening, Opened, Delivered, Sensed, WentDown, asked_at, count_of, told}
 use Rattle.mctp_schedule.specs.OncePerformed.{AreRequests, RepliesFit, given, was_busy}
@@ -68,7 +68,7 @@ module _ (S : Type 0) where
   never_busy keep (Sensed _ _ _ ∷ past) k l = never_busy keep past k l
   never_busy keep (WentDown _ ∷ past) k l = never_busy keep past k l
   never_busy keep (Delivered t j ∷ past) k l =
-      cond-false (j == k && arrives (asked_at past k) (not (is_busy keep (told {S = S} past) t))) _ _ (and_right (j == k) _ (ap (λ o. arrives o (not (is_busy keep (told {S = S} past) t))) (none_past past k l)))
+      ap (λ b. b || was_busy S keep past k) (and_right (j == k) _ (ap (λ o. is_owed_busy o (is_busy keep (told {S = S} past) t)) (none_past past k l)))
       ∙ never_busy keep past k l
 
 module _ {P S : Type 0} (setting : Setting S) (past : List Step) (keep : ℕ) (station : responder_stations.Station P S) (places : List (Option Side)) (old journal : Journal) (running : IsRunning setting past keep station places old) (moment : ℕ) (later : time_now past ≤ moment) (e : ℕ) (has : has_requester setting.requesters e ≡ true) (command : Command) (new : Side) (looks : OpenLooksBack) (same : SameIsLeft) where

@@ -9,6 +9,11 @@ abbrev pub arrives : Option Asked → Bool → Bool
 arrives None busy = false
 arrives (Some r) busy = not busy
 
+-- it is owed a busy answer where it was opened and the responder is busy
+abbrev pub is_owed_busy : Option Asked → Bool → Bool
+is_owed_busy None busy = false
+is_owed_busy (Some r) busy = busy
+
 -- the earlier place, or else this one if the request arrives here
 abbrev pub earlier : Option (List Happening) → Bool → List Happening → Option (List Happening)
 earlier (Some place) here past = Some place

@@ -1,5 +1,5 @@
 -- The device's state and its replies where each request that arrived is performed once, at its first arrival.
-use Rattle.std.specs.Prelude.{◌≡◌, ℕ, ◌<◌, ◌≤◌, true, false, not, List, [], ◌∷◌, length, Bool, ◌&&◌, ◌==◌, Option, Some, None, Ok, if◌then◌else◌}
+use Rattle.std.specs.Prelude.{◌≡◌, ℕ, ◌<◌, ◌≤◌, true, false, List, [], ◌∷◌, length, Bool, ◌&&◌, ◌||◌, ◌==◌, Option, Some, None, Ok, if◌then◌else◌}
 use Rattle.mctp_packet.specs.declared.TheConstants.{MAX_MESSAGE_BYTES}
 use Rattle.pldm_wire.specs.Requests as requests
 use Rattle.pldm_platform.specs.Changes.{changed_or}
@@ -9,7 +9,7 @@ use Rattle.pldm_responder.specs.Arrivals.{packets_back}
 use Rattle.pldm_responder.specs.declared.outcome.Outcome.{Outcome}
 use Rattle.pldm_responder.specs.declared.outcome.Outcome.TheVariants.{Answered}
 use Rattle.mctp_schedule.specs.Logs.{Asked, Happening, Opened, Delivered, Sensed, WentDown, asked_at, message_at, told}
-use Rattle.mctp_schedule.specs.FirstArrivals.{arrives, first, is_first}
+use Rattle.mctp_schedule.specs.FirstArrivals.{arrives, first, is_first, is_owed_busy}
 
 -- the bytes of a request's message
 abbrev pub bytes_of : Option Asked → List ℕ
@@ -92,10 +92,9 @@ module _ {S : Type 0} (device : Rules S) (keep : ℕ) (start : S) where
 
 -- over a device with states S
 module _ (S : Type 0) where
-  -- a busy answer was given to request k
+  -- a busy answer was given to request k: one was owed to a delivery of it
   abbrev pub was_busy : ℕ → List Happening → ℕ → Bool
   was_busy keep [] k = false
   was_busy keep (Delivered moment j ∷ past) k =
-      if j == k && arrives (asked_at past k) (not (is_busy keep (told {S = S} past) moment)) then true
-      else was_busy keep past k
+      (j == k && is_owed_busy (asked_at past k) (is_busy keep (told {S = S} past) moment)) || was_busy keep past k
   was_busy keep (_ ∷ past) k = was_busy keep past k
