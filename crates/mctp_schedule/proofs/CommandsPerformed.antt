@@ -13,7 +13,7 @@ use Rattle.pldm_responder.specs.Stations.{Station, held_of}
 use Rattle.pldm_responder.specs.Steps.{arrival_commands, performs, received_arrival, received_commands}
 use Rattle.mctp_schedule.specs.Askers.{Side, packet_bytes}
 use Rattle.mctp_schedule.specs.DeviceHalf.{FreshWhereFirst}
-use Rattle.mctp_schedule.specs.FirstArrivals.{first, fresh_of, is_first_of}
+use Rattle.mctp_schedule.specs.FirstArrivals.{first, fresh_of}
 use Rattle.mctp_schedule.specs.Logs.{Asked, Happening, Opened, Delivered, Sensed, WentDown, IsTimelyLog, asked_at, message_at, told}
 use Rattle.mctp_schedule.specs.PerformedCommands.{commands_at_delivery, commands_at_step, commands_if, commands_once, commands_performed}
 use Rattle.mctp_schedule.specs.Running.{IsRunning, answer_action, device_calls}
@@ -24,6 +24,7 @@ use Rattle.schedule_text.specs.declared.step.Action.TheVariants as actions
 use Rattle.schedule_text.specs.declared.step.Step.{Step}
 use Rattle.mctp_schedule.proofs.DeliveredPackets.{brings_message, held_whole}
 use Rattle.mctp_schedule.proofs.DeliverySteps.{performs_is}
+use Rattle.mctp_schedule.proofs.FirstPerformed.{is_first_of}
 
 -- ---- a step adds its commands
 opened_or_not : (S : Type 0) (keep : ℕ) (accepted : Bool) (r : Asked) (log : List Happening)
