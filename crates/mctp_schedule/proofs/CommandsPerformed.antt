@@ -14,6 +14,7 @@ use Rattle.pldm_responder.specs.Steps.{arrival_commands, performs, received_arri
 use Rattle.mctp_schedule.specs.Askers.{Side, packet_bytes}
 use Rattle.mctp_schedule.specs.DeviceHalf.{FreshWhereFirst}
 use Rattle.mctp_schedule.specs.FirstArrivals.{first, fresh_of}
+use Rattle.mctp_schedule.specs.HeldRuns.{HeldRun}
 use Rattle.mctp_schedule.specs.Logs.{Asked, Happening, Opened, Delivered, Sensed, WentDown, IsTimelyLog, asked_at, message_at, told}
 use Rattle.mctp_schedule.specs.PerformedCommands.{commands_at_delivery, commands_at_step, commands_if, commands_once, commands_performed}
 use Rattle.mctp_schedule.specs.Running.{IsRunning, answer_action, device_calls}
@@ -59,12 +60,12 @@ chosen : (b : Bool) (r : Asked) → (if b then commands_of r.message else []) �
 chosen true r = refl
 chosen false r = refl
 
-module _ {P S : Type 0} (setting : Setting S) (past : List Step) (keep : ℕ) (station : Station P S) (places : List (Option Side)) (journal : Journal) (running : IsRunning setting past keep station places journal) where
+module _ {P S : Type 0} (setting : Setting S) (past : List Step) (run : HeldRun P S) (running : IsRunning setting past run) where
   abbrev log : List Happening
   log = (world setting past).log
 
   abbrev held : Held S
-  held = held_of station
+  held = held_of run.responder
 
   module _ (moment n : ℕ) (r : Asked) (is : asked_at log n ≡ Some r) (bytes : List ℕ) (packet_is : bytes ≡ packet_bytes r.source setting.eid r.own r.message) (spells : WrittenSpells) (read_for : SpelledIsReadFor) where
     arrival_is : received_arrival held moment bytes ≡ Whole (message_at moment r)

@@ -6,6 +6,7 @@ pub mod Entries
 pub mod FirstArrivals
 pub mod HandedPackets
 pub mod Headline
+pub mod HeldRuns
 pub mod Journals
 pub mod Laws
 pub mod KeptMessages

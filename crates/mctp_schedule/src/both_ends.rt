@@ -1,11 +1,12 @@
 //! Both ends over a schedule.
 
-ghost use Rattle.std.specs.Prelude.{◌≡◌, ◌⊎◌, [], true, None, Some, IfOk, IfErr, OnOk};
+ghost use Rattle.std.specs.Prelude.{◌≡◌, ◌⊎◌, true, None, Some, IfOk, IfErr, OnOk};
 ghost use Rattle.mctp_packet.specs.Memories.{out_of_memory};
 ghost use Rattle.pldm_responder.specs.Performing.{rules_of};
 ghost use Rattle.mctp_schedule.specs.Reports.{IsReport};
 ghost use Rattle.mctp_schedule.specs.RunFaults.{refusal};
-ghost use Rattle.mctp_schedule.specs.Running.{CanGoOn, GoesOn, Performs, answer_action};
+ghost use Rattle.mctp_schedule.specs.HeldRuns.{held_by};
+ghost use Rattle.mctp_schedule.specs.Running.{CanGoOn, HasTaken, answer_action, at};
 ghost use Rattle.mctp_schedule.specs.Runs.{newest_first, setting_of_run};
 ghost use Rattle.schedule_text.specs.declared.step.Action.TheVariants as actions;
 
@@ -137,14 +138,9 @@ struct Ends<P: Platform> {
 impl<P: Platform> Ends<P> {
     /// Takes a step.
     fn take(&mut self, step: &Step) -> Result<(), Memory>
-        requires { CanGoOn (rules_of P.answer P.after P.sensed) self.old.keep self.old.responder self.old.places.items
-            self.old.journal step.now }
-        ensures runs { OnOk result (GoesOn (rules_of P.answer P.after P.sensed) self.old.keep step.now
-            self.old.responder self.old.places.items self.old.journal self.new.responder self.new.places.items
-            self.new.journal) }
-        ensures performs { OnOk result (Performs (rules_of P.answer P.after P.sensed) self.old.keep P.performed
-            step.now self.old.responder self.old.places.items self.old.journal self.new.responder) }
-        ensures keep { self.new.keep ≡ self.old.keep }
+        requires { CanGoOn (rules_of P.answer P.after P.sensed) (held_by self.old) step.now }
+        ensures { OnOk result (HasTaken (rules_of P.answer P.after P.sensed) P.performed (held_by self.old)
+            step.now (held_by self.new)) }
     {
         let now = step.moment;
         match &step.action {
@@ -160,13 +156,9 @@ impl<P: Platform> Ends<P> {
 
     /// A requester opens a request.
     fn open(&mut self, now: Moment, eid: Eid, command: &Command) -> Result<(), Memory>
-        requires { CanGoOn (rules_of P.answer P.after P.sensed) self.old.keep self.old.responder self.old.places.items
-            self.old.journal (record { moment = now; action = actions.Open eid command.now }) }
-        ensures runs { OnOk result (GoesOn (rules_of P.answer P.after P.sensed) self.old.keep
-            (record { moment = now; action = actions.Open eid command.now }) self.old.responder self.old.places.items
-            self.old.journal self.new.responder self.new.places.items self.new.journal) }
-        ensures platform { self.new.responder.platform ≡ self.old.responder.platform }
-        ensures keep { self.new.keep ≡ self.old.keep }
+        requires { CanGoOn (rules_of P.answer P.after P.sensed) (held_by self.old) (at now (actions.Open eid command.now)) }
+        ensures { OnOk result (HasTaken (rules_of P.answer P.after P.sensed) P.performed (held_by self.old)
+            (at now (actions.Open eid command.now)) (held_by self.new)) }
     {
         pldm_requester::laws::looks_back();
         pldm_wire::laws::commands_are_read_back();
@@ -185,13 +177,9 @@ impl<P: Platform> Ends<P> {
 
     /// A requester sends again and gives up what is due.
     fn tick(&mut self, now: Moment, eid: Eid) -> Result<(), Memory>
-        requires { CanGoOn (rules_of P.answer P.after P.sensed) self.old.keep self.old.responder self.old.places.items
-            self.old.journal (record { moment = now; action = actions.Tick eid }) }
-        ensures runs { OnOk result (GoesOn (rules_of P.answer P.after P.sensed) self.old.keep
-            (record { moment = now; action = actions.Tick eid }) self.old.responder self.old.places.items
-            self.old.journal self.new.responder self.new.places.items self.new.journal) }
-        ensures platform { self.new.responder.platform ≡ self.old.responder.platform }
-        ensures keep { self.new.keep ≡ self.old.keep }
+        requires { CanGoOn (rules_of P.answer P.after P.sensed) (held_by self.old) (at now (actions.Tick eid)) }
+        ensures { OnOk result (HasTaken (rules_of P.answer P.after P.sensed) P.performed (held_by self.old)
+            (at now (actions.Tick eid)) (held_by self.new)) }
     {
         pldm_requester::laws::looks_back();
         let due = match &mut self.places[usize::from(eid.get())] {
@@ -204,15 +192,9 @@ impl<P: Platform> Ends<P> {
 
     /// The packet of a request comes to the device.
     fn deliver(&mut self, now: Moment, number: u64) -> Result<(), Memory>
-        requires { CanGoOn (rules_of P.answer P.after P.sensed) self.old.keep self.old.responder self.old.places.items
-            self.old.journal (record { moment = now; action = actions.Request number }) }
-        ensures runs { OnOk result (GoesOn (rules_of P.answer P.after P.sensed) self.old.keep
-            (record { moment = now; action = actions.Request number }) self.old.responder self.old.places.items
-            self.old.journal self.new.responder self.new.places.items self.new.journal) }
-        ensures performs { OnOk result (Performs (rules_of P.answer P.after P.sensed) self.old.keep P.performed
-            (record { moment = now; action = actions.Request number }) self.old.responder self.old.places.items
-            self.old.journal self.new.responder) }
-        ensures keep { self.new.keep ≡ self.old.keep }
+        requires { CanGoOn (rules_of P.answer P.after P.sensed) (held_by self.old) (at now (actions.Request number)) }
+        ensures { OnOk result (HasTaken (rules_of P.answer P.after P.sensed) P.performed (held_by self.old)
+            (at now (actions.Request number)) (held_by self.new)) }
     {
         pldm_responder::laws::looks_back::<P>();
         mctp_packet::laws::bytes_spell_one_packet();
@@ -236,17 +218,9 @@ impl<P: Platform> Ends<P> {
     /// A packet of the latest answer to a request, a busy one or not, comes to its requester.
     fn hand(&mut self, now: Moment, number: u64, packet: u8, busy: bool) -> Result<(), Memory>
         requires first { busy ≡ true → packet ≡ 0 }
-        requires steps { CanGoOn (rules_of P.answer P.after P.sensed) self.old.keep self.old.responder
-            self.old.places.items self.old.journal (record {
-              moment = now;
-              action = answer_action busy number
-                  packet;
-            }) }
-        ensures runs { OnOk result (GoesOn (rules_of P.answer P.after P.sensed) self.old.keep
-            (record { moment = now; action = answer_action busy number packet }) self.old.responder
-            self.old.places.items self.old.journal self.new.responder self.new.places.items self.new.journal) }
-        ensures platform { self.new.responder.platform ≡ self.old.responder.platform }
-        ensures keep { self.new.keep ≡ self.old.keep }
+        requires steps { CanGoOn (rules_of P.answer P.after P.sensed) (held_by self.old) (at now (answer_action busy number packet)) }
+        ensures { OnOk result (HasTaken (rules_of P.answer P.after P.sensed) P.performed (held_by self.old)
+            (at now (answer_action busy number packet)) (held_by self.new)) }
     {
         pldm_requester::laws::looks_back();
         let mut room = [0; MAX_PACKET_BYTES];
@@ -271,13 +245,9 @@ impl<P: Platform> Ends<P> {
 
     /// A sensor of the device gets a reading.
     fn sense(&mut self, now: Moment, sensor: u16, value: i64) -> Result<(), Memory>
-        requires { CanGoOn (rules_of P.answer P.after P.sensed) self.old.keep self.old.responder self.old.places.items
-            self.old.journal (record { moment = now; action = actions.Sense sensor value }) }
-        ensures runs { OnOk result (GoesOn (rules_of P.answer P.after P.sensed) self.old.keep
-            (record { moment = now; action = actions.Sense sensor value }) self.old.responder self.old.places.items
-            self.old.journal self.new.responder self.new.places.items self.new.journal) }
-        ensures performs { P.performed self.old.responder.platform [] self.new.responder.platform }
-        ensures keep { self.new.keep ≡ self.old.keep }
+        requires { CanGoOn (rules_of P.answer P.after P.sensed) (held_by self.old) (at now (actions.Sense sensor value)) }
+        ensures { OnOk result (HasTaken (rules_of P.answer P.after P.sensed) P.performed (held_by self.old)
+            (at now (actions.Sense sensor value)) (held_by self.new)) }
     {
         pldm_responder::laws::looks_back::<P>();
         let result = self.responder.set_reading(sensor, value);
@@ -287,13 +257,9 @@ impl<P: Platform> Ends<P> {
 
     /// The device's end restarts.
     fn restart(&mut self, now: Moment) -> Result<(), Memory>
-        requires { CanGoOn (rules_of P.answer P.after P.sensed) self.old.keep self.old.responder self.old.places.items
-            self.old.journal (record { moment = now; action = actions.Restart }) }
-        ensures runs { OnOk result (GoesOn (rules_of P.answer P.after P.sensed) self.old.keep
-            (record { moment = now; action = actions.Restart }) self.old.responder self.old.places.items
-            self.old.journal self.new.responder self.new.places.items self.new.journal) }
-        ensures platform { self.new.responder.platform ≡ self.old.responder.platform }
-        ensures keep { self.new.keep ≡ self.old.keep }
+        requires { CanGoOn (rules_of P.answer P.after P.sensed) (held_by self.old) (at now actions.Restart) }
+        ensures { OnOk result (HasTaken (rules_of P.answer P.after P.sensed) P.performed (held_by self.old)
+            (at now actions.Restart) (held_by self.new)) }
     {
         pldm_responder::laws::looks_back::<P>();
         self.responder.restart(now);

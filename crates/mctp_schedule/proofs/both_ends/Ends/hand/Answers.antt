@@ -2,6 +2,7 @@
 use Rattle.std.proofs.Common.{◌≡◌, ◌+◌, ◌-◌, ◌∷◌, ◌++◌, [], List, ℕ, length, Option, None, Some, sym, ap, subst, ◌∙◌, arith}
 use Rattle.std.specs.Prelude.{◌||◌, ◌&&◌, not, is_some, nat_le, option_map, slice_index_or, slice_set}
 use Rattle.pldm_responder.specs.Performing.{rules_of}
+use Rattle.pldm_wire.specs.declared.command.Command.{Command}
 use Rattle.pldm_requester.specs.Slots.{held_of}
 use Rattle.pldm_requester.specs.Steps.{IsHeld, arrived_by, got_at, passed, received_held}
 use Rattle.mctp_schedule.specs.Askers.{Side, TellsAnswer}
@@ -9,34 +10,43 @@ use Rattle.mctp_schedule.specs.Entries.{as_it_stands, got_entry}
 use Rattle.mctp_schedule.specs.HandedPackets.{got_from}
 use Rattle.mctp_schedule.specs.Logs.{asked_at}
 use Rattle.mctp_schedule.specs.Requests.{Request}
+use Rattle.mctp_schedule.specs.HeldRuns.{held_by}
 use Rattle.mctp_schedule.specs.Running.{IsRunning, answer_action, setting_of}
 use Rattle.mctp_schedule.specs.Worlds.{handed, is_timely, source_of, tag_is_own, time_now, world}
 use Rattle.mctp_schedule.proofs.AskedRequests.{asked_below}
-use Rattle.mctp_schedule.proofs.CalledSteps.{nothing_runs, or_within, place_holds}
+use Rattle.mctp_schedule.proofs.CalledSteps.{with_side, nothing_runs, or_within, place_holds}
+use Rattle.mctp_schedule.proofs.CommandsPerformed.{answers_perform_none}
 use Rattle.mctp_schedule.proofs.DeliveredAnswers.{asked_of, done_is, entry_is, not_some, timely_is, written}
 use Rattle.mctp_schedule.proofs.ListPlaces.{get_or, or_get}
 use Rattle.mctp_schedule.proofs.ReceivedSteps.{hand_runs, tag_kept, told_below}
 use Rattle.mctp_schedule.proofs.both_ends.Ends.hand.Goals as goal
 
-pub returns-in_default-clause-runs : goal.returns-in_default-clause-runs
-returns-in_default-clause-runs g c = λ terms past running may.
-    let setting = setting_of (rules_of g.P.Platform.answer g.P.Platform.after g.P.Platform.sensed) terms in
-    let w = world setting past in
-    let k = c.args.number in
-    let journal = c.args.self.now.journal in
-    let nothing = not_some c.answer_packet.result c.in_default.not-Some in
-    let brings = sym (written setting past c.args.self.now.keep c.args.self.now.responder c.args.self.now.places.items journal running c.args.busy k c.args.packet c.requires.first) ∙ sym c.answer_packet.ensures ∙ ap (option_map (λ bytes. bytes.now)) nothing in
-    let entered = c.in_ok-enter.ensures in
-    nothing_runs setting past c.args.self.now.keep c.args.self.now.responder c.args.self.now.places.items journal c.enter.new.self running c.args.now may.later (answer_action c.args.busy k c.args.packet)
-    (done_is setting w c.args.busy c.args.now k c.args.packet ∙ ap (handed setting w c.args.now (source_of (asked_at w.log k))) brings)
-    (record {
-      entries = entered.entries ∙ ap (λ x. journal.entries.items ++ x ∷ []) (sym (entry_is setting w c.args.busy c.args.now k c.args.packet ∙ ap (λ o. got_entry (got_from setting w (source_of (asked_at w.log k)) o)) brings));
-      requests = entered.requests;
-      traffic = entered.traffic;
-      order = entered.order;
-      timely = entered.timely;
-    })
-    (ap (λ b. b && is_timely setting past) (timely_is setting w c.args.busy c.args.now k c.args.packet ∙ ap (λ o. not (is_some o) || tag_is_own setting w (asked_at w.log k)) brings))
+pub returns-in_default : goal.returns-in_default
+returns-in_default g c = record {
+  goes_on = λ terms past running may.
+      let setting = setting_of (rules_of g.P.Platform.answer g.P.Platform.after g.P.Platform.sensed) terms in
+      let w = world setting past in
+      let k = c.args.number in
+      let journal = c.args.self.now.journal in
+      let nothing = not_some c.answer_packet.result c.in_default.not-Some in
+      let brings = sym (written setting past (held_by c.args.self.now) running c.args.busy k c.args.packet c.requires.first) ∙ sym c.answer_packet.ensures ∙ ap (option_map (λ bytes. bytes.now)) nothing in
+      let entered = c.in_ok-enter.ensures in
+      nothing_runs setting past (held_by c.args.self.now) c.enter.new.self running c.args.now may.later (answer_action c.args.busy k c.args.packet)
+      (done_is setting w c.args.busy c.args.now k c.args.packet ∙ ap (handed setting w c.args.now (source_of (asked_at w.log k))) brings)
+      (record {
+        entries = entered.entries ∙ ap (λ x. journal.entries.items ++ x ∷ []) (sym (entry_is setting w c.args.busy c.args.now k c.args.packet ∙ ap (λ o. got_entry (got_from setting w (source_of (asked_at w.log k)) o)) brings));
+        requests = entered.requests;
+        traffic = entered.traffic;
+        order = entered.order;
+        timely = entered.timely;
+      })
+      (ap (λ b. b && is_timely setting past) (timely_is setting w c.args.busy c.args.now k c.args.packet ∙ ap (λ o. not (is_some o) || tag_is_own setting w (asked_at w.log k)) brings));
+  performs = λ terms past running may.
+      let platform = c.args.self.now.responder.platform in
+      let log = (world (setting_of (rules_of g.P.Platform.answer g.P.Platform.after g.P.Platform.sensed) terms) past).log in
+      subst (λ (cs : List Command). g.P.Platform.performed platform cs platform) (sym (answers_perform_none g.row.P-State.Denot terms.keep log c.args.now c.args.number c.args.packet c.args.busy))
+      (g.met.P.Platform.none_performed platform);
+}
 
 pub index-request-requires : goal.index-request-requires
 index-request-requires g c =
@@ -47,7 +57,7 @@ index-request-requires g c =
     let w = world setting past in
     let k = c.args.number in
     let journal = c.args.self.now.journal in
-    let brings = sym (written setting past c.args.self.now.keep c.args.self.now.responder c.args.self.now.places.items journal running c.args.busy k c.args.packet c.requires.first) ∙ sym c.in-Some.ensures in
+    let brings = sym (written setting past (held_by c.args.self.now) running c.args.busy k c.args.packet c.requires.first) ∙ sym c.in-Some.ensures in
     let asked = asked_of setting w c.args.busy k c.args.packet c.in-Some.bytes.now brings in
     let q = asked.0 in
     let below = asked_below w.log k q asked.1 in
@@ -63,7 +73,7 @@ index_mut-requires g c =
     let w = world setting past in
     let k = c.args.number in
     let journal = c.args.self.now.journal in
-    let brings = sym (written setting past c.args.self.now.keep c.args.self.now.responder c.args.self.now.places.items journal running c.args.busy k c.args.packet c.requires.first) ∙ sym c.in-Some.ensures in
+    let brings = sym (written setting past (held_by c.args.self.now) running c.args.busy k c.args.packet c.requires.first) ∙ sym c.in-Some.ensures in
     let asked = asked_of setting w c.args.busy k c.args.packet c.in-Some.bytes.now brings in
     let q = asked.0 in
     let stands = or_get journal.requests.items k c.index-request.result.now (as_it_stands setting w q) (running.requests k ∙ ap (option_map (as_it_stands setting w)) asked.1) in
@@ -82,7 +92,7 @@ receive-requires-clause-moment g c =
     let w = world setting past in
     let k = c.args.number in
     let journal = c.args.self.now.journal in
-    let brings = sym (written setting past c.args.self.now.keep c.args.self.now.responder c.args.self.now.places.items journal running c.args.busy k c.args.packet c.requires.first) ∙ sym c.in-Some.ensures in
+    let brings = sym (written setting past (held_by c.args.self.now) running c.args.busy k c.args.packet c.requires.first) ∙ sym c.in-Some.ensures in
     let asked = asked_of setting w c.args.busy k c.args.packet c.in-Some.bytes.now brings in
     let q = asked.0 in
     let stands = or_get journal.requests.items k c.index-request.result.now (as_it_stands setting w q) (running.requests k ∙ ap (option_map (as_it_stands setting w)) asked.1) in
@@ -106,7 +116,7 @@ receive-requires-clause-all g c =
     let w = world setting past in
     let k = c.args.number in
     let journal = c.args.self.now.journal in
-    let brings = sym (written setting past c.args.self.now.keep c.args.self.now.responder c.args.self.now.places.items journal running c.args.busy k c.args.packet c.requires.first) ∙ sym c.in-Some.ensures in
+    let brings = sym (written setting past (held_by c.args.self.now) running c.args.busy k c.args.packet c.requires.first) ∙ sym c.in-Some.ensures in
     let asked = asked_of setting w c.args.busy k c.args.packet c.in-Some.bytes.now brings in
     let q = asked.0 in
     let stands = or_get journal.requests.items k c.index-request.result.now (as_it_stands setting w q) (running.requests k ∙ ap (option_map (as_it_stands setting w)) asked.1) in
@@ -127,7 +137,7 @@ unreachable-requires g c =
     let w = world setting past in
     let k = c.args.number in
     let journal = c.args.self.now.journal in
-    let brings = sym (written setting past c.args.self.now.keep c.args.self.now.responder c.args.self.now.places.items journal running c.args.busy k c.args.packet c.requires.first) ∙ sym c.in-Some.ensures in
+    let brings = sym (written setting past (held_by c.args.self.now) running c.args.busy k c.args.packet c.requires.first) ∙ sym c.in-Some.ensures in
     let asked = asked_of setting w c.args.busy k c.args.packet c.in-Some.bytes.now brings in
     let q = asked.0 in
     let stands = or_get journal.requests.items k c.index-request.result.now (as_it_stands setting w q) (running.requests k ∙ ap (option_map (as_it_stands setting w)) asked.1) in
@@ -149,7 +159,7 @@ receive-requires-2 g c =
     let w = world setting past in
     let k = c.args.number in
     let journal = c.args.self.now.journal in
-    let brings = sym (written setting past c.args.self.now.keep c.args.self.now.responder c.args.self.now.places.items journal running c.args.busy k c.args.packet c.requires.first) ∙ sym c.in-Some.ensures in
+    let brings = sym (written setting past (held_by c.args.self.now) running c.args.busy k c.args.packet c.requires.first) ∙ sym c.in-Some.ensures in
     let asked = asked_of setting w c.args.busy k c.args.packet c.in-Some.bytes.now brings in
     let q = asked.0 in
     let stands = or_get journal.requests.items k c.index-request.result.now (as_it_stands setting w q) (running.requests k ∙ ap (option_map (as_it_stands setting w)) asked.1) in
@@ -164,40 +174,47 @@ receive-requires-2 g c =
     told_below setting w (time_now past) q.source s.0 s.2 c.in-Some.bytes.now taken.answered (length journal.requests.items) (sym running.counted)
     (subst (λ (x : Side). TellsAnswer x.numbers (arrived_by (held_of x.station) (passed (held_of x.station) c.in-Some.bytes.now)) taken.answered) same received.answered)
 
-pub returns-clause-runs : goal.returns-clause-runs
-returns-clause-runs g c = λ terms past running may.
-    let setting = setting_of (rules_of g.P.Platform.answer g.P.Platform.after g.P.Platform.sensed) terms in
-    let w = world setting past in
-    let k = c.args.number in
-    let journal = c.args.self.now.journal in
-    let brings = sym (written setting past c.args.self.now.keep c.args.self.now.responder c.args.self.now.places.items journal running c.args.busy k c.args.packet c.requires.first) ∙ sym c.in-Some.ensures in
-    let asked = asked_of setting w c.args.busy k c.args.packet c.in-Some.bytes.now brings in
-    let q = asked.0 in
-    let stands = or_get journal.requests.items k c.index-request.result.now (as_it_stands setting w q) (running.requests k ∙ ap (option_map (as_it_stands setting w)) asked.1) in
-    let request = c.index-request.ensures ∙ stands in
-    let at = c.from.ensures ∙ c.get.ensures.value ∙ c.requester.ensures ∙ ap (λ (x : Request). x.asked.source) request in
-    let s = running.sides q.source (running.opened k q asked.1).source in
-    let found = c.index_mut.result.now in
-    let asker = c.in-Some-index_mut.asker in
-    let same = place_holds c.args.self.now.places.items q.source c.from.result found s.0 asker at c.index_mut.ensures.value s.1 c.in-Some-index_mut.is in
-    let received = c.in_ok-receive-in-Some-index_mut.ensures in
-    let taken = c.in_ok-receive-in-Some-index_mut.field-0 in
-    let entered = c.in_ok-receive.ensures in
-    let own = c.number-own.ensures ∙ ap (λ (x : Request). x.asked.own) request in
-    let count = c.count.ensures ∙ ap (λ (x : Side). (held_of x.station).count) same in
-    let before : c.saturating_sub.result ≡ c.count.result - 8 = (let sub = c.saturating_sub.ensures in let eight = c.from-in-Some-index_mut.ensures in omega (arith, sub, eight)) in
-    subst (λ i. IsRunning setting (record { moment = c.args.now; action = answer_action c.args.busy k c.args.packet } ∷ past) c.args.self.now.keep c.args.self.now.responder (slice_set c.args.self.now.places.items i (Some c.receive.new.self)) c.receive-2.new.self) (sym at)
-    (hand_runs setting past c.args.self.now.keep c.args.self.now.responder c.args.self.now.places.items journal c.receive-2.new.self running c.args.now may.later
-    c.args.busy k c.args.packet c.in-Some.bytes.now q asked.1 brings c.receive.new.self taken.got taken.answered (nat_le c.saturating_sub.result c.number-own.result)
-    c.looks_back.ensures.receive c.looks_back.ensures.same
-    (record {
-      same_numbers = received.numbers ∙ ap (λ (x : Side). x.numbers) same;
-      new_held = subst (λ (x : Side). IsHeld (held_of c.receive.new.self.station) (received_held (held_of x.station) c.args.now c.in-Some.bytes.now)) same received.held;
-      got_is = received.got ∙ ap (λ (x : Side). got_at (held_of x.station) c.in-Some.bytes.now) same;
-      tells = subst (λ (x : Side). TellsAnswer x.numbers (arrived_by (held_of x.station) (passed (held_of x.station) c.in-Some.bytes.now)) taken.answered) same received.answered;
-      time_is = ap (λ n. nat_le n c.number-own.result) before ∙ ap (nat_le (c.count.result - 8)) own ∙ tag_kept c.count.result q.own ∙ ap (λ n. nat_le n (q.own + 8)) count;
-      requests = entered.requests;
-      counted = entered.all;
-      writes = record { entries = entered.entries; traffic = entered.traffic; order = entered.order };
-      timely = entered.timely;
-    }))
+pub returns : goal.returns
+returns g c = record {
+  goes_on = λ terms past running may.
+      let setting = setting_of (rules_of g.P.Platform.answer g.P.Platform.after g.P.Platform.sensed) terms in
+      let w = world setting past in
+      let k = c.args.number in
+      let journal = c.args.self.now.journal in
+      let brings = sym (written setting past (held_by c.args.self.now) running c.args.busy k c.args.packet c.requires.first) ∙ sym c.in-Some.ensures in
+      let asked = asked_of setting w c.args.busy k c.args.packet c.in-Some.bytes.now brings in
+      let q = asked.0 in
+      let stands = or_get journal.requests.items k c.index-request.result.now (as_it_stands setting w q) (running.requests k ∙ ap (option_map (as_it_stands setting w)) asked.1) in
+      let request = c.index-request.ensures ∙ stands in
+      let at = c.from.ensures ∙ c.get.ensures.value ∙ c.requester.ensures ∙ ap (λ (x : Request). x.asked.source) request in
+      let s = running.sides q.source (running.opened k q asked.1).source in
+      let found = c.index_mut.result.now in
+      let asker = c.in-Some-index_mut.asker in
+      let same = place_holds c.args.self.now.places.items q.source c.from.result found s.0 asker at c.index_mut.ensures.value s.1 c.in-Some-index_mut.is in
+      let received = c.in_ok-receive-in-Some-index_mut.ensures in
+      let taken = c.in_ok-receive-in-Some-index_mut.field-0 in
+      let entered = c.in_ok-receive.ensures in
+      let own = c.number-own.ensures ∙ ap (λ (x : Request). x.asked.own) request in
+      let count = c.count.ensures ∙ ap (λ (x : Side). (held_of x.station).count) same in
+      let before : c.saturating_sub.result ≡ c.count.result - 8 = (let sub = c.saturating_sub.ensures in let eight = c.from-in-Some-index_mut.ensures in omega (arith, sub, eight)) in
+      subst (λ i. IsRunning setting (record { moment = c.args.now; action = answer_action c.args.busy k c.args.packet } ∷ past) (with_side (held_by c.args.self.now) i c.receive.new.self c.receive-2.new.self)) (sym at)
+      (hand_runs setting past (held_by c.args.self.now) c.receive-2.new.self running c.args.now may.later
+      c.args.busy k c.args.packet c.in-Some.bytes.now q asked.1 brings c.receive.new.self taken.got taken.answered (nat_le c.saturating_sub.result c.number-own.result)
+      c.looks_back.ensures.receive c.looks_back.ensures.same
+      (record {
+        same_numbers = received.numbers ∙ ap (λ (x : Side). x.numbers) same;
+        new_held = subst (λ (x : Side). IsHeld (held_of c.receive.new.self.station) (received_held (held_of x.station) c.args.now c.in-Some.bytes.now)) same received.held;
+        got_is = received.got ∙ ap (λ (x : Side). got_at (held_of x.station) c.in-Some.bytes.now) same;
+        tells = subst (λ (x : Side). TellsAnswer x.numbers (arrived_by (held_of x.station) (passed (held_of x.station) c.in-Some.bytes.now)) taken.answered) same received.answered;
+        time_is = ap (λ n. nat_le n c.number-own.result) before ∙ ap (nat_le (c.count.result - 8)) own ∙ tag_kept c.count.result q.own ∙ ap (λ n. nat_le n (q.own + 8)) count;
+        requests = entered.requests;
+        counted = entered.all;
+        writes = record { entries = entered.entries; traffic = entered.traffic; order = entered.order };
+        timely = entered.timely;
+      }));
+  performs = λ terms past running may.
+      let platform = c.args.self.now.responder.platform in
+      let log = (world (setting_of (rules_of g.P.Platform.answer g.P.Platform.after g.P.Platform.sensed) terms) past).log in
+      subst (λ (cs : List Command). g.P.Platform.performed platform cs platform) (sym (answers_perform_none g.row.P-State.Denot terms.keep log c.args.now c.args.number c.args.packet c.args.busy))
+      (g.met.P.Platform.none_performed platform);
+}
