@@ -30,7 +30,7 @@ use Rattle.mctp_schedule.specs.Requests.{Request, begun}
 use Rattle.mctp_schedule.specs.Running.{IsCarried, IsDevice, IsOpened, IsRunning, IsSide, busy_packets}
 use Rattle.schedule_text.specs.Schedules.{has_requester}
 use Rattle.mctp_schedule.specs.Worlds.{Setting, World, answer_packets, asked_by, requests_of, time_now, timing_of, with_call, world}
-use Rattle.mctp_schedule.specs.declared.askers.Sent.{Sent}
+use Rattle.mctp_schedule.specs.declared.askers.SentRequest.{SentRequest}
 use Rattle.mctp_schedule.specs.declared.entry.Entry.TheVariants as entry
 use Rattle.mctp_schedule.specs.declared.journal.Journal.{Journal}
 use Rattle.schedule_text.specs.declared.step.Action.TheVariants as actions
@@ -139,7 +139,7 @@ module _ {P S : Type 0} (setting : Setting S) (past : List Step) (run : HeldRun 
   abbrev v : World
   v = record { calls = with_call w.calls e (requester.Open moment command); log = Opened (asked_by setting w moment e command) ∷ w.log }
 
-  pub record Opens (sent : Sent) : Type 0 where
+  pub record Opens (sent : SentRequest) : Type 0 where
     pub is_sent : IsSent (held_of (running.sides e has).0.station) moment command sent
     pub new_held : IsHeld (held_of new.station) (opened_held (held_of (running.sides e has).0.station) moment command)
     pub more_numbers : new.numbers ≡ (running.sides e has).0.numbers ++ length run.journal.requests.items ∷ []
@@ -149,7 +149,7 @@ module _ {P S : Type 0} (setting : Setting S) (past : List Step) (run : HeldRun 
     pub new_order : journal.order.items ≡ run.journal.order.items
     pub timely : journal.timely ≡ run.journal.timely
 
-  module _ (reads_back : WrittenCommandReadBack) (fits : CommandFitsOnePacket) (sent : Sent) (x : Opens sent) where
+  module _ (reads_back : WrittenCommandReadBack) (fits : CommandFitsOnePacket) (sent : SentRequest) (x : Opens sent) where
     abbrev count : ℕ
     count = count_of w.log
 

@@ -169,7 +169,7 @@ impl<P: Platform> Ends<P> {
             None => unreachable!(),
         };
         match opening {
-            Ok(sent) => self.journal.open(eid, now, sent)?,
+            Ok(sent) => self.journal.enter_opened(eid, now, sent)?,
             Err(fault) => self.journal.enter(Entry::NotOpened(fault))?,
         }
         Ok(())
@@ -186,7 +186,7 @@ impl<P: Platform> Ends<P> {
             Some(asker) => asker.tick(now),
             None => unreachable!(),
         };
-        self.journal.tick(due)?;
+        self.journal.enter_due(due)?;
         Ok(())
     }
 
@@ -211,7 +211,7 @@ impl<P: Platform> Ends<P> {
             .responder
             .receive_message(now, packet, &mut self.reply)?;
         self.journal
-            .deliver(number, in_time, busy, taken, &self.reply)?;
+            .enter_delivered(number, in_time, busy, taken, &self.reply)?;
         Ok(())
     }
 
@@ -225,21 +225,21 @@ impl<P: Platform> Ends<P> {
         pldm_requester::laws::looks_back();
         let mut room = [0; MAX_PACKET_BYTES];
         let journal = &self.journal;
-        let Some(bytes) = journal.answer_packet(number, packet, busy, &mut room) else {
+        let Some(bytes) = journal.latest_answer_packet(number, packet, busy, &mut room) else {
             self.journal.enter(Entry::Nothing)?;
             return Ok(());
         };
-        let sent = journal.answer(number, busy);
+        let sent = journal.latest_answer(number, busy);
         let request = &journal.requests[number as usize];
         let own = request.number();
-        let (in_time, taken) = match &mut self.places[usize::from(request.requester().get())] {
+        let (in_time, received) = match &mut self.places[usize::from(request.requester().get())] {
             Some(asker) => {
                 let in_time = asker.count().saturating_sub(u64::from(TAGS)) <= own;
                 (in_time, asker.receive(self.alloc, now, bytes, sent)?)
             }
             None => unreachable!(),
         };
-        self.journal.receive(in_time, taken.got, taken.answered)?;
+        self.journal.enter_received(in_time, received.got, received.answered)?;
         Ok(())
     }
 

@@ -7,7 +7,7 @@ mod delivery;
 mod due_requests;
 mod entry;
 mod journal;
-mod kept_message;
+mod stored_message;
 pub mod laws;
 mod opened_request;
 mod places;

@@ -57,7 +57,7 @@ returns g c = record {
       let count = running.counted in
       let within : c.args.number < count_of (world setting past).log = omega (arith, len, below, count) in
       let asked = asked_some (world setting past).log c.args.number within in
-      let entered = c.in_ok-deliver.ensures in
+      let entered = c.in_ok-enter_delivered.ensures in
       let w = world setting past in
       let traffic = c.args.self.now.journal.traffic.items in
       let requests = c.args.self.now.journal.requests.items in
@@ -66,7 +66,7 @@ returns g c = record {
       let stands = or_get requests c.args.number c.index.result.now (as_it_stands setting w asked.0) (running.requests c.args.number ∙ ap (option_map (as_it_stands setting w)) asked.1) in
       let opening = c.get-2.ensures.value ∙ c.opening-opening.ensures ∙ ap (λ (q : Request). q.asked.opening) (c.index.ensures ∙ stands) in
       let keep = c.from.ensures ∙ c.get-3.ensures.value ∙ running.times in
-      delivered_runs setting past (held_by c.args.self.now) c.deliver.new.self running c.args.now c.args.number may.later
+      delivered_runs setting past (held_by c.args.self.now) c.enter_delivered.new.self running c.args.now c.args.number may.later
       asked.0 asked.1 c.receive_message.new.self c.packet-packet.result.now (answering c.deref.result.now c.in_ok-taken.taken) c.busy-busy.result (nat_lt c.get.result (c.get-2.result + c.from.result))
       c.looks_back.ensures.received c.looks_back.ensures.same c.bytes_spell_one_packet.ensures.written c.reading_is_spelling.ensures.read_for
       (record {

@@ -28,8 +28,8 @@ returns-in_default g c = record {
       let w = world setting past in
       let k = c.args.number in
       let journal = c.args.self.now.journal in
-      let nothing = not_some c.answer_packet.result c.in_default.not-Some in
-      let brings = sym (written setting past (held_by c.args.self.now) running c.args.busy k c.args.packet c.requires.first) ∙ sym c.answer_packet.ensures ∙ ap (option_map (λ bytes. bytes.now)) nothing in
+      let nothing = not_some c.latest_answer_packet.result c.in_default.not-Some in
+      let brings = sym (written setting past (held_by c.args.self.now) running c.args.busy k c.args.packet c.requires.first) ∙ sym c.latest_answer_packet.ensures ∙ ap (option_map (λ bytes. bytes.now)) nothing in
       let entered = c.in_ok-enter.ensures in
       nothing_runs setting past (held_by c.args.self.now) c.enter.new.self running c.args.now may.later (answer_action c.args.busy k c.args.packet)
       (done_is setting w c.args.busy c.args.now k c.args.packet ∙ ap (handed setting w c.args.now (source_of (asked_at w.log k))) brings)
@@ -150,8 +150,8 @@ unreachable-requires g c =
     let wrong : ◌≡◌ {A = Option Side} None (Some s.0) = sym c.in-None.is ∙ read in
     cc
 
-pub receive-requires-2 : goal.receive-requires-2
-receive-requires-2 g c =
+pub enter_received-requires : goal.enter_received-requires
+enter_received-requires g c =
     let terms = c.requires.steps.0 in
     let past = c.requires.steps.1 in
     let running = c.requires.steps.2 in
@@ -193,12 +193,12 @@ returns g c = record {
       let same = place_holds c.args.self.now.places.items q.source c.from.result found s.0 asker at c.index_mut.ensures.value s.1 c.in-Some-index_mut.is in
       let received = c.in_ok-receive-in-Some-index_mut.ensures in
       let taken = c.in_ok-receive-in-Some-index_mut.field-0 in
-      let entered = c.in_ok-receive.ensures in
+      let entered = c.in_ok-enter_received.ensures in
       let own = c.number-own.ensures ∙ ap (λ (x : Request). x.asked.own) request in
       let count = c.count.ensures ∙ ap (λ (x : Side). (held_of x.station).count) same in
       let before : c.saturating_sub.result ≡ c.count.result - 8 = (let sub = c.saturating_sub.ensures in let eight = c.from-in-Some-index_mut.ensures in omega (arith, sub, eight)) in
-      subst (λ i. IsRunning setting (record { moment = c.args.now; action = answer_action c.args.busy k c.args.packet } ∷ past) (with_side (held_by c.args.self.now) i c.receive.new.self c.receive-2.new.self)) (sym at)
-      (hand_runs setting past (held_by c.args.self.now) c.receive-2.new.self running c.args.now may.later
+      subst (λ i. IsRunning setting (record { moment = c.args.now; action = answer_action c.args.busy k c.args.packet } ∷ past) (with_side (held_by c.args.self.now) i c.receive.new.self c.enter_received.new.self)) (sym at)
+      (hand_runs setting past (held_by c.args.self.now) c.enter_received.new.self running c.args.now may.later
       c.args.busy k c.args.packet c.in-Some.bytes.now q asked.1 brings c.receive.new.self taken.got taken.answered (nat_le c.saturating_sub.result c.number-own.result)
       c.looks_back.ensures.receive c.looks_back.ensures.same
       (record {

@@ -12,8 +12,8 @@ use Rattle.mctp_schedule.proofs.CalledSteps.{with_side, place_holds}
 use Rattle.mctp_schedule.proofs.OpenedSteps.{opened_runs, refused_runs}
 use Rattle.mctp_schedule.proofs.both_ends.Ends.open.Goals as goal
 
-pub returns-in_ok-open-in-Ok : goal.returns-in_ok-open-in-Ok
-returns-in_ok-open-in-Ok g c = record {
+pub returns-in_ok-enter_opened-in-Ok : goal.returns-in_ok-enter_opened-in-Ok
+returns-in_ok-enter_opened-in-Ok g c = record {
   goes_on = λ terms past running may.
       let setting = setting_of (rules_of g.P.Platform.answer g.P.Platform.after g.P.Platform.sensed) terms in
       let e = c.args.eid in
@@ -26,9 +26,9 @@ returns-in_ok-open-in-Ok g c = record {
       let held = subst (λ o. OnOk o (IsHeld (held_of c.open.new.self.station) (opened_held (held_of asker.station) c.args.now c.args.command.now))) c.in-Ok.is opening.held in
       let counted : c.len-number.result ≡ length c.args.self.now.journal.requests.items = (let l = c.len-number.ensures in omega (arith, l)) in
       let numbers = subst (λ o. OnOk o (c.open.new.self.numbers ≡ asker.numbers ++ c.len-number.result ∷ [])) c.in-Ok.is opening.numbers in
-      let entered = c.in_ok-open-in-Ok.ensures in
-      subst (λ i. IsRunning setting (record { moment = c.args.now; action = actions.Open e c.args.command.now } ∷ past) (with_side (held_by c.args.self.now) i c.open.new.self c.open-in-Ok.new.self)) (sym at)
-      (opened_runs setting past (held_by c.args.self.now) c.open-in-Ok.new.self running c.args.now may.later e may.known c.args.command.now c.open.new.self
+      let entered = c.in_ok-enter_opened-in-Ok.ensures in
+      subst (λ i. IsRunning setting (record { moment = c.args.now; action = actions.Open e c.args.command.now } ∷ past) (with_side (held_by c.args.self.now) i c.open.new.self c.enter_opened.new.self)) (sym at)
+      (opened_runs setting past (held_by c.args.self.now) c.enter_opened.new.self running c.args.now may.later e may.known c.args.command.now c.open.new.self
       c.looks_back.ensures.open c.looks_back.ensures.same c.commands_are_read_back.ensures.written_reads_back c.messages_fit.ensures.command c.in-Ok.sent
       (record {
         is_sent = subst (λ (a : Side). IsSent (held_of a.station) c.args.now c.args.command.now c.in-Ok.sent) same sent;

@@ -19,8 +19,8 @@ use Rattle.mctp_schedule.proofs.NumberedRequests.{get_index, listed_own}
 use Rattle.mctp_schedule.proofs.TickedSteps.{tick_runs}
 use Rattle.mctp_schedule.proofs.both_ends.Ends.tick.Goals as goal
 
-pub tick-requires : goal.tick-requires
-tick-requires g c = λ number listed.
+pub enter_due-requires : goal.enter_due-requires
+enter_due-requires g c = λ number listed.
     let terms = c.requires.0 in
     let past = c.requires.1 in
     let running = c.requires.2 in
@@ -55,9 +55,9 @@ returns g c = record {
       let at = c.from.ensures ∙ c.get.ensures.value in
       let same = place_holds c.args.self.now.places.items e c.from.result c.index_mut.result.now s.0 asker at c.index_mut.ensures.value s.1 c.in-Some.is in
       let due = c.tick-due.ensures in
-      let entered = c.in_ok-tick.ensures in
-      subst (λ i. IsRunning setting (record { moment = c.args.now; action = actions.Tick e } ∷ past) (with_side (held_by c.args.self.now) i c.tick-due.new.self c.tick.new.self)) (sym at)
-      (tick_runs setting past (held_by c.args.self.now) c.tick.new.self running c.args.now may.later e may.known c.tick-due.new.self c.tick-due.result
+      let entered = c.in_ok-enter_due.ensures in
+      subst (λ i. IsRunning setting (record { moment = c.args.now; action = actions.Tick e } ∷ past) (with_side (held_by c.args.self.now) i c.tick-due.new.self c.enter_due.new.self)) (sym at)
+      (tick_runs setting past (held_by c.args.self.now) c.enter_due.new.self running c.args.now may.later e may.known c.tick-due.new.self c.tick-due.result
       c.looks_back.ensures.tick c.looks_back.ensures.same
       (record {
         held = subst (λ (a : Side). IsHeld (held_of c.tick-due.new.self.station) (ticked_held (held_of a.station) c.args.now)) same due.held;
