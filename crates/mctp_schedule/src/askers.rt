@@ -16,7 +16,8 @@ use pldm_wire::{Command, MAX_REQUEST_BYTES};
 use std::alloc::Global;
 use std::marker::Model;
 
-/// The most bytes of the packet that carries a command.
+/// The most bytes of the packet that carries a command. So few stand in place, and an opening asks for
+/// memory only where a list grows.
 pub(crate) const MAX_REQUEST_PACKET_BYTES: usize = HEADER + MAX_REQUEST_BYTES;
 
 /// A requester, and the numbers of its requests over all requests.
@@ -104,6 +105,7 @@ impl Asker {
             message: in_place(payload_of(packet)),
             packet: in_place(packet),
         };
+        // At a refused growth the requester has one request more than `numbers`. Nobody sees it: the run ends.
         self.numbers.push(number)?;
         Ok(Ok(sent))
     }

@@ -82,6 +82,7 @@ pub fn run<P: Platform>(
           timely = report.timely;
         })) }
 {
+    // A law is an empty function whose contract the proof uses: the call costs nothing.
     pldm_responder::laws::looks_back::<P>();
     pldm_requester::laws::looks_back();
     fresh_deliveries_are_first::<P>();
@@ -131,7 +132,8 @@ struct Ends<P: Platform> {
     responder: Responder<P>,
     places: Places,
     journal: Journal,
-    /// Where the responder puts the message that answers a packet.
+    /// Where the responder puts the message that answers a packet. Its room is large, so there is one for
+    /// the whole run and none is passed by value.
     reply: Body,
 }
 
@@ -163,7 +165,7 @@ impl<P: Platform> Ends<P> {
         pldm_requester::laws::looks_back();
         pldm_wire::laws::commands_are_read_back();
         pldm_wire::laws::messages_fit();
-        let number = self.journal.requests.len() as u64;
+        let number = self.journal.requests.len() as u64; // what the journal will give it
         let opening = match &mut self.places[usize::from(eid.get())] {
             Some(asker) => asker.open(now, command, number)?,
             None => unreachable!(),
@@ -200,11 +202,13 @@ impl<P: Platform> Ends<P> {
         mctp_packet::laws::bytes_spell_one_packet();
         mctp_packet::laws::reading_is_spelling();
         if number >= self.journal.requests.len() as u64 {
+            // A schedule may deliver a request that was never opened.
             self.journal.enter(Entry::Nothing)?;
             return Ok(());
         }
         let opening = self.journal.requests[number as usize].opening();
         let in_time = now.get() < opening.get() + u64::from(self.keep.get());
+        // Asked before the packet comes, since the entry tells a busy answer from a copy by it.
         let busy = self.responder.busy(now);
         let packet = self.journal.traffic[number as usize].packet();
         let taken = self
@@ -223,6 +227,7 @@ impl<P: Platform> Ends<P> {
             (at now (answer_action busy number packet)) (held_by self.new)) }
     {
         pldm_requester::laws::looks_back();
+        // The packet is made here: an entry keeps its answer as one message, which takes less room.
         let mut room = [0; MAX_PACKET_BYTES];
         let journal = &self.journal;
         let Some(bytes) = journal.latest_answer_packet(number, packet, busy, &mut room) else {
@@ -234,6 +239,7 @@ impl<P: Platform> Ends<P> {
         let own = request.number();
         let (in_time, received) = match &mut self.places[usize::from(request.requester().get())] {
             Some(asker) => {
+                // The request's tag is its own until the requester has opened TAGS requests more.
                 let in_time = asker.count().saturating_sub(u64::from(TAGS)) <= own;
                 (in_time, asker.receive(self.alloc, now, bytes, sent)?)
             }

@@ -41,7 +41,7 @@ impl Delivery {
     {
         let reply = match &taken {
             Taken::Answered { .. } => StoredMessage::new(alloc, reply, last)?,
-            _ => StoredMessage::new(alloc, &[], None)?,
+            _ => StoredMessage::new(alloc, &[], None)?, // takes no memory
         };
         Ok(Delivery { taken, reply })
     }

@@ -17,7 +17,8 @@ use pldm_responder::Taken;
 use std::alloc::Global;
 use std::marker::Model;
 
-/// The packet of a request, and where the latest answers to it stand among the entries.
+/// The packet of a request, and where the latest answers to it stand among the entries. A requester
+/// remembers its last requests alone, and a schedule may deliver any.
 #[derive(Debug, Drop)]
 pub(crate) struct Traffic {
     packet: ArrayVec<u8, MAX_REQUEST_PACKET_BYTES>,
@@ -234,6 +235,7 @@ impl Journal {
             self.order.push(number)?;
         }
         self.timely = in_time && self.timely;
+        // Looked up before this answer is the latest: a copy's answer is mostly the one before it, and is shared.
         let delivery = Delivery::new(self.alloc, taken, reply, self.latest_answer(number, busy))?;
         self.point_to_next_entry(number, busy);
         self.enter(Entry::Delivered { busy, delivery })

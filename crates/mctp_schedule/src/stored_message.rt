@@ -82,6 +82,7 @@ impl StoredMessage {
     ) -> Result<StoredMessage, Memory>
         ensures { IfOk result (λ message. message ≡ bytes.now) }
     {
+        // Most answers are short: those ask for no memory, so their length is looked at first.
         if bytes.len() <= MAX_SHORT {
             let bytes = StoredBytes::Short(ShortMessage::new(bytes));
             return Ok(StoredMessage { bytes });
@@ -103,6 +104,7 @@ impl StoredMessage {
         ensures { IfOk result (λ shared. IfSome shared (λ s. rc_slice_items s ≡ bytes.now)) }
     {
         match &self.bytes {
+            // Compared, and not taken on trust: the journal tells each answer as it was given.
             StoredBytes::Shared(shared) if shared.as_slice() == bytes => Ok(Some(shared.clone()?)),
             _ => Ok(None),
         }
