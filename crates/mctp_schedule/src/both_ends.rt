@@ -158,7 +158,8 @@ impl<P: Platform> Ends<P> {
 
     /// A requester opens a request.
     fn open(&mut self, now: Moment, eid: Eid, command: &Command) -> Result<(), Memory>
-        requires { CanGoOn (rules_of P.answer P.after P.sensed) (held_by self.old) (at now (actions.Open eid command.now)) }
+        requires { CanGoOn (rules_of P.answer P.after P.sensed) (held_by self.old)
+            (at now (actions.Open eid command.now)) }
         ensures { OnOk result (HasTaken (rules_of P.answer P.after P.sensed) P.performed (held_by self.old)
             (at now (actions.Open eid command.now)) (held_by self.new)) }
     {
@@ -222,7 +223,8 @@ impl<P: Platform> Ends<P> {
     /// A packet of the latest answer to a request, a busy one or not, comes to its requester.
     fn hand(&mut self, now: Moment, number: u64, packet: u8, busy: bool) -> Result<(), Memory>
         requires first { busy ≡ true → packet ≡ 0 }
-        requires steps { CanGoOn (rules_of P.answer P.after P.sensed) (held_by self.old) (at now (answer_action busy number packet)) }
+        requires steps { CanGoOn (rules_of P.answer P.after P.sensed) (held_by self.old)
+            (at now (answer_action busy number packet)) }
         ensures { OnOk result (HasTaken (rules_of P.answer P.after P.sensed) P.performed (held_by self.old)
             (at now (answer_action busy number packet)) (held_by self.new)) }
     {
@@ -251,7 +253,8 @@ impl<P: Platform> Ends<P> {
 
     /// A sensor of the device gets a reading.
     fn sense(&mut self, now: Moment, sensor: u16, value: i64) -> Result<(), Memory>
-        requires { CanGoOn (rules_of P.answer P.after P.sensed) (held_by self.old) (at now (actions.Sense sensor value)) }
+        requires { CanGoOn (rules_of P.answer P.after P.sensed) (held_by self.old)
+            (at now (actions.Sense sensor value)) }
         ensures { OnOk result (HasTaken (rules_of P.answer P.after P.sensed) P.performed (held_by self.old)
             (at now (actions.Sense sensor value)) (held_by self.new)) }
     {
