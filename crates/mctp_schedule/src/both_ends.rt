@@ -247,7 +247,8 @@ impl<P: Platform> Ends<P> {
             }
             None => unreachable!(),
         };
-        self.journal.enter_received(in_time, received.got, received.answered)?;
+        self.journal
+            .enter_received(in_time, received.got, received.answered)?;
         Ok(())
     }
 

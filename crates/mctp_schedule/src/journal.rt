@@ -155,7 +155,12 @@ impl Journal {
     }
 
     /// Writes down that a request was opened.
-    pub(crate) fn enter_opened(&mut self, requester: Eid, opening: Moment, sent: SentRequest) -> Result<(), Memory>
+    pub(crate) fn enter_opened(
+        &mut self,
+        requester: Eid,
+        opening: Moment,
+        sent: SentRequest,
+    ) -> Result<(), Memory>
         ensures entries { OnOk result (self.new.entries.items ≡ self.old.entries.items ++ Entry.Opened
             (length self.old.requests.items) ∷ []) }
         ensures requests { OnOk result (self.new.requests.items ≡ self.old.requests.items ++ begun requester sent.own
