@@ -23,8 +23,8 @@ use Rattle.mctp_schedule.specs.declared.journal.Journal.{Journal}
 use Rattle.schedule_text.specs.declared.step.Action.{Action}
 use Rattle.schedule_text.specs.declared.step.Action.TheVariants as actions
 use Rattle.schedule_text.specs.declared.step.Step.{Step}
-use Rattle.mctp_schedule.proofs.DeliveredPackets.{brings_message, held_whole}
-use Rattle.mctp_schedule.proofs.DeliverySteps.{performs_is}
+use Rattle.mctp_schedule.proofs.DeliveryChanges.{brings_message, held_whole}
+use Rattle.mctp_schedule.proofs.AfterDelivery.{performs_is}
 use Rattle.mctp_schedule.proofs.FirstPerformed.{is_first_of}
 
 -- ---- a step adds its commands

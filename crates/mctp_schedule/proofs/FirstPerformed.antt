@@ -9,7 +9,7 @@ use Rattle.pldm_responder.specs.Performing.{Rules, performed, answered, reply_at
 use Rattle.mctp_schedule.specs.Logs.{Asked, Happening, Opened, Delivered, Sensed, WentDown, last_of, count_of, asked_at, message_at, told_of, told, InOrder, Apart, InTime}
 use Rattle.mctp_schedule.specs.FirstArrivals.{arrives, earlier, first, is_first, order, firsts}
 use Rattle.mctp_schedule.specs.OncePerformed.{bytes_of, once, reply_from, the_reply}
-use Rattle.mctp_schedule.proofs.Origins.{is_of_self, origin_stays, origin_other, origin_new, copy_of, expired, performed_new, performed_stays, answered_copy, answered_new}
+use Rattle.mctp_schedule.proofs.LatestFreshMessages.{is_of_self, origin_stays, origin_other, origin_new, copy_of, expired, performed_new, performed_stays, answered_copy, answered_new}
 
 -- a request's number is the newest, or an older one
 pub request_opened : (q : Asked) (past : List Happening) (k : ℕ) (r : Asked) → asked_at (Opened q ∷ past) k ≡ Some r → ((k ≡ count_of past) × (q ≡ r)) ⊎ ((k ≢ count_of past) × (asked_at past k ≡ Some r))

@@ -9,7 +9,7 @@ use Rattle.pldm_responder.specs.Events.{is_busy, is_copy}
 use Rattle.pldm_responder.specs.Performing.{Rules}
 use Rattle.mctp_schedule.specs.Logs.{Asked, Happening, Opened, Delivered, Sensed, WentDown, asked_at, message_at, told, InOrder, Apart, InTime}
 use Rattle.mctp_schedule.specs.FirstArrivals.{first, is_first, fresh_of, order, firsts, IsSooner, IsOrderOfFirsts}
-use Rattle.mctp_schedule.proofs.AnyState.{same_busy, same_fresh, same_is_first}
+use Rattle.mctp_schedule.proofs.SameOverAnyState.{same_busy, same_fresh, same_is_first}
 use Rattle.mctp_schedule.proofs.FirstPerformed.{is_first_of, never_first, first_other, first_stays, first_busy, first_none, first_here, entry}
 
 -- a device that does nothing

@@ -13,9 +13,9 @@ use Rattle.mctp_schedule.specs.PerformedCommands.{commands_if}
 use Rattle.mctp_schedule.specs.HeldRuns.{held_by}
 use Rattle.mctp_schedule.specs.Running.{setting_of}
 use Rattle.mctp_schedule.specs.Worlds.{world}
-use Rattle.mctp_schedule.proofs.AskedRequests.{asked_some, none_past}
+use Rattle.mctp_schedule.proofs.LoggedRequests.{asked_some, none_past}
 use Rattle.mctp_schedule.proofs.CommandsPerformed.{delivery_performs}
-use Rattle.mctp_schedule.proofs.DeliverySteps.{delivered_runs, never_opened}
+use Rattle.mctp_schedule.proofs.AfterDelivery.{delivered_runs, never_opened}
 use Rattle.mctp_schedule.proofs.ListPlaces.{or_get}
 use Rattle.mctp_schedule.proofs.both_ends.Ends.deliver.Goals as goal
 

@@ -13,12 +13,12 @@ use Rattle.mctp_schedule.specs.Requests.{Request}
 use Rattle.mctp_schedule.specs.HeldRuns.{held_by}
 use Rattle.mctp_schedule.specs.Running.{IsRunning, answer_action, setting_of}
 use Rattle.mctp_schedule.specs.Worlds.{handed, is_timely, source_of, tag_is_own, time_now, world}
-use Rattle.mctp_schedule.proofs.AskedRequests.{asked_below}
-use Rattle.mctp_schedule.proofs.CalledSteps.{with_side, nothing_runs, or_within, place_holds}
+use Rattle.mctp_schedule.proofs.LoggedRequests.{asked_below}
+use Rattle.mctp_schedule.proofs.AfterCall.{with_side, nothing_runs, or_within, place_holds}
 use Rattle.mctp_schedule.proofs.CommandsPerformed.{answers_perform_none}
-use Rattle.mctp_schedule.proofs.DeliveredAnswers.{asked_of, done_is, entry_is, not_some, timely_is, written}
+use Rattle.mctp_schedule.proofs.HandedAnswerPackets.{asked_of, done_is, entry_is, not_some, timely_is, written}
 use Rattle.mctp_schedule.proofs.ListPlaces.{get_or, or_get}
-use Rattle.mctp_schedule.proofs.ReceivedSteps.{hand_runs, tag_kept, told_below}
+use Rattle.mctp_schedule.proofs.AfterAnswerPacket.{hand_runs, tag_kept, told_below}
 use Rattle.mctp_schedule.proofs.both_ends.Ends.hand.Goals as goal
 
 pub returns-in_default : goal.returns-in_default

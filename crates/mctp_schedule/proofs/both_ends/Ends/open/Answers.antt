@@ -8,8 +8,8 @@ use Rattle.mctp_schedule.specs.Askers.{IsSent, Side}
 use Rattle.mctp_schedule.specs.HeldRuns.{held_by}
 use Rattle.mctp_schedule.specs.Running.{IsRunning, setting_of}
 use Rattle.schedule_text.specs.declared.step.Action.TheVariants as actions
-use Rattle.mctp_schedule.proofs.CalledSteps.{with_side, place_holds}
-use Rattle.mctp_schedule.proofs.OpenedSteps.{opened_runs, refused_runs}
+use Rattle.mctp_schedule.proofs.AfterCall.{with_side, place_holds}
+use Rattle.mctp_schedule.proofs.AfterOpen.{opened_runs, refused_runs}
 use Rattle.mctp_schedule.proofs.both_ends.Ends.open.Goals as goal
 
 pub returns-in_ok-enter_opened-in-Ok : goal.returns-in_ok-enter_opened-in-Ok

@@ -3,7 +3,7 @@ use Rattle.std.proofs.Common.{[], sym, subst}
 use Rattle.pldm_responder.specs.Performing.{rules_of}
 use Rattle.mctp_schedule.specs.HeldRuns.{held_by}
 use Rattle.mctp_schedule.specs.Running.{setting_of}
-use Rattle.mctp_schedule.proofs.QuietSteps.{restarted_runs}
+use Rattle.mctp_schedule.proofs.AfterReadingOrRestart.{restarted_runs}
 use Rattle.mctp_schedule.proofs.both_ends.Ends.restart.Goals as goal
 
 pub returns : goal.returns

@@ -9,7 +9,7 @@ use Rattle.mctp_schedule.specs.HeldRuns.{held_by}
 use Rattle.mctp_schedule.specs.Running.{setting_of}
 use Rattle.mctp_schedule.specs.declared.entry.Entry.TheVariants.{Sensed}
 use Rattle.pldm_platform.specs.Changes.{made_of}
-use Rattle.mctp_schedule.proofs.QuietSteps.{sensed_runs}
+use Rattle.mctp_schedule.proofs.AfterReadingOrRestart.{sensed_runs}
 use Rattle.mctp_schedule.proofs.both_ends.Ends.sense.Goals as goal
 
 pub returns : goal.returns

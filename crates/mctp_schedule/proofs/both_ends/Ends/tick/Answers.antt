@@ -12,11 +12,11 @@ use Rattle.mctp_schedule.specs.HeldRuns.{held_by}
 use Rattle.mctp_schedule.specs.Running.{IsRunning, setting_of}
 use Rattle.mctp_schedule.specs.Worlds.{world}
 use Rattle.schedule_text.specs.declared.step.Action.TheVariants as actions
-use Rattle.mctp_schedule.proofs.AskedRequests.{asked_below}
+use Rattle.mctp_schedule.proofs.LoggedRequests.{asked_below}
 use Rattle.mctp_schedule.proofs.AskerCalls.{recent_below}
-use Rattle.mctp_schedule.proofs.CalledSteps.{with_side, place_holds}
+use Rattle.mctp_schedule.proofs.AfterCall.{with_side, place_holds}
 use Rattle.mctp_schedule.proofs.NumberedRequests.{get_index, listed_own}
-use Rattle.mctp_schedule.proofs.TickedSteps.{tick_runs}
+use Rattle.mctp_schedule.proofs.AfterTick.{tick_runs}
 use Rattle.mctp_schedule.proofs.both_ends.Ends.tick.Goals as goal
 
 pub enter_due-requires : goal.enter_due-requires

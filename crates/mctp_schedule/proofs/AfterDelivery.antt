@@ -36,10 +36,10 @@ use Rattle.mctp_schedule.specs.declared.entry.Entry.TheVariants as entry
 use Rattle.mctp_schedule.specs.declared.journal.Journal.{Journal}
 use Rattle.schedule_text.specs.declared.step.Action.TheVariants as actions
 use Rattle.schedule_text.specs.declared.step.Step.{Step}
-use Rattle.mctp_schedule.proofs.DeliveredPackets.{brings_message, packet_for, busy_here, busy_none, busy_other, busy_served, given_busy, given_here, given_none, given_other, held_whole, looked_whole}
+use Rattle.mctp_schedule.proofs.DeliveryChanges.{brings_message, packet_for, busy_here, busy_none, busy_other, busy_served, given_busy, given_here, given_none, given_other, held_whole, looked_whole}
 use Rattle.mctp_schedule.proofs.ListPlaces.{get_last, length_pushed}
-use Rattle.mctp_schedule.proofs.QuietSteps.{Enters, with_responder}
-use Rattle.mctp_schedule.proofs.RunningFrames.{before_more, packets_stay, still_carried, still_opened, still_side}
+use Rattle.mctp_schedule.proofs.AfterReadingOrRestart.{Enters, with_responder}
+use Rattle.mctp_schedule.proofs.KeptByAStep.{before_more, packets_stay, still_carried, still_opened, still_side}
 
 -- ---- what is owed to a message, by its packets and whether it is fresh
 module _ {S : Type 0} (device : Rules S) (own keep : ℕ) (start : S) (es : List (Event S)) (m : Message) where

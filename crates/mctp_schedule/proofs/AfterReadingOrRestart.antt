@@ -17,7 +17,7 @@ use Rattle.mctp_schedule.specs.declared.entry.Entry.{Entry}
 use Rattle.mctp_schedule.specs.declared.journal.Journal.{Journal}
 use Rattle.schedule_text.specs.declared.step.Action.TheVariants as actions
 use Rattle.schedule_text.specs.declared.step.Step.{Step}
-use Rattle.mctp_schedule.proofs.RunningFrames.{still_carried, still_opened, still_side}
+use Rattle.mctp_schedule.proofs.KeptByAStep.{still_carried, still_opened, still_side}
 
 -- what is held when the responder and what is written down have changed
 abbrev pub with_responder : {P S : Type 0} → HeldRun P S → Station P S → Journal → HeldRun P S

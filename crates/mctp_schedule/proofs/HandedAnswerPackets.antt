@@ -13,7 +13,7 @@ use Rattle.mctp_schedule.specs.Running.{IsRunning, answer_action, busy_packets}
 use Rattle.mctp_schedule.specs.Worlds.{Setting, World, answer_packets, busy_from, busy_packet, done, handed, is_timely_action, packet_of, reply_packet, source_of, tag_is_own, world}
 use Rattle.mctp_schedule.specs.declared.journal.Journal.{Journal}
 use Rattle.schedule_text.specs.declared.step.Step.{Step}
-use Rattle.mctp_schedule.proofs.AskedRequests.{none_above}
+use Rattle.mctp_schedule.proofs.LoggedRequests.{none_above}
 use Rattle.mctp_schedule.proofs.ListPlaces.{get_past}
 
 module _ {S : Type 0} (setting : Setting S) (w : World) where

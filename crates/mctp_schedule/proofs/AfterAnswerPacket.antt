@@ -31,12 +31,12 @@ use Rattle.mctp_schedule.specs.declared.entry.Entry.TheVariants as entry
 use Rattle.mctp_schedule.specs.declared.journal.Journal.{Journal}
 use Rattle.schedule_text.specs.declared.step.Step.{Step}
 use Rattle.mctp_schedule.proofs.AskerCalls.{answer_of_got, answer_remembered, own_below, standing_after}
-use Rattle.mctp_schedule.proofs.AskedRequests.{asked_below}
-use Rattle.mctp_schedule.proofs.CalledSteps.{with_side, Writes, called_runs, new_side}
-use Rattle.mctp_schedule.proofs.DeliveredAnswers.{delivered, done_is, entry_is, timely_is}
+use Rattle.mctp_schedule.proofs.LoggedRequests.{asked_below}
+use Rattle.mctp_schedule.proofs.AfterCall.{with_side, Writes, called_runs, new_side}
+use Rattle.mctp_schedule.proofs.HandedAnswerPackets.{delivered, done_is, entry_is, timely_is}
 use Rattle.mctp_schedule.proofs.NumberedRequests.{get_index, index_get}
-use Rattle.mctp_schedule.proofs.RunningFrames.{call_here, call_other}
-use Rattle.mctp_schedule.proofs.TickedSteps.{unique}
+use Rattle.mctp_schedule.proofs.KeptByAStep.{call_here, call_other}
+use Rattle.mctp_schedule.proofs.AfterTick.{unique}
 
 -- ---- a packet changes the course of the request that it answers alone
 module _ (own device : ℕ) (timing : Timing) where

@@ -25,9 +25,9 @@ use Rattle.mctp_schedule.specs.declared.entry.Entry.TheVariants as entry
 use Rattle.mctp_schedule.specs.declared.journal.Journal.{Journal}
 use Rattle.schedule_text.specs.declared.step.Action.TheVariants as actions
 use Rattle.schedule_text.specs.declared.step.Step.{Step}
-use Rattle.mctp_schedule.proofs.CalledSteps.{with_side, Writes, called_runs, new_side}
+use Rattle.mctp_schedule.proofs.AfterCall.{with_side, Writes, called_runs, new_side}
 use Rattle.mctp_schedule.proofs.NumberedRequests.{among_none, among_one, get_index, index_get}
-use Rattle.mctp_schedule.proofs.RunningFrames.{call_here, call_other}
+use Rattle.mctp_schedule.proofs.KeptByAStep.{call_here, call_other}
 
 ticked_standing : (timing : Timing) (moment : ℕ) (course : Course) → (ticked timing moment course).standing ≡ (if is_given_up timing moment course then courses.GaveUp else course.standing)
 ticked_standing timing moment course = go (is_given_up timing moment course) (is_sent_again timing moment course)

@@ -23,10 +23,10 @@ use Rattle.mctp_schedule.specs.declared.entry.Entry.{Entry}
 use Rattle.mctp_schedule.specs.declared.journal.Journal.{Journal}
 use Rattle.schedule_text.specs.declared.step.Action.{Action}
 use Rattle.schedule_text.specs.declared.step.Step.{Step}
-use Rattle.mctp_schedule.proofs.JoinedLogs.{call_grows}
+use Rattle.mctp_schedule.proofs.LogsAndCalls.{call_grows}
 use Rattle.mctp_schedule.proofs.ListPlaces.{get_or, or_get, or_set_at, or_set_other}
-use Rattle.mctp_schedule.proofs.QuietSteps.{Enters, with_responder}
-use Rattle.mctp_schedule.proofs.RunningFrames.{call_here, call_other, still_carried, still_device, still_opened, still_side}
+use Rattle.mctp_schedule.proofs.AfterReadingOrRestart.{Enters, with_responder}
+use Rattle.mctp_schedule.proofs.KeptByAStep.{call_here, call_other, still_carried, still_device, still_opened, still_side}
 
 -- a place that holds something is one of the list
 pub or_within : {X : Type 0} (xs : List (Option X)) (i : ℕ) (x : X) → slice_index_or xs i None ≡ Some x → i < length xs

@@ -35,10 +35,10 @@ use Rattle.mctp_schedule.specs.declared.entry.Entry.TheVariants as entry
 use Rattle.mctp_schedule.specs.declared.journal.Journal.{Journal}
 use Rattle.schedule_text.specs.declared.step.Action.TheVariants as actions
 use Rattle.schedule_text.specs.declared.step.Step.{Step}
-use Rattle.mctp_schedule.proofs.AskedRequests.{asked_before, asked_below, asked_here, none_past}
-use Rattle.mctp_schedule.proofs.CalledSteps.{with_side, Writes, called_runs, new_side, or_within}
+use Rattle.mctp_schedule.proofs.LoggedRequests.{asked_before, asked_below, asked_here, none_past}
+use Rattle.mctp_schedule.proofs.AfterCall.{with_side, Writes, called_runs, new_side, or_within}
 use Rattle.mctp_schedule.proofs.ListPlaces.{get_front, get_last, get_past, get_pushed, get_within, length_pushed, or_set_at, or_set_other}
-use Rattle.mctp_schedule.proofs.RunningFrames.{call_here, call_other, still_carried, still_opened, still_side}
+use Rattle.mctp_schedule.proofs.KeptByAStep.{call_here, call_other, still_carried, still_opened, still_side}
 
 -- ---- an open is accepted or not
 refused_is : (tag id : Bool) (n : ℕ) (fault : OpenFault) → open_answer tag id n ≡ Err fault → (not tag && not id) ≡ false
