@@ -16,6 +16,7 @@ pub mod ExampleDevice
 pub mod ExampleRun
 pub mod FirstPerformed
 pub mod FittingReplies
+pub mod FoundRequester
 pub mod FreshOrder
 pub mod GivenUpRequests
 pub mod HandedAnswerPackets
