@@ -1,10 +1,9 @@
 -- The packet of an answer comes to a requester: how its requests stand then.
 use Rattle.std.proofs.Common.{◌≡◌, ◌⊎◌, ℕ, ◌+◌, ◌<◌, ◌≤◌, Bool, true, false, List, ◌∷◌, length, Option, Some, None, Result, Ok, Err, refl, sym, ap, subst, ◌∙◌, inl, inr, arith, eq-eqb, eqb-true}
-use Rattle.std.specs.Prelude.{◌||◌, ◌&&◌, ◌-◌, ◌==◌, not, is_some, nat_le, IfSome, option_map, slice_get, slice_index, slice_set, if◌then◌else◌}
+use Rattle.std.specs.Prelude.{◌||◌, ◌&&◌, ◌-◌, ◌==◌, not, is_some, nat_le, IfSome, option_map, slice_get, slice_index, if◌then◌else◌}
 use Rattle.std.proofs.lemmas.Bool.{cases_Bool, cases_eq, cond-true, cond-false, leb-false, leb-true, ne_eqb}
 use Rattle.mctp_packet.specs.Packets.{Packet}
 use Rattle.mctp_packet.specs.declared.reason.Reason.{Reason}
-use Rattle.pldm_responder.specs.Stations as responder_stations
 use Rattle.pldm_requester.specs.Arrivals.{Arrival, Drop, Part, Answer, got_of}
 use Rattle.pldm_requester.specs.Calls as requester
 use Rattle.pldm_requester.specs.Calls.{Requests, answered_by, arrived, fed_by, fed_to, goes_to, got_owed, passed, put, received, requests}

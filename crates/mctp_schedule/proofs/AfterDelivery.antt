@@ -20,7 +20,7 @@ use Rattle.pldm_responder.specs.Stations.{Station, held_of}
 use Rattle.pldm_responder.specs.Steps.{performs, received_arrival, received_held, received_outcome, repeats}
 use Rattle.pldm_responder.specs.declared.outcome.Outcome.{Outcome}
 use Rattle.pldm_responder.specs.declared.outcome.Outcome.TheVariants.{Answered}
-use Rattle.mctp_schedule.specs.Askers.{Side, packet_bytes}
+use Rattle.mctp_schedule.specs.Askers.{packet_bytes}
 use Rattle.mctp_schedule.specs.Entries.{delivery_entry, entries}
 use Rattle.mctp_schedule.specs.FirstArrivals.{fresh_of, order}
 use Rattle.mctp_schedule.specs.Deliveries.{packets_of_outcome}

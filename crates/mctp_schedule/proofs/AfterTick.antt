@@ -1,9 +1,8 @@
 -- A tick: which requests it gives up, by their numbers over all requests.
 use Rattle.std.proofs.Common.{◌≡◌, ◌⊎◌, ℕ, ◌<◌, ◌≤◌, Bool, true, false, List, ◌∷◌, length, Option, Some, None, refl, sym, ap, subst, ◌∙◌, inl, inr, arith}
-use Rattle.std.specs.Prelude.{◌==◌, option_map, slice_get, slice_index, slice_set, if◌then◌else◌}
+use Rattle.std.specs.Prelude.{◌==◌, option_map, slice_get, slice_index, if◌then◌else◌}
 use Rattle.std.specs.List.{list_any}
 use Rattle.std.proofs.lemmas.Bool.{cases_eq, cond-true, cond-false}
-use Rattle.pldm_responder.specs.Stations as responder_stations
 use Rattle.pldm_requester.specs.Calls as requester
 use Rattle.pldm_requester.specs.Calls.{again_owed, given_up_owed, requests}
 use Rattle.pldm_requester.specs.Courses as courses

@@ -1,8 +1,6 @@
 -- The packet of an answer that a step hands over, as it is written down and as the world has it.
 use Rattle.std.proofs.Common.{◌≡◌, ℕ, ◌≤◌, Bool, true, false, List, Option, Some, None, refl, sym, ap, ◌∙◌, arith}
 use Rattle.std.specs.Prelude.{◌||◌, not, is_some, option_and_then, option_map, slice_get}
-use Rattle.pldm_responder.specs.Stations as responder_stations
-use Rattle.mctp_schedule.specs.Askers.{Side}
 use Rattle.mctp_schedule.specs.Entries.{entry_of, got_entry}
 use Rattle.mctp_schedule.specs.HandedPackets.{got_from}
 use Rattle.mctp_schedule.specs.HeldRuns.{HeldRun}
@@ -11,7 +9,6 @@ use Rattle.mctp_schedule.specs.Logs.{Asked, asked_at, count_of}
 use Rattle.mctp_schedule.specs.OncePerformed.{given, was_busy}
 use Rattle.mctp_schedule.specs.Running.{IsRunning, answer_action, busy_packets}
 use Rattle.mctp_schedule.specs.Worlds.{Setting, World, answer_packets, busy_from, busy_packet, done, handed, is_timely_action, packet_of, reply_packet, source_of, tag_is_own, world}
-use Rattle.mctp_schedule.specs.declared.journal.Journal.{Journal}
 use Rattle.schedule_text.specs.declared.step.Step.{Step}
 use Rattle.mctp_schedule.proofs.LoggedRequests.{none_above}
 use Rattle.mctp_schedule.proofs.ListPlaces.{get_past}

@@ -6,7 +6,6 @@ use Rattle.pldm_responder.specs.Events.{is_busy}
 use Rattle.pldm_responder.specs.Performing.{performed}
 use Rattle.pldm_responder.specs.Stations as responder_stations
 use Rattle.pldm_wire.specs.declared.command.Command.{Command}
-use Rattle.mctp_schedule.specs.Askers.{Side}
 use Rattle.mctp_schedule.specs.DeviceHalf.{DeliveryIsOwed, FreshInOrderOfFirsts, FreshWhereFirst, StateIsOnce}
 use Rattle.mctp_schedule.specs.Entries.{as_it_stands, delivery_entry, entries, entry_of, got_entry}
 use Rattle.mctp_schedule.specs.FirstArrivals.{order}
@@ -20,7 +19,6 @@ use Rattle.mctp_schedule.specs.Requests.{Request as EndedRequest}
 use Rattle.mctp_schedule.specs.Running.{IsRunning}
 use Rattle.mctp_schedule.specs.Worlds.{NeverWentBack, Setting, world}
 use Rattle.mctp_schedule.specs.declared.entry.Entry.TheVariants.{Delivered, Sensed}
-use Rattle.mctp_schedule.specs.declared.journal.Journal.{Journal}
 use Rattle.schedule_text.specs.declared.step.Action.{Action}
 use Rattle.schedule_text.specs.declared.step.Action.TheVariants as actions
 use Rattle.schedule_text.specs.declared.step.Step.{Step}

@@ -8,7 +8,7 @@ use Rattle.pldm_responder.specs.Performing.{Rules, reply, next, changes, busy_re
 use Rattle.pldm_responder.specs.Arrivals.{packets_back}
 use Rattle.pldm_responder.specs.declared.outcome.Outcome.{Outcome}
 use Rattle.pldm_responder.specs.declared.outcome.Outcome.TheVariants.{Answered}
-use Rattle.mctp_schedule.specs.Logs.{Asked, Happening, Opened, Delivered, Sensed, WentDown, asked_at, message_at, told}
+use Rattle.mctp_schedule.specs.Logs.{Asked, Happening, Opened, Delivered, Sensed, asked_at, message_at, told}
 use Rattle.mctp_schedule.specs.FirstArrivals.{arrives, first, is_first, is_owed_busy}
 
 -- the bytes of a request's message

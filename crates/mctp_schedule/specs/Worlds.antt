@@ -1,6 +1,6 @@
 -- Both ends over a schedule, the newest step first: what each requester is called with, and what happens on the link.
 -- A reply that a step delivers is a packet of what the device gave.
-use Rattle.std.specs.Prelude.{◌≡◌, ℕ, ◌+◌, ◌<◌, ◌≤◌, ◌==◌, ◌&&◌, ◌||◌, not, nat_lt, nat_le, is_some, Bool, true, false, List, [], ◌∷◌, find, slice_get, Option, Some, None, option_and_then, if◌then◌else◌}
+use Rattle.std.specs.Prelude.{◌≡◌, ℕ, ◌+◌, ◌<◌, ◌≤◌, ◌==◌, ◌&&◌, ◌||◌, not, nat_lt, nat_le, is_some, Bool, true, List, [], ◌∷◌, find, slice_get, Option, Some, None, option_and_then, if◌then◌else◌}
 use Rattle.mctp_packet.specs.declared.TheConstants.{TAGS}
 use Rattle.pldm_wire.specs.declared.command.Command.{Command}
 use Rattle.pldm_responder.specs.Arrivals.{packets_back}

@@ -1,5 +1,5 @@
 -- Step by step, until there is none.
-use Rattle.std.proofs.Common.{◌<◌, ◌+◌, List, [], ◌∷◌, length, take, Some, refl, sym, ap, subst, ◌∙◌, arith}
+use Rattle.std.proofs.Common.{◌<◌, List, [], length, take, Some, refl, sym, ap, subst, ◌∙◌, arith}
 use Rattle.std.specs.Prelude.{reverse, slice_get, slice_index_or}
 use Rattle.pldm_responder.specs.Performing.{rules_of}
 use Rattle.mctp_schedule.specs.Entries.{entries, requests_after}

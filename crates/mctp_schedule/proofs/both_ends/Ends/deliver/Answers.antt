@@ -1,5 +1,5 @@
 -- The packet of a request is one more call of the responder.
-use Rattle.std.proofs.Common.{◌≡◌, ◌<◌, ◌≤◌, ◌+◌, List, None, sym, ap, subst, ◌∙◌, arith}
+use Rattle.std.proofs.Common.{◌<◌, ◌≤◌, ◌+◌, List, sym, ap, subst, ◌∙◌, arith}
 use Rattle.std.specs.Prelude.{nat_lt, option_map}
 use Rattle.pldm_responder.specs.Answering.{answering}
 use Rattle.pldm_responder.specs.Performing.{rules_of}
@@ -8,7 +8,7 @@ use Rattle.mctp_schedule.specs.Entries.{as_it_stands}
 use Rattle.mctp_schedule.specs.Journals.{Carried}
 use Rattle.mctp_schedule.specs.Requests.{Request}
 use Rattle.mctp_schedule.specs.FirstArrivals.{fresh_of}
-use Rattle.mctp_schedule.specs.Logs.{asked_at, count_of, told}
+use Rattle.mctp_schedule.specs.Logs.{count_of, told}
 use Rattle.mctp_schedule.specs.PerformedCommands.{commands_if}
 use Rattle.mctp_schedule.specs.HeldRuns.{held_by}
 use Rattle.mctp_schedule.specs.Running.{setting_of}

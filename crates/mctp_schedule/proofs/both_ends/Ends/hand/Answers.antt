@@ -1,12 +1,12 @@
 -- A packet of an answer is one more call of its requester; where there is none, nothing comes of the step.
 use Rattle.std.proofs.Common.{◌≡◌, ◌+◌, ◌-◌, ◌∷◌, ◌++◌, [], List, ℕ, length, Option, None, Some, sym, ap, subst, ◌∙◌, arith}
-use Rattle.std.specs.Prelude.{◌||◌, ◌&&◌, not, is_some, nat_le, option_map, slice_index_or, slice_set}
+use Rattle.std.specs.Prelude.{◌||◌, ◌&&◌, not, is_some, nat_le, option_map, slice_index_or}
 use Rattle.pldm_responder.specs.Performing.{rules_of}
 use Rattle.pldm_wire.specs.declared.command.Command.{Command}
 use Rattle.pldm_requester.specs.Slots.{held_of}
 use Rattle.pldm_requester.specs.Steps.{IsHeld, arrived_by, got_at, passed, received_held}
 use Rattle.mctp_schedule.specs.Askers.{Side, TellsAnswer}
-use Rattle.mctp_schedule.specs.Entries.{as_it_stands, got_entry}
+use Rattle.mctp_schedule.specs.Entries.{got_entry}
 use Rattle.mctp_schedule.specs.HandedPackets.{got_from}
 use Rattle.mctp_schedule.specs.Logs.{asked_at}
 use Rattle.mctp_schedule.specs.Requests.{Request}

@@ -1,6 +1,6 @@
 -- An open is one more call of its requester; where it is accepted, there is one more request.
-use Rattle.std.proofs.Common.{◌≡◌, ◌∷◌, ◌++◌, [], length, Some, Err, sym, ap, subst, ◌∙◌, arith}
-use Rattle.std.specs.Prelude.{slice_set, IfOk, IfErr, OnOk}
+use Rattle.std.proofs.Common.{◌≡◌, ◌∷◌, ◌++◌, [], length, Err, sym, ap, subst, ◌∙◌, arith}
+use Rattle.std.specs.Prelude.{IfOk, IfErr, OnOk}
 use Rattle.pldm_responder.specs.Performing.{rules_of}
 use Rattle.pldm_requester.specs.Slots.{held_of}
 use Rattle.pldm_requester.specs.Steps.{IsHeld, opened_held, opening_answer}

@@ -1,6 +1,6 @@
 -- A tick is one more call of its requester.
 use Rattle.std.proofs.Common.{◌≡◌, ◌<◌, ◌∷◌, length, Some, sym, ap, subst, ◌∙◌, arith}
-use Rattle.std.specs.Prelude.{◌==◌, true, slice_index, slice_set}
+use Rattle.std.specs.Prelude.{◌==◌, true, slice_index}
 use Rattle.std.specs.List.{list_any}
 use Rattle.pldm_responder.specs.Performing.{rules_of}
 use Rattle.pldm_requester.specs.Courses.{is_given_up}
