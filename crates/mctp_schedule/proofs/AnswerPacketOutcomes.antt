@@ -25,15 +25,16 @@ use Rattle.pldm_requester.specs.Laws.{FoundOnItsTag, IdsApart}
 use Rattle.pldm_requester.specs.Numbering.{id_of}
 use Rattle.mctp_schedule.specs.Logs.{Asked, Happening, IsTimelyLog, asked_at}
 use Rattle.mctp_schedule.specs.FirstArrivals.{first}
-use Rattle.mctp_schedule.specs.OncePerformed.{FitsPackets, bytes_of, given_once, once, reply_at_first, reply_from, was_busy}
+use Rattle.mctp_schedule.specs.OncePerformed.{FitsPackets, bytes_of, given_once, once, reply_from, was_busy}
 use Rattle.mctp_schedule.specs.RequesterHalf.{IsSound}
 use Rattle.mctp_schedule.specs.Taken.{brought, came, completes, completes_for, is_ready, is_waiting, part_count, replies, reply_of, row, way_to}
 use Rattle.mctp_schedule.specs.Worlds.{Setting, World, answer_packets, busy_from, busy_packet, packet_of, reply_packet, requests_of, timing_of, world}
 use Rattle.schedule_text.specs.declared.step.Step.{Step}
-use Rattle.mctp_schedule.proofs.AnswersRead.{AnswersRequest, answer_arrives, busy_refuses, reply_answers, whole_arrival}
+use Rattle.mctp_schedule.proofs.RepliesAreTaken.{AnswersRequest, answer_arrives, busy_refuses, reply_answers, whole_arrival}
 use Rattle.mctp_schedule.proofs.DeliveriesOwed.{given_is_the_reply, the_reply_fits}
 use Rattle.mctp_schedule.proofs.AnswerPacketsAtRequester.{IsOf, packet_past}
 use Rattle.mctp_schedule.proofs.KnownRequests.{Known, all_known}
+use Rattle.mctp_schedule.proofs.OneReplyGiven.{reply_at_first}
 use Rattle.mctp_schedule.proofs.UntouchedRequests.{no_parts}
 use Rattle.mctp_schedule.proofs.RowsOfReplies.{Below, given_alone, given_else, given_in_row}
 

@@ -26,7 +26,7 @@ use Rattle.pldm_requester.specs.Steps.{Held, IsHeld, Memo, arrived_by, goes_to, 
 use Rattle.pldm_requester.specs.declared.results.Got.TheVariants as got
 use Rattle.pldm_requester.specs.declared.results.Opened.{Opened}
 use Rattle.mctp_schedule.specs.Askers.{TellsAnswer, packet_bytes}
-use Rattle.mctp_schedule.specs.declared.askers.Answered.{Answered}
+use Rattle.mctp_schedule.specs.declared.askers.AnsweredRequest.{AnsweredRequest}
 use Rattle.mctp_schedule.proofs.ListPlaces.{take_all}
 
 -- ---- a message of one piece is one packet
@@ -151,7 +151,7 @@ none_told numbers (Drop reason) h = refl
 none_told numbers Part h = refl
 none_told numbers (Answer number message) h = absurd (h number refl)
 
-pub one_told : (numbers : List ℕ) (arrival : Arrival) (own : ℕ) (a : Answered) → got_of arrival ≡ got.Answered own → a.number ≡ slice_index numbers own → ((m : List ℕ) → arrival ≡ Answer own m → a.message ≡ m) → TellsAnswer numbers arrival (Some a)
+pub one_told : (numbers : List ℕ) (arrival : Arrival) (own : ℕ) (a : AnsweredRequest) → got_of arrival ≡ got.Answered own → a.number ≡ slice_index numbers own → ((m : List ℕ) → arrival ≡ Answer own m → a.message ≡ m) → TellsAnswer numbers arrival (Some a)
 one_told numbers (Drop reason) own a e number message = absurd (cc)
 one_told numbers Part own a e number message = absurd (cc)
 one_told numbers (Answer n m) own a e number message =

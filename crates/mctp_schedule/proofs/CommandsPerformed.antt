@@ -4,26 +4,26 @@ use Rattle.std.proofs.Common.{◌≡◌, ℕ, Bool, true, false, List, [], ◌�
 use Rattle.std.specs.Prelude.{not, ◌&&◌, if◌then◌else◌}
 use Rattle.mctp_packet.specs.Laws.{SpelledIsReadFor, WrittenSpells}
 use Rattle.mctp_assembly.specs.Steps as assembly
-use Rattle.pldm_wire.specs.declared.command.Command.{Command}
 use Rattle.pldm_responder.specs.Arrivals.{Whole, arrival}
 use Rattle.pldm_responder.specs.Events.{is_busy, is_copy, is_fresh}
 use Rattle.pldm_responder.specs.Held.{Held}
 use Rattle.pldm_responder.specs.Performing.{commands_of}
-use Rattle.pldm_responder.specs.Stations.{Station, held_of}
+use Rattle.pldm_responder.specs.Stations.{held_of}
 use Rattle.pldm_responder.specs.Steps.{arrival_commands, performs, received_arrival, received_commands}
-use Rattle.mctp_schedule.specs.Askers.{Side, packet_bytes}
+use Rattle.mctp_schedule.specs.Askers.{packet_bytes}
 use Rattle.mctp_schedule.specs.DeviceHalf.{FreshWhereFirst}
-use Rattle.mctp_schedule.specs.FirstArrivals.{first, fresh_of, is_first_of}
+use Rattle.mctp_schedule.specs.FirstArrivals.{first, fresh_of}
+use Rattle.mctp_schedule.specs.HeldRuns.{HeldRun}
 use Rattle.mctp_schedule.specs.Logs.{Asked, Happening, Opened, Delivered, Sensed, WentDown, IsTimelyLog, asked_at, message_at, told}
 use Rattle.mctp_schedule.specs.PerformedCommands.{commands_at_delivery, commands_at_step, commands_if, commands_once, commands_performed}
 use Rattle.mctp_schedule.specs.Running.{IsRunning, answer_action, device_calls}
-use Rattle.mctp_schedule.specs.Worlds.{Setting, World, done, handed, log_opened, world}
-use Rattle.mctp_schedule.specs.declared.journal.Journal.{Journal}
+use Rattle.mctp_schedule.specs.Worlds.{Setting, World, done, handed, world}
 use Rattle.schedule_text.specs.declared.step.Action.{Action}
 use Rattle.schedule_text.specs.declared.step.Action.TheVariants as actions
 use Rattle.schedule_text.specs.declared.step.Step.{Step}
-use Rattle.mctp_schedule.proofs.DeliveredPackets.{brings_message, held_whole}
-use Rattle.mctp_schedule.proofs.DeliverySteps.{performs_is}
+use Rattle.mctp_schedule.proofs.DeliveryChanges.{brings_message, held_whole}
+use Rattle.mctp_schedule.proofs.AfterDelivery.{performs_is}
+use Rattle.mctp_schedule.proofs.FirstPerformed.{is_first_of}
 
 -- ---- a step adds its commands
 opened_or_not : (S : Type 0) (keep : ℕ) (accepted : Bool) (r : Asked) (log : List Happening)
@@ -58,12 +58,12 @@ chosen : (b : Bool) (r : Asked) → (if b then commands_of r.message else []) �
 chosen true r = refl
 chosen false r = refl
 
-module _ {P S : Type 0} (setting : Setting S) (past : List Step) (keep : ℕ) (station : Station P S) (places : List (Option Side)) (journal : Journal) (running : IsRunning setting past keep station places journal) where
+module _ {P S : Type 0} (setting : Setting S) (past : List Step) (run : HeldRun P S) (running : IsRunning setting past run) where
   abbrev log : List Happening
   log = (world setting past).log
 
   abbrev held : Held S
-  held = held_of station
+  held = held_of run.responder
 
   module _ (moment n : ℕ) (r : Asked) (is : asked_at log n ≡ Some r) (bytes : List ℕ) (packet_is : bytes ≡ packet_bytes r.source setting.eid r.own r.message) (spells : WrittenSpells) (read_for : SpelledIsReadFor) where
     arrival_is : received_arrival held moment bytes ≡ Whole (message_at moment r)

@@ -11,12 +11,12 @@ use Rattle.pldm_responder.specs.Performing.{Rules, changes, performed}
 use Rattle.pldm_responder.specs.declared.outcome.Outcome.{Outcome}
 use Rattle.pldm_responder.specs.declared.outcome.Outcome.TheVariants.{Answered}
 use Rattle.mctp_schedule.specs.Logs.{Asked, Delivered, asked_at, message_at, told_of, told}
-use Rattle.mctp_schedule.specs.FirstArrivals.{first, is_first_of, is_first}
+use Rattle.mctp_schedule.specs.FirstArrivals.{first, is_first}
 use Rattle.mctp_schedule.specs.OncePerformed.{once, the_reply, delivery_owed}
 use Rattle.mctp_schedule.specs.DeviceHalf.{NoneOpenedSince, FreshInOrderOfFirsts, FreshWhereFirst, StateIsOnce, DeliveryIsOwed, NotPerformedAgain, GivenIsTheReply, TheReplyFits}
-use Rattle.mctp_schedule.proofs.AnyState.{same_busy, same_first, same_fresh, same_is_first, same_origin}
-use Rattle.mctp_schedule.proofs.Origins.{performed_stays}
-use Rattle.mctp_schedule.proofs.FirstPerformed.{apart, opened_before, copies, holds, entry}
+use Rattle.mctp_schedule.proofs.SameOverAnyState.{same_busy, same_first, same_fresh, same_is_first, same_origin}
+use Rattle.mctp_schedule.proofs.LatestFreshMessages.{performed_stays}
+use Rattle.mctp_schedule.proofs.FirstPerformed.{is_first_of, apart, opened_before, copies, holds, entry}
 use Rattle.mctp_schedule.proofs.FreshOrder.{idle_device, order_is}
 use Rattle.mctp_schedule.proofs.OneReplyGiven.{given_is}
 use Rattle.mctp_schedule.proofs.FittingReplies.{reply_fits}

@@ -25,7 +25,7 @@ use Rattle.schedule_text.specs.declared.step.Action.TheVariants.{Open, Tick, Req
 use Rattle.schedule_text.specs.declared.step.Step.{Step}
 use Rattle.mctp_schedule.proofs.DeliveriesOwed.{state_is_once}
 use Rattle.mctp_schedule.proofs.ExampleDevice.{at, set_to, with_tries, with_values}
-use Rattle.mctp_schedule.proofs.OpenedSources.{each_known_opens_at, sources_of}
+use Rattle.mctp_schedule.proofs.SourcesOfRequests.{each_known_opens_at, sources_of}
 use Rattle.mctp_schedule.proofs.PremiseTests.{all_fit, all_known, all_read, apart, are_requests, each_is_known, goes_on, in_order, in_time, is_schedule, never_went_back, replies_fit, timely_log}
 use Rattle.mctp_schedule.proofs.TimelyTests.{timely_is_tested}
 

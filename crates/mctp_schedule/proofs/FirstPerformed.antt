@@ -1,15 +1,15 @@
 -- The device's half: over a log in order, with instance IDs apart and deliveries in time, a delivery is fresh exactly where it is the first.
 use Rattle.std.proofs.Common.{◌≡◌, ◌≢◌, ◌⊎◌, ℕ, ◌+◌, ◌*◌, ◌<◌, ◌≤◌, List, [], ◌∷◌, Some, None, Option, Bool, true, false, refl, sym, ap, ◌∙◌, subst, inl, inr, ⊎_elim, arith, eqb-true, eq-eqb}
-use Rattle.std.specs.Prelude.{not, ◌&&◌, ◌==◌, if◌then◌else◌}
+use Rattle.std.specs.Prelude.{not, ◌&&◌, ◌==◌, is_some, if◌then◌else◌}
 use Rattle.std.proofs.lemmas.Bool.{and_left, and_right, and_from, and_parts, not_from_true, not_from_false, ltb-false, eqb-false, ne_eqb, cases_Bool, cases_eq, cond-true, cond-false}
 use Rattle.pldm_wire.specs.Headers.{id_at}
 use Rattle.pldm_platform.specs.Changes.{changed_or}
 use Rattle.pldm_responder.specs.Events.{Message, Event, Came, Place, is_of, is_busy, is_copy, is_copy_of, is_fresh, origin, busy_until}
 use Rattle.pldm_responder.specs.Performing.{Rules, performed, answered, reply_at, next, reply}
 use Rattle.mctp_schedule.specs.Logs.{Asked, Happening, Opened, Delivered, Sensed, WentDown, last_of, count_of, asked_at, message_at, told_of, told, InOrder, Apart, InTime}
-use Rattle.mctp_schedule.specs.FirstArrivals.{arrives, earlier, first, is_first_of, is_first, order, firsts}
+use Rattle.mctp_schedule.specs.FirstArrivals.{arrives, earlier, first, is_first, order, firsts}
 use Rattle.mctp_schedule.specs.OncePerformed.{bytes_of, once, reply_from, the_reply}
-use Rattle.mctp_schedule.proofs.Origins.{is_of_self, origin_stays, origin_other, origin_new, copy_of, expired, performed_new, performed_stays, answered_copy, answered_new}
+use Rattle.mctp_schedule.proofs.LatestFreshMessages.{is_of_self, origin_stays, origin_other, origin_new, copy_of, expired, performed_new, performed_stays, answered_copy, answered_new}
 
 -- a request's number is the newest, or an older one
 pub request_opened : (q : Asked) (past : List Happening) (k : ℕ) (r : Asked) → asked_at (Opened q ∷ past) k ≡ Some r → ((k ≡ count_of past) × (q ≡ r)) ⊎ ((k ≢ count_of past) × (asked_at past k ≡ Some r))
@@ -40,6 +40,13 @@ opened_before (Opened q ∷ past) o k r e =
 opened_before (Delivered t j ∷ past) o k r e = let i = opened_before past o.1 k r e in omega (arith, i, o.0)
 opened_before (Sensed t _ _ ∷ past) o k r e = let i = opened_before past o.1 k r e in omega (arith, i, o.0)
 opened_before (WentDown t ∷ past) o k r e = let i = opened_before past o.1 k r e in omega (arith, i, o.0)
+
+-- a delivered request that arrived at this place, or nowhere, before, and arrives now
+abbrev pub is_first_of : Option Asked → Option (List Happening) → Bool → Bool
+is_first_of asked place busy = not (is_some place) && arrives asked busy
+
+pub never_first : (place : Option (List Happening)) (busy : Bool) → is_first_of None place busy ≡ false
+never_first place busy = and_right (not (is_some place)) _ refl
 
 module _ (S : Type 0) where
   -- a request that has arrived was opened
@@ -232,7 +239,7 @@ module _ {S : Type 0} (device : Rules S) (keep : ℕ) (start : S) where
   -- nothing is known of a number that was not opened
   keeps_none : (past : List Happening) (t k : ℕ) → Inv past (told {S = S} past) → last_of past ≤ t → asked_at past k ≡ None → Inv (Delivered t k ∷ past) (told {S = S} past)
   keeps_none past t k inv later e = record {
-    same = inv.same ∙ sym (cond-false (is_first S keep past t k) _ _ (ap (λ o. is_first_of o (first S keep past k) (is_busy keep (told {S = S} past) t)) e));
+    same = inv.same ∙ sym (cond-false (is_first S keep past t k) _ _ (ap (λ o. is_first_of o (first S keep past k) (is_busy keep (told {S = S} past) t)) e ∙ never_first (first S keep past k) (is_busy keep (told {S = S} past) t)));
     known = λ j q place e' f. moves j q (inv.known j q place e' (sym (firsts j) ∙ f));
     owned = λ s i p o. let w = inv.owned s i p o in (w.0, w.1, w.2, w.3, w.4, w.5, firsts w.0 ∙ w.6, w.7);
   }

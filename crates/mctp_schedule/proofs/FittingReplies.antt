@@ -5,9 +5,9 @@ use Rattle.std.proofs.lemmas.Bool.{and_parts, not-true, not_from_false}
 use Rattle.pldm_responder.specs.Events.{is_busy}
 use Rattle.pldm_responder.specs.Performing.{Rules, reply}
 use Rattle.mctp_schedule.specs.Logs.{Asked, Happening, Opened, Delivered, Sensed, WentDown, asked_at, told, InOrder, Apart, InTime}
-use Rattle.mctp_schedule.specs.FirstArrivals.{arrives, earlier, first, is_first_of, is_first}
+use Rattle.mctp_schedule.specs.FirstArrivals.{arrives, earlier, first, is_first}
 use Rattle.mctp_schedule.specs.OncePerformed.{bytes_of, once, reply_from, the_reply, FitsPackets, RepliesFit}
-use Rattle.mctp_schedule.proofs.FirstPerformed.{request_older, first_below, first_here, first_stays, entry, holds}
+use Rattle.mctp_schedule.proofs.FirstPerformed.{is_first_of, request_older, first_below, first_here, first_stays, entry, holds}
 
 module _ {S : Type 0} (device : Rules S) (keep : ℕ) (start : S) where
   pub fits_before : (h : Happening) (log : List Happening) → RepliesFit device keep start (h ∷ log) → RepliesFit device keep start log

@@ -8,9 +8,9 @@ use Rattle.pldm_wire.specs.declared.answer.Answer.TheVariants as answers
 use Rattle.pldm_responder.specs.Events.{is_busy, is_copy}
 use Rattle.pldm_responder.specs.Performing.{Rules}
 use Rattle.mctp_schedule.specs.Logs.{Asked, Happening, Opened, Delivered, Sensed, WentDown, asked_at, message_at, told, InOrder, Apart, InTime}
-use Rattle.mctp_schedule.specs.FirstArrivals.{first, is_first_of, is_first, fresh_of, order, firsts, IsSooner, IsOrderOfFirsts}
-use Rattle.mctp_schedule.proofs.AnyState.{same_busy, same_fresh, same_is_first}
-use Rattle.mctp_schedule.proofs.FirstPerformed.{first_other, first_stays, first_busy, first_none, first_here, entry}
+use Rattle.mctp_schedule.specs.FirstArrivals.{first, is_first, fresh_of, order, firsts, IsSooner, IsOrderOfFirsts}
+use Rattle.mctp_schedule.proofs.SameOverAnyState.{same_busy, same_fresh, same_is_first}
+use Rattle.mctp_schedule.proofs.FirstPerformed.{is_first_of, never_first, first_other, first_stays, first_busy, first_none, first_here, entry}
 
 -- a device that does nothing
 pub idle_device : Rules ℕ
@@ -22,7 +22,7 @@ module _ (S : Type 0) where
   first_new keep past t k on = go (asked_at past k) refl (first S keep past k) refl (is_busy keep (told {S = S} past) t) refl on
     where
       go : (o : Option Asked) → asked_at past k ≡ o → (f : Option (List Happening)) → first S keep past k ≡ f → (b : Bool) → is_busy keep (told {S = S} past) t ≡ b → is_first_of o f b ≡ true → first S keep (Delivered t k ∷ past) k ≡ Some past
-      go None is f at b busy x = absurd (cc)
+      go None is f at b busy x = absurd (let never = never_first f b in cc)
       go (Some r) is (Some p) at b busy x = absurd (cc)
       go (Some r) is None at true busy x = absurd (cc)
       go (Some r) is None at false busy x = first_here S keep past t k r is busy at
@@ -159,7 +159,7 @@ module _ (S : Type 0) (keep : ℕ) where
       late r (Some p) = refl
 
       go : (q : Option Asked) → asked_at past k ≡ q → (b : Bool) → is_busy keep (told {S = S} past) t ≡ b → fresh_of keep (told {S = S} past) t q ≡ is_first S keep past t k
-      go None is b busy = sym (ap (λ q. is_first_of q (first S keep past k) (is_busy keep (told {S = S} past) t)) is)
+      go None is b busy = sym (ap (λ q. is_first_of q (first S keep past k) (is_busy keep (told {S = S} past) t)) is ∙ never_first (first S keep past k) (is_busy keep (told {S = S} past) t))
       go (Some r) is false idle =
           same_fresh S ℕ keep past (message_at t r)
           ∙ (entry idle_device keep 0 past t k r o a i is (same_busy ℕ S keep past t ∙ idle)).0

@@ -6,11 +6,11 @@ use Rattle.pldm_responder.specs.Events.{is_busy}
 use Rattle.pldm_responder.specs.Performing.{performed}
 use Rattle.pldm_responder.specs.Stations as responder_stations
 use Rattle.pldm_wire.specs.declared.command.Command.{Command}
-use Rattle.mctp_schedule.specs.Askers.{Side}
 use Rattle.mctp_schedule.specs.DeviceHalf.{DeliveryIsOwed, FreshInOrderOfFirsts, FreshWhereFirst, StateIsOnce}
 use Rattle.mctp_schedule.specs.Entries.{as_it_stands, delivery_entry, entries, entry_of, got_entry}
 use Rattle.mctp_schedule.specs.FirstArrivals.{order}
 use Rattle.mctp_schedule.specs.Headline.{Headline, delivery_owes, entries_owed, entry_owes}
+use Rattle.mctp_schedule.specs.HeldRuns.{HeldRun}
 use Rattle.mctp_schedule.specs.Laws.{LogIsTimely, TimelyIsTested}
 use Rattle.mctp_schedule.specs.Logs.{Asked, IsTimelyLog, asked_at, told}
 use Rattle.mctp_schedule.specs.RequesterHalf.{AnsweredWasPerformed, AnsweredWhereTaken, BusyIsOwed, IsSound, IsTimelySchedule, ReplyIsOwed}
@@ -19,7 +19,6 @@ use Rattle.mctp_schedule.specs.Requests.{Request as EndedRequest}
 use Rattle.mctp_schedule.specs.Running.{IsRunning}
 use Rattle.mctp_schedule.specs.Worlds.{NeverWentBack, Setting, world}
 use Rattle.mctp_schedule.specs.declared.entry.Entry.TheVariants.{Delivered, Sensed}
-use Rattle.mctp_schedule.specs.declared.journal.Journal.{Journal}
 use Rattle.schedule_text.specs.declared.step.Action.{Action}
 use Rattle.schedule_text.specs.declared.step.Action.TheVariants as actions
 use Rattle.schedule_text.specs.declared.step.Step.{Step}
@@ -86,7 +85,7 @@ module _ {S : Type 0} (setting : Setting S) (laws : Halves setting) where
   }
 
 -- ---- a run discharges the premises
-module _ {P S : Type 0} (setting : Setting S) (past : List Step) (keep : ℕ) (station : responder_stations.Station P S) (places : List (Option Side)) (journal : Journal) (running : IsRunning setting past keep station places journal) where
+module _ {P S : Type 0} (setting : Setting S) (past : List Step) (run : HeldRun P S) (running : IsRunning setting past run) where
   is_sound : IsSound setting past
   is_sound = record {
     device = running.device.endpoint;
@@ -94,12 +93,12 @@ module _ {P S : Type 0} (setting : Setting S) (past : List Step) (keep : ℕ) (s
     fit = running.fit;
   }
 
-  pub run_is_headline : Halves setting → (Performed : List Command → Type 0) → Performed (commands_performed S setting.keep (world setting past).log) → NeverWentBack past → journal.timely ≡ true
-      → Headline setting past journal.entries.items journal.requests.items journal.order.items (responder_stations.held_of station).state Performed
+  pub run_is_headline : Halves setting → (Performed : List Command → Type 0) → Performed (commands_performed S setting.keep (world setting past).log) → NeverWentBack past → run.journal.timely ≡ true
+      → Headline setting past run.journal.entries.items run.journal.requests.items run.journal.order.items (responder_stations.held_of run.responder).state Performed
   run_is_headline laws Performed given in_order timely =
       let schedule : IsTimelySchedule setting past = record { order = in_order; timely = (laws.tested past).0 (sym running.timely ∙ timely); sound = is_sound } in
       let state = running.device.left.state ∙ ap (performed setting.device setting.keep setting.start) running.device.events in
-      subst (λ s. Headline setting past journal.entries.items journal.requests.items journal.order.items s Performed) (sym state)
-      (subst (λ os. Headline setting past journal.entries.items journal.requests.items os (performed setting.device setting.keep setting.start (told (world setting past).log)) Performed) (sym running.order)
-      (subst (λ es. Headline setting past es journal.requests.items (order S setting.keep (world setting past).log) (performed setting.device setting.keep setting.start (told (world setting past).log)) Performed) (sym running.entries)
-      (headline_holds setting laws Performed past journal.requests.items given schedule running.requests)))
+      subst (λ s. Headline setting past run.journal.entries.items run.journal.requests.items run.journal.order.items s Performed) (sym state)
+      (subst (λ os. Headline setting past run.journal.entries.items run.journal.requests.items os (performed setting.device setting.keep setting.start (told (world setting past).log)) Performed) (sym running.order)
+      (subst (λ es. Headline setting past es run.journal.requests.items (order S setting.keep (world setting past).log) (performed setting.device setting.keep setting.start (told (world setting past).log)) Performed) (sym running.entries)
+      (headline_holds setting laws Performed past run.journal.requests.items given schedule running.requests)))

@@ -1,13 +1,17 @@
 -- What the device gave to a request: its one reply, once it has arrived.
 use Rattle.std.proofs.Common.{◌≡◌, ◌⊎◌, ℕ, List, [], ◌∷◌, Some, None, Option, Bool, true, false, refl, sym, ap, ◌∙◌, subst, inl, inr, eqb-true}
-use Rattle.std.specs.Prelude.{not, ◌&&◌, ◌==◌, if◌then◌else◌}
+use Rattle.std.specs.Prelude.{◌&&◌, ◌||◌, ◌==◌, option_map, if◌then◌else◌}
 use Rattle.std.proofs.lemmas.Bool.{and_parts, and_right, not-true, cases_Bool, cond-true, cond-false}
 use Rattle.pldm_responder.specs.Events.{is_busy}
 use Rattle.pldm_responder.specs.Performing.{Rules}
 use Rattle.mctp_schedule.specs.Logs.{Asked, Happening, Opened, Delivered, Sensed, WentDown, count_of, asked_at, told, InOrder, Apart, InTime}
-use Rattle.mctp_schedule.specs.FirstArrivals.{arrives, earlier, first}
-use Rattle.mctp_schedule.specs.OncePerformed.{bytes_of, reply_from, the_reply, answered_to, given, reply_at_first, given_once, was_busy}
+use Rattle.mctp_schedule.specs.FirstArrivals.{arrives, earlier, first, is_owed_busy}
+use Rattle.mctp_schedule.specs.OncePerformed.{bytes_of, reply_from, the_reply, answered_to, given, given_once, was_busy}
 use Rattle.mctp_schedule.proofs.FirstPerformed.{request_older, first_below, first_here, first_stays, entry}
+
+-- the one reply, where the request first arrived at some place
+abbrev pub reply_at_first : {S : Type 0} → Rules S → ℕ → S → List Happening → ℕ → Option (List Happening) → Option (List ℕ)
+reply_at_first device keep start log k place = option_map (λ _. the_reply device keep start log k) place
 
 module _ {S : Type 0} (device : Rules S) (keep : ℕ) (start : S) where
   abbrev pub Reply : List Happening → ℕ → List ℕ
@@ -112,6 +116,6 @@ module _ {S : Type 0} (device : Rules S) (keep : ℕ) (start : S) where
       go true e = absurd (cc)
       go false e = e
   busy_opened (Delivered moment i ∷ past) k off =
-      cond-false (i == k && arrives (asked_at past k) (not (is_busy keep (told {S = S} past) moment))) true (was_busy S keep past k)
-      (and_right (i == k) _ (ap (λ o. arrives o (not (is_busy keep (told {S = S} past) moment))) off))
+      ap (λ b. b || was_busy S keep past k)
+      (and_right (i == k) _ (ap (λ o. is_owed_busy o (is_busy keep (told {S = S} past) moment)) off))
       ∙ busy_opened past k off

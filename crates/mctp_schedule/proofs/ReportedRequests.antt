@@ -6,7 +6,7 @@ use Rattle.mctp_schedule.specs.Entries.{as_it_stands, requests_in}
 use Rattle.mctp_schedule.specs.Logs.{Happening, Opened, Delivered, Sensed, WentDown, asked_at, count_of}
 use Rattle.mctp_schedule.specs.Requests.{Request}
 use Rattle.mctp_schedule.specs.Worlds.{Setting, World}
-use Rattle.mctp_schedule.proofs.AskedRequests.{asked_here}
+use Rattle.mctp_schedule.proofs.LoggedRequests.{asked_here}
 use Rattle.mctp_schedule.proofs.ListPlaces.{get_front, get_last, get_past, length_pushed, same_places}
 
 module _ {S : Type 0} (setting : Setting S) (w : World) where

@@ -1,5 +1,5 @@
 -- What a run holds before its first step, and that each step may come after those before it.
-use Rattle.std.proofs.Common.{◌≡◌, ℕ, zero, suc, ◌+◌, ◌<◌, ◌≤◌, true, List, [], ◌∷◌, ◌++◌, length, take, Option, Some, refl, sym, ap, ◌∙◌, arith}
+use Rattle.std.proofs.Common.{◌≡◌, ℕ, zero, suc, ◌+◌, ◌<◌, ◌≤◌, true, List, [], ◌∷◌, ◌++◌, length, take, Some, refl, sym, ap, ◌∙◌, arith}
 use Rattle.std.specs.Prelude.{reverse, slice_get, slice_index_or}
 use Rattle.std.proofs.lemmas.List.{reverse-append, take_more}
 use Rattle.mctp_packet.specs.Ids.{IsEid}
@@ -10,6 +10,7 @@ use Rattle.pldm_requester.specs.Laws.{NewLooksBack, SameIsLeft}
 use Rattle.pldm_requester.specs.Slots.{held_of}
 use Rattle.pldm_requester.specs.Steps.{held_at_first}
 use Rattle.mctp_schedule.specs.Askers.{Side}
+use Rattle.mctp_schedule.specs.HeldRuns.{HeldRun}
 use Rattle.mctp_schedule.specs.Places.{BeginEach, Begins}
 use Rattle.mctp_schedule.specs.Running.{IsRunning, IsSide, MayCome}
 use Rattle.schedule_text.specs.Schedules.{AreKnown, NeverGoBack, is_known}
@@ -26,14 +27,14 @@ pub record IsEmpty (journal : Journal) : Type 0 where
   pub order : journal.order.items ≡ []
   pub timely : journal.timely ≡ true
 
-pub begins : {P S : Type 0} (setting : Setting S) (station : responder_stations.Station P S) (places : List (Option Side)) (journal : Journal) → IsEid setting.eid → device_laws.NewLooksBack setting.device → device_laws.SameIsLeft setting.device
-    → NewLooksBack → SameIsLeft → device_held.IsHeld (responder_stations.held_of station) (device_held.held_at_first setting.eid setting.keep setting.start) → BeginEach setting.eid setting.keep setting.requesters places → IsEmpty journal
-    → IsRunning setting [] setting.keep station places journal
-begins setting station places journal eid device_new device_same new same held each empty = record {
-  times = refl;
+pub begins : {P S : Type 0} (setting : Setting S) (run : HeldRun P S) → run.keep ≡ setting.keep → IsEid setting.eid → device_laws.NewLooksBack setting.device → device_laws.SameIsLeft setting.device
+    → NewLooksBack → SameIsLeft → device_held.IsHeld (responder_stations.held_of run.responder) (device_held.held_at_first setting.eid setting.keep setting.start) → BeginEach setting.eid setting.keep setting.requesters run.places → IsEmpty run.journal
+    → IsRunning setting [] run
+begins setting run times eid device_new device_same new same held each empty = record {
+  times = times;
   device = record {
     endpoint = eid;
-    left = device_same setting.eid setting.keep setting.start (responder_stations.held_of station) (device_held.held_at_first setting.eid setting.keep setting.start) [] held (device_new setting.eid setting.keep setting.start);
+    left = device_same setting.eid setting.keep setting.start (responder_stations.held_of run.responder) (device_held.held_at_first setting.eid setting.keep setting.start) [] held (device_new setting.eid setting.keep setting.start);
     events = refl;
     called = let l = held.last in omega (arith, l);
   };

@@ -15,7 +15,7 @@ use Rattle.schedule_text.specs.declared.step.Step.{Step}
 use Rattle.schedule_text.specs.declared.step.Action.{Action}
 use Rattle.schedule_text.specs.declared.step.Action.TheVariants as actions
 use Rattle.mctp_schedule.proofs.FirstPerformed.{request_opened}
-use Rattle.mctp_schedule.proofs.JoinedLogs.{Grows, call_grows, call_last}
+use Rattle.mctp_schedule.proofs.LogsAndCalls.{Grows, call_grows, call_last}
 
 -- a request's message has the instance ID of its number
 id_of_message : (number : ℕ) (command : Command) → id_at (message_of number command) ≡ id_of number

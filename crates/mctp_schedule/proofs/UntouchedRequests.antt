@@ -8,7 +8,7 @@ use Rattle.pldm_requester.specs.Calls.{Request}
 use Rattle.pldm_requester.specs.Courses.{Standing, Waiting, Answered, GaveUp, is_open, is_waiting as waits}
 use Rattle.mctp_schedule.specs.Logs.{Asked, Happening, Opened, Delivered, Sensed, WentDown, asked_at, count_of, told}
 use Rattle.mctp_schedule.specs.FirstArrivals.{arrives, earlier, first}
-use Rattle.mctp_schedule.specs.OncePerformed.{bytes_of, given_once, reply_at_first, reply_from, the_reply, was_busy}
+use Rattle.mctp_schedule.specs.OncePerformed.{bytes_of, given_once, reply_from, the_reply, was_busy}
 use Rattle.mctp_schedule.specs.RequesterHalf.{StandingIs}
 use Rattle.mctp_schedule.specs.Taken.{brought, came, completes_for, is_waiting, part_count, replies, reply_of, taken, takes, with_delivery}
 use Rattle.mctp_schedule.specs.Worlds.{Setting, World, requests_of, world}
@@ -16,7 +16,7 @@ use Rattle.schedule_text.specs.declared.step.Action.{Action}
 use Rattle.schedule_text.specs.declared.step.Action.TheVariants as actions
 use Rattle.schedule_text.specs.declared.step.Step.{Step}
 use Rattle.mctp_schedule.proofs.FirstPerformed.{first_stays}
-use Rattle.mctp_schedule.proofs.OneReplyGiven.{busy_opened, once_stays}
+use Rattle.mctp_schedule.proofs.OneReplyGiven.{busy_opened, once_stays, reply_at_first}
 use Rattle.mctp_schedule.proofs.KnownRequests.{asked_stays_done, stays_done}
 use Rattle.mctp_schedule.proofs.RowsOfReplies.{Below}
 

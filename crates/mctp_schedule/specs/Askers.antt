@@ -9,8 +9,8 @@ use Rattle.pldm_requester.specs.Courses as courses
 use Rattle.pldm_requester.specs.Numbering.{message_of, opened_as, route_of}
 use Rattle.pldm_requester.specs.Slots.{Station, coded_station}
 use Rattle.pldm_requester.specs.Steps.{Held, opening_answer}
-use Rattle.mctp_schedule.specs.declared.askers.Answered.{Answered}
-use Rattle.mctp_schedule.specs.declared.askers.Sent.{Sent}
+use Rattle.mctp_schedule.specs.declared.askers.AnsweredRequest.{AnsweredRequest}
+use Rattle.mctp_schedule.specs.declared.askers.SentRequest.{SentRequest}
 
 -- a requester, and the numbers of its requests over all requests
 pub record Side : Type 0 where
@@ -30,7 +30,7 @@ abbrev pub packet_bytes : ℕ → ℕ → ℕ → List ℕ → List ℕ
 packet_bytes own device number message = written (packet (route_of own device number) true true 0 message)
 
 -- a request that was opened for a command
-pub record IsSent (held : Held) (moment : ℕ) (command : Command) (sent : Sent) : Type 0 where
+pub record IsSent (held : Held) (moment : ℕ) (command : Command) (sent : SentRequest) : Type 0 where
   pub opened : opening_answer held moment ≡ Ok (opened_as held.count)
   pub own : sent.own ≡ held.count
   pub message : sent.message.items ≡ message_of held.count command
@@ -49,8 +49,8 @@ HasAnswer held number =
     × (option_map (λ memo. memo.course.standing) (held.remembered number) ≡ Some (courses.Answered message))
 
 -- the request that a packet answered is told by its number over all requests, with its answer
-abbrev pub TellsAnswer : List ℕ → Arrival → Option Answered → Type 0
+abbrev pub TellsAnswer : List ℕ → Arrival → Option AnsweredRequest → Type 0
 TellsAnswer numbers (Drop reason) answered = answered ≡ None
 TellsAnswer numbers Part answered = answered ≡ None
 TellsAnswer numbers (Answer number message) answered =
-    (a : Answered) × (answered ≡ Some a) × (a.number ≡ slice_index numbers number) × (a.message ≡ message)
+    (a : AnsweredRequest) × (answered ≡ Some a) × (a.number ≡ slice_index numbers number) × (a.message ≡ message)

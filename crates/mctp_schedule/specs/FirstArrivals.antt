@@ -1,25 +1,23 @@
 -- When each request first arrived at the device, and in what order.
-use Rattle.std.specs.Prelude.{◌≡◌, ℕ, ◌<◌, List, [], ◌∷◌, ◌++◌, length, slice_get, Bool, true, false, ◌&&◌, not, ◌==◌, Option, Some, None, is_some, if◌then◌else◌}
+use Rattle.std.specs.Prelude.{◌≡◌, ℕ, ◌<◌, List, [], ◌∷◌, ◌++◌, length, slice_get, Bool, false, ◌&&◌, not, ◌==◌, Option, Some, None, is_some, if◌then◌else◌}
 use Rattle.std.specs.List.{list_any}
+use Rattle.std.specs.Option.{option_or}
 use Rattle.pldm_responder.specs.Events.{Event, is_busy, is_fresh}
-use Rattle.mctp_schedule.specs.Logs.{Asked, Happening, Opened, Delivered, Sensed, WentDown, asked_at, message_at, told}
+use Rattle.mctp_schedule.specs.Logs.{Asked, Happening, Delivered, asked_at, message_at, told}
 
 -- a delivered request arrives where it was opened and the responder is not busy
 abbrev pub arrives : Option Asked → Bool → Bool
 arrives None busy = false
 arrives (Some r) busy = not busy
 
+-- it is owed a busy answer where it was opened and the responder is busy
+abbrev pub is_owed_busy : Option Asked → Bool → Bool
+is_owed_busy None busy = false
+is_owed_busy (Some r) busy = busy
+
 -- the earlier place, or else this one if the request arrives here
 abbrev pub earlier : Option (List Happening) → Bool → List Happening → Option (List Happening)
-earlier (Some place) here past = Some place
-earlier None true past = Some past
-earlier None false past = None
-
--- a delivered request that arrives now, and did not before
-abbrev pub is_first_of : Option Asked → Option (List Happening) → Bool → Bool
-is_first_of None place busy = false
-is_first_of (Some r) (Some place) busy = false
-is_first_of (Some r) None busy = not busy
+earlier place here past = option_or place (if here then Some past else None)
 
 -- a delivery of this request is fresh at the responder
 abbrev pub fresh_of : {S : Type 0} → ℕ → List (Event S) → ℕ → Option Asked → Bool
@@ -35,10 +33,14 @@ module _ (S : Type 0) where
       earlier (first keep past k) (j == k && arrives (asked_at past k) (is_busy keep (told {S = S} past) moment)) past
   first keep (_ ∷ past) k = first keep past k
 
-  -- a delivery of request k at this moment is its first arrival
+  -- request k has arrived
+  abbrev pub has_arrived : ℕ → List Happening → ℕ → Bool
+  has_arrived keep log k = is_some (first keep log k)
+
+  -- a delivery of request k at this moment is its first arrival: it has not arrived before, and arrives now
   abbrev pub is_first : ℕ → List Happening → ℕ → ℕ → Bool
   is_first keep past moment k =
-      is_first_of (asked_at past k) (first keep past k) (is_busy keep (told {S = S} past) moment)
+      not (has_arrived keep past k) && arrives (asked_at past k) (is_busy keep (told {S = S} past) moment)
 
   -- the requests whose deliveries were fresh at the responder, the oldest first
   abbrev pub order : ℕ → List Happening → List ℕ
@@ -62,7 +64,7 @@ IsSooner None q = ⊥
 
 -- these numbers are the requests that arrived, in the order of their first arrivals, each once
 pub record IsOrderOfFirsts (S : Type 0) (keep : ℕ) (log : List Happening) (numbers : List ℕ) : Type 0 where
-  pub has : (k : ℕ) → list_any (λ n. n == k) numbers ≡ is_some (first S keep log k)
+  pub has : (k : ℕ) → list_any (λ n. n == k) numbers ≡ has_arrived S keep log k
   pub rises : (i n j k : ℕ) → i < n → slice_get numbers i ≡ Some j → slice_get numbers n ≡ Some k
       → IsSooner (first S keep log j) (first S keep log k)
   pub once : (i n k : ℕ) → slice_get numbers i ≡ Some k → slice_get numbers n ≡ Some k → i ≡ n

@@ -7,7 +7,7 @@ use Rattle.pldm_responder.specs.declared.outcome.Outcome.{Outcome}
 use Rattle.pldm_responder.specs.declared.outcome.Outcome.TheVariants as outcomes
 use Rattle.mctp_schedule.specs.Deliveries.{packets_of_outcome}
 use Rattle.mctp_schedule.specs.Requests.{Request, with_standing}
-use Rattle.mctp_schedule.specs.declared.askers.Answered.{Answered}
+use Rattle.mctp_schedule.specs.declared.askers.AnsweredRequest.{AnsweredRequest}
 use Rattle.mctp_schedule.specs.declared.entry.Entry.{Entry}
 use Rattle.mctp_schedule.specs.declared.entry.Entry.TheVariants.{Delivered}
 
@@ -45,11 +45,15 @@ abbrev pub place_of : Bool → Carried → Option ℕ
 place_of true carried = carried.busy
 place_of false carried = carried.reply
 
--- a packet of the latest answer, a busy one or not
+-- the packets of the latest answer to a request, a busy one or not
+abbrev pub latest_packets : List Entry → Bool → Option Carried → Option (List (List ℕ))
+latest_packets entries busy None = None
+latest_packets entries busy (Some carried) = packets_in entries (place_of busy carried)
+
+-- one of them
 abbrev pub packet_at : List Entry → ℕ → Bool → Option Carried → Option (List ℕ)
-packet_at entries packet busy None = None
-packet_at entries packet busy (Some carried) =
-    option_and_then (λ packets. slice_get packets packet) (packets_in entries (place_of busy carried))
+packet_at entries packet busy carried =
+    option_and_then (λ packets. slice_get packets packet) (latest_packets entries busy carried)
 
 -- a request that was performed
 abbrev pub fresh_numbers : ℕ → Outcome → List ℕ
@@ -63,7 +67,7 @@ stands_after given_up number request =
     if list_any (λ n. n == number) given_up then with_standing courses.GaveUp request else request
 
 -- and how it stands after the one that was answered
-abbrev pub answered_as : Option Answered → ℕ → Request → Request
+abbrev pub answered_as : Option AnsweredRequest → ℕ → Request → Request
 answered_as None number request = request
 answered_as (Some answered) number request =
     if number == answered.number then with_standing (courses.Answered answered.message) request else request

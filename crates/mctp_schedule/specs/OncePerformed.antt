@@ -1,5 +1,5 @@
 -- The device's state and its replies where each request that arrived is performed once, at its first arrival.
-use Rattle.std.specs.Prelude.{◌≡◌, ℕ, ◌<◌, ◌≤◌, true, false, not, List, [], ◌∷◌, length, Bool, ◌&&◌, ◌==◌, Option, Some, None, Ok, if◌then◌else◌}
+use Rattle.std.specs.Prelude.{◌≡◌, ℕ, ◌<◌, ◌≤◌, true, false, List, [], ◌∷◌, length, Bool, ◌&&◌, ◌||◌, ◌==◌, Option, Some, None, Ok, option_map, if◌then◌else◌}
 use Rattle.mctp_packet.specs.declared.TheConstants.{MAX_MESSAGE_BYTES}
 use Rattle.pldm_wire.specs.Requests as requests
 use Rattle.pldm_platform.specs.Changes.{changed_or}
@@ -8,8 +8,8 @@ use Rattle.pldm_responder.specs.Performing.{Rules, reply, next, changes, busy_re
 use Rattle.pldm_responder.specs.Arrivals.{packets_back}
 use Rattle.pldm_responder.specs.declared.outcome.Outcome.{Outcome}
 use Rattle.pldm_responder.specs.declared.outcome.Outcome.TheVariants.{Answered}
-use Rattle.mctp_schedule.specs.Logs.{Asked, Happening, Opened, Delivered, Sensed, WentDown, asked_at, message_at, told}
-use Rattle.mctp_schedule.specs.FirstArrivals.{arrives, first, is_first}
+use Rattle.mctp_schedule.specs.Logs.{Asked, Happening, Opened, Delivered, Sensed, asked_at, message_at, told}
+use Rattle.mctp_schedule.specs.FirstArrivals.{arrives, first, is_first, is_owed_busy}
 
 -- the bytes of a request's message
 abbrev pub bytes_of : Option Asked → List ℕ
@@ -62,7 +62,7 @@ module _ {S : Type 0} (device : Rules S) (keep : ℕ) (start : S) where
   answered_to moment past None = []
   answered_to moment past (Some r) = answered device keep start (told past) (message_at moment r)
 
-  -- the latest reply that the responder gave to request k, busy answers aside
+  -- the latest reply that the responder gave to request k, busy answers aside; `None` where it gave none yet
   abbrev pub given : List Happening → ℕ → Option (List ℕ)
   given [] k = None
   given (Delivered moment j ∷ past) k =
@@ -71,13 +71,9 @@ module _ {S : Type 0} (device : Rules S) (keep : ℕ) (start : S) where
       else given past k
   given (_ ∷ past) k = given past k
 
-  abbrev pub reply_at_first : List Happening → ℕ → Option (List Happening) → Option (List ℕ)
-  reply_at_first log k None = None
-  reply_at_first log k (Some place) = Some (the_reply log k)
-
   -- the one reply of request k, where it has arrived
   abbrev pub given_once : List Happening → ℕ → Option (List ℕ)
-  given_once log k = reply_at_first log k (first S keep log k)
+  given_once log k = option_map (λ place. the_reply log k) (first S keep log k)
 
   -- what the responder at the endpoint `own` owes to a delivery of request k, which is r, at this moment: a busy
   -- answer of code 4 after a restart, else the one reply, told as fresh at its first arrival and as a copy later
@@ -92,10 +88,9 @@ module _ {S : Type 0} (device : Rules S) (keep : ℕ) (start : S) where
 
 -- over a device with states S
 module _ (S : Type 0) where
-  -- a busy answer was given to request k
+  -- a busy answer was given to request k: one was owed to a delivery of it
   abbrev pub was_busy : ℕ → List Happening → ℕ → Bool
   was_busy keep [] k = false
   was_busy keep (Delivered moment j ∷ past) k =
-      if j == k && arrives (asked_at past k) (not (is_busy keep (told {S = S} past) moment)) then true
-      else was_busy keep past k
+      (j == k && is_owed_busy (asked_at past k) (is_busy keep (told {S = S} past) moment)) || was_busy keep past k
   was_busy keep (_ ∷ past) k = was_busy keep past k

@@ -1,18 +1,17 @@
 -- Which commands the device performs, the newest first: that of each request, where it carries one, at each of its
 -- deliveries that is fresh at the responder; and, where each is performed once, at its first arrival alone.
-use Rattle.std.specs.Prelude.{ℕ, List, [], ◌∷◌, ◌++◌, Bool, true, false, Option, Some, None}
+use Rattle.std.specs.Prelude.{ℕ, List, [], ◌∷◌, ◌++◌, Bool, Option, Some, None, if◌then◌else◌}
 use Rattle.pldm_responder.specs.Performing.{commands_of}
 use Rattle.pldm_wire.specs.declared.command.Command.{Command}
 use Rattle.mctp_schedule.specs.FirstArrivals.{fresh_of, is_first}
-use Rattle.mctp_schedule.specs.Logs.{Asked, Happening, Opened, Delivered, Sensed, WentDown, asked_at, told}
+use Rattle.mctp_schedule.specs.Logs.{Asked, Happening, Delivered, asked_at, told}
 use Rattle.schedule_text.specs.declared.step.Action.{Action}
 use Rattle.schedule_text.specs.declared.step.Action.TheVariants.{Open, Tick, Request, Reply, Sense, Restart, Busy}
 
 -- the command of a request that was opened, if it is performed
 abbrev pub commands_if : Bool → Option Asked → List Command
 commands_if performed None = []
-commands_if false (Some r) = []
-commands_if true (Some r) = commands_of r.message
+commands_if performed (Some r) = if performed then commands_of r.message else []
 
 -- over a device with states S
 module _ (S : Type 0) where

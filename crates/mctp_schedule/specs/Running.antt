@@ -12,6 +12,7 @@ use Rattle.pldm_requester.specs.Slots.{held_of}
 use Rattle.mctp_schedule.specs.Askers.{Side, packet_bytes}
 use Rattle.mctp_schedule.specs.Entries.{as_it_stands, entries, numbers_of}
 use Rattle.mctp_schedule.specs.FirstArrivals.{order}
+use Rattle.mctp_schedule.specs.HeldRuns.{HeldRun}
 use Rattle.mctp_schedule.specs.Journals.{Carried, packets_in}
 use Rattle.mctp_schedule.specs.Logs.{Asked, Happening, Opened, Delivered, Sensed, WentDown, asked_at, count_of, told}
 use Rattle.mctp_schedule.specs.OncePerformed.{AreRequests, IsReadable, RepliesFit, given, was_busy}
@@ -20,7 +21,6 @@ use Rattle.mctp_schedule.specs.Places.{side_at}
 use Rattle.schedule_text.specs.Schedules.{has_requester, is_known}
 use Rattle.mctp_schedule.specs.Worlds.{Setting, World, answer_packets, is_timely, requests_of, time_now, timing_of, world}
 use Rattle.mctp_schedule.specs.declared.entry.Entry.{Entry}
-use Rattle.mctp_schedule.specs.declared.journal.Journal.{Journal}
 use Rattle.schedule_text.specs.declared.step.RequesterLine.{RequesterLine}
 use Rattle.schedule_text.specs.declared.step.Action.{Action}
 use Rattle.schedule_text.specs.declared.step.Action.TheVariants.{Busy, Reply}
@@ -88,26 +88,24 @@ pub record IsCarried {S : Type 0}
   pub reply_place : IsBefore (length entries) carried.reply
   pub busy_place : IsBefore (length entries) carried.busy
 
--- all that a run holds after these steps
-pub record IsRunning {P S : Type 0}
-    (setting : Setting S) (past : List Step) (keep : ℕ) (station : responder_stations.Station P S)
-    (places : List (Option Side)) (journal : Journal) : Type 0 where
-  pub times : keep ≡ setting.keep
-  pub device : IsDevice setting (world setting past) (time_now past) station
+-- this is what a run holds after these steps
+pub record IsRunning {P S : Type 0} (setting : Setting S) (past : List Step) (run : HeldRun P S) : Type 0 where
+  pub times : run.keep ≡ setting.keep
+  pub device : IsDevice setting (world setting past) (time_now past) run.responder
   pub sides : (e : ℕ) → has_requester setting.requesters e ≡ true
-      → (side : Side) × (side_at places e ≡ Some side) × IsSide setting (world setting past) (time_now past) e side
+      → (side : Side) × (side_at run.places e ≡ Some side) × IsSide setting (world setting past) (time_now past) e side
   pub opened : (k : ℕ) (r : Asked) → asked_at (world setting past).log k ≡ Some r
       → IsOpened setting (world setting past) k r
-  pub requests : (k : ℕ) → slice_get journal.requests.items k
+  pub requests : (k : ℕ) → slice_get run.journal.requests.items k
       ≡ option_map (as_it_stands setting (world setting past)) (asked_at (world setting past).log k)
-  pub counted : length journal.requests.items ≡ count_of (world setting past).log
+  pub counted : length run.journal.requests.items ≡ count_of (world setting past).log
   pub traffic : (k : ℕ) (r : Asked) → asked_at (world setting past).log k ≡ Some r
-      → (carried : Carried) × (slice_get journal.traffic.items k ≡ Some carried)
-      × IsCarried setting (world setting past) journal.entries.items k r carried
-  pub carried : length journal.traffic.items ≡ count_of (world setting past).log
-  pub entries : journal.entries.items ≡ entries setting past
-  pub order : journal.order.items ≡ order S setting.keep (world setting past).log
-  pub timely : journal.timely ≡ is_timely setting past
+      → (carried : Carried) × (slice_get run.journal.traffic.items k ≡ Some carried)
+      × IsCarried setting (world setting past) run.journal.entries.items k r carried
+  pub carried : length run.journal.traffic.items ≡ count_of (world setting past).log
+  pub entries : run.journal.entries.items ≡ entries setting past
+  pub order : run.journal.order.items ≡ order S setting.keep (world setting past).log
+  pub timely : run.journal.timely ≡ is_timely setting past
   pub sent : AreRequests (world setting past).log
   pub fit : RepliesFit setting.device setting.keep setting.start (world setting past).log
 
@@ -137,33 +135,37 @@ abbrev pub answer_action : Bool → ℕ → ℕ → Action
 answer_action true k packet = Busy k
 answer_action false k packet = Reply k packet
 
-module _ {P S : Type 0} (device : Rules S) (keep : ℕ) where
-  -- some steps led to what is held, and this one may come after them
-  abbrev pub CanGoOn : responder_stations.Station P S → List (Option Side) → Journal → Step → Type 0
-  CanGoOn station places journal step =
+-- an action at a moment
+abbrev pub at : ℕ → Action → Step
+at moment action = record { moment = moment; action = action }
+
+module _ {P S : Type 0} (device : Rules S) where
+  -- some steps led to what a run holds, and this one may come after them
+  abbrev pub CanGoOn : HeldRun P S → Step → Type 0
+  CanGoOn run step =
       (terms : Terms S) × (past : List Step)
-      × IsRunning (setting_of device terms) past keep station places journal
+      × IsRunning (setting_of device terms) past run
       × MayCome terms.requesters past step
 
   -- whatever steps led to what was held, they and this one lead to what is held now
-  abbrev pub GoesOn :
-      Step → responder_stations.Station P S → List (Option Side) → Journal → responder_stations.Station P S
-      → List (Option Side) → Journal → Type 0
-  GoesOn step old_station old_places old_journal station places journal =
+  abbrev pub GoesOn : HeldRun P S → Step → HeldRun P S → Type 0
+  GoesOn old step new =
       (terms : Terms S) (past : List Step)
-      → IsRunning (setting_of device terms) past keep old_station old_places old_journal
-      → MayCome terms.requesters past step
-      → IsRunning (setting_of device terms) (step ∷ past) keep station places journal
+      → IsRunning (setting_of device terms) past old → MayCome terms.requesters past step
+      → IsRunning (setting_of device terms) (step ∷ past) new
 
-  -- whatever steps led to what was held, from the platform that was held to the one that is held now the commands of
-  -- this step were performed
-  abbrev pub Performs :
-      (P → List Command → P → Type 0) → Step → responder_stations.Station P S → List (Option Side) → Journal
-      → responder_stations.Station P S → Type 0
-  Performs performed step old_station old_places old_journal station =
+  -- and from the platform that was held to the one that is held now the commands of this step were performed
+  abbrev pub Performs : (P → List Command → P → Type 0) → HeldRun P S → Step → HeldRun P S → Type 0
+  Performs performed old step new =
       (terms : Terms S) (past : List Step)
-      → IsRunning (setting_of device terms) past keep old_station old_places old_journal
-      → MayCome terms.requesters past step
-      → performed old_station.platform
+      → IsRunning (setting_of device terms) past old → MayCome terms.requesters past step
+      → performed old.responder.platform
       (commands_at_step S terms.keep (world (setting_of device terms) past).log step.moment step.action)
-      station.platform
+      new.responder.platform
+
+  -- a run has taken this step
+  pub record HasTaken
+      (performed : P → List Command → P → Type 0) (old : HeldRun P S) (step : Step) (new : HeldRun P S)
+      : Type 0 where
+    pub goes_on : GoesOn old step new
+    pub performs : Performs performed old step new

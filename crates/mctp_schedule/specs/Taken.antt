@@ -48,9 +48,13 @@ module _ {S : Type 0} (setting : Setting S) where
   abbrev pub part_count : World → ℕ → ℕ
   part_count world k = piece_count (reply_of world k)
 
+  -- and that it has a packet j
+  abbrev pub has_part : World → ℕ → ℕ → Bool
+  has_part world k j = nat_lt j (part_count world k)
+
   abbrev pub with_delivery : World → ℕ → Action → List (Option ℕ) → List (Option ℕ)
   with_delivery world k (Reply i j) deliveries =
-      if i == k && nat_lt j (part_count world k) then Some j ∷ deliveries else deliveries
+      if i == k && has_part world k j then Some j ∷ deliveries else deliveries
   with_delivery world k (Busy i) deliveries =
       if i == k && was_busy S setting.keep world.log k then None ∷ deliveries else deliveries
   with_delivery world k _ deliveries = deliveries
@@ -80,7 +84,7 @@ module _ {S : Type 0} (setting : Setting S) where
   abbrev pub completes_for : List Step → ℕ → ℕ → Option Asked → Bool
   completes_for past k j None = false
   completes_for past k j (Some r) =
-      nat_lt j (part_count (world setting past) k)
+      has_part (world setting past) k j
       && (is_waiting (world setting past) r
       && (row (part_count (world setting past) k) (Some j ∷ replies past k)
       && is_ready (reply_of (world setting past) k)))
@@ -103,20 +107,23 @@ module _ {S : Type 0} (setting : Setting S) where
   abbrev pub if_waiting : List Step → Asked → Got → Got
   if_waiting past r gives = if is_waiting (world setting past) r then gives else got.Dropped BadTag
 
+  -- what assembly gives for packet j of its reply after the packets that were delivered to request k, which is r
+  abbrev pub assembly_gives : List Step → ℕ → ℕ → Asked → Got
+  assembly_gives past k j r =
+      got_by (assembly.next (came past k r) (brought r (reply_of (world setting past) k) (Some j)))
+
+  -- what packet j of its reply owes to request k, which is r: the answer where it completes k; else what assembly
+  -- gives while k is open, and a bad tag where it is not
+  abbrev pub part_owed : List Step → ℕ → ℕ → Asked → Got
+  part_owed past k j r =
+      if completes past k j then got.Answered r.own else if_waiting past r (assembly_gives past k j r)
+
   abbrev pub reply_owed_to : List Step → ℕ → ℕ → Option Asked → Option Got
   reply_owed_to past k j None = None
-  reply_owed_to past k j (Some r) =
-      if nat_lt j (part_count (world setting past) k)
-      then Some (
-      if completes past k j
-      then got.Answered r.own
-      else if_waiting past r
-      (got_by (assembly.next (came past k r) (brought r (reply_of (world setting past) k) (Some j)))))
-      else None
+  reply_owed_to past k j (Some r) = if has_part (world setting past) k j then Some (part_owed past k j r) else None
 
-  -- what the delivery of packet j of request k's reply owes: nothing where there is no such packet; the answer where
-  -- it completes it; else a bad tag where k is not open, and where it is, what assembly gives after the packets that
-  -- were delivered to k
+  -- what the delivery of packet j of request k's reply owes: nothing where k was not opened or its reply has no such
+  -- packet
   abbrev pub reply_owed : List Step → ℕ → ℕ → Option Got
   reply_owed past k j = reply_owed_to past k j (asked_at (world setting past).log k)
 

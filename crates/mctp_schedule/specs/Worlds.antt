@@ -1,6 +1,6 @@
 -- Both ends over a schedule, the newest step first: what each requester is called with, and what happens on the link.
 -- A reply that a step delivers is a packet of what the device gave.
-use Rattle.std.specs.Prelude.{◌≡◌, ℕ, ◌+◌, ◌<◌, ◌≤◌, ◌==◌, ◌&&◌, ◌||◌, not, nat_lt, nat_le, is_some, Bool, true, false, List, [], ◌∷◌, find, slice_get, Option, Some, None, if◌then◌else◌}
+use Rattle.std.specs.Prelude.{◌≡◌, ℕ, ◌+◌, ◌<◌, ◌≤◌, ◌==◌, ◌&&◌, ◌||◌, not, nat_lt, nat_le, is_some, Bool, true, List, [], ◌∷◌, find, slice_get, Option, Some, None, option_and_then, if◌then◌else◌}
 use Rattle.mctp_packet.specs.declared.TheConstants.{TAGS}
 use Rattle.pldm_wire.specs.declared.command.Command.{Command}
 use Rattle.pldm_responder.specs.Arrivals.{packets_back}
@@ -69,20 +69,21 @@ module _ {S : Type 0} (setting : Setting S) where
       then Opened (asked_by world moment e command) ∷ world.log
       else world.log
 
+  -- packet j of the message that answered a request; `None` where none did
   abbrev pub packet_of : Option Asked → Option (List ℕ) → ℕ → Option (List ℕ)
   packet_of None message j = None
-  packet_of (Some r) None j = None
-  packet_of (Some r) (Some message) j = slice_get (answer_packets setting.eid r message) j
+  packet_of (Some r) message j = option_and_then (λ bytes. slice_get (answer_packets setting.eid r bytes) j) message
 
   -- packet j of the latest reply that the device gave to request k, busy answers aside; `None` where there is none
   abbrev pub reply_packet : World → ℕ → ℕ → Option (List ℕ)
   reply_packet world k j =
       packet_of (asked_at world.log k) (given setting.device setting.keep setting.start world.log k) j
 
+  -- the one packet of the busy answer to a request, where it was given
   abbrev pub busy_from : Option Asked → Bool → Option (List ℕ)
-  busy_from None busy = None
-  busy_from (Some r) false = None
-  busy_from (Some r) true = slice_get (answer_packets setting.eid r (busy_reply r.message)) 0
+  busy_from None given = None
+  busy_from (Some r) given =
+      if given then slice_get (answer_packets setting.eid r (busy_reply r.message)) 0 else None
 
   -- the packet of the latest busy answer that the device gave to request k; `None` where there is none
   abbrev pub busy_packet : World → ℕ → Option (List ℕ)

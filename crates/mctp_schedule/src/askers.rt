@@ -8,7 +8,7 @@ ghost use Rattle.mctp_schedule.specs.Askers.{HasAnswer, HasPacket, IsSent, Tells
 ghost use Rattle.mctp_schedule.specs.Entries.{numbered};
 ghost use Rattle.pldm_requester.specs.Courses as courses;
 
-use crate::kept_message::KeptMessage;
+use crate::stored_message::StoredMessage;
 use arrayvec::ArrayVec;
 use mctp_packet::{HEADER, Memory, Moment};
 use pldm_requester::{Due, Got, MAX_OPEN, OpenFault, Requester, Status};
@@ -16,7 +16,8 @@ use pldm_wire::{Command, MAX_REQUEST_BYTES};
 use std::alloc::Global;
 use std::marker::Model;
 
-/// The most bytes of the packet that carries a command.
+/// The most bytes of the packet that carries a command. So few stand in place, and an opening asks for
+/// memory only where a list grows.
 pub(crate) const MAX_REQUEST_PACKET_BYTES: usize = HEADER + MAX_REQUEST_BYTES;
 
 /// A requester, and the numbers of its requests over all requests.
@@ -38,7 +39,7 @@ impl Model for Asker {
 
 /// A request that an asker opened.
 #[derive(Drop)]
-pub(crate) struct Sent {
+pub(crate) struct SentRequest {
     /// Its number, counted from 0 over the requests of its requester.
     pub(crate) own: u64,
     /// Its message, which one packet carries.
@@ -49,19 +50,19 @@ pub(crate) struct Sent {
 
 /// What a packet that came to an asker gave.
 #[derive(Drop)]
-pub(crate) struct Received {
+pub(crate) struct ReceivedPacket {
     pub(crate) got: Got,
     /// The request that it answered.
-    pub(crate) answered: Option<Answered>,
+    pub(crate) answered: Option<AnsweredRequest>,
 }
 
 /// A request that was answered.
 #[derive(Drop)]
-pub(crate) struct Answered {
+pub(crate) struct AnsweredRequest {
     /// Its number over all requests.
     pub(crate) number: u64,
     /// The message that answered it.
-    pub(crate) message: KeptMessage,
+    pub(crate) message: StoredMessage,
 }
 
 impl Asker {
@@ -81,7 +82,7 @@ impl Asker {
         now: Moment,
         command: &Command,
         number: u64,
-    ) -> Result<Result<Sent, OpenFault>, Memory>
+    ) -> Result<Result<SentRequest, OpenFault>, Memory>
         requires { (held_of self.old.station).last ≤ now }
         ensures sent { IfOk result (λ opening. IfOk opening (IsSent (held_of self.old.station) now command.now)) }
         ensures held { IfOk result (λ opening. OnOk opening (IsHeld (held_of self.new.station)
@@ -99,11 +100,12 @@ impl Asker {
             Err(fault) => return Ok(Err(fault)),
         };
         let packet = self.packet(opened.number);
-        let sent = Sent {
+        let sent = SentRequest {
             own: opened.number,
             message: in_place(payload_of(packet)),
             packet: in_place(packet),
         };
+        // At a refused growth the requester has one request more than `numbers`. Nobody sees it: the run ends.
         self.numbers.push(number)?;
         Ok(Ok(sent))
     }
@@ -151,38 +153,38 @@ impl Asker {
         alloc: Global,
         now: Moment,
         bytes: &[u8],
-        sent: Option<&KeptMessage>,
-    ) -> Result<Received, Memory>
+        sent: Option<&StoredMessage>,
+    ) -> Result<ReceivedPacket, Memory>
         requires moment { (held_of self.old.station).last ≤ now }
         requires all { length self.old.numbers ≡ (held_of self.old.station).count }
-        ensures got { IfOk result (λ taken. taken.got ≡ got_at (held_of self.old.station) bytes.now) }
-        ensures answered { IfOk result (λ taken. TellsAnswer self.old.numbers (arrived_by (held_of self.old.station)
-            (passed (held_of self.old.station) bytes.now)) taken.answered) }
+        ensures got { IfOk result (λ received. received.got ≡ got_at (held_of self.old.station) bytes.now) }
+        ensures answered { IfOk result (λ received. TellsAnswer self.old.numbers (arrived_by (held_of self.old.station)
+            (passed (held_of self.old.station) bytes.now)) received.answered) }
         ensures held { OnOk result (IsHeld (held_of self.new.station) (received_held (held_of self.old.station) now
             bytes.now)) }
         ensures numbers { OnOk result (self.new.numbers ≡ self.old.numbers) }
     {
         let got = self.requester.receive(now, bytes)?;
         let Got::Answered(own) = got else {
-            return Ok(Received {
+            return Ok(ReceivedPacket {
                 got,
                 answered: None,
             });
         };
-        let answered = self.answered(alloc, own, sent)?;
-        Ok(Received {
+        let answered = self.store_answer(alloc, own, sent)?;
+        Ok(ReceivedPacket {
             got,
             answered: Some(answered),
         })
     }
 
-    /// A request that has been answered. The answer stands where `sent` does, if both are the same.
-    fn answered(
+    /// Stores the answer to a request that has one. It stands where `sent` does, if both are the same.
+    fn store_answer(
         &self,
         alloc: Global,
         own: u64,
-        sent: Option<&KeptMessage>,
-    ) -> Result<Answered, Memory>
+        sent: Option<&StoredMessage>,
+    ) -> Result<AnsweredRequest, Memory>
         requires answer { HasAnswer (held_of self.now.station) own }
         requires one { own < length self.now.numbers }
         ensures number { IfOk result (λ answered. answered.number ≡ slice_index self.now.numbers own) }
@@ -192,8 +194,8 @@ impl Asker {
         let number = self.numbers[own as usize];
         match self.requester.status(own) {
             Some(Status::Answered(message)) => {
-                let message = KeptMessage::new(alloc, message, sent)?;
-                Ok(Answered { number, message })
+                let message = StoredMessage::new(alloc, message, sent)?;
+                Ok(AnsweredRequest { number, message })
             }
             _ => unreachable!(),
         }

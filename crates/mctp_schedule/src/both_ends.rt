@@ -1,11 +1,12 @@
 //! Both ends over a schedule.
 
-ghost use Rattle.std.specs.Prelude.{◌≡◌, ◌⊎◌, [], true, None, Some, IfOk, IfErr, OnOk};
+ghost use Rattle.std.specs.Prelude.{◌≡◌, ◌⊎◌, true, None, Some, IfOk, IfErr, OnOk};
 ghost use Rattle.mctp_packet.specs.Memories.{out_of_memory};
 ghost use Rattle.pldm_responder.specs.Performing.{rules_of};
 ghost use Rattle.mctp_schedule.specs.Reports.{IsReport};
 ghost use Rattle.mctp_schedule.specs.RunFaults.{refusal};
-ghost use Rattle.mctp_schedule.specs.Running.{CanGoOn, GoesOn, Performs, answer_action};
+ghost use Rattle.mctp_schedule.specs.HeldRuns.{held_by};
+ghost use Rattle.mctp_schedule.specs.Running.{CanGoOn, HasTaken, answer_action, at};
 ghost use Rattle.mctp_schedule.specs.Runs.{newest_first, setting_of_run};
 ghost use Rattle.schedule_text.specs.declared.step.Action.TheVariants as actions;
 
@@ -81,6 +82,7 @@ pub fn run<P: Platform>(
           timely = report.timely;
         })) }
 {
+    // A law is an empty function whose contract the proof uses: the call costs nothing.
     pldm_responder::laws::looks_back::<P>();
     pldm_requester::laws::looks_back();
     fresh_deliveries_are_first::<P>();
@@ -130,21 +132,17 @@ struct Ends<P: Platform> {
     responder: Responder<P>,
     places: Places,
     journal: Journal,
-    /// Where the responder puts the message that answers a packet.
+    /// Where the responder puts the message that answers a packet. Its room is large, so there is one for
+    /// the whole run and none is passed by value.
     reply: Body,
 }
 
 impl<P: Platform> Ends<P> {
     /// Takes a step.
     fn take(&mut self, step: &Step) -> Result<(), Memory>
-        requires { CanGoOn (rules_of P.answer P.after P.sensed) self.old.keep self.old.responder self.old.places.items
-            self.old.journal step.now }
-        ensures runs { OnOk result (GoesOn (rules_of P.answer P.after P.sensed) self.old.keep step.now
-            self.old.responder self.old.places.items self.old.journal self.new.responder self.new.places.items
-            self.new.journal) }
-        ensures performs { OnOk result (Performs (rules_of P.answer P.after P.sensed) self.old.keep P.performed
-            step.now self.old.responder self.old.places.items self.old.journal self.new.responder) }
-        ensures keep { self.new.keep ≡ self.old.keep }
+        requires { CanGoOn (rules_of P.answer P.after P.sensed) (held_by self.old) step.now }
+        ensures { OnOk result (HasTaken (rules_of P.answer P.after P.sensed) P.performed (held_by self.old)
+            step.now (held_by self.new)) }
     {
         let now = step.moment;
         match &step.action {
@@ -160,24 +158,21 @@ impl<P: Platform> Ends<P> {
 
     /// A requester opens a request.
     fn open(&mut self, now: Moment, eid: Eid, command: &Command) -> Result<(), Memory>
-        requires { CanGoOn (rules_of P.answer P.after P.sensed) self.old.keep self.old.responder self.old.places.items
-            self.old.journal (record { moment = now; action = actions.Open eid command.now }) }
-        ensures runs { OnOk result (GoesOn (rules_of P.answer P.after P.sensed) self.old.keep
-            (record { moment = now; action = actions.Open eid command.now }) self.old.responder self.old.places.items
-            self.old.journal self.new.responder self.new.places.items self.new.journal) }
-        ensures platform { self.new.responder.platform ≡ self.old.responder.platform }
-        ensures keep { self.new.keep ≡ self.old.keep }
+        requires { CanGoOn (rules_of P.answer P.after P.sensed) (held_by self.old)
+            (at now (actions.Open eid command.now)) }
+        ensures { OnOk result (HasTaken (rules_of P.answer P.after P.sensed) P.performed (held_by self.old)
+            (at now (actions.Open eid command.now)) (held_by self.new)) }
     {
         pldm_requester::laws::looks_back();
         pldm_wire::laws::commands_are_read_back();
         pldm_wire::laws::messages_fit();
-        let number = self.journal.requests.len() as u64;
+        let number = self.journal.requests.len() as u64; // what the journal will give it
         let opening = match &mut self.places[usize::from(eid.get())] {
             Some(asker) => asker.open(now, command, number)?,
             None => unreachable!(),
         };
         match opening {
-            Ok(sent) => self.journal.open(eid, now, sent)?,
+            Ok(sent) => self.journal.enter_opened(eid, now, sent)?,
             Err(fault) => self.journal.enter(Entry::NotOpened(fault))?,
         }
         Ok(())
@@ -185,99 +180,84 @@ impl<P: Platform> Ends<P> {
 
     /// A requester sends again and gives up what is due.
     fn tick(&mut self, now: Moment, eid: Eid) -> Result<(), Memory>
-        requires { CanGoOn (rules_of P.answer P.after P.sensed) self.old.keep self.old.responder self.old.places.items
-            self.old.journal (record { moment = now; action = actions.Tick eid }) }
-        ensures runs { OnOk result (GoesOn (rules_of P.answer P.after P.sensed) self.old.keep
-            (record { moment = now; action = actions.Tick eid }) self.old.responder self.old.places.items
-            self.old.journal self.new.responder self.new.places.items self.new.journal) }
-        ensures platform { self.new.responder.platform ≡ self.old.responder.platform }
-        ensures keep { self.new.keep ≡ self.old.keep }
+        requires { CanGoOn (rules_of P.answer P.after P.sensed) (held_by self.old) (at now (actions.Tick eid)) }
+        ensures { OnOk result (HasTaken (rules_of P.answer P.after P.sensed) P.performed (held_by self.old)
+            (at now (actions.Tick eid)) (held_by self.new)) }
     {
         pldm_requester::laws::looks_back();
         let due = match &mut self.places[usize::from(eid.get())] {
             Some(asker) => asker.tick(now),
             None => unreachable!(),
         };
-        self.journal.tick(due)?;
+        self.journal.enter_due(due)?;
         Ok(())
     }
 
     /// The packet of a request comes to the device.
     fn deliver(&mut self, now: Moment, number: u64) -> Result<(), Memory>
-        requires { CanGoOn (rules_of P.answer P.after P.sensed) self.old.keep self.old.responder self.old.places.items
-            self.old.journal (record { moment = now; action = actions.Request number }) }
-        ensures runs { OnOk result (GoesOn (rules_of P.answer P.after P.sensed) self.old.keep
-            (record { moment = now; action = actions.Request number }) self.old.responder self.old.places.items
-            self.old.journal self.new.responder self.new.places.items self.new.journal) }
-        ensures performs { OnOk result (Performs (rules_of P.answer P.after P.sensed) self.old.keep P.performed
-            (record { moment = now; action = actions.Request number }) self.old.responder self.old.places.items
-            self.old.journal self.new.responder) }
-        ensures keep { self.new.keep ≡ self.old.keep }
+        requires { CanGoOn (rules_of P.answer P.after P.sensed) (held_by self.old) (at now (actions.Request number)) }
+        ensures { OnOk result (HasTaken (rules_of P.answer P.after P.sensed) P.performed (held_by self.old)
+            (at now (actions.Request number)) (held_by self.new)) }
     {
         pldm_responder::laws::looks_back::<P>();
         mctp_packet::laws::bytes_spell_one_packet();
         mctp_packet::laws::reading_is_spelling();
         if number >= self.journal.requests.len() as u64 {
+            // A schedule may deliver a request that was never opened.
             self.journal.enter(Entry::Nothing)?;
             return Ok(());
         }
         let opening = self.journal.requests[number as usize].opening();
         let in_time = now.get() < opening.get() + u64::from(self.keep.get());
+        // Asked before the packet comes, since the entry tells a busy answer from a copy by it.
         let busy = self.responder.busy(now);
         let packet = self.journal.traffic[number as usize].packet();
         let taken = self
             .responder
             .receive_message(now, packet, &mut self.reply)?;
         self.journal
-            .deliver(number, in_time, busy, taken, &self.reply)?;
+            .enter_delivered(number, in_time, busy, taken, &self.reply)?;
         Ok(())
     }
 
     /// A packet of the latest answer to a request, a busy one or not, comes to its requester.
     fn hand(&mut self, now: Moment, number: u64, packet: u8, busy: bool) -> Result<(), Memory>
         requires first { busy ≡ true → packet ≡ 0 }
-        requires steps { CanGoOn (rules_of P.answer P.after P.sensed) self.old.keep self.old.responder
-            self.old.places.items self.old.journal (record {
-              moment = now;
-              action = answer_action busy number
-                  packet;
-            }) }
-        ensures runs { OnOk result (GoesOn (rules_of P.answer P.after P.sensed) self.old.keep
-            (record { moment = now; action = answer_action busy number packet }) self.old.responder
-            self.old.places.items self.old.journal self.new.responder self.new.places.items self.new.journal) }
-        ensures platform { self.new.responder.platform ≡ self.old.responder.platform }
-        ensures keep { self.new.keep ≡ self.old.keep }
+        requires steps { CanGoOn (rules_of P.answer P.after P.sensed) (held_by self.old)
+            (at now (answer_action busy number packet)) }
+        ensures { OnOk result (HasTaken (rules_of P.answer P.after P.sensed) P.performed (held_by self.old)
+            (at now (answer_action busy number packet)) (held_by self.new)) }
     {
         pldm_requester::laws::looks_back();
+        // The packet is made here: an entry keeps its answer as one message, which takes less room.
         let mut room = [0; MAX_PACKET_BYTES];
         let journal = &self.journal;
-        let Some(bytes) = journal.answer_packet(number, packet, busy, &mut room) else {
+        let Some(bytes) = journal.latest_answer_packet(number, packet, busy, &mut room) else {
             self.journal.enter(Entry::Nothing)?;
             return Ok(());
         };
-        let sent = journal.answer(number, busy);
+        let sent = journal.latest_answer(number, busy);
         let request = &journal.requests[number as usize];
         let own = request.number();
-        let (in_time, taken) = match &mut self.places[usize::from(request.requester().get())] {
+        let (in_time, received) = match &mut self.places[usize::from(request.requester().get())] {
             Some(asker) => {
+                // The request's tag is its own until the requester has opened TAGS requests more.
                 let in_time = asker.count().saturating_sub(u64::from(TAGS)) <= own;
                 (in_time, asker.receive(self.alloc, now, bytes, sent)?)
             }
             None => unreachable!(),
         };
-        self.journal.receive(in_time, taken.got, taken.answered)?;
+        self.journal
+            .enter_received(in_time, received.got, received.answered)?;
         Ok(())
     }
 
     /// A sensor of the device gets a reading.
     fn sense(&mut self, now: Moment, sensor: u16, value: i64) -> Result<(), Memory>
-        requires { CanGoOn (rules_of P.answer P.after P.sensed) self.old.keep self.old.responder self.old.places.items
-            self.old.journal (record { moment = now; action = actions.Sense sensor value }) }
-        ensures runs { OnOk result (GoesOn (rules_of P.answer P.after P.sensed) self.old.keep
-            (record { moment = now; action = actions.Sense sensor value }) self.old.responder self.old.places.items
-            self.old.journal self.new.responder self.new.places.items self.new.journal) }
-        ensures performs { P.performed self.old.responder.platform [] self.new.responder.platform }
-        ensures keep { self.new.keep ≡ self.old.keep }
+        requires { CanGoOn (rules_of P.answer P.after P.sensed) (held_by self.old)
+            (at now (actions.Sense sensor value)) }
+        ensures { OnOk result (HasTaken (rules_of P.answer P.after P.sensed) P.performed (held_by self.old)
+            (at now (actions.Sense sensor value)) (held_by self.new)) }
     {
         pldm_responder::laws::looks_back::<P>();
         let result = self.responder.set_reading(sensor, value);
@@ -287,13 +267,9 @@ impl<P: Platform> Ends<P> {
 
     /// The device's end restarts.
     fn restart(&mut self, now: Moment) -> Result<(), Memory>
-        requires { CanGoOn (rules_of P.answer P.after P.sensed) self.old.keep self.old.responder self.old.places.items
-            self.old.journal (record { moment = now; action = actions.Restart }) }
-        ensures runs { OnOk result (GoesOn (rules_of P.answer P.after P.sensed) self.old.keep
-            (record { moment = now; action = actions.Restart }) self.old.responder self.old.places.items
-            self.old.journal self.new.responder self.new.places.items self.new.journal) }
-        ensures platform { self.new.responder.platform ≡ self.old.responder.platform }
-        ensures keep { self.new.keep ≡ self.old.keep }
+        requires { CanGoOn (rules_of P.answer P.after P.sensed) (held_by self.old) (at now actions.Restart) }
+        ensures { OnOk result (HasTaken (rules_of P.answer P.after P.sensed) P.performed (held_by self.old)
+            (at now actions.Restart) (held_by self.new)) }
     {
         pldm_responder::laws::looks_back::<P>();
         self.responder.restart(now);

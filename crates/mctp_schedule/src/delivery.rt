@@ -5,7 +5,7 @@ ghost use Rattle.mctp_packet.specs.Packets.{written};
 ghost use Rattle.pldm_responder.specs.Answering.{answering};
 ghost use Rattle.mctp_schedule.specs.Deliveries.{ComesTo, packet_of_outcome};
 
-use crate::kept_message::KeptMessage;
+use crate::stored_message::StoredMessage;
 use mctp_packet::{MAX_PACKET_BYTES, Memory, PacketRef, packet_at, write};
 use pldm_responder::Taken;
 use std::alloc::Global;
@@ -16,7 +16,7 @@ use std::marker::Model;
 #[derive(Debug, Drop)]
 pub struct Delivery {
     taken: Taken,
-    reply: KeptMessage,
+    reply: StoredMessage,
 }
 
 impl Model for Delivery {
@@ -35,13 +35,13 @@ impl Delivery {
         alloc: Global,
         taken: Taken,
         reply: &[u8],
-        last: Option<&KeptMessage>,
+        last: Option<&StoredMessage>,
     ) -> Result<Delivery, Memory>
         ensures { IfOk result (λ delivery. delivery ≡ answering reply.now taken) }
     {
         let reply = match &taken {
-            Taken::Answered { .. } => KeptMessage::new(alloc, reply, last)?,
-            _ => KeptMessage::new(alloc, &[], None)?,
+            Taken::Answered { .. } => StoredMessage::new(alloc, reply, last)?,
+            _ => StoredMessage::new(alloc, &[], None)?, // takes no memory
         };
         Ok(Delivery { taken, reply })
     }
@@ -54,7 +54,7 @@ impl Delivery {
     }
 
     /// The message that answers it, empty where none does.
-    pub(crate) fn reply(&self) -> &KeptMessage {
+    pub(crate) fn reply(&self) -> &StoredMessage {
         &self.reply
     }
 

@@ -1,13 +1,14 @@
 //! What a run writes down as it goes.
 
-ghost use Rattle.std.specs.Prelude.{◌≡◌, ◌<◌, ◌++◌, ◌∷◌, [], ◌&&◌, ◌==◌, true, ℕ, None, OnOk, IfSome, length, option_map, slice_get, if◌then◌else◌};
+ghost use Rattle.std.specs.Prelude.{◌≡◌, ◌<◌, ◌++◌, ◌∷◌, [], ◌&&◌, ◌==◌, true, ℕ, None, OnOk, IfSome, length, option_and_then, option_map, slice_get, if◌then◌else◌};
 ghost use Rattle.std.specs.List.{list_any};
 ghost use Rattle.pldm_responder.specs.Answering.{answering};
-ghost use Rattle.mctp_schedule.specs.Journals.{answered_as, answers_at, fresh_numbers, packet_at, place_of, stands_after};
+ghost use Rattle.mctp_schedule.specs.Deliveries.{packets_of_outcome};
+ghost use Rattle.mctp_schedule.specs.Journals.{answered_as, answers_at, fresh_numbers, latest_packets, packet_at, place_of, stands_after};
 ghost use Rattle.mctp_schedule.specs.Requests.{begun};
 
-use crate::askers::{Answered, MAX_REQUEST_PACKET_BYTES, Sent};
-use crate::kept_message::KeptMessage;
+use crate::askers::{AnsweredRequest, MAX_REQUEST_PACKET_BYTES, SentRequest};
+use crate::stored_message::StoredMessage;
 use crate::{Delivery, DueRequests, Entry, OpenedRequest};
 use arrayvec::ArrayVec;
 use mctp_packet::{Eid, MAX_PACKET_BYTES, Memory, Moment};
@@ -16,7 +17,8 @@ use pldm_responder::Taken;
 use std::alloc::Global;
 use std::marker::Model;
 
-/// The packet of a request, and where the latest answers to it stand among the entries.
+/// The packet of a request, and where the latest answers to it stand among the entries. A requester
+/// remembers its last requests alone, and a schedule may deliver any.
 #[derive(Debug, Drop)]
 pub(crate) struct Traffic {
     packet: ArrayVec<u8, MAX_REQUEST_PACKET_BYTES>,
@@ -53,15 +55,15 @@ impl Traffic {
         &self.packet
     }
 
-    /// The entry with the latest answer, a busy one or not.
-    fn place(&self, busy: bool) -> Option<usize>
+    /// The place among the entries of the latest answer, a busy one or not.
+    fn latest_place(&self, busy: bool) -> Option<usize>
         ensures { result ≡ place_of busy self.now }
     {
         if busy { self.busy } else { self.reply }
     }
 
     /// The latest answer stands at this place among the entries.
-    fn answer_at(&mut self, place: usize, busy: bool)
+    fn set_latest_place(&mut self, place: usize, busy: bool)
         ensures { self.new ≡ answers_at place busy self.old }
     {
         if busy {
@@ -106,7 +108,7 @@ impl Journal {
 
     /// The bytes of a packet of the latest answer to a request, a busy one or not, which are written in
     /// front of `room`.
-    pub(crate) fn answer_packet<'a>(
+    pub(crate) fn latest_answer_packet<'a>(
         &self,
         number: u64,
         packet: u8,
@@ -116,18 +118,26 @@ impl Journal {
         ensures { option_map (λ bytes. bytes.now) result ≡ packet_at self.now.entries.items packet busy
             (slice_get self.now.traffic.items number) }
     {
-        let traffic = self.traffic.get(number as usize)?;
-        match self.entries.get(traffic.place(busy)?)? {
-            Entry::Delivered { delivery, .. } => delivery.packet(usize::from(packet), room),
-            _ => None,
+        match self.latest_delivery(number, busy) {
+            Some(delivery) => delivery.packet(usize::from(packet), room),
+            None => None,
         }
     }
 
     /// The latest answer to a request, a busy one or not, if there is one.
-    pub(crate) fn answer(&self, number: u64, busy: bool) -> Option<&KeptMessage> {
+    pub(crate) fn latest_answer(&self, number: u64, busy: bool) -> Option<&StoredMessage> {
+        let delivery = self.latest_delivery(number, busy)?;
+        Some(delivery.reply())
+    }
+
+    /// The delivery that brought the latest answer to a request, a busy one or not.
+    fn latest_delivery(&self, number: u64, busy: bool) -> Option<&Delivery>
+        ensures { option_and_then (λ delivery. packets_of_outcome delivery.now) result ≡ latest_packets
+            self.now.entries.items busy (slice_get self.now.traffic.items number) }
+    {
         let traffic = self.traffic.get(number as usize)?;
-        match self.entries.get(traffic.place(busy)?)? {
-            Entry::Delivered { delivery, .. } => Some(delivery.reply()),
+        match self.entries.get(traffic.latest_place(busy)?)? {
+            Entry::Delivered { delivery, .. } => Some(delivery),
             _ => None,
         }
     }
@@ -145,7 +155,12 @@ impl Journal {
     }
 
     /// Writes down that a request was opened.
-    pub(crate) fn open(&mut self, requester: Eid, opening: Moment, sent: Sent) -> Result<(), Memory>
+    pub(crate) fn enter_opened(
+        &mut self,
+        requester: Eid,
+        opening: Moment,
+        sent: SentRequest,
+    ) -> Result<(), Memory>
         ensures entries { OnOk result (self.new.entries.items ≡ self.old.entries.items ++ Entry.Opened
             (length self.old.requests.items) ∷ []) }
         ensures requests { OnOk result (self.new.requests.items ≡ self.old.requests.items ++ begun requester sent.own
@@ -156,7 +171,7 @@ impl Journal {
         ensures timely { OnOk result (self.new.timely ≡ self.old.timely) }
     {
         let number = self.requests.len() as u64;
-        let Sent {
+        let SentRequest {
             own,
             message,
             packet,
@@ -168,7 +183,7 @@ impl Journal {
     }
 
     /// Writes down what a tick found due.
-    pub(crate) fn tick(&mut self, due: Due) -> Result<(), Memory>
+    pub(crate) fn enter_due(&mut self, due: Due) -> Result<(), Memory>
         requires { (number : ℕ) → list_any (λ n. n == number) due.given_up.items ≡ true → number < length
             self.old.requests.items }
         ensures entries { OnOk result (self.new.entries.items ≡ self.old.entries.items ++ Entry.Due due ∷ []) }
@@ -202,7 +217,7 @@ impl Journal {
     }
 
     /// Writes down what became of the packet of a request.
-    pub(crate) fn deliver(
+    pub(crate) fn enter_delivered(
         &mut self,
         number: u64,
         in_time: bool,
@@ -225,13 +240,14 @@ impl Journal {
             self.order.push(number)?;
         }
         self.timely = in_time && self.timely;
-        let delivery = Delivery::new(self.alloc, taken, reply, self.answer(number, busy))?;
-        self.answer_next(number, busy);
+        // Looked up before this answer is the latest: a copy's answer is mostly the one before it, and is shared.
+        let delivery = Delivery::new(self.alloc, taken, reply, self.latest_answer(number, busy))?;
+        self.point_to_next_entry(number, busy);
         self.enter(Entry::Delivered { busy, delivery })
     }
 
-    /// The latest answer to a request, a busy one or not, stands in the next entry.
-    fn answer_next(&mut self, number: u64, busy: bool)
+    /// The latest answer to a request, a busy one or not, will stand in the next entry.
+    fn point_to_next_entry(&mut self, number: u64, busy: bool)
         requires { number < length self.old.traffic.items }
         ensures all { length self.new.traffic.items ≡ length self.old.traffic.items }
         ensures traffic { (k : ℕ) → slice_get self.new.traffic.items k ≡ option_map (λ t. if k == number then
@@ -242,15 +258,15 @@ impl Journal {
         ensures timely { self.new.timely ≡ self.old.timely }
     {
         let place = self.entries.len();
-        self.traffic[number as usize].answer_at(place, busy);
+        self.traffic[number as usize].set_latest_place(place, busy);
     }
 
     /// Writes down what a requester got.
-    pub(crate) fn receive(
+    pub(crate) fn enter_received(
         &mut self,
         in_time: bool,
         got: Got,
-        answered: Option<Answered>,
+        answered: Option<AnsweredRequest>,
     ) -> Result<(), Memory>
         requires { IfSome answered (λ a. a.number < length self.old.requests.items) }
         ensures entries { OnOk result (self.new.entries.items ≡ self.old.entries.items ++ Entry.Received got ∷ []) }
@@ -261,7 +277,7 @@ impl Journal {
         ensures order { OnOk result (self.new.order.items ≡ self.old.order.items) }
         ensures timely { OnOk result (self.new.timely ≡ (in_time && self.old.timely)) }
     {
-        if let Some(Answered { number, message }) = answered {
+        if let Some(AnsweredRequest { number, message }) = answered {
             self.requests[number as usize].answer(message);
         }
         self.timely = in_time && self.timely;

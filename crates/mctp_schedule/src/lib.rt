@@ -7,11 +7,11 @@ mod delivery;
 mod due_requests;
 mod entry;
 mod journal;
-mod kept_message;
 pub mod laws;
 mod opened_request;
 mod places;
 mod run_fault;
+mod stored_message;
 
 pub use both_ends::{Report, Setup, run};
 pub use delivery::Delivery;

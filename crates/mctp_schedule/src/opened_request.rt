@@ -6,7 +6,7 @@ ghost use Rattle.pldm_requester.specs.Numbering.{id_of, tag_of};
 ghost use Rattle.pldm_requester.specs.Standings.{standing_told};
 ghost use Rattle.mctp_schedule.specs.Requests.{begun, with_standing};
 
-use crate::kept_message::KeptMessage;
+use crate::stored_message::StoredMessage;
 use arrayvec::ArrayVec;
 use mctp_packet::{Eid, Moment, TAGS, Tag};
 use pldm_requester::Status;
@@ -29,7 +29,7 @@ enum Standing {
     /// It is open.
     Waiting,
     /// It was answered, by this message.
-    Answered(KeptMessage),
+    Answered(StoredMessage),
     /// It was given up.
     GaveUp,
 }
@@ -127,7 +127,7 @@ impl OpenedRequest {
     }
 
     /// It is answered.
-    pub(crate) fn answer(&mut self, message: KeptMessage)
+    pub(crate) fn answer(&mut self, message: StoredMessage)
         ensures { self.new ≡ with_standing (Answered message) self.old }
     {
         self.standing = Standing::Answered(message);

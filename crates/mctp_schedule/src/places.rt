@@ -16,7 +16,8 @@ use mctp_packet::{Eid, Keep, MAX_EID, Memory};
 use pldm_requester::{Requester, Timing};
 use std::alloc::Global;
 
-/// A place for each endpoint ID, from 0 on.
+/// A place for each endpoint ID, from 0 on, so that a step finds its requester at the same cost whatever
+/// their number.
 pub(crate) type Places = Vec<Option<Asker>>;
 
 /// The requesters of these lines, for the device at the endpoint `device`, each in the place of its
@@ -50,7 +51,7 @@ fn empty_places(alloc: Global) -> Result<Places, Memory>
     ensures { IfOk result (λ places. length places.items ≡ MAX_EID + 1) }
 {
     let count = usize::from(MAX_EID) + 1;
-    let mut places = Vec::with_capacity(alloc, count)?;
+    let mut places = Vec::with_capacity(alloc, count)?; // one growth, and no room beyond the last ID
     for _ in 0..count {
         places.push(None)?;
     }

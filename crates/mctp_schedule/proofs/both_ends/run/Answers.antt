@@ -1,5 +1,5 @@
 -- Step by step, until there is none.
-use Rattle.std.proofs.Common.{◌<◌, ◌+◌, List, [], ◌∷◌, length, take, Some, sym, ap, subst, ◌∙◌, arith}
+use Rattle.std.proofs.Common.{◌<◌, List, [], length, take, Some, refl, sym, ap, subst, ◌∙◌, arith}
 use Rattle.std.specs.Prelude.{reverse, slice_get, slice_index_or}
 use Rattle.pldm_responder.specs.Performing.{rules_of}
 use Rattle.mctp_schedule.specs.Entries.{entries, requests_after}
@@ -8,6 +8,7 @@ use Rattle.mctp_schedule.specs.Logs.{told}
 use Rattle.pldm_responder.specs.Performing.{performed}
 use Rattle.pldm_responder.specs.Stations.{held_of}
 use Rattle.mctp_schedule.specs.Headline.{Headline}
+use Rattle.mctp_schedule.specs.HeldRuns.{held_by}
 use Rattle.mctp_schedule.specs.Places.{BeginEach}
 use Rattle.mctp_schedule.specs.Running.{IsRunning, Terms}
 use Rattle.mctp_schedule.specs.PerformedCommands.{commands_at_step, commands_performed}
@@ -30,7 +31,9 @@ loop-step-init g c =
     record {
       items = c.steps-step-items.ensures.value;
       in_order = tt;
-      runs = begins setting c.new.result c.in_ok-begin_requesters.field-0.items c.new-2.result c.get-range.ensures.range c.looks_back.ensures.new c.looks_back.ensures.same c.looks_back-2.ensures.new c.looks_back-2.ensures.same c.new.ensures.held
+      runs = begins setting
+          (record { keep = c.args.setup.keep; responder = c.new.result; places = c.in_ok-begin_requesters.field-0.items; journal = c.new-2.result })
+          refl c.get-range.ensures.range c.looks_back.ensures.new c.looks_back.ensures.same c.looks_back-2.ensures.new c.looks_back-2.ensures.same c.new.ensures.held
           (subst (λ lines. BeginEach c.args.setup.eid c.args.setup.keep lines c.in_ok-begin_requesters.field-0.items) c.requesters.ensures.value begun)
           (record { entries = empty.entries; requests = empty.requests; traffic = empty.traffic; order = empty.order; timely = empty.timely });
       performed = subst (λ p. g.P.Platform.performed c.args.setup.device [] p) (sym c.new.ensures.platform) (g.met.P.Platform.none_performed c.args.setup.device);
@@ -60,12 +63,11 @@ loop-step-preserved g c =
     let at = c.step-item.is ∙ ap (λ (xs : List Step). slice_index_or xs i step) items in
     let here = get_or schedule.steps i step within ∙ ap Some (sym at) in
     let may = may_come schedule.requesters schedule.steps i step valid.in_order valid.known here in
-    let runs = c.in_ok-take.ensures.runs terms (reverse (take i schedule.steps)) c.loop-step.invariant.runs may in
+    let runs = c.in_ok-take.ensures.goes_on terms (reverse (take i schedule.steps)) c.loop-step.invariant.runs may in
     record {
       items = items;
       in_order = subst NeverWentBack (sym (taken_more schedule.steps i step within at)) (may.later, c.loop-step.invariant.in_order);
-      runs = subst (λ keep. IsRunning setting (reverse (take (i + 1) schedule.steps)) keep c.take.new.self.responder c.take.new.self.places.items c.take.new.self.journal) (sym c.in_ok-take.ensures.keep)
-          (subst (λ past. IsRunning setting past c.loop-step.ends.keep c.take.new.self.responder c.take.new.self.places.items c.take.new.self.journal) (sym (taken_more schedule.steps i step within at)) runs);
+      runs = subst (λ past. IsRunning setting past (held_by c.take.new.self)) (sym (taken_more schedule.steps i step within at)) runs;
       performed = subst (λ past. g.P.Platform.performed c.args.setup.device (commands_performed g.row.P-State.Denot c.args.setup.keep (world setting past).log) c.take.new.self.responder.platform) (sym (taken_more schedule.steps i step within at))
           (subst (λ (cs : List Command). g.P.Platform.performed c.args.setup.device cs c.take.new.self.responder.platform) (sym (commands_added setting (world setting (reverse (take i schedule.steps))) step.moment step.action))
           (g.met.P.Platform.performed_in_turn c.args.setup.device c.loop-step.ends.responder.platform c.take.new.self.responder.platform
@@ -111,5 +113,5 @@ returns-clause-report g c =
       headline = λ timely.
           subst (λ s. Headline setting (newest_first schedule) journal.entries.items journal.requests.items journal.order.items s has_performed) (sym c.into_platform-device.ensures.state)
           (subst (λ steps. Headline setting steps journal.entries.items journal.requests.items journal.order.items (held_of c.loop-step.ends.responder).state has_performed) all
-          (run_is_headline setting past c.loop-step.ends.keep c.loop-step.ends.responder c.loop-step.ends.places.items journal runs halves has_performed given c.loop-step.invariant.in_order timely));
+          (run_is_headline setting past (held_by c.loop-step.ends) runs halves has_performed given c.loop-step.invariant.in_order timely));
     }

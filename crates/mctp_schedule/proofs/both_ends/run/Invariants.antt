@@ -3,6 +3,7 @@ use Rattle.std.proofs.Common.{◌≡◌, take}
 use Rattle.std.specs.Prelude.{reverse}
 use Rattle.pldm_responder.specs.Performing.{rules_of}
 use Rattle.mctp_schedule.specs.PerformedCommands.{commands_performed}
+use Rattle.mctp_schedule.specs.HeldRuns.{held_by}
 use Rattle.mctp_schedule.specs.Running.{IsRunning}
 use Rattle.mctp_schedule.specs.Runs.{setting_of_run}
 use Rattle.mctp_schedule.specs.Worlds.{NeverWentBack, world}
@@ -13,7 +14,7 @@ invariant-loop-step g l = record {
   items : l.step-items ≡ l.fn.schedule.steps;
   in_order : NeverWentBack (reverse (take l.step-index l.fn.schedule.steps));
   runs : IsRunning (setting_of_run (rules_of g.P.Platform.answer g.P.Platform.after g.P.Platform.sensed) (g.P.Platform.state l.fn.setup.device) l.fn.setup.eid l.fn.setup.keep l.fn.schedule)
-      (reverse (take l.step-index l.fn.schedule.steps)) l.ends.keep l.ends.responder l.ends.places.items l.ends.journal;
+      (reverse (take l.step-index l.fn.schedule.steps)) (held_by l.ends);
   performed : g.P.Platform.performed l.fn.setup.device
       (commands_performed g.row.P-State.Denot l.fn.setup.keep
       (world (setting_of_run (rules_of g.P.Platform.answer g.P.Platform.after g.P.Platform.sensed) (g.P.Platform.state l.fn.setup.device) l.fn.setup.eid l.fn.setup.keep l.fn.schedule)

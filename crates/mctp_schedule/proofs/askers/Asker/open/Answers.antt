@@ -1,9 +1,8 @@
 -- A request that was opened has one packet, that of its command, and its message is the payload of that.
-use Rattle.std.proofs.Common.{◌≡◌, ℕ, ◌%◌, List, [], ◌∷◌, length, drop, Ok, Some, refl, sym, ap, subst, ◌∙◌, arith}
-use Rattle.std.specs.Prelude.{option_map}
+use Rattle.std.proofs.Common.{ℕ, ◌%◌, List, length, drop, Ok, ap, subst, ◌∙◌, arith}
 use Rattle.pldm_requester.specs.Numbering.{message_of}
 use Rattle.pldm_requester.specs.Slots.{held_of}
-use Rattle.pldm_requester.specs.Steps.{Memo, is_id_in_use, is_tag_in_use}
+use Rattle.pldm_requester.specs.Steps.{is_id_in_use, is_tag_in_use}
 use Rattle.pldm_requester.specs.declared.results.Opened.{Opened}
 use Rattle.mctp_schedule.specs.Askers.{IsSent, Side, packet_bytes}
 use Rattle.mctp_schedule.proofs.AskerCalls.{accepted_as, opened_packet, sent_packet}

@@ -7,8 +7,8 @@ use Rattle.mctp_schedule.specs.Askers.{Side, TellsAnswer}
 use Rattle.mctp_schedule.proofs.AskerCalls.{answer_of_got, none_told, one_told, same_answer, standing_after}
 use Rattle.mctp_schedule.proofs.askers.Asker.receive.Goals as goal
 
-pub answered-requires-clause-answer : goal.answered-requires-clause-answer
-answered-requires-clause-answer c =
+pub store_answer-requires-clause-answer : goal.store_answer-requires-clause-answer
+store_answer-requires-clause-answer c =
     let held = held_of c.self.inside.requester in
     let got = sym c.in_ok-got.ensures.got ∙ c.in-Answered.is in
     let message = answer_of_got (arrived_by held (passed held c.args.bytes.now)) c.in-Answered.own got in

@@ -1,5 +1,5 @@
 -- The packet of a request is one more call of the responder.
-use Rattle.std.proofs.Common.{◌≡◌, ◌<◌, ◌≤◌, ◌+◌, List, None, sym, ap, subst, ◌∙◌, arith}
+use Rattle.std.proofs.Common.{◌<◌, ◌≤◌, ◌+◌, List, sym, ap, subst, ◌∙◌, arith}
 use Rattle.std.specs.Prelude.{nat_lt, option_map}
 use Rattle.pldm_responder.specs.Answering.{answering}
 use Rattle.pldm_responder.specs.Performing.{rules_of}
@@ -8,92 +8,93 @@ use Rattle.mctp_schedule.specs.Entries.{as_it_stands}
 use Rattle.mctp_schedule.specs.Journals.{Carried}
 use Rattle.mctp_schedule.specs.Requests.{Request}
 use Rattle.mctp_schedule.specs.FirstArrivals.{fresh_of}
-use Rattle.mctp_schedule.specs.Logs.{asked_at, count_of, told}
+use Rattle.mctp_schedule.specs.Logs.{count_of, told}
 use Rattle.mctp_schedule.specs.PerformedCommands.{commands_if}
+use Rattle.mctp_schedule.specs.HeldRuns.{held_by}
 use Rattle.mctp_schedule.specs.Running.{setting_of}
 use Rattle.mctp_schedule.specs.Worlds.{world}
-use Rattle.mctp_schedule.proofs.AskedRequests.{asked_some, none_past}
+use Rattle.mctp_schedule.proofs.LoggedRequests.{asked_some, none_past}
 use Rattle.mctp_schedule.proofs.CommandsPerformed.{delivery_performs}
-use Rattle.mctp_schedule.proofs.DeliverySteps.{delivered_runs, never_opened}
+use Rattle.mctp_schedule.proofs.AfterDelivery.{delivered_runs, never_opened}
 use Rattle.mctp_schedule.proofs.ListPlaces.{or_get}
 use Rattle.mctp_schedule.proofs.both_ends.Ends.deliver.Goals as goal
 
-pub returns-then-number-len-clause-runs : goal.returns-then-number-len-clause-runs
-returns-then-number-len-clause-runs g c = λ terms past running may.
-    let setting = setting_of (rules_of g.P.Platform.answer g.P.Platform.after g.P.Platform.sensed) terms in
-    let entered = c.in_ok-enter.ensures in
-    let len = c.len.ensures in
-    let above = c.if-number-len.true in
-    let count = running.counted in
-    let past_all : count_of (world setting past).log ≤ c.args.number = omega (arith, len, above, count) in
-    never_opened setting past c.args.self.now.keep c.args.self.now.responder c.args.self.now.places.items c.args.self.now.journal c.enter.new.self running c.args.now c.args.number may.later
-    (none_past (world setting past).log c.args.number past_all)
-    (record {
-      entries = entered.entries;
-      requests = entered.requests;
-      traffic = entered.traffic;
-      order = entered.order;
-      timely = entered.timely;
-    })
+pub returns-then-number-len : goal.returns-then-number-len
+returns-then-number-len g c = record {
+  goes_on = λ terms past running may.
+      let setting = setting_of (rules_of g.P.Platform.answer g.P.Platform.after g.P.Platform.sensed) terms in
+      let entered = c.in_ok-enter.ensures in
+      let len = c.len.ensures in
+      let above = c.if-number-len.true in
+      let count = running.counted in
+      let past_all : count_of (world setting past).log ≤ c.args.number = omega (arith, len, above, count) in
+      never_opened setting past (held_by c.args.self.now) c.enter.new.self running c.args.now c.args.number may.later
+      (none_past (world setting past).log c.args.number past_all)
+      (record {
+        entries = entered.entries;
+        requests = entered.requests;
+        traffic = entered.traffic;
+        order = entered.order;
+        timely = entered.timely;
+      });
+  performs = λ terms past running may.
+      let log = (world (setting_of (rules_of g.P.Platform.answer g.P.Platform.after g.P.Platform.sensed) terms) past).log in
+      let len = c.len.ensures in
+      let above = c.if-number-len.true in
+      let count = running.counted in
+      let past_all : count_of log ≤ c.args.number = omega (arith, len, above, count) in
+      let platform = c.args.self.now.responder.platform in
+      subst (λ o. g.P.Platform.performed platform (commands_if (fresh_of terms.keep (told {S = g.row.P-State.Denot} log) c.args.now o) o) platform) (sym (none_past log c.args.number past_all))
+      (g.met.P.Platform.none_performed platform);
+}
 
-pub returns-clause-runs : goal.returns-clause-runs
-returns-clause-runs g c = λ terms past running may.
-    let setting = setting_of (rules_of g.P.Platform.answer g.P.Platform.after g.P.Platform.sensed) terms in
-    let len = c.len.ensures in
-    let below = c.if-number-len.false in
-    let count = running.counted in
-    let within : c.args.number < count_of (world setting past).log = omega (arith, len, below, count) in
-    let asked = asked_some (world setting past).log c.args.number within in
-    let entered = c.in_ok-deliver.ensures in
-    let w = world setting past in
-    let traffic = c.args.self.now.journal.traffic.items in
-    let requests = c.args.self.now.journal.requests.items in
-    let t = running.traffic c.args.number asked.0 asked.1 in
-    let carried = c.index-2.ensures ∙ or_get traffic c.args.number c.index-2.result.now t.0 t.1 in
-    let stands = or_get requests c.args.number c.index.result.now (as_it_stands setting w asked.0) (running.requests c.args.number ∙ ap (option_map (as_it_stands setting w)) asked.1) in
-    let opening = c.get-2.ensures.value ∙ c.opening-opening.ensures ∙ ap (λ (q : Request). q.asked.opening) (c.index.ensures ∙ stands) in
-    let keep = c.from.ensures ∙ c.get-3.ensures.value ∙ running.times in
-    delivered_runs setting past c.args.self.now.keep c.args.self.now.responder c.args.self.now.places.items c.args.self.now.journal c.deliver.new.self running c.args.now c.args.number may.later
-    asked.0 asked.1 c.receive_message.new.self c.packet-packet.result.now (answering c.deref.result.now c.in_ok-taken.taken) c.busy-busy.result (nat_lt c.get.result (c.get-2.result + c.from.result))
-    c.looks_back.ensures.received c.looks_back.ensures.same c.bytes_spell_one_packet.ensures.written c.reading_is_spelling.ensures.read_for
-    (record {
-      packet_is = c.packet-packet.ensures ∙ ap (λ (x : Carried). x.packet) carried ∙ t.2.packet;
-      new_held = c.in_ok-taken.ensures.held;
-      given_outcome = ap (λ message. answering message c.in_ok-taken.taken) c.deref.ensures.0 ∙ c.in_ok-taken.ensures.outcome;
-      given_fits = c.in_ok-taken.ensures.fits;
-      given_busy = c.busy-busy.ensures;
-      given_in_time = ap (λ now. nat_lt now (c.get-2.result + c.from.result)) c.get.ensures.value ∙ ap (λ x. nat_lt c.args.now (x + c.from.result)) opening ∙ ap (λ x. nat_lt c.args.now (asked.0.opening + x)) keep;
-      new_entries = entered.entries;
-      new_requests = entered.requests;
-      same_count = entered.all;
-      new_traffic = entered.traffic;
-      new_order = entered.order;
-      new_timely = entered.timely;
-    })
-
-pub returns-then-number-len-clause-performs : goal.returns-then-number-len-clause-performs
-returns-then-number-len-clause-performs g c = λ terms past running may.
-    let log = (world (setting_of (rules_of g.P.Platform.answer g.P.Platform.after g.P.Platform.sensed) terms) past).log in
-    let len = c.len.ensures in
-    let above = c.if-number-len.true in
-    let count = running.counted in
-    let past_all : count_of log ≤ c.args.number = omega (arith, len, above, count) in
-    let platform = c.args.self.now.responder.platform in
-    subst (λ o. g.P.Platform.performed platform (commands_if (fresh_of terms.keep (told {S = g.row.P-State.Denot} log) c.args.now o) o) platform) (sym (none_past log c.args.number past_all))
-    (g.met.P.Platform.none_performed platform)
-
-pub returns-clause-performs : goal.returns-clause-performs
-returns-clause-performs g c = λ terms past running may.
-    let setting = setting_of (rules_of g.P.Platform.answer g.P.Platform.after g.P.Platform.sensed) terms in
-    let len = c.len.ensures in
-    let below = c.if-number-len.false in
-    let count = running.counted in
-    let within : c.args.number < count_of (world setting past).log = omega (arith, len, below, count) in
-    let asked = asked_some (world setting past).log c.args.number within in
-    let t = running.traffic c.args.number asked.0 asked.1 in
-    let carried = c.index-2.ensures ∙ or_get c.args.self.now.journal.traffic.items c.args.number c.index-2.result.now t.0 t.1 in
-    subst (λ (cs : List Command). g.P.Platform.performed c.args.self.now.responder.platform cs c.receive_message.new.self.platform)
-    (delivery_performs setting past c.args.self.now.keep c.args.self.now.responder c.args.self.now.places.items c.args.self.now.journal running c.args.now c.args.number
-    asked.0 asked.1 c.packet-packet.result.now (c.packet-packet.ensures ∙ ap (λ (x : Carried). x.packet) carried ∙ t.2.packet)
-    c.bytes_spell_one_packet.ensures.written c.reading_is_spelling.ensures.read_for)
-    c.in_ok-taken.ensures.performed
+pub returns : goal.returns
+returns g c = record {
+  goes_on = λ terms past running may.
+      let setting = setting_of (rules_of g.P.Platform.answer g.P.Platform.after g.P.Platform.sensed) terms in
+      let len = c.len.ensures in
+      let below = c.if-number-len.false in
+      let count = running.counted in
+      let within : c.args.number < count_of (world setting past).log = omega (arith, len, below, count) in
+      let asked = asked_some (world setting past).log c.args.number within in
+      let entered = c.in_ok-enter_delivered.ensures in
+      let w = world setting past in
+      let traffic = c.args.self.now.journal.traffic.items in
+      let requests = c.args.self.now.journal.requests.items in
+      let t = running.traffic c.args.number asked.0 asked.1 in
+      let carried = c.index-2.ensures ∙ or_get traffic c.args.number c.index-2.result.now t.0 t.1 in
+      let stands = or_get requests c.args.number c.index.result.now (as_it_stands setting w asked.0) (running.requests c.args.number ∙ ap (option_map (as_it_stands setting w)) asked.1) in
+      let opening = c.get-2.ensures.value ∙ c.opening-opening.ensures ∙ ap (λ (q : Request). q.asked.opening) (c.index.ensures ∙ stands) in
+      let keep = c.from.ensures ∙ c.get-3.ensures.value ∙ running.times in
+      delivered_runs setting past (held_by c.args.self.now) c.enter_delivered.new.self running c.args.now c.args.number may.later
+      asked.0 asked.1 c.receive_message.new.self c.packet-packet.result.now (answering c.deref.result.now c.in_ok-taken.taken) c.busy-busy.result (nat_lt c.get.result (c.get-2.result + c.from.result))
+      c.looks_back.ensures.received c.looks_back.ensures.same c.bytes_spell_one_packet.ensures.written c.reading_is_spelling.ensures.read_for
+      (record {
+        packet_is = c.packet-packet.ensures ∙ ap (λ (x : Carried). x.packet) carried ∙ t.2.packet;
+        new_held = c.in_ok-taken.ensures.held;
+        given_outcome = ap (λ message. answering message c.in_ok-taken.taken) c.deref.ensures.0 ∙ c.in_ok-taken.ensures.outcome;
+        given_fits = c.in_ok-taken.ensures.fits;
+        given_busy = c.busy-busy.ensures;
+        given_in_time = ap (λ now. nat_lt now (c.get-2.result + c.from.result)) c.get.ensures.value ∙ ap (λ x. nat_lt c.args.now (x + c.from.result)) opening ∙ ap (λ x. nat_lt c.args.now (asked.0.opening + x)) keep;
+        new_entries = entered.entries;
+        new_requests = entered.requests;
+        same_count = entered.all;
+        new_traffic = entered.traffic;
+        new_order = entered.order;
+        new_timely = entered.timely;
+      });
+  performs = λ terms past running may.
+      let setting = setting_of (rules_of g.P.Platform.answer g.P.Platform.after g.P.Platform.sensed) terms in
+      let len = c.len.ensures in
+      let below = c.if-number-len.false in
+      let count = running.counted in
+      let within : c.args.number < count_of (world setting past).log = omega (arith, len, below, count) in
+      let asked = asked_some (world setting past).log c.args.number within in
+      let t = running.traffic c.args.number asked.0 asked.1 in
+      let carried = c.index-2.ensures ∙ or_get c.args.self.now.journal.traffic.items c.args.number c.index-2.result.now t.0 t.1 in
+      subst (λ (cs : List Command). g.P.Platform.performed c.args.self.now.responder.platform cs c.receive_message.new.self.platform)
+      (delivery_performs setting past (held_by c.args.self.now) running c.args.now c.args.number
+      asked.0 asked.1 c.packet-packet.result.now (c.packet-packet.ensures ∙ ap (λ (x : Carried). x.packet) carried ∙ t.2.packet)
+      c.bytes_spell_one_packet.ensures.written c.reading_is_spelling.ensures.read_for)
+      c.in_ok-taken.ensures.performed;
+}

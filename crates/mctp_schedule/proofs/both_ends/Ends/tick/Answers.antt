@@ -1,6 +1,6 @@
 -- A tick is one more call of its requester.
 use Rattle.std.proofs.Common.{◌≡◌, ◌<◌, ◌∷◌, length, Some, sym, ap, subst, ◌∙◌, arith}
-use Rattle.std.specs.Prelude.{◌==◌, true, slice_index, slice_set}
+use Rattle.std.specs.Prelude.{◌==◌, true, slice_index}
 use Rattle.std.specs.List.{list_any}
 use Rattle.pldm_responder.specs.Performing.{rules_of}
 use Rattle.pldm_requester.specs.Courses.{is_given_up}
@@ -8,18 +8,19 @@ use Rattle.pldm_requester.specs.Slots.{held_of}
 use Rattle.pldm_requester.specs.Steps.{IsHeld, again_at, given_up_at, passes, ticked_held}
 use Rattle.mctp_schedule.specs.Askers.{Side}
 use Rattle.mctp_schedule.specs.Entries.{numbered, numbers_of}
+use Rattle.mctp_schedule.specs.HeldRuns.{held_by}
 use Rattle.mctp_schedule.specs.Running.{IsRunning, setting_of}
 use Rattle.mctp_schedule.specs.Worlds.{world}
 use Rattle.schedule_text.specs.declared.step.Action.TheVariants as actions
-use Rattle.mctp_schedule.proofs.AskedRequests.{asked_below}
+use Rattle.mctp_schedule.proofs.LoggedRequests.{asked_below}
 use Rattle.mctp_schedule.proofs.AskerCalls.{recent_below}
-use Rattle.mctp_schedule.proofs.CalledSteps.{place_holds}
+use Rattle.mctp_schedule.proofs.AfterCall.{with_side, place_holds}
 use Rattle.mctp_schedule.proofs.NumberedRequests.{get_index, listed_own}
-use Rattle.mctp_schedule.proofs.TickedSteps.{tick_runs}
+use Rattle.mctp_schedule.proofs.AfterTick.{tick_runs}
 use Rattle.mctp_schedule.proofs.both_ends.Ends.tick.Goals as goal
 
-pub tick-requires : goal.tick-requires
-tick-requires g c = λ number listed.
+pub enter_due-requires : goal.enter_due-requires
+enter_due-requires g c = λ number listed.
     let terms = c.requires.0 in
     let past = c.requires.1 in
     let running = c.requires.2 in
@@ -44,26 +45,29 @@ tick-requires g c = λ number listed.
     let all_counted = running.counted in
     omega (arith, known, all_counted)
 
-pub returns-clause-runs : goal.returns-clause-runs
-returns-clause-runs g c = λ terms past running may.
-    let setting = setting_of (rules_of g.P.Platform.answer g.P.Platform.after g.P.Platform.sensed) terms in
-    let e = c.args.eid in
-    let s = running.sides e may.known in
-    let asker = c.in-Some.asker in
-    let at = c.from.ensures ∙ c.get.ensures.value in
-    let same = place_holds c.args.self.now.places.items e c.from.result c.index_mut.result.now s.0 asker at c.index_mut.ensures.value s.1 c.in-Some.is in
-    let due = c.tick-due.ensures in
-    let entered = c.in_ok-tick.ensures in
-    subst (λ i. IsRunning setting (record { moment = c.args.now; action = actions.Tick e } ∷ past) c.args.self.now.keep c.args.self.now.responder (slice_set c.args.self.now.places.items i (Some c.tick-due.new.self)) c.tick.new.self) (sym at)
-    (tick_runs setting past c.args.self.now.keep c.args.self.now.responder c.args.self.now.places.items c.args.self.now.journal c.tick.new.self running c.args.now may.later e may.known c.tick-due.new.self c.tick-due.result
-    c.looks_back.ensures.tick c.looks_back.ensures.same
-    (record {
-      held = subst (λ (a : Side). IsHeld (held_of c.tick-due.new.self.station) (ticked_held (held_of a.station) c.args.now)) same due.held;
-      same_numbers = due.numbers ∙ ap (λ (a : Side). a.numbers) same;
-      again = due.again ∙ ap (λ (a : Side). numbered a.numbers (again_at (held_of a.station) c.args.now)) same;
-      given_up = due.given_up ∙ ap (λ (a : Side). numbered a.numbers (given_up_at (held_of a.station) c.args.now)) same;
-      requests = entered.requests;
-      counted = entered.all;
-      writes = record { entries = entered.entries; traffic = entered.traffic; order = entered.order };
-      timely = entered.timely;
-    }))
+pub returns : goal.returns
+returns g c = record {
+  goes_on = λ terms past running may.
+      let setting = setting_of (rules_of g.P.Platform.answer g.P.Platform.after g.P.Platform.sensed) terms in
+      let e = c.args.eid in
+      let s = running.sides e may.known in
+      let asker = c.in-Some.asker in
+      let at = c.from.ensures ∙ c.get.ensures.value in
+      let same = place_holds c.args.self.now.places.items e c.from.result c.index_mut.result.now s.0 asker at c.index_mut.ensures.value s.1 c.in-Some.is in
+      let due = c.tick-due.ensures in
+      let entered = c.in_ok-enter_due.ensures in
+      subst (λ i. IsRunning setting (record { moment = c.args.now; action = actions.Tick e } ∷ past) (with_side (held_by c.args.self.now) i c.tick-due.new.self c.enter_due.new.self)) (sym at)
+      (tick_runs setting past (held_by c.args.self.now) c.enter_due.new.self running c.args.now may.later e may.known c.tick-due.new.self c.tick-due.result
+      c.looks_back.ensures.tick c.looks_back.ensures.same
+      (record {
+        held = subst (λ (a : Side). IsHeld (held_of c.tick-due.new.self.station) (ticked_held (held_of a.station) c.args.now)) same due.held;
+        same_numbers = due.numbers ∙ ap (λ (a : Side). a.numbers) same;
+        again = due.again ∙ ap (λ (a : Side). numbered a.numbers (again_at (held_of a.station) c.args.now)) same;
+        given_up = due.given_up ∙ ap (λ (a : Side). numbered a.numbers (given_up_at (held_of a.station) c.args.now)) same;
+        requests = entered.requests;
+        counted = entered.all;
+        writes = record { entries = entered.entries; traffic = entered.traffic; order = entered.order };
+        timely = entered.timely;
+      }));
+  performs = λ terms past running may. g.met.P.Platform.none_performed c.args.self.now.responder.platform;
+}

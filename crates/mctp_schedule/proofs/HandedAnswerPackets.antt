@@ -1,18 +1,16 @@
 -- The packet of an answer that a step hands over, as it is written down and as the world has it.
 use Rattle.std.proofs.Common.{◌≡◌, ℕ, ◌≤◌, Bool, true, false, List, Option, Some, None, refl, sym, ap, ◌∙◌, arith}
 use Rattle.std.specs.Prelude.{◌||◌, not, is_some, option_and_then, option_map, slice_get}
-use Rattle.pldm_responder.specs.Stations as responder_stations
-use Rattle.mctp_schedule.specs.Askers.{Side}
 use Rattle.mctp_schedule.specs.Entries.{entry_of, got_entry}
 use Rattle.mctp_schedule.specs.HandedPackets.{got_from}
+use Rattle.mctp_schedule.specs.HeldRuns.{HeldRun}
 use Rattle.mctp_schedule.specs.Journals.{packet_at}
 use Rattle.mctp_schedule.specs.Logs.{Asked, asked_at, count_of}
 use Rattle.mctp_schedule.specs.OncePerformed.{given, was_busy}
 use Rattle.mctp_schedule.specs.Running.{IsRunning, answer_action, busy_packets}
 use Rattle.mctp_schedule.specs.Worlds.{Setting, World, answer_packets, busy_from, busy_packet, done, handed, is_timely_action, packet_of, reply_packet, source_of, tag_is_own, world}
-use Rattle.mctp_schedule.specs.declared.journal.Journal.{Journal}
 use Rattle.schedule_text.specs.declared.step.Step.{Step}
-use Rattle.mctp_schedule.proofs.AskedRequests.{none_above}
+use Rattle.mctp_schedule.proofs.LoggedRequests.{none_above}
 use Rattle.mctp_schedule.proofs.ListPlaces.{get_past}
 
 module _ {S : Type 0} (setting : Setting S) (w : World) where
@@ -46,33 +44,33 @@ busy_in : {S : Type 0} (setting : Setting S) (r : Asked) (busy : Bool) → optio
 busy_in setting r true = refl
 busy_in setting r false = refl
 
-module _ {P S : Type 0} (setting : Setting S) (past : List Step) (keep : ℕ) (station : responder_stations.Station P S) (places : List (Option Side)) (journal : Journal) (running : IsRunning setting past keep station places journal) where
-  pub written : (busy : Bool) (k packet : ℕ) → (busy ≡ true → packet ≡ 0) → packet_at journal.entries.items packet busy (slice_get journal.traffic.items k) ≡ delivered setting (world setting past) busy k packet
+module _ {P S : Type 0} (setting : Setting S) (past : List Step) (run : HeldRun P S) (running : IsRunning setting past run) where
+  pub written : (busy : Bool) (k packet : ℕ) → (busy ≡ true → packet ≡ 0) → packet_at run.journal.entries.items packet busy (slice_get run.journal.traffic.items k) ≡ delivered setting (world setting past) busy k packet
   written busy k packet first = go (asked_at (world setting past).log k) refl
     where
       log_count : asked_at (world setting past).log k ≡ None → count_of (world setting past).log ≤ k
       log_count none = none_above (world setting past).log k none
 
-      some : (r : Asked) → asked_at (world setting past).log k ≡ Some r → (b : Bool) → (b ≡ true → packet ≡ 0) → packet_at journal.entries.items packet b (slice_get journal.traffic.items k) ≡ delivered setting (world setting past) b k packet
+      some : (r : Asked) → asked_at (world setting past).log k ≡ Some r → (b : Bool) → (b ≡ true → packet ≡ 0) → packet_at run.journal.entries.items packet b (slice_get run.journal.traffic.items k) ≡ delivered setting (world setting past) b k packet
       some r is true zero =
           let t = running.traffic k r is in
-          ap (packet_at journal.entries.items packet true) t.1
+          ap (packet_at run.journal.entries.items packet true) t.1
           ∙ ap (option_and_then (λ packets. slice_get packets packet)) t.2.busy
           ∙ ap (λ j. option_and_then (λ packets. slice_get packets j) (busy_packets setting.eid r (was_busy S setting.keep (world setting past).log k))) (zero refl)
           ∙ busy_in setting r (was_busy S setting.keep (world setting past).log k)
           ∙ ap (λ o. busy_from setting o (was_busy S setting.keep (world setting past).log k)) (sym is)
       some r is false zero =
           let t = running.traffic k r is in
-          ap (packet_at journal.entries.items packet false) t.1
+          ap (packet_at run.journal.entries.items packet false) t.1
           ∙ ap (option_and_then (λ packets. slice_get packets packet)) t.2.reply
           ∙ reply_in setting r (given setting.device setting.keep setting.start (world setting past).log k) packet
           ∙ ap (λ o. packet_of setting o (given setting.device setting.keep setting.start (world setting past).log k) packet) (sym is)
 
-      go : (o : Option Asked) → asked_at (world setting past).log k ≡ o → packet_at journal.entries.items packet busy (slice_get journal.traffic.items k) ≡ delivered setting (world setting past) busy k packet
+      go : (o : Option Asked) → asked_at (world setting past).log k ≡ o → packet_at run.journal.entries.items packet busy (slice_get run.journal.traffic.items k) ≡ delivered setting (world setting past) busy k packet
       go None none =
           let above = log_count none in
           let count = running.carried in
-          ap (packet_at journal.entries.items packet busy) (get_past journal.traffic.items k (omega (arith, above, count))) ∙ sym (none_delivered setting (world setting past) busy k packet none)
+          ap (packet_at run.journal.entries.items packet busy) (get_past run.journal.traffic.items k (omega (arith, above, count))) ∙ sym (none_delivered setting (world setting past) busy k packet none)
       go (Some r) is = some r is busy first
 
 pub asked_of : {S : Type 0} (setting : Setting S) (w : World) (busy : Bool) (k packet : ℕ) (bytes : List ℕ) → delivered setting w busy k packet ≡ Some bytes → (q : Asked) × (asked_at w.log k ≡ Some q)

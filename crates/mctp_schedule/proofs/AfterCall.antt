@@ -2,7 +2,6 @@
 use Rattle.std.proofs.Common.{◌≡◌, ◌⊎◌, ℕ, zero, suc, ◌<◌, ◌≤◌, true, List, [], ◌∷◌, ◌++◌, length, Option, Some, None, refl, sym, ap, subst, ◌∙◌, inl, inr, arith}
 use Rattle.std.specs.Prelude.{option_map, slice_get, slice_index_or, slice_set}
 use Rattle.std.proofs.lemmas.Bool.{cases_eq}
-use Rattle.pldm_responder.specs.Stations as responder_stations
 use Rattle.pldm_requester.specs.Calls as requester
 use Rattle.pldm_requester.specs.Calls.{requests}
 use Rattle.pldm_requester.specs.Laws.{IsLeftBy}
@@ -10,6 +9,7 @@ use Rattle.pldm_requester.specs.Slots.{held_of}
 use Rattle.mctp_schedule.specs.Askers.{Side}
 use Rattle.mctp_schedule.specs.Entries.{as_it_stands, entries, entry_of}
 use Rattle.mctp_schedule.specs.FirstArrivals.{order}
+use Rattle.mctp_schedule.specs.HeldRuns.{HeldRun}
 use Rattle.mctp_schedule.specs.Journals.{Carried}
 use Rattle.mctp_schedule.specs.Logs.{asked_at, count_of}
 use Rattle.mctp_schedule.specs.OncePerformed.{AreRequests, RepliesFit}
@@ -22,10 +22,10 @@ use Rattle.mctp_schedule.specs.declared.entry.Entry.{Entry}
 use Rattle.mctp_schedule.specs.declared.journal.Journal.{Journal}
 use Rattle.schedule_text.specs.declared.step.Action.{Action}
 use Rattle.schedule_text.specs.declared.step.Step.{Step}
-use Rattle.mctp_schedule.proofs.JoinedLogs.{call_grows}
+use Rattle.mctp_schedule.proofs.LogsAndCalls.{call_grows}
 use Rattle.mctp_schedule.proofs.ListPlaces.{get_or, or_get, or_set_at, or_set_other}
-use Rattle.mctp_schedule.proofs.QuietSteps.{Enters}
-use Rattle.mctp_schedule.proofs.RunningFrames.{call_here, call_other, still_carried, still_device, still_opened, still_side}
+use Rattle.mctp_schedule.proofs.AfterReadingOrRestart.{Enters, with_responder}
+use Rattle.mctp_schedule.proofs.KeptByAStep.{call_here, call_other, still_carried, still_device, still_opened, still_side}
 
 -- a place that holds something is one of the list
 pub or_within : {X : Type 0} (xs : List (Option X)) (i : ℕ) (x : X) → slice_index_or xs i None ≡ Some x → i < length xs
@@ -33,13 +33,17 @@ or_within [] i x e = absurd (cc)
 or_within (y ∷ xs) zero x e = omega arith
 or_within (y ∷ xs) (suc i) x e = let l = or_within xs i x e in omega (arith, l)
 
+-- what is held when the requester at an endpoint and what is written down have changed
+abbrev pub with_side : {P S : Type 0} → HeldRun P S → ℕ → Side → Journal → HeldRun P S
+with_side run e new journal = record { keep = run.keep; responder = run.responder; places = slice_set run.places e (Some new); journal = journal }
+
 -- what is written down besides the requests stays, but for one more entry
 pub record Writes (old new : Journal) (x : Entry) : Type 0 where
   pub entries : new.entries.items ≡ old.entries.items ++ x ∷ []
   pub traffic : new.traffic.items ≡ old.traffic.items
   pub order : new.order.items ≡ old.order.items
 
-module _ {P S : Type 0} (setting : Setting S) (past : List Step) (keep : ℕ) (station : responder_stations.Station P S) (places : List (Option Side)) (old journal : Journal) (running : IsRunning setting past keep station places old) (moment : ℕ) (later : time_now past ≤ moment) (a : Action) where
+module _ {P S : Type 0} (setting : Setting S) (past : List Step) (run : HeldRun P S) (journal : Journal) (running : IsRunning setting past run) (moment : ℕ) (later : time_now past ≤ moment) (a : Action) where
   abbrev w : World
   w = world setting past
 
@@ -47,12 +51,12 @@ module _ {P S : Type 0} (setting : Setting S) (past : List Step) (keep : ℕ) (s
   steps = record { moment = moment; action = a } ∷ past
 
   -- ---- nothing is delivered
-  pub nothing_runs : world setting steps ≡ w → Enters old journal (entry_of setting w moment a) → is_timely setting steps ≡ is_timely setting past → IsRunning setting steps keep station places journal
+  pub nothing_runs : world setting steps ≡ w → Enters run.journal journal (entry_of setting w moment a) → is_timely setting steps ≡ is_timely setting past → IsRunning setting steps (with_responder run run.responder journal)
   nothing_runs same enters timely =
       let back : w ≡ world setting steps = sym same in
       record {
         times = running.times;
-        device = subst (λ v. IsDevice setting v moment station) back (still_device setting w w (time_now past) moment station refl later running.device);
+        device = subst (λ v. IsDevice setting v moment run.responder) back (still_device setting w w (time_now past) moment run.responder refl later running.device);
         sides = λ e has.
             let s = running.sides e has in
             (s.0, s.1, subst (λ v. IsSide setting v moment e s.0) back (still_side setting w w (time_now past) moment e s.0 refl refl (λ k r is. is) later s.2));
@@ -64,7 +68,7 @@ module _ {P S : Type 0} (setting : Setting S) (past : List Step) (keep : ℕ) (s
               t.0,
               ap (λ ts. slice_get ts k) enters.traffic ∙ t.1,
               subst (λ v. IsCarried setting v journal.entries.items k r t.0) back
-                  (subst (λ es. IsCarried setting w es k r t.0) (sym enters.entries) (still_carried setting w w old.entries.items (entry_of setting w moment a) k r t.0 refl refl t.2)),
+                  (subst (λ es. IsCarried setting w es k r t.0) (sym enters.entries) (still_carried setting w w run.journal.entries.items (entry_of setting w moment a) k r t.0 refl refl t.2)),
             );
         carried = ap (λ (ts : List Carried). length ts) enters.traffic ∙ running.carried ∙ ap (λ (v : World). count_of v.log) back;
         entries = enters.entries ∙ ap (λ es. es ++ entry_of setting w moment a ∷ []) running.entries;
@@ -111,37 +115,37 @@ module _ {P S : Type 0} (setting : Setting S) (past : List Step) (keep : ℕ) (s
       pub is_side : IsSide setting (record { calls = with_call (world setting past).calls e call; log = (world setting past).log }) moment e new
       pub requests : (k : ℕ) → slice_get journal.requests.items k
           ≡ option_map (as_it_stands setting (record { calls = with_call (world setting past).calls e call; log = (world setting past).log })) (asked_at (world setting past).log k)
-      pub counted : length journal.requests.items ≡ length old.requests.items
-      pub writes : Writes old journal x
+      pub counted : length journal.requests.items ≡ length run.journal.requests.items
+      pub writes : Writes run.journal journal x
       pub is_entry : x ≡ entry_of setting (world setting past) moment a
       pub timely : journal.timely ≡ is_timely setting (record { moment = moment; action = a } ∷ past)
 
-    pub called_runs : (x : Entry) → Called x → IsRunning setting steps keep station (slice_set places e (Some new)) journal
+    pub called_runs : (x : Entry) → Called x → IsRunning setting steps (with_side run e new journal)
     called_runs x c = go (sym c.after)
       where
-        below : e < length places
-        below = or_within places e (running.sides e has).0 (running.sides e has).1
+        below : e < length run.places
+        below = or_within run.places e (running.sides e has).0 (running.sides e has).1
 
-        side_in : (d : ℕ) → has_requester setting.requesters d ≡ true → (s : Side) × (side_at (slice_set places e (Some new)) d ≡ Some s) × IsSide setting v moment d s
+        side_in : (d : ℕ) → has_requester setting.requesters d ≡ true → (s : Side) × (side_at (slice_set run.places e (Some new)) d ≡ Some s) × IsSide setting v moment d s
         side_in d known = at (cases_eq d e)
           where
-            at : (d ≡ e) ⊎ (d ≡ e → ⊥) → (s : Side) × (side_at (slice_set places e (Some new)) d ≡ Some s) × IsSide setting v moment d s
+            at : (d ≡ e) ⊎ (d ≡ e → ⊥) → (s : Side) × (side_at (slice_set run.places e (Some new)) d ≡ Some s) × IsSide setting v moment d s
             at (inl same) = (
               new,
-              ap (side_at (slice_set places e (Some new))) same ∙ or_set_at places e (Some new) None below,
+              ap (side_at (slice_set run.places e (Some new))) same ∙ or_set_at run.places e (Some new) None below,
               subst (λ k. IsSide setting v moment k new) (sym same) c.is_side,
             )
             at (inr other) =
                 let s = running.sides d known in (
                   s.0,
-                  or_set_other places e d (Some new) None other ∙ s.1,
+                  or_set_other run.places e d (Some new) None other ∙ s.1,
                   still_side setting w v (time_now past) moment d s.0 (call_other w.calls e call d other) refl (λ k r is. is) later s.2,
                 )
 
-        go : v ≡ world setting steps → IsRunning setting steps keep station (slice_set places e (Some new)) journal
+        go : v ≡ world setting steps → IsRunning setting steps (with_side run e new journal)
         go back = record {
           times = running.times;
-          device = subst (λ u. IsDevice setting u moment station) back (still_device setting w v (time_now past) moment station refl later running.device);
+          device = subst (λ u. IsDevice setting u moment run.responder) back (still_device setting w v (time_now past) moment run.responder refl later running.device);
           sides = λ d known. let s = side_in d known in (s.0, s.1, subst (λ u. IsSide setting u moment d s.0) back s.2);
           opened = λ k r is. subst (λ u. IsOpened setting u k r) back (still_opened setting w v k r (grows r.source) (λ here. here) (running.opened k r (ap (λ (u : World). asked_at u.log k) back ∙ is)));
           requests = λ k. c.requests k ∙ ap (λ u. option_map (as_it_stands setting u) (asked_at u.log k)) back;
@@ -151,7 +155,7 @@ module _ {P S : Type 0} (setting : Setting S) (past : List Step) (keep : ℕ) (s
                 t.0,
                 ap (λ ts. slice_get ts k) c.writes.traffic ∙ t.1,
                 subst (λ u. IsCarried setting u journal.entries.items k r t.0) back
-                    (subst (λ es. IsCarried setting v es k r t.0) (sym c.writes.entries) (still_carried setting w v old.entries.items x k r t.0 refl refl t.2)),
+                    (subst (λ es. IsCarried setting v es k r t.0) (sym c.writes.entries) (still_carried setting w v run.journal.entries.items x k r t.0 refl refl t.2)),
               );
           carried = ap (λ (ts : List Carried). length ts) c.writes.traffic ∙ running.carried ∙ ap (λ (u : World). count_of u.log) back;
           entries = c.writes.entries ∙ ap (λ es. es ++ x ∷ []) running.entries ∙ ap (λ y. entries setting past ++ y ∷ []) c.is_entry;

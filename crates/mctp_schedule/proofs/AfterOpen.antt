@@ -1,13 +1,12 @@
 -- A requester is asked to open a request: what a run holds then.
 use Rattle.std.proofs.Common.{◌≡◌, ◌⊎◌, ℕ, suc, ◌<◌, ◌≤◌, Bool, true, false, List, [], ◌∷◌, ◌++◌, length, Option, Some, None, Ok, Err, refl, sym, ap, subst, ◌∙◌, inl, inr, arith, eq-eqb}
-use Rattle.std.specs.Prelude.{◌&&◌, ◌==◌, ◌%◌, nat_lt, not, option_map, slice_get, slice_set}
+use Rattle.std.specs.Prelude.{◌&&◌, ◌||◌, ◌==◌, ◌%◌, nat_lt, not, option_map, slice_get, slice_set}
 use Rattle.std.proofs.lemmas.Bool.{and_right, cases_Bool, cases_eq, cond-true, cond-false, ltb-false, ltb-true, ne_eqb}
 use Rattle.pldm_wire.specs.Laws.{WrittenCommandReadBack}
 use Rattle.pldm_wire.specs.MessageSizes.{CommandFitsOnePacket}
 use Rattle.pldm_wire.specs.declared.command.Command.{Command}
 use Rattle.pldm_responder.specs.Events.{is_busy}
 use Rattle.pldm_responder.specs.Performing.{Rules}
-use Rattle.pldm_responder.specs.Stations as responder_stations
 use Rattle.pldm_requester.specs.Calls as requester
 use Rattle.pldm_requester.specs.Calls.{Requests, accepts, new_request, open_answer, open_owed, opened, put, requests}
 use Rattle.pldm_requester.specs.Laws.{IsLeftBy, OpenLooksBack, SameIsLeft}
@@ -20,7 +19,8 @@ use Rattle.pldm_requester.specs.declared.results.OpenFault.{OpenFault}
 use Rattle.pldm_requester.specs.declared.timing.Timing.{Timing}
 use Rattle.mctp_schedule.specs.Askers.{IsSent, Side, packet_bytes}
 use Rattle.mctp_schedule.specs.Entries.{as_it_stands, entries, entry_of, numbers_of, open_entry}
-use Rattle.mctp_schedule.specs.FirstArrivals.{arrives, order}
+use Rattle.mctp_schedule.specs.FirstArrivals.{arrives, is_owed_busy, order}
+use Rattle.mctp_schedule.specs.HeldRuns.{HeldRun}
 use Rattle.mctp_schedule.specs.Journals.{Carried}
 use Rattle.mctp_schedule.specs.Logs.{Asked, Happening, Opened, Delivered, Sensed, WentDown, asked_at, count_of, told}
 use Rattle.mctp_schedule.specs.OncePerformed.{AreRequests, RepliesFit, given, was_busy}
@@ -29,15 +29,15 @@ use Rattle.mctp_schedule.specs.Requests.{Request, begun}
 use Rattle.mctp_schedule.specs.Running.{IsCarried, IsDevice, IsOpened, IsRunning, IsSide, busy_packets}
 use Rattle.schedule_text.specs.Schedules.{has_requester}
 use Rattle.mctp_schedule.specs.Worlds.{Setting, World, answer_packets, asked_by, requests_of, time_now, timing_of, with_call, world}
-use Rattle.mctp_schedule.specs.declared.askers.Sent.{Sent}
+use Rattle.mctp_schedule.specs.declared.askers.SentRequest.{SentRequest}
 use Rattle.mctp_schedule.specs.declared.entry.Entry.TheVariants as entry
 use Rattle.mctp_schedule.specs.declared.journal.Journal.{Journal}
 use Rattle.schedule_text.specs.declared.step.Action.TheVariants as actions
 use Rattle.schedule_text.specs.declared.step.Step.{Step}
-use Rattle.mctp_schedule.proofs.AskedRequests.{asked_before, asked_below, asked_here, none_past}
-use Rattle.mctp_schedule.proofs.CalledSteps.{Writes, called_runs, new_side, or_within}
+use Rattle.mctp_schedule.proofs.LoggedRequests.{asked_before, asked_below, asked_here, none_past}
+use Rattle.mctp_schedule.proofs.AfterCall.{with_side, Writes, called_runs, new_side, or_within}
 use Rattle.mctp_schedule.proofs.ListPlaces.{get_front, get_last, get_past, get_pushed, get_within, length_pushed, or_set_at, or_set_other}
-use Rattle.mctp_schedule.proofs.RunningFrames.{call_here, call_other, still_carried, still_opened, still_side}
+use Rattle.mctp_schedule.proofs.KeptByAStep.{call_here, call_other, still_carried, still_opened, still_side}
 
 -- ---- an open is accepted or not
 refused_is : (tag id : Bool) (n : ℕ) (fault : OpenFault) → open_answer tag id n ≡ Err fault → (not tag && not id) ≡ false
@@ -68,10 +68,10 @@ module _ (S : Type 0) where
   never_busy keep (Sensed _ _ _ ∷ past) k l = never_busy keep past k l
   never_busy keep (WentDown _ ∷ past) k l = never_busy keep past k l
   never_busy keep (Delivered t j ∷ past) k l =
-      cond-false (j == k && arrives (asked_at past k) (not (is_busy keep (told {S = S} past) t))) _ _ (and_right (j == k) _ (ap (λ o. arrives o (not (is_busy keep (told {S = S} past) t))) (none_past past k l)))
+      ap (λ b. b || was_busy S keep past k) (and_right (j == k) _ (ap (λ o. is_owed_busy o (is_busy keep (told {S = S} past) t)) (none_past past k l)))
       ∙ never_busy keep past k l
 
-module _ {P S : Type 0} (setting : Setting S) (past : List Step) (keep : ℕ) (station : responder_stations.Station P S) (places : List (Option Side)) (old journal : Journal) (running : IsRunning setting past keep station places old) (moment : ℕ) (later : time_now past ≤ moment) (e : ℕ) (has : has_requester setting.requesters e ≡ true) (command : Command) (new : Side) (looks : OpenLooksBack) (same : SameIsLeft) where
+module _ {P S : Type 0} (setting : Setting S) (past : List Step) (run : HeldRun P S) (journal : Journal) (running : IsRunning setting past run) (moment : ℕ) (later : time_now past ≤ moment) (e : ℕ) (has : has_requester setting.requesters e ≡ true) (command : Command) (new : Side) (looks : OpenLooksBack) (same : SameIsLeft) where
   abbrev w : World
   w = world setting past
 
@@ -89,11 +89,11 @@ module _ {P S : Type 0} (setting : Setting S) (past : List Step) (keep : ℕ) (s
     pub answer : opening_answer (held_of (running.sides e has).0.station) moment ≡ Err fault
     pub new_held : IsHeld (held_of new.station) (held_of (running.sides e has).0.station)
     pub same_numbers : new.numbers ≡ (running.sides e has).0.numbers
-    pub requests : journal.requests.items ≡ old.requests.items
-    pub writes : Writes old journal (entry.NotOpened fault)
-    pub timely : journal.timely ≡ old.timely
+    pub requests : journal.requests.items ≡ run.journal.requests.items
+    pub writes : Writes run.journal journal (entry.NotOpened fault)
+    pub timely : journal.timely ≡ run.journal.timely
 
-  pub refused_runs : (fault : OpenFault) → Refuses fault → IsRunning setting steps keep station (slice_set places e (Some new)) journal
+  pub refused_runs : (fault : OpenFault) → Refuses fault → IsRunning setting steps (with_side run e new journal)
   refused_runs fault x =
       let side = (running.sides e has).0 in
       let s = (running.sides e has).2 in
@@ -104,10 +104,10 @@ module _ {P S : Type 0} (setting : Setting S) (past : List Step) (keep : ℕ) (s
       let shut = sym looked.1 ∙ off in
       let left = same e setting.eid timing (held_of new.station) held (call ∷ w.calls e) x.new_held (looked.3 off) in
       let count = ap (λ (a : Requests). a.count) (cond-false (accepts timing.keep before moment) (opened before moment command) before shut) in
-      called_runs setting past keep station places old journal running moment later (actions.Open e command) e has call new (entry.NotOpened fault)
+      called_runs setting past run journal running moment later (actions.Open e command) e has call new (entry.NotOpened fault)
       (record {
         after = ap (λ log. record { calls = with_call w.calls e call; log = log }) (cond-false (accepts timing.keep before moment) (Opened (asked_by setting w moment e command) ∷ w.log) w.log shut);
-        is_side = new_side setting past keep station places old journal running moment later (actions.Open e command) e has call new left x.same_numbers count (let l = x.new_held.last in let y = s.called in omega (arith, l, y, later));
+        is_side = new_side setting past run journal running moment later (actions.Open e command) e has call new left x.same_numbers count (let l = x.new_held.last in let y = s.called in omega (arith, l, y, later));
         requests = λ k. ap (λ rs. slice_get rs k) x.requests ∙ running.requests k ∙ stand shut k (asked_at w.log k);
         counted = ap (λ (rs : List Request). length rs) x.requests;
         writes = x.writes;
@@ -138,17 +138,17 @@ module _ {P S : Type 0} (setting : Setting S) (past : List Step) (keep : ℕ) (s
   abbrev v : World
   v = record { calls = with_call w.calls e (requester.Open moment command); log = Opened (asked_by setting w moment e command) ∷ w.log }
 
-  pub record Opens (sent : Sent) : Type 0 where
+  pub record Opens (sent : SentRequest) : Type 0 where
     pub is_sent : IsSent (held_of (running.sides e has).0.station) moment command sent
     pub new_held : IsHeld (held_of new.station) (opened_held (held_of (running.sides e has).0.station) moment command)
-    pub more_numbers : new.numbers ≡ (running.sides e has).0.numbers ++ length old.requests.items ∷ []
-    pub new_entries : journal.entries.items ≡ old.entries.items ++ entry.Opened (length old.requests.items) ∷ []
-    pub new_requests : journal.requests.items ≡ old.requests.items ++ begun e sent.own moment sent.message.items ∷ []
-    pub new_traffic : journal.traffic.items ≡ old.traffic.items ++ (record { packet = sent.packet.items; reply = None; busy = None }) ∷ []
-    pub new_order : journal.order.items ≡ old.order.items
-    pub timely : journal.timely ≡ old.timely
+    pub more_numbers : new.numbers ≡ (running.sides e has).0.numbers ++ length run.journal.requests.items ∷ []
+    pub new_entries : journal.entries.items ≡ run.journal.entries.items ++ entry.Opened (length run.journal.requests.items) ∷ []
+    pub new_requests : journal.requests.items ≡ run.journal.requests.items ++ begun e sent.own moment sent.message.items ∷ []
+    pub new_traffic : journal.traffic.items ≡ run.journal.traffic.items ++ (record { packet = sent.packet.items; reply = None; busy = None }) ∷ []
+    pub new_order : journal.order.items ≡ run.journal.order.items
+    pub timely : journal.timely ≡ run.journal.timely
 
-  module _ (reads_back : WrittenCommandReadBack) (fits : CommandFitsOnePacket) (sent : Sent) (x : Opens sent) where
+  module _ (reads_back : WrittenCommandReadBack) (fits : CommandFitsOnePacket) (sent : SentRequest) (x : Opens sent) where
     abbrev count : ℕ
     count = count_of w.log
 
@@ -208,7 +208,7 @@ module _ {P S : Type 0} (setting : Setting S) (past : List Step) (keep : ℕ) (s
       other = s.other;
       left = subst (IsLeftBy e setting.eid timing (held_of new.station)) (sym (call_here w.calls e call))
           (same e setting.eid timing (held_of new.station) (opened_held (held_of side.station) moment command) (call ∷ w.calls e) x.new_held ((looks e setting.eid timing (held_of side.station) (w.calls e) moment command s.left).2 on));
-      numbers = x.more_numbers ∙ ap (λ xs. xs ++ length old.requests.items ∷ []) s.numbers ∙ ap (λ n. numbers_of w.log e ++ n ∷ []) running.counted ∙ sym numbers_here;
+      numbers = x.more_numbers ∙ ap (λ xs. xs ++ length run.journal.requests.items ∷ []) s.numbers ∙ ap (λ n. numbers_of w.log e ++ n ∷ []) running.counted ∙ sym numbers_here;
       counted = ap (λ (xs : List ℕ). length xs) numbers_here ∙ length_pushed (numbers_of w.log e) count ∙ ap suc s.counted ∙ sym (ap (λ (a : Requests). a.count) here);
       numbered = λ own k at. numbered_at own k (get_pushed (numbers_of w.log e) count own k (sym (ap (λ xs. slice_get xs own) numbers_here) ∙ at));
       called = let l = x.new_held.last in omega (arith, l);
@@ -278,20 +278,20 @@ module _ {P S : Type 0} (setting : Setting S) (past : List Step) (keep : ℕ) (s
         older None is = refl
         older (Some a) is = ap Some (stands k a is)
 
-        past_end : (k ≡ count → ⊥) → slice_get (old.requests.items ++ begun e sent.own moment sent.message.items ∷ []) k ≡ slice_get old.requests.items k
-        past_end other = at (cases_Bool (nat_lt k (length old.requests.items)))
+        past_end : (k ≡ count → ⊥) → slice_get (run.journal.requests.items ++ begun e sent.own moment sent.message.items ∷ []) k ≡ slice_get run.journal.requests.items k
+        past_end other = at (cases_Bool (nat_lt k (length run.journal.requests.items)))
           where
-            at : (nat_lt k (length old.requests.items) ≡ true) ⊎ (nat_lt k (length old.requests.items) ≡ false) → slice_get (old.requests.items ++ begun e sent.own moment sent.message.items ∷ []) k ≡ slice_get old.requests.items k
-            at (inl low) = get_front old.requests.items (begun e sent.own moment sent.message.items) k (ltb-true k (length old.requests.items) low)
+            at : (nat_lt k (length run.journal.requests.items) ≡ true) ⊎ (nat_lt k (length run.journal.requests.items) ≡ false) → slice_get (run.journal.requests.items ++ begun e sent.own moment sent.message.items ∷ []) k ≡ slice_get run.journal.requests.items k
+            at (inl low) = get_front run.journal.requests.items (begun e sent.own moment sent.message.items) k (ltb-true k (length run.journal.requests.items) low)
             at (inr high) =
-                let above = ltb-false k (length old.requests.items) high in
+                let above = ltb-false k (length run.journal.requests.items) high in
                 let all = running.counted in
-                let more = length_pushed old.requests.items (begun e sent.own moment sent.message.items) in
-                get_past (old.requests.items ++ begun e sent.own moment sent.message.items ∷ []) k (omega (arith, above, all, more, other)) ∙ sym (get_past old.requests.items k above)
+                let more = length_pushed run.journal.requests.items (begun e sent.own moment sent.message.items) in
+                get_past (run.journal.requests.items ++ begun e sent.own moment sent.message.items ∷ []) k (omega (arith, above, all, more, other)) ∙ sym (get_past run.journal.requests.items k above)
 
-        go : (k ≡ count) ⊎ (k ≡ count → ⊥) → slice_get (old.requests.items ++ begun e sent.own moment sent.message.items ∷ []) k ≡ option_map (as_it_stands setting v) (asked_at v.log k)
+        go : (k ≡ count) ⊎ (k ≡ count → ⊥) → slice_get (run.journal.requests.items ++ begun e sent.own moment sent.message.items ∷ []) k ≡ option_map (as_it_stands setting v) (asked_at v.log k)
         go (inl same_k) =
-            ap (slice_get (old.requests.items ++ begun e sent.own moment sent.message.items ∷ [])) (same_k ∙ sym running.counted) ∙ get_last old.requests.items (begun e sent.own moment sent.message.items) ∙ ap Some new_stands
+            ap (slice_get (run.journal.requests.items ++ begun e sent.own moment sent.message.items ∷ [])) (same_k ∙ sym running.counted) ∙ get_last run.journal.requests.items (begun e sent.own moment sent.message.items) ∙ ap Some new_stands
             ∙ sym (ap (option_map (as_it_stands setting v)) (ap (asked_at v.log) same_k ∙ asked_here w.log q))
         go (inr other) =
             past_end other ∙ running.requests k ∙ older (asked_at w.log k) refl ∙ sym (ap (option_map (as_it_stands setting v)) (cond-false (k == count) (Some q) (asked_at w.log k) (ne_eqb k count other)))
@@ -313,7 +313,7 @@ module _ {P S : Type 0} (setting : Setting S) (past : List Step) (keep : ℕ) (s
         go : ((k ≡ count) × (r ≡ q)) ⊎ (asked_at w.log k ≡ Some r) → (c : Carried) × (slice_get journal.traffic.items k ≡ Some c) × IsCarried setting v journal.entries.items k r c
         go (inl at) = (
           carried_new,
-          ap (slice_get journal.traffic.items) (at.0 ∙ sym running.carried) ∙ ap (λ ts. slice_get ts (length old.traffic.items)) x.new_traffic ∙ get_last old.traffic.items carried_new,
+          ap (slice_get journal.traffic.items) (at.0 ∙ sym running.carried) ∙ ap (λ ts. slice_get ts (length run.journal.traffic.items)) x.new_traffic ∙ get_last run.journal.traffic.items carried_new,
           subst (λ j. IsCarried setting v journal.entries.items j r carried_new) (sym at.0) (subst (λ a. IsCarried setting v journal.entries.items count a carried_new) (sym at.1) carried_is),
         )
         go (inr older) =
@@ -321,47 +321,47 @@ module _ {P S : Type 0} (setting : Setting S) (past : List Step) (keep : ℕ) (s
             let low = asked_below w.log k r older in
             let all = running.carried in (
               t.0,
-              ap (λ ts. slice_get ts k) x.new_traffic ∙ get_front old.traffic.items carried_new k (omega (arith, low, all)) ∙ t.1,
-              subst (λ es. IsCarried setting v es k r t.0) (sym x.new_entries) (still_carried setting w v old.entries.items (entry.Opened (length old.requests.items)) k r t.0 refl refl t.2),
+              ap (λ ts. slice_get ts k) x.new_traffic ∙ get_front run.journal.traffic.items carried_new k (omega (arith, low, all)) ∙ t.1,
+              subst (λ es. IsCarried setting v es k r t.0) (sym x.new_entries) (still_carried setting w v run.journal.entries.items (entry.Opened (length run.journal.requests.items)) k r t.0 refl refl t.2),
             )
 
-    side_in : (d : ℕ) → has_requester setting.requesters d ≡ true → (y : Side) × (side_at (slice_set places e (Some new)) d ≡ Some y) × IsSide setting v moment d y
+    side_in : (d : ℕ) → has_requester setting.requesters d ≡ true → (y : Side) × (side_at (slice_set run.places e (Some new)) d ≡ Some y) × IsSide setting v moment d y
     side_in d known = go (cases_eq d e)
       where
-        go : (d ≡ e) ⊎ (d ≡ e → ⊥) → (y : Side) × (side_at (slice_set places e (Some new)) d ≡ Some y) × IsSide setting v moment d y
+        go : (d ≡ e) ⊎ (d ≡ e → ⊥) → (y : Side) × (side_at (slice_set run.places e (Some new)) d ≡ Some y) × IsSide setting v moment d y
         go (inl at) = (
           new,
-          ap (side_at (slice_set places e (Some new))) at ∙ or_set_at places e (Some new) None (or_within places e (running.sides e has).0 (running.sides e has).1),
+          ap (side_at (slice_set run.places e (Some new))) at ∙ or_set_at run.places e (Some new) None (or_within run.places e (running.sides e has).0 (running.sides e has).1),
           subst (λ j. IsSide setting v moment j new) (sym at) is_side,
         )
         go (inr other) =
             let y = running.sides d known in (
               y.0,
-              or_set_other places e d (Some new) None other ∙ y.1,
+              or_set_other run.places e d (Some new) None other ∙ y.1,
               still_side setting w v (time_now past) moment d y.0 (call_other w.calls e call d other) (numbers_other d other) asked_stays later y.2,
             )
 
-    entry_now : entry.Opened (length old.requests.items) ≡ entry_of setting w moment (actions.Open e command)
+    entry_now : entry.Opened (length run.journal.requests.items) ≡ entry_of setting w moment (actions.Open e command)
     entry_now =
         ap entry.Opened running.counted
         ∙ ap (open_entry count) (sym x.is_sent.opened ∙ (looks e setting.eid timing (held_of side.station) (w.calls e) moment command s.left).0)
 
-    pub opened_runs : IsRunning setting steps keep station (slice_set places e (Some new)) journal
+    pub opened_runs : IsRunning setting steps (with_side run e new journal)
     opened_runs =
         let back : v ≡ world setting steps = sym after in
         record {
           times = running.times;
-          device = subst (λ u. IsDevice setting u moment station) back
+          device = subst (λ u. IsDevice setting u moment run.responder) back
               (record { endpoint = running.device.endpoint; left = running.device.left; events = running.device.events; called = let y = running.device.called in omega (arith, y, later) });
           sides = λ d known. let y = side_in d known in (y.0, y.1, subst (λ u. IsSide setting u moment d y.0) back y.2);
           opened = λ k r is. opened_at k r back (asked_cases k r (ap (λ (u : World). asked_at u.log k) back ∙ is));
           requests = λ k. requests_now k ∙ ap (λ u. option_map (as_it_stands setting u) (asked_at u.log k)) back;
-          counted = ap (λ (rs : List Request). length rs) x.new_requests ∙ length_pushed old.requests.items (begun e sent.own moment sent.message.items) ∙ ap suc running.counted ∙ ap (λ (u : World). count_of u.log) back;
+          counted = ap (λ (rs : List Request). length rs) x.new_requests ∙ length_pushed run.journal.requests.items (begun e sent.own moment sent.message.items) ∙ ap suc running.counted ∙ ap (λ (u : World). count_of u.log) back;
           traffic = λ k r is.
               let t = traffic_now k r (ap (λ (u : World). asked_at u.log k) back ∙ is) in
               (t.0, t.1, subst (λ u. IsCarried setting u journal.entries.items k r t.0) back t.2);
-          carried = ap (λ (ts : List Carried). length ts) x.new_traffic ∙ length_pushed old.traffic.items carried_new ∙ ap suc running.carried ∙ ap (λ (u : World). count_of u.log) back;
-          entries = x.new_entries ∙ ap (λ es. es ++ entry.Opened (length old.requests.items) ∷ []) running.entries ∙ ap (λ y. entries setting past ++ y ∷ []) entry_now;
+          carried = ap (λ (ts : List Carried). length ts) x.new_traffic ∙ length_pushed run.journal.traffic.items carried_new ∙ ap suc running.carried ∙ ap (λ (u : World). count_of u.log) back;
+          entries = x.new_entries ∙ ap (λ es. es ++ entry.Opened (length run.journal.requests.items) ∷ []) running.entries ∙ ap (λ y. entries setting past ++ y ∷ []) entry_now;
           order = x.new_order ∙ running.order ∙ ap (λ (u : World). order S setting.keep u.log) back;
           timely = x.timely ∙ running.timely;
           sent = subst (λ (u : World). AreRequests u.log) back (is_opened.readable, running.sent);

@@ -20,10 +20,11 @@ use Rattle.pldm_responder.specs.Stations.{Station, held_of}
 use Rattle.pldm_responder.specs.Steps.{performs, received_arrival, received_held, received_outcome, repeats}
 use Rattle.pldm_responder.specs.declared.outcome.Outcome.{Outcome}
 use Rattle.pldm_responder.specs.declared.outcome.Outcome.TheVariants.{Answered}
-use Rattle.mctp_schedule.specs.Askers.{Side, packet_bytes}
+use Rattle.mctp_schedule.specs.Askers.{packet_bytes}
 use Rattle.mctp_schedule.specs.Entries.{delivery_entry, entries}
 use Rattle.mctp_schedule.specs.FirstArrivals.{fresh_of, order}
 use Rattle.mctp_schedule.specs.Deliveries.{packets_of_outcome}
+use Rattle.mctp_schedule.specs.HeldRuns.{HeldRun}
 use Rattle.mctp_schedule.specs.Journals.{Carried, answers_at, fresh_numbers, packets_in, packets_of_entry}
 use Rattle.mctp_schedule.specs.Logs.{Asked, asked_at, message_at, told, told_of}
 use Rattle.mctp_schedule.specs.OncePerformed.{FitsPackets}
@@ -35,10 +36,10 @@ use Rattle.mctp_schedule.specs.declared.entry.Entry.TheVariants as entry
 use Rattle.mctp_schedule.specs.declared.journal.Journal.{Journal}
 use Rattle.schedule_text.specs.declared.step.Action.TheVariants as actions
 use Rattle.schedule_text.specs.declared.step.Step.{Step}
-use Rattle.mctp_schedule.proofs.DeliveredPackets.{brings_message, packet_for, busy_here, busy_none, busy_other, busy_served, given_busy, given_here, given_none, given_other, held_whole, looked_whole}
+use Rattle.mctp_schedule.proofs.DeliveryChanges.{brings_message, packet_for, busy_here, busy_none, busy_other, busy_served, given_busy, given_here, given_none, given_other, held_whole, looked_whole}
 use Rattle.mctp_schedule.proofs.ListPlaces.{get_last, length_pushed}
-use Rattle.mctp_schedule.proofs.QuietSteps.{Enters}
-use Rattle.mctp_schedule.proofs.RunningFrames.{before_more, packets_stay, still_carried, still_opened, still_side}
+use Rattle.mctp_schedule.proofs.AfterReadingOrRestart.{Enters, with_responder}
+use Rattle.mctp_schedule.proofs.KeptByAStep.{before_more, packets_stay, still_carried, still_opened, still_side}
 
 -- ---- what is owed to a message, by its packets and whether it is fresh
 module _ {S : Type 0} (device : Rules S) (own keep : ℕ) (start : S) (es : List (Event S)) (m : Message) where
@@ -87,7 +88,7 @@ listed : (b : Bool) (xs : List ℕ) (n : ℕ) → xs ++ (if b then n ∷ [] else
 listed true xs n = refl
 listed false xs n = append_none xs
 
-module _ {P S : Type 0} (setting : Setting S) (past : List Step) (keep : ℕ) (station : Station P S) (places : List (Option Side)) (old journal : Journal) (running : IsRunning setting past keep station places old) (moment n : ℕ) (later : time_now past ≤ moment) where
+module _ {P S : Type 0} (setting : Setting S) (past : List Step) (run : HeldRun P S) (journal : Journal) (running : IsRunning setting past run) (moment n : ℕ) (later : time_now past ≤ moment) where
   abbrev w : World
   w = world setting past
 
@@ -95,12 +96,12 @@ module _ {P S : Type 0} (setting : Setting S) (past : List Step) (keep : ℕ) (s
   v = world setting (record { moment = moment; action = actions.Request n } ∷ past)
 
   -- ---- a request that was never opened
-  pub never_opened : asked_at w.log n ≡ None → Enters old journal entry.Nothing → IsRunning setting (record { moment = moment; action = actions.Request n } ∷ past) keep station places journal
+  pub never_opened : asked_at w.log n ≡ None → Enters run.journal journal entry.Nothing → IsRunning setting (record { moment = moment; action = actions.Request n } ∷ past) (with_responder run run.responder journal)
   never_opened none enters = record {
     times = running.times;
     device = record {
       endpoint = running.device.endpoint;
-      left = subst (IsLeftBy setting.device setting.eid setting.keep setting.start (held_of station)) (sym (ap (λ o. received setting.eid moment o (device_calls setting.eid w.log)) none)) running.device.left;
+      left = subst (IsLeftBy setting.device setting.eid setting.keep setting.start (held_of run.responder)) (sym (ap (λ o. received setting.eid moment o (device_calls setting.eid w.log)) none)) running.device.left;
       events = ap (λ o. events setting.eid (received setting.eid moment o (device_calls setting.eid w.log))) none ∙ running.device.events ∙ sym (ap (λ o. told_of moment o (told {S = S} w.log)) none);
       called = let x = running.device.called in omega (arith, x, later);
     };
@@ -113,7 +114,7 @@ module _ {P S : Type 0} (setting : Setting S) (past : List Step) (keep : ℕ) (s
           t.0,
           ap (λ ts. slice_get ts k) enters.traffic ∙ t.1,
           subst (λ es. IsCarried setting v es k r t.0) (sym enters.entries)
-              (still_carried setting w v old.entries.items entry.Nothing k r t.0 (given_none setting.device setting.keep setting.start w.log moment n none k) (busy_none setting.device setting.keep setting.start w.log moment n none k) t.2),
+              (still_carried setting w v run.journal.entries.items entry.Nothing k r t.0 (given_none setting.device setting.keep setting.start w.log moment n none k) (busy_none setting.device setting.keep setting.start w.log moment n none k) t.2),
         );
     carried = ap (λ (ts : List Carried). length ts) enters.traffic ∙ running.carried;
     entries = enters.entries ∙ ap (λ es. es ++ entry.Nothing ∷ []) running.entries ∙ ap (λ o. entries setting past ++ delivery_entry setting w.log moment o ∷ []) (sym none);
@@ -133,17 +134,17 @@ module _ {P S : Type 0} (setting : Setting S) (past : List Step) (keep : ℕ) (s
 
     pub record Delivers : Type 0 where
       pub packet_is : bytes ≡ packet_bytes r.source setting.eid r.own r.message
-      pub new_held : IsHeld (held_of new) (received_held setting.device (held_of station) moment bytes)
-      pub given_outcome : outcome ≡ received_outcome setting.device (held_of station) moment bytes
-      pub given_fits : ReceivedFits setting.device (held_of station) moment bytes
-      pub given_busy : busy ≡ nat_lt moment (held_of station).serves_from
+      pub new_held : IsHeld (held_of new) (received_held setting.device (held_of run.responder) moment bytes)
+      pub given_outcome : outcome ≡ received_outcome setting.device (held_of run.responder) moment bytes
+      pub given_fits : ReceivedFits setting.device (held_of run.responder) moment bytes
+      pub given_busy : busy ≡ nat_lt moment (held_of run.responder).serves_from
       pub given_in_time : in_time ≡ nat_lt moment (r.opening + setting.keep)
-      pub new_entries : journal.entries.items ≡ old.entries.items ++ entry.Delivered busy outcome ∷ []
-      pub new_requests : journal.requests.items ≡ old.requests.items
-      pub same_count : length journal.traffic.items ≡ length old.traffic.items
-      pub new_traffic : (k : ℕ) → slice_get journal.traffic.items k ≡ option_map (λ t. if k == n then answers_at (length old.entries.items) busy t else t) (slice_get old.traffic.items k)
-      pub new_order : journal.order.items ≡ old.order.items ++ fresh_numbers n outcome
-      pub new_timely : journal.timely ≡ (in_time && old.timely)
+      pub new_entries : journal.entries.items ≡ run.journal.entries.items ++ entry.Delivered busy outcome ∷ []
+      pub new_requests : journal.requests.items ≡ run.journal.requests.items
+      pub same_count : length journal.traffic.items ≡ length run.journal.traffic.items
+      pub new_traffic : (k : ℕ) → slice_get journal.traffic.items k ≡ option_map (λ t. if k == n then answers_at (length run.journal.entries.items) busy t else t) (slice_get run.journal.traffic.items k)
+      pub new_order : journal.order.items ≡ run.journal.order.items ++ fresh_numbers n outcome
+      pub new_timely : journal.timely ≡ (in_time && run.journal.timely)
 
     module _ (looks : ReceivedLooksBack setting.device) (same : SameIsLeft setting.device) (spells : WrittenSpells) (read_for : SpelledIsReadFor) (d : Delivers) where
       source : IsOpened setting w n r
@@ -158,9 +159,9 @@ module _ {P S : Type 0} (setting : Setting S) (past : List Step) (keep : ℕ) (s
       arrives_here : responder.arrived setting.eid calls moment bytes ≡ Whole m
       arrives_here = brings (looked_back (fed setting.eid calls)) (looked_whole (fed setting.eid calls) setting.eid r)
 
-      looked : (received_outcome setting.device (held_of station) moment bytes ≡ responder.outcome setting.device setting.eid setting.keep setting.start calls moment bytes)
-          × IsLeftBy setting.device setting.eid setting.keep setting.start (received_held setting.device (held_of station) moment bytes) (responder.Received moment bytes ∷ calls)
-      looked = looks setting.eid setting.keep setting.start (held_of station) calls moment bytes running.device.left
+      looked : (received_outcome setting.device (held_of run.responder) moment bytes ≡ responder.outcome setting.device setting.eid setting.keep setting.start calls moment bytes)
+          × IsLeftBy setting.device setting.eid setting.keep setting.start (received_held setting.device (held_of run.responder) moment bytes) (responder.Received moment bytes ∷ calls)
+      looked = looks setting.eid setting.keep setting.start (held_of run.responder) calls moment bytes running.device.left
 
       busy_is : busy ≡ is_busy setting.keep (told {S = S} w.log) moment
       busy_is =
@@ -178,26 +179,26 @@ module _ {P S : Type 0} (setting : Setting S) (past : List Step) (keep : ℕ) (s
       abbrev x : Entry
       x = entry.Delivered busy outcome
 
-      at_place : packets_in (old.entries.items ++ x ∷ []) (Some (length old.entries.items)) ≡ packets_of_outcome outcome
-      at_place = ap (option_and_then packets_of_entry) (get_last old.entries.items x)
+      at_place : packets_in (run.journal.entries.items ++ x ∷ []) (Some (length run.journal.entries.items)) ≡ packets_of_outcome outcome
+      at_place = ap (option_and_then packets_of_entry) (get_last run.journal.entries.items x)
 
-      below : length old.entries.items < length (old.entries.items ++ x ∷ [])
-      below = let l = length_pushed old.entries.items x in omega (arith, l)
+      below : length run.journal.entries.items < length (run.journal.entries.items ++ x ∷ [])
+      below = let l = length_pushed run.journal.entries.items x in omega (arith, l)
 
-      carried_here : (c : Carried) → IsCarried setting w old.entries.items n r c → IsCarried setting v (old.entries.items ++ x ∷ []) n r (answers_at (length old.entries.items) busy c)
+      carried_here : (c : Carried) → IsCarried setting w run.journal.entries.items n r c → IsCarried setting v (run.journal.entries.items ++ x ∷ []) n r (answers_at (length run.journal.entries.items) busy c)
       carried_here c t = go busy refl
         where
           es : List Entry
-          es = old.entries.items ++ x ∷ []
+          es = run.journal.entries.items ++ x ∷ []
 
-          go : (b : Bool) → busy ≡ b → IsCarried setting v es n r (answers_at (length old.entries.items) b c)
+          go : (b : Bool) → busy ≡ b → IsCarried setting v es n r (answers_at (length run.journal.entries.items) b c)
           go true on =
               let up = sym busy_is ∙ on in
               record {
                 packet = t.packet;
-                reply = packets_stay old.entries.items x c.reply t.reply_place ∙ t.reply ∙ ap (option_map (answer_packets setting.eid r)) (sym (given_busy setting.device setting.keep setting.start w.log moment n r is up));
+                reply = packets_stay run.journal.entries.items x c.reply t.reply_place ∙ t.reply ∙ ap (option_map (answer_packets setting.eid r)) (sym (given_busy setting.device setting.keep setting.start w.log moment n r is up));
                 busy = at_place ∙ ap packets_of_outcome outcome_is ∙ owed_busy setting.device setting.eid setting.keep setting.start (told {S = S} w.log) m up ∙ ap (busy_packets setting.eid r) (sym (busy_here setting.device setting.keep setting.start w.log moment n r is up));
-                reply_place = before_more old.entries.items x c.reply t.reply_place;
+                reply_place = before_more run.journal.entries.items x c.reply t.reply_place;
                 busy_place = below;
               }
           go false off =
@@ -205,42 +206,42 @@ module _ {P S : Type 0} (setting : Setting S) (past : List Step) (keep : ℕ) (s
               record {
                 packet = t.packet;
                 reply = at_place ∙ ap packets_of_outcome outcome_is ∙ owed_served setting.device setting.eid setting.keep setting.start (told {S = S} w.log) m up ∙ ap (option_map (answer_packets setting.eid r)) (sym (given_here setting.device setting.keep setting.start w.log moment n r is up));
-                busy = packets_stay old.entries.items x c.busy t.busy_place ∙ t.busy ∙ ap (busy_packets setting.eid r) (sym (busy_served setting.device setting.keep setting.start w.log moment n r is up));
+                busy = packets_stay run.journal.entries.items x c.busy t.busy_place ∙ t.busy ∙ ap (busy_packets setting.eid r) (sym (busy_served setting.device setting.keep setting.start w.log moment n r is up));
                 reply_place = below;
-                busy_place = before_more old.entries.items x c.busy t.busy_place;
+                busy_place = before_more run.journal.entries.items x c.busy t.busy_place;
               }
 
       carried_at : (k : ℕ) (q : Asked) → asked_at w.log k ≡ Some q → (c : Carried) × (slice_get journal.traffic.items k ≡ Some c) × IsCarried setting v journal.entries.items k q c
       carried_at k q asked = go (cases_eq k n)
         where
-          t : (c : Carried) × (slice_get old.traffic.items k ≡ Some c) × IsCarried setting w old.entries.items k q c
+          t : (c : Carried) × (slice_get run.journal.traffic.items k ≡ Some c) × IsCarried setting w run.journal.entries.items k q c
           t = running.traffic k q asked
 
-          moved : slice_get journal.traffic.items k ≡ Some (if k == n then answers_at (length old.entries.items) busy t.0 else t.0)
-          moved = d.new_traffic k ∙ ap (option_map (λ c. if k == n then answers_at (length old.entries.items) busy c else c)) t.1
+          moved : slice_get journal.traffic.items k ≡ Some (if k == n then answers_at (length run.journal.entries.items) busy t.0 else t.0)
+          moved = d.new_traffic k ∙ ap (option_map (λ c. if k == n then answers_at (length run.journal.entries.items) busy c else c)) t.1
 
           go : (k ≡ n) ⊎ (k ≡ n → ⊥) → (c : Carried) × (slice_get journal.traffic.items k ≡ Some c) × IsCarried setting v journal.entries.items k q c
           go (inl e) =
               let same_request : q ≡ r = let both : Some q ≡ Some r = sym asked ∙ ap (asked_at w.log) e ∙ is in cc in
-              let was : IsCarried setting w old.entries.items n r t.0 = subst (λ j. IsCarried setting w old.entries.items j r t.0) e (subst (λ a. IsCarried setting w old.entries.items k a t.0) same_request t.2) in
+              let was : IsCarried setting w run.journal.entries.items n r t.0 = subst (λ j. IsCarried setting w run.journal.entries.items j r t.0) e (subst (λ a. IsCarried setting w run.journal.entries.items k a t.0) same_request t.2) in
               let here = carried_here t.0 was in (
-                answers_at (length old.entries.items) busy t.0,
+                answers_at (length run.journal.entries.items) busy t.0,
                 moved ∙ ap Some (cond-true (k == n) _ _ (eq-eqb k n e)),
-                subst (λ es. IsCarried setting v es k q (answers_at (length old.entries.items) busy t.0)) (sym d.new_entries)
-                    (subst (λ j. IsCarried setting v (old.entries.items ++ x ∷ []) j q (answers_at (length old.entries.items) busy t.0)) (sym e)
-                    (subst (λ a. IsCarried setting v (old.entries.items ++ x ∷ []) n a (answers_at (length old.entries.items) busy t.0)) (sym same_request) here)),
+                subst (λ es. IsCarried setting v es k q (answers_at (length run.journal.entries.items) busy t.0)) (sym d.new_entries)
+                    (subst (λ j. IsCarried setting v (run.journal.entries.items ++ x ∷ []) j q (answers_at (length run.journal.entries.items) busy t.0)) (sym e)
+                    (subst (λ a. IsCarried setting v (run.journal.entries.items ++ x ∷ []) n a (answers_at (length run.journal.entries.items) busy t.0)) (sym same_request) here)),
               )
           go (inr other) = (
             t.0,
             moved ∙ ap Some (cond-false (k == n) _ _ (ne_eqb k n other)),
             subst (λ es. IsCarried setting v es k q t.0) (sym d.new_entries)
-                (still_carried setting w v old.entries.items x k q t.0 (given_other setting.device setting.keep setting.start w.log moment n k (λ e. other (sym e))) (busy_other setting.device setting.keep setting.start w.log moment n k (λ e. other (sym e))) t.2),
+                (still_carried setting w v run.journal.entries.items x k q t.0 (given_other setting.device setting.keep setting.start w.log moment n k (λ e. other (sym e))) (busy_other setting.device setting.keep setting.start w.log moment n k (λ e. other (sym e))) t.2),
           )
 
       fits_here : (q : Asked) → asked_at w.log n ≡ Some q → is_fresh setting.keep (told {S = S} w.log) (message_at moment q) ≡ true → FitsPackets (reply setting.device (performed setting.device setting.keep setting.start (told w.log)) q.message)
       fits_here q asked fresh =
           let same_request : r ≡ q = let both : Some r ≡ Some q = sym is ∙ asked in cc in
-          let held = held_of station in
+          let held = held_of run.responder in
           let arrival_is : received_arrival held moment bytes ≡ Whole m =
           ap (λ own. arrival (assembly.answer held.open_messages) own moment bytes) running.device.left.endpoint ∙ brings (assembly.answer held.open_messages) (held_whole held.open_messages setting.eid r) in
           let fits : performs held m ≡ true → Fits (reply setting.device held.state m.bytes) = subst (ArrivalFits setting.device held) arrival_is d.given_fits in
@@ -251,13 +252,13 @@ module _ {P S : Type 0} (setting : Setting S) (past : List Step) (keep : ℕ) (s
           subst (λ (a : Asked). FitsPackets (reply setting.device (performed setting.device setting.keep setting.start (told w.log)) a.message)) same_request
           (subst (λ s. FitsPackets (reply setting.device s r.message)) state (record { some = both.0; few = both.1 }))
 
-      pub delivered_runs : IsRunning setting (record { moment = moment; action = actions.Request n } ∷ past) keep new places journal
+      pub delivered_runs : IsRunning setting (record { moment = moment; action = actions.Request n } ∷ past) (with_responder run new journal)
       delivered_runs = record {
         times = running.times;
         device = record {
           endpoint = running.device.endpoint;
-          left = same setting.eid setting.keep setting.start (held_of new) (received_held setting.device (held_of station) moment bytes) (device_calls setting.eid v.log) d.new_held
-              (subst (IsLeftBy setting.device setting.eid setting.keep setting.start (received_held setting.device (held_of station) moment bytes)) (sym called_with) looked.1);
+          left = same setting.eid setting.keep setting.start (held_of new) (received_held setting.device (held_of run.responder) moment bytes) (device_calls setting.eid v.log) d.new_held
+              (subst (IsLeftBy setting.device setting.eid setting.keep setting.start (received_held setting.device (held_of run.responder) moment bytes)) (sym called_with) looked.1);
           events = ap (events setting.eid) called_with ∙ ap (λ a. with_arrival a (events setting.eid calls)) arrives_here ∙ ap (λ es. Came m ∷ es) running.device.events ∙ sym (ap (λ o. told_of moment o (told {S = S} w.log)) is);
           called = let y = d.new_held.last in omega (arith, y);
         };
@@ -274,7 +275,7 @@ module _ {P S : Type 0} (setting : Setting S) (past : List Step) (keep : ℕ) (s
             ∙ ap (λ xs. order S setting.keep w.log ++ xs) (owed_fresh setting.device setting.eid setting.keep setting.start (told {S = S} w.log) m n)
             ∙ listed (is_fresh setting.keep (told {S = S} w.log) m) (order S setting.keep w.log) n
             ∙ ap (λ o. if fresh_of setting.keep (told {S = S} w.log) moment o then order S setting.keep w.log ++ n ∷ [] else order S setting.keep w.log) (sym is);
-        timely = d.new_timely ∙ ap (λ b. b && old.timely) d.given_in_time ∙ ap (λ b. nat_lt moment (r.opening + setting.keep) && b) running.timely ∙ ap (λ o. comes_in_time setting moment o && is_timely setting past) (sym is);
+        timely = d.new_timely ∙ ap (λ b. b && run.journal.timely) d.given_in_time ∙ ap (λ b. nat_lt moment (r.opening + setting.keep) && b) running.timely ∙ ap (λ o. comes_in_time setting moment o && is_timely setting past) (sym is);
         sent = running.sent;
         fit = (fits_here, running.fit);
       }

@@ -20,7 +20,7 @@ pub(crate) struct ShortMessage {
 
 impl Model for ShortMessage {
     ghost use Rattle.std.specs.Prelude.{ℕ, ◌≤◌, List, take};
-    ghost use Rattle.mctp_schedule.specs.declared.kept_message.TheConstants.{MAX_SHORT};
+    ghost use Rattle.mctp_schedule.specs.declared.stored_message.TheConstants.{MAX_SHORT};
 
     ghost Value = { List ℕ };
 
@@ -54,37 +54,38 @@ impl ShortMessage {
 /// The bytes of a message that is kept. Short ones stand in place; longer ones may be shared, so that an
 /// answer, its copies and what its requester got take their room once.
 #[derive(Debug, Drop)]
-pub(crate) struct KeptMessage {
-    bytes: KeptBytes,
+pub(crate) struct StoredMessage {
+    bytes: StoredBytes,
 }
 
 #[derive(Debug, Drop)]
-enum KeptBytes {
+enum StoredBytes {
     Short(ShortMessage),
     Shared(RcSlice<u8>),
 }
 
-impl Model for KeptMessage {
+impl Model for StoredMessage {
     ghost use Rattle.std.specs.Prelude.{List, ℕ};
-    ghost use Rattle.mctp_schedule.specs.KeptMessages.{bytes_of};
+    ghost use Rattle.mctp_schedule.specs.StoredMessages.{bytes_of};
 
     ghost Value = { List ℕ };
 
     ghost view = { λ m. bytes_of m.bytes };
 }
 
-impl KeptMessage {
+impl StoredMessage {
     /// These bytes, which stand where those of `other` do if they are the same.
     pub(crate) fn new(
         alloc: Global,
         bytes: &[u8],
-        other: Option<&KeptMessage>,
-    ) -> Result<KeptMessage, Memory>
+        other: Option<&StoredMessage>,
+    ) -> Result<StoredMessage, Memory>
         ensures { IfOk result (λ message. message ≡ bytes.now) }
     {
+        // Most answers are short: those ask for no memory, so their length is looked at first.
         if bytes.len() <= MAX_SHORT {
-            let bytes = KeptBytes::Short(ShortMessage::new(bytes));
-            return Ok(KeptMessage { bytes });
+            let bytes = StoredBytes::Short(ShortMessage::new(bytes));
+            return Ok(StoredMessage { bytes });
         }
         let shared = match other {
             Some(other) => other.share(bytes)?,
@@ -94,8 +95,8 @@ impl KeptMessage {
             Some(shared) => shared,
             None => RcSlice::from_slice(alloc, bytes)?,
         };
-        let bytes = KeptBytes::Shared(shared);
-        Ok(KeptMessage { bytes })
+        let bytes = StoredBytes::Shared(shared);
+        Ok(StoredMessage { bytes })
     }
 
     /// A share of its bytes, where they are these and may be shared.
@@ -103,7 +104,8 @@ impl KeptMessage {
         ensures { IfOk result (λ shared. IfSome shared (λ s. rc_slice_items s ≡ bytes.now)) }
     {
         match &self.bytes {
-            KeptBytes::Shared(shared) if shared.as_slice() == bytes => Ok(Some(shared.clone()?)),
+            // Compared, and not taken on trust: the journal tells each answer as it was given.
+            StoredBytes::Shared(shared) if shared.as_slice() == bytes => Ok(Some(shared.clone()?)),
             _ => Ok(None),
         }
     }
@@ -113,8 +115,8 @@ impl KeptMessage {
         ensures { result.now ≡ self.now }
     {
         match &self.bytes {
-            KeptBytes::Short(message) => message.bytes(),
-            KeptBytes::Shared(message) => message.as_slice(),
+            StoredBytes::Short(message) => message.bytes(),
+            StoredBytes::Shared(message) => message.as_slice(),
         }
     }
 }

@@ -1,10 +1,9 @@
 -- The packet of an answer comes to a requester: how its requests stand then.
 use Rattle.std.proofs.Common.{◌≡◌, ◌⊎◌, ℕ, ◌+◌, ◌<◌, ◌≤◌, Bool, true, false, List, ◌∷◌, length, Option, Some, None, Result, Ok, Err, refl, sym, ap, subst, ◌∙◌, inl, inr, arith, eq-eqb, eqb-true}
-use Rattle.std.specs.Prelude.{◌||◌, ◌&&◌, ◌-◌, ◌==◌, not, is_some, nat_le, IfSome, option_map, slice_get, slice_index, slice_set, if◌then◌else◌}
+use Rattle.std.specs.Prelude.{◌||◌, ◌&&◌, ◌-◌, ◌==◌, not, is_some, nat_le, IfSome, option_map, slice_get, slice_index, if◌then◌else◌}
 use Rattle.std.proofs.lemmas.Bool.{cases_Bool, cases_eq, cond-true, cond-false, leb-false, leb-true, ne_eqb}
 use Rattle.mctp_packet.specs.Packets.{Packet}
 use Rattle.mctp_packet.specs.declared.reason.Reason.{Reason}
-use Rattle.pldm_responder.specs.Stations as responder_stations
 use Rattle.pldm_requester.specs.Arrivals.{Arrival, Drop, Part, Answer, got_of}
 use Rattle.pldm_requester.specs.Calls as requester
 use Rattle.pldm_requester.specs.Calls.{Requests, answered_by, arrived, fed_by, fed_to, goes_to, got_owed, passed, put, received, requests}
@@ -20,22 +19,23 @@ use Rattle.pldm_requester.specs.declared.timing.Timing.{Timing}
 use Rattle.mctp_schedule.specs.Askers.{Side, TellsAnswer}
 use Rattle.mctp_schedule.specs.Entries.{as_it_stands, got_entry, numbers_of}
 use Rattle.mctp_schedule.specs.HandedPackets.{got_from}
+use Rattle.mctp_schedule.specs.HeldRuns.{HeldRun}
 use Rattle.mctp_schedule.specs.Journals.{answered_as}
 use Rattle.mctp_schedule.specs.Logs.{Asked, asked_at, count_of}
 use Rattle.mctp_schedule.specs.Running.{IsOpened, IsRunning, IsSide, answer_action}
 use Rattle.schedule_text.specs.Schedules.{has_requester}
 use Rattle.mctp_schedule.specs.Worlds.{Setting, World, handed, is_timely, requests_of, source_of, tag_is_own, time_now, timing_of, with_call, world}
-use Rattle.mctp_schedule.specs.declared.askers.Answered.{Answered}
+use Rattle.mctp_schedule.specs.declared.askers.AnsweredRequest.{AnsweredRequest}
 use Rattle.mctp_schedule.specs.declared.entry.Entry.TheVariants as entry
 use Rattle.mctp_schedule.specs.declared.journal.Journal.{Journal}
 use Rattle.schedule_text.specs.declared.step.Step.{Step}
 use Rattle.mctp_schedule.proofs.AskerCalls.{answer_of_got, answer_remembered, own_below, standing_after}
-use Rattle.mctp_schedule.proofs.AskedRequests.{asked_below}
-use Rattle.mctp_schedule.proofs.CalledSteps.{Writes, called_runs, new_side}
-use Rattle.mctp_schedule.proofs.DeliveredAnswers.{delivered, done_is, entry_is, timely_is}
+use Rattle.mctp_schedule.proofs.LoggedRequests.{asked_below}
+use Rattle.mctp_schedule.proofs.AfterCall.{with_side, Writes, called_runs, new_side}
+use Rattle.mctp_schedule.proofs.HandedAnswerPackets.{delivered, done_is, entry_is, timely_is}
 use Rattle.mctp_schedule.proofs.NumberedRequests.{get_index, index_get}
-use Rattle.mctp_schedule.proofs.RunningFrames.{call_here, call_other}
-use Rattle.mctp_schedule.proofs.TickedSteps.{unique}
+use Rattle.mctp_schedule.proofs.KeptByAStep.{call_here, call_other}
+use Rattle.mctp_schedule.proofs.AfterTick.{unique}
 
 -- ---- a packet changes the course of the request that it answers alone
 module _ (own device : ℕ) (timing : Timing) where
@@ -83,7 +83,7 @@ tag_kept count own = go (cases_Bool (nat_le (count - 8) own)) (cases_Bool (nat_l
     go (inl t) (inr u) = absurd (let x = leb-true (count - 8) own t in let y = leb-false count (own + 8) u in omega (arith, x, y))
     go (inr t) (inl u) = absurd (let x = leb-false (count - 8) own t in let y = leb-true count (own + 8) u in omega (arith, x, y))
 
-module _ {S : Type 0} (setting : Setting S) (w : World) (moment e : ℕ) (bytes : List ℕ) (side new : Side) (s : IsSide setting w moment e side) (answered : Option Answered) where
+module _ {S : Type 0} (setting : Setting S) (w : World) (moment e : ℕ) (bytes : List ℕ) (side new : Side) (s : IsSide setting w moment e side) (answered : Option AnsweredRequest) where
   abbrev v : World
   v = record { calls = with_call w.calls e (requester.Receive moment bytes); log = w.log }
 
@@ -179,8 +179,8 @@ module _ {S : Type 0} (setting : Setting S) (w : World) (moment e : ℕ) (bytes 
             both (inl at_e) (inr other) = away (λ a b. other (sym b))
             both (inr other) own = away (λ a b. other a)
 
-module _ {P S : Type 0} (setting : Setting S) (past : List Step) (keep : ℕ) (station : responder_stations.Station P S) (places : List (Option Side)) (old journal : Journal) (running : IsRunning setting past keep station places old) (moment : ℕ) (later : time_now past ≤ moment) where
-  module _ (busy : Bool) (k packet : ℕ) (bytes : List ℕ) (q : Asked) (is : asked_at (world setting past).log k ≡ Some q) (brings : delivered setting (world setting past) busy k packet ≡ Some bytes) (new : Side) (taken : Got) (answered : Option Answered) (in_time : Bool) where
+module _ {P S : Type 0} (setting : Setting S) (past : List Step) (run : HeldRun P S) (journal : Journal) (running : IsRunning setting past run) (moment : ℕ) (later : time_now past ≤ moment) where
+  module _ (busy : Bool) (k packet : ℕ) (bytes : List ℕ) (q : Asked) (is : asked_at (world setting past).log k ≡ Some q) (brings : delivered setting (world setting past) busy k packet ≡ Some bytes) (new : Side) (taken : Got) (answered : Option AnsweredRequest) (in_time : Bool) where
     abbrev has : has_requester setting.requesters q.source ≡ true
     has = (running.opened k q is).source
 
@@ -191,12 +191,12 @@ module _ {P S : Type 0} (setting : Setting S) (past : List Step) (keep : ℕ) (s
       pub tells : TellsAnswer (running.sides q.source (running.opened k q is).source).0.numbers
           (arrived_by (held_of (running.sides q.source (running.opened k q is).source).0.station) (held_steps.passed (held_of (running.sides q.source (running.opened k q is).source).0.station) bytes)) answered
       pub time_is : in_time ≡ nat_le (held_of (running.sides q.source (running.opened k q is).source).0.station).count (q.own + 8)
-      pub requests : (j : ℕ) → slice_get journal.requests.items j ≡ option_map (answered_as answered j) (slice_get old.requests.items j)
-      pub counted : length journal.requests.items ≡ length old.requests.items
-      pub writes : Writes old journal (entry.Received taken)
-      pub timely : journal.timely ≡ (in_time && old.timely)
+      pub requests : (j : ℕ) → slice_get journal.requests.items j ≡ option_map (answered_as answered j) (slice_get run.journal.requests.items j)
+      pub counted : length journal.requests.items ≡ length run.journal.requests.items
+      pub writes : Writes run.journal journal (entry.Received taken)
+      pub timely : journal.timely ≡ (in_time && run.journal.timely)
 
-    pub hand_runs : ReceiveLooksBack → SameIsLeft → Hands → IsRunning setting (record { moment = moment; action = answer_action busy k packet } ∷ past) keep station (slice_set places q.source (Some new)) journal
+    pub hand_runs : ReceiveLooksBack → SameIsLeft → Hands → IsRunning setting (record { moment = moment; action = answer_action busy k packet } ∷ past) (with_side run q.source new journal)
     hand_runs looks same h =
         let w = world setting past in
         let e = q.source in
@@ -205,15 +205,15 @@ module _ {P S : Type 0} (setting : Setting S) (past : List Step) (keep : ℕ) (s
         let later_side = later_side_of e side s in
         let x : Receives setting w moment e bytes side new later_side answered = record { looks = looks; same = same; new_held = h.new_held; tells = h.tells } in
         let looked = looks e setting.eid (timing_of setting e) (held_of side.station) (w.calls e) moment bytes s.left in
-        called_runs setting past keep station places old journal running moment later (answer_action busy k packet) e has (requester.Receive moment bytes) new (entry.Received taken)
+        called_runs setting past run journal running moment later (answer_action busy k packet) e has (requester.Receive moment bytes) new (entry.Received taken)
         (record {
           after = done_is setting w busy moment k packet ∙ ap (handed setting w moment (source_of (asked_at w.log k))) brings ∙ ap (λ o. handed setting w moment (source_of o) (Some bytes)) is;
-          is_side = new_side setting past keep station places old journal running moment later (answer_action busy k packet) e has (requester.Receive moment bytes) new (new_left setting w moment e bytes side new later_side answered x) h.same_numbers (new_count setting w moment e bytes side new later_side answered x) (let l = h.new_held.last in omega (arith, l));
+          is_side = new_side setting past run journal running moment later (answer_action busy k packet) e has (requester.Receive moment bytes) new (new_left setting w moment e bytes side new later_side answered x) h.same_numbers (new_count setting w moment e bytes side new later_side answered x) (let l = h.new_held.last in omega (arith, l));
           requests = λ j. h.requests j ∙ ap (option_map (answered_as answered j)) (running.requests j) ∙ stand x j (asked_at w.log j) refl;
           counted = h.counted;
           writes = h.writes;
           is_entry = ap entry.Received (h.got_is ∙ looked.0) ∙ sym (entry_is setting w busy moment k packet ∙ ap (λ o. got_entry (got_from setting w (source_of (asked_at w.log k)) o)) brings ∙ ap (λ o. got_entry (got_from setting w (source_of o) (Some bytes))) is);
-          timely = h.timely ∙ ap (λ b. b && old.timely) (h.time_is ∙ ap (λ n. nat_le n (q.own + 8)) s.left.count) ∙ ap (λ b. nat_le (requests_of setting w e).count (q.own + 8) && b) running.timely
+          timely = h.timely ∙ ap (λ b. b && run.journal.timely) (h.time_is ∙ ap (λ n. nat_le n (q.own + 8)) s.left.count) ∙ ap (λ b. nat_le (requests_of setting w e).count (q.own + 8) && b) running.timely
               ∙ sym (ap (λ b. b && is_timely setting past) (timely_is setting w busy moment k packet ∙ ap (λ o. not (is_some o) || tag_is_own setting w (asked_at w.log k)) brings ∙ ap (tag_is_own setting w) is));
         })
       where
@@ -236,7 +236,7 @@ module _ {P S : Type 0} (setting : Setting S) (past : List Step) (keep : ℕ) (s
             ap Some (answered_stands setting (world setting past) moment q.source bytes (running.sides q.source has).0 new (later_side_of q.source (running.sides q.source has).0 (running.sides q.source has).2) answered x j r at (running.opened j r at))
 
 -- ---- the request that is told as answered has been opened
-pub told_below : {S : Type 0} (setting : Setting S) (w : World) (now e : ℕ) (side : Side) → IsSide setting w now e side → (bytes : List ℕ) (answered : Option Answered) (bound : ℕ) → count_of w.log ≡ bound
+pub told_below : {S : Type 0} (setting : Setting S) (w : World) (now e : ℕ) (side : Side) → IsSide setting w now e side → (bytes : List ℕ) (answered : Option AnsweredRequest) (bound : ℕ) → count_of w.log ≡ bound
     → TellsAnswer side.numbers (arrived_by (held_of side.station) (held_steps.passed (held_of side.station) bytes)) answered → IfSome answered (λ a. a.number < bound)
 told_below setting w now e side s bytes answered bound all tells = go (arrived_by (held_of side.station) (held_steps.passed (held_of side.station) bytes)) refl tells
   where

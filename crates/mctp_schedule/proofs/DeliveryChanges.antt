@@ -1,8 +1,8 @@
 -- A delivery: what of the given answers it changes, and that the packet of a request brings its message.
 use Rattle.std.proofs.Common.{◌≡◌, ◌≢◌, ◌⊎◌, ℕ, ◌<◌, ◌≤◌, Bool, true, false, List, ◌∷◌, length, Option, Some, None, Ok, refl, sym, ap, ◌∙◌, inl, inr, arith, eq-eqb}
 use Rattle.std.specs.FinMap as map
-use Rattle.std.specs.Prelude.{not, ◌&&◌, ◌==◌}
-use Rattle.std.proofs.lemmas.Bool.{and_left, and_right, cases_eq, cond-true, cond-false, ne_eqb}
+use Rattle.std.specs.Prelude.{not, ◌&&◌, ◌||◌, ◌==◌}
+use Rattle.std.proofs.lemmas.Bool.{and_from, and_left, and_right, cases_eq, cond-true, cond-false, ne_eqb}
 use Rattle.mctp_packet.specs.Ids.{IsEid}
 use Rattle.mctp_packet.specs.Laws.{SpelledIsReadFor, WrittenSpells}
 use Rattle.mctp_packet.specs.Packets.{IsPacket, Packet, packet, written}
@@ -22,7 +22,7 @@ use Rattle.pldm_responder.specs.Events.{is_busy}
 use Rattle.pldm_responder.specs.Performing.{Rules, answered}
 use Rattle.pldm_requester.specs.Numbering.{route_of}
 use Rattle.mctp_schedule.specs.Askers.{packet_bytes}
-use Rattle.mctp_schedule.specs.FirstArrivals.{arrives}
+use Rattle.mctp_schedule.specs.FirstArrivals.{arrives, is_owed_busy}
 use Rattle.mctp_schedule.specs.Logs.{Asked, Happening, Delivered, asked_at, message_at, told}
 use Rattle.mctp_schedule.specs.OncePerformed.{answered_to, given, was_busy}
 
@@ -55,24 +55,27 @@ module _ {S : Type 0} (device : Rules S) (keep : ℕ) (start : S) (past : List H
       ∙ ap (λ o. Some (answered_to device keep start moment past o)) is
 
   -- and which busy answers
+  abbrev owed : ℕ → Bool
+  owed k = is_owed_busy (asked_at past k) busy
+
   pub busy_other : (k : ℕ) → (n ≡ k → ⊥) → was_busy S keep log k ≡ was_busy S keep past k
-  busy_other k other = cond-false (n == k && arrives (asked_at past k) (not busy)) _ _ (and_left (n == k) _ (ne_eqb n k other))
+  busy_other k other = ap (λ b. b || was_busy S keep past k) (and_left (n == k) (owed k) (ne_eqb n k other))
 
   pub busy_none : asked_at past n ≡ None → (k : ℕ) → was_busy S keep log k ≡ was_busy S keep past k
   busy_none none k = go (cases_eq n k)
     where
       go : (n ≡ k) ⊎ (n ≡ k → ⊥) → was_busy S keep log k ≡ was_busy S keep past k
       go (inl same) =
-          cond-false (n == k && arrives (asked_at past k) (not busy)) _ _ (and_right (n == k) _ (ap (λ o. arrives o (not busy)) (sym (ap (asked_at past) same) ∙ none)))
+          ap (λ b. b || was_busy S keep past k) (and_right (n == k) (owed k) (ap (λ o. is_owed_busy o busy) (sym (ap (asked_at past) same) ∙ none)))
       go (inr other) = busy_other k other
 
   pub busy_here : (r : Asked) → asked_at past n ≡ Some r → busy ≡ true → was_busy S keep log n ≡ true
   busy_here r is on =
-      cond-true (n == n && arrives (asked_at past n) (not busy)) _ _ (ap (λ b. b && arrives (asked_at past n) (not busy)) (eq-eqb n n refl) ∙ ap (λ o. arrives o (not busy)) is ∙ ap (λ b. not (not b)) on)
+      ap (λ b. b || was_busy S keep past n) (and_from (n == n) (owed n) (eq-eqb n n refl) (ap (λ o. is_owed_busy o busy) is ∙ on))
 
   pub busy_served : (r : Asked) → asked_at past n ≡ Some r → busy ≡ false → was_busy S keep log n ≡ was_busy S keep past n
   busy_served r is off =
-      cond-false (n == n && arrives (asked_at past n) (not busy)) _ _ (and_right (n == n) _ (ap (λ o. arrives o (not busy)) is ∙ ap (λ b. not (not b)) off))
+      ap (λ b. b || was_busy S keep past n) (and_right (n == n) (owed n) (ap (λ o. is_owed_busy o busy) is ∙ off))
 
 -- ---- the packet of a request, which has both SOM and EOM, is a whole message after any others
 abbrev pub packet_for : ℕ → Asked → Packet

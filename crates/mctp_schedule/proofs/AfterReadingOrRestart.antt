@@ -1,13 +1,13 @@
 -- A reading that is set, and a restart: they leave all requests as they were.
-use Rattle.std.proofs.Common.{◌≡◌, ℕ, ◌≤◌, List, [], ◌∷◌, ◌++◌, Option, refl, sym, ap, subst, ◌∙◌, arith}
+use Rattle.std.proofs.Common.{◌≡◌, ℕ, ◌≤◌, List, [], ◌∷◌, ◌++◌, refl, sym, ap, subst, ◌∙◌, arith}
 use Rattle.std.specs.Prelude.{ℤ, length, slice_get}
 use Rattle.pldm_responder.specs.Held.{IsHeld}
 use Rattle.pldm_responder.specs.Laws.{RestartedLooksBack, SameIsLeft, SensedLooksBack}
 use Rattle.pldm_responder.specs.Events.{Set, Restarted}
 use Rattle.pldm_responder.specs.Stations.{Station, held_of}
 use Rattle.pldm_responder.specs.Steps.{restarted_held, sensed_held}
-use Rattle.mctp_schedule.specs.Askers.{Side}
 use Rattle.mctp_schedule.specs.Entries.{entry_of}
+use Rattle.mctp_schedule.specs.HeldRuns.{HeldRun}
 use Rattle.mctp_schedule.specs.Journals.{Carried}
 use Rattle.mctp_schedule.specs.Requests.{Request}
 use Rattle.mctp_schedule.specs.Running.{IsCarried, IsRunning, device_calls}
@@ -16,7 +16,11 @@ use Rattle.mctp_schedule.specs.declared.entry.Entry.{Entry}
 use Rattle.mctp_schedule.specs.declared.journal.Journal.{Journal}
 use Rattle.schedule_text.specs.declared.step.Action.TheVariants as actions
 use Rattle.schedule_text.specs.declared.step.Step.{Step}
-use Rattle.mctp_schedule.proofs.RunningFrames.{still_carried, still_opened, still_side}
+use Rattle.mctp_schedule.proofs.KeptByAStep.{still_carried, still_opened, still_side}
+
+-- what is held when the responder and what is written down have changed
+abbrev pub with_responder : {P S : Type 0} → HeldRun P S → Station P S → Journal → HeldRun P S
+with_responder run new journal = record { keep = run.keep; responder = new; places = run.places; journal = journal }
 
 -- one more entry, and nothing else
 pub record Enters (old new : Journal) (entry : Entry) : Type 0 where
@@ -26,20 +30,20 @@ pub record Enters (old new : Journal) (entry : Entry) : Type 0 where
   pub order : new.order.items ≡ old.order.items
   pub timely : new.timely ≡ old.timely
 
-module _ {P S : Type 0} (setting : Setting S) (past : List Step) (keep : ℕ) (station new : Station P S) (places : List (Option Side)) (old journal : Journal) (running : IsRunning setting past keep station places old) (moment : ℕ) (later : time_now past ≤ moment) where
+module _ {P S : Type 0} (setting : Setting S) (past : List Step) (run : HeldRun P S) (new : Station P S) (journal : Journal) (running : IsRunning setting past run) (moment : ℕ) (later : time_now past ≤ moment) where
   abbrev w : World
   w = world setting past
 
-  pub sensed_runs : (id : ℕ) (value : ℤ) → SensedLooksBack setting.device → SameIsLeft setting.device → IsHeld (held_of new) (sensed_held setting.device (held_of station) id value)
-      → Enters old journal (entry_of setting w moment (actions.Sense id value)) → IsRunning setting (record { moment = moment; action = actions.Sense id value } ∷ past) keep new places journal
+  pub sensed_runs : (id : ℕ) (value : ℤ) → SensedLooksBack setting.device → SameIsLeft setting.device → IsHeld (held_of new) (sensed_held setting.device (held_of run.responder) id value)
+      → Enters run.journal journal (entry_of setting w moment (actions.Sense id value)) → IsRunning setting (record { moment = moment; action = actions.Sense id value } ∷ past) (with_responder run new journal)
   sensed_runs id value looks same held enters =
       let v = world setting (record { moment = moment; action = actions.Sense id value } ∷ past) in
       record {
         times = running.times;
         device = record {
           endpoint = running.device.endpoint;
-          left = same setting.eid setting.keep setting.start (held_of new) (sensed_held setting.device (held_of station) id value) (device_calls setting.eid v.log) held
-              (looks setting.eid setting.keep setting.start (held_of station) (device_calls setting.eid w.log) id value running.device.left);
+          left = same setting.eid setting.keep setting.start (held_of new) (sensed_held setting.device (held_of run.responder) id value) (device_calls setting.eid v.log) held
+              (looks setting.eid setting.keep setting.start (held_of run.responder) (device_calls setting.eid w.log) id value running.device.left);
           events = ap (λ es. Set id value ∷ es) running.device.events;
           called = let x = held.last in let y = running.device.called in omega (arith, x, y, later);
         };
@@ -49,7 +53,7 @@ module _ {P S : Type 0} (setting : Setting S) (past : List Step) (keep : ℕ) (s
         counted = ap (λ (rs : List Request). length rs) enters.requests ∙ running.counted;
         traffic = λ k r is.
             let t = running.traffic k r is in
-            (t.0, ap (λ ts. slice_get ts k) enters.traffic ∙ t.1, subst (λ es. IsCarried setting v es k r t.0) (sym enters.entries) (still_carried setting w v old.entries.items (entry_of setting w moment (actions.Sense id value)) k r t.0 refl refl t.2));
+            (t.0, ap (λ ts. slice_get ts k) enters.traffic ∙ t.1, subst (λ es. IsCarried setting v es k r t.0) (sym enters.entries) (still_carried setting w v run.journal.entries.items (entry_of setting w moment (actions.Sense id value)) k r t.0 refl refl t.2));
         carried = ap (λ (ts : List Carried). length ts) enters.traffic ∙ running.carried;
         entries = enters.entries ∙ ap (λ es. es ++ entry_of setting w moment (actions.Sense id value) ∷ []) running.entries;
         order = enters.order ∙ running.order;
@@ -58,16 +62,16 @@ module _ {P S : Type 0} (setting : Setting S) (past : List Step) (keep : ℕ) (s
         fit = running.fit;
       }
 
-  pub restarted_runs : RestartedLooksBack setting.device → SameIsLeft setting.device → IsHeld (held_of new) (restarted_held (held_of station) moment)
-      → Enters old journal (entry_of setting w moment actions.Restart) → IsRunning setting (record { moment = moment; action = actions.Restart } ∷ past) keep new places journal
+  pub restarted_runs : RestartedLooksBack setting.device → SameIsLeft setting.device → IsHeld (held_of new) (restarted_held (held_of run.responder) moment)
+      → Enters run.journal journal (entry_of setting w moment actions.Restart) → IsRunning setting (record { moment = moment; action = actions.Restart } ∷ past) (with_responder run new journal)
   restarted_runs looks same held enters =
       let v = world setting (record { moment = moment; action = actions.Restart } ∷ past) in
       record {
         times = running.times;
         device = record {
           endpoint = running.device.endpoint;
-          left = same setting.eid setting.keep setting.start (held_of new) (restarted_held (held_of station) moment) (device_calls setting.eid v.log) held
-              (looks setting.eid setting.keep setting.start (held_of station) (device_calls setting.eid w.log) moment running.device.left);
+          left = same setting.eid setting.keep setting.start (held_of new) (restarted_held (held_of run.responder) moment) (device_calls setting.eid v.log) held
+              (looks setting.eid setting.keep setting.start (held_of run.responder) (device_calls setting.eid w.log) moment running.device.left);
           events = ap (λ es. Restarted moment ∷ es) running.device.events;
           called = let x = held.last in omega (arith, x);
         };
@@ -77,7 +81,7 @@ module _ {P S : Type 0} (setting : Setting S) (past : List Step) (keep : ℕ) (s
         counted = ap (λ (rs : List Request). length rs) enters.requests ∙ running.counted;
         traffic = λ k r is.
             let t = running.traffic k r is in
-            (t.0, ap (λ ts. slice_get ts k) enters.traffic ∙ t.1, subst (λ es. IsCarried setting v es k r t.0) (sym enters.entries) (still_carried setting w v old.entries.items (entry_of setting w moment actions.Restart) k r t.0 refl refl t.2));
+            (t.0, ap (λ ts. slice_get ts k) enters.traffic ∙ t.1, subst (λ es. IsCarried setting v es k r t.0) (sym enters.entries) (still_carried setting w v run.journal.entries.items (entry_of setting w moment actions.Restart) k r t.0 refl refl t.2));
         carried = ap (λ (ts : List Carried). length ts) enters.traffic ∙ running.carried;
         entries = enters.entries ∙ ap (λ es. es ++ entry_of setting w moment actions.Restart ∷ []) running.entries;
         order = enters.order ∙ running.order;

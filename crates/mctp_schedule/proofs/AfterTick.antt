@@ -1,9 +1,8 @@
 -- A tick: which requests it gives up, by their numbers over all requests.
 use Rattle.std.proofs.Common.{◌≡◌, ◌⊎◌, ℕ, ◌<◌, ◌≤◌, Bool, true, false, List, ◌∷◌, length, Option, Some, None, refl, sym, ap, subst, ◌∙◌, inl, inr, arith}
-use Rattle.std.specs.Prelude.{◌==◌, option_map, slice_get, slice_index, slice_set, if◌then◌else◌}
+use Rattle.std.specs.Prelude.{◌==◌, option_map, slice_get, slice_index, if◌then◌else◌}
 use Rattle.std.specs.List.{list_any}
 use Rattle.std.proofs.lemmas.Bool.{cases_eq, cond-true, cond-false}
-use Rattle.pldm_responder.specs.Stations as responder_stations
 use Rattle.pldm_requester.specs.Calls as requester
 use Rattle.pldm_requester.specs.Calls.{again_owed, given_up_owed, requests}
 use Rattle.pldm_requester.specs.Courses as courses
@@ -15,6 +14,7 @@ use Rattle.pldm_requester.specs.declared.results.Due.{Due as DueNumbers}
 use Rattle.pldm_requester.specs.declared.timing.Timing.{Timing}
 use Rattle.mctp_schedule.specs.Askers.{Side}
 use Rattle.mctp_schedule.specs.Entries.{as_it_stands, numbered, numbers_of}
+use Rattle.mctp_schedule.specs.HeldRuns.{HeldRun}
 use Rattle.mctp_schedule.specs.Journals.{stands_after}
 use Rattle.mctp_schedule.specs.Logs.{Asked, asked_at}
 use Rattle.mctp_schedule.specs.Running.{IsOpened, IsRunning}
@@ -24,9 +24,9 @@ use Rattle.mctp_schedule.specs.declared.entry.Entry.TheVariants as entry
 use Rattle.mctp_schedule.specs.declared.journal.Journal.{Journal}
 use Rattle.schedule_text.specs.declared.step.Action.TheVariants as actions
 use Rattle.schedule_text.specs.declared.step.Step.{Step}
-use Rattle.mctp_schedule.proofs.CalledSteps.{Writes, called_runs, new_side}
+use Rattle.mctp_schedule.proofs.AfterCall.{with_side, Writes, called_runs, new_side}
 use Rattle.mctp_schedule.proofs.NumberedRequests.{among_none, among_one, get_index, index_get}
-use Rattle.mctp_schedule.proofs.RunningFrames.{call_here, call_other}
+use Rattle.mctp_schedule.proofs.KeptByAStep.{call_here, call_other}
 
 ticked_standing : (timing : Timing) (moment : ℕ) (course : Course) → (ticked timing moment course).standing ≡ (if is_given_up timing moment course then courses.GaveUp else course.standing)
 ticked_standing timing moment course = go (is_given_up timing moment course) (is_sent_again timing moment course)
@@ -94,18 +94,18 @@ pub due_is : (due : DueNumbers) (again given_up : List ℕ) → due.again.items 
 due_is due again given_up a b =
     ap (λ (xs : List ℕ). record { again = record { items = xs }; given_up = due.given_up }) a ∙ ap (λ (xs : List ℕ). record { again = record { items = again }; given_up = record { items = xs } }) b
 
-module _ {P S : Type 0} (setting : Setting S) (past : List Step) (keep : ℕ) (station : responder_stations.Station P S) (places : List (Option Side)) (old journal : Journal) (running : IsRunning setting past keep station places old) (moment : ℕ) (later : time_now past ≤ moment) (e : ℕ) (has : has_requester setting.requesters e ≡ true) (new : Side) (due : DueNumbers) where
+module _ {P S : Type 0} (setting : Setting S) (past : List Step) (run : HeldRun P S) (journal : Journal) (running : IsRunning setting past run) (moment : ℕ) (later : time_now past ≤ moment) (e : ℕ) (has : has_requester setting.requesters e ≡ true) (new : Side) (due : DueNumbers) where
   pub record Ticks : Type 0 where
     pub held : IsHeld (held_of new.station) (ticked_held (held_of (running.sides e has).0.station) moment)
     pub same_numbers : new.numbers ≡ (running.sides e has).0.numbers
     pub again : due.again.items ≡ numbered (running.sides e has).0.numbers (again_at (held_of (running.sides e has).0.station) moment)
     pub given_up : due.given_up.items ≡ numbered (running.sides e has).0.numbers (given_up_at (held_of (running.sides e has).0.station) moment)
-    pub requests : (k : ℕ) → slice_get journal.requests.items k ≡ option_map (stands_after due.given_up.items k) (slice_get old.requests.items k)
-    pub counted : length journal.requests.items ≡ length old.requests.items
-    pub writes : Writes old journal (entry.Due due)
-    pub timely : journal.timely ≡ old.timely
+    pub requests : (k : ℕ) → slice_get journal.requests.items k ≡ option_map (stands_after due.given_up.items k) (slice_get run.journal.requests.items k)
+    pub counted : length journal.requests.items ≡ length run.journal.requests.items
+    pub writes : Writes run.journal journal (entry.Due due)
+    pub timely : journal.timely ≡ run.journal.timely
 
-  pub tick_runs : TickLooksBack → SameIsLeft → Ticks → IsRunning setting (record { moment = moment; action = actions.Tick e } ∷ past) keep station (slice_set places e (Some new)) journal
+  pub tick_runs : TickLooksBack → SameIsLeft → Ticks → IsRunning setting (record { moment = moment; action = actions.Tick e } ∷ past) (with_side run e new journal)
   tick_runs looks same t =
       let w = world setting past in
       let side = (running.sides e has).0 in
@@ -115,10 +115,10 @@ module _ {P S : Type 0} (setting : Setting S) (past : List Step) (keep : ℕ) (s
       let left = same e setting.eid timing (held_of new.station) (ticked_held (held_of side.station) moment) (requester.Tick moment ∷ w.calls e) t.held looked.2 in
       let again = t.again ∙ ap (λ xs. numbered xs (again_at (held_of side.station) moment)) s.numbers ∙ ap (numbered (numbers_of w.log e)) looked.0 in
       let given_up = t.given_up ∙ ap (λ xs. numbered xs (given_up_at (held_of side.station) moment)) s.numbers ∙ ap (numbered (numbers_of w.log e)) looked.1 in
-      called_runs setting past keep station places old journal running moment later (actions.Tick e) e has (requester.Tick moment) new (entry.Due due)
+      called_runs setting past run journal running moment later (actions.Tick e) e has (requester.Tick moment) new (entry.Due due)
       (record {
         after = refl;
-        is_side = new_side setting past keep station places old journal running moment later (actions.Tick e) e has (requester.Tick moment) new left t.same_numbers refl (let l = t.held.last in omega (arith, l));
+        is_side = new_side setting past run journal running moment later (actions.Tick e) e has (requester.Tick moment) new left t.same_numbers refl (let l = t.held.last in omega (arith, l));
         requests = λ k. t.requests k ∙ ap (option_map (stands_after due.given_up.items k)) (running.requests k) ∙ stand k given_up (asked_at w.log k) refl;
         counted = t.counted;
         writes = t.writes;

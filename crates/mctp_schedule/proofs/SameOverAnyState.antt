@@ -1,11 +1,11 @@
 -- Nothing on the link changes the device from outside, so what the responder was told has no state in it: when a delivery
 -- is fresh, and when a request first arrived, is the same over devices of any two states.
 use Rattle.std.proofs.Common.{◌≡◌, ℕ, ◌+◌, List, [], ◌∷◌, Some, None, Option, Bool, true, false, refl, sym, ap, ◌∙◌}
-use Rattle.std.specs.Prelude.{not, nat_lt, bytes_eq, ◌&&◌, ◌==◌, if◌then◌else◌}
+use Rattle.std.specs.Prelude.{not, nat_lt, bytes_eq, is_some, ◌&&◌, ◌==◌, if◌then◌else◌}
 use Rattle.pldm_wire.specs.Headers.{id_at}
 use Rattle.pldm_responder.specs.Events.{Message, Event, Came, Place, is_of, is_busy, is_copy, is_copy_of, is_fresh, origin, busy_until}
 use Rattle.mctp_schedule.specs.Logs.{Asked, Happening, Opened, Delivered, Sensed, WentDown, asked_at, message_at, told_of, told}
-use Rattle.mctp_schedule.specs.FirstArrivals.{arrives, earlier, first, is_first_of, is_first}
+use Rattle.mctp_schedule.specs.FirstArrivals.{arrives, earlier, first, is_first}
 
 abbrev message_in : {S : Type 0} → Option (Place S) → Option Message
 message_in None = None
@@ -73,7 +73,7 @@ module _ (A B : Type 0) (keep : ℕ) where
   same_first (WentDown moment ∷ past) k = same_first past k
 
   pub same_is_first : (past : List Happening) (moment k : ℕ) → is_first A keep past moment k ≡ is_first B keep past moment k
-  same_is_first past moment k = λ i. is_first_of (asked_at past k) (same_first past k i) (same_busy past moment i)
+  same_is_first past moment k = λ i. not (is_some (same_first past k i)) && arrives (asked_at past k) (same_busy past moment i)
 
   -- what is kept is of the same message
   pub same_origin : (log : List Happening) (source id : ℕ) (p : Place B) → origin keep (told {S = B} log) source id ≡ Some p
