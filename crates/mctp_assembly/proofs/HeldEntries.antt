@@ -7,7 +7,8 @@ use Rattle.std.proofs.lemmas.Option.{IfSome_then}
 use Rattle.mctp_packet.specs.Packets.{Packet}
 use Rattle.mctp_packet.specs.declared.TheConstants.{MAX_PACKETS, UNIT, MAX_MESSAGE_BYTES}
 use Rattle.mctp_assembly.specs.Keys.{IsKey, key_of}
-use Rattle.mctp_assembly.specs.Numbered.{Numbered, Changes, IsEntry, at, held_in, number_of}
+use Rattle.mctp_assembly.specs.NumberLists.{Changes, at}
+use Rattle.mctp_assembly.specs.Numbered.{Numbered, IsEntry, held_in, number_of}
 use Rattle.mctp_assembly.specs.Opened.{Opened, IsOpened}
 use Rattle.mctp_assembly.specs.Steps.{Held, answer_alone, begun_by, carried_on, stays_open, answer, after}
 use Rattle.mctp_assembly.specs.declared.key.Key.{Key}

@@ -9,7 +9,8 @@ use Rattle.std.proofs.lemmas.Bool.{eqb-false}
 use Rattle.mctp_packet.specs.Bits.{bit}
 use Rattle.mctp_assembly.specs.Keys.{IsKey, key_cmp}
 use Rattle.mctp_assembly.specs.Opened.{Opened}
-use Rattle.mctp_assembly.specs.Numbered.{Numbered, Changes, KEYS, Rises, at, held_in, key_at, keyed, number_of}
+use Rattle.mctp_assembly.specs.NumberLists.{Changes, Rises, at}
+use Rattle.mctp_assembly.specs.Numbered.{none_open, Numbered, KEYS, held_in, key_at, keyed, number_of}
 use Rattle.mctp_assembly.specs.declared.key.Key.{Key}
 use Rattle.mctp_assembly.proofs.KeyOrder.{keys_total, keys_exact}
 use Rattle.mctp_assembly.proofs.NumberLookups.{absent}
@@ -109,13 +110,13 @@ removed_held l new k h change =
     map.same_map keys_total keys_exact _ _ (λ q. changed l new k None h change q ∙ sym (map.get-remove keys_total (held_in l) k q))
 
 -- ---- how many
-tail : (x : ℕ × Opened) (l : Numbered) → Rises (x ∷ l) → Rises l
+tail : (x : ℕ × Opened) (l : Numbered) → Rises none_open (x ∷ l) → Rises none_open l
 tail x l rises i j lt in_range = rises (suc i) (suc j) (omega arith) (omega arith)
 
-pub len_held : (l : Numbered) → Rises l → map.len (held_in l) ≡ length l
+pub len_held : (l : Numbered) → Rises none_open l → map.len (held_in l) ≡ length l
 len_held [] rises = map.len-empty key_cmp Opened
 len_held ((m, o) ∷ rest) rises =
-    let none : at rest m ≡ None = absent rest m (λ j lt same. omega (arith, rises 0 (suc j) (omega arith) (omega arith))) in
+    let none : at rest m ≡ None = absent none_open rest m (λ j lt same. omega (arith, rises 0 (suc j) (omega arith) (omega arith))) in
     let free : map.get (held_in rest) (key_at m) ≡ None =
     got rest (key_at m) ∙ ap (λ n. cond (is_key (key_at m)) (at rest n) None) (number_of_key m) ∙ ap (λ x. cond (is_key (key_at m)) x None) none ∙ sym (nothing (is_key (key_at m))) in
     map.len-insert keys_total (held_in rest) (key_at m) o

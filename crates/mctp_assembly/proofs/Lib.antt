@@ -8,5 +8,6 @@ pub mod RowsAreOne
 pub mod CopiesJoin
 pub mod NumberLookups
 pub mod NumberPlaces
+pub mod OpenPlaces
 pub mod KeyNumbers
 mod Numbers

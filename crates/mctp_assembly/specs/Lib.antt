@@ -5,4 +5,5 @@ pub mod Steps
 pub mod Givens
 pub mod Histories
 pub mod Laws
+pub mod NumberLists
 pub mod Numbered

@@ -1,17 +1,18 @@
 -- How an assembler holds its open messages: in a list by the numbers of their keys, which rise.
 use Rattle.std.specs.FinMap as map
-use Rattle.std.specs.Prelude.{◌≡◌, ℕ, ◌+◌, ◌*◌, ◌/◌, ◌%◌, ◌<◌, ◌≤◌, ◌==◌, List, [], ◌∷◌, length, Option, Some, None, if◌then◌else◌, slice_index_or}
+use Rattle.std.specs.Prelude.{ℕ, ◌+◌, ◌*◌, ◌/◌, ◌%◌, ◌<◌, ◌≤◌, ◌==◌, List, [], ◌∷◌}
 use Rattle.std.specs.List.{All}
 use Rattle.std.specs.Coded.{Coded, coded_list, coded×, coded_ℕ}
 use Rattle.mctp_packet.specs.Bits.{bit}
 use Rattle.mctp_packet.specs.declared.TheConstants.{MIN_EID, MAX_EID, TAGS}
+use Rattle.mctp_assembly.specs.NumberLists.{NumberList, Rises}
 use Rattle.mctp_assembly.specs.Opened.{Opened, IsOpened, coded_opened}
 use Rattle.mctp_assembly.specs.Steps.{Held}
 use Rattle.mctp_assembly.specs.declared.key.Key.{Key}
 
 -- numbers and what is open under them
 abbrev pub Numbered : Type 0
-Numbered = List (ℕ × Opened)
+Numbered = NumberList Opened
 
 abbrev pub coded_numbered : Coded Numbered
 coded_numbered = coded_list (coded× coded_ℕ coded_opened)
@@ -33,18 +34,9 @@ pub record IsNumber (n : ℕ) : Type 0 where
   pub low : KEYS * MIN_EID ≤ n
   pub high : n < KEYS * (MAX_EID + 1)
 
--- what is open under a number
-abbrev pub at : Numbered → ℕ → Option Opened
-at [] n = None
-at ((k, opened) ∷ rest) n = if k == n then Some opened else at rest n
-
--- the number at a place of the list
-abbrev pub number_in : Numbered → ℕ → ℕ
-number_in list i = (slice_index_or list i (0, record { unit = 0; last = 0; count = 0; bytes = [] })).0
-
--- the numbers rise, so none comes twice
-abbrev pub Rises : Numbered → Type 0
-Rises list = (i j : ℕ) → i < j → j < length list → number_in list i < number_in list j
+-- nothing is open: what stands past the end of a list
+abbrev pub none_open : Opened
+none_open = record { unit = 0; last = 0; count = 0; bytes = [] }
 
 -- a number of a key, and under it a message that has begun and not ended
 pub record IsEntry (entry : ℕ × Opened) : Type 0 where
@@ -53,23 +45,8 @@ pub record IsEntry (entry : ℕ × Opened) : Type 0 where
 
 -- the numbers rise, and each entry is one
 pub record AreOpen (list : Numbered) : Type 0 where
-  pub rises : Rises list
+  pub rises : Rises none_open list
   pub each : All IsEntry list
-
--- the number stands at this place
-pub record IsAt (list : Numbered) (n i : ℕ) : Type 0 where
-  pub in_range : i < length list
-  pub has : number_in list i ≡ n
-
--- the number would go to this place: smaller ones before it, and greater ones from it on
-pub record IsGapFor (list : Numbered) (n i : ℕ) : Type 0 where
-  pub in_range : i ≤ length list
-  pub smaller : (j : ℕ) → j < i → number_in list j < n
-  pub greater : (j : ℕ) → i ≤ j → j < length list → n < number_in list j
-
--- a list with this under one number, and under each other what there was
-abbrev pub Changes : Numbered → Numbered → ℕ → Option Opened → Type 0
-Changes old new n opened = (q : ℕ) → at new q ≡ (if n == q then opened else at old q)
 
 abbrev pub keyed : Numbered → List (Key × Opened)
 keyed [] = []

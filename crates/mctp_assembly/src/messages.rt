@@ -2,7 +2,8 @@ ghost use Rattle.std.specs.Prelude.{◌≡◌, ◌≤◌, [], Some, None, IfOk, 
 ghost use Rattle.std.specs.Option.{option_copied};
 ghost use Rattle.std.specs.List.{All};
 ghost use Rattle.mctp_packet.specs.declared.TheConstants.{MAX_PACKETS};
-ghost use Rattle.mctp_assembly.specs.Numbered.{Changes, IsAt, IsEntry, IsGapFor, IsNumber, Rises, at};
+ghost use Rattle.mctp_assembly.specs.NumberLists.{Changes, IsAt, IsGapFor, Rises, at};
+ghost use Rattle.mctp_assembly.specs.Numbered.{IsEntry, IsNumber, none_open};
 ghost use Rattle.mctp_assembly.specs.Opened.{IsOpened};
 ghost use Rattle.mctp_assembly.specs.Steps.{answer_to, carried_on};
 ghost use Rattle.mctp_assembly.specs.declared.assembler.TheConstants.{MAX_ASSEMBLIES};
@@ -97,8 +98,8 @@ impl Messages {
 
     /// Where the number stands, or where it would go.
     fn search(&self, number: u16) -> Result<usize, usize>
-        ensures found { IfOk result (IsAt self.now number) }
-        ensures absent { IfErr result (IsGapFor self.now number) }
+        ensures found { IfOk result (IsAt none_open self.now number) }
+        ensures absent { IfErr result (IsGapFor none_open self.now number) }
     {
         self.list.binary_search_by_key(&number, |(other, _)| *other)
     }
@@ -117,7 +118,7 @@ impl Messages {
     pub(crate) fn len(&self) -> usize
         ensures value { result ≡ length self.now }
         ensures few { length self.now ≤ MAX_ASSEMBLIES }
-        ensures rises { Rises self.now }
+        ensures rises { Rises none_open self.now }
         ensures opened { All IsEntry self.now }
     {
         self.list.len()

@@ -1,6 +1,6 @@
 use Rattle.std.specs.FinMap as map
 use Rattle.std.proofs.Common.{None, ap, subst, ◌∙◌}
-use Rattle.mctp_assembly.specs.Numbered.{Changes}
+use Rattle.mctp_assembly.specs.NumberLists.{Changes}
 use Rattle.mctp_assembly.proofs.KeyNumbers.{removed_held}
 use Rattle.mctp_assembly.proofs.assembler.Assembler.forget.Goals as goal
 

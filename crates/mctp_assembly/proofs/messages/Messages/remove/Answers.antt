@@ -1,20 +1,22 @@
 use Rattle.std.proofs.Common.{None, refl, sym, subst}
-use Rattle.mctp_assembly.specs.Numbered.{AreOpen, Changes, IsAt, Numbered}
-use Rattle.mctp_assembly.proofs.NumberPlaces.{open_removed, removed_at, none_in_gap, change_of, unchanged}
+use Rattle.mctp_assembly.specs.NumberLists.{Changes, IsAt}
+use Rattle.mctp_assembly.specs.Numbered.{none_open, AreOpen, Numbered}
+use Rattle.mctp_assembly.proofs.NumberPlaces.{removed_at, none_in_gap, change_of, unchanged}
+use Rattle.mctp_assembly.proofs.OpenPlaces.{open_removed}
 use Rattle.mctp_assembly.proofs.messages.Messages.remove.Goals as goal
 
 pub invariant_of-self : goal.invariant_of-self
 invariant_of-self c =
     let list = c.self.inside.list.items in
-    let is = subst (λ (l : Numbered). IsAt l c.args.number c.in-Ok.place) (sym c.self.view_is) c.in-Ok.ensures.found in
+    let is = subst (λ (l : Numbered). IsAt none_open l c.args.number c.in-Ok.place) (sym c.self.view_is) c.in-Ok.ensures.found in
     subst AreOpen (sym c.remove.ensures.items) (open_removed list c.self.invariant.rises c.args.number c.in-Ok.place is c.self.invariant.each)
 
 pub returns-in-Ok : goal.returns-in-Ok
 returns-in-Ok c =
     let list = c.self.inside.list.items in
-    let is = subst (λ (l : Numbered). IsAt l c.args.number c.in-Ok.place) (sym c.self.view_is) c.in-Ok.ensures.found in
-    change_of list c.args.self.now _ c.args.number None None c.self.view_is refl
-    (subst (λ (new : Numbered). Changes list new c.args.number None) (sym c.remove.ensures.items) (removed_at list c.self.invariant.rises c.args.number c.in-Ok.place is))
+    let is = subst (λ (l : Numbered). IsAt none_open l c.args.number c.in-Ok.place) (sym c.self.view_is) c.in-Ok.ensures.found in
+    change_of none_open list c.args.self.now _ c.args.number None None c.self.view_is refl
+    (subst (λ (new : Numbered). Changes list new c.args.number None) (sym c.remove.ensures.items) (removed_at none_open list c.self.invariant.rises c.args.number c.in-Ok.place is))
 
 pub returns-in_default : goal.returns-in_default
-returns-in_default c = unchanged c.args.self.now c.args.number (none_in_gap c.args.self.now c.args.number _ c.in_default.ensures.absent)
+returns-in_default c = unchanged none_open c.args.self.now c.args.number (none_in_gap none_open c.args.self.now c.args.number _ c.in_default.ensures.absent)

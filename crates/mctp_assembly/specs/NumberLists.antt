@@ -1,0 +1,36 @@
+-- Lists of values by numbers that rise, so that a look-up is a binary search.
+use Rattle.std.specs.Prelude.{◌≡◌, ℕ, ◌<◌, ◌≤◌, ◌==◌, List, [], ◌∷◌, length, Option, Some, None, if◌then◌else◌, slice_index_or}
+
+-- numbers, and a value under each
+abbrev pub NumberList : Type 0 → Type 0
+NumberList X = List (ℕ × X)
+
+-- the value under a number
+abbrev pub at : {X : Type 0} → NumberList X → ℕ → Option X
+at [] n = None
+at ((k, value) ∷ rest) n = if k == n then Some value else at rest n
+
+-- a list with this under one number, and under each other what there was
+abbrev pub Changes : {X : Type 0} → NumberList X → NumberList X → ℕ → Option X → Type 0
+Changes old new n value = (q : ℕ) → at new q ≡ (if n == q then value else at old q)
+
+-- `past` is what stands past the end of a list; nothing looks at it
+module _ {X : Type 0} (past : X) where
+  -- the number at a place of the list
+  abbrev pub number_in : NumberList X → ℕ → ℕ
+  number_in list i = (slice_index_or list i (0, past)).0
+
+  -- the numbers rise, so none comes twice
+  abbrev pub Rises : NumberList X → Type 0
+  Rises list = (i j : ℕ) → i < j → j < length list → number_in list i < number_in list j
+
+  -- the number stands at this place
+  pub record IsAt (list : NumberList X) (n i : ℕ) : Type 0 where
+    pub in_range : i < length list
+    pub has : number_in list i ≡ n
+
+  -- the number would go to this place: smaller ones before it, and greater ones from it on
+  pub record IsGapFor (list : NumberList X) (n i : ℕ) : Type 0 where
+    pub in_range : i ≤ length list
+    pub smaller : (j : ℕ) → j < i → number_in list j < n
+    pub greater : (j : ℕ) → i ≤ j → j < length list → n < number_in list j
