@@ -9,5 +9,6 @@ pub mod CopiesJoin
 pub mod NumberLookups
 pub mod NumberPlaces
 pub mod OpenPlaces
+pub mod NumberedMaps
 pub mod KeyNumbers
 mod Numbers

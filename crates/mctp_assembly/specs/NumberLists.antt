@@ -1,4 +1,6 @@
 -- Lists of values by numbers that rise, so that a look-up is a binary search.
+use Rattle.std.specs.FinMap as map
+use Rattle.std.specs.declared.cmp.Ordering.{Ordering}
 use Rattle.std.specs.Prelude.{◌≡◌, ℕ, ◌<◌, ◌≤◌, ◌==◌, List, [], ◌∷◌, length, Option, Some, None, if◌then◌else◌, slice_index_or}
 
 -- numbers, and a value under each
@@ -34,3 +36,11 @@ module _ {X : Type 0} (past : X) where
     pub in_range : i ≤ length list
     pub smaller : (j : ℕ) → j < i → number_in list j < n
     pub greater : (j : ℕ) → i ≤ j → j < length list → n < number_in list j
+
+-- the values by the keys that have these numbers
+abbrev pub keyed : {K X : Type 0} → (ℕ → K) → NumberList X → List (K × X)
+keyed key_at [] = []
+keyed key_at ((n, value) ∷ rest) = (key_at n, value) ∷ keyed key_at rest
+
+abbrev pub map_in : {K X : Type 0} → (R : K → K → Ordering) → (ℕ → K) → NumberList X → map.FinMap R X
+map_in R key_at list = map.from_entries (keyed key_at list)

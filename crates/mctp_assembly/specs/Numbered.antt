@@ -1,11 +1,11 @@
 -- How an assembler holds its open messages: in a list by the numbers of their keys, which rise.
-use Rattle.std.specs.FinMap as map
-use Rattle.std.specs.Prelude.{ℕ, ◌+◌, ◌*◌, ◌/◌, ◌%◌, ◌<◌, ◌≤◌, ◌==◌, List, [], ◌∷◌}
+use Rattle.std.specs.Prelude.{ℕ, ◌+◌, ◌*◌, ◌/◌, ◌%◌, ◌<◌, ◌≤◌, ◌==◌, []}
 use Rattle.std.specs.List.{All}
 use Rattle.std.specs.Coded.{Coded, coded_list, coded×, coded_ℕ}
 use Rattle.mctp_packet.specs.Bits.{bit}
 use Rattle.mctp_packet.specs.declared.TheConstants.{MIN_EID, MAX_EID, TAGS}
-use Rattle.mctp_assembly.specs.NumberLists.{NumberList, Rises}
+use Rattle.mctp_assembly.specs.Keys.{key_cmp}
+use Rattle.mctp_assembly.specs.NumberLists.{NumberList, Rises, map_in}
 use Rattle.mctp_assembly.specs.Opened.{Opened, IsOpened, coded_opened}
 use Rattle.mctp_assembly.specs.Steps.{Held}
 use Rattle.mctp_assembly.specs.declared.key.Key.{Key}
@@ -48,10 +48,6 @@ pub record AreOpen (list : Numbered) : Type 0 where
   pub rises : Rises none_open list
   pub each : All IsEntry list
 
-abbrev pub keyed : Numbered → List (Key × Opened)
-keyed [] = []
-keyed ((n, opened) ∷ rest) = (key_at n, opened) ∷ keyed rest
-
 -- what is open on each key
 abbrev pub held_in : Numbered → Held
-held_in list = map.from_entries (keyed list)
+held_in list = map_in key_cmp key_at list
