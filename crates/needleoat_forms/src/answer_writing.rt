@@ -75,8 +75,6 @@ fn success_of(fields: &AnswerFields) -> Option<Answer>
 }
 
 /// The answer to a command of messaging control and discovery (DSP0240).
-// Not inlined, so that the answer is written where it is wanted and not copied there.
-#[inline(never)]
 fn base_answer_of(fields: &AnswerFields) -> Option<Answer>
     requires { fields.now.pldm_type ≡ BASE }
     ensures answer { result ≡ base_answer_in fields.now }
@@ -118,8 +116,6 @@ fn bytes_of(fields: &AnswerFields) -> Option<&[u8]>
 }
 
 /// The answer to a command of platform monitoring and control (DSP0248).
-// Not inlined, so that the answer is written where it is wanted and not copied there.
-#[inline(never)]
 fn platform_answer_of(fields: &AnswerFields) -> Option<Answer>
     requires { fields.now.pldm_type ≡ PLATFORM }
     ensures answer { result ≡ platform_answer_in fields.now }
@@ -175,8 +171,6 @@ fn values_of(fields: &AnswerFields) -> Option<EffecterValues>
 }
 
 /// The part of a record of GetPDR's answer.
-// Not inlined, so that the answer is written where it is wanted and not copied there.
-#[inline(never)]
 fn part_of(fields: &AnswerFields) -> Option<RecordPart>
     ensures { result ≡ part_in fields.now (flag_of fields.now.transfer_flag) (bytes_in fields.now) }
 {
