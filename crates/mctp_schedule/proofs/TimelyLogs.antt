@@ -1,6 +1,6 @@
 -- Over a timely schedule the log of the link is timely.
-use Rattle.std.proofs.Common.{◌≡◌, ◌≢◌, ℕ, ◌+◌, ◌<◌, ◌≤◌, List, [], ◌∷◌, Option, Some, None, Bool, true, false, refl, sym, ap, ◌∙◌, subst, ⊎_elim, arith, eq-eqb}
-use Rattle.std.specs.Prelude.{ℤ, ◌==◌, find, if◌then◌else◌}
+use Rattle.std.proofs.Common.{◌≡◌, ◌≢◌, ℕ, ◌<◌, ◌≤◌, List, [], ◌∷◌, Option, Some, None, Bool, true, false, refl, sym, ap, ◌∙◌, subst, ⊎_elim, arith, eq-eqb}
+use Rattle.std.specs.Prelude.{◌==◌, find, if◌then◌else◌}
 use Rattle.std.proofs.lemmas.Bool.{cond-true}
 use Rattle.pldm_wire.specs.Headers.{id_at}
 use Rattle.pldm_wire.specs.declared.command.Command.{Command}
@@ -8,6 +8,7 @@ use Rattle.pldm_requester.specs.Calls.{Call, Open, Tick, Receive, Request, Reque
 use Rattle.pldm_requester.specs.Laws.{IdsApart, IsInOrder, moment_of}
 use Rattle.pldm_requester.specs.Numbering.{id_of, message_of}
 use Rattle.mctp_schedule.specs.Laws.{LogIsTimely}
+use Rattle.mctp_schedule.specs.Logs as logs
 use Rattle.mctp_schedule.specs.Logs.{Asked, Happening, Opened, Delivered, Sensed, WentDown, Apart, ComesLate, InOrder, InTime, asked_at, count_of, last_of}
 use Rattle.mctp_schedule.specs.Worlds.{IsTimely, IsTimelyAction, NeverWentBack, Setting, World, asked_by, busy_packet, done, handed, log_opened, reply_packet, requests_of, source_of, time_now, timing_from, timing_of, with_call, world}
 use Rattle.schedule_text.specs.declared.step.RequesterLine.{RequesterLine}
@@ -105,37 +106,17 @@ module _ {S : Type 0} (setting : Setting S) where
   joined_handed w now moment e None j later = joined_later w now moment j later
   joined_handed w now moment e (Some bytes) j later = joined_receive w now moment e bytes j later
 
-  joined_delivered : (w : World) (now moment k : ℕ) → Joined w now → now ≤ moment → ((r : Asked) → asked_at w.log k ≡ Some r → moment < r.opening + setting.keep) → Joined (record { calls = w.calls; log = Delivered moment k ∷ w.log }) moment
-  joined_delivered w now moment k j later soon = record {
-    order = (let x = j.last in omega arith, j.order);
+  -- something happens on the link that opens no request
+  joined_happened : (w : World) (now : ℕ) (h : Happening) → ((k : ℕ) (r : Asked) → asked_at (h ∷ w.log) k ≡ Some r → asked_at w.log k ≡ Some r)
+      → Apart setting.keep (h ∷ w.log) → InTime setting.keep (h ∷ w.log) → Joined w now → now ≤ logs.moment_of h → Joined (record { calls = w.calls; log = h ∷ w.log }) (logs.moment_of h)
+  joined_happened w now h asked apart in_time j later = record {
+    order = (let x = j.last in omega (arith, x, later), j.order);
     last = omega arith;
     calls = j.calls;
-    called = λ e. let x = j.called e in omega arith;
-    matches = λ n r is. let m = j.matches n r is in record { within = m.within; opening = m.opening; id = m.id };
-    apart = j.apart;
-    in_time = (soon, j.in_time);
-  }
-
-  joined_sensed : (w : World) (now moment id : ℕ) (value : ℤ) → Joined w now → now ≤ moment → Joined (record { calls = w.calls; log = Sensed moment id value ∷ w.log }) moment
-  joined_sensed w now moment id value j later = record {
-    order = (let x = j.last in omega arith, j.order);
-    last = omega arith;
-    calls = j.calls;
-    called = λ e. let x = j.called e in omega arith;
-    matches = λ n r is. let m = j.matches n r is in record { within = m.within; opening = m.opening; id = m.id };
-    apart = j.apart;
-    in_time = j.in_time;
-  }
-
-  joined_down : (w : World) (now moment : ℕ) → Joined w now → now ≤ moment → Joined (record { calls = w.calls; log = WentDown moment ∷ w.log }) moment
-  joined_down w now moment j later = record {
-    order = (let x = j.last in omega arith, j.order);
-    last = omega arith;
-    calls = j.calls;
-    called = λ e. let x = j.called e in omega arith;
-    matches = λ n r is. let m = j.matches n r is in record { within = m.within; opening = m.opening; id = m.id };
-    apart = j.apart;
-    in_time = j.in_time;
+    called = λ e. let x = j.called e in omega (arith, x, later);
+    matches = λ n r is. let m = j.matches n r (asked n r is) in record { within = m.within; opening = m.opening; id = m.id };
+    apart = apart;
+    in_time = in_time;
   }
 
   -- an open
@@ -202,10 +183,10 @@ module _ {S : Type 0} (setting : Setting S) where
   joined_step : IdsApart → (w : World) (now moment : ℕ) (action : Action) → Joined w now → now ≤ moment → IsTimelyAction setting w moment action → Joined (done setting w moment action) moment
   joined_step ids w now moment (actions.Open e command) j later timely = joined_open ids w now moment e command j later
   joined_step ids w now moment (actions.Tick e) j later timely = joined_tick w now moment e j later
-  joined_step ids w now moment (actions.Request k) j later timely = joined_delivered w now moment k j later timely
+  joined_step ids w now moment (actions.Request k) j later timely = joined_happened w now (Delivered moment k) (λ n r is. is) j.apart (timely, j.in_time) j later
   joined_step ids w now moment (actions.Reply k packet) j later timely = joined_handed w now moment (source_of (asked_at w.log k)) (reply_packet setting w k packet) j later
-  joined_step ids w now moment (actions.Sense id value) j later timely = joined_sensed w now moment id value j later
-  joined_step ids w now moment actions.Restart j later timely = joined_down w now moment j later
+  joined_step ids w now moment (actions.Sense id value) j later timely = joined_happened w now (Sensed moment id value) (λ n r is. is) j.apart j.in_time j later
+  joined_step ids w now moment actions.Restart j later timely = joined_happened w now (WentDown moment) (λ n r is. is) j.apart j.in_time j later
   joined_step ids w now moment (actions.Busy k) j later timely = joined_handed w now moment (source_of (asked_at w.log k)) (busy_packet setting w k) j later
 
   joined : IdsApart → (steps : List Step) → NeverWentBack steps → IsTimely setting steps → Joined (world setting steps) (time_now steps)

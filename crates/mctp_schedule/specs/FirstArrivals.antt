@@ -1,5 +1,5 @@
 -- When each request first arrived at the device, and in what order.
-use Rattle.std.specs.Prelude.{◌≡◌, ℕ, ◌<◌, List, [], ◌∷◌, ◌++◌, length, slice_get, Bool, false, ◌&&◌, not, ◌==◌, Option, Some, None, is_some, if◌then◌else◌}
+use Rattle.std.specs.Prelude.{◌≡◌, ℕ, ◌<◌, List, [], ◌∷◌, ◌++◌, length, slice_get, Bool, false, ◌&&◌, not, ◌==◌, Option, Some, None, IsSomeAnd, is_some, if◌then◌else◌}
 use Rattle.std.specs.List.{list_any}
 use Rattle.std.specs.Option.{option_or}
 use Rattle.pldm_responder.specs.Events.{Event, is_busy, is_fresh}
@@ -26,11 +26,19 @@ fresh_of keep events moment (Some r) = is_fresh keep events (message_at moment r
 
 -- over a device with states S
 module _ (S : Type 0) where
+  -- request k arrives, where its packet is delivered at this moment
+  abbrev pub arrives_at : ℕ → List Happening → ℕ → ℕ → Bool
+  arrives_at keep past moment k = arrives (asked_at past k) (is_busy keep (told {S = S} past) moment)
+
+  -- or it is owed a busy answer
+  abbrev pub is_owed_busy_at : ℕ → List Happening → ℕ → ℕ → Bool
+  is_owed_busy_at keep past moment k = is_owed_busy (asked_at past k) (is_busy keep (told {S = S} past) moment)
+
   -- what had happened before the first arrival of request k; `None` where it never arrived
   abbrev pub first : ℕ → List Happening → ℕ → Option (List Happening)
   first keep [] k = None
   first keep (Delivered moment j ∷ past) k =
-      earlier (first keep past k) (j == k && arrives (asked_at past k) (is_busy keep (told {S = S} past) moment)) past
+      earlier (first keep past k) (j == k && arrives_at keep past moment k) past
   first keep (_ ∷ past) k = first keep past k
 
   -- request k has arrived
@@ -39,8 +47,7 @@ module _ (S : Type 0) where
 
   -- a delivery of request k at this moment is its first arrival: it has not arrived before, and arrives now
   abbrev pub is_first : ℕ → List Happening → ℕ → ℕ → Bool
-  is_first keep past moment k =
-      not (has_arrived keep past k) && arrives (asked_at past k) (is_busy keep (told {S = S} past) moment)
+  is_first keep past moment k = not (has_arrived keep past k) && arrives_at keep past moment k
 
   -- the requests whose deliveries were fresh at the responder, the oldest first
   abbrev pub order : ℕ → List Happening → List ℕ
@@ -56,11 +63,9 @@ module _ (S : Type 0) where
       if is_first keep past moment k then firsts keep past ++ k ∷ [] else firsts keep past
   firsts keep (_ ∷ past) = firsts keep past
 
--- one first arrival came before another
+-- one first arrival came before another: there are both, and less had happened before the one
 abbrev pub IsSooner : Option (List Happening) → Option (List Happening) → Type 0
-IsSooner (Some p) (Some q) = length p < length q
-IsSooner (Some p) None = ⊥
-IsSooner None q = ⊥
+IsSooner one other = IsSomeAnd one (λ p. IsSomeAnd other (λ q. length p < length q))
 
 -- these numbers are the requests that arrived, in the order of their first arrivals, each once
 pub record IsOrderOfFirsts (S : Type 0) (keep : ℕ) (log : List Happening) (numbers : List ℕ) : Type 0 where

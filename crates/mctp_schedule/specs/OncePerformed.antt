@@ -9,7 +9,7 @@ use Rattle.pldm_responder.specs.Arrivals.{packets_back}
 use Rattle.pldm_responder.specs.declared.outcome.Outcome.{Outcome}
 use Rattle.pldm_responder.specs.declared.outcome.Outcome.TheVariants.{Answered}
 use Rattle.mctp_schedule.specs.Logs.{Asked, Happening, Opened, Delivered, Sensed, asked_at, message_at, told}
-use Rattle.mctp_schedule.specs.FirstArrivals.{arrives, first, is_first, is_owed_busy}
+use Rattle.mctp_schedule.specs.FirstArrivals.{arrives_at, first, is_first, is_owed_busy_at}
 
 -- the bytes of a request's message
 abbrev pub bytes_of : Option Asked → List ℕ
@@ -66,7 +66,7 @@ module _ {S : Type 0} (device : Rules S) (keep : ℕ) (start : S) where
   abbrev pub given : List Happening → ℕ → Option (List ℕ)
   given [] k = None
   given (Delivered moment j ∷ past) k =
-      if j == k && arrives (asked_at past k) (is_busy keep (told {S = S} past) moment)
+      if j == k && arrives_at S keep past moment k
       then Some (answered_to moment past (asked_at past k))
       else given past k
   given (_ ∷ past) k = given past k
@@ -92,5 +92,5 @@ module _ (S : Type 0) where
   abbrev pub was_busy : ℕ → List Happening → ℕ → Bool
   was_busy keep [] k = false
   was_busy keep (Delivered moment j ∷ past) k =
-      (j == k && is_owed_busy (asked_at past k) (is_busy keep (told {S = S} past) moment)) || was_busy keep past k
+      (j == k && is_owed_busy_at S keep past moment k) || was_busy keep past k
   was_busy keep (_ ∷ past) k = was_busy keep past k

@@ -163,8 +163,8 @@ module _ {P S : Type 0} (device : Rules S) where
       (commands_at_step S terms.keep (world (setting_of device terms) past).log step.moment step.action)
       new.responder.platform
 
-  -- a run has taken this step
-  pub record HasTaken
+  -- a run has done this step
+  pub record HasDone
       (performed : P → List Command → P → Type 0) (old : HeldRun P S) (step : Step) (new : HeldRun P S)
       : Type 0 where
     pub goes_on : GoesOn old step new

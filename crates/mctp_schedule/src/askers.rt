@@ -102,8 +102,8 @@ impl Asker {
         let packet = self.packet(opened.number);
         let sent = SentRequest {
             own: opened.number,
-            message: in_place(payload_of(packet)),
-            packet: in_place(packet),
+            message: array_of(payload_of(packet)),
+            packet: array_of(packet),
         };
         // At a refused growth the requester has one request more than `numbers`. Nobody sees it: the run ends.
         self.numbers.push(number)?;
@@ -210,8 +210,8 @@ fn payload_of(packet: &[u8]) -> &[u8]
     &packet[HEADER..]
 }
 
-/// Bytes of which there are at most `MOST`.
-fn in_place<const MOST: usize>(bytes: &[u8]) -> ArrayVec<u8, MOST>
+/// An array of these bytes, of which there are at most `MOST`.
+fn array_of<const MOST: usize>(bytes: &[u8]) -> ArrayVec<u8, MOST>
     requires { length bytes.now ≤ MOST }
     ensures { result.items ≡ bytes.now }
 {

@@ -6,7 +6,7 @@ ghost use Rattle.pldm_responder.specs.Performing.{rules_of};
 ghost use Rattle.mctp_schedule.specs.Reports.{IsReport};
 ghost use Rattle.mctp_schedule.specs.RunFaults.{refusal};
 ghost use Rattle.mctp_schedule.specs.HeldRuns.{held_by};
-ghost use Rattle.mctp_schedule.specs.Running.{CanGoOn, HasTaken, answer_action, at};
+ghost use Rattle.mctp_schedule.specs.Running.{CanGoOn, HasDone, answer_action, at};
 ghost use Rattle.mctp_schedule.specs.Runs.{newest_first, setting_of_run};
 ghost use Rattle.schedule_text.specs.declared.step.Action.TheVariants as actions;
 
@@ -141,7 +141,7 @@ impl<P: Platform> Ends<P> {
     /// Takes a step.
     fn take(&mut self, step: &Step) -> Result<(), Memory>
         requires { CanGoOn (rules_of P.answer P.after P.sensed) (held_by self.old) step.now }
-        ensures { OnOk result (HasTaken (rules_of P.answer P.after P.sensed) P.performed (held_by self.old)
+        ensures { OnOk result (HasDone (rules_of P.answer P.after P.sensed) P.performed (held_by self.old)
             step.now (held_by self.new)) }
     {
         let now = step.moment;
@@ -160,7 +160,7 @@ impl<P: Platform> Ends<P> {
     fn open(&mut self, now: Moment, eid: Eid, command: &Command) -> Result<(), Memory>
         requires { CanGoOn (rules_of P.answer P.after P.sensed) (held_by self.old)
             (at now (actions.Open eid command.now)) }
-        ensures { OnOk result (HasTaken (rules_of P.answer P.after P.sensed) P.performed (held_by self.old)
+        ensures { OnOk result (HasDone (rules_of P.answer P.after P.sensed) P.performed (held_by self.old)
             (at now (actions.Open eid command.now)) (held_by self.new)) }
     {
         pldm_requester::laws::looks_back();
@@ -181,7 +181,7 @@ impl<P: Platform> Ends<P> {
     /// A requester sends again and gives up what is due.
     fn tick(&mut self, now: Moment, eid: Eid) -> Result<(), Memory>
         requires { CanGoOn (rules_of P.answer P.after P.sensed) (held_by self.old) (at now (actions.Tick eid)) }
-        ensures { OnOk result (HasTaken (rules_of P.answer P.after P.sensed) P.performed (held_by self.old)
+        ensures { OnOk result (HasDone (rules_of P.answer P.after P.sensed) P.performed (held_by self.old)
             (at now (actions.Tick eid)) (held_by self.new)) }
     {
         pldm_requester::laws::looks_back();
@@ -196,7 +196,7 @@ impl<P: Platform> Ends<P> {
     /// The packet of a request comes to the device.
     fn deliver(&mut self, now: Moment, number: u64) -> Result<(), Memory>
         requires { CanGoOn (rules_of P.answer P.after P.sensed) (held_by self.old) (at now (actions.Request number)) }
-        ensures { OnOk result (HasTaken (rules_of P.answer P.after P.sensed) P.performed (held_by self.old)
+        ensures { OnOk result (HasDone (rules_of P.answer P.after P.sensed) P.performed (held_by self.old)
             (at now (actions.Request number)) (held_by self.new)) }
     {
         pldm_responder::laws::looks_back::<P>();
@@ -225,7 +225,7 @@ impl<P: Platform> Ends<P> {
         requires first { busy ≡ true → packet ≡ 0 }
         requires steps { CanGoOn (rules_of P.answer P.after P.sensed) (held_by self.old)
             (at now (answer_action busy number packet)) }
-        ensures { OnOk result (HasTaken (rules_of P.answer P.after P.sensed) P.performed (held_by self.old)
+        ensures { OnOk result (HasDone (rules_of P.answer P.after P.sensed) P.performed (held_by self.old)
             (at now (answer_action busy number packet)) (held_by self.new)) }
     {
         pldm_requester::laws::looks_back();
@@ -256,7 +256,7 @@ impl<P: Platform> Ends<P> {
     fn sense(&mut self, now: Moment, sensor: u16, value: i64) -> Result<(), Memory>
         requires { CanGoOn (rules_of P.answer P.after P.sensed) (held_by self.old)
             (at now (actions.Sense sensor value)) }
-        ensures { OnOk result (HasTaken (rules_of P.answer P.after P.sensed) P.performed (held_by self.old)
+        ensures { OnOk result (HasDone (rules_of P.answer P.after P.sensed) P.performed (held_by self.old)
             (at now (actions.Sense sensor value)) (held_by self.new)) }
     {
         pldm_responder::laws::looks_back::<P>();
@@ -268,7 +268,7 @@ impl<P: Platform> Ends<P> {
     /// The device's end restarts.
     fn restart(&mut self, now: Moment) -> Result<(), Memory>
         requires { CanGoOn (rules_of P.answer P.after P.sensed) (held_by self.old) (at now actions.Restart) }
-        ensures { OnOk result (HasTaken (rules_of P.answer P.after P.sensed) P.performed (held_by self.old)
+        ensures { OnOk result (HasDone (rules_of P.answer P.after P.sensed) P.performed (held_by self.old)
             (at now actions.Restart) (held_by self.new)) }
     {
         pldm_responder::laws::looks_back::<P>();

@@ -26,8 +26,8 @@ payload_of-requires c =
     let same = ap (λ (bytes : List ℕ). length bytes) bytes in
     omega (arith, same, fits)
 
-pub in_place-requires : goal.in_place-requires
-in_place-requires c =
+pub array_of-requires : goal.array_of-requires
+array_of-requires c =
     let held = held_of c.self.inside.requester in
     let is = accepted_as (is_tag_in_use held) (is_id_in_use held c.args.now) held.count c.in-Ok.opened c.in-Ok.ensures.answer in
     let fits = c.messages_fit.ensures.command (held.count % 32) c.args.command.now c.in-Ok.ensures.readable in
@@ -36,8 +36,8 @@ in_place-requires c =
     let short = c.messages_fit.ensures.short (held.count % 32) c.args.command.now c.in-Ok.ensures.readable in
     omega (arith, same, short)
 
-pub in_place-requires-2 : goal.in_place-requires-2
-in_place-requires-2 c =
+pub array_of-requires-2 : goal.array_of-requires-2
+array_of-requires-2 c =
     let held = held_of c.self.inside.requester in
     let is = accepted_as (is_tag_in_use held) (is_id_in_use held c.args.now) held.count c.in-Ok.opened c.in-Ok.ensures.answer in
     let fits = c.messages_fit.ensures.command (held.count % 32) c.args.command.now c.in-Ok.ensures.readable in
@@ -53,11 +53,11 @@ returns-clause-sent c =
     let number = ap (λ (o : Opened). o.number) is in
     let fits = c.messages_fit.ensures.command (held.count % 32) c.args.command.now c.in-Ok.ensures.readable in
     let bytes = sent_packet (held_of c.open.new.self) held c.args.now c.in-Ok.opened.number c.args.command.now c.packet-packet.result.now c.in-Ok.ensures.held number fits.0 fits.1 c.packet-packet.ensures in
-    subst (λ (s : Side). IsSent (held_of s.station) c.args.now c.args.command.now (record { own = c.in-Ok.opened.number; message = c.in_place.result; packet = c.in_place-2.result })) c.self.view_is
+    subst (λ (s : Side). IsSent (held_of s.station) c.args.now c.args.command.now (record { own = c.in-Ok.opened.number; message = c.array_of.result; packet = c.array_of-2.result })) c.self.view_is
     (record {
       opened = c.in-Ok.ensures.answer ∙ ap Ok is;
       own = number;
-      message = c.in_place.ensures ∙ c.payload_of.ensures ∙ ap (drop 4) bytes;
-      packet = c.in_place-2.ensures ∙ bytes;
+      message = c.array_of.ensures ∙ c.payload_of.ensures ∙ ap (drop 4) bytes;
+      packet = c.array_of-2.ensures ∙ bytes;
       readable = c.in-Ok.ensures.readable;
     })

@@ -3,7 +3,7 @@ use Rattle.std.proofs.Common.{sym, subst}
 use Rattle.std.specs.Prelude.{OnOk}
 use Rattle.pldm_responder.specs.Performing.{rules_of}
 use Rattle.mctp_schedule.specs.HeldRuns.{held_by}
-use Rattle.mctp_schedule.specs.Running.{CanGoOn, HasTaken, at}
+use Rattle.mctp_schedule.specs.Running.{CanGoOn, HasDone, at}
 use Rattle.mctp_schedule.proofs.both_ends.Ends.take.Goals as goal
 
 pub open-requires : goal.open-requires
@@ -16,4 +16,4 @@ tick-requires g c =
 
 pub returns-in-Open : goal.returns-in-Open
 returns-in-Open g c =
-    subst (λ a. OnOk c.open.result (HasTaken (rules_of g.P.Platform.answer g.P.Platform.after g.P.Platform.sensed) g.P.Platform.performed (held_by c.args.self.now) (at c.args.step.now.moment a) (held_by c.open.new.self))) (sym c.in-Open.is) c.open.ensures
+    subst (λ a. OnOk c.open.result (HasDone (rules_of g.P.Platform.answer g.P.Platform.after g.P.Platform.sensed) g.P.Platform.performed (held_by c.args.self.now) (at c.args.step.now.moment a) (held_by c.open.new.self))) (sym c.in-Open.is) c.open.ensures
