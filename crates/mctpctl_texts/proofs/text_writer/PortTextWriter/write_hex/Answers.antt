@@ -4,7 +4,7 @@ use Rattle.std.specs.Io.KnownBytes.{Appends}
 use Rattle.std.proofs.KnownBytes.{Appends-nil, Appends-trans}
 use Rattle.mctpctl_input.proofs.WrittenFronts.{moves_front}
 use Rattle.mctpctl_texts.proofs.WrittenParts.{hex_after, hex_of_nothing}
-use Rattle.mctpctl_texts.proofs.written_text.write_hex.Goals as goal
+use Rattle.mctpctl_texts.proofs.text_writer.PortTextWriter.write_hex.Goals as goal
 
 pub loop-rest-init : goal.loop-rest-init
 loop-rest-init g c = ([], refl, subst (Appends _ _) hex_of_nothing (Appends-nil _), refl, refl)
@@ -17,7 +17,7 @@ loop-rest-preserved g c =
       done ++ take n rest,
       moves_front _ done rest n split,
       subst (Appends _ _) (hex_after done (take n rest))
-          (Appends-trans _ _ _ _ _ written (subst (Appends _ _) c.in-Ok.ensures.written c.in_ok-write_bytes.ensures.text)),
-      c.in_ok-write_bytes.ensures.ok ∙ works,
+          (Appends-trans _ _ _ _ _ written (subst (Appends _ _) c.in-Ok.ensures.written c.in_ok-write_bytes.ensures.written.text)),
+      c.in_ok-write_bytes.ensures.written.ok ∙ works,
       omega (arith, length-append c.encode_to_slice.new.output (drop (2 * n) c.loop-rest.room), length-drop (2 * n) c.loop-rest.room, length-take (2 * n) c.loop-rest.room, c.encode_to_slice.auto.output, long, c.min-count.ensures),
     )
