@@ -5,18 +5,14 @@ use Rattle.pldm_wire.specs.declared.assigned.TheConstants.{BASE, PLATFORM, GET_P
 use Rattle.pldm_wire.specs.declared.assigned.TheConstants.{GET_SENSOR_READING, GET_STATE_SENSOR_READINGS}
 use Rattle.pldm_wire.specs.declared.assigned.TheConstants.{SET_NUMERIC_EFFECTER_VALUE, GET_NUMERIC_EFFECTER_VALUE}
 use Rattle.pldm_wire.specs.declared.assigned.TheConstants.{SET_STATE_EFFECTER_STATES, GET_STATE_EFFECTER_STATES, GET_PDR}
+use Rattle.mctpctl_decode.specs.SharedCodes.{shared_code_name}
 
 -- the generic codes (DSP0240, "Generic PLDM completion codes")
 abbrev pub general_code_name : ℕ → Option (List ℕ)
 general_code_name code =
-    if code == 0 then Some (codes "SUCCESS")
-    else if code == 1 then Some (codes "ERROR")
-    else if code == 2 then Some (codes "ERROR_INVALID_DATA")
-    else if code == 3 then Some (codes "ERROR_INVALID_LENGTH")
-    else if code == 4 then Some (codes "ERROR_NOT_READY")
-    else if code == 5 then Some (codes "ERROR_UNSUPPORTED_PLDM_CMD")
+    if code == 5 then Some (codes "ERROR_UNSUPPORTED_PLDM_CMD")
     else if code == 32 then Some (codes "ERROR_INVALID_PLDM_TYPE")
-    else None
+    else shared_code_name code
 
 -- the codes of a command's own begin at 128
 

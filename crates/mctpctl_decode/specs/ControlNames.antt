@@ -11,6 +11,7 @@ use Rattle.mctp_control.specs.declared.assigned.TheConstants.{GET_VERSION_SUPPOR
 use Rattle.mctp_control.specs.declared.command.EidOperation.{EidOperation}
 use Rattle.mctp_control.specs.declared.command.EidOperation.TheVariants.{Set, Force, Reset, SetDiscovered}
 use Rattle.mctpctl_texts.specs.ShownLines.{byte_text}
+use Rattle.mctpctl_decode.specs.SharedCodes.{shared_code_name}
 
 -- the command of a number, of those that a simple endpoint has (DSP0236, "MCTP control command summary")
 abbrev pub command_name : ℕ → Option (List ℕ)
@@ -30,13 +31,7 @@ command_word None number = codes "control/" ++ byte_text number
 -- the generic codes (DSP0236, "MCTP control message completion codes")
 abbrev pub general_code_name : ℕ → Option (List ℕ)
 general_code_name code =
-    if code == 0 then Some (codes "SUCCESS")
-    else if code == 1 then Some (codes "ERROR")
-    else if code == 2 then Some (codes "ERROR_INVALID_DATA")
-    else if code == 3 then Some (codes "ERROR_INVALID_LENGTH")
-    else if code == 4 then Some (codes "ERROR_NOT_READY")
-    else if code == 5 then Some (codes "ERROR_UNSUPPORTED_CMD")
-    else None
+    if code == 5 then Some (codes "ERROR_UNSUPPORTED_CMD") else shared_code_name code
 
 -- the codes of a command's own begin at 128; of the five commands, Get MCTP Version Support has one
 abbrev pub version_code_name : ℕ → Option (List ℕ)

@@ -6,3 +6,4 @@ pub mod ControlTexts
 pub mod DecodedLines
 pub mod FieldTexts
 pub mod StateNames
+pub mod SharedCodes

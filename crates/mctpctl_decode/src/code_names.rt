@@ -3,6 +3,7 @@
 ghost use Rattle.std.specs.Prelude.{◌≡◌, option_map};
 ghost use Rattle.mctpctl_decode.specs.CodeNames.{base_code_name, code_name, commands_code_name, effecter_code_name, general_code_name, own_code_name, platform_code_name, record_code_name, sensor_code_name, state_code_name, states_code_name, version_code_name};
 
+use crate::shared_codes::shared_code_name;
 use pldm_wire::{
     BASE, GET_NUMERIC_EFFECTER_VALUE, GET_PDR, GET_PLDM_COMMANDS, GET_PLDM_VERSION,
     GET_SENSOR_READING, GET_STATE_EFFECTER_STATES, GET_STATE_SENSOR_READINGS, Kind, PLATFORM,
@@ -28,14 +29,9 @@ fn general_code_name(code: u8) -> Option<&'static str>
     ensures { option_map (λ name. name.now) result ≡ general_code_name code }
 {
     match code {
-        0 => Some("SUCCESS"),
-        1 => Some("ERROR"),
-        2 => Some("ERROR_INVALID_DATA"),
-        3 => Some("ERROR_INVALID_LENGTH"),
-        4 => Some("ERROR_NOT_READY"),
         5 => Some("ERROR_UNSUPPORTED_PLDM_CMD"),
         0x20 => Some("ERROR_INVALID_PLDM_TYPE"),
-        _ => None,
+        _ => shared_code_name(code),
     }
 }
 

@@ -9,7 +9,7 @@ use crate::control_names::command_name;
 use crate::control_text::{push_control_answer, push_control_command, push_control_refused};
 use mctp_control::{Answer, RequestRef, ResponseRef, read_command};
 use mctp_packet::Memory;
-use mctpctl_texts::{push_data, push_hex, push_number, push_text};
+use mctpctl_texts::{TextWriter, write_data, write_number, write_text};
 
 /// Adds the line of a control request, two spaces in: the fields of its command by name. Where the command cannot be
 /// read, it has the data in hex and the name of the completion code that refuses it.
@@ -18,7 +18,7 @@ pub fn push_control_request(out: &mut Vec<u8>, request: &RequestRef<'_>) -> Resu
 {
     push_subject(out, "  request ", request.id(), request.command())?;
     push_asked(out, request)?;
-    push_text(out, "\n")
+    write_text(out, "\n")
 }
 
 /// Adds the line of a control response, two spaces in: the fields of the answer that it is.
@@ -31,7 +31,7 @@ pub fn push_control_response(
 {
     push_subject(out, "  response ", response.id(), response.command())?;
     push_control_answer(out, response.command(), answer)?;
-    push_text(out, "\n")
+    write_text(out, "\n")
 }
 
 /// Adds the fields of the command that a request carries, or its data and why it is refused.
@@ -43,8 +43,8 @@ fn push_asked(out: &mut Vec<u8>, request: &RequestRef<'_>) -> Result<(), Memory>
         Ok(command) => return push_control_command(out, &command),
         Err(code) => code.get(),
     };
-    push_text(out, " ")?;
-    push_data(out, request.data())?;
+    write_text(out, " ")?;
+    write_data(out, request.data())?;
     push_control_refused(out, request.command(), code)
 }
 
@@ -52,9 +52,9 @@ fn push_asked(out: &mut Vec<u8>, request: &RequestRef<'_>) -> Result<(), Memory>
 fn push_subject(out: &mut Vec<u8>, what: &str, id: u8, number: u8) -> Result<(), Memory>
     ensures { OnOk result (out.new.items ≡ out.old.items ++ subject_text what.now id number) }
 {
-    push_text(out, what)?;
-    push_number(out, id.into())?;
-    push_text(out, " ")?;
+    write_text(out, what)?;
+    write_number(out, id.into())?;
+    write_text(out, " ")?;
     push_name(out, command_name(number), number)
 }
 
@@ -64,10 +64,10 @@ fn push_name(out: &mut Vec<u8>, name: Option<&str>, number: u8) -> Result<(), Me
         ≡ out.old.items ++ command_word (option_map (λ text. text.now) name.entry) number) }
 {
     match name {
-        Some(text) => push_text(out, text),
+        Some(text) => write_text(out, text),
         None => {
-            push_text(out, "control/")?;
-            push_hex(out, &[number])
+            write_text(out, "control/")?;
+            out.write_hex(&[number])
         }
     }
 }

@@ -3,6 +3,7 @@
 ghost use Rattle.std.specs.Prelude.{◌≡◌, option_map};
 ghost use Rattle.mctpctl_decode.specs.ControlNames.{assignment_name, code_name, command_name, eid_kind_name, endpoint_name, general_code_name, operation_name, own_code_name, version_code_name};
 
+use crate::shared_codes::shared_code_name;
 use mctp_control::{
     Assignment, EidKind, EidOperation, EndpointKind, GET_ENDPOINT_ID, GET_ENDPOINT_UUID,
     GET_MESSAGE_TYPE_SUPPORT, GET_VERSION_SUPPORT, SET_ENDPOINT_ID,
@@ -40,13 +41,8 @@ fn general_code_name(code: u8) -> Option<&'static str>
     ensures { option_map (λ name. name.now) result ≡ general_code_name code }
 {
     match code {
-        0 => Some("SUCCESS"),
-        1 => Some("ERROR"),
-        2 => Some("ERROR_INVALID_DATA"),
-        3 => Some("ERROR_INVALID_LENGTH"),
-        4 => Some("ERROR_NOT_READY"),
         5 => Some("ERROR_UNSUPPORTED_CMD"),
-        _ => None,
+        _ => shared_code_name(code),
     }
 }
 

@@ -10,7 +10,7 @@ use crate::control_names::{
 use crate::field_text::{push_code, push_field, push_hex_field, push_word};
 use mctp_control::{Answer, Assignment, Command, EidKind, EndpointKind};
 use mctp_packet::Memory;
-use mctpctl_texts::{push_number, push_text};
+use mctpctl_texts::{write_number, write_text};
 
 /// Adds the fields of a command, as DSP0236 names them.
 pub fn push_control_command(out: &mut Vec<u8>, command: &Command) -> Result<(), Memory>
@@ -92,8 +92,8 @@ fn push_types(out: &mut Vec<u8>, types: &[u8]) -> Result<(), Memory>
     ensures { OnOk result (out.new.items ≡ out.old.items ++ flat_map type_text types.now) }
 {
     for message_type in types {
-        push_text(out, " ")?;
-        push_number(out, (*message_type).into())?;
+        write_text(out, " ")?;
+        write_number(out, (*message_type).into())?;
     }
     Ok(())
 }

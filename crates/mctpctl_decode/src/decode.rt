@@ -1,17 +1,15 @@
 //! The engine of `mctpctl show --decode`.
 
-ghost use Rattle.std.specs.Prelude.{◌≡◌, ◌≢◌, ◌↔◌, ◌++◌, Err, IfSome, IsErrOf, OnOk, true, false};
+ghost use Rattle.std.specs.Prelude.{◌≡◌, ◌++◌, OnOk, false};
 ghost use Rattle.mctpctl_decode.specs.DecodedLines.{decoded_line};
 ghost use Rattle.mctpctl_engines.specs.ShowText.{seen_run, show_text};
-ghost use Rattle.mctpctl_input.specs.LineRuns.{Writes, no_memory};
-ghost use Rattle.mctpctl_input.specs.Pieces.{WroteOfFront, WroteOfRead};
-ghost use Rattle.mctpctl_input.specs.Ports.{inner_of, has_failed};
+ghost use Rattle.mctpctl_input.specs.Ports.{has_failed};
+ghost use Rattle.mctpctl_input.specs.WholeRuns.{TellsFailed, WritesAll, WritesFront, WritesRead};
 
 use crate::message_line::push_decoded_line;
-use mctp_assembly::laws;
 use mctp_packet::Memory;
-use mctpctl_engines::{LineRun, MessageForm, Observer};
-use mctpctl_input::{EngineFault, Port, run_to_end};
+use mctpctl_engines::{MessageForm, show_as};
+use mctpctl_input::{EngineFault, Port};
 use std::alloc::Global;
 use std::io::{Read, Write};
 
@@ -39,19 +37,13 @@ pub fn decode_all<R: Read, W: Write>(
 ) -> Result<(), EngineFault>
     requires reads { has_failed reader.old ≡ false }
     requires writes { has_failed writer.old ≡ false }
-    ensures text { IfSome (R.remaining (inner_of reader.old))
-        (λ all. Writes (show_text decoded_line all) (W.contents (inner_of writer.old))
-        (W.contents (inner_of writer.new)) result) }
-    ensures at_read { IsErrOf result EngineFault.Read
-        → WroteOfRead (seen_run decoded_line) (R.remaining (inner_of reader.old)) (R.remaining (inner_of reader.new))
-        (W.contents (inner_of writer.old)) (W.contents (inner_of writer.new)) }
-    ensures at_memory { IsErrOf result no_memory
-        → WroteOfFront (seen_run decoded_line) (R.remaining (inner_of reader.old))
-        (W.contents (inner_of writer.old)) (W.contents (inner_of writer.new)) }
-    ensures read { IsErrOf result EngineFault.Read ↔ (has_failed reader.new ≡ true) }
-    ensures write { IsErrOf result EngineFault.Write ↔ (has_failed writer.new ≡ true) }
+    ensures text { WritesAll R.remaining W.contents (show_text decoded_line) reader.old writer.old writer.new result }
+    ensures at_read { WritesRead R.remaining W.contents (seen_run decoded_line) reader.old reader.new writer.old
+        writer.new result }
+    ensures at_memory { WritesFront R.remaining W.contents (seen_run decoded_line) reader.old writer.old writer.new
+        result }
+    ensures read { TellsFailed EngineFault.Read result reader.new }
+    ensures write { TellsFailed EngineFault.Write result writer.new }
 {
-    laws::looks_back();
-    let mut run = LineRun::new(alloc, Observer::new(alloc, ByName));
-    run_to_end(alloc, &mut run, reader, writer)
+    show_as(alloc, ByName, reader, writer)
 }

@@ -3,9 +3,8 @@
 ghost use Rattle.std.specs.Prelude.{◌≡◌, ◌≤◌, ◌*◌, ◌++◌, OnOk, length, option_map};
 ghost use Rattle.mctpctl_decode.specs.FieldTexts.{bit_number, bits_from, byte_bits, code_word, field, hex_field, named, signed_field, word};
 
-use itoa::Buffer;
 use mctp_packet::Memory;
-use mctpctl_texts::{push_hex, push_number, push_text};
+use mctpctl_texts::{TextWriter, write_number, write_signed, write_text};
 use pldm_wire::COMMANDS_BYTES;
 
 /// The most bytes of which the bits are named: as many as the commands of a PLDM type take.
@@ -15,8 +14,8 @@ const MAX_BIT_BYTES: usize = COMMANDS_BYTES;
 pub fn push_word(out: &mut Vec<u8>, text: &str) -> Result<(), Memory>
     ensures { OnOk result (out.new.items ≡ out.old.items ++ word text.now) }
 {
-    push_text(out, " ")?;
-    push_text(out, text)
+    write_text(out, " ")?;
+    write_text(out, text)
 }
 
 /// Adds a number in decimal after its name.
@@ -24,8 +23,8 @@ pub fn push_field(out: &mut Vec<u8>, name: &str, number: u64) -> Result<(), Memo
     ensures { OnOk result (out.new.items ≡ out.old.items ++ field name.now number) }
 {
     push_word(out, name)?;
-    push_text(out, " ")?;
-    push_number(out, number)
+    write_text(out, " ")?;
+    write_number(out, number)
 }
 
 /// Adds a number with a sign after its name.
@@ -33,8 +32,8 @@ pub fn push_signed_field(out: &mut Vec<u8>, name: &str, number: i64) -> Result<(
     ensures { OnOk result (out.new.items ≡ out.old.items ++ signed_field name.now number) }
 {
     push_word(out, name)?;
-    let mut digits = Buffer::new();
-    push_word(out, digits.format(number))
+    write_text(out, " ")?;
+    write_signed(out, number)
 }
 
 /// Adds bytes in lower-case hex after their name.
@@ -42,8 +41,8 @@ pub fn push_hex_field(out: &mut Vec<u8>, name: &str, bytes: &[u8]) -> Result<(),
     ensures { OnOk result (out.new.items ≡ out.old.items ++ hex_field name.now bytes.now) }
 {
     push_word(out, name)?;
-    push_text(out, " ")?;
-    push_hex(out, bytes)
+    write_text(out, " ")?;
+    out.write_hex(bytes)
 }
 
 /// Adds a state by its name, or by its number where it has none.
@@ -53,8 +52,8 @@ pub fn push_named(out: &mut Vec<u8>, name: Option<&str>, number: u8) -> Result<(
     match name {
         Some(text) => push_word(out, text),
         None => {
-            push_text(out, " ")?;
-            push_number(out, number.into())
+            write_text(out, " ")?;
+            write_number(out, number.into())
         }
     }
 }
@@ -66,8 +65,8 @@ pub fn push_code(out: &mut Vec<u8>, name: Option<&str>, code: u8) -> Result<(), 
     match name {
         Some(text) => push_word(out, text),
         None => {
-            push_text(out, " ")?;
-            push_hex(out, &[code])
+            write_text(out, " ")?;
+            out.write_hex(&[code])
         }
     }
 }
@@ -108,8 +107,8 @@ fn push_bit(out: &mut Vec<u8>, number: u64, set: bool) -> Result<(), Memory>
     ensures { OnOk result (out.new.items ≡ out.old.items ++ bit_number number set) }
 {
     if set {
-        push_text(out, " ")?;
-        push_number(out, number)?;
+        write_text(out, " ")?;
+        write_number(out, number)?;
     }
     Ok(())
 }

@@ -11,6 +11,7 @@ mod decode;
 mod field_text;
 mod message_line;
 mod own_answer;
+mod shared_codes;
 mod state_names;
 
 pub use decode::{ByName, decode_all};

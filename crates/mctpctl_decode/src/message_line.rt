@@ -15,7 +15,9 @@ use crate::field_text::{push_code, push_word};
 use crate::own_answer::read_own_answer;
 use mctp_packet::Memory;
 use mctpctl_texts as texts;
-use mctpctl_texts::{is_shown_as_response, push_data, push_message_line, push_number, push_text};
+use mctpctl_texts::{
+    is_shown_as_response, write_data, write_message_line, write_number, write_text,
+};
 use pldm_wire::{Kind, RequestRef, read_command, read_request, read_response};
 
 /// Adds the line of a whole message, two spaces in. A control message (DSP0236) has the fields of its command or its
@@ -53,11 +55,11 @@ fn push_request(out: &mut Vec<u8>, message: &[u8]) -> Result<(), Memory>
     ensures { OnOk result (out.new.items ≡ out.old.items ++ request_line message.now (request_of message.now)) }
 {
     let Ok(request) = read_request(message) else {
-        return push_message_line(out, message);
+        return write_message_line(out, message);
     };
     push_subject(out, "  request ", request.id(), request.kind())?;
     push_asked(out, &request)?;
-    push_text(out, "\n")
+    write_text(out, "\n")
 }
 
 /// Adds the fields of the command that a request carries, or its data and why it is refused.
@@ -69,8 +71,8 @@ fn push_asked(out: &mut Vec<u8>, request: &RequestRef<'_>) -> Result<(), Memory>
         Ok(command) => return push_command(out, &command),
         Err(code) => code.get(),
     };
-    push_text(out, " ")?;
-    push_data(out, request.data())?;
+    write_text(out, " ")?;
+    write_data(out, request.data())?;
     push_word(out, "refused")?;
     push_code(out, code_name(request.kind(), code), code)
 }
@@ -79,22 +81,22 @@ fn push_response(out: &mut Vec<u8>, message: &[u8]) -> Result<(), Memory>
     ensures { OnOk result (out.new.items ≡ out.old.items ++ response_line message.now (response_of message.now)) }
 {
     let Ok(response) = read_response(message) else {
-        return push_message_line(out, message);
+        return write_message_line(out, message);
     };
     let Ok(answer) = read_own_answer(&response) else {
-        return push_message_line(out, message);
+        return write_message_line(out, message);
     };
     push_subject(out, "  response ", response.id(), response.kind())?;
     push_answer(out, response.kind(), &answer)?;
-    push_text(out, "\n")
+    write_text(out, "\n")
 }
 
 /// Adds what a message is, its instance ID, and its command.
 fn push_subject(out: &mut Vec<u8>, what: &str, id: u8, kind: Kind) -> Result<(), Memory>
     ensures { OnOk result (out.new.items ≡ out.old.items ++ subject_text what.now id kind) }
 {
-    push_text(out, what)?;
-    push_number(out, id.into())?;
-    push_text(out, " ")?;
-    texts::push_command(out, kind)
+    write_text(out, what)?;
+    write_number(out, id.into())?;
+    write_text(out, " ")?;
+    texts::write_command(out, kind)
 }

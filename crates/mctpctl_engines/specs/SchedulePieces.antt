@@ -1,11 +1,11 @@
 -- The run of `run` in pieces: all input is kept, and nothing is written before its end.
 use Rattle.std.specs.Prelude.{◌≡◌, ◌≢◌, ◌⊎◌, ℕ, nat_lt, Bool, true, false, if◌then◌else◌}
-use Rattle.std.specs.Prelude.{List, [], ◌++◌, length, Option, None, Some, Result, Ok, Err, refl, string_bytes}
+use Rattle.std.specs.Prelude.{List, [], ◌++◌, length, Option, None, Some, Result, Ok, Err, refl}
 use Rattle.line_words.specs.TextLines.{lines_of}
 use Rattle.mctpctl_engines.specs.AnswerText.{described_run, divided_run, run_of}
 use Rattle.mctpctl_input.specs.LineRuns.{Written, no_memory, stops_at}
 use Rattle.mctpctl_input.specs.Pieces.{Gives}
-use Rattle.mctpctl_texts.specs.ReportTexts.{report_text}
+use Rattle.mctpctl_texts.specs.ReportTexts.{device_text, report_text}
 use Rattle.mctpctl_engines.specs.RunText.{scheduled_run}
 use Rattle.mctpctl_input.specs.TextLines.{capture_lines, description_of}
 use Rattle.mctpctl_input.specs.declared.faults.EngineFault.{EngineFault}
@@ -29,7 +29,7 @@ TellsText bytes written (Err fault) = (fault ≡ no_memory) ⊎ ((fault ≢ no_m
 abbrev pub text_of_ran : Ran → List ℕ
 text_of_ran ran =
     report_text ran.schedule.steps ran.report.entries.items ran.report.requests.items ran.report.order.items
-    (string_bytes ran.device) ran.report.timely
+    (device_text ran.report.device) ran.report.timely
 
 -- a run whose input is cut off writes nothing
 

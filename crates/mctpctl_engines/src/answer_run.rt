@@ -1,19 +1,19 @@
 //! The engine of `mctpctl answer`, over an input that comes in pieces.
 
-ghost use Rattle.std.specs.Prelude.{◌≡◌, ◌≢◌, ◌≤◌, ◌<◌, ◌+◌, ◌++◌, ◌∷◌, ◌↔◌, [], Ok, Result, Err, IfOk, OnOk, IfSome, IsErrOf, length, None, true, false};
+ghost use Rattle.std.specs.Prelude.{◌≡◌, ◌≢◌, ◌≤◌, ◌+◌, ◌++◌, ◌∷◌, [], Err, IfOk, OnOk, IfSome, length, None, false};
 ghost use Rattle.line_words.specs.TextLines.{HasNoFeed};
-ghost use Rattle.mctpctl_engines.specs.DescribedPieces.{description_gives, described_gives, described_count, Begins, Describes};
-ghost use Rattle.mctpctl_engines.specs.AnswerPieces.{past_gives, past_count, nothing_where_cut};
+ghost use Rattle.mctpctl_engines.specs.DescribedPieces.{Begins, Describes};
+ghost use Rattle.mctpctl_engines.specs.AnswerPieces.{answer_count, answer_gives, nothing_where_cut, past_gives, undivided_gives};
 ghost use Rattle.mctpctl_engines.specs.LongLines.{held_refuses};
-ghost use Rattle.mctpctl_engines.specs.HeldRuns.{held_step, held_run};
+ghost use Rattle.mctpctl_engines.specs.HeldRuns.{held_step};
 ghost use Rattle.mctpctl_engines.specs.LinePieces.{AddsLine};
-ghost use Rattle.mctpctl_input.specs.Pieces.{Takes, Finishes, FinishesTo, WroteOfFront, WroteOfRead};
+ghost use Rattle.mctpctl_input.specs.Pieces.{Takes, Finishes, FinishesTo};
 ghost use Rattle.mctpctl_input.specs.Ports.{inner_of, has_failed};
 ghost use Rattle.pldm_responder.specs.Stations.{held_of};
 ghost use Rattle.pldm_responder.specs.Held.{Held};
 ghost use Rattle.pldm_device.specs.Devices.{Device};
 ghost use Rattle.mctpctl_engines.specs.AnswerText.{answer_text, called_run, run_of};
-ghost use Rattle.mctpctl_input.specs.LineRuns.{Writes, no_memory};
+ghost use Rattle.mctpctl_input.specs.WholeRuns.{TellsFailed, WritesAll, WritesFront, WritesRead};
 
 use crate::described::read_description;
 use crate::line_run::{LineRoom, LineRun, LineTask};
@@ -108,9 +108,8 @@ impl AnswerRun {
         line: &[u8],
     ) -> Result<Option<LineRun<Responder<SimDevice>>>, EngineFault>
         requires { HasNoFeed line.now }
-        ensures meets { Describes past_gives
-            (description_gives held_run self.old.text.items self.old.kept.items) (line.now ++ 10 ∷ [])
-            (description_gives held_run self.new.text.items self.new.kept.items) result }
+        ensures meets { Describes past_gives (undivided_gives self.old) (line.now ++ 10 ∷ [])
+            (undivided_gives self.new) result }
         ensures lines { self.new.lines ≡ self.old.lines }
         ensures ended { IfOk result (λ begun. IfSome begun (λ run. run.ended ≡ 0)) }
         ensures read { result ≢ Err EngineFault.Read }
@@ -136,8 +135,7 @@ impl AnswerRun {
     /// of its line, ends the run.
     fn keep(&mut self, front: &[u8]) -> Result<(), EngineFault>
         requires { HasNoFeed front.now }
-        ensures meets { Takes (description_gives held_run self.old.text.items self.old.kept.items) front.now
-            (description_gives held_run self.new.text.items self.new.kept.items) [] [] result }
+        ensures meets { Takes (undivided_gives self.old) front.now (undivided_gives self.new) [] [] result }
         ensures lines { self.new.lines ≡ self.old.lines }
         ensures bounded { OnOk result (length self.new.text.items + length self.new.kept.items
             ≤ MAX_DESCRIPTION + MAX_DIVIDER) }
@@ -163,11 +161,9 @@ impl AnswerRun {
     ) -> Result<(), EngineFault>
         requires before { self.old.lines ≡ None }
         requires counted { length piece.now ≤ MAX_INPUT }
-        ensures meets { Takes (description_gives held_run self.old.text.items self.old.kept.items) piece.now
-            (described_gives past_gives (description_gives held_run self.new.text.items self.new.kept.items)
-            self.new.lines)
-            out.old.items out.new.items result }
-        ensures counted { described_count past_count self.new.lines ≤ length piece.now }
+        ensures meets { Takes (undivided_gives self.old) piece.now (answer_gives self.new) out.old.items
+            out.new.items result }
+        ensures counted { answer_count self.new ≤ length piece.now }
         ensures read { result ≢ Err EngineFault.Read }
         ensures write { result ≢ Err EngineFault.Write }
     {
@@ -190,8 +186,7 @@ impl AnswerRun {
 
     /// Takes the end of the input before a line has divided, but for this one.
     fn finish_description(&self, alloc: Global, is_cut: bool) -> Result<(), EngineFault>
-        ensures meets { Finishes (description_gives held_run self.now.text.items self.now.kept.items is_cut []) [] []
-            result }
+        ensures meets { Finishes (undivided_gives self.now is_cut []) [] [] result }
         ensures read { result ≢ Err EngineFault.Read }
         ensures write { result ≢ Err EngineFault.Write }
     {
@@ -212,21 +207,16 @@ impl AnswerRun {
 }
 
 impl Run for AnswerRun {
-    ghost gives = { λ run. described_gives past_gives (description_gives held_run run.text.items run.kept.items)
-        run.lines };
+    ghost gives = { answer_gives };
 
-    ghost counted = { λ run. described_count past_count run.lines };
+    ghost counted = { answer_count };
 
     /// Takes lines of the description, and once one divides lines of the capture.
     fn take(&mut self, alloc: Global, piece: &[u8], out: &mut Vec<u8>) -> Result<(), EngineFault>
-        requires { described_count past_count self.old.lines + length piece.now ≤ MAX_INPUT }
-        ensures meets { Takes (described_gives past_gives (description_gives held_run self.old.text.items
-            self.old.kept.items) self.old.lines) piece.now
-            (described_gives past_gives (description_gives held_run self.new.text.items self.new.kept.items)
-            self.new.lines)
-            out.old.items out.new.items result }
-        ensures counted { described_count past_count self.new.lines ≤ described_count past_count self.old.lines +
-            length piece.now }
+        requires { answer_count self.old + length piece.now ≤ MAX_INPUT }
+        ensures meets { Takes (answer_gives self.old) piece.now (answer_gives self.new) out.old.items out.new.items
+            result }
+        ensures counted { answer_count self.new ≤ answer_count self.old + length piece.now }
         ensures read { result ≢ Err EngineFault.Read }
         ensures write { result ≢ Err EngineFault.Write }
     {
@@ -244,14 +234,13 @@ impl Run for AnswerRun {
         out: &mut Vec<u8>,
         writer: &mut Port<W>,
     ) -> Result<(), EngineFault>
-        requires size { described_count past_count self.old.lines ≤ MAX_INPUT }
+        requires size { answer_count self.old ≤ MAX_INPUT }
         requires works { has_failed writer.old ≡ false }
         requires empty { out.old.items ≡ [] }
-        ensures meets { FinishesTo (described_gives past_gives (description_gives held_run self.old.text.items
-            self.old.kept.items) self.old.lines is_cut [])
-            (W.contents (inner_of writer.old)) (W.contents (inner_of writer.new)) result }
+        ensures meets { FinishesTo (answer_gives self.old is_cut []) (W.contents (inner_of writer.old))
+            (W.contents (inner_of writer.new)) result }
         ensures read { result ≢ Err EngineFault.Read }
-        ensures write { IsErrOf result EngineFault.Write ↔ (has_failed writer.new ≡ true) }
+        ensures write { TellsFailed EngineFault.Write result writer.new }
     {
         match &mut self.lines {
             Some(lines) => lines.finish(alloc, is_cut, out, writer),
@@ -282,16 +271,12 @@ pub fn answer_all<R: Read, W: Write>(
 ) -> Result<(), EngineFault>
     requires reads { has_failed reader.old ≡ false }
     requires writes { has_failed writer.old ≡ false }
-    ensures text { IfSome (R.remaining (inner_of reader.old))
-        (λ all. Writes (answer_text all) (W.contents (inner_of writer.old)) (W.contents (inner_of writer.new)) result) }
-    ensures at_read { IsErrOf result EngineFault.Read
-        → WroteOfRead (run_of called_run) (R.remaining (inner_of reader.old)) (R.remaining (inner_of reader.new))
-        (W.contents (inner_of writer.old)) (W.contents (inner_of writer.new)) }
-    ensures at_memory { IsErrOf result no_memory
-        → WroteOfFront (run_of called_run) (R.remaining (inner_of reader.old)) (W.contents (inner_of writer.old))
-        (W.contents (inner_of writer.new)) }
-    ensures read { IsErrOf result EngineFault.Read ↔ (has_failed reader.new ≡ true) }
-    ensures write { IsErrOf result EngineFault.Write ↔ (has_failed writer.new ≡ true) }
+    ensures text { WritesAll R.remaining W.contents answer_text reader.old writer.old writer.new result }
+    ensures at_read { WritesRead R.remaining W.contents (run_of called_run) reader.old reader.new writer.old writer.new
+        result }
+    ensures at_memory { WritesFront R.remaining W.contents (run_of called_run) reader.old writer.old writer.new result }
+    ensures read { TellsFailed EngineFault.Read result reader.new }
+    ensures write { TellsFailed EngineFault.Write result writer.new }
 {
     laws::looks_back::<SimDevice>();
     let mut run = AnswerRun::new(alloc);

@@ -10,12 +10,10 @@ mod schedule_run;
 mod show;
 
 pub use answer_run::answer_all;
-pub use line_run::{LineRoom, LineRun, LineTask};
 pub use mctpctl_input::{
     DescriptionFault, EngineFault, LineKind, MAX_CAPTURE_LINE, MAX_DESCRIPTION, MAX_DIVIDER,
     MAX_INPUT, Port, fault_line, status_of,
 };
 pub use message_form::{InHex, MessageForm};
-pub use observer::Observer;
 pub use schedule_run::run_all;
-pub use show::show_all;
+pub use show::{show_all, show_as};

@@ -1,11 +1,12 @@
 //! A run over lines, which keeps what has come of a line that has not ended.
 
-ghost use Rattle.std.specs.Prelude.{◌≡◌, ◌≢◌, ◌≤◌, ◌<◌, ◌+◌, ◌++◌, ◌∷◌, ◌↔◌, ℕ, List, [], Result, Err, IsErrOf, OnOk, length, refl, true, false};
+ghost use Rattle.std.specs.Prelude.{◌≡◌, ◌≢◌, ◌≤◌, ◌<◌, ◌+◌, ◌++◌, ◌∷◌, ℕ, List, [], Result, Err, OnOk, length, refl, false};
 ghost use Rattle.line_words.specs.TextLines.{HasNoFeed};
 ghost use Rattle.mctpctl_input.specs.declared.faults.LineKind.{LineKind};
-ghost use Rattle.mctpctl_engines.specs.LinePieces.{RefusesLong, line_gives, AddsLine};
+ghost use Rattle.mctpctl_engines.specs.LinePieces.{RefusesLong, run_gives, AddsLine};
 ghost use Rattle.mctpctl_input.specs.Pieces.{Takes, Finishes, FinishesTo};
 ghost use Rattle.mctpctl_input.specs.Ports.{inner_of, has_failed};
+ghost use Rattle.mctpctl_input.specs.WholeRuns.{TellsFailed};
 
 use line_words::split_line;
 use mctp_packet::Body;
@@ -99,10 +100,8 @@ impl<T: LineTask> LineRun<T> {
     fn end_line(&mut self, alloc: Global, line: &[u8], out: &mut Vec<u8>) -> Result<(), EngineFault>
         requires feed { HasNoFeed line.now }
         requires counted { self.old.ended < MAX_INPUT }
-        ensures meets { Takes (line_gives T.step (self.old.ended + 1) (T.state_of self.old.task) self.old.kept.items)
-            (line.now ++ 10 ∷ [])
-            (line_gives T.step (self.new.ended + 1) (T.state_of self.new.task) self.new.kept.items) out.old.items
-            out.new.items result }
+        ensures meets { Takes (run_gives T.step T.state_of self.old) (line.now ++ 10 ∷ [])
+            (run_gives T.step T.state_of self.new) out.old.items out.new.items result }
         ensures counted { self.new.ended ≤ self.old.ended + 1 }
         ensures read { result ≢ Err EngineFault.Read }
         ensures write { result ≢ Err EngineFault.Write }
@@ -128,9 +127,8 @@ impl<T: LineTask> LineRun<T> {
     fn keep(&mut self, front: &[u8]) -> Result<(), EngineFault>
         requires feed { HasNoFeed front.now }
         requires counted { self.old.ended ≤ MAX_INPUT }
-        ensures meets { Takes (line_gives T.step (self.old.ended + 1) (T.state_of self.old.task) self.old.kept.items)
-            front.now
-            (line_gives T.step (self.new.ended + 1) (T.state_of self.new.task) self.new.kept.items) [] [] result }
+        ensures meets { Takes (run_gives T.step T.state_of self.old) front.now
+            (run_gives T.step T.state_of self.new) [] [] result }
         ensures counted { self.new.ended ≡ self.old.ended }
         ensures bounded { OnOk result (length self.new.kept.items ≤ MAX_CAPTURE_LINE) }
         ensures read { result ≢ Err EngineFault.Read }
@@ -151,8 +149,7 @@ impl<T: LineTask> LineRun<T> {
         out: &mut Vec<u8>,
     ) -> Result<(), EngineFault>
         requires { self.old.ended ≤ MAX_INPUT }
-        ensures meets { Finishes (line_gives T.step (self.old.ended + 1) (T.state_of self.old.task)
-            self.old.kept.items is_cut []) out.old.items out.new.items result }
+        ensures meets { Finishes (run_gives T.step T.state_of self.old is_cut []) out.old.items out.new.items result }
         ensures read { result ≢ Err EngineFault.Read }
         ensures write { result ≢ Err EngineFault.Write }
     {
@@ -170,16 +167,14 @@ impl<T: LineTask> LineRun<T> {
 }
 
 impl<T: LineTask> Run for LineRun<T> {
-    ghost gives = { λ run. line_gives T.step (run.ended + 1) (T.state_of run.task) run.kept.items };
+    ghost gives = { run_gives T.step T.state_of };
 
     ghost counted = { λ run. run.ended };
 
     fn take(&mut self, alloc: Global, piece: &[u8], out: &mut Vec<u8>) -> Result<(), EngineFault>
         requires { self.old.ended + length piece.now ≤ MAX_INPUT }
-        ensures meets { Takes (line_gives T.step (self.old.ended + 1) (T.state_of self.old.task) self.old.kept.items)
-            piece.now
-            (line_gives T.step (self.new.ended + 1) (T.state_of self.new.task) self.new.kept.items) out.old.items
-            out.new.items result }
+        ensures meets { Takes (run_gives T.step T.state_of self.old) piece.now
+            (run_gives T.step T.state_of self.new) out.old.items out.new.items result }
         ensures counted { self.new.ended ≤ self.old.ended + length piece.now }
         ensures bounded { OnOk result (length self.new.kept.items ≤ MAX_CAPTURE_LINE) }
         ensures read { result ≢ Err EngineFault.Read }
@@ -206,11 +201,10 @@ impl<T: LineTask> Run for LineRun<T> {
         requires size { self.old.ended ≤ MAX_INPUT }
         requires works { has_failed writer.old ≡ false }
         requires empty { out.old.items ≡ [] }
-        ensures meets { FinishesTo (line_gives T.step (self.old.ended + 1) (T.state_of self.old.task)
-            self.old.kept.items is_cut [])
+        ensures meets { FinishesTo (run_gives T.step T.state_of self.old is_cut [])
             (W.contents (inner_of writer.old)) (W.contents (inner_of writer.new)) result }
         ensures read { result ≢ Err EngineFault.Read }
-        ensures write { IsErrOf result EngineFault.Write ↔ (has_failed writer.new ≡ true) }
+        ensures write { TellsFailed EngineFault.Write result writer.new }
     {
         let result = self.end_input(alloc, is_cut, out);
         if writer.write_all(out).is_err() {

@@ -4,7 +4,7 @@ ghost use Rattle.std.specs.Prelude.{◌≡◌, ◌++◌, ℕ, List, OnOk};
 ghost use Rattle.mctpctl_texts.specs.ShownLines.{message_line};
 
 use mctp_packet::Memory;
-use mctpctl_texts::push_message_line;
+use mctpctl_texts::write_message_line;
 
 /// How the line of a whole message is written.
 pub trait MessageForm {
@@ -26,6 +26,6 @@ impl MessageForm for InHex {
     fn push_line(&self, out: &mut Vec<u8>, message: &[u8]) -> Result<(), Memory>
         ensures { OnOk result (out.new.items ≡ out.old.items ++ message_line message.now) }
     {
-        push_message_line(out, message)
+        write_message_line(out, message)
     }
 }

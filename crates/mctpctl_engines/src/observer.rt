@@ -12,7 +12,7 @@ use crate::message_form::MessageForm;
 use mctp_assembly::{Assembler, Fed};
 use mctp_packet::{Eid, Memory, PacketRef, read};
 use mctpctl_input::{CaptureFault, CaptureLine, EngineFault, read_capture_line};
-use mctpctl_texts::{push_no_packet_line, push_packet_line};
+use mctpctl_texts::{write_no_packet_line, write_packet_line};
 use std::alloc::Global;
 use std::collections::BTreeMap;
 
@@ -55,10 +55,10 @@ impl<F: MessageForm> Observer<F> {
     {
         let packet = match read(bytes) {
             Ok(packet) => packet,
-            Err(reason) => return push_no_packet_line(text, moment, reason),
+            Err(reason) => return write_no_packet_line(text, moment, reason),
         };
         let fed = feed(alloc, &mut self.assemblers, &packet)?;
-        push_packet_line(text, moment, &packet, &fed)?;
+        write_packet_line(text, moment, &packet, &fed)?;
         self.push_completed(text, &fed)
     }
 

@@ -1,7 +1,7 @@
 //! The engine of `mctpctl run`, over an input that comes in pieces.
 
 ghost use Rattle.std.specs.Io.KnownBytes.{Appends, Keeps};
-ghost use Rattle.std.specs.Prelude.{◌≡◌, ◌≢◌, ◌≤◌, ◌+◌, ◌↔◌, [], Err, Some, IfErr, IfSome, IfNone, IsErrOf, None, OnOk, length, option_map, true, false};
+ghost use Rattle.std.specs.Prelude.{◌≡◌, ◌≢◌, ◌≤◌, ◌+◌, [], Err, Some, IfErr, IfSome, IfNone, IsErrOf, None, OnOk, length, option_map, false};
 ghost use Rattle.line_words.specs.TextLines.{lines_of};
 ghost use Rattle.schedule_text.specs.Schedules.{schedule_of};
 ghost use Rattle.mctpctl_engines.specs.AnswerText.{run_of};
@@ -11,7 +11,8 @@ ghost use Rattle.mctpctl_input.specs.Ports.{inner_of, has_failed};
 ghost use Rattle.mctpctl_engines.specs.RunText.{schedule_written, scheduled_run, spelled_by, stop_of_line, stop_of_run, run_text};
 ghost use Rattle.mctpctl_engines.specs.SchedulePieces.{TellsText, nothing_where_cut, schedule_gives, text_of_ran};
 ghost use Rattle.mctpctl_input.specs.TextLines.{capture_lines, description_of};
-ghost use Rattle.mctpctl_input.specs.LineRuns.{Writes, no_memory};
+ghost use Rattle.mctpctl_input.specs.LineRuns.{no_memory};
+ghost use Rattle.mctpctl_input.specs.WholeRuns.{TellsFailed, WritesAll};
 
 use crate::described::read_description;
 use line_words::split_line;
@@ -19,7 +20,7 @@ use mctp_schedule::{LineFault, LineFaultKind, Report, RunFault, Schedule, Setup,
 use mctpctl_input::{
     EngineFault, LineKind, MAX_DESCRIPTION, MAX_INPUT, Port, Run, is_divider, run_to_end,
 };
-use mctpctl_texts::{NotWritten, device_text, write_report};
+use mctpctl_texts::{NotWritten, write_report};
 use pldm_device::{Description, SimDevice};
 use std::alloc::Global;
 use std::io::{Read, Write};
@@ -101,12 +102,11 @@ fn stop_of_run(fault: RunFault) -> EngineFault
     }
 }
 
-/// A schedule, what came of it, and the lines of the device at the end.
+/// A schedule, and what came of it.
 #[derive(Drop)]
 struct Ran {
     schedule: Schedule,
     report: Report<SimDevice>,
-    device: String,
 }
 
 /// Runs a schedule over the described device.
@@ -129,12 +129,7 @@ fn run_schedule(
         Ok(report) => report,
         Err(fault) => return Err(stop_of_run(fault)),
     };
-    let device = device_text(alloc, &report.device)?;
-    Ok(Ran {
-        schedule,
-        report,
-        device,
-    })
+    Ok(Ran { schedule, report })
 }
 
 /// Runs all of an input, of which there is more where it is cut off.
@@ -166,10 +161,10 @@ fn tell<W: Write>(writer: &mut Port<W>, ran: &Ran) -> Result<(), EngineFault>
     ensures text { OnOk result (Appends (W.contents (inner_of writer.old)) (W.contents (inner_of writer.new))
         (text_of_ran ran.now)) }
     ensures fault { IfErr result (λ fault. fault ≡ EngineFault.Write) }
-    ensures write { IsErrOf result EngineFault.Write ↔ (has_failed writer.new ≡ true) }
+    ensures write { TellsFailed EngineFault.Write result writer.new }
 {
     let steps = ran.schedule.steps();
-    match write_report(writer, steps, &ran.report, ran.device.as_str()) {
+    match write_report(writer, steps, &ran.report) {
         Ok(()) => Ok(()),
         Err(NotWritten) => Err(EngineFault::Write),
     }
@@ -207,7 +202,7 @@ impl Run for ScheduleRun {
         ensures meets { FinishesTo (schedule_gives self.old.kept.items is_cut []) (W.contents (inner_of writer.old))
             (W.contents (inner_of writer.new)) result }
         ensures read { result ≢ Err EngineFault.Read }
-        ensures write { IsErrOf result EngineFault.Write ↔ (has_failed writer.new ≡ true) }
+        ensures write { TellsFailed EngineFault.Write result writer.new }
     {
         match run_input(alloc, &self.kept, is_cut) {
             Ok(ran) => tell(writer, &ran),
@@ -235,14 +230,13 @@ pub fn run_all<R: Read, W: Write>(
 ) -> Result<(), EngineFault>
     requires reads { has_failed reader.old ≡ false }
     requires writes { has_failed writer.old ≡ false }
-    ensures text { IfSome (R.remaining (inner_of reader.old))
-        (λ all. Writes (run_text all) (W.contents (inner_of writer.old)) (W.contents (inner_of writer.new)) result) }
+    ensures text { WritesAll R.remaining W.contents run_text reader.old writer.old writer.new result }
     ensures at_read { IsErrOf result EngineFault.Read
         → Keeps (W.contents (inner_of writer.old)) (W.contents (inner_of writer.new)) }
     ensures at_memory { IsErrOf result no_memory
         → Keeps (W.contents (inner_of writer.old)) (W.contents (inner_of writer.new)) }
-    ensures read { IsErrOf result EngineFault.Read ↔ (has_failed reader.new ≡ true) }
-    ensures write { IsErrOf result EngineFault.Write ↔ (has_failed writer.new ≡ true) }
+    ensures read { TellsFailed EngineFault.Read result reader.new }
+    ensures write { TellsFailed EngineFault.Write result writer.new }
 {
     let mut run = ScheduleRun::new(alloc);
     run_to_end(alloc, &mut run, reader, writer)

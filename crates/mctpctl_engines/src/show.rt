@@ -1,14 +1,13 @@
 //! The engine of `mctpctl show`: a capture, and what its packets and messages say.
 
-ghost use Rattle.std.specs.Prelude.{◌≡◌, ◌≢◌, ◌↔◌, Err, IfSome, IsErrOf, true, false};
-ghost use Rattle.mctpctl_input.specs.LineRuns.{Writes, no_memory};
-ghost use Rattle.mctpctl_input.specs.Pieces.{WroteOfFront, WroteOfRead};
-ghost use Rattle.mctpctl_input.specs.Ports.{inner_of, has_failed};
+ghost use Rattle.std.specs.Prelude.{◌≡◌, false};
+ghost use Rattle.mctpctl_input.specs.Ports.{has_failed};
+ghost use Rattle.mctpctl_input.specs.WholeRuns.{TellsFailed, WritesAll, WritesFront, WritesRead};
 ghost use Rattle.mctpctl_engines.specs.ShowText.{seen_run, show_text};
 ghost use Rattle.mctpctl_texts.specs.ShownLines.{message_line};
 
 use crate::line_run::LineRun;
-use crate::message_form::InHex;
+use crate::message_form::{InHex, MessageForm};
 use crate::observer::Observer;
 use mctp_assembly::laws;
 use mctpctl_input::{EngineFault, Port, run_to_end};
@@ -33,19 +32,34 @@ pub fn show_all<R: Read, W: Write>(
 ) -> Result<(), EngineFault>
     requires reads { has_failed reader.old ≡ false }
     requires writes { has_failed writer.old ≡ false }
-    ensures text { IfSome (R.remaining (inner_of reader.old))
-        (λ all. Writes (show_text message_line all) (W.contents (inner_of writer.old))
-        (W.contents (inner_of writer.new)) result) }
-    ensures at_read { IsErrOf result EngineFault.Read
-        → WroteOfRead (seen_run message_line) (R.remaining (inner_of reader.old)) (R.remaining (inner_of reader.new))
-        (W.contents (inner_of writer.old)) (W.contents (inner_of writer.new)) }
-    ensures at_memory { IsErrOf result no_memory
-        → WroteOfFront (seen_run message_line) (R.remaining (inner_of reader.old))
-        (W.contents (inner_of writer.old)) (W.contents (inner_of writer.new)) }
-    ensures read { IsErrOf result EngineFault.Read ↔ (has_failed reader.new ≡ true) }
-    ensures write { IsErrOf result EngineFault.Write ↔ (has_failed writer.new ≡ true) }
+    ensures text { WritesAll R.remaining W.contents (show_text message_line) reader.old writer.old writer.new result }
+    ensures at_read { WritesRead R.remaining W.contents (seen_run message_line) reader.old reader.new writer.old
+        writer.new result }
+    ensures at_memory { WritesFront R.remaining W.contents (seen_run message_line) reader.old writer.old writer.new
+        result }
+    ensures read { TellsFailed EngineFault.Read result reader.new }
+    ensures write { TellsFailed EngineFault.Write result writer.new }
+{
+    show_as(alloc, InHex, reader, writer)
+}
+
+/// As `show_all`, with the line of a whole message as `form` writes it.
+pub fn show_as<F: MessageForm + Drop, R: Read, W: Write>(
+    alloc: Global,
+    form: F,
+    reader: &mut Port<R>,
+    writer: &mut Port<W>,
+) -> Result<(), EngineFault>
+    requires reads { has_failed reader.old ≡ false }
+    requires writes { has_failed writer.old ≡ false }
+    ensures text { WritesAll R.remaining W.contents (show_text F.line) reader.old writer.old writer.new result }
+    ensures at_read { WritesRead R.remaining W.contents (seen_run F.line) reader.old reader.new writer.old writer.new
+        result }
+    ensures at_memory { WritesFront R.remaining W.contents (seen_run F.line) reader.old writer.old writer.new result }
+    ensures read { TellsFailed EngineFault.Read result reader.new }
+    ensures write { TellsFailed EngineFault.Write result writer.new }
 {
     laws::looks_back();
-    let mut run = LineRun::new(alloc, Observer::new(alloc, InHex));
+    let mut run = LineRun::new(alloc, Observer::new(alloc, form));
     run_to_end(alloc, &mut run, reader, writer)
 }

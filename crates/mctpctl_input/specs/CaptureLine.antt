@@ -1,5 +1,6 @@
 -- What one line of a capture says.
-use Rattle.std.specs.Prelude.{◌≡◌, ℕ, nat_lt, if◌then◌else◌, List, [], ◌∷◌, length, Option, None, Some, Result, Ok, Err}
+use Rattle.std.specs.Prelude.{◌≡◌, ◌≤◌, ℕ, nat_lt, if◌then◌else◌, List, [], ◌∷◌, length}
+use Rattle.std.specs.Prelude.{Option, None, Some, IfSome, Result, Ok, Err, IfOk, IfErr}
 use Rattle.hex.specs.Hex.{decode_of}
 use Rattle.hex.specs.declared.error.FromHexError.{FromHexError}
 use Rattle.line_words.specs.Lines.{said_words}
@@ -62,3 +63,14 @@ packet_in (Packet moment) bytes = Some (record { moment = moment; bytes = bytes 
 abbrev pub TellsFault : Result (Option TimedPacket) LineKind → CaptureFault → Type 0
 TellsFault said (Line kind) = said ≡ Err kind
 TellsFault said (Memory refused) = Unit {0}
+
+-- the moment of a packet is in its range, and not before the last one
+abbrev pub IsInTime : ℕ → Option TimedPacket → Type 0
+IsInTime last packet = IfSome packet (λ timed. (last ≤ timed.moment) × (timed.moment ≤ MAX_MOMENT))
+
+-- what a line says is read, with these bytes, or its fault told
+pub record ReadsLine (said : Result (Option TimedPacket) LineKind) (last : ℕ) (bytes : List ℕ)
+    (result : Result CaptureLine CaptureFault) : Type 0 where
+  pub ok : IfOk result (λ read. said ≡ Ok (packet_in read bytes))
+  pub err : IfErr result (λ fault. TellsFault said fault)
+  pub moment : IfOk result (λ read. IsInTime last (packet_in read bytes))

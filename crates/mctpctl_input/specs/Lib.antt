@@ -8,3 +8,4 @@ pub mod Pieces
 pub mod Ports
 pub mod Statuses
 pub mod TextLines
+pub mod WholeRuns

@@ -1,9 +1,9 @@
 //! One line of a capture: `MS`, or `MS HEX`.
 
-ghost use Rattle.std.specs.Prelude.{◌≡◌, ◌≤◌, ℕ, MatchResult, drop, Ok, Err, IfOk, IfErr, IfSome, OnOk, true};
+ghost use Rattle.std.specs.Prelude.{◌≡◌, ◌≤◌, ℕ, MatchResult, drop, Ok, Err, IfOk, IfErr, OnOk, true};
 ghost use Rattle.line_words.specs.Lines.{words_of};
 ghost use Rattle.mctp_packet.specs.Memories.{out_of_memory};
-ghost use Rattle.mctpctl_input.specs.CaptureLine.{capture_of, packet_in, packet_at, packet_word, timed_packet, moment_of, TellsFault};
+ghost use Rattle.mctpctl_input.specs.CaptureLine.{IsInTime, ReadsLine, capture_of, packet_in, packet_at, packet_word, timed_packet, moment_of, TellsFault};
 ghost use Rattle.hex.specs.Hex.{decode_of};
 
 use crate::faults::LineKind;
@@ -58,8 +58,7 @@ pub fn read_capture_line(
 ) -> Result<CaptureLine, CaptureFault>
     ensures ok { IfOk result (λ read. capture_of line.now last ≡ Ok (packet_in read packet.new.items)) }
     ensures err { IfErr result (λ fault. TellsFault (capture_of line.now last) fault) }
-    ensures moment { IfOk result (λ read. IfSome (packet_in read packet.new.items) (λ timed. (last ≤ timed.moment)
-        × (timed.moment ≤ MAX_MOMENT))) }
+    ensures moment { IfOk result (λ read. IsInTime last (packet_in read packet.new.items)) }
 {
     if line.len() > MAX_CAPTURE_LINE {
         return Err(CaptureFault::Line(LineKind::LongLine));
@@ -77,12 +76,8 @@ fn read_packet(
     last: u64,
     packet: &mut Vec<u8>,
 ) -> Result<CaptureLine, CaptureFault>
-    ensures ok { IfOk result (λ read. timed_packet (packet_word (words_of rest.now)) (moment_of moment.now last)
-        ≡ Ok (packet_in read packet.new.items)) }
-    ensures err { IfErr result (λ fault. TellsFault (timed_packet (packet_word (words_of rest.now))
-        (moment_of moment.now last)) fault) }
-    ensures moment { IfOk result (λ read. IfSome (packet_in read packet.new.items) (λ timed. (last ≤ timed.moment)
-        × (timed.moment ≤ MAX_MOMENT))) }
+    ensures { ReadsLine (timed_packet (packet_word (words_of rest.now)) (moment_of moment.now last)) last
+        packet.new.items result }
 {
     if !is_plain(rest, packet) {
         return read_words(moment, rest, last, packet);
@@ -100,12 +95,8 @@ fn read_words(
     last: u64,
     packet: &mut Vec<u8>,
 ) -> Result<CaptureLine, CaptureFault>
-    ensures ok { IfOk result (λ read. timed_packet (packet_word (words_of rest.now)) (moment_of moment.now last)
-        ≡ Ok (packet_in read packet.new.items)) }
-    ensures err { IfErr result (λ fault. TellsFault (timed_packet (packet_word (words_of rest.now))
-        (moment_of moment.now last)) fault) }
-    ensures moment { IfOk result (λ read. IfSome (packet_in read packet.new.items) (λ timed. (last ≤ timed.moment)
-        × (timed.moment ≤ MAX_MOMENT))) }
+    ensures { ReadsLine (timed_packet (packet_word (words_of rest.now)) (moment_of moment.now last)) last
+        packet.new.items result }
 {
     let digits = read_packet_word(rest).map_err(CaptureFault::Line)?;
     let moment = read_moment(moment, last).map_err(CaptureFault::Line)?;

@@ -15,7 +15,8 @@ use std::marker::Model;
 use std::{error, fmt};
 use thiserror::Error;
 
-/// Why a line was refused.
+/// Why a line was refused, of a capture or of a schedule. `schedule_text::LineFaultKind` has the kinds of a schedule's
+/// line alone, and out of memory beside them; here no line is refused for that, since it is `EngineFault::Memory`.
 #[derive(Clone, Copy, Debug, PartialEq, Eq, Error)]
 #[error("{}", self.name())]
 pub enum LineKind {

@@ -1,10 +1,11 @@
 //! The loop of a run: a piece of input is read, its ended lines are answered, and their text is
 //! written before more input is asked for.
 
-ghost use Rattle.std.specs.Prelude.{◌≡◌, ◌≢◌, ◌≤◌, ◌<◌, ◌+◌, ◌↔◌, ℕ, Bool, List, [], Err, OnOk, IfOk, IfSome, IsErrOf, length, nat_lt, take, vec_len, true, false};
-ghost use Rattle.mctpctl_input.specs.LineRuns.{Writes, Written, no_memory};
-ghost use Rattle.mctpctl_input.specs.Pieces.{Takes, TakesTo, FinishesTo, WroteOfRead, WroteOfFront};
+ghost use Rattle.std.specs.Prelude.{◌≡◌, ◌≢◌, ◌≤◌, ◌<◌, ◌+◌, ℕ, Bool, List, [], Err, OnOk, IfOk, length, vec_len, true, false};
+ghost use Rattle.mctpctl_input.specs.LineRuns.{Written};
+ghost use Rattle.mctpctl_input.specs.Pieces.{Takes, TakesTo, FinishesTo};
 ghost use Rattle.mctpctl_input.specs.Ports.{inner_of, has_failed};
+ghost use Rattle.mctpctl_input.specs.WholeRuns.{RunsOver, TellsFailed, WritesAll, WritesFront, WritesRead, whole_text};
 
 use crate::faults::EngineFault;
 use crate::limits::MAX_INPUT;
@@ -49,7 +50,7 @@ pub trait Run {
         ensures meets { FinishesTo (gives self.old is_cut []) (W.contents (inner_of writer.old))
             (W.contents (inner_of writer.new)) result }
         ensures read { result ≢ Err EngineFault.Read }
-        ensures write { IsErrOf result EngineFault.Write ↔ (has_failed writer.new ≡ true) };
+        ensures write { TellsFailed EngineFault.Write result writer.new };
 
     ghost none_where_cut: { (run : Self) → (gives run true []).text ≡ [] };
 }
@@ -77,7 +78,7 @@ fn take_piece<T: Run, W: Write>(
     ensures counted { T.counted run.new ≤ T.counted run.old + length piece.now }
     ensures empty { OnOk result (out.new.items ≡ []) }
     ensures read { result ≢ Err EngineFault.Read }
-    ensures write { IsErrOf result EngineFault.Write ↔ (has_failed writer.new ≡ true) }
+    ensures write { TellsFailed EngineFault.Write result writer.new }
 {
     let result = run.take(alloc, piece, out);
     if writer.write_all(out).is_err() {
@@ -100,17 +101,7 @@ fn run_pieces<T: Run, R: Read, W: Write>(
     requires writes { has_failed writer.old ≡ false }
     requires fresh { T.counted run.old ≡ 0 }
     requires room { 0 < length room.old }
-    ensures text { IfSome (R.remaining (inner_of reader.old))
-        (λ all. Writes (T.gives run.old (nat_lt MAX_INPUT (length all)) (take MAX_INPUT all))
-        (W.contents (inner_of writer.old)) (W.contents (inner_of writer.new)) result) }
-    ensures at_read { IsErrOf result EngineFault.Read
-        → WroteOfRead (T.gives run.old) (R.remaining (inner_of reader.old)) (R.remaining (inner_of reader.new))
-        (W.contents (inner_of writer.old)) (W.contents (inner_of writer.new)) }
-    ensures at_memory { IsErrOf result no_memory
-        → WroteOfFront (T.gives run.old) (R.remaining (inner_of reader.old)) (W.contents (inner_of writer.old))
-        (W.contents (inner_of writer.new)) }
-    ensures read { IsErrOf result EngineFault.Read ↔ (has_failed reader.new ≡ true) }
-    ensures write { IsErrOf result EngineFault.Write ↔ (has_failed writer.new ≡ true) }
+    ensures { RunsOver R.remaining W.contents (T.gives run.old) reader.old reader.new writer.old writer.new result }
 {
     let mut out = Vec::new(alloc);
     let mut left = MAX_INPUT;
@@ -144,17 +135,7 @@ fn run_input<T: Run, R: Read, W: Write>(
     requires reads { has_failed reader.old ≡ false }
     requires writes { has_failed writer.old ≡ false }
     requires fresh { T.counted run.old ≡ 0 }
-    ensures text { IfSome (R.remaining (inner_of reader.old))
-        (λ all. Writes (T.gives run.old (nat_lt MAX_INPUT (length all)) (take MAX_INPUT all))
-        (W.contents (inner_of writer.old)) (W.contents (inner_of writer.new)) result) }
-    ensures at_read { IsErrOf result EngineFault.Read
-        → WroteOfRead (T.gives run.old) (R.remaining (inner_of reader.old)) (R.remaining (inner_of reader.new))
-        (W.contents (inner_of writer.old)) (W.contents (inner_of writer.new)) }
-    ensures at_memory { IsErrOf result no_memory
-        → WroteOfFront (T.gives run.old) (R.remaining (inner_of reader.old)) (W.contents (inner_of writer.old))
-        (W.contents (inner_of writer.new)) }
-    ensures read { IsErrOf result EngineFault.Read ↔ (has_failed reader.new ≡ true) }
-    ensures write { IsErrOf result EngineFault.Write ↔ (has_failed writer.new ≡ true) }
+    ensures { RunsOver R.remaining W.contents (T.gives run.old) reader.old reader.new writer.old writer.new result }
 {
     let mut piece = room_for_a_piece(alloc)?;
     run_pieces(alloc, run, reader, writer, &mut piece)
@@ -171,17 +152,13 @@ pub fn run_to_end<T: Run, R: Read, W: Write>(
     requires reads { has_failed reader.old ≡ false }
     requires writes { has_failed writer.old ≡ false }
     requires fresh { T.counted run.old ≡ 0 }
-    ensures text { IfSome (R.remaining (inner_of reader.old))
-        (λ all. Writes (T.gives run.old (nat_lt MAX_INPUT (length all)) (take MAX_INPUT all))
-        (W.contents (inner_of writer.old)) (W.contents (inner_of writer.new)) result) }
-    ensures at_read { IsErrOf result EngineFault.Read
-        → WroteOfRead (T.gives run.old) (R.remaining (inner_of reader.old)) (R.remaining (inner_of reader.new))
-        (W.contents (inner_of writer.old)) (W.contents (inner_of writer.new)) }
-    ensures at_memory { IsErrOf result no_memory
-        → WroteOfFront (T.gives run.old) (R.remaining (inner_of reader.old)) (W.contents (inner_of writer.old))
-        (W.contents (inner_of writer.new)) }
-    ensures read { IsErrOf result EngineFault.Read ↔ (has_failed reader.new ≡ true) }
-    ensures write { IsErrOf result EngineFault.Write ↔ (has_failed writer.new ≡ true) }
+    ensures text { WritesAll R.remaining W.contents (whole_text (T.gives run.old)) reader.old writer.old writer.new
+        result }
+    ensures at_read { WritesRead R.remaining W.contents (T.gives run.old) reader.old reader.new writer.old writer.new
+        result }
+    ensures at_memory { WritesFront R.remaining W.contents (T.gives run.old) reader.old writer.old writer.new result }
+    ensures read { TellsFailed EngineFault.Read result reader.new }
+    ensures write { TellsFailed EngineFault.Write result writer.new }
 {
     let result = run_input(alloc, run, reader, writer);
     if reader.failed() || writer.failed() {

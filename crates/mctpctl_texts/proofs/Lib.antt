@@ -1,5 +1,4 @@
 pub mod ItemTexts
 pub mod PlacesTold
-pub mod TextFronts
 pub mod WrittenParts
 pub mod Numbers

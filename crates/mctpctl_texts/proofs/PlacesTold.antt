@@ -1,5 +1,7 @@
 -- The things of a device, told place by place.
-use Rattle.std.proofs.Common.{◌≡◌, ℕ, zero, suc, ◌+◌, ◌<◌, ◌≤◌, List, [], ◌∷◌, ◌++◌, flat_map, get_or, length, take, Option, Some, None, option_map, refl, sym, ap, ◌∙◌, append_assoc, append-nil, arith}
+use Rattle.std.proofs.Common.{◌≡◌, ℕ, zero, suc, ◌+◌, ◌<◌, ◌≤◌, List, [], ◌∷◌, ◌++◌, flat_map, get_or, length, take, Option, Some, None, option_map, refl, sym, ap, ◌∙◌, append_assoc, append-nil, subst, arith}
+use Rattle.std.specs.Io.KnownBytes.{Appends}
+use Rattle.std.proofs.KnownBytes.{Appends-trans}
 use Rattle.std.specs.List.{slice_get}
 use Rattle.std.specs.List.Sorted.{IsStrictlySortedBy}
 use Rattle.std.specs.Ordering.{nat_cmp}
@@ -60,23 +62,16 @@ place_below {X} things place thing sorted found =
     let is : get_or (keys_of things) place 0 ≡ thing.0 = get_or_from_slice_get (keys_of things) place thing.0 0 key in
     omega (arith, rank (keys_of things) place sorted within, is)
 
--- the text so far, with the line of one thing more
-pub told_further : {A : Type 0} (f : A → List ℕ) (things : List A) (place : ℕ) (thing : A) (before after line : List ℕ)
-    → before ≡ flat_map f (take place things) → after ≡ before ++ line → f thing ≡ line → slice_get things place ≡ Some thing
-    → after ≡ flat_map f (take (place + 1) things)
-told_further f things place thing before after line so_far added made found =
+-- the text so far, written with the line of one thing more
+pub written_further : {A : Type 0} (f : A → List ℕ) (things : List A) (place : ℕ) (thing : A) (a b c : Option (List ℕ)) (line : List ℕ)
+    → Appends a b (flat_map f (take place things)) → Appends b c line → f thing ≡ line → slice_get things place ≡ Some thing
+    → Appends a c (flat_map f (take (place + 1) things))
+written_further f things place thing a b c line so_far added made found =
     let one : place + 1 ≡ suc place = omega arith in
-    added ∙ ap (λ b. b ++ line) so_far ∙ ap (λ l. flat_map f (take place things) ++ l) (sym made)
-    ∙ sym (text_further f things place thing found) ∙ ap (λ n. flat_map f (take n things)) (sym one)
-
--- the same, after what was there before
-pub added_further : {A : Type 0} (f : A → List ℕ) (things : List A) (place : ℕ) (thing : A) (old before after : List ℕ)
-    → before ≡ old ++ flat_map f (take place things) → after ≡ before ++ f thing → slice_get things place ≡ Some thing
-    → after ≡ old ++ flat_map f (take (place + 1) things)
-added_further f things place thing old before after so_far added found =
-    let text = flat_map f (take place things) in
-    added ∙ ap (λ b. b ++ f thing) so_far ∙ append_assoc old text (f thing)
-    ∙ ap (λ t. old ++ t) (told_further f things place thing text (text ++ f thing) (f thing) refl refl refl found)
+    let all =
+    ap (λ l. flat_map f (take place things) ++ l) (sym made)
+    ∙ sym (text_further f things place thing found) ∙ ap (λ n. flat_map f (take n things)) (sym one) in
+    subst (Appends a c) all (Appends-trans a b c (flat_map f (take place things)) line so_far added)
 
 all_taken : {A : Type 0} (things : List A) (place : ℕ) → length things ≤ place → take place things ≡ things
 all_taken [] zero past = refl

@@ -2,3 +2,4 @@ pub mod EntryTexts
 pub mod OutcomeTexts
 pub mod ReportTexts
 pub mod ShownLines
+pub mod Writers

@@ -1,91 +1,97 @@
 //! The text of a device's state.
 
-ghost use Rattle.std.specs.Prelude.{◌≡◌, IfOk, string_bytes};
 ghost use Rattle.mctpctl_texts.specs.EntryTexts.{numbers_text};
 ghost use Rattle.mctpctl_texts.specs.ReportTexts.{device_text, numerics_text, sensors_text, states_line, states_text, tid_line, value_line};
+ghost use Rattle.mctpctl_texts.specs.Writers.{Wrote};
 
-use mctp_packet::Memory;
+use crate::parts::{write_number, write_signed, write_text};
+use crate::text_writer::TextWriter;
 use pldm_device::SimDevice;
-use std::alloc::Global;
 
-/// The lines of a device: its terminus ID, and by their IDs its numeric sensors, its numeric effecters
-/// and its state effecters.
-pub fn device_text(alloc: Global, device: &SimDevice) -> Result<String, Memory>
-    ensures { IfOk result (λ text. string_bytes text ≡ device_text device.now) }
+/// Writes the lines of a device: its terminus ID, and by their IDs its numeric sensors, its numeric
+/// effecters and its state effecters.
+pub(crate) fn write_device<O: TextWriter>(out: &mut O, device: &SimDevice) -> Result<(), O::Refusal>
+    ensures { Wrote O.contents O.failed O.refused out.old out.new (device_text device.now) result }
 {
-    let tid = tid_line(alloc, device.tid())?;
-    let sensors = sensors_text(alloc, device)?;
-    let numerics = numerics_text(alloc, device)?;
-    let states = states_text(alloc, device)?;
-    Ok(format!(in alloc; "{tid}{sensors}{numerics}{states}")?)
+    write_tid_line(out, device.tid())?;
+    write_sensors(out, device)?;
+    write_numerics(out, device)?;
+    write_states(out, device)
 }
 
-fn tid_line(alloc: Global, tid: u8) -> Result<String, Memory>
-    ensures { IfOk result (λ text. string_bytes text ≡ tid_line tid) }
+fn write_tid_line<O: TextWriter>(out: &mut O, tid: u8) -> Result<(), O::Refusal>
+    ensures { Wrote O.contents O.failed O.refused out.old out.new (tid_line tid) result }
 {
-    Ok(format!(in alloc; "tid {tid}\n")?)
+    write_text(out, "tid ")?;
+    write_number(out, tid.into())?;
+    write_text(out, "\n")
 }
 
-fn sensors_text(alloc: Global, device: &SimDevice) -> Result<String, Memory>
-    ensures { IfOk result (λ text. string_bytes text ≡ sensors_text device.now) }
+fn write_sensors<O: TextWriter>(out: &mut O, device: &SimDevice) -> Result<(), O::Refusal>
+    ensures { Wrote O.contents O.failed O.refused out.old out.new (sensors_text device.now) result }
 {
-    let mut text = String::new(alloc);
     let mut place = 0;
     while let Some((id, value)) = device.sensor(place) {
-        let line = value_line(alloc, "sensor", id, value)?;
-        text.push_str(line.as_str())?;
+        write_value_line(out, "sensor", id, value)?;
         place += 1;
     }
-    Ok(text)
+    Ok(())
 }
 
-fn numerics_text(alloc: Global, device: &SimDevice) -> Result<String, Memory>
-    ensures { IfOk result (λ text. string_bytes text ≡ numerics_text device.now) }
+fn write_numerics<O: TextWriter>(out: &mut O, device: &SimDevice) -> Result<(), O::Refusal>
+    ensures { Wrote O.contents O.failed O.refused out.old out.new (numerics_text device.now) result }
 {
-    let mut text = String::new(alloc);
     let mut place = 0;
     while let Some((id, value)) = device.numeric(place) {
-        let line = value_line(alloc, "numeric", id, value)?;
-        text.push_str(line.as_str())?;
+        write_value_line(out, "numeric", id, value)?;
         place += 1;
     }
-    Ok(text)
+    Ok(())
 }
 
-fn states_text(alloc: Global, device: &SimDevice) -> Result<String, Memory>
-    ensures { IfOk result (λ text. string_bytes text ≡ states_text device.now) }
+fn write_states<O: TextWriter>(out: &mut O, device: &SimDevice) -> Result<(), O::Refusal>
+    ensures { Wrote O.contents O.failed O.refused out.old out.new (states_text device.now) result }
 {
-    let mut text = String::new(alloc);
     let mut place = 0;
     while let Some((id, states)) = device.state(place) {
-        let line = states_line(alloc, id, states)?;
-        text.push_str(line.as_str())?;
+        write_states_line(out, id, states)?;
         place += 1;
     }
-    Ok(text)
+    Ok(())
 }
 
-fn value_line(alloc: Global, kind: &str, id: u16, value: i64) -> Result<String, Memory>
-    ensures { IfOk result (λ text. string_bytes text ≡ value_line kind.now (id, value)) }
+fn write_value_line<O: TextWriter>(
+    out: &mut O,
+    kind: &str,
+    id: u16,
+    value: i64,
+) -> Result<(), O::Refusal>
+    ensures { Wrote O.contents O.failed O.refused out.old out.new (value_line kind.now (id, value)) result }
 {
-    Ok(format!(in alloc; "{kind} {id} {value}\n")?)
+    write_text(out, kind)?;
+    write_text(out, " ")?;
+    write_number(out, id.into())?;
+    write_text(out, " ")?;
+    write_signed(out, value)?;
+    write_text(out, "\n")
 }
 
-fn states_line(alloc: Global, id: u16, states: &[u8]) -> Result<String, Memory>
-    ensures { IfOk result (λ text. string_bytes text ≡ states_line (id, states.now)) }
+fn write_states_line<O: TextWriter>(out: &mut O, id: u16, states: &[u8]) -> Result<(), O::Refusal>
+    ensures { Wrote O.contents O.failed O.refused out.old out.new (states_line (id, states.now)) result }
 {
-    let states = bytes_text(alloc, states)?;
-    Ok(format!(in alloc; "state {id}{states}\n")?)
+    write_text(out, "state ")?;
+    write_number(out, id.into())?;
+    write_bytes_in_decimal(out, states)?;
+    write_text(out, "\n")
 }
 
-/// Bytes in decimal, a space before each.
-fn bytes_text(alloc: Global, bytes: &[u8]) -> Result<String, Memory>
-    ensures { IfOk result (λ text. string_bytes text ≡ numbers_text bytes.now) }
+/// Writes bytes in decimal, a space before each.
+fn write_bytes_in_decimal<O: TextWriter>(out: &mut O, bytes: &[u8]) -> Result<(), O::Refusal>
+    ensures { Wrote O.contents O.failed O.refused out.old out.new (numbers_text bytes.now) result }
 {
-    let mut text = String::new(alloc);
     for i in 0..bytes.len() {
-        let byte = bytes[i];
-        text.push_str(format!(in alloc; " {byte}")?.as_str())?;
+        write_text(out, " ")?;
+        write_number(out, bytes[i].into())?;
     }
-    Ok(text)
+    Ok(())
 }

@@ -1,44 +1,34 @@
 //! The text of what came of a step.
 
-ghost use Rattle.std.specs.Io.KnownBytes.{Appends};
-ghost use Rattle.std.specs.Prelude.{◌≡◌, ◌++◌, ◌∷◌, [], true, OnOk, OnErr, codes};
+ghost use Rattle.std.specs.Prelude.{◌≡◌, ◌++◌, ◌∷◌, [], codes};
 ghost use Rattle.std.specs.Fmt.{decimal};
-ghost use Rattle.mctpctl_texts.specs.EntryTexts.{again_text, answered_text, delivered_text, due_text, entry_line, entry_text, gave_up_text, not_opened_text, numbers_text, received_text, sensed_text};
-ghost use Rattle.mctpctl_input.specs.Ports.{inner_of, has_failed};
-ghost use Rattle.mctpctl_texts.specs.ShownLines.{drop_text};
+ghost use Rattle.mctpctl_texts.specs.EntryTexts.{again_text, answered_text, delivered_text, due_text, entry_line, entry_text, gave_up_text, not_opened_text, received_text, sensed_text};
+ghost use Rattle.mctpctl_texts.specs.Writers.{Wrote};
 
 use crate::decimal::Decimal;
-use crate::written_text::{NotWritten, write_bytes, write_number, write_text};
-use mctp_packet::Reason;
+use crate::parts::{write_drop_line, write_number, write_numbers, write_text};
+use crate::text_writer::TextWriter;
 use mctp_schedule::{Delivery, Entry};
-use mctpctl_input::Port;
 use pldm_platform::ReadingFault;
 use pldm_requester::{Got, OpenFault};
 use pldm_responder::Taken;
-use std::io::Write;
 
 /// Writes the line of a step at this moment: the moment, and what came of the step.
-pub fn write_entry_line<W: Write>(
-    out: &mut Port<W>,
+pub(crate) fn write_entry_line<O: TextWriter>(
+    out: &mut O,
     moment: &Decimal,
     entry: &Entry,
-) -> Result<(), NotWritten>
-    ensures text { OnOk result (Appends (W.contents (inner_of out.old)) (W.contents (inner_of out.new))
-        (entry_line moment.now entry.now)) }
-    ensures ok { OnOk result (has_failed out.new ≡ has_failed out.old) }
-    ensures err { OnErr result (has_failed out.new ≡ true) }
+) -> Result<(), O::Refusal>
+    ensures { Wrote O.contents O.failed O.refused out.old out.new (entry_line moment.now entry.now) result }
 {
-    write_bytes(out, moment.spaced())?;
+    out.write_bytes(moment.spaced())?;
     write_entry(out, entry)
 }
 
 /// Writes what came of a step, and the end of its line. Where that is a few words, they are written with
 /// the end of the line at once.
-fn write_entry<W: Write>(out: &mut Port<W>, entry: &Entry) -> Result<(), NotWritten>
-    ensures text { OnOk result (Appends (W.contents (inner_of out.old)) (W.contents (inner_of out.new))
-        (entry_text entry.now ++ 10 ∷ [])) }
-    ensures ok { OnOk result (has_failed out.new ≡ has_failed out.old) }
-    ensures err { OnErr result (has_failed out.new ≡ true) }
+fn write_entry<O: TextWriter>(out: &mut O, entry: &Entry) -> Result<(), O::Refusal>
+    ensures { Wrote O.contents O.failed O.refused out.old out.new (entry_text entry.now ++ 10 ∷ []) result }
 {
     match entry {
         Entry::Nothing => write_text(out, "nothing\n"),
@@ -52,11 +42,9 @@ fn write_entry<W: Write>(out: &mut Port<W>, entry: &Entry) -> Result<(), NotWrit
     }
 }
 
-fn write_opened<W: Write>(out: &mut Port<W>, number: u64) -> Result<(), NotWritten>
-    ensures text { OnOk result (Appends (W.contents (inner_of out.old)) (W.contents (inner_of out.new))
-        (codes "opened " ++ (decimal number ++ 10 ∷ []))) }
-    ensures ok { OnOk result (has_failed out.new ≡ has_failed out.old) }
-    ensures err { OnErr result (has_failed out.new ≡ true) }
+fn write_opened<O: TextWriter>(out: &mut O, number: u64) -> Result<(), O::Refusal>
+    ensures { Wrote O.contents O.failed O.refused out.old out.new
+        (codes "opened " ++ (decimal number ++ 10 ∷ [])) result }
 {
     write_text(out, "opened ")?;
     write_number(out, number)?;
@@ -73,11 +61,9 @@ fn not_opened_text(fault: OpenFault) -> &'static str
     }
 }
 
-fn write_due<W: Write>(out: &mut Port<W>, again: &[u64], given_up: &[u64]) -> Result<(), NotWritten>
-    ensures text { OnOk result (Appends (W.contents (inner_of out.old)) (W.contents (inner_of out.new))
-        (due_text again.now given_up.now ++ 10 ∷ [])) }
-    ensures ok { OnOk result (has_failed out.new ≡ has_failed out.old) }
-    ensures err { OnErr result (has_failed out.new ≡ true) }
+fn write_due<O: TextWriter>(out: &mut O, again: &[u64], given_up: &[u64]) -> Result<(), O::Refusal>
+    ensures { Wrote O.contents O.failed O.refused out.old out.new
+        (due_text again.now given_up.now ++ 10 ∷ []) result }
 {
     if again.is_empty() && given_up.is_empty() {
         return write_text(out, "nothing due\n");
@@ -94,69 +80,35 @@ fn write_due<W: Write>(out: &mut Port<W>, again: &[u64], given_up: &[u64]) -> Re
     write_text(out, "\n")
 }
 
-fn write_again<W: Write>(out: &mut Port<W>, numbers: &[u64]) -> Result<(), NotWritten>
-    ensures text { OnOk result (Appends (W.contents (inner_of out.old)) (W.contents (inner_of out.new))
-        (again_text numbers.now)) }
-    ensures ok { OnOk result (has_failed out.new ≡ has_failed out.old) }
-    ensures err { OnErr result (has_failed out.new ≡ true) }
+fn write_again<O: TextWriter>(out: &mut O, numbers: &[u64]) -> Result<(), O::Refusal>
+    ensures { Wrote O.contents O.failed O.refused out.old out.new (again_text numbers.now) result }
 {
     write_text(out, "again")?;
     write_numbers(out, numbers)
 }
 
-fn write_gave_up<W: Write>(out: &mut Port<W>, numbers: &[u64]) -> Result<(), NotWritten>
-    ensures text { OnOk result (Appends (W.contents (inner_of out.old)) (W.contents (inner_of out.new))
-        (gave_up_text numbers.now)) }
-    ensures ok { OnOk result (has_failed out.new ≡ has_failed out.old) }
-    ensures err { OnErr result (has_failed out.new ≡ true) }
+fn write_gave_up<O: TextWriter>(out: &mut O, numbers: &[u64]) -> Result<(), O::Refusal>
+    ensures { Wrote O.contents O.failed O.refused out.old out.new (gave_up_text numbers.now) result }
 {
     write_text(out, "gave up")?;
     write_numbers(out, numbers)
 }
 
-/// Writes numbers in decimal, a space before each.
-pub fn write_numbers<W: Write>(out: &mut Port<W>, numbers: &[u64]) -> Result<(), NotWritten>
-    ensures text { OnOk result (Appends (W.contents (inner_of out.old)) (W.contents (inner_of out.new))
-        (numbers_text numbers.now)) }
-    ensures ok { OnOk result (has_failed out.new ≡ has_failed out.old) }
-    ensures err { OnErr result (has_failed out.new ≡ true) }
-{
-    for i in 0..numbers.len() {
-        write_text(out, " ")?;
-        write_number(out, numbers[i])?;
-    }
-    Ok(())
-}
-
-fn write_delivered<W: Write>(
-    out: &mut Port<W>,
+fn write_delivered<O: TextWriter>(
+    out: &mut O,
     busy: bool,
     delivery: &Delivery,
-) -> Result<(), NotWritten>
-    ensures text { OnOk result (Appends (W.contents (inner_of out.old)) (W.contents (inner_of out.new))
-        (delivered_text busy delivery.now ++ 10 ∷ [])) }
-    ensures ok { OnOk result (has_failed out.new ≡ has_failed out.old) }
-    ensures err { OnErr result (has_failed out.new ≡ true) }
+) -> Result<(), O::Refusal>
+    ensures { Wrote O.contents O.failed O.refused out.old out.new
+        (delivered_text busy delivery.now ++ 10 ∷ []) result }
 {
     match delivery.taken() {
-        Taken::Dropped(reason) => write_dropped(out, *reason),
+        Taken::Dropped(reason) => write_drop_line(out, *reason),
         Taken::Partial => write_text(out, "partial\n"),
         Taken::Answered { fresh, changed, .. } => {
             write_text(out, answered_text(busy, *fresh, *changed))
         }
     }
-}
-
-/// Writes that bytes are dropped, and why.
-fn write_dropped<W: Write>(out: &mut Port<W>, reason: Reason) -> Result<(), NotWritten>
-    ensures text { OnOk result (Appends (W.contents (inner_of out.old)) (W.contents (inner_of out.new))
-        (drop_text reason ++ 10 ∷ [])) }
-    ensures ok { OnOk result (has_failed out.new ≡ has_failed out.old) }
-    ensures err { OnErr result (has_failed out.new ≡ true) }
-{
-    write_text(out, "drop ")?;
-    write_text(out, reason.name())?;
-    write_text(out, "\n")
 }
 
 fn answered_text(busy: bool, fresh: bool, changed: bool) -> &'static str
@@ -173,14 +125,11 @@ fn answered_text(busy: bool, fresh: bool, changed: bool) -> &'static str
     }
 }
 
-fn write_received<W: Write>(out: &mut Port<W>, got: Got) -> Result<(), NotWritten>
-    ensures text { OnOk result (Appends (W.contents (inner_of out.old)) (W.contents (inner_of out.new)) (received_text
-        got ++ 10 ∷ [])) }
-    ensures ok { OnOk result (has_failed out.new ≡ has_failed out.old) }
-    ensures err { OnErr result (has_failed out.new ≡ true) }
+fn write_received<O: TextWriter>(out: &mut O, got: Got) -> Result<(), O::Refusal>
+    ensures { Wrote O.contents O.failed O.refused out.old out.new (received_text got ++ 10 ∷ []) result }
 {
     match got {
-        Got::Dropped(reason) => write_dropped(out, reason),
+        Got::Dropped(reason) => write_drop_line(out, reason),
         Got::Partial => write_text(out, "partial\n"),
         Got::Answered(_) => write_text(out, "answered\n"),
     }

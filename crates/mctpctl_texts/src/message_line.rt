@@ -1,26 +1,28 @@
 //! The line that shows a whole message.
 
-ghost use Rattle.std.specs.Prelude.{◌≡◌, ◌++◌, ◌∷◌, [], OnOk, codes};
+ghost use Rattle.std.specs.Prelude.{◌≡◌, ◌++◌, ◌∷◌, [], codes};
 ghost use Rattle.std.specs.Fmt.{decimal};
 ghost use Rattle.mctpctl_texts.specs.ShownLines.{byte_text, command_text, data_text, drop_text, is_shown_as_response, message_line, request_words, response_words, spaced_line, verdict_text};
+ghost use Rattle.mctpctl_texts.specs.Writers.{Wrote};
 ghost use Rattle.pldm_wire.specs.CommandReading.{command_of};
 ghost use Rattle.pldm_wire.specs.Requests.{request_of};
 ghost use Rattle.pldm_wire.specs.Responses.{response_of};
 
-use crate::bytes_text::{push_drop, push_hex, push_number, push_text};
-use mctp_packet::{Memory, Reason};
+use crate::parts::{write_drop, write_number, write_text};
+use crate::text_writer::TextWriter;
+use mctp_packet::Reason;
 use pldm_wire::{Kind, RequestRef, read_command, read_request, read_response};
 
-/// Adds the line of a whole message, two spaces in: a request with whether it carries a command, a
+/// Writes the line of a whole message, two spaces in: a request with whether it carries a command, a
 /// response with its completion code, or why the header is refused. It is read as a response where it
 /// has two bytes at least and the request bit is 0.
-pub fn push_message_line(out: &mut Vec<u8>, message: &[u8]) -> Result<(), Memory>
-    ensures { OnOk result (out.new.items ≡ out.old.items ++ message_line message.now) }
+pub fn write_message_line<O: TextWriter>(out: &mut O, message: &[u8]) -> Result<(), O::Refusal>
+    ensures { Wrote O.contents O.failed O.refused out.old out.new (message_line message.now) result }
 {
     if is_shown_as_response(message) {
-        push_response_line(out, message)
+        write_response_line(out, message)
     } else {
-        push_request_line(out, message)
+        write_request_line(out, message)
     }
 }
 
@@ -31,97 +33,110 @@ pub fn is_shown_as_response(message: &[u8]) -> bool
     message.len() >= 2 && message[1] >> 7 & 1 != 1
 }
 
-fn push_request_line(out: &mut Vec<u8>, message: &[u8]) -> Result<(), Memory>
-    ensures { OnOk result (out.new.items
-        ≡ out.old.items ++ (codes "  " ++ spaced_line (request_words (request_of message.now)))) }
+fn write_request_line<O: TextWriter>(out: &mut O, message: &[u8]) -> Result<(), O::Refusal>
+    ensures { Wrote O.contents O.failed O.refused out.old out.new
+        (codes "  " ++ spaced_line (request_words (request_of message.now))) result }
 {
     let request = match read_request(message) {
         Ok(request) => request,
-        Err(reason) => return push_refused_line(out, reason),
+        Err(reason) => return write_refused_line(out, reason),
     };
-    push_subject(out, "  request ", request.id(), request.kind())?;
-    push_data(out, request.data())?;
-    push_text(out, " ")?;
-    push_verdict(out, &request)?;
-    push_text(out, "\n")
+    write_subject(out, "  request ", request.id(), request.kind())?;
+    write_data(out, request.data())?;
+    write_text(out, " ")?;
+    write_verdict(out, &request)?;
+    write_text(out, "\n")
 }
 
-fn push_response_line(out: &mut Vec<u8>, message: &[u8]) -> Result<(), Memory>
-    ensures { OnOk result (out.new.items
-        ≡ out.old.items ++ (codes "  " ++ spaced_line (response_words (response_of message.now)))) }
+fn write_response_line<O: TextWriter>(out: &mut O, message: &[u8]) -> Result<(), O::Refusal>
+    ensures { Wrote O.contents O.failed O.refused out.old out.new
+        (codes "  " ++ spaced_line (response_words (response_of message.now))) result }
 {
     let response = match read_response(message) {
         Ok(response) => response,
-        Err(reason) => return push_refused_line(out, reason),
+        Err(reason) => return write_refused_line(out, reason),
     };
-    push_subject(out, "  response ", response.id(), response.kind())?;
-    push_byte(out, response.code())?;
-    push_text(out, " ")?;
-    push_data(out, response.data())?;
-    push_text(out, "\n")
+    write_subject(out, "  response ", response.id(), response.kind())?;
+    write_given(out, response.code(), response.data())
 }
 
-/// Adds what a message is, its instance ID, its command, and a space.
-fn push_subject(out: &mut Vec<u8>, what: &str, id: u8, kind: Kind) -> Result<(), Memory>
-    ensures { OnOk result (out.new.items
-        ≡ out.old.items ++ (what.now ++ (decimal id ++ 32 ∷ (command_text kind ++ 32 ∷ [])))) }
+/// Writes a completion code, the data after it, and the end of the line.
+fn write_given<O: TextWriter>(out: &mut O, code: u8, bytes: &[u8]) -> Result<(), O::Refusal>
+    ensures { Wrote O.contents O.failed O.refused out.old out.new
+        (byte_text code ++ 32 ∷ (data_text bytes.now ++ 10 ∷ [])) result }
 {
-    push_text(out, what)?;
-    push_number(out, id.into())?;
-    push_text(out, " ")?;
-    push_command(out, kind)?;
-    push_text(out, " ")
+    write_byte(out, code)?;
+    write_text(out, " ")?;
+    write_data(out, bytes)?;
+    write_text(out, "\n")
 }
 
-/// Adds the line of a message whose header is refused.
-fn push_refused_line(out: &mut Vec<u8>, reason: Reason) -> Result<(), Memory>
-    ensures { OnOk result (out.new.items
-        ≡ out.old.items ++ (codes "  " ++ spaced_line (drop_text reason ∷ []))) }
+/// Writes what a message is, its instance ID, its command, and a space.
+fn write_subject<O: TextWriter>(
+    out: &mut O,
+    what: &str,
+    id: u8,
+    kind: Kind,
+) -> Result<(), O::Refusal>
+    ensures { Wrote O.contents O.failed O.refused out.old out.new
+        (what.now ++ (decimal id ++ 32 ∷ (command_text kind ++ 32 ∷ []))) result }
 {
-    push_text(out, "  ")?;
-    push_drop(out, reason)?;
-    push_text(out, "\n")
+    write_text(out, what)?;
+    write_number(out, id.into())?;
+    write_text(out, " ")?;
+    write_command(out, kind)?;
+    write_text(out, " ")
 }
 
-/// Adds the command's name, or its PLDM type and its number.
-pub fn push_command(out: &mut Vec<u8>, kind: Kind) -> Result<(), Memory>
-    ensures { OnOk result (out.new.items ≡ out.old.items ++ command_text kind) }
+/// Writes the line of a message whose header is refused.
+fn write_refused_line<O: TextWriter>(out: &mut O, reason: Reason) -> Result<(), O::Refusal>
+    ensures { Wrote O.contents O.failed O.refused out.old out.new
+        (codes "  " ++ spaced_line (drop_text reason ∷ [])) result }
+{
+    write_text(out, "  ")?;
+    write_drop(out, reason)?;
+    write_text(out, "\n")
+}
+
+/// Writes the command's name, or its PLDM type and its number.
+pub fn write_command<O: TextWriter>(out: &mut O, kind: Kind) -> Result<(), O::Refusal>
+    ensures { Wrote O.contents O.failed O.refused out.old out.new (command_text kind) result }
 {
     if let Some(name) = kind.name() {
-        return push_text(out, name);
+        return write_text(out, name);
     }
-    push_number(out, kind.pldm_type.into())?;
-    push_text(out, "/")?;
-    push_byte(out, kind.command)
+    write_number(out, kind.pldm_type.into())?;
+    write_text(out, "/")?;
+    write_byte(out, kind.command)
 }
 
-/// Adds whether the request carries a command, or the completion code of its refusal.
-fn push_verdict(out: &mut Vec<u8>, request: &RequestRef<'_>) -> Result<(), Memory>
-    ensures { OnOk result (out.new.items
-        ≡ out.old.items ++ verdict_text (command_of request.now.kind request.now.rest)) }
+/// Writes whether the request carries a command, or the completion code of its refusal.
+fn write_verdict<O: TextWriter>(out: &mut O, request: &RequestRef<'_>) -> Result<(), O::Refusal>
+    ensures { Wrote O.contents O.failed O.refused out.old out.new
+        (verdict_text (command_of request.now.kind request.now.rest)) result }
 {
     match read_command(request) {
-        Ok(_) => push_text(out, "ok"),
+        Ok(_) => write_text(out, "ok"),
         Err(code) => {
-            push_text(out, "refused ")?;
-            push_byte(out, code.get())
+            write_text(out, "refused ")?;
+            write_byte(out, code.get())
         }
     }
 }
 
-/// Adds bytes in lower-case hex, or `-` where there are none.
-pub fn push_data(out: &mut Vec<u8>, bytes: &[u8]) -> Result<(), Memory>
-    ensures { OnOk result (out.new.items ≡ out.old.items ++ data_text bytes.now) }
+/// Writes bytes in lower-case hex, or `-` where there are none.
+pub fn write_data<O: TextWriter>(out: &mut O, bytes: &[u8]) -> Result<(), O::Refusal>
+    ensures { Wrote O.contents O.failed O.refused out.old out.new (data_text bytes.now) result }
 {
     if bytes.is_empty() {
-        return push_text(out, "-");
+        return write_text(out, "-");
     }
-    push_hex(out, bytes)
+    out.write_hex(bytes)
 }
 
-/// Adds a byte as two lower-case hex digits.
-fn push_byte(out: &mut Vec<u8>, byte: u8) -> Result<(), Memory>
-    ensures { OnOk result (out.new.items ≡ out.old.items ++ byte_text byte) }
+/// Writes a byte as two lower-case hex digits.
+fn write_byte<O: TextWriter>(out: &mut O, byte: u8) -> Result<(), O::Refusal>
+    ensures { Wrote O.contents O.failed O.refused out.old out.new (byte_text byte) result }
 {
-    push_hex(out, &[byte])
+    out.write_hex(&[byte])
 }

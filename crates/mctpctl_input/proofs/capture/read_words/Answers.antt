@@ -5,9 +5,13 @@ use Rattle.line_words.specs.Lines.{words_of}
 use Rattle.mctpctl_input.specs.CaptureLine.{packet_word, moment_of}
 use Rattle.mctpctl_input.proofs.capture.read_words.Goals as goal
 
-pub returns-in_err-read_hex-clause-err : goal.returns-in_err-read_hex-clause-err
-returns-in_err-read_hex-clause-err c =
+pub returns-in_err-read_hex : goal.returns-in_err-read_hex
+returns-in_err-read_hex c =
     let word : packet_word (words_of c.args.rest.now) ≡ Ok c.in_ok-digits.digits.now = search rules in
     let moment : moment_of c.args.moment.now c.args.last ≡ Ok c.in_ok-moment.moment = search rules in
     let fault = err_from_is_err_and c.from_residual-in_err-read_hex.result c.from_residual-in_err-read_hex.ensures.1 in
-    rw (fault.1, fault.2, word, moment) (c.in_err-read_hex.ensures.err c.in_ok-moment.moment)
+    record {
+      ok = search rules;
+      err = rw (fault.1, fault.2, word, moment) (c.in_err-read_hex.ensures.err c.in_ok-moment.moment);
+      moment = search rules;
+    }

@@ -23,47 +23,46 @@ new_limit limit left n count len new size same within l = omega arith
 new_count : (old new len piece all : ℕ) → old ≤ len → all ≡ len + piece → new ≤ old + piece → new ≤ all
 new_count old new len piece all a b d = omega arith
 
-pub returns-then-count-eq0-clause-text : goal.returns-then-count-eq0-clause-text
-returns-then-count-eq0-clause-text g c =
+pub returns-then-count-eq0 : goal.returns-then-count-eq0
+returns-then-count-eq0 g c =
     let i = c.loop-count.invariant in
     let bytes = c.in-Ok.ensures.bytes in
     let all_read = known_end (g.R.Read.remaining c.args.reader.now.inner) (g.R.Read.remaining c.loop-count.reader.inner) (g.R.Read.remaining c.read.new.self.inner) MAX_INPUT i.taken c.read.new.buf c.in-Ok.count c.if-count-eq0.true i.consumed bytes.0 (bytes.1 c.if-count-eq0.true (omega (arith, i.room))) (omega (arith, i.limit)) in
-    known_finish (g.T.Run.gives c.args.run.now) (g.T.Run.gives c.loop-count.run) MAX_INPUT (g.R.Read.remaining c.args.reader.now.inner) (g.W.Write.contents c.args.writer.now.inner) (g.W.Write.contents c.loop-count.writer.inner) (g.W.Write.contents c.finish.new.writer.inner) i.taken i.text false c.finish.result all_read i.goes i.written c.finish.ensures.meets
+    record {
+      text = known_finish (g.T.Run.gives c.args.run.now) (g.T.Run.gives c.loop-count.run) MAX_INPUT (g.R.Read.remaining c.args.reader.now.inner) (g.W.Write.contents c.args.writer.now.inner) (g.W.Write.contents c.loop-count.writer.inner) (g.W.Write.contents c.finish.new.writer.inner) i.taken i.text false c.finish.result all_read i.goes i.written c.finish.ensures.meets;
+      at_read = search rules;
+      at_memory = λ memory. memory_at_end (g.T.Run.gives c.args.run.now) (g.T.Run.gives c.loop-count.run) false (g.R.Read.remaining c.args.reader.now.inner) (g.R.Read.remaining c.loop-count.reader.inner) (g.W.Write.contents c.args.writer.now.inner) (g.W.Write.contents c.loop-count.writer.inner) (g.W.Write.contents c.finish.new.writer.inner) i.taken i.text c.finish.result memory i.consumed i.written i.goes (g.met.T.Run.none_where_cut c.loop-count.run) c.finish.ensures.meets;
+      read = search rules;
+      write = search rules;
+    }
 
-pub returns-in-Err-clause-text : goal.returns-in-Err-clause-text
-returns-in-Err-clause-text g c =
+pub returns-in-Err : goal.returns-in-Err
+returns-in-Err g c =
     let i = c.loop-count.invariant in
     let n = c.min-taken.result in
     let read = piece_consumed (g.R.Read.remaining c.loop-count.reader.inner) (g.R.Read.remaining c.read.new.self.inner) c.read.new.buf c.in-Ok.count n c.in-Ok.ensures.bytes.0 (omega (arith, c.min-taken.ensures)) in
-    fault_within (g.T.Run.gives c.args.run.now) (g.T.Run.gives c.loop-count.run) MAX_INPUT (g.R.Read.remaining c.args.reader.now.inner) (g.R.Read.remaining c.loop-count.reader.inner) _ (g.W.Write.contents c.args.writer.now.inner) (g.W.Write.contents c.loop-count.writer.inner) (g.W.Write.contents c.take_piece.new.writer.inner) i.taken (take n c.read.new.buf) i.text c.in-Err.fault i.consumed read (omega (arith, length-append {A = ℕ}, length-take {A = ℕ}, i.limit, c.min-taken.ensures)) i.written i.goes c.in-Err.ensures.meets
+    record {
+      text = fault_within (g.T.Run.gives c.args.run.now) (g.T.Run.gives c.loop-count.run) MAX_INPUT (g.R.Read.remaining c.args.reader.now.inner) (g.R.Read.remaining c.loop-count.reader.inner) _ (g.W.Write.contents c.args.writer.now.inner) (g.W.Write.contents c.loop-count.writer.inner) (g.W.Write.contents c.take_piece.new.writer.inner) i.taken (take n c.read.new.buf) i.text c.in-Err.fault i.consumed read (omega (arith, length-append {A = ℕ}, length-take {A = ℕ}, i.limit, c.min-taken.ensures)) i.written i.goes c.in-Err.ensures.meets;
+      at_read = search rules;
+      at_memory = λ memory. memory_within (g.T.Run.gives c.args.run.now) (g.T.Run.gives c.loop-count.run) (g.R.Read.remaining c.args.reader.now.inner) (g.R.Read.remaining c.loop-count.reader.inner) _ (g.W.Write.contents c.args.writer.now.inner) (g.W.Write.contents c.loop-count.writer.inner) (g.W.Write.contents c.take_piece.new.writer.inner) i.taken (take n c.read.new.buf) i.text c.in-Err.fault memory i.consumed read i.written i.goes c.in-Err.ensures.meets;
+      read = search rules;
+      write = search rules;
+    }
 
-pub returns-in-Err-clause-at_memory : goal.returns-in-Err-clause-at_memory
-returns-in-Err-clause-at_memory g c =
-    let i = c.loop-count.invariant in
-    let n = c.min-taken.result in
-    let read = piece_consumed (g.R.Read.remaining c.loop-count.reader.inner) (g.R.Read.remaining c.read.new.self.inner) c.read.new.buf c.in-Ok.count n c.in-Ok.ensures.bytes.0 (omega (arith, c.min-taken.ensures)) in
-    λ memory. memory_within (g.T.Run.gives c.args.run.now) (g.T.Run.gives c.loop-count.run) (g.R.Read.remaining c.args.reader.now.inner) (g.R.Read.remaining c.loop-count.reader.inner) _ (g.W.Write.contents c.args.writer.now.inner) (g.W.Write.contents c.loop-count.writer.inner) (g.W.Write.contents c.take_piece.new.writer.inner) i.taken (take n c.read.new.buf) i.text c.in-Err.fault memory i.consumed read i.written i.goes c.in-Err.ensures.meets
-
-pub returns-then-is_cut-clause-text : goal.returns-then-is_cut-clause-text
-returns-then-is_cut-clause-text g c =
+pub returns-then-is_cut : goal.returns-then-is_cut
+returns-then-is_cut g c =
     let i = c.loop-count.invariant in
     let n = c.min-taken.result in
     let meets = c.in-Ok-take_piece.ensures.meets in
     let all_read = known_past (g.R.Read.remaining c.args.reader.now.inner) (g.R.Read.remaining c.loop-count.reader.inner) (g.R.Read.remaining c.read.new.self.inner) MAX_INPUT i.taken c.read.new.buf c.in-Ok.count n i.consumed c.in-Ok.ensures.bytes.0 (at_limit MAX_INPUT (length i.taken) n c.in-Ok.count c.loop-count.left c.min-taken.ensures c.if-is_cut.true i.limit) (below n c.in-Ok.count c.loop-count.left c.min-taken.ensures c.if-is_cut.true) c.in-Ok.ensures.bound.0 in
-    known_finish (g.T.Run.gives c.args.run.now) (g.T.Run.gives c.take_piece.new.run) MAX_INPUT (g.R.Read.remaining c.args.reader.now.inner) (g.W.Write.contents c.args.writer.now.inner) (g.W.Write.contents c.take_piece.new.writer.inner) (g.W.Write.contents c.finish-then-is_cut.new.writer.inner) (i.taken ++ take n c.read.new.buf) (i.text ++ meets.0) true c.finish-then-is_cut.result all_read (goes_after (g.T.Run.gives c.args.run.now) (g.T.Run.gives c.loop-count.run) (g.T.Run.gives c.take_piece.new.run) i.taken (take n c.read.new.buf) i.text meets.0 i.goes meets.2) (Appends-trans _ (g.W.Write.contents c.loop-count.writer.inner) _ i.text meets.0 i.written meets.1) c.finish-then-is_cut.ensures.meets
-
-pub returns-then-is_cut-clause-at_memory : goal.returns-then-is_cut-clause-at_memory
-returns-then-is_cut-clause-at_memory g c =
-    let i = c.loop-count.invariant in
-    let n = c.min-taken.result in
-    let meets = c.in-Ok-take_piece.ensures.meets in
     let read = piece_consumed (g.R.Read.remaining c.loop-count.reader.inner) (g.R.Read.remaining c.read.new.self.inner) c.read.new.buf c.in-Ok.count n c.in-Ok.ensures.bytes.0 (omega (arith, c.min-taken.ensures)) in
-    λ memory. memory_at_end (g.T.Run.gives c.args.run.now) (g.T.Run.gives c.take_piece.new.run) true (g.R.Read.remaining c.args.reader.now.inner) _ (g.W.Write.contents c.args.writer.now.inner) (g.W.Write.contents c.take_piece.new.writer.inner) (g.W.Write.contents c.finish-then-is_cut.new.writer.inner) (i.taken ++ take n c.read.new.buf) (i.text ++ meets.0) c.finish-then-is_cut.result memory (Consumes-trans _ (g.R.Read.remaining c.loop-count.reader.inner) _ i.taken (take n c.read.new.buf) i.consumed read) (Appends-trans _ (g.W.Write.contents c.loop-count.writer.inner) _ i.text meets.0 i.written meets.1) (goes_after (g.T.Run.gives c.args.run.now) (g.T.Run.gives c.loop-count.run) (g.T.Run.gives c.take_piece.new.run) i.taken (take n c.read.new.buf) i.text meets.0 i.goes meets.2) (g.met.T.Run.none_where_cut c.take_piece.new.run) c.finish-then-is_cut.ensures.meets
-
-pub returns-then-count-eq0-clause-at_memory : goal.returns-then-count-eq0-clause-at_memory
-returns-then-count-eq0-clause-at_memory g c =
-    let i = c.loop-count.invariant in
-    λ memory. memory_at_end (g.T.Run.gives c.args.run.now) (g.T.Run.gives c.loop-count.run) false (g.R.Read.remaining c.args.reader.now.inner) (g.R.Read.remaining c.loop-count.reader.inner) (g.W.Write.contents c.args.writer.now.inner) (g.W.Write.contents c.loop-count.writer.inner) (g.W.Write.contents c.finish.new.writer.inner) i.taken i.text c.finish.result memory i.consumed i.written i.goes (g.met.T.Run.none_where_cut c.loop-count.run) c.finish.ensures.meets
+    record {
+      text = known_finish (g.T.Run.gives c.args.run.now) (g.T.Run.gives c.take_piece.new.run) MAX_INPUT (g.R.Read.remaining c.args.reader.now.inner) (g.W.Write.contents c.args.writer.now.inner) (g.W.Write.contents c.take_piece.new.writer.inner) (g.W.Write.contents c.finish-then-is_cut.new.writer.inner) (i.taken ++ take n c.read.new.buf) (i.text ++ meets.0) true c.finish-then-is_cut.result all_read (goes_after (g.T.Run.gives c.args.run.now) (g.T.Run.gives c.loop-count.run) (g.T.Run.gives c.take_piece.new.run) i.taken (take n c.read.new.buf) i.text meets.0 i.goes meets.2) (Appends-trans _ (g.W.Write.contents c.loop-count.writer.inner) _ i.text meets.0 i.written meets.1) c.finish-then-is_cut.ensures.meets;
+      at_read = search (rules, c.finish-then-is_cut.ensures.read);
+      at_memory = λ memory. memory_at_end (g.T.Run.gives c.args.run.now) (g.T.Run.gives c.take_piece.new.run) true (g.R.Read.remaining c.args.reader.now.inner) _ (g.W.Write.contents c.args.writer.now.inner) (g.W.Write.contents c.take_piece.new.writer.inner) (g.W.Write.contents c.finish-then-is_cut.new.writer.inner) (i.taken ++ take n c.read.new.buf) (i.text ++ meets.0) c.finish-then-is_cut.result memory (Consumes-trans _ (g.R.Read.remaining c.loop-count.reader.inner) _ i.taken (take n c.read.new.buf) i.consumed read) (Appends-trans _ (g.W.Write.contents c.loop-count.writer.inner) _ i.text meets.0 i.written meets.1) (goes_after (g.T.Run.gives c.args.run.now) (g.T.Run.gives c.loop-count.run) (g.T.Run.gives c.take_piece.new.run) i.taken (take n c.read.new.buf) i.text meets.0 i.goes meets.2) (g.met.T.Run.none_where_cut c.take_piece.new.run) c.finish-then-is_cut.ensures.meets;
+      read = search rules;
+      write = search rules;
+    }
 
 pub loop-count-preserved : goal.loop-count-preserved
 loop-count-preserved g c =

@@ -22,11 +22,15 @@ loop-i-preserved g c =
       end = i.end;
     }
 
-pub returns-clause-text : goal.returns-clause-text
-returns-clause-text g c =
+pub returns : goal.returns
+returns g c =
     let i = c.loop-i.invariant in
     let all =
     sym (append-nil i.text)
     ∙ ap (λ t. i.text ++ t) (sym (entries_done c.args.steps.now c.args.entries.now c.loop-i.i (omega (arith, c.loop-i-test.false, i.end))))
     ∙ i.whole in
-    subst (Appends _ _) all i.written
+    record {
+      text = subst (Appends _ _) all i.written;
+      ok = i.works;
+      err = tt;
+    }

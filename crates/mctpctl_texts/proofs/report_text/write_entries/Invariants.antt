@@ -2,14 +2,13 @@
 use Rattle.std.proofs.Common.{◌≡◌, ℕ, List, ◌++◌, drop, length, min}
 use Rattle.std.specs.Io.KnownBytes.{Appends}
 use Rattle.mctpctl_texts.specs.EntryTexts.{entries_text}
-use Rattle.mctpctl_input.specs.Ports.{inner_of, has_failed}
 use Rattle.mctpctl_texts.proofs.report_text.write_entries.Given as goal
 
 abbrev pub invariant-loop-i : goal.invariant-loop-i
 invariant-loop-i g l = record {
   text : List ℕ;
-  written : Appends (g.W.Write.contents (inner_of l.initial.out)) (g.W.Write.contents (inner_of l.out)) text;
-  works : has_failed l.out ≡ has_failed l.initial.out;
+  written : Appends (g.O.TextWriter.contents l.initial.out) (g.O.TextWriter.contents l.out) text;
+  works : g.O.TextWriter.failed l.out ≡ g.O.TextWriter.failed l.initial.out;
   whole : text ++ entries_text (drop l.i l.steps) (drop l.i l.entries) ≡ entries_text l.steps l.entries;
   end : l.count ≡ min (length l.steps) (length l.entries);
 }

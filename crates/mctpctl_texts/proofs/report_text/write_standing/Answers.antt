@@ -6,7 +6,11 @@ use Rattle.mctpctl_texts.proofs.WrittenParts.{and_last, told_as}
 use Rattle.mctpctl_texts.proofs.report_text.write_standing.Goals as goal
 use Rattle.pldm_requester.specs.Standings.{standing_told}
 
-pub returns-in_ok-write_text-in-Answered-clause-text : goal.returns-in_ok-write_text-in-Answered-clause-text
-returns-in_ok-write_text-in-Answered-clause-text g c =
+pub returns-in_ok-write_text-in-Answered : goal.returns-in_ok-write_text-in-Answered
+returns-in_ok-write_text-in-Answered g c =
     let same : codes "answered " ++ encode_lower c.in-Answered.message.now ≡ standing_text (standing_told c.args.status) = search rules in
-    told_as _ _ _ _ _ same (and_last _ _ _ _ _ _ c.in_ok-write_text-in-Answered.ensures.text c.write_hex.ensures.text)
+    record {
+      text = told_as _ _ _ _ _ same (and_last _ _ _ _ _ _ c.in_ok-write_text-in-Answered.ensures.written.text c.write_hex.ensures.written.text);
+      ok = search rules;
+      err = search rules;
+    }

@@ -1,0 +1,43 @@
+-- Each place has an ID that is not below it, and the place past the last one ends the text.
+use Rattle.std.proofs.Common.{◌<◌, codes, refl, sym, ap, subst, ◌∙◌, arith, rules}
+use Rattle.std.specs.Io.KnownBytes.{Appends}
+use Rattle.std.specs.List.{slice_get}
+use Rattle.std.proofs.lemmas.Option.{slice_get_within}
+use Rattle.mctpctl_texts.specs.ReportTexts.{value_line}
+use Rattle.mctpctl_texts.proofs.PlacesTold.{made_of, place_below, told_to_end, written_further}
+use Rattle.mctpctl_texts.proofs.device_lines.write_sensors.Goals as goal
+use Rattle.pldm_device.specs.Getters.{reading_of}
+
+pub overflow_add-place : goal.overflow_add-place
+overflow_add-place g c =
+    let found = made_of reading_of (slice_get c.args.device.now.numeric_sensors c.loop-id.place) (c.in-Some.id, c.in-Some.value) (sym c.sensor.ensures.value ∙ c.in-Some.is) in
+    let below = place_below c.args.device.now.numeric_sensors c.loop-id.place found.thing c.sensor.ensures.ascending found.found_is in
+    let fits : c.in-Some.id < 65536 = search rules in
+    omega (arith, below, ap (λ told. told.0) found.made, fits)
+
+pub loop-id-smaller : goal.loop-id-smaller
+loop-id-smaller g c =
+    let found = made_of reading_of (slice_get c.args.device.now.numeric_sensors c.loop-id.place) (c.in-Some.id, c.in-Some.value) (sym c.sensor.ensures.value ∙ c.in-Some.is) in
+    omega (arith, slice_get_within c.args.device.now.numeric_sensors c.loop-id.place found.thing found.found_is)
+
+pub loop-id-preserved : goal.loop-id-preserved
+loop-id-preserved g c =
+    let found = made_of reading_of (slice_get c.args.device.now.numeric_sensors c.loop-id.place) (c.in-Some.id, c.in-Some.value) (sym c.sensor.ensures.value ∙ c.in-Some.is) in
+    let i = c.loop-id.invariant in
+    let line : Appends (g.O.TextWriter.contents c.loop-id.out) (g.O.TextWriter.contents c.write_value_line.new.out) (value_line (codes "sensor") (c.in-Some.id, c.in-Some.value)) = search rules in
+    record {
+      written = written_further (λ entry. value_line (codes "sensor") (reading_of entry)) c.args.device.now.numeric_sensors c.loop-id.place found.thing _ _ _ _ i.written line
+          (ap (λ told. value_line (codes "sensor") told) found.made) found.found_is;
+      works = c.in_ok-write_value_line.ensures.ok ∙ i.works;
+      within = omega (arith, slice_get_within c.args.device.now.numeric_sensors c.loop-id.place found.thing found.found_is);
+    }
+
+pub returns : goal.returns
+returns g c =
+    let i = c.loop-id.invariant in
+    let all = told_to_end (λ entry. value_line (codes "sensor") (reading_of entry)) reading_of c.args.device.now.numeric_sensors c.loop-id.place _ refl (sym c.sensor.ensures.value ∙ c.in_default.is) in
+    record {
+      text = subst (Appends _ _) all i.written;
+      ok = i.works;
+      err = tt;
+    }
