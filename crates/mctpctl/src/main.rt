@@ -24,7 +24,8 @@ use std::env;
 use std::io::{BufWriter, ErrorKind, IsTerminal, Read};
 use std::process::ExitCode;
 
-/// How many bytes of the text of a run are gathered before they are written.
+/// How many bytes of the text of a run are gathered before they are written, since most of its parts have a few: as
+/// many as a pipe of Linux holds.
 const GATHERED: usize = 65_536;
 
 fn main(rt: HostRuntime) -> ExitCode {

@@ -31,7 +31,7 @@ pub(crate) fn frames_of(route: &Route, message: &[u8]) -> AnswerBytes
 fn frame_of(packet: &PacketRef<'_>) -> FrameBytes
     ensures { result.items ≡ frame (written packet.now) }
 {
-    let _size = packet.payload();
+    let _size = packet.payload(); // its contract bounds the payload, and so what `write` puts
     let mut bytes = [0; MAX_PACKET_BYTES];
     let count = write(packet, &mut bytes);
     let Some(frame) = frame(&bytes[..count]) else {

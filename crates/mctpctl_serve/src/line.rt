@@ -26,7 +26,8 @@ use pldm_platform::Platform;
 use pldm_responder::{Responder, Taken};
 use std::io::{Read, Write};
 
-/// How many bytes are asked for at once.
+/// How many bytes are asked for at once: a line gives a few at a time, and these hold many frames, in a room that needs
+/// no memory.
 const PIECE: usize = 4_096;
 
 /// A line: what finds packets in its bytes, what answers them, the clock, and who watches.
