@@ -348,11 +348,13 @@ enum needleoat_refusal {
     NEEDLEOAT_NO_MEMORY = 1,        /* a growth was refused, or a bound would be passed; it may be tried again */
     NEEDLEOAT_BAD_MOMENT = 2,       /* the moment is past the last one, or before that of an earlier call */
     NEEDLEOAT_NOTHING_THERE = 3,    /* there is nothing behind the handle */
-    NEEDLEOAT_OUT_OF_TURN = 4,      /* a command is being performed, and not of this request; of an answer: none is */
+    NEEDLEOAT_OUT_OF_TURN = 4,      /* another request of this source and instance ID is being performed;
+                                       of an answer: no command is asked under its number */
     NEEDLEOAT_NOT_ITS_ANSWER = 5,   /* it is the answer to another command */
     NEEDLEOAT_OUT_OF_RANGE = 6,     /* a number is out of its range */
     NEEDLEOAT_ALREADY_THERE = 7,    /* there is something behind the handle */
     NEEDLEOAT_BEING_PERFORMED = 8,  /* the command of this very request is being performed */
+    NEEDLEOAT_TOO_MANY_COMMANDS = 9, /* as many commands are being performed as may be at a time */
     NEEDLEOAT_TAG_IN_USE = 11,      /* the request 8 before this one is still open */
     NEEDLEOAT_ID_IN_USE = 12,       /* the request 32 before was opened less than twice keep_ms ago */
     NEEDLEOAT_NOT_A_COMMAND = 13    /* the bytes are no request that carries a command */
@@ -363,11 +365,16 @@ enum needleoat_refusal {
  * An endpoint takes packets, has each command performed once, and gives the packets of the answers. A copy
  * of a request gets the kept answer. The device is the caller's: where needleoat_endpoint_receive says that
  * a command is to be performed, the caller performs it, however long that takes, and hands its answer to
- * needleoat_endpoint_answer. Until then each packet is refused: it counts as lost on the bus, and its sender
- * sends it again. A packet that alone repeats the request, a whole message of its source, instance ID and bytes,
- * is refused with NEEDLEOAT_BEING_PERFORMED, any other with NEEDLEOAT_OUT_OF_TURN. An answer is kept from the
- * moment of the request's packet on, so a device that takes longer than the keeping time may be asked again by a
- * late repeat.
+ * needleoat_endpoint_answer, with the `asking` of that step: it tells for which command the answer is.
+ *
+ * Meanwhile all other packets are received as ever, and more commands may have to be performed, up to the
+ * number that the endpoint was made with; they may be answered in any order. Refused for their sake are only:
+ * the very request whose command is being performed, byte for byte, in whatever packets and whenever it comes
+ * (NEEDLEOAT_BEING_PERFORMED); another request of its source and instance ID (NEEDLEOAT_OUT_OF_TURN); and a
+ * request whose command would pass the number (NEEDLEOAT_TOO_MANY_COMMANDS). A packet that is refused counts
+ * as lost on the bus, and its sender sends it again. An answer is kept from the moment of the request's packet
+ * on, so a device that takes longer than the keeping time may be asked again by a repeat that comes after the
+ * answer.
  */
 struct needleoat_endpoint {
     void *at;
@@ -380,13 +387,24 @@ struct needleoat_endpoint {
  * not 1 to 60,000; else 2; else 1. `keep_ms` is how long an answer is kept for copies. Answers are kept for
  * at most `sources` other endpoints, 32 for each, and at most `open_messages` messages of several packets
  * are open: a packet that would pass one of these bounds is refused before anything is performed
- * (NEEDLEOAT_NO_MEMORY), and nothing that is kept makes room for it. `first_start` is true only where this
+ * (NEEDLEOAT_NO_MEMORY), and nothing that is kept makes room for it. At most `commands` commands are being
+ * performed at a time; with 0 none is ever performed. `first_start` is true only where this
  * endpoint never ran before. After a reset of the processor it is false: a request that was performed
  * before could come once more, so for `keep_ms` from `now_ms` on each request with a good header is answered
  * with ERROR_NOT_READY and nothing is performed.
  */
-uint8_t needleoat_endpoint_new(uint8_t own, uint32_t keep_ms, size_t sources, size_t open_messages, uint64_t now_ms,
-                               bool first_start, struct needleoat_endpoint *endpoint);
+uint8_t needleoat_endpoint_new(uint8_t own, uint32_t keep_ms, size_t sources, size_t open_messages, size_t commands,
+                               uint64_t now_ms, bool first_start, struct needleoat_endpoint *endpoint);
+
+/*
+ * Under which number a command was asked, and for whose request. No two commands of an endpoint have one
+ * number, also after a restart. Keep it as it is until the answer, one for each command.
+ */
+struct needleoat_asking {
+    uint64_t number;     /* how many commands were asked before */
+    uint8_t source;      /* where the request came from, 8 to 254: the packets of its answer go there */
+    uint8_t instance_id; /* the request's, 0 to 31 */
+};
 
 /* What becomes of a packet, or of the device's answer. */
 struct needleoat_step {
@@ -396,14 +414,16 @@ struct needleoat_step {
     bool changed;   /* of 3: it was, is of a command that sets, and was not refused */
     size_t count;   /* of 3: how many packets the answer has, 1 to 5; else 0 */
     size_t lengths[NEEDLEOAT_PACKETS]; /* the length of each in bytes, 5 to 68 */
+    struct needleoat_asking asking;    /* of 4: for needleoat_endpoint_answer; else zeros */
 };
 
 /*
- * Receives the bytes of a packet that came at a moment: refused with the first of 3, 2, 8, 4 and 1, or one of
- * the other kinds. Where a command is to be performed, its fields are in `command`, with the instance ID 0;
- * otherwise `command` is as it was. Where the packet is answered, packet i of the answer is in front of
- * `packets[i]`. It goes to the source of the request. What else is in `packets` has no meaning. Where the packet
- * was dropped, it may be a control message: hand it on to needleoat_control_reply.
+ * Receives the bytes of a packet that came at a moment: refused with the first of 3, 2, 8, 4, 9 and 1, or one
+ * of the other kinds. Where a command is to be performed, its fields are in `command`, with the instance ID 0,
+ * and `asking` of the step says for whom; otherwise `command` is as it was. Where the packet is answered, packet
+ * i of the answer is in front of `packets[i]`. It goes to the source of the request. What else is in `packets`
+ * has no meaning. Where the packet was dropped, it may be a control message: hand it on to
+ * needleoat_control_reply.
  */
 struct needleoat_step needleoat_endpoint_receive(struct needleoat_endpoint *endpoint, uint64_t now_ms,
                                                  const uint8_t *packet, size_t length,
@@ -411,20 +431,23 @@ struct needleoat_step needleoat_endpoint_receive(struct needleoat_endpoint *endp
                                                  uint8_t packets[NEEDLEOAT_PACKETS][NEEDLEOAT_PACKET_BYTES]);
 
 /*
- * Hands in the answer to the command that is being performed, and gives the packets of it: kind 3, or
- * refused with the first of 3, 4, 6 and 5. The answer is the one that needleoat_answer_write writes: 6 comes
- * exactly where that call writes nothing, 5 where `pldm_type` or `command` is another than the command's,
- * also where `code` is not 0. The instance ID is not looked at beyond that; the request's is sent. It takes
- * no memory. Where it is refused, the command is still to be answered.
+ * Hands in the answer to the command that was asked by the step with this `asking`, and gives the packets of
+ * it: kind 3, or refused with the first of 3, 4, 6 and 5. They go to `asking->source`. 4 comes exactly where no
+ * command is to be answered under these three numbers: it was answered, or forgotten by a restart. The answer
+ * is the one that needleoat_answer_write writes: 6 comes exactly where that call writes nothing, 5 where
+ * `pldm_type` or `command` is another than the command's, also where `code` is not 0. The instance ID in
+ * `answer` is not looked at beyond that; the request's is sent. It takes no memory. Where it is refused, the
+ * command is still to be answered.
  */
 struct needleoat_step needleoat_endpoint_answer(struct needleoat_endpoint *endpoint,
+                                                const struct needleoat_asking *asking,
                                                 const struct needleoat_answer *answer,
                                                 uint8_t packets[NEEDLEOAT_PACKETS][NEEDLEOAT_PACKET_BYTES]);
 
 /*
  * Restarts at a moment: 0, or 3 or 2 of enum needleoat_refusal. The kept answers, the messages that have
- * begun and the command that is being performed are forgotten, and for the keeping time from then on
- * nothing is performed.
+ * begun and the commands that are being performed are forgotten, and for the keeping time from then on
+ * nothing is performed. An answer to one of those commands is refused with 4 from then on.
  */
 uint8_t needleoat_endpoint_restart(struct needleoat_endpoint *endpoint, uint64_t now_ms);
 
@@ -617,13 +640,18 @@ NEEDLEOAT_AT(needleoat_control, pldm_version, 25);
 NEEDLEOAT_ASSERT(sizeof(struct needleoat_endpoint) == 16);
 NEEDLEOAT_AT(needleoat_endpoint, at, 0);
 NEEDLEOAT_AT(needleoat_endpoint, is_live, 8);
-NEEDLEOAT_ASSERT(sizeof(struct needleoat_step) == 56);
+NEEDLEOAT_ASSERT(sizeof(struct needleoat_asking) == 16);
+NEEDLEOAT_AT(needleoat_asking, number, 0);
+NEEDLEOAT_AT(needleoat_asking, source, 8);
+NEEDLEOAT_AT(needleoat_asking, instance_id, 9);
+NEEDLEOAT_ASSERT(sizeof(struct needleoat_step) == 72);
 NEEDLEOAT_AT(needleoat_step, kind, 0);
 NEEDLEOAT_AT(needleoat_step, reason, 1);
 NEEDLEOAT_AT(needleoat_step, fresh, 2);
 NEEDLEOAT_AT(needleoat_step, changed, 3);
 NEEDLEOAT_AT(needleoat_step, count, 8);
 NEEDLEOAT_AT(needleoat_step, lengths, 16);
+NEEDLEOAT_AT(needleoat_step, asking, 56);
 NEEDLEOAT_ASSERT(sizeof(struct needleoat_requester) == 16);
 NEEDLEOAT_AT(needleoat_requester, at, 0);
 NEEDLEOAT_AT(needleoat_requester, is_live, 8);

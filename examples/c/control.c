@@ -7,7 +7,7 @@
 #include <stdio.h>
 #include <string.h>
 
-enum { OWN = 9, KEEP_MS = 1000, SOURCES = 1, OPEN_MESSAGES = 1 };
+enum { OWN = 9, KEEP_MS = 1000, SOURCES = 1, OPEN_MESSAGES = 1, COMMANDS = 1 };
 enum { DROPPED = 1, TO_PERFORM = 4 };
 
 /* The versions 1.3.1 of the base specification and of the control protocol, and 1.0.0 of PLDM over MCTP. */
@@ -40,7 +40,7 @@ static void receive(const char *name, const char *hex) {
 
 int main(void) {
     uint8_t refusal;
-    do refusal = needleoat_endpoint_new(OWN, KEEP_MS, SOURCES, OPEN_MESSAGES, 0, true, &endpoint);
+    do refusal = needleoat_endpoint_new(OWN, KEEP_MS, SOURCES, OPEN_MESSAGES, COMMANDS, 0, true, &endpoint);
     while (refusal == NEEDLEOAT_NO_MEMORY);
     receive("Get Endpoint ID, by the physical address", "010008c8008002");
     receive("Set Endpoint ID to its own", "010008c80081010009");

@@ -9,7 +9,7 @@
 #include <stdio.h>
 #include <string.h>
 
-enum { OWN = 9, KEEP_MS = 1000, SOURCES = 2, OPEN_MESSAGES = 1 };
+enum { OWN = 9, KEEP_MS = 1000, SOURCES = 2, OPEN_MESSAGES = 1, COMMANDS = 1 };
 enum { ERROR_INVALID_DATA = 2, ERROR_UNSUPPORTED_COMMAND = 5, INVALID_EFFECTER_ID = 0x80 };
 enum { FULL_SPEED = 100, ENABLED_NO_UPDATE_PENDING = 1 };
 
@@ -51,7 +51,7 @@ static bool serve(uint64_t now_ms, const uint8_t *packet, size_t length) {
     while (step.kind == 0 && step.reason == NEEDLEOAT_NO_MEMORY);
     if (step.kind == 4) {
         struct needleoat_answer answer = perform(&command);
-        step = needleoat_endpoint_answer(&endpoint, &answer, packets);
+        step = needleoat_endpoint_answer(&endpoint, &step.asking, &answer, packets);
     } else if (step.kind == 1) {
         step.lengths[0] = needleoat_control_reply(&settings, step.reason, packet, length, packets[0]);
         step.count = step.lengths[0] > 0;
@@ -73,7 +73,7 @@ static size_t read_bytes(const char *text, uint8_t *bytes, size_t most) {
 int main(void) {
     char line[512];
     uint8_t packet[128], refusal, well = 1;
-    do refusal = needleoat_endpoint_new(OWN, KEEP_MS, SOURCES, OPEN_MESSAGES, 0, true, &endpoint);
+    do refusal = needleoat_endpoint_new(OWN, KEEP_MS, SOURCES, OPEN_MESSAGES, COMMANDS, 0, true, &endpoint);
     while (refusal == NEEDLEOAT_NO_MEMORY);
     while (fgets(line, sizeof line, stdin) && strcmp(line, "%%\n") != 0) continue;
     while (refusal == 0 && well && fgets(line, sizeof line, stdin)) {

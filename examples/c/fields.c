@@ -374,6 +374,7 @@ static void print_step(const char *what, struct needleoat_step step) {
     printf("%s: kind %u reason %u fresh %d changed %d count %zu lengths", what, step.kind, step.reason, step.fresh,
            step.changed, step.count);
     for (size_t i = 0; i < NEEDLEOAT_PACKETS; i++) printf(" %zu", step.lengths[i]);
+    printf(" asking %u %u %u", (unsigned)step.asking.number, step.asking.source, step.asking.instance_id);
     for (size_t i = 0; i < step.count && i < NEEDLEOAT_PACKETS; i++) {
         printf(" ");
         print_bytes(rooms[i], 5);
@@ -381,65 +382,84 @@ static void print_step(const char *what, struct needleoat_step step) {
     printf("\n");
 }
 
-static void step_receive(const char *what, uint64_t now_ms, const char *hex) {
+/* Receives a packet, and returns under which number its command is asked. */
+static struct needleoat_asking step_receive(const char *what, uint64_t now_ms, const char *hex) {
     uint8_t bytes[NEEDLEOAT_PACKET_BYTES];
     size_t length = from_hex(hex, bytes);
     struct needleoat_command command;
-    print_step(what, needleoat_endpoint_receive(&endpoint, now_ms, bytes, length, &command, rooms));
+    struct needleoat_step step = needleoat_endpoint_receive(&endpoint, now_ms, bytes, length, &command, rooms);
+    print_step(what, step);
+    return step.asking;
 }
 
-static void step_answer(const char *what, const struct needleoat_answer *answer) {
-    print_step(what, needleoat_endpoint_answer(&endpoint, answer, rooms));
+static void step_answer(const char *what, struct needleoat_asking asking, const struct needleoat_answer *answer) {
+    print_step(what, needleoat_endpoint_answer(&endpoint, &asking, answer, rooms));
 }
 
-/* A part of a record with so many bytes, each of which is its own place. */
-static void step_part(uint8_t transfer_flag, size_t length) {
+/* Answers a request for a part of a record with so many bytes, each of which is its own place. */
+static void step_part(const char *hex, uint8_t transfer_flag, size_t length) {
     struct needleoat_answer part = {PLATFORM(0, NEEDLEOAT_GET_PDR), .transfer_flag = transfer_flag, .length = length};
     for (size_t i = 0; i < length; i++) part.bytes[i] = (uint8_t)i;
-    step_answer("answer with a part", &part);
+    step_answer("answer with a part", step_receive("part", 6, hex), &part);
 }
 
 #define SET_OF_8 "010908c8" "0180023101000028"
+#define OTHER_SET_OF_8 "010908c9" "0186023101000032"
 #define PART_OF_8(flags, id) "010908" flags "01" id "025100000000000000000100010000"
 
-static void steps(void) {
-    static const struct needleoat_answer done = {PLATFORM(0, NEEDLEOAT_SET_NUMERIC_EFFECTER_VALUE)};
-    static const struct needleoat_answer refused = {PLATFORM(0, NEEDLEOAT_GET_PDR), .code = 0x82};
+static const struct needleoat_answer done = {PLATFORM(0, NEEDLEOAT_SET_NUMERIC_EFFECTER_VALUE)};
+
+/* The device has two commands at a time, and answers the second one first. */
+static void two_commands(void) {
     static const struct needleoat_answer of_another = {BASE(0, NEEDLEOAT_SET_TID)};
     static const struct needleoat_answer out_of_range = {PLATFORM(32, NEEDLEOAT_SET_NUMERIC_EFFECTER_VALUE)};
-    step_receive("nothing there", 0, SET_OF_8);
-    step_answer("nothing there", &done);
-    printf("made %u", needleoat_endpoint_new(9, 1000, 1, 1, 0, true, &endpoint));
-    printf(" again %u\n", needleoat_endpoint_new(9, 1000, 1, 1, 0, true, &endpoint));
-    step_answer("nothing asked", &done);
-    step_receive("set", 5, SET_OF_8);
+    struct needleoat_asking first = step_receive("set", 5, SET_OF_8);
     step_receive("set again", 5, SET_OF_8);
-    step_receive("set by another", 5, "01090ac8" "0180023101000028");
-    step_receive("set with another instance ID", 5, "010908c8" "0181023101000028");
+    step_receive("first half of the set", 5, "01090888" "01800231");
+    step_receive("second half of the set", 5, "01090858" "01000028");
     step_receive("set to another value", 5, "010908c8" "0180023101000029");
-    step_receive("first half of the set", 5, "01090888" "0180023101000028");
-    step_answer("answer to another command", &of_another);
-    step_answer("answer out of range", &out_of_range);
-    step_answer("answer", &done);
-    step_receive("copy", 6, SET_OF_8);
+    step_receive("set by another", 5, "01090ac8" "0180023101000028");
+    struct needleoat_asking second = step_receive("set with another instance ID", 5, OTHER_SET_OF_8);
+    step_receive("set with another instance ID again", 5, OTHER_SET_OF_8);
+    step_receive("set with a third instance ID", 5, "010908ca" "0187023101000028");
+    step_receive("for another endpoint meanwhile", 5, "010a08c8" "0180023101000028");
+    step_answer("answer to another command", first, &of_another);
+    step_answer("answer out of range", first, &out_of_range);
+    step_answer("answer under another number", (struct needleoat_asking){1, 8, 0}, &done);
+    step_answer("answer to another instance ID", (struct needleoat_asking){0, 8, 6}, &done);
+    step_answer("answer to another source", (struct needleoat_asking){0, 10, 0}, &done);
+    step_answer("answer to no source", (struct needleoat_asking){0, 0, 0}, &done);
+    step_answer("answer to the second", second, &done);
+    step_answer("answer to the first", first, &done);
+    step_answer("answer to the first again", first, &done);
+    step_receive("copy of the first", 6, SET_OF_8);
+    step_receive("copy of the second", 6, OTHER_SET_OF_8);
+}
+
+static void steps(void) {
+    static const struct needleoat_answer refused = {PLATFORM(0, NEEDLEOAT_GET_PDR), .code = 0x82};
+    const struct needleoat_asking none = {0, 8, 0};
+    step_receive("nothing there", 0, SET_OF_8);
+    step_answer("nothing there", none, &done);
+    printf("made %u", needleoat_endpoint_new(9, 1000, 1, 2, 2, 0, true, &endpoint));
+    printf(" again %u\n", needleoat_endpoint_new(9, 1000, 1, 2, 2, 0, true, &endpoint));
+    step_answer("nothing asked", none, &done);
+    two_commands();
     step_receive("before the last moment", 5, SET_OF_8);
     step_receive("for another endpoint", 6, "010a08c8" "0180023101000028");
     step_receive("first packet", 6, "0109088d" "0180023101000028");
     step_receive("another source", 6, "01090ac8" "0180023101000028");
-    step_receive("part", 6, PART_OF_8("c9", "81"));
-    step_part(4, 300);
-    step_receive("part", 6, PART_OF_8("ca", "82"));
-    step_part(0, 60);
-    step_receive("part", 6, PART_OF_8("cb", "83"));
-    step_part(0, 130);
-    step_receive("part", 6, PART_OF_8("cc", "84"));
-    step_part(0, 200);
-    step_receive("part", 6, PART_OF_8("cd", "85"));
-    step_answer("answer with a code", &refused);
+    step_part(PART_OF_8("c9", "81"), 4, 300);
+    step_part(PART_OF_8("ca", "82"), 0, 60);
+    step_part(PART_OF_8("cb", "83"), 0, 130);
+    step_part(PART_OF_8("cc", "84"), 0, 200);
+    step_answer("answer with a code", step_receive("part", 6, PART_OF_8("cd", "85")), &refused);
+    struct needleoat_asking last = step_receive("set before the restart", 6, "010908ce" "0188023101000028");
     printf("restarted %u", needleoat_endpoint_restart(&endpoint, 7));
-    printf(" before %u", needleoat_endpoint_restart(&endpoint, 6));
+    printf(" before %u\n", needleoat_endpoint_restart(&endpoint, 6));
+    step_answer("answer after the restart", last, &done);
     needleoat_endpoint_free(&endpoint);
-    printf(" freed %u\n", needleoat_endpoint_restart(&endpoint, 8));
+    printf("freed %u\n", needleoat_endpoint_restart(&endpoint, 8));
 }
 
 int main(void) {

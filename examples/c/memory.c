@@ -6,7 +6,7 @@
 #include <stdio.h>
 #include <stdlib.h>
 
-enum { FRONT = 16, MANY_SOURCES = 4 };
+enum { FRONT = 16, MANY_SOURCES = 4, MANY_COMMANDS = 5 };
 
 static size_t in_use;
 
@@ -48,17 +48,28 @@ static struct needleoat_step receive(uint8_t source, const uint8_t *message, siz
     return needleoat_endpoint_receive(&endpoint, 0, packet, count, &command, packets);
 }
 
+static struct needleoat_step get_tid(uint8_t source, uint8_t instance_id) {
+    const uint8_t message[] = {1, 0x80 | instance_id, NEEDLEOAT_BASE, NEEDLEOAT_GET_TID};
+    return receive(source, message, sizeof message);
+}
+
 int main(void) {
-    static const uint8_t get_tid[] = {1, 0x80, NEEDLEOAT_BASE, NEEDLEOAT_GET_TID}, two_packets[100] = {1};
+    static const uint8_t two_packets[100] = {1};
     static const struct needleoat_answer tid = {.pldm_type = NEEDLEOAT_BASE, .command = NEEDLEOAT_GET_TID, .tid = 7};
-    needleoat_endpoint_new(9, 1000, MANY_SOURCES, 1, 0, true, &endpoint);
+    needleoat_endpoint_new(9, 1000, MANY_SOURCES, 1, MANY_COMMANDS, 0, true, &endpoint);
     printf("heap of an endpoint at first %zu\n", in_use);
     for (uint8_t i = 0; i < MANY_SOURCES; i++) {
-        if (receive(10 + i, get_tid, sizeof get_tid).kind != 4) return 1;
-        if (needleoat_endpoint_answer(&endpoint, &tid, packets).kind != 3) return 1;
+        struct needleoat_step step = get_tid(10 + i, 0);
+        if (step.kind != 4) return 1;
+        if (needleoat_endpoint_answer(&endpoint, &step.asking, &tid, packets).kind != 3) return 1;
         printf("heap of an endpoint with answers for %d sources %zu\n", i + 1, in_use);
     }
-    if (receive(14, get_tid, sizeof get_tid).reason != NEEDLEOAT_NO_MEMORY) return 1;
+    for (uint8_t i = 1; i <= MANY_COMMANDS; i++) {
+        if (get_tid(10, i).kind != 4) return 1;
+        printf("heap of an endpoint with %d commands too %zu\n", i, in_use);
+    }
+    if (get_tid(10, MANY_COMMANDS + 1).reason != NEEDLEOAT_TOO_MANY_COMMANDS) return 1;
+    if (get_tid(14, 0).reason != NEEDLEOAT_TOO_MANY_COMMANDS) return 1;
     if (receive(14, two_packets, sizeof two_packets).kind != 2) return 1;
     printf("heap of an endpoint with an open message too %zu\n", in_use);
     needleoat_endpoint_free(&endpoint);

@@ -58,16 +58,17 @@ static void control_reply(void) {
 /* An endpoint that is asked for that part: its answer has five packets. */
 static struct needleoat_endpoint endpoint = NEEDLEOAT_ENDPOINT_NONE;
 static struct needleoat_command asked;
+static struct needleoat_asking asking;
 static uint8_t packets[NEEDLEOAT_PACKETS][NEEDLEOAT_PACKET_BYTES];
 
-static void endpoint_new(void) { needleoat_endpoint_new(9, 1000, 1, 1, 0, false, &endpoint); }
+static void endpoint_new(void) { needleoat_endpoint_new(9, 1000, 1, 1, 1, 0, false, &endpoint); }
 static void endpoint_receive(uint64_t now_ms, const uint8_t *message, size_t length) {
     packet_length = needleoat_packet_write(9, 8, true, 0, message, length, 0, packet);
-    needleoat_endpoint_receive(&endpoint, now_ms, packet, packet_length, &asked, packets);
+    asking = needleoat_endpoint_receive(&endpoint, now_ms, packet, packet_length, &asked, packets).asking;
 }
 static void receive_busy(void) { endpoint_receive(999, request, request_length); }
 static void receive_request(void) { endpoint_receive(1000, request, request_length); }
-static void endpoint_answer(void) { needleoat_endpoint_answer(&endpoint, &answer, packets); }
+static void endpoint_answer(void) { needleoat_endpoint_answer(&endpoint, &asking, &answer, packets); }
 static void receive_copy(void) { endpoint_receive(1001, request, request_length); }
 /* The request once more, with another instance ID and in two packets. */
 static void receive_two(void) {
@@ -80,7 +81,8 @@ static void receive_two(void) {
     needleoat_endpoint_receive(&endpoint, 1001, bytes, HEAD + FIRST, &asked, packets);
     bytes[3] = 0x58;
     memcpy(bytes + HEAD, other + FIRST, request_length - FIRST);
-    needleoat_endpoint_receive(&endpoint, 1001, bytes, HEAD + request_length - FIRST, &asked, packets);
+    size_t length = HEAD + request_length - FIRST;
+    asking = needleoat_endpoint_receive(&endpoint, 1001, bytes, length, &asked, packets).asking;
 }
 static void receive_start(void) { endpoint_receive(1002, response, response_length); }
 static void endpoint_restart(void) { needleoat_endpoint_restart(&endpoint, 1003); }

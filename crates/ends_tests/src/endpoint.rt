@@ -1,7 +1,7 @@
 //! An endpoint over a device that is outside, in two steps.
 
 use mctp_packet::{Eid, Keep, Moment};
-use pldm_endpoint::{AnswerRefusal, Endpoint, ReceiveRefusal, Step};
+use pldm_endpoint::{AnswerRefusal, Asking, Endpoint, ReceiveRefusal, Step};
 use pldm_responder::{Bounds, Outcome};
 use pldm_wire::{Answer, Code, Command};
 use std::alloc::Global;
@@ -17,15 +17,22 @@ const GET_TID_OF_ANOTHER: [u8; 8] = [1, 9, 10, 0xc8, 1, 0x80, 0, 2];
 /// The response to the first: terminus ID 5.
 const TID_IS_5: [u8; 10] = [1, 8, 9, 0xc0, 1, 0, 0, 2, 0, 5];
 
-/// Endpoint 9, which keeps the answers to one source for a second.
-fn endpoint(alloc: Global) -> Result<Endpoint, Fail> {
+/// The response to the other: terminus ID 6.
+const TID_OF_ANOTHER_IS_6: [u8; 10] = [1, 10, 9, 0xc0, 1, 0, 0, 2, 0, 6];
+
+/// SetTID to 7 of endpoint 8 to endpoint 9, with instance ID 0.
+const SET_TID: [u8; 9] = [1, 9, 8, 0xc8, 1, 0x80, 0, 1, 7];
+
+/// Endpoint 9, which keeps the answers to so many sources for a second, over a device that has at most so many
+/// commands at a time.
+fn endpoint(alloc: Global, sources: usize, commands: usize) -> Result<Endpoint, Fail> {
     let own = Eid::new(9).ok_or("no endpoint ID")?;
     let keep = Keep::new(1000).ok_or("no keeping time")?;
     let bounds = Bounds {
-        sources: 1,
+        sources,
         open_messages: 1,
     };
-    Ok(Endpoint::new(alloc, own, keep, bounds))
+    Ok(Endpoint::new(alloc, own, keep, bounds, commands))
 }
 
 /// What it makes of a packet at a moment that is not before its last one.
@@ -50,20 +57,31 @@ fn is_answer(outcome: &Outcome, is_fresh: bool, bytes: &[u8]) -> bool {
     }
 }
 
+/// The command that is to be performed.
+fn asking(step: Result<Step, ReceiveRefusal>) -> Result<Asking, Fail> {
+    match step {
+        Ok(Step::Perform(asking)) => Ok(asking),
+        _ => Err("nothing to be performed".into()),
+    }
+}
+
 #[test]
 fn a_copy_gets_the_answer_that_the_device_gave(rt: HostRuntime) -> Result<(), Fail> {
-    let mut endpoint = endpoint(rt.alloc())?;
-    let step = receive(&rt, &mut endpoint, 0, &GET_TID)?;
-    assert!(rt; matches!(&step, Ok(Step::Perform)));
-    assert!(rt; matches!(endpoint.command(), Some(Command::GetTid)));
+    let mut endpoint = endpoint(rt.alloc(), 1, 1)?;
+    let asked = asking(receive(&rt, &mut endpoint, 0, &GET_TID)?)?;
+    assert!(rt; matches!(endpoint.command(&asked), Some(Command::GetTid)));
     let refused = receive(&rt, &mut endpoint, 1, &GET_TID)?;
     assert!(rt; matches!(&refused, Err(ReceiveRefusal::BeingPerformed)));
-    let refused = receive(&rt, &mut endpoint, 1, &GET_TID_OF_ANOTHER)?;
+    let refused = receive(&rt, &mut endpoint, 1, &SET_TID)?;
     assert!(rt; matches!(&refused, Err(ReceiveRefusal::Performing)));
-    let wrong = endpoint.answer(&Answer::SetTid);
+    let refused = receive(&rt, &mut endpoint, 1, &GET_TID_OF_ANOTHER)?;
+    assert!(rt; matches!(&refused, Err(ReceiveRefusal::Full)));
+    let wrong = endpoint.answer(&asked, &Answer::SetTid);
     assert!(rt; matches!(&wrong, Err(AnswerRefusal::OtherCommand)));
-    let outcome = endpoint.answer(&Answer::GetTid { tid: 5 });
+    let outcome = endpoint.answer(&asked, &Answer::GetTid { tid: 5 });
     assert!(rt; matches!(&outcome, Ok(outcome) if is_answer(outcome, true, &TID_IS_5)));
+    let again = endpoint.answer(&asked, &Answer::GetTid { tid: 6 });
+    assert!(rt; matches!(&again, Err(AnswerRefusal::NotAsked)));
     let copy = receive(&rt, &mut endpoint, 999, &GET_TID)?;
     assert!(rt; matches!(&copy, Ok(Step::Done(outcome)) if is_answer(outcome, false, &TID_IS_5)));
     assert_eq!(rt; endpoint.kept(), 1);
@@ -71,20 +89,37 @@ fn a_copy_gets_the_answer_that_the_device_gave(rt: HostRuntime) -> Result<(), Fa
 }
 
 #[test]
+fn two_commands_are_answered_in_any_order(rt: HostRuntime) -> Result<(), Fail> {
+    let mut endpoint = endpoint(rt.alloc(), 2, 2)?;
+    let first = asking(receive(&rt, &mut endpoint, 0, &GET_TID)?)?;
+    let second = asking(receive(&rt, &mut endpoint, 1, &GET_TID_OF_ANOTHER)?)?;
+    assert_eq!(rt; endpoint.performing(), 2);
+    let outcome = endpoint.answer(&second, &Answer::GetTid { tid: 6 });
+    assert!(rt; matches!(&outcome, Ok(outcome) if is_answer(outcome, true, &TID_OF_ANOTHER_IS_6)));
+    let copy = receive(&rt, &mut endpoint, 2, &GET_TID_OF_ANOTHER)?;
+    assert!(rt;
+        matches!(&copy, Ok(Step::Done(outcome)) if is_answer(outcome, false, &TID_OF_ANOTHER_IS_6))
+    );
+    let outcome = endpoint.answer(&first, &Answer::GetTid { tid: 5 });
+    assert!(rt; matches!(&outcome, Ok(outcome) if is_answer(outcome, true, &TID_IS_5)));
+    assert_eq!(rt; endpoint.performing(), 0);
+    assert_eq!(rt; endpoint.kept(), 2);
+    Ok(())
+}
+
+#[test]
 fn a_second_source_is_refused_until_a_restart(rt: HostRuntime) -> Result<(), Fail> {
-    let mut endpoint = endpoint(rt.alloc())?;
-    let _ = receive(&rt, &mut endpoint, 0, &GET_TID)?;
-    let outcome = endpoint.answer(&Answer::Refused(Code::ERROR));
-    assert!(rt; outcome.is_ok());
+    let mut endpoint = endpoint(rt.alloc(), 1, 2)?;
+    let asked = asking(receive(&rt, &mut endpoint, 0, &GET_TID)?)?;
     let refused = receive(&rt, &mut endpoint, 1, &GET_TID_OF_ANOTHER)?;
     assert!(rt; matches!(&refused, Err(ReceiveRefusal::Memory(_))));
     let now = Moment::new(5).ok_or("no moment")?;
     let last = endpoint.last_moment();
     assert!(rt; last <= now);
     endpoint.restart(now);
-    let late = endpoint.answer(&Answer::GetTid { tid: 5 });
+    let late = endpoint.answer(&asked, &Answer::GetTid { tid: 5 });
     assert!(rt; matches!(&late, Err(AnswerRefusal::NotAsked)));
     let served = receive(&rt, &mut endpoint, 1005, &GET_TID_OF_ANOTHER)?;
-    assert!(rt; matches!(&served, Ok(Step::Perform)));
+    assert!(rt; matches!(&served, Ok(Step::Perform(_))));
     Ok(())
 }

@@ -1,14 +1,27 @@
 -- The two steps of the endpoint, one right after the other, are what a responder does.
-use Rattle.std.proofs.Common.{◌≡◌, ℕ, List, [], ◌∷◌, Option, ap, ◌∙◌, subst}
+use Rattle.std.specs.FinMap as map
+use Rattle.std.proofs.Common.{◌≡◌, ℕ, cond, Bool, true, false, List, [], ◌∷◌, Option, Some, None, option_map, refl, sym, ap, ◌∙◌, subst}
+use Rattle.std.specs.Ordering.{eq_by_cmp}
+use Rattle.pldm_wire.specs.Headers.{id_at}
 use Rattle.pldm_wire.specs.declared.answer.Answer.{Answer}
 use Rattle.pldm_wire.specs.declared.command.Command.{Command}
-use Rattle.pldm_responder.specs.Asked.{gives}
+use Rattle.pldm_responder.specs.Asked.{gives, listed}
+use Rattle.pldm_responder.specs.Events.{Message}
+use Rattle.pldm_responder.specs.GivenAnswers.{given_held, kept_bytes, outcome_given}
 use Rattle.pldm_responder.specs.Held.{Held, IsHeld}
 use Rattle.pldm_responder.specs.Steps.{received_commands, received_held, received_outcome}
 use Rattle.pldm_responder.specs.declared.outcome.Outcome.{Outcome}
-use Rattle.pldm_endpoint.specs.TwoSteps.{IsAnsweredBy, IsLeftByAnswer, IsLeftByStep, asks_after, asks_by, bare, left_by, received_step, step_by, unasked}
-use Rattle.pldm_endpoint.specs.declared.endpoint.Asked.{Asked}
+use Rattle.pldm_endpoint.specs.Askers.{Asks, asked_at, asker, asker_cmp, asker_of}
+use Rattle.pldm_endpoint.specs.Histories.{TwoStepsAreOne}
+use Rattle.pldm_endpoint.specs.TwoSteps.{IsAnsweredBy, IsLeftByAnswer, IsLeftByStep, asking_of, asks_after, asks_by, bare, received_step, request_in, step_by, unasked}
+use Rattle.pldm_endpoint.specs.declared.asks.Asked.{Asked}
+use Rattle.pldm_endpoint.specs.declared.asks.Asker.{Asker}
+use Rattle.pldm_endpoint.specs.declared.step.Asking.{Asking}
+use Rattle.pldm_endpoint.specs.declared.step.Step.{Step}
 use Rattle.pldm_endpoint.specs.declared.step.Step.TheVariants.{Done, Perform}
+use Rattle.pldm_endpoint.proofs.AskerOrder.{askers_exact, askers_total}
+use Rattle.pldm_endpoint.proofs.PendingGlue.{just_asked}
+use Rattle.pldm_endpoint.proofs.StepGlue.{then_held}
 use Rattle.fan_board.specs.Served.{IsServed}
 
 -- what holds the same is the same
@@ -24,34 +37,98 @@ one_held new held same =
       last = same.last i;
     }
 
-module _ {S : Type 0} (old : Held S) (moment : ℕ) (bytes : List ℕ) where
-  done_by : (commands : List Command) (new : Held S) (outcome : Outcome) → Done outcome ≡ step_by old moment bytes commands
-      → IsHeld (bare new) (left_by old moment bytes commands) → IsServed old new moment bytes outcome
-  done_by [] new outcome step left = record { given = unasked; returned = cc; left = left }
-  done_by (command ∷ commands) new outcome step left = cc
+-- what is asked alone and answered leaves nothing asked
+none_left : (by : Asker) (v : Asked) → map.remove (map.insert {R = asker_cmp} map.empty by v) by ≡ map.empty
+none_left by v = map.same_map askers_total askers_exact _ _ (λ q. map.get-remove askers_total (map.insert map.empty by v) by q ∙ at (eq_by_cmp asker_cmp q by) q refl)
+  where
+    at : (t : Bool) (q : Asker) → eq_by_cmp asker_cmp q by ≡ t → cond t None (map.get (map.insert {R = asker_cmp} map.empty by v) q) ≡ map.get {R = asker_cmp} map.empty q
+    at true q is = sym (map.get-empty asker_cmp q)
+    at false q is = map.get-insert askers_total map.empty by v q ∙ ap (λ t. cond t (Some v) (map.get {R = asker_cmp} map.empty q)) is
 
-  pub served_done : (new : Held S) (outcome : Outcome) → Done outcome ≡ received_step old moment bytes → IsLeftByStep old moment bytes new
-      → IsServed old new moment bytes outcome
-  served_done new outcome step left = done_by (received_commands old moment bytes) new outcome step left
+one_listed : {A : Type 0} (o : Option A) (x : A) (xs : List A) → listed o ≡ x ∷ xs → xs ≡ []
+one_listed None x xs h = cc
+one_listed (Some y) x xs h = cc
 
-  performed_by : (commands : List Command) (middle new : Held S) (asks : Option Asked) (given : Answer) (outcome : Outcome) → Perform ≡ step_by old moment bytes commands
-      → asks ≡ asks_by old moment bytes commands → IsHeld (bare middle) (left_by old moment bytes commands) → IsAnsweredBy middle asks given outcome → IsLeftByAnswer middle asks given new
-      → IsServed old new moment bytes outcome
-  performed_by [] middle new asks given outcome step are left answered last = cc
-  performed_by (command ∷ commands) middle new asks given outcome step are left answered last =
-      let same = one_held (bare middle) (bare old) left in
-      record {
-        given = given;
-        returned =
-            subst (λ a. IsAnsweredBy middle a given outcome) are answered
-            ∙ ap (λ h. received_outcome (gives given) h moment bytes) same;
-        left =
-            subst (λ h. IsHeld (bare new) (received_held (gives given) h moment bytes)) same
-            (subst (λ a. IsLeftByAnswer middle a given new) are last);
-      }
+abbrev asking_in : Asking → Step → Asking
+asking_in other (Perform asking) = asking
+asking_in other (Done outcome) = other
 
-  pub served_performed : (middle new : Held S) (asks : Option Asked) (given : Answer) (outcome : Outcome) → Perform ≡ received_step old moment bytes
-      → asks ≡ asks_after old moment bytes → IsLeftByStep old moment bytes middle → IsAnsweredBy middle asks given outcome → IsLeftByAnswer middle asks given new
+module _ {S : Type 0} (old : Held S) (moment : ℕ) (bytes : List ℕ) (count : ℕ) where
+  done_by : (request : Option Message) (commands : List Command) (outcome : Outcome) → Done outcome ≡ step_by (received_outcome (gives unasked) (bare old) moment bytes) count request commands
+      → outcome ≡ received_outcome (gives unasked) (bare old) moment bytes
+  done_by None commands outcome step = cc
+  done_by (Some m) [] outcome step = cc
+  done_by (Some m) (command ∷ commands) outcome step = cc
+
+  idle_by : (request : Option Message) (commands : List Command) (outcome : Outcome) (asks : Asks) → Done outcome ≡ step_by (received_outcome (gives unasked) (bare old) moment bytes) count request commands
+      → asks ≡ asks_by map.empty count request commands → asks ≡ map.empty
+  idle_by None commands outcome asks step are = are
+  idle_by (Some m) [] outcome asks step are = are
+  idle_by (Some m) (command ∷ commands) outcome asks step are = cc
+
+  pub served_done : (new : Held S) (outcome : Outcome) → Done outcome ≡ received_step old moment bytes count → IsLeftByStep old moment bytes new
       → IsServed old new moment bytes outcome
-  served_performed middle new asks given outcome step are left answered last =
-      performed_by (received_commands old moment bytes) middle new asks given outcome step are left answered last
+  served_done new outcome step left = record {
+    given = unasked;
+    returned = done_by (request_in old moment bytes) (received_commands old moment bytes) outcome step;
+    left = left;
+  }
+
+  pub idle_done : (outcome : Outcome) (asks : Asks) → Done outcome ≡ received_step old moment bytes count → asks ≡ asks_after old moment bytes map.empty count → asks ≡ map.empty
+  idle_done outcome asks step are = idle_by (request_in old moment bytes) (received_commands old moment bytes) outcome asks step are
+
+  -- the request and the command of an asking
+  pub record IsAskingOf (asking : Asking) (asks : Asks) : Type 0 where
+    pub m : Message
+    pub command : Command
+    pub arrives : request_in old moment bytes ≡ Some m
+    pub commands : received_commands old moment bytes ≡ command ∷ []
+    pub number : asking ≡ asking_of m count
+    pub are : asks ≡ map.insert map.empty (asker_of m) (record { tag = m.tag; number = count; command = command })
+
+  asking_by : (request : Option Message) (commands : List Command) (asking : Asking) (asks : Asks)
+      → request_in old moment bytes ≡ request → received_commands old moment bytes ≡ commands
+      → Perform asking ≡ step_by (received_outcome (gives unasked) (bare old) moment bytes) count request commands → asks ≡ asks_by map.empty count request commands
+      → listed (option_map (λ (a : Asked). a.command) (asked_at asks asking)) ≡ commands → IsAskingOf asking asks
+  asking_by None commands asking asks r c step are ready = cc
+  asking_by (Some m) [] asking asks r c step are ready = cc
+  asking_by (Some m) (command ∷ commands) asking asks r c step are ready = record {
+    m = m;
+    command = command;
+    arrives = r;
+    commands = c ∙ ap (λ cs. command ∷ cs) (one_listed _ command commands ready);
+    number = ap (asking_in (asking_of m count)) step;
+    are = are;
+  }
+
+  pub asking_is : (asking : Asking) (asks : Asks) → Perform asking ≡ received_step old moment bytes count → asks ≡ asks_after old moment bytes map.empty count
+      → listed (option_map (λ (a : Asked). a.command) (asked_at asks asking)) ≡ received_commands old moment bytes → IsAskingOf asking asks
+  asking_is asking asks step are ready = asking_by (request_in old moment bytes) (received_commands old moment bytes) asking asks refl refl step are ready
+
+  module _ (asking : Asking) (asks : Asks) (is : IsAskingOf asking asks) where
+    pub found : asked_at asks asking ≡ Some (record { tag = is.m.tag; number = count; command = is.command })
+    found = ap (λ x. asked_at x asking) is.are ∙ ap (asked_at (map.insert map.empty (asker_of is.m) (record { tag = is.m.tag; number = count; command = is.command }))) is.number ∙ just_asked map.empty (asker_of is.m) (record { tag = is.m.tag; number = count; command = is.command })
+
+    pub idle_again : map.remove asks (asker asking.source asking.id) ≡ map.empty
+    idle_again =
+        ap (λ x. map.remove x (asker asking.source asking.id)) is.are
+        ∙ ap (λ (k : Asking). map.remove (map.insert map.empty (asker_of is.m) (record { tag = is.m.tag; number = count; command = is.command })) (asker k.source k.id)) is.number
+        ∙ none_left (asker_of is.m) (record { tag = is.m.tag; number = count; command = is.command })
+
+    pub served_performed : TwoStepsAreOne → (middle new : Held S) (given : Answer) (outcome : Outcome) → IsLeftByStep old moment bytes middle
+        → IsAnsweredBy middle asking given (asked_at asks asking) outcome → IsLeftByAnswer middle asking given new → IsServed old new moment bytes outcome
+    served_performed law middle new given outcome left answered last =
+        let same = one_held (bare middle) (received_held (gives unasked) (bare old) moment bytes) left in
+        let one = law (bare old) moment bytes is.m is.command given is.arrives is.commands in
+        record {
+          given = given;
+          returned =
+              subst (λ (k : Asking). IsAnsweredBy middle k given (Some (record { tag = is.m.tag; number = count; command = is.command })) outcome) is.number
+              (subst (λ o. IsAnsweredBy middle asking given o outcome) found answered)
+              ∙ ap (λ (h : Held (Unit {0})). outcome_given h.own is.m.source is.m.tag (kept_bytes (h.kept is.m.source (id_at is.m.bytes))) given) same
+              ∙ one.0;
+          left = then_held _ _ _
+              (subst (λ (h : Held (Unit {0})). IsHeld (bare new) (given_held h is.m.source (id_at is.m.bytes) given)) same
+              (subst (λ (k : Asking). IsLeftByAnswer middle k given new) is.number last))
+              one.1;
+        }

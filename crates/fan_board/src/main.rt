@@ -6,7 +6,8 @@ mod board;
 mod packet_line;
 mod service;
 
-ghost use Rattle.std.specs.Prelude.{◌≡◌, None};
+ghost use Rattle.std.specs.FinMap as map;
+ghost use Rattle.std.specs.Prelude.{◌≡◌};
 
 use crate::board::Board;
 use crate::packet_line::{LineFault, TimedPacket, read_line};
@@ -28,6 +29,9 @@ const BOUNDS: Bounds = Bounds {
     open_messages: 2,
 };
 
+/// The board performs one command at a time.
+const COMMANDS: usize = 1;
+
 fn main(rt: HostRuntime) -> anyhow::Result<()> {
     let mut board = Board::new();
     let mut endpoint = new_endpoint(rt.alloc());
@@ -42,12 +46,12 @@ fn main(rt: HostRuntime) -> anyhow::Result<()> {
 
 /// The endpoint in front of the board.
 fn new_endpoint(alloc: Global) -> Endpoint
-    ensures { result.asks ≡ None }
+    ensures { result.asks ≡ map.empty }
 {
     let (Some(own), Some(keep)) = (Eid::new(OWN), Keep::new(KEEP)) else {
         unreachable!();
     };
-    Endpoint::new(alloc, own, keep, BOUNDS)
+    Endpoint::new(alloc, own, keep, BOUNDS, COMMANDS)
 }
 
 /// Serves a packet and writes what becomes of it: `drop NAME`, `partial`, `lost` where there was no room for it, or
@@ -58,8 +62,8 @@ fn handle(
     board: &mut Board,
     packet: &TimedPacket,
 ) -> anyhow::Result<()>
-    requires { endpoint.old.asks ≡ None }
-    ensures { endpoint.new.asks ≡ None }
+    requires { endpoint.old.asks ≡ map.empty }
+    ensures { endpoint.new.asks ≡ map.empty }
 {
     if packet.moment.get() < endpoint.last_moment().get() {
         return Err(LineFault::BackInTime.into());

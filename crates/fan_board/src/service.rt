@@ -1,51 +1,59 @@
 //! The board behind its endpoint.
 
-ghost use Rattle.std.specs.Prelude.{◌≡◌, ◌≤◌, None, true, IfOk, OnErr};
+ghost use Rattle.std.specs.FinMap as map;
+ghost use Rattle.std.specs.Prelude.{◌≡◌, ◌≤◌, ◌⊎◌, Some, true, IfOk, IfErr, OnErr};
 ghost use Rattle.pldm_responder.specs.Held.{IsHeld};
+ghost use Rattle.pldm_responder.specs.Rooms.{IsCommanded};
 ghost use Rattle.pldm_responder.specs.Stations.{held_of};
 ghost use Rattle.pldm_responder.specs.Wants.{WantsMemory};
+ghost use Rattle.pldm_endpoint.specs.Refusing.{IsOfMemory, refused_by};
 ghost use Rattle.pldm_endpoint.specs.TwoSteps.{bare};
 ghost use Rattle.fan_board.specs.Served.{IsServed};
 
 use crate::board::Board;
-use mctp_packet::{Memory, Moment};
+use mctp_packet::Moment;
+use pldm_endpoint::laws::answers_come_in_turn;
 use pldm_endpoint::{Endpoint, ReceiveRefusal, Step};
 use pldm_responder::Outcome;
 
 /// Gives a packet to the endpoint, and has the board perform the command that it asks for, if any. Here the board
-/// answers before the next packet is looked at; a slower one would be asked now and answer later.
+/// answers before the next packet is looked at; a slower one would be asked now and answer later, and more commands
+/// could be asked meanwhile.
 ///
 /// # Errors
 ///
-/// `Memory` where there was none, or the endpoint's bounds leave no room: the packet is lost, and all is as before.
+/// As from [`Endpoint::receive`]: the packet is lost, and all is as before. The board is asked no command then.
 pub fn serve(
     endpoint: &mut Endpoint,
     board: &mut Board,
     now: Moment,
     packet: &[u8],
-) -> Result<Outcome, Memory>
-    requires idle { endpoint.old.asks ≡ None }
+) -> Result<Outcome, ReceiveRefusal>
+    requires idle { endpoint.old.asks ≡ map.empty }
     requires later { (held_of endpoint.old.station).last ≤ now }
     ensures served { IfOk result
         (λ outcome. IsServed (held_of endpoint.old.station) (held_of endpoint.new.station) now packet.now outcome) }
-    ensures memory { OnErr result (WantsMemory (held_of endpoint.old.station) true now packet.now) }
+    ensures refused { IfErr result (λ refusal.
+        IsOfMemory refusal ⊎ (refused_by endpoint.old now packet.now ≡ Some refusal)) }
+    ensures memory { IfErr result (λ refusal. IsOfMemory refusal
+        → WantsMemory (held_of endpoint.old.station) true now packet.now
+        ⊎ IsCommanded (held_of endpoint.old.station) now packet.now) }
     ensures err { OnErr result
         (IsHeld (bare (held_of endpoint.new.station)) (bare (held_of endpoint.old.station))) }
-    ensures idle { endpoint.new.asks ≡ None }
+    ensures idle { endpoint.new.asks ≡ map.empty }
 {
-    match endpoint.receive(now, packet) {
-        Ok(Step::Done(outcome)) => Ok(outcome),
-        Ok(Step::Perform) => match endpoint.command() {
-            Some(command) => {
-                let answer = board.perform(now, command);
-                match endpoint.answer(&answer) {
-                    Ok(outcome) => Ok(outcome),
-                    Err(_) => unreachable!(),
-                }
-            }
-            None => unreachable!(),
-        },
-        Err(ReceiveRefusal::Memory(memory)) => Err(memory),
-        Err(ReceiveRefusal::Performing | ReceiveRefusal::BeingPerformed) => unreachable!(),
+    answers_come_in_turn();
+    let asking = match endpoint.receive(now, packet) {
+        Ok(Step::Perform(asking)) => asking,
+        Ok(Step::Done(outcome)) => return Ok(outcome),
+        Err(refusal) => return Err(refusal),
+    };
+    let Some(command) = endpoint.command(&asking) else {
+        unreachable!();
+    };
+    let answer = board.perform(now, command);
+    match endpoint.answer(&asking, &answer) {
+        Ok(outcome) => Ok(outcome),
+        Err(_) => unreachable!(),
     }
 }

@@ -2,7 +2,7 @@
 use Rattle.std.proofs.Common.{◌≡◌, refl}
 use Rattle.needleoat_c.specs.declared.refusals.TheConstants.{ALREADY_THERE, BAD_MOMENT, BEING_PERFORMED, ID_IN_USE, NOTHING_THERE}
 use Rattle.needleoat_c.specs.declared.refusals.TheConstants.{NO_COMMAND, NO_MEMORY, NOT_ITS_ANSWER, OUT_OF_RANGE}
-use Rattle.needleoat_c.specs.declared.refusals.TheConstants.{OUT_OF_TURN, TAG_IN_USE}
+use Rattle.needleoat_c.specs.declared.refusals.TheConstants.{OUT_OF_TURN, TAG_IN_USE, TOO_MANY_COMMANDS}
 
 no_memory : NO_MEMORY ≡ 1
 no_memory = refl
@@ -27,6 +27,9 @@ already_there = refl
 
 being_performed : BEING_PERFORMED ≡ 8
 being_performed = refl
+
+too_many_commands : TOO_MANY_COMMANDS ≡ 9
+too_many_commands = refl
 
 tag_in_use : TAG_IN_USE ≡ 11
 tag_in_use = refl

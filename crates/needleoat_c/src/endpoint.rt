@@ -1,5 +1,6 @@
 //! The work of each call on the endpoint behind a handle.
 
+ghost use Rattle.std.specs.FinMap as map;
 ghost use Rattle.std.specs.Prelude.{◌≡◌, ◌≤◌, None, Some, Ok, Err, IfErr, IfSome, IsSome, OnOk, OnErr, is_some, slice_get};
 ghost use Rattle.mctp_packet.specs.Pieces.{written_packets};
 ghost use Rattle.pldm_wire.specs.Answers.{IsAnswerTo};
@@ -7,18 +8,20 @@ ghost use Rattle.pldm_wire.specs.Commands.{kind_of};
 ghost use Rattle.pldm_responder.specs.Answering.{answering};
 ghost use Rattle.pldm_responder.specs.Held.{IsHeld};
 ghost use Rattle.pldm_responder.specs.Stations.{held_of};
+ghost use Rattle.pldm_endpoint.specs.Askers.{asked_at, asker};
 ghost use Rattle.pldm_endpoint.specs.TwoSteps.{bare};
-ghost use Rattle.needleoat_c.specs.Endpoints.{AreOf, ArePackets, HasCommand, IsInFront, IsNew, IsReportedSo, ReportsHandedIn, ReportsOutcome, ReportsPacketIn, answered_by, asked_by, forgotten_by, given_to, is_next, received_by, refusal_at, restarted_by, started};
+ghost use Rattle.needleoat_c.specs.Endpoints.{AreOf, ArePackets, HasCommand, IsInFront, IsNew, IsReportedSo, ReportsHandedIn, ReportsOutcome, ReportsPacketIn, answered_by, asked_by, asked_in, counted_by, forgotten_by, given_to, is_next, number_of_refusal, received_by, refusal_at, restarted_by, started};
 
 use crate::refusals::{
     BAD_MOMENT, BEING_PERFORMED, NO_MEMORY, NOT_ITS_ANSWER, OUT_OF_RANGE, OUT_OF_TURN,
+    TOO_MANY_COMMANDS,
 };
-use crate::reports::StepReport;
+use crate::reports::{AskingFields, StepReport};
 use mctp_packet::{
     Body, Eid, Keep, MAX_PACKET_BYTES, MAX_PACKETS, Moment, Route, UNIT, packet_at, write,
 };
 use needleoat_forms::{AnswerFields, CommandFields, answer_of};
-use pldm_endpoint::{Endpoint, ReceiveRefusal, TakenStep};
+use pldm_endpoint::{Asking, Endpoint, ReceiveRefusal, TakenStep};
 use pldm_responder::{Bounds, Taken};
 use pldm_wire::{Answer, Command, INSTANCE_IDS};
 use std::alloc::Global;
@@ -29,12 +32,13 @@ pub(crate) fn start(
     own: Eid,
     keep: Keep,
     bounds: Bounds,
+    commands: usize,
     now: Moment,
     first_start: bool,
 ) -> Endpoint
-    ensures { IsNew (started own keep first_start now) bounds (Some result) }
+    ensures { IsNew (started own keep first_start now) bounds commands (Some result) }
 {
-    let mut endpoint = Endpoint::new(alloc, own, keep, bounds);
+    let mut endpoint = Endpoint::new(alloc, own, keep, bounds, commands);
     if !first_start {
         endpoint.restart(now);
     }
@@ -60,6 +64,8 @@ pub(crate) fn restart(endpoint: &mut Endpoint, now_ms: u64) -> u8
     ensures held { IsHeld (bare (held_of endpoint.new.station)) (restarted_by now_ms result endpoint.old) }
     ensures bounds { endpoint.new.station.bounds ≡ endpoint.old.station.bounds }
     ensures asks { endpoint.new.asks ≡ forgotten_by result endpoint.old }
+    ensures count { endpoint.new.count ≡ endpoint.old.count }
+    ensures most { endpoint.new.most ≡ endpoint.old.most }
 {
     let Some(now) = next_moment(endpoint, now_ms) else {
         return BAD_MOMENT;
@@ -77,58 +83,77 @@ pub(crate) fn receive(
     packets: &mut [[u8; MAX_PACKET_BYTES]; MAX_PACKETS],
 ) -> StepReport
     ensures report { ReportsPacketIn now_ms packet.now result packets.new endpoint.old }
-    ensures command { HasCommand result.kind endpoint.new.asks command.old command.new }
+    ensures command { HasCommand result.kind (asked_in result.asking endpoint.new) command.old command.new }
     ensures held { IsHeld (bare (held_of endpoint.new.station))
         (received_by now_ms packet.now result.kind endpoint.old) }
     ensures bounds { endpoint.new.station.bounds ≡ endpoint.old.station.bounds }
     ensures asks { endpoint.new.asks ≡ asked_by now_ms packet.now result.kind endpoint.old }
+    ensures count { endpoint.new.count ≡ counted_by now_ms packet.now result.kind endpoint.old }
+    ensures most { endpoint.new.most ≡ endpoint.old.most }
 {
     let Some(now) = next_moment(endpoint, now_ms) else {
         return StepReport::without(0, BAD_MOMENT);
     };
     let mut reply = Body::new();
     match endpoint.receive_message(now, packet, &mut reply) {
-        Ok(TakenStep::Perform) => {
-            put_command(endpoint, command);
-            StepReport::without(4, 0)
+        Ok(TakenStep::Perform(asking)) => {
+            put_command(endpoint, &asking, command);
+            StepReport::to_perform(&asking)
         }
         Ok(TakenStep::Done(taken)) => report_of(&taken, &reply, packets),
-        Err(ReceiveRefusal::Performing) => StepReport::without(0, OUT_OF_TURN),
-        Err(ReceiveRefusal::BeingPerformed) => StepReport::without(0, BEING_PERFORMED),
-        Err(ReceiveRefusal::Memory(_)) => StepReport::without(0, NO_MEMORY),
+        Err(refusal) => StepReport::without(0, refusal_number(refusal)),
     }
 }
 
-/// Puts the fields of the command that is asked.
-fn put_command(endpoint: &Endpoint, fields: &mut CommandFields)
-    requires { IsSome endpoint.now.asks }
-    ensures { AreOf endpoint.now.asks fields.new }
+/// The number that says why a packet was refused.
+fn refusal_number(refusal: ReceiveRefusal) -> u8
+    ensures { result ≡ number_of_refusal refusal }
 {
-    match endpoint.command() {
+    match refusal {
+        ReceiveRefusal::Performing => OUT_OF_TURN,
+        ReceiveRefusal::BeingPerformed => BEING_PERFORMED,
+        ReceiveRefusal::Full => TOO_MANY_COMMANDS,
+        ReceiveRefusal::Memory(_) => NO_MEMORY,
+    }
+}
+
+/// Puts the fields of the command that is asked under this number.
+fn put_command(endpoint: &Endpoint, asking: &Asking, fields: &mut CommandFields)
+    requires { IsSome (asked_at endpoint.now.asks asking.now) }
+    ensures { AreOf (asked_at endpoint.now.asks asking.now) fields.new }
+{
+    match endpoint.command(asking) {
         Some(command) => fields.set(0, command),
         None => unreachable!(),
     }
 }
 
-/// Hands in the device's answer. The message that answers the request is put into `reply`. An `Err` has the number that
-/// says why the answer was refused.
+/// Hands in the device's answer to the command that was asked under a number. The message that answers the request is
+/// put into `reply`. An `Err` has the number that says why the answer was refused.
 pub(crate) fn answer(
     endpoint: &mut Endpoint,
+    asked: &AskingFields,
     fields: &AnswerFields,
     reply: &mut Body,
 ) -> Result<Taken, u8>
-    ensures report { IsReportedSo reply.new.items result fields.now endpoint.old }
-    ensures held { IsHeld (bare (held_of endpoint.new.station)) (answered_by fields.now endpoint.old) }
+    ensures report { IsReportedSo reply.new.items result asked.now fields.now endpoint.old }
+    ensures held { IsHeld (bare (held_of endpoint.new.station)) (answered_by asked.now fields.now endpoint.old) }
     ensures bounds { endpoint.new.station.bounds ≡ endpoint.old.station.bounds }
-    ensures answered { OnOk result (endpoint.new.asks ≡ None) }
+    ensures answered { OnOk result (endpoint.new.asks
+        ≡ map.remove endpoint.old.asks (asker asked.now.source asked.now.instance_id)) }
     ensures refused { OnErr result (endpoint.new.asks ≡ endpoint.old.asks) }
+    ensures count { endpoint.new.count ≡ endpoint.old.count }
+    ensures most { endpoint.new.most ≡ endpoint.old.most }
 {
-    let Some(command) = endpoint.command() else {
+    let Some(asking) = asked.asking() else {
+        return Err(OUT_OF_TURN);
+    };
+    let Some(command) = endpoint.command(&asking) else {
         return Err(OUT_OF_TURN);
     };
     let mut answer = Answer::SetTid;
     put_given(command, fields, &mut answer)?;
-    match endpoint.answer_message(&answer, reply) {
+    match endpoint.answer_message(&asking, &answer, reply) {
         Ok(taken) => Ok(taken),
         Err(_) => unreachable!(),
     }
@@ -197,6 +222,7 @@ fn report_of(
             changed: *changed,
             count: reply.len().div_ceil(UNIT),
             lengths: put_packets(route, reply, rooms),
+            asking: AskingFields::none(),
         },
     }
 }

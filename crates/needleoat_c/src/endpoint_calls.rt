@@ -2,20 +2,21 @@
 
 ghost use Rattle.std.specs.Prelude.{◌≡◌, ◌≢◌, ◌≤◌, ◌⊎◌, false, true};
 ghost use Rattle.mctp_packet.specs.declared.TheConstants.{MAX_MOMENT};
-ghost use Rattle.needleoat_c.specs.Endpoints.{AsksAfter, HasCommand, HoldsAfter, IsNew, IsSetup, IsUpheld, ReportsAnswer, ReportsPacket, answered_by, asked, asked_after, asked_by, asking, bounds, forgotten_by, received_by, refusal_at, restarted_by, started, unchanged};
+ghost use Rattle.needleoat_c.specs.Endpoints.{AsksAfter, HasCommand, HoldsAfter, IsNew, IsSetup, IsUpheld, ReportsAnswer, ReportsPacket, answered_by, asked, asked_after, asked_by, asking, bounds, counted, counted_by, forgotten_by, received_by, refusal_at, restarted_by, started, unchanged};
 
 use crate::endpoint;
 use crate::endpoint_handle::EndpointForC;
 use crate::refusals::{ALREADY_THERE, BAD_MOMENT, NO_MEMORY, NOTHING_THERE, OUT_OF_RANGE};
-use crate::reports::StepReport;
+use crate::reports::{AskingFields, StepReport};
 use mctp_packet::{Body, Eid, Keep, MAX_PACKET_BYTES, MAX_PACKETS, Moment};
 use needleoat_forms::{AnswerFields, CommandFields};
 use pldm_responder::Bounds;
 use std::alloc::Global;
 
 /// Makes an endpoint with room for the answers to so many sources, and for so many messages of several
-/// packets that have begun: 0, or why not. It performs nothing for the keeping time from `now_ms` on,
-/// unless this is the first start ever: a processor that was reset may have performed a request before.
+/// packets that have begun; its device has at most so many commands at a time: 0, or why not. It performs
+/// nothing for the keeping time from `now_ms` on, unless this is the first start ever: a processor that
+/// was reset may have performed a request before.
 #[unsafe(no_mangle)]
 pub extern "C" fn needleoat_endpoint_new(
     alloc: Global,
@@ -23,6 +24,7 @@ pub extern "C" fn needleoat_endpoint_new(
     keep_ms: u32,
     sources: usize,
     open_messages: usize,
+    commands: usize,
     now_ms: u64,
     first_start: bool,
     endpoint: &mut EndpointForC,
@@ -36,9 +38,9 @@ pub extern "C" fn needleoat_endpoint_new(
     ensures number { endpoint.old.is_live ≡ false → IsSetup own keep_ms → now_ms ≤ MAX_MOMENT
         → (result ≡ 0) ⊎ (result ≡ NO_MEMORY) }
     ensures made { result ≡ 0 →
-        IsNew (started own keep_ms first_start now_ms) (bounds sources open_messages) endpoint.new.handle.held }
+        IsNew (started own keep_ms first_start now_ms) (bounds sources open_messages) commands endpoint.new.handle.held }
     ensures refused { result ≢ 0 → HoldsAfter unchanged endpoint.old.handle.held endpoint.new.handle.held }
-    ensures asks { result ≢ 0 → AsksAfter asked endpoint.old.handle.held endpoint.new.handle.held }
+    ensures asks { result ≢ 0 → AsksAfter asked counted endpoint.old.handle.held endpoint.new.handle.held }
 {
     if endpoint.is_live {
         return ALREADY_THERE;
@@ -55,7 +57,7 @@ pub extern "C" fn needleoat_endpoint_new(
     };
     match Box::new(
         alloc,
-        endpoint::start(alloc, own, keep, bounds, now, first_start),
+        endpoint::start(alloc, own, keep, bounds, commands, now, first_start),
     ) {
         Ok(inside) => {
             endpoint.handle.put(inside);
@@ -67,8 +69,8 @@ pub extern "C" fn needleoat_endpoint_new(
 }
 
 /// Receives the bytes of a packet that came at a moment. Where the report says that a command is to be
-/// performed, its fields are in `command`; where it says that the packet is answered, the packets of
-/// the answer are in front of the rooms of `packets`.
+/// performed, its fields are in `command`, and the report says under which number it is asked; where it
+/// says that the packet is answered, the packets of the answer are in front of the rooms of `packets`.
 #[unsafe(no_mangle)]
 pub extern "C" fn needleoat_endpoint_receive(
     alloc: Global,
@@ -81,10 +83,10 @@ pub extern "C" fn needleoat_endpoint_receive(
     requires { IsUpheld endpoint.old }
     ensures upheld { IsUpheld endpoint.new }
     ensures report { ReportsPacket now_ms packet.now result packets.new endpoint.old.handle.held }
-    ensures command { HasCommand result.kind (asking endpoint.new.handle.held) command.old command.new }
+    ensures command { HasCommand result.kind (asking result.asking endpoint.new.handle.held) command.old command.new }
     ensures held { HoldsAfter (received_by now_ms packet.now result.kind)
         endpoint.old.handle.held endpoint.new.handle.held }
-    ensures asks { AsksAfter (asked_by now_ms packet.now result.kind)
+    ensures asks { AsksAfter (asked_by now_ms packet.now result.kind) (counted_by now_ms packet.now result.kind)
         endpoint.old.handle.held endpoint.new.handle.held }
 {
     if !endpoint.is_live {
@@ -96,32 +98,33 @@ pub extern "C" fn needleoat_endpoint_receive(
     report
 }
 
-/// Hands in the device's answer to the command that it performs. The report has the packets of the
-/// answer, or says why it was refused; the command is then still to be answered.
+/// Hands in the device's answer to the command that it was asked under this number. The report has the
+/// packets of the answer, or says why it was refused; the command is then still to be answered.
 #[unsafe(no_mangle)]
 pub extern "C" fn needleoat_endpoint_answer(
     alloc: Global,
     endpoint: &mut EndpointForC,
+    asked: &AskingFields,
     answer: &AnswerFields,
     packets: &mut [[u8; MAX_PACKET_BYTES]; MAX_PACKETS],
 ) -> StepReport
     requires { IsUpheld endpoint.old }
     ensures upheld { IsUpheld endpoint.new }
-    ensures report { ReportsAnswer answer.now result packets.new endpoint.old.handle.held }
-    ensures held { HoldsAfter (answered_by answer.now) endpoint.old.handle.held endpoint.new.handle.held }
-    ensures asks { AsksAfter (asked_after result.kind) endpoint.old.handle.held endpoint.new.handle.held }
+    ensures report { ReportsAnswer asked.now answer.now result packets.new endpoint.old.handle.held }
+    ensures held { HoldsAfter (answered_by asked.now answer.now) endpoint.old.handle.held endpoint.new.handle.held }
+    ensures asks { AsksAfter (asked_after asked.now result.kind) counted endpoint.old.handle.held endpoint.new.handle.held }
 {
     if !endpoint.is_live {
         return StepReport::without(0, NOTHING_THERE);
     }
     let mut reply = Body::new();
     let mut inside = endpoint.handle.take(alloc);
-    let given = endpoint::answer(&mut inside, answer, &mut reply);
+    let given = endpoint::answer(&mut inside, asked, answer, &mut reply);
     endpoint.handle.put(inside);
     endpoint::report(&given, &reply, packets)
 }
 
-/// Restarts the endpoint at a moment: 0, or why not. The kept answers and the command that is asked are
+/// Restarts the endpoint at a moment: 0, or why not. The kept answers and the commands that are asked are
 /// forgotten, and nothing is performed for the keeping time from then on.
 #[unsafe(no_mangle)]
 pub extern "C" fn needleoat_endpoint_restart(
@@ -133,7 +136,7 @@ pub extern "C" fn needleoat_endpoint_restart(
     ensures upheld { IsUpheld endpoint.new }
     ensures refusal { result ≡ refusal_at now_ms endpoint.old.handle.held }
     ensures held { HoldsAfter (restarted_by now_ms result) endpoint.old.handle.held endpoint.new.handle.held }
-    ensures asks { AsksAfter (forgotten_by result) endpoint.old.handle.held endpoint.new.handle.held }
+    ensures asks { AsksAfter (forgotten_by result) counted endpoint.old.handle.held endpoint.new.handle.held }
 {
     if !endpoint.is_live {
         return NOTHING_THERE;

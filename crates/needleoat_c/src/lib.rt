@@ -17,7 +17,7 @@ pub use endpoint_calls::{
     needleoat_endpoint_receive, needleoat_endpoint_restart,
 };
 pub use endpoint_handle::{EndpointForC, EndpointHandle, HiddenEndpoint};
-pub use reports::{DueReport, OpeningReport, PacketReport, StatusReport, StepReport};
+pub use reports::{AskingFields, DueReport, OpeningReport, PacketReport, StatusReport, StepReport};
 pub use requester_calls::{
     needleoat_requester_free, needleoat_requester_new, needleoat_requester_open,
     needleoat_requester_packet, needleoat_requester_receive, needleoat_requester_status,

@@ -9,8 +9,8 @@ pub const BAD_MOMENT: u8 = 2;
 /// There is nothing behind the handle.
 pub const NOTHING_THERE: u8 = 3;
 
-/// The endpoint's device is performing a command, and the packet is no copy of its request; or, for an answer, it is
-/// performing none.
+/// The endpoint's device is performing the command of another request of the same source and instance ID; or, for an
+/// answer, it is performing none under this number.
 pub const OUT_OF_TURN: u8 = 4;
 
 /// It is the answer to another command.
@@ -24,6 +24,9 @@ pub const ALREADY_THERE: u8 = 7;
 
 /// The endpoint's device is performing the command of this very request.
 pub const BEING_PERFORMED: u8 = 8;
+
+/// The endpoint's device is performing as many commands as it may at a time.
+pub const TOO_MANY_COMMANDS: u8 = 9;
 
 /// The last request with the next tag is still open.
 pub const TAG_IN_USE: u8 = 11;

@@ -1,9 +1,11 @@
 //! The reports that the calls return to C.
 
-ghost use Rattle.std.specs.Prelude.{◌≡◌, false};
-ghost use Rattle.needleoat_c.specs.Endpoints.{HasNumbers};
+ghost use Rattle.std.specs.Prelude.{◌≡◌, IfSome, false, is_some, true};
+ghost use Rattle.mctp_packet.specs.Refusals.{is_eid};
+ghost use Rattle.needleoat_c.specs.Endpoints.{HasNumbers, asking_in, fields_of, no_asking};
 
-use mctp_packet::MAX_PACKETS;
+use mctp_packet::{Eid, MAX_PACKETS};
+use pldm_endpoint::Asking;
 use pldm_requester::MAX_OPEN;
 
 /// A request that was opened, or why none was.
@@ -84,6 +86,56 @@ pub struct StatusReport {
     pub length: usize,
 }
 
+/// Under which number a command was asked, and for whose request. No two commands of an endpoint have one number.
+#[repr(C)]
+#[derive(Drop)]
+pub struct AskingFields {
+    /// How many commands were asked before.
+    pub number: u64,
+    /// The endpoint that the request came from.
+    pub source: u8,
+    /// The request's instance ID.
+    pub instance_id: u8,
+}
+
+impl AskingFields {
+    /// Those of no command.
+    pub(crate) fn none() -> AskingFields
+        ensures { result ≡ no_asking }
+    {
+        AskingFields {
+            number: 0,
+            source: 0,
+            instance_id: 0,
+        }
+    }
+
+    /// Those of a command that is asked.
+    fn of(asking: &Asking) -> AskingFields
+        ensures value { result ≡ fields_of asking.now }
+        ensures source { is_eid result.source ≡ true }
+    {
+        AskingFields {
+            number: asking.number,
+            source: asking.source.get(),
+            instance_id: asking.id,
+        }
+    }
+
+    /// What they say, where the source is an endpoint ID.
+    pub(crate) fn asking(&self) -> Option<Asking>
+        ensures some { is_some result ≡ is_eid self.now.source }
+        ensures value { IfSome result (λ asking. asking ≡ asking_in self.now) }
+    {
+        let source = Eid::new(self.source)?;
+        Some(Asking {
+            source,
+            id: self.instance_id,
+            number: self.number,
+        })
+    }
+}
+
 /// What becomes of a packet at an endpoint, or of the device's answer.
 #[repr(C)]
 #[derive(Drop)]
@@ -100,12 +152,14 @@ pub struct StepReport {
     pub count: usize,
     /// The length of each in bytes.
     pub lengths: [usize; MAX_PACKETS],
+    /// Under which number the command is to be performed, and for whose request, else zeros.
+    pub asking: AskingFields,
 }
 
 impl StepReport {
     /// There are no packets.
     pub(crate) fn without(kind: u8, reason: u8) -> StepReport
-        ensures { HasNumbers kind reason false false 0 result }
+        ensures { HasNumbers kind reason false false 0 no_asking result }
     {
         StepReport {
             kind,
@@ -114,6 +168,17 @@ impl StepReport {
             changed: false,
             count: 0,
             lengths: [0; MAX_PACKETS],
+            asking: AskingFields::none(),
         }
+    }
+
+    /// A command is to be performed.
+    pub(crate) fn to_perform(asking: &Asking) -> StepReport
+        ensures numbers { HasNumbers 4 0 false false 0 (fields_of asking.now) result }
+        ensures source { is_eid result.asking.source ≡ true }
+    {
+        let mut report = StepReport::without(4, 0);
+        report.asking = AskingFields::of(asking);
+        report
     }
 }

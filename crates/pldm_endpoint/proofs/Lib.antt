@@ -1,3 +1,5 @@
 pub mod AnswersInTurn
 pub mod AskedInTurn
+pub mod AskerOrder
+pub mod PendingGlue
 pub mod StepGlue

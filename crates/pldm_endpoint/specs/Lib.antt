@@ -1,4 +1,5 @@
 pub mod OutsideDevices
+pub mod Askers
 pub mod TwoSteps
 pub mod Refusing
 pub mod Stepping

@@ -7,10 +7,10 @@ use Rattle.pldm_endpoint.specs.declared.step.TakenStep.{TakenStep}
 use Rattle.pldm_endpoint.specs.declared.step.TakenStep.TheVariants.{Perform, Done}
 
 abbrev pub stepping : List ℕ → TakenStep → Step
-stepping reply Perform = step.Perform
+stepping reply (Perform asking) = step.Perform asking
 stepping reply (Done taken) = step.Done (answering reply taken)
 
 -- where there is an answer, its message has bytes
 abbrev pub StepHasReply : List ℕ → TakenStep → Type 0
-StepHasReply reply Perform = Unit {0}
+StepHasReply reply (Perform asking) = Unit {0}
 StepHasReply reply (Done taken) = HasReply reply taken

@@ -1,43 +1,44 @@
 //! An endpoint whose device is outside.
 
-ghost use Rattle.std.specs.Prelude.{◌≡◌, ◌≤◌, ◌*◌, length, Some, None, true, false, option_map, IfOk, IfErr, IsOk, IsErrOf, IsSome, OnOk, OnErr};
+ghost use Rattle.std.specs.FinMap as map;
+ghost use Rattle.std.specs.Prelude.{◌≡◌, ◌≤◌, ◌⊎◌, ◌∷◌, true, [], ◌*◌, ◌+◌, Some, None, option_map, IfOk, IfErr, IsErrOf, IsSome, OnOk, OnErr};
 ghost use Rattle.pldm_wire.specs.declared.assigned.TheConstants.{INSTANCE_IDS};
 ghost use Rattle.pldm_responder.specs.Answering.{HasReply, answering};
 ghost use Rattle.pldm_responder.specs.Counts.{CountsKept};
 ghost use Rattle.pldm_responder.specs.Held.{IsHeld};
+ghost use Rattle.pldm_responder.specs.Rooms.{HasRow, IsCommanded};
 ghost use Rattle.pldm_responder.specs.Stations.{held_of};
-ghost use Rattle.pldm_responder.specs.Steps.{restarted_held};
+ghost use Rattle.pldm_responder.specs.Steps.{received_commands, restarted_held};
 ghost use Rattle.pldm_responder.specs.Wants.{WantsMemory};
-ghost use Rattle.pldm_endpoint.specs.Refusing.{IsOfMemory, is_copy_of_asked};
+ghost use Rattle.pldm_endpoint.specs.Refusing.{IsOfMemory, is_full, refused_by};
 ghost use Rattle.pldm_endpoint.specs.Stepping.{StepHasReply, stepping};
-ghost use Rattle.pldm_endpoint.specs.TwoSteps.{AsksAfter, IsAnsweredBy, IsItsAnswer, IsLeftByAnswer, IsLeftByStep, asks_after, bare, held_at_first, received_step};
+ghost use Rattle.pldm_endpoint.specs.Askers.{asked_at, asker};
+ghost use Rattle.pldm_endpoint.specs.TwoSteps.{IsAnsweredBy, IsAskedBy, IsItsAnswer, IsLeftByAnswer, IsLeftByStep, asking_of, asks_after, bare, count_after, held_at_first, received_step, request_in};
 
+use crate::asks::{Asked, Asker, Asks};
 use crate::outside_device::OutsideDevice;
-use crate::step::{AnswerRefusal, ReceiveRefusal, Step, TakenStep, is_answer_to};
-use arrayvec::ArrayVec;
-use mctp_packet::{Body, Eid, Keep, MAX_PACKET_BYTES, Memory, Moment};
+use crate::step::{AnswerRefusal, Asking, ReceiveRefusal, Step, TakenStep, is_answer_to};
+use mctp_packet::{Body, Eid, Keep, Memory, Moment};
+use pldm_responder::laws::answers_come_from_outside;
 use pldm_responder::{Bounds, Outcome, Responder, Taken};
 use pldm_wire::{Answer, Command};
 use std::alloc::Global;
 use std::marker::Model;
 
-/// A packet whose command the device was asked to perform.
-#[derive(Drop)]
-pub struct Asked {
-    moment: Moment,
-    packet: ArrayVec<u8, MAX_PACKET_BYTES>,
-    command: Command,
-}
-
 /// The responding end at one endpoint, over a device that answers in its own time. [`Endpoint::receive`] takes a
 /// packet; where a command is to be performed, the caller has the device perform it, however long that takes, and
 /// hands its answer to [`Endpoint::answer`].
 ///
-/// While the device performs a command, each packet is refused: it counts as lost, and its sender sends it again.
+/// Meanwhile all other packets are taken, and more commands may be asked, up to a number.
 #[derive(Drop)]
 pub struct Endpoint {
+    alloc: Global,
     responder: Responder<OutsideDevice>,
-    asked: Option<Asked>,
+    asks: Asks,
+    /// How many commands were asked.
+    count: u64,
+    /// How many commands the device may have at a time.
+    most: usize,
 }
 
 impl Model for Endpoint {
@@ -47,22 +48,27 @@ impl Model for Endpoint {
 
     ghost coded = { coded_pending };
 
-    ghost view = { λ e. record { station = e.responder; asks = e.asked } };
+    ghost view = { λ e. record { station = e.responder; asks = e.asks; count = e.count; most = e.most } };
 
-    ghost invariant = { λ e. IsPending e.responder e.asked };
+    ghost invariant = { λ e. IsPending e.responder e.asks e.count e.most };
 }
 
 impl Endpoint {
-    /// The endpoint `own`, which keeps each answer for `keep` and at a time no more than `bounds` allow. No command
-    /// is asked, and its last moment is 0.
-    pub fn new(alloc: Global, own: Eid, keep: Keep, bounds: Bounds) -> Endpoint
+    /// The endpoint `own`, which keeps each answer for `keep` and at a time no more than `bounds` allow. Its device
+    /// has at most `commands` commands at a time. No command is asked, and its last moment is 0.
+    pub fn new(alloc: Global, own: Eid, keep: Keep, bounds: Bounds, commands: usize) -> Endpoint
         ensures held { IsHeld (bare (held_of result.station)) (held_at_first own keep) }
         ensures bounds { result.station.bounds ≡ bounds }
-        ensures idle { result.asks ≡ None }
+        ensures most { result.most ≡ commands }
+        ensures idle { result.asks ≡ map.empty }
+        ensures count { result.count ≡ 0 }
     {
         Endpoint {
+            alloc,
             responder: Responder::bounded(alloc, own, keep, bounds, OutsideDevice),
-            asked: None,
+            asks: Asks::new(alloc),
+            count: 0,
+            most: commands,
         }
     }
 
@@ -81,8 +87,8 @@ impl Endpoint {
         self.responder.bounds()
     }
 
-    /// How many pairs of a source and an instance ID have a kept answer: at most 32 for each source that
-    /// [`Endpoint::bounds`] allow.
+    /// How many pairs of a source and an instance ID have a kept answer, or a command with the device: at most 32
+    /// for each source that [`Endpoint::bounds`] allow.
     pub fn kept(&self) -> usize
         ensures value { CountsKept (held_of self.now.station).kept result }
         ensures bounded { result ≤ INSTANCE_IDS * self.now.station.bounds.sources }
@@ -90,22 +96,30 @@ impl Endpoint {
         self.responder.kept()
     }
 
-    /// The command that the device was asked to perform and has not answered.
-    pub fn command(&self) -> Option<&Command>
-        ensures { option_map (λ command. command.now) result ≡ option_map (λ asked. asked.command) self.now.asks }
+    /// The command that the device was asked to perform under this number and has not answered.
+    pub fn command(&self, asking: &Asking) -> Option<&Command>
+        ensures { option_map (λ command. command.now) result
+            ≡ option_map (λ asked. asked.command) (asked_at self.now.asks asking.now) }
     {
-        match &self.asked {
+        match self.asks.asked_at(asking) {
             Some(asked) => Some(&asked.command),
             None => None,
         }
     }
 
-    /// Whether the device was asked to perform a command and has not answered.
-    pub fn is_performing(&self) -> bool
-        ensures asks { result ≡ true → IsSome self.now.asks }
-        ensures idle { result ≡ false → self.now.asks ≡ None }
+    /// How many commands the device was asked to perform and has not answered, at most [`Endpoint::commands`].
+    pub fn performing(&self) -> usize
+        ensures value { result ≡ map.len self.now.asks }
+        ensures bounded { result ≤ self.now.most }
     {
-        self.asked.is_some()
+        self.asks.len()
+    }
+
+    /// How many commands the device may have at a time.
+    pub fn commands(&self) -> usize
+        ensures { result ≡ self.now.most }
+    {
+        self.most
     }
 
     /// Takes the bytes of a packet that came at the moment `now`, which must not be before
@@ -115,29 +129,36 @@ impl Endpoint {
     ///
     /// # Errors
     ///
-    /// While the device performs a command, and only then, `BeingPerformed` for a packet that alone repeats its
-    /// request, a whole message of the same source, instance ID and bytes, and `Performing` for any other. `Memory`
+    /// Where the packet completes a request whose source and instance ID have a command with the device, and only
+    /// then: `BeingPerformed` where it is that command's own request, byte for byte, `Performing` where it is another.
+    /// `Full` exactly where a command would be asked past [`Endpoint::commands`], or 2^64 - 1 were asked. `Memory`
     /// where a growth was refused or a bound would be passed. The endpoint is then as before.
     pub fn receive(&mut self, now: Moment, bytes: &[u8]) -> Result<Step, ReceiveRefusal>
         requires { (held_of self.old.station).last ≤ now }
-        ensures step { IfOk result (λ step. step ≡ received_step (held_of self.old.station) now bytes.now) }
-        ensures asks { OnOk result (self.new.asks ≡ asks_after (held_of self.old.station) now bytes.now) }
-        ensures pending { IfOk result (λ step. AsksAfter step self.new.asks) }
+        ensures step { IfOk result (λ step. step
+            ≡ received_step (held_of self.old.station) now bytes.now self.old.count) }
+        ensures ready { IfOk result (λ step. IsAskedBy step self.new.asks
+            (received_commands (held_of self.old.station) now bytes.now)) }
+        ensures asks { OnOk result (self.new.asks
+            ≡ asks_after (held_of self.old.station) now bytes.now self.old.asks self.old.count) }
+        ensures count { OnOk result (self.new.count
+            ≡ count_after (held_of self.old.station) now bytes.now self.old.count) }
         ensures held { OnOk result (IsLeftByStep (held_of self.old.station) now bytes.now (held_of self.new.station)) }
-        ensures performing { IsErrOf result ReceiveRefusal.Performing → IsSome self.old.asks
-            × (is_copy_of_asked (held_of self.old.station) self.old.asks now bytes.now ≡ false) }
-        ensures being_performed { IsErrOf result ReceiveRefusal.BeingPerformed → IsSome self.old.asks
-            × (is_copy_of_asked (held_of self.old.station) self.old.asks now bytes.now ≡ true) }
-        ensures idle { OnOk result (self.old.asks ≡ None) }
-        ensures memory { IfErr result (λ refusal. IsOfMemory refusal
-            → (self.old.asks ≡ None) × WantsMemory (held_of self.old.station) true now bytes.now) }
+        ensures taken { OnOk result (refused_by self.old now bytes.now ≡ None) }
+        ensures refused { IfErr result (λ refusal.
+            IsOfMemory refusal ⊎ (refused_by self.old now bytes.now ≡ Some refusal)) }
+        ensures memory { IfErr result (λ refusal. IsOfMemory refusal → (refused_by self.old now bytes.now ≡ None)
+            × (WantsMemory (held_of self.old.station) true now bytes.now
+            ⊎ IsCommanded (held_of self.old.station) now bytes.now)) }
         ensures still_asked { OnErr result (self.new.asks ≡ self.old.asks) }
+        ensures still_counted { OnErr result (self.new.count ≡ self.old.count) }
         ensures err { OnErr result (IsHeld (bare (held_of self.new.station)) (bare (held_of self.old.station))) }
         ensures bounds { self.new.station.bounds ≡ self.old.station.bounds }
+        ensures most { self.new.most ≡ self.old.most }
     {
         let mut reply = Body::new();
         match self.receive_message(now, bytes, &mut reply)? {
-            TakenStep::Perform => Ok(Step::Perform),
+            TakenStep::Perform(asking) => Ok(Step::Perform(asking)),
             TakenStep::Done(taken) => Ok(Step::Done(taken.outcome(&reply))),
         }
     }
@@ -156,87 +177,167 @@ impl Endpoint {
     ) -> Result<TakenStep, ReceiveRefusal>
         requires { (held_of self.old.station).last ≤ now }
         ensures step { IfOk result (λ step. stepping reply.new.items step
-            ≡ received_step (held_of self.old.station) now bytes.now) }
+            ≡ received_step (held_of self.old.station) now bytes.now self.old.count) }
         ensures some { IfOk result (StepHasReply reply.new.items) }
-        ensures asks { OnOk result (self.new.asks ≡ asks_after (held_of self.old.station) now bytes.now) }
-        ensures pending { IfOk result (λ step. AsksAfter (stepping reply.new.items step) self.new.asks) }
+        ensures ready { IfOk result (λ step. IsAskedBy (stepping reply.new.items step) self.new.asks
+            (received_commands (held_of self.old.station) now bytes.now)) }
+        ensures asks { OnOk result (self.new.asks
+            ≡ asks_after (held_of self.old.station) now bytes.now self.old.asks self.old.count) }
+        ensures count { OnOk result (self.new.count
+            ≡ count_after (held_of self.old.station) now bytes.now self.old.count) }
         ensures held { OnOk result (IsLeftByStep (held_of self.old.station) now bytes.now (held_of self.new.station)) }
-        ensures performing { IsErrOf result ReceiveRefusal.Performing → IsSome self.old.asks
-            × (is_copy_of_asked (held_of self.old.station) self.old.asks now bytes.now ≡ false) }
-        ensures being_performed { IsErrOf result ReceiveRefusal.BeingPerformed → IsSome self.old.asks
-            × (is_copy_of_asked (held_of self.old.station) self.old.asks now bytes.now ≡ true) }
-        ensures idle { OnOk result (self.old.asks ≡ None) }
-        ensures memory { IfErr result (λ refusal. IsOfMemory refusal
-            → (self.old.asks ≡ None) × WantsMemory (held_of self.old.station) true now bytes.now) }
+        ensures taken { OnOk result (refused_by self.old now bytes.now ≡ None) }
+        ensures refused { IfErr result (λ refusal.
+            IsOfMemory refusal ⊎ (refused_by self.old now bytes.now ≡ Some refusal)) }
+        ensures memory { IfErr result (λ refusal. IsOfMemory refusal → (refused_by self.old now bytes.now ≡ None)
+            × (WantsMemory (held_of self.old.station) true now bytes.now
+            ⊎ IsCommanded (held_of self.old.station) now bytes.now)) }
         ensures still_asked { OnErr result (self.new.asks ≡ self.old.asks) }
+        ensures still_counted { OnErr result (self.new.count ≡ self.old.count) }
         ensures err { OnErr result (IsHeld (bare (held_of self.new.station)) (bare (held_of self.old.station))) }
         ensures bounds { self.new.station.bounds ≡ self.old.station.bounds }
+        ensures most { self.new.most ≡ self.old.most }
     {
-        if let Some(asked) = &self.asked {
-            if self.responder.repeats_alone(&asked.packet, bytes) {
-                return Err(ReceiveRefusal::BeingPerformed);
-            }
-            return Err(ReceiveRefusal::Performing);
+        if let Some(refusal) = self.refusal(now, bytes) {
+            return Err(refusal);
         }
-        match self.receive_idle(now, bytes, reply) {
+        match self.take(now, bytes, reply) {
             Ok(step) => Ok(step),
             Err(memory) => Err(ReceiveRefusal::Memory(memory)),
         }
     }
 
-    /// Takes a packet while the device performs no command.
-    fn receive_idle(
-        &mut self,
-        now: Moment,
-        bytes: &[u8],
-        reply: &mut Body,
-    ) -> Result<TakenStep, Memory>
-        requires idle { self.old.asks ≡ None }
+    /// Why a packet is refused, whatever memory there is.
+    // Not inlined: a message that is put together is then on the stack for this call alone.
+    #[inline(never)]
+    fn refusal(&self, now: Moment, bytes: &[u8]) -> Option<ReceiveRefusal>
+        ensures { result ≡ refused_by self.now now bytes.now }
+    {
+        let mut message = Body::new();
+        let request = self.responder.completes(now, bytes, &mut message)?;
+        let (source, id) = (request.source, request.id);
+        if self.asks.get(Asker { source, id }).is_some() {
+            if self.responder.keeps(source, id, &message) {
+                return Some(ReceiveRefusal::BeingPerformed);
+            }
+            return Some(ReceiveRefusal::Performing);
+        }
+        if self.is_full() && self.responder.asks(now, bytes).is_some() {
+            return Some(ReceiveRefusal::Full);
+        }
+        None
+    }
+
+    /// Whether no command more may be asked.
+    fn is_full(&self) -> bool
+        ensures { result ≡ is_full self.now.asks self.now.count self.now.most }
+    {
+        self.performing() >= self.most || self.count == u64::MAX
+    }
+
+    /// Takes a packet that is not refused.
+    fn take(&mut self, now: Moment, bytes: &[u8], reply: &mut Body) -> Result<TakenStep, Memory>
         requires later { (held_of self.old.station).last ≤ now }
+        requires taken { refused_by self.old now bytes.now ≡ None }
         ensures step { IfOk result (λ step. stepping reply.new.items step
-            ≡ received_step (held_of self.old.station) now bytes.now) }
+            ≡ received_step (held_of self.old.station) now bytes.now self.old.count) }
         ensures some { IfOk result (StepHasReply reply.new.items) }
-        ensures asks { OnOk result (self.new.asks ≡ asks_after (held_of self.old.station) now bytes.now) }
-        ensures pending { IfOk result (λ step. AsksAfter (stepping reply.new.items step) self.new.asks) }
+        ensures ready { IfOk result (λ step. IsAskedBy (stepping reply.new.items step) self.new.asks
+            (received_commands (held_of self.old.station) now bytes.now)) }
+        ensures asks { OnOk result (self.new.asks
+            ≡ asks_after (held_of self.old.station) now bytes.now self.old.asks self.old.count) }
+        ensures count { OnOk result (self.new.count
+            ≡ count_after (held_of self.old.station) now bytes.now self.old.count) }
         ensures held { OnOk result (IsLeftByStep (held_of self.old.station) now bytes.now (held_of self.new.station)) }
-        ensures memory { OnErr result (WantsMemory (held_of self.old.station) true now bytes.now) }
-        ensures still_idle { OnErr result (self.new.asks ≡ None) }
+        ensures memory { OnErr result (WantsMemory (held_of self.old.station) true now bytes.now
+            ⊎ IsCommanded (held_of self.old.station) now bytes.now) }
+        ensures still_asked { OnErr result (self.new.asks ≡ self.old.asks) }
+        ensures still_counted { OnErr result (self.new.count ≡ self.old.count) }
         ensures err { OnErr result (IsHeld (bare (held_of self.new.station)) (bare (held_of self.old.station))) }
         ensures bounds { self.new.station.bounds ≡ self.old.station.bounds }
+        ensures most { self.new.most ≡ self.old.most }
     {
-        pldm_responder::laws::answers_come_from_outside::<OutsideDevice>();
+        answers_come_from_outside::<OutsideDevice>();
         if let Some(command) = self.responder.ask(now, bytes)? {
-            put_asked(&mut self.asked, now, bytes, command);
-            return Ok(TakenStep::Perform);
+            let asking = self.hand_out(now, bytes, command, reply)?;
+            return Ok(TakenStep::Perform(asking));
         }
         let taken = self.responder.receive_message(now, bytes, reply)?;
         Ok(TakenStep::Done(taken))
     }
 
-    /// Takes the device's answer to the command that it was asked, and gives the packets of it. They go to the source
-    /// of the packet that had it performed, and the answer is kept as if it had come at that packet's moment. It takes
-    /// no memory.
+    /// Has the command of a packet asked. Its request is kept at once, and there is room for it.
+    // Not inlined: the message is put together here, and no place for it is left on the caller's stack.
+    #[inline(never)]
+    fn hand_out(
+        &mut self,
+        now: Moment,
+        bytes: &[u8],
+        command: Command,
+        reply: &mut Body,
+    ) -> Result<Asking, Memory>
+        requires later { (held_of self.old.station).last ≤ now }
+        requires asked { received_commands (held_of self.old.station) now bytes.now ≡ command ∷ [] }
+        requires room { HasRow self.old.station now bytes.now }
+        requires taken { refused_by self.old now bytes.now ≡ None }
+        ensures request { IfOk result (λ asking. option_map (λ m. asking_of m self.old.count)
+            (request_in (held_of self.old.station) now bytes.now) ≡ Some asking) }
+        ensures ready { IfOk result (λ asking.
+            option_map (λ a. a.command) (asked_at self.new.asks asking) ≡ Some command) }
+        ensures asks { OnOk result (self.new.asks
+            ≡ asks_after (held_of self.old.station) now bytes.now self.old.asks self.old.count) }
+        ensures count { OnOk result (self.new.count ≡ self.old.count + 1) }
+        ensures held { OnOk result (IsLeftByStep (held_of self.old.station) now bytes.now (held_of self.new.station)) }
+        ensures err { OnErr result (self.new ≡ self.old) }
+        ensures bounds { self.new.station.bounds ≡ self.old.station.bounds }
+        ensures most { self.new.most ≡ self.old.most }
+    {
+        answers_come_from_outside::<OutsideDevice>();
+        let mut message = Body::new();
+        let Some(request) = self.responder.completes(now, bytes, &mut message) else {
+            unreachable!();
+        };
+        let (source, id, number) = (request.source, request.id, self.count);
+        let asked = Asked {
+            tag: request.tag,
+            number,
+            command,
+        };
+        self.asks.insert(Asker { source, id }, asked)?;
+        let Ok(_) = self.responder.receive_message(now, bytes, reply) else {
+            unreachable!();
+        };
+        self.count = number + 1;
+        Ok(Asking { source, id, number })
+    }
+
+    /// Takes the device's answer to the command that it was asked under this number, and gives the packets of it.
+    /// They go to the source of the request that had it performed, on the tag of its packets, and the answer is kept
+    /// as if it had come at that request's moment. It takes no memory.
     ///
     /// # Errors
     ///
-    /// `NotAsked` exactly where no command is asked, `OtherCommand` exactly where one is and this is the answer to
-    /// another. The endpoint is then as before.
-    pub fn answer(&mut self, answer: &Answer) -> Result<Outcome, AnswerRefusal>
-        ensures outcome { IfOk result (λ outcome. IsAnsweredBy (held_of self.old.station) self.old.asks answer.now
-            outcome) }
+    /// `NotAsked` exactly where no command is asked under this number, `OtherCommand` exactly where one is and this is
+    /// the answer to another. The endpoint is then as before.
+    pub fn answer(&mut self, asking: &Asking, answer: &Answer) -> Result<Outcome, AnswerRefusal>
+        ensures outcome { IfOk result (λ outcome. IsAnsweredBy (held_of self.old.station) asking.now answer.now
+            (asked_at self.old.asks asking.now) outcome) }
         ensures held { OnOk result
-            (IsLeftByAnswer (held_of self.old.station) self.old.asks answer.now (held_of self.new.station)) }
-        ensures idle { OnOk result (self.new.asks ≡ None) }
-        ensures its_answer { OnOk result (IsItsAnswer self.old.asks answer.now) }
-        ensures not_asked { IsErrOf result AnswerRefusal.NotAsked → self.old.asks ≡ None }
+            (IsLeftByAnswer (held_of self.old.station) asking.now answer.now (held_of self.new.station)) }
+        ensures answered { OnOk result (self.new.asks
+            ≡ map.remove self.old.asks (asker asking.now.source asking.now.id)) }
+        ensures its_answer { OnOk result (IsItsAnswer (asked_at self.old.asks asking.now) answer.now) }
+        ensures not_asked { IsErrOf result AnswerRefusal.NotAsked → asked_at self.old.asks asking.now ≡ None }
         ensures other { IsErrOf result AnswerRefusal.OtherCommand →
-            IsSome self.old.asks × (IsItsAnswer self.old.asks answer.now → ⊥) }
+            IsSome (asked_at self.old.asks asking.now) × (IsItsAnswer (asked_at self.old.asks asking.now) answer.now → ⊥) }
         ensures still_asked { OnErr result (self.new.asks ≡ self.old.asks) }
+        ensures count { self.new.count ≡ self.old.count }
         ensures err { OnErr result (IsHeld (bare (held_of self.new.station)) (bare (held_of self.old.station))) }
         ensures bounds { self.new.station.bounds ≡ self.old.station.bounds }
+        ensures most { self.new.most ≡ self.old.most }
     {
         let mut reply = Body::new();
-        let taken = self.answer_message(answer, &mut reply)?;
+        let taken = self.answer_message(asking, answer, &mut reply)?;
         Ok(taken.outcome(&reply))
     }
 
@@ -248,24 +349,29 @@ impl Endpoint {
     /// As from [`Endpoint::answer`].
     pub fn answer_message(
         &mut self,
+        asking: &Asking,
         answer: &Answer,
         reply: &mut Body,
     ) -> Result<Taken, AnswerRefusal>
-        ensures outcome { IfOk result (λ taken. IsAnsweredBy (held_of self.old.station) self.old.asks answer.now
-            (answering reply.new.items taken)) }
+        ensures outcome { IfOk result (λ taken. IsAnsweredBy (held_of self.old.station) asking.now answer.now
+            (asked_at self.old.asks asking.now) (answering reply.new.items taken)) }
         ensures some { IfOk result (HasReply reply.new.items) }
         ensures held { OnOk result
-            (IsLeftByAnswer (held_of self.old.station) self.old.asks answer.now (held_of self.new.station)) }
-        ensures idle { OnOk result (self.new.asks ≡ None) }
-        ensures its_answer { OnOk result (IsItsAnswer self.old.asks answer.now) }
-        ensures not_asked { IsErrOf result AnswerRefusal.NotAsked → self.old.asks ≡ None }
+            (IsLeftByAnswer (held_of self.old.station) asking.now answer.now (held_of self.new.station)) }
+        ensures answered { OnOk result (self.new.asks
+            ≡ map.remove self.old.asks (asker asking.now.source asking.now.id)) }
+        ensures its_answer { OnOk result (IsItsAnswer (asked_at self.old.asks asking.now) answer.now) }
+        ensures not_asked { IsErrOf result AnswerRefusal.NotAsked → asked_at self.old.asks asking.now ≡ None }
         ensures other { IsErrOf result AnswerRefusal.OtherCommand →
-            IsSome self.old.asks × (IsItsAnswer self.old.asks answer.now → ⊥) }
+            IsSome (asked_at self.old.asks asking.now) × (IsItsAnswer (asked_at self.old.asks asking.now) answer.now → ⊥) }
         ensures still_asked { OnErr result (self.new.asks ≡ self.old.asks) }
+        ensures count { self.new.count ≡ self.old.count }
         ensures err { OnErr result (IsHeld (bare (held_of self.new.station)) (bare (held_of self.old.station))) }
         ensures bounds { self.new.station.bounds ≡ self.old.station.bounds }
+        ensures most { self.new.most ≡ self.old.most }
     {
-        let Some(asked) = &self.asked else {
+        let (source, id) = (asking.source, asking.id);
+        let Some(asked) = self.asks.asked_at(asking) else {
             return Err(AnswerRefusal::NotAsked);
         };
         if !is_answer_to(answer, asked.command.kind()) {
@@ -273,38 +379,24 @@ impl Endpoint {
         }
         let taken = self
             .responder
-            .answer_asked(asked.moment, &asked.packet, &asked.command, answer, reply);
-        self.asked = None; // it is answered
+            .answer_kept(source, id, asked.tag, &asked.command, answer, reply);
+        self.asks.remove(Asker { source, id });
         Ok(taken)
     }
 
     /// Restarts at the moment `now`, which must not be before [`Endpoint::last_moment`]. The kept answers, the messages
-    /// that have begun and what the device was asked are forgotten. The device may have performed that command or not,
-    /// so for the keeping time from then on nothing is performed, as after [`pldm_responder::Responder::restart`].
+    /// that have begun and what the device was asked are forgotten. The device may have performed those commands or
+    /// not, so for the keeping time from then on nothing is performed, as after
+    /// [`pldm_responder::Responder::restart`]; an answer to one of them is refused as `NotAsked` from then on.
     pub fn restart(&mut self, now: Moment)
         requires { (held_of self.old.station).last ≤ now }
         ensures held { IsHeld (bare (held_of self.new.station)) (restarted_held (bare (held_of self.old.station)) now) }
         ensures bounds { self.new.station.bounds ≡ self.old.station.bounds }
-        ensures idle { self.new.asks ≡ None }
+        ensures most { self.new.most ≡ self.old.most }
+        ensures idle { self.new.asks ≡ map.empty }
+        ensures count { self.new.count ≡ self.old.count }
     {
-        self.asked = None; // the device may have performed it or not
+        self.asks = Asks::new(self.alloc); // the device may have performed them or not
         self.responder.restart(now);
     }
-}
-
-/// Puts what the device is asked: the command of a packet that came at the moment `now`.
-// Not inlined: the packet is copied here, and no place for it is left on the caller's stack while other packets are
-// put together.
-#[inline(never)]
-fn put_asked(asked: &mut Option<Asked>, now: Moment, bytes: &[u8], command: Command)
-    requires { length bytes.now ≤ MAX_PACKET_BYTES }
-    ensures { asked.new ≡ Some (record { moment = now; packet = record { items = bytes.now }; command = command }) }
-{
-    let mut packet = ArrayVec::new();
-    packet.try_extend_from_slice(bytes).unwrap();
-    *asked = Some(Asked {
-        moment: now,
-        packet,
-        command,
-    });
 }

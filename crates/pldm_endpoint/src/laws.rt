@@ -1,28 +1,32 @@
 //! Laws of an endpoint over any list of its calls: each function does nothing and ensures its law.
 
-ghost use Rattle.pldm_endpoint.specs.Histories.{AnsweredLooksBack, ForgottenInTurn, NewInTurn, RestartedInTurn, SameInTurn, UnaskedLooksBack};
-ghost use Rattle.pldm_endpoint.specs.Turns.{AnswersInTurn, CopiesAreAnsweredAgain, IsAskedInTurn, OneForEachAsking};
+ghost use Rattle.pldm_endpoint.specs.Histories.{AnsweredInTurn, AskedLooksBack, NewInTurn, ReceivedInTurn, RestartedInTurn, SameInTurn, TwoStepsAreOne, UnaskedLooksBack};
+ghost use Rattle.pldm_endpoint.specs.Turns.{AnswersItsOrigin, CopiesAreAnsweredAgain, CountsAskings, IsAskedInTurn};
 
 /// What an endpoint returns and holds after any list of calls is what a responder's looking back says whose
-/// platform gives, one after the other, the answers that the device gave.
+/// platform gives the answers that the device gave, each to the command that it was asked for; what is held is
+/// that but for the answers to what the device still performs.
 pub fn answers_come_in_turn()
+    ensures received { ReceivedInTurn }
     ensures unasked { UnaskedLooksBack }
-    ensures answered { AnsweredLooksBack }
+    ensures asked { AskedLooksBack }
+    ensures answered { AnsweredInTurn }
     ensures restarted { RestartedInTurn }
-    ensures forgotten { ForgottenInTurn }
     ensures new { NewInTurn }
     ensures same { SameInTurn }
+    ensures at_once { TwoStepsAreOne }
 {
     mctp_assembly::laws::looks_back();
 }
 
-/// The answers go one to one with the askings: the device is asked the command of each fresh request, and as many
-/// answers are used as commands were asked, since no call of an endpoint changes them from outside. A copy is
-/// answered with the answer that the device gave when the request was asked.
+/// The answers go one to one with the askings: the device is asked the command of each fresh request, and each
+/// asking has the number of those before it, since no call of an endpoint changes it from outside. What goes out is
+/// the reply of the request that it was asked for. A copy is
+/// answered with the answer that the device gave when its request was asked.
 pub fn each_answer_is_to_its_asking()
     ensures asked { IsAskedInTurn }
-    ensures in_turn { AnswersInTurn }
-    ensures counted { OneForEachAsking }
+    ensures counted { CountsAskings }
+    ensures origin { AnswersItsOrigin }
     ensures copies { CopiesAreAnsweredAgain }
 {
     mctp_assembly::laws::looks_back();

@@ -2,11 +2,14 @@
 //! its answer is handed back.
 #![tactic(auto)]
 
+mod ask_list;
+mod asks;
 mod endpoint;
 pub mod laws;
 mod outside_device;
 mod step;
 
-pub use endpoint::{Asked, Endpoint};
+pub use asks::{Asked, Asker};
+pub use endpoint::Endpoint;
 pub use outside_device::OutsideDevice;
-pub use step::{AnswerRefusal, ReceiveRefusal, Step, TakenStep};
+pub use step::{AnswerRefusal, Asking, ReceiveRefusal, Step, TakenStep};

@@ -3,7 +3,7 @@
 ghost use Rattle.std.specs.Prelude.{◌≡◌, true, false};
 ghost use Rattle.pldm_wire.specs.Answers.{IsAnswerTo, answered_kind};
 
-use mctp_packet::Memory;
+use mctp_packet::{Eid, Memory};
 use pldm_responder::{Outcome, Taken};
 use pldm_wire::{
     Answer, BASE, GET_NUMERIC_EFFECTER_VALUE, GET_PDR, GET_PDR_REPOSITORY_INFO, GET_PLDM_COMMANDS,
@@ -13,11 +13,22 @@ use pldm_wire::{
 };
 use thiserror::Error;
 
+/// Under which number a command was asked, and for whose request. No two commands of an endpoint have one number.
+#[derive(Clone, Copy, Debug, PartialEq, Eq)]
+pub struct Asking {
+    /// The endpoint that the request came from.
+    pub source: Eid,
+    /// The request's instance ID.
+    pub id: u8,
+    /// How many commands were asked before.
+    pub number: u64,
+}
+
 /// What becomes of the bytes of a packet.
 #[derive(Debug, Drop)]
 pub enum Step {
     /// They complete a request whose command the device has to perform now, once.
-    Perform,
+    Perform(Asking),
     /// They are done with: dropped, a part of a message, or answered.
     Done(Outcome),
 }
@@ -26,7 +37,7 @@ pub enum Step {
 #[derive(Debug, Drop)]
 pub enum TakenStep {
     /// They complete a request whose command the device has to perform now, once.
-    Perform,
+    Perform(Asking),
     /// They are done with: dropped, a part of a message, or answered.
     Done(Taken),
 }
@@ -34,12 +45,15 @@ pub enum TakenStep {
 /// Why a packet was refused. It counts as lost on the bus, and the endpoint is as before.
 #[derive(Clone, Copy, Debug, PartialEq, Eq, Error)]
 pub enum ReceiveRefusal {
-    /// The device is performing a command, and the packet does not alone repeat its request.
-    #[error("the device is performing a command")]
+    /// The device is performing the command of another request of this source and instance ID.
+    #[error("the device is performing another command of this source and instance ID")]
     Performing,
     /// The device is performing the command of this very request.
     #[error("the device is performing the command of this request")]
     BeingPerformed,
+    /// The device is performing as many commands as it may at a time.
+    #[error("the device is performing as many commands as it may")]
+    Full,
     /// No memory was to be had, or a bound would be passed.
     #[error("out of memory")]
     Memory(Memory),
@@ -48,8 +62,8 @@ pub enum ReceiveRefusal {
 /// Why an answer was refused. The endpoint is as before.
 #[derive(Clone, Copy, Debug, PartialEq, Eq, Error)]
 pub enum AnswerRefusal {
-    /// The device is performing no command.
-    #[error("the device is performing no command")]
+    /// No command is asked under this number: it was answered, or forgotten by a restart.
+    #[error("no command is asked under this number")]
     NotAsked,
     /// It is the answer to another command.
     #[error("the answer is to another command")]

@@ -12,7 +12,6 @@ pub mod Slots
 pub mod Stations
 pub mod Laws
 pub mod Asked
-pub mod Repeating
 pub mod Rooms
 pub mod Askings
-pub mod Completing
+pub mod GivenAnswers

@@ -93,6 +93,22 @@ impl KeptAnswer {
         self.messages().1
     }
 
+    /// When the message came.
+    pub(crate) fn moment(&self) -> Moment
+        ensures { result ≡ self.now.moment }
+    {
+        self.moment
+    }
+
+    /// The message.
+    pub(crate) fn request(&self) -> &[u8]
+        ensures value { result.now ≡ self.now.bytes }
+        ensures few { length self.now.bytes ≤ MAX_MESSAGE_BYTES }
+    {
+        let _few = self.asked; // for the proof: at most 320 bytes
+        self.messages().0
+    }
+
     /// Whether a message that came at the moment `now` has the same bytes, within the keeping time.
     pub(crate) fn is_repeated(&self, keep: Keep, now: Moment, message: &[u8]) -> bool
         ensures { result ≡ (bytes_eq message.now self.now.bytes && nat_lt now (self.now.moment + keep)) }

@@ -4,14 +4,17 @@
 
 mod answering;
 mod bounds;
+mod completed;
 mod kept_answer;
 mod kept_answers;
 pub mod laws;
 mod outcome;
 mod performing;
 mod responder;
+mod routes;
 mod row;
 
 pub use bounds::Bounds;
+pub use completed::Completed;
 pub use outcome::{Outcome, Taken};
 pub use responder::{MAX_KEPT, MAX_PENDING, Responder};

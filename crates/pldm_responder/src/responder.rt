@@ -1,6 +1,6 @@
 ghost use Rattle.std.specs.Borrow.{Lends, sem};
 ghost use Rattle.std.specs.FinMap as map;
-ghost use Rattle.std.specs.Prelude.{◌≡◌, ◌≢◌, ℕ, false, ◌*◌, ◌≤◌, ◌<◌, ◌&&◌, true, Bool, [], ◌∷◌, length, nat_lt, Ok, IfOk, IfSome, IsSome, is_some, OnOk, OnErr};
+ghost use Rattle.std.specs.Prelude.{◌≡◌, ◌≢◌, ℕ, false, ◌*◌, ◌≤◌, ◌<◌, ◌&&◌, true, Bool, [], ◌∷◌, length, nat_lt, Ok, IfOk, IfSome, IsSome, is_some, option_map, OnOk, OnErr};
 ghost use Rattle.mctp_packet.specs.Passing.{passed};
 ghost use Rattle.mctp_assembly.specs.Steps.{answer};
 ghost use Rattle.mctp_assembly.specs.declared.fed.Fed.TheVariants.{Whole};
@@ -8,29 +8,32 @@ ghost use Rattle.mctp_assembly.specs.declared.key.Key.{Key as KeyValue};
 ghost use Rattle.pldm_platform.specs.Changes.{made_of};
 ghost use Rattle.pldm_wire.specs.Answers.{IsAnswerTo};
 ghost use Rattle.pldm_wire.specs.Commands.{kind_of};
+ghost use Rattle.pldm_wire.specs.Headers.{id_at};
 ghost use Rattle.pldm_wire.specs.Requests.{request_of};
 ghost use Rattle.pldm_wire.specs.declared.assigned.TheConstants.{INSTANCE_IDS as ids};
 ghost use Rattle.pldm_responder.specs.Answering.{HasReply, answering, packets_if};
-ghost use Rattle.pldm_responder.specs.Asked.{gives, listed, stateless};
+ghost use Rattle.pldm_responder.specs.Asked.{listed};
 ghost use Rattle.pldm_responder.specs.Arrivals.{is_expected, message_arrival, message_of, packet_arrival, packets_back};
 ghost use Rattle.pldm_responder.specs.Counts.{CountsKept};
 ghost use Rattle.pldm_responder.specs.Fitting.{ArrivalFits, ReceivedFits};
+ghost use Rattle.pldm_responder.specs.GivenAnswers.{IsKeptFor, given_held, has_bytes, kept_bytes, message_in, outcome_given};
 ghost use Rattle.pldm_responder.specs.Held.{IsHeld, held_at_first};
 ghost use Rattle.pldm_responder.specs.Performing.{rules_of};
-ghost use Rattle.pldm_responder.specs.Repeating.{is_alone, is_same, repeats_alone};
 ghost use Rattle.pldm_responder.specs.Rooms.{ArrivalLacksRow, HasRow, IsCommanded, LacksRow};
 ghost use Rattle.pldm_responder.specs.Slots.{kept_in};
 ghost use Rattle.pldm_responder.specs.Stations.{held_of, with_platform};
-ghost use Rattle.pldm_responder.specs.Steps.{arrival_commands, arrival_held, arrival_outcome, copied_packets, passed_held, received_commands, received_held, received_outcome, repeats, restarted_held, sensed_held, updated_held};
+ghost use Rattle.pldm_responder.specs.Steps.{arrival_commands, arrival_held, arrival_outcome, copied_packets, passed_held, received_arrival, received_commands, received_held, received_outcome, repeats, restarted_held, sensed_held, updated_held};
 ghost use Rattle.pldm_responder.specs.contracts.responder.Responder.{the_row};
 ghost use Rattle.pldm_responder.specs.declared.outcome.Taken.TheVariants.{Answered};
 ghost use Rattle.pldm_responder.specs.Wants.{ArrivalWants, PassedWants, WantsMemory};
 
-use crate::answering::answer_packet;
+use crate::answering::answer_kept;
 use crate::bounds::Bounds;
+use crate::completed::Completed;
 use crate::kept_answers::KeptAnswers;
 use crate::outcome::{Outcome, Taken};
 use crate::performing::{perform, refuse, succeeded};
+use crate::routes::{not_performed, performed, way_back};
 use mctp_assembly::{Assembler, Fed, Key};
 use mctp_packet::{
     Body, Eid, Keep, MAX_EID, MAX_MESSAGE_BYTES, MAX_PACKET_BYTES, MIN_EID, Memory, Moment,
@@ -249,48 +252,91 @@ impl<P: Platform> Responder<P> {
         Ok(Some(command))
     }
 
-    /// Answers the request that these bytes complete, as [`Responder::receive_message`] would at the moment
-    /// `now` with a platform that gives this answer and stays as it is. [`Responder::ask`] took the room and
-    /// gave the command; the platform is not asked. The message that answers is put into `reply` whole, and
-    /// is kept for copies from `now` on. It takes no memory.
-    pub fn answer_asked(
-        &mut self,
+    /// The request that these bytes complete at the moment `now`, whether it would be performed or not; its
+    /// bytes are put into `message`. Nothing is changed. Where they complete none, what `message` then holds is
+    /// not specified.
+    pub fn completes(&self, now: Moment, bytes: &[u8], message: &mut Body) -> Option<Completed>
+        ensures request { option_map (λ c. message_of c.source c.tag now message.new.items) result
+            ≡ message_in (received_arrival (held_of self.now) now bytes.now) }
+        ensures id { IfSome result (λ c. c.id ≡ id_at message.new.items) }
+        ensures range { IfSome result (λ c. c.id < ids) }
+    {
+        let Ok(packet) = read_for(self.own, bytes) else {
+            return None;
+        };
+        self.packet_completes(now, &packet, message)
+    }
+
+    /// The request that a packet completes. It is addressed to the endpoint by another one.
+    // Not inlined: a message that is put together is then on the stack for this call alone.
+    #[inline(never)]
+    fn packet_completes(
+        &self,
         now: Moment,
-        bytes: &[u8],
+        packet: &PacketRef<'_>,
+        message: &mut Body,
+    ) -> Option<Completed>
+        ensures request { option_map (λ c. message_of c.source c.tag now message.new.items) result
+            ≡ message_in (packet_arrival (answer self.now.open_messages) now packet.now) }
+        ensures id { IfSome result (λ c. c.id ≡ id_at message.new.items) }
+        ensures range { IfSome result (λ c. c.id < ids) }
+    {
+        let route = packet.route();
+        if !route.owner {
+            return None;
+        }
+        let Fed::Whole(whole) = &self.assembler.look(packet) else {
+            return None;
+        };
+        let Ok(request) = read_request(whole) else {
+            return None;
+        };
+        message.clear();
+        message.try_extend_from_slice(whole).unwrap();
+        Some(Completed {
+            source: route.source,
+            tag: route.tag,
+            id: request.id(),
+        })
+    }
+
+    /// Whether these bytes are the request that is kept for a source and an instance ID, whenever it came.
+    pub fn keeps(&self, source: Eid, id: u8, message: &[u8]) -> bool
+        requires { id < ids }
+        ensures { result ≡ has_bytes message.now ((held_of self.now).kept source id) }
+    {
+        match self.kept.get(source, id) {
+            Some(kept) => kept.request() == message,
+            None => false,
+        }
+    }
+
+    /// Answers the request that is kept for a source and an instance ID with an answer from outside: it takes
+    /// the place of the answer that is kept there, from the moment of the request on. The message that answers is
+    /// put into `reply` whole, and goes to the source with this tag. The platform is not asked. It takes no
+    /// memory.
+    pub fn answer_kept(
+        &mut self,
+        source: Eid,
+        id: u8,
+        tag: Tag,
         command: &Command,
         answer: &Answer,
         reply: &mut Body,
     ) -> Taken
-        requires later { (held_of self.old).last ≤ now }
-        requires asked { received_commands (held_of self.old) now bytes.now ≡ command.now ∷ [] }
-        requires room { HasRow self.old now bytes.now }
+        requires id { id < ids }
+        requires asked { IsKeptFor command.now id ((held_of self.old).kept source id) }
         requires its { IsAnswerTo (kind_of command.now) answer.now }
         ensures outcome { answering reply.new.items result
-            ≡ received_outcome (gives answer.now) (stateless (held_of self.old)) now bytes.now }
+            ≡ outcome_given self.old.own source tag (kept_bytes ((held_of self.old).kept source id)) answer.now }
         ensures some { HasReply reply.new.items result }
-        ensures held { IsHeld (stateless (held_of self.new))
-            (received_held (gives answer.now) (stateless (held_of self.old)) now bytes.now) }
-        ensures state { (held_of self.new).state ≡ (held_of self.old).state }
+        ensures held { IsHeld (held_of self.new) (given_held (held_of self.old) source id answer.now) }
         ensures platform { self.new.platform ≡ self.old.platform }
         ensures bounds { self.new.bounds ≡ self.old.bounds }
     {
-        let Ok(packet) = read_for(self.own, bytes) else {
-            unreachable!();
-        };
-        let route = packet.route();
-        answer_packet(
-            &self.assembler,
-            &mut self.kept,
-            now,
-            &packet,
-            command,
-            answer,
-            reply,
-        );
-        self.assembler.forget(Key::of(&packet));
-        self.last = now;
-        let changed = command.sets() && succeeded(answer);
-        performed(changed, way_back(self.own, route.source, route.tag))
+        answer_kept(&mut self.kept, source, id, command, answer, reply);
+        let way_back = way_back(self.own, source, tag);
+        performed(command.sets() && succeeded(answer), way_back)
     }
 
     /// The command that a packet would have the platform perform. It is addressed to the endpoint by another
@@ -338,40 +384,6 @@ impl<P: Platform> Responder<P> {
         match self.kept.get(source, id) {
             Some(kept) => kept.is_repeated(self.keep, now, message),
             None => false,
-        }
-    }
-
-    /// Whether the bytes of a packet are, alone, the request that the bytes `first` complete: a whole message
-    /// with its source and bytes, and so with its instance ID. When they come is nothing to it.
-    pub fn repeats_alone(&self, first: &[u8], bytes: &[u8]) -> bool
-        ensures { (first_moment moment : ℕ)
-            → result ≡ repeats_alone (held_of self.now) first_moment first.now moment bytes.now }
-    {
-        let (Ok(first), Ok(packet)) = (read_for(self.own, first), read_for(self.own, bytes)) else {
-            return false;
-        };
-        self.repeats(&first, &packet)
-    }
-
-    /// Whether a packet is, alone, the request that the first one completes.
-    // Not inlined: the first one's message is then on the stack for this call alone.
-    #[inline(never)]
-    fn repeats(&self, first: &PacketRef<'_>, packet: &PacketRef<'_>) -> bool
-        ensures { (first_moment moment : ℕ)
-            → result ≡ (is_alone (passed is_expected (Ok packet.now))
-            && is_same (packet_arrival (answer self.now.open_messages) first_moment first.now)
-            (packet_arrival (answer self.now.open_messages) moment packet.now)) }
-    {
-        let (route, other) = (first.route(), packet.route());
-        if !route.owner || !other.owner || route.source != other.source {
-            return false;
-        }
-        let Some(message) = self.alone(packet) else {
-            return false;
-        };
-        match &self.assembler.look(first) {
-            Fed::Whole(whole) => whole.as_slice() == message && read_request(message).is_ok(),
-            _ => false,
         }
     }
 
@@ -701,39 +713,5 @@ impl<P: Platform> Responder<P> {
     {
         let _range = self.own.get(); // for the proof: an endpoint ID
         self.assembler.pending()
-    }
-}
-
-/// What becomes of a message that is answered on this route and not performed.
-fn not_performed(route: Route) -> Taken
-    ensures { result ≡ Answered false false route }
-{
-    Taken::Answered {
-        fresh: false,
-        changed: false,
-        route,
-    }
-}
-
-/// What becomes of a message that is performed and answered on this route.
-fn performed(changed: bool, route: Route) -> Taken
-    ensures { result ≡ Answered true changed route }
-{
-    Taken::Answered {
-        fresh: true,
-        changed,
-        route,
-    }
-}
-
-/// The way back to the source of packets with this tag.
-fn way_back(own: Eid, source: Eid, tag: Tag) -> Route
-    ensures { result ≡ record { destination = source; source = own; owner = false; tag = tag } }
-{
-    Route {
-        destination: source,
-        source: own,
-        owner: false,
-        tag,
     }
 }

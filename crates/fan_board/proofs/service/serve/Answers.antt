@@ -1,15 +1,37 @@
-use Rattle.std.proofs.Common.{sym, ◌∙◌}
+use Rattle.std.proofs.Common.{sym, ap, ◌∙◌, subst}
 use Rattle.pldm_responder.specs.Stations.{held_of}
-use Rattle.fan_board.proofs.ServedSteps.{served_done, served_performed}
+use Rattle.pldm_responder.specs.Steps.{received_commands}
+use Rattle.pldm_endpoint.specs.Askers.{Asks}
+use Rattle.pldm_endpoint.specs.TwoSteps.{IsAskedBy, asks_after}
+use Rattle.fan_board.proofs.ServedSteps.{asking_is, idle_again, idle_done, served_done, served_performed}
 use Rattle.fan_board.proofs.service.serve.Goals as goal
 
 pub returns-in-Ok-Done-clause-served : goal.returns-in-Ok-Done-clause-served
 returns-in-Ok-Done-clause-served c =
-    served_done (held_of c.args.endpoint.now.station) c.args.now c.args.packet.now (held_of c.receive.new.self.station) c.in-Ok-Done.outcome
+    served_done (held_of c.args.endpoint.now.station) c.args.now c.args.packet.now c.args.endpoint.now.count (held_of c.receive.new.self.station) c.in-Ok-Done.outcome
     (sym c.in-Ok-Done.field-0-is ∙ c.in-Ok-Done.ensures.step) c.in-Ok-Done.ensures.held
 
-pub returns-in-Ok-clause-served : goal.returns-in-Ok-clause-served
-returns-in-Ok-clause-served c =
-    served_performed (held_of c.args.endpoint.now.station) c.args.now c.args.packet.now (held_of c.receive.new.self.station) (held_of c.answer.new.self.station)
-    c.receive.new.self.asks c.perform-answer.result c.in-Ok.outcome
-    (sym c.in-Ok-Perform.field-0-is ∙ c.in-Ok-Perform.ensures.step) c.in-Ok-Perform.ensures.asks c.in-Ok-Perform.ensures.held c.in-Ok.ensures.outcome c.in-Ok.ensures.held
+pub returns-in-Ok-Done-clause-idle : goal.returns-in-Ok-Done-clause-idle
+returns-in-Ok-Done-clause-idle c =
+    idle_done (held_of c.args.endpoint.now.station) c.args.now c.args.packet.now c.args.endpoint.now.count c.in-Ok-Done.outcome c.receive.new.self.asks
+    (sym c.in-Ok-Done.field-0-is ∙ c.in-Ok-Done.ensures.step)
+    (c.in-Ok-Done.ensures.asks ∙ ap (λ (asks : Asks). asks_after (held_of c.args.endpoint.now.station) c.args.now c.args.packet.now asks c.args.endpoint.now.count) c.requires.idle)
+
+pub returns-clause-served : goal.returns-clause-served
+returns-clause-served c =
+    let old = held_of c.args.endpoint.now.station in
+    let is = asking_is old c.args.now c.args.packet.now c.args.endpoint.now.count c.in-Ok-Perform.asking c.receive.new.self.asks
+    (sym c.in-Ok-Perform.field-0-is ∙ c.in-Ok-Perform.ensures.step)
+    (c.in-Ok-Perform.ensures.asks ∙ ap (λ (asks : Asks). asks_after old c.args.now c.args.packet.now asks c.args.endpoint.now.count) c.requires.idle)
+    (subst (λ step. IsAskedBy step c.receive.new.self.asks (received_commands old c.args.now c.args.packet.now)) c.in-Ok-Perform.field-0-is c.in-Ok-Perform.ensures.ready) in
+    served_performed old c.args.now c.args.packet.now c.args.endpoint.now.count c.in-Ok-Perform.asking c.receive.new.self.asks is c.answers_come_in_turn.ensures.at_once
+    (held_of c.receive.new.self.station) (held_of c.answer.new.self.station) c.perform-answer.result c.in-Ok.outcome c.in-Ok-Perform.ensures.held c.in-Ok.ensures.outcome c.in-Ok.ensures.held
+
+pub returns-clause-idle : goal.returns-clause-idle
+returns-clause-idle c =
+    let old = held_of c.args.endpoint.now.station in
+    let is = asking_is old c.args.now c.args.packet.now c.args.endpoint.now.count c.in-Ok-Perform.asking c.receive.new.self.asks
+    (sym c.in-Ok-Perform.field-0-is ∙ c.in-Ok-Perform.ensures.step)
+    (c.in-Ok-Perform.ensures.asks ∙ ap (λ (asks : Asks). asks_after old c.args.now c.args.packet.now asks c.args.endpoint.now.count) c.requires.idle)
+    (subst (λ step. IsAskedBy step c.receive.new.self.asks (received_commands old c.args.now c.args.packet.now)) c.in-Ok-Perform.field-0-is c.in-Ok-Perform.ensures.ready) in
+    c.in-Ok.ensures.answered ∙ idle_again old c.args.now c.args.packet.now c.args.endpoint.now.count c.in-Ok-Perform.asking c.receive.new.self.asks is

@@ -8,6 +8,6 @@ use Rattle.needleoat_c.proofs.endpoint.report_of.Goals as goal
 pub returns-in-Answered-clause-report : goal.returns-in-Answered-clause-report
 returns-in-Answered-clause-report c =
     let count : c.div_ceil.result ≡ piece_count c.args.reply.now = search rules in
-    subst (λ taken. ReportsOutcome (answering c.args.reply.now taken) (record { kind = 3; reason = 0; fresh = c.in-Answered.fresh; changed = c.in-Answered.changed; count = c.div_ceil.result; lengths = c.put_packets.result }) c.put_packets.new.rooms)
+    subst (λ taken. ReportsOutcome (answering c.args.reply.now taken) (record { kind = 3; reason = 0; fresh = c.in-Answered.fresh; changed = c.in-Answered.changed; count = c.div_ceil.result; lengths = c.put_packets.result; asking = c.none.result }) c.put_packets.new.rooms)
     (sym c.in-Answered.is)
-    ((refl, refl, refl, refl, count ∙ sym (packets_counted c.in-Answered.route c.args.reply.now)), c.put_packets.ensures)
+    ((refl, refl, refl, refl, count ∙ sym (packets_counted c.in-Answered.route c.args.reply.now), c.none.ensures), c.put_packets.ensures)
