@@ -3,7 +3,7 @@
 use mctp_schedule::{DueRequests, Entry, OpenedRequest, Report, Step};
 use pldm_platform::Platform;
 use pldm_requester::{Got, Status};
-use pldm_responder::Taken;
+use pldm_responder::MessageOutcome;
 use std::alloc::{AllocError, Global};
 
 /// The most bytes of an answer that are written out.
@@ -73,19 +73,19 @@ fn due_words(alloc: Global, due: &DueRequests) -> Result<String, AllocError> {
 }
 
 /// What became of a request's packet.
-fn delivered_words(busy: bool, taken: &Taken) -> &'static str {
+fn delivered_words(busy: bool, taken: &MessageOutcome) -> &'static str {
     match (busy, taken) {
-        (true, Taken::Answered { .. }) => "busy",
+        (true, MessageOutcome::Answered { .. }) => "busy",
         (
             false,
-            Taken::Answered {
+            MessageOutcome::Answered {
                 fresh: true,
                 changed: true,
                 ..
             },
         ) => "fresh changed",
-        (false, Taken::Answered { fresh: true, .. }) => "fresh unchanged",
-        (false, Taken::Answered { changed: false, .. }) => "copy",
+        (false, MessageOutcome::Answered { fresh: true, .. }) => "fresh unchanged",
+        (false, MessageOutcome::Answered { changed: false, .. }) => "copy",
         _ => "no answer",
     }
 }

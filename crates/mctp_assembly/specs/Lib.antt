@@ -2,7 +2,7 @@ pub mod Keys
 pub mod Opened
 pub mod Rows
 pub mod Steps
-pub mod Givens
+pub mod Fed
 pub mod Histories
 pub mod Laws
 pub mod NumberLists

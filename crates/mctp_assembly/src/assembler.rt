@@ -1,13 +1,13 @@
 ghost use Rattle.std.specs.FinMap as map;
 ghost use Rattle.std.specs.Prelude.{◌≡◌, ◌≤◌, true, length, IfOk, OnOk, OnErr, IfSome};
-ghost use Rattle.mctp_assembly.specs.Givens.{fed_with};
+ghost use Rattle.mctp_assembly.specs.Fed.{fed_with};
 ghost use Rattle.mctp_assembly.specs.Steps.{answer, after};
 ghost use Rattle.mctp_assembly.specs.declared.key.Key.{Key};
 ghost use Rattle.mctp_assembly.specs.declared.fed.Fed.TheVariants.{Partial};
 
 use crate::buffer::{Buffer, look_alone};
 use crate::messages::Messages;
-use crate::{Fed, Given, Key};
+use crate::{Fed, FedInto, Key};
 use mctp_packet::{Body, MAX_EID, MAX_MESSAGE_BYTES, MIN_EID, Memory, PacketRef, TAGS};
 use std::alloc::Global;
 use std::marker::Model;
@@ -74,7 +74,7 @@ impl Assembler {
     /// # Errors
     ///
     /// As [`Assembler::feed`].
-    pub fn feed_into(&mut self, packet: &PacketRef<'_>, message: &mut Body) -> Result<Given, Memory>
+    pub fn feed_into(&mut self, packet: &PacketRef<'_>, message: &mut Body) -> Result<FedInto, Memory>
         ensures fed { IfOk result (λ given. fed_with message.new.items given ≡ answer self.old packet.now) }
         ensures ok { OnOk result (self.new ≡ after self.old packet.now) }
         ensures memory { OnErr result (answer self.old packet.now ≡ Partial) }
@@ -82,7 +82,7 @@ impl Assembler {
         ensures err { OnErr result (self.new ≡ self.old) }
     {
         let given = self.look_into(packet, message);
-        if let Given::Partial = given {
+        if let FedInto::Partial = given {
             self.keep(packet)?;
         } else {
             self.forget(Key::of(packet));
@@ -100,7 +100,7 @@ impl Assembler {
     }
 
     /// What a packet gives, with a message that it completes in `message`.
-    fn look_into(&self, packet: &PacketRef<'_>, message: &mut Body) -> Given
+    fn look_into(&self, packet: &PacketRef<'_>, message: &mut Body) -> FedInto
         ensures { fed_with message.new.items result ≡ answer self.now packet.now }
     {
         match self.messages.get(Key::of(packet).number()) {

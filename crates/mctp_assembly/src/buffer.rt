@@ -1,10 +1,10 @@
 ghost use Rattle.std.specs.Prelude.{◌≡◌, ◌+◌, ◌≤◌, ◌++◌, length, Some, IfOk, OnOk, OnErr, false};
 ghost use Rattle.mctp_assembly.specs.Opened.{IsOpened};
-ghost use Rattle.mctp_assembly.specs.Givens.{fed_with};
+ghost use Rattle.mctp_assembly.specs.Fed.{fed_with};
 ghost use Rattle.mctp_assembly.specs.Steps.{answer_alone, answer_to, begun_by, carried_on};
 ghost use Rattle.mctp_assembly.specs.declared.fed.Fed.TheVariants.{Partial};
 
-use crate::Given;
+use crate::FedInto;
 use mctp_packet::{Body, MAX_MESSAGE_BYTES, MAX_PACKETS, PacketRef, Reason, SEQUENCE_NUMBERS, Seq};
 use std::marker::Model;
 
@@ -57,30 +57,30 @@ impl Buffer {
     }
 
     /// What a packet gives after the packets here, with a message that it completes in `message`.
-    pub(crate) fn look_into(&self, packet: &PacketRef<'_>, message: &mut Body) -> Given
+    pub(crate) fn look_into(&self, packet: &PacketRef<'_>, message: &mut Body) -> FedInto
         ensures { fed_with message.new.items result ≡ answer_to MAX_PACKETS (Some self.now) packet.now }
     {
         if packet.start() {
             return look_alone(packet, message);
         }
         if packet.seq().get() != (self.last.get() + 1) % SEQUENCE_NUMBERS {
-            return Given::Dropped(Reason::OutOfSequence);
+            return FedInto::Dropped(Reason::OutOfSequence);
         }
         if self.count == MAX_PACKETS {
-            return Given::Dropped(Reason::TooLong);
+            return FedInto::Dropped(Reason::TooLong);
         }
         let payload = packet.payload();
         if packet.end() {
             if payload.len() > self.unit {
-                return Given::Dropped(Reason::WrongUnit);
+                return FedInto::Dropped(Reason::WrongUnit);
             }
             join(message, &self.bytes, payload);
-            return Given::Whole;
+            return FedInto::Whole;
         }
         if payload.len() != self.unit {
-            return Given::Dropped(Reason::WrongUnit);
+            return FedInto::Dropped(Reason::WrongUnit);
         }
-        Given::Partial
+        FedInto::Partial
     }
 
     /// Adds a middle packet of the message.
@@ -98,17 +98,17 @@ impl Buffer {
 
 /// What a packet gives where nothing is open on its key, and what a start packet gives in any case, with
 /// a message that it completes in `message`.
-pub(crate) fn look_alone(packet: &PacketRef<'_>, message: &mut Body) -> Given
+pub(crate) fn look_alone(packet: &PacketRef<'_>, message: &mut Body) -> FedInto
     ensures { fed_with message.new.items result ≡ answer_alone packet.now }
 {
     if !packet.start() {
-        return Given::Dropped(Reason::UnexpectedMiddleOrEnd);
+        return FedInto::Dropped(Reason::UnexpectedMiddleOrEnd);
     }
     if packet.end() {
         join(message, &[], packet.payload());
-        return Given::Whole;
+        return FedInto::Whole;
     }
-    Given::Partial
+    FedInto::Partial
 }
 
 /// Puts a message in its place: the bytes that came before its last packet, and that one's payload.

@@ -1,11 +1,11 @@
 //! What a packet gives at its place among those of its key.
 
 ghost use Rattle.std.specs.Prelude.{◌≡◌};
-ghost use Rattle.mctp_assembly.specs.Givens.{fed_with};
+ghost use Rattle.mctp_assembly.specs.Fed.{fed_with};
 
 use mctp_packet::{Body, Reason};
 
-/// What a packet gives.
+/// What a packet gives, as [`crate::Assembler::feed`] returns it.
 #[derive(Debug, PartialEq, Eq, Drop)]
 pub enum Fed {
     /// It completes a message of these bytes.
@@ -16,9 +16,10 @@ pub enum Fed {
     Dropped(Reason),
 }
 
-/// What a packet gives, where the message that it completes stands in a place of its own.
+/// What a packet gives, as [`crate::Assembler::feed_into`] returns it: the message that it completes is in a place of
+/// its own.
 #[derive(Clone, Copy, Debug, PartialEq, Eq)]
-pub enum Given {
+pub enum FedInto {
     /// It completes a message.
     Whole,
     /// It begins a message of several packets, or goes on with one.
@@ -27,15 +28,15 @@ pub enum Given {
     Dropped(Reason),
 }
 
-impl Given {
+impl FedInto {
     /// The same, with the message that it completes.
     pub(crate) fn with(self, message: Body) -> Fed
         ensures { result ≡ fed_with message.items self }
     {
         match self {
-            Given::Whole => Fed::Whole(message),
-            Given::Partial => Fed::Partial,
-            Given::Dropped(reason) => Fed::Dropped(reason),
+            FedInto::Whole => Fed::Whole(message),
+            FedInto::Partial => Fed::Partial,
+            FedInto::Dropped(reason) => Fed::Dropped(reason),
         }
     }
 }

@@ -16,6 +16,7 @@ impl Memory {
     /// No room in a value that holds `count` where it may hold `limit`.
     pub fn at_limit(count: usize, limit: usize) -> Memory
         requires { limit ≤ count }
+        ensures { result ≡ out_of_memory }
     {
         Memory(())
     }

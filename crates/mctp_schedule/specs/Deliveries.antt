@@ -3,10 +3,10 @@ use Rattle.std.specs.Prelude.{◌≡◌, ℕ, List, Option, Some, None, option_a
 use Rattle.pldm_responder.specs.Answering.{answering}
 use Rattle.pldm_responder.specs.declared.outcome.Outcome.{Outcome}
 use Rattle.pldm_responder.specs.declared.outcome.Outcome.TheVariants as outcomes
-use Rattle.pldm_responder.specs.declared.outcome.Taken.{Taken}
+use Rattle.pldm_responder.specs.declared.outcome.MessageOutcome.{MessageOutcome}
 
 -- with some answer, this comes to the outcome
-abbrev pub ComesTo : Taken → Outcome → Type 0
+abbrev pub ComesTo : MessageOutcome → Outcome → Type 0
 ComesTo taken outcome = (reply : List ℕ) × (answering reply taken ≡ outcome)
 
 -- the packets of an answer

@@ -7,7 +7,7 @@ ghost use Rattle.mctp_schedule.specs.Deliveries.{ComesTo, packet_of_outcome};
 
 use crate::stored_message::StoredMessage;
 use mctp_packet::{MAX_PACKET_BYTES, Memory, PacketRef, packet_at, write};
-use pldm_responder::Taken;
+use pldm_responder::MessageOutcome;
 use std::alloc::Global;
 use std::marker::Model;
 
@@ -15,7 +15,7 @@ use std::marker::Model;
 /// where they are asked for.
 #[derive(Debug, Drop)]
 pub struct Delivery {
-    taken: Taken,
+    taken: MessageOutcome,
     reply: StoredMessage,
 }
 
@@ -33,21 +33,21 @@ impl Delivery {
     /// `last` does if both are the same.
     pub(crate) fn new(
         alloc: Global,
-        taken: Taken,
+        taken: MessageOutcome,
         reply: &[u8],
         last: Option<&StoredMessage>,
     ) -> Result<Delivery, Memory>
         ensures { IfOk result (λ delivery. delivery ≡ answering reply.now taken) }
     {
         let reply = match &taken {
-            Taken::Answered { .. } => StoredMessage::new(alloc, reply, last)?,
+            MessageOutcome::Answered { .. } => StoredMessage::new(alloc, reply, last)?,
             _ => StoredMessage::new(alloc, &[], None)?, // takes no memory
         };
         Ok(Delivery { taken, reply })
     }
 
     /// What became of it, and whether it was performed, but for the answer.
-    pub fn taken(&self) -> &Taken
+    pub fn taken(&self) -> &MessageOutcome
         ensures { ComesTo result.now self.now }
     {
         &self.taken
@@ -63,7 +63,7 @@ impl Delivery {
     pub fn packet<'a>(&self, index: usize, room: &'a mut [u8; MAX_PACKET_BYTES]) -> Option<&'a [u8]>
         ensures { option_map (λ bytes. bytes.now) result ≡ packet_of_outcome self.now index }
     {
-        let Taken::Answered { route, .. } = &self.taken else {
+        let MessageOutcome::Answered { route, .. } = &self.taken else {
             return None;
         };
         let packet = packet_at(route, self.reply.bytes(), index)?;

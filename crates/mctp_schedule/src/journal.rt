@@ -13,7 +13,7 @@ use crate::{Delivery, DueRequests, Entry, OpenedRequest};
 use arrayvec::ArrayVec;
 use mctp_packet::{Eid, MAX_PACKET_BYTES, Memory, Moment};
 use pldm_requester::{Due, Got};
-use pldm_responder::Taken;
+use pldm_responder::MessageOutcome;
 use std::alloc::Global;
 use std::marker::Model;
 
@@ -222,7 +222,7 @@ impl Journal {
         number: u64,
         in_time: bool,
         busy: bool,
-        taken: Taken,
+        taken: MessageOutcome,
         reply: &[u8],
     ) -> Result<(), Memory>
         requires { number < length self.old.traffic.items }
@@ -236,7 +236,7 @@ impl Journal {
             (answering reply.now taken)) }
         ensures timely { OnOk result (self.new.timely ≡ (in_time && self.old.timely)) }
     {
-        if let Taken::Answered { fresh: true, .. } = &taken {
+        if let MessageOutcome::Answered { fresh: true, .. } = &taken {
             self.order.push(number)?;
         }
         self.timely = in_time && self.timely;

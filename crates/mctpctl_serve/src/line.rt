@@ -23,7 +23,7 @@ use mctp_packet::{Body, MAX_MOMENT, Moment, Reason};
 use mctp_serial::{FrameReader, Told, frame};
 use mctpctl_input::Port;
 use pldm_platform::Platform;
-use pldm_responder::{Responder, Taken};
+use pldm_responder::{Responder, MessageOutcome};
 use std::io::{Read, Write};
 
 /// How many bytes are asked for at once: a line gives a few at a time, and these hold many frames, in a room that needs
@@ -104,7 +104,7 @@ fn hear_packet<P: Platform, C: Ticks, L: Watch, W: Write>(
         return Err(ServeFault::Memory);
     };
     match taken {
-        Taken::Dropped(reason) => {
+        MessageOutcome::Dropped(reason) => {
             answer_drop(
                 &mut line.control,
                 &mut line.watch,
@@ -114,8 +114,8 @@ fn hear_packet<P: Platform, C: Ticks, L: Watch, W: Write>(
                 writer,
             )?;
         }
-        Taken::Partial => {}
-        Taken::Answered { route, .. } => {
+        MessageOutcome::Partial => {}
+        MessageOutcome::Answered { route, .. } => {
             send(&frames_of(&route, reply), writer)?;
             line.watch.saw(&Event::Sent(now, route, reply));
         }

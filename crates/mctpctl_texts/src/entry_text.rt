@@ -11,7 +11,7 @@ use crate::text_writer::TextWriter;
 use mctp_schedule::{Delivery, Entry};
 use pldm_platform::ReadingFault;
 use pldm_requester::{Got, OpenFault};
-use pldm_responder::Taken;
+use pldm_responder::MessageOutcome;
 
 /// Writes the line of a step at this moment: the moment, and what came of the step.
 pub(crate) fn write_entry_line<O: TextWriter>(
@@ -103,9 +103,9 @@ fn write_delivered<O: TextWriter>(
         (delivered_text busy delivery.now ++ 10 ∷ []) result }
 {
     match delivery.taken() {
-        Taken::Dropped(reason) => write_drop_line(out, *reason),
-        Taken::Partial => write_text(out, "partial\n"),
-        Taken::Answered { fresh, changed, .. } => {
+        MessageOutcome::Dropped(reason) => write_drop_line(out, *reason),
+        MessageOutcome::Partial => write_text(out, "partial\n"),
+        MessageOutcome::Answered { fresh, changed, .. } => {
             write_text(out, answered_text(busy, *fresh, *changed))
         }
     }

@@ -10,12 +10,12 @@ ghost use Rattle.mctpctl_texts.specs.Writers.{KeepsFront, Wrote};
 use crate::parts::{write_drop_line, write_text};
 use crate::text_writer::TextWriter;
 use mctp_packet::{MAX_PACKET_BYTES, Memory, PacketRef, Route, UNIT, packet_at, write};
-use pldm_responder::Taken;
+use pldm_responder::MessageOutcome;
 
 /// Adds the lines of what becomes of a packet that `reply` answers: `drop NAME`, `partial`, or the
 /// answer's packets in lower-case hex, one a line. Whether the answer is a copy's, and whether it changed
 /// the device, does not show. An `Err` adds nothing.
-pub fn push_outcome(out: &mut Vec<u8>, taken: &Taken, reply: &[u8]) -> Result<(), Memory>
+pub fn push_outcome(out: &mut Vec<u8>, taken: &MessageOutcome, reply: &[u8]) -> Result<(), Memory>
     ensures ok { OnOk result (out.new.items ≡ out.old.items ++ outcome_text (answering reply.now taken.now)) }
     ensures err { OnErr result (out.new.items ≡ out.old.items) }
 {
@@ -28,15 +28,15 @@ pub fn push_outcome(out: &mut Vec<u8>, taken: &Taken, reply: &[u8]) -> Result<()
 }
 
 /// As `push_outcome`, but that a front of the text may be taken before a refusal.
-fn write_outcome<O: TextWriter>(out: &mut O, taken: &Taken, reply: &[u8]) -> Result<(), O::Refusal>
+fn write_outcome<O: TextWriter>(out: &mut O, taken: &MessageOutcome, reply: &[u8]) -> Result<(), O::Refusal>
     ensures written { Wrote O.contents O.failed O.refused out.old out.new
         (outcome_text (answering reply.now taken.now)) result }
     ensures front { KeepsFront O.begins out.old out.new }
 {
     match taken {
-        Taken::Dropped(reason) => write_drop_line(out, *reason),
-        Taken::Partial => write_text(out, "partial\n"),
-        Taken::Answered { route, .. } => write_packets(out, route, reply),
+        MessageOutcome::Dropped(reason) => write_drop_line(out, *reason),
+        MessageOutcome::Partial => write_text(out, "partial\n"),
+        MessageOutcome::Answered { route, .. } => write_packets(out, route, reply),
     }
 }
 

@@ -22,7 +22,7 @@ use Rattle.pldm_responder.specs.Steps.{received_held, restarted_held}
 use Rattle.pldm_responder.specs.Wants.{WantsMemory}
 use Rattle.pldm_responder.specs.declared.bounds.Bounds.{Bounds}
 use Rattle.pldm_responder.specs.declared.outcome.Outcome.{Outcome}
-use Rattle.pldm_responder.specs.declared.outcome.Taken.{Taken}
+use Rattle.pldm_responder.specs.declared.outcome.MessageOutcome.{MessageOutcome}
 use Rattle.pldm_responder.specs.declared.outcome.Outcome.TheVariants.{Dropped, Partial, Answered}
 use Rattle.pldm_endpoint.specs.Askers.{Asks, asked_at, asker}
 use Rattle.pldm_endpoint.specs.Refusing.{refused_by}
@@ -260,12 +260,12 @@ ReportsAnswer asked fields r rooms (Some inside) =
     ReportsAnswerTo (asked_in asked inside) asked fields r rooms (held_of inside.station)
 
 -- the report of an answer that was handed in: of what it gave, with the packets of `reply`, or of why it was refused
-abbrev pub ReportsHandedIn : List ℕ → Result Taken ℕ → StepReport → List (List ℕ) → Type 0
+abbrev pub ReportsHandedIn : List ℕ → Result MessageOutcome ℕ → StepReport → List (List ℕ) → Type 0
 ReportsHandedIn reply (Ok taken) r rooms = ReportsOutcome (answering reply taken) r rooms
 ReportsHandedIn reply (Err number) r rooms = IsRefused number r
 
 -- whatever the report of this is, it is one of the answer
-abbrev pub IsReportedSo : List ℕ → Result Taken ℕ → AskingFields → AnswerFields → Inside → Type 0
+abbrev pub IsReportedSo : List ℕ → Result MessageOutcome ℕ → AskingFields → AnswerFields → Inside → Type 0
 IsReportedSo reply given asked fields inside =
     (r : StepReport) (rooms : List (List ℕ))
     → ReportsHandedIn reply given r rooms → ReportsAnswer asked fields r rooms (Some inside)

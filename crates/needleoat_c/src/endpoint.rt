@@ -21,8 +21,8 @@ use mctp_packet::{
     Body, Eid, Keep, MAX_PACKET_BYTES, MAX_PACKETS, Moment, Route, UNIT, packet_at, write,
 };
 use needleoat_forms::{AnswerFields, CommandFields, answer_of};
-use pldm_endpoint::{Asking, Endpoint, ReceiveRefusal, TakenStep};
-use pldm_responder::{Bounds, Taken};
+use pldm_endpoint::{Asking, Endpoint, ReceiveRefusal, MessageStep};
+use pldm_responder::{Bounds, MessageOutcome};
 use pldm_wire::{Answer, Command, INSTANCE_IDS};
 use std::alloc::Global;
 
@@ -96,11 +96,11 @@ pub(crate) fn receive(
     };
     let mut reply = Body::new();
     match endpoint.receive_message(now, packet, &mut reply) {
-        Ok(TakenStep::Perform(asking)) => {
+        Ok(MessageStep::Perform(asking)) => {
             put_command(endpoint, &asking, command);
             StepReport::to_perform(&asking)
         }
-        Ok(TakenStep::Done(taken)) => report_of(&taken, &reply, packets),
+        Ok(MessageStep::Done(taken)) => report_of(&taken, &reply, packets),
         Err(refusal) => StepReport::without(0, refusal_number(refusal)),
     }
 }
@@ -135,7 +135,7 @@ pub(crate) fn answer(
     asked: &AskingFields,
     fields: &AnswerFields,
     reply: &mut Body,
-) -> Result<Taken, u8>
+) -> Result<MessageOutcome, u8>
     ensures report { IsReportedSo reply.new.items result asked.now fields.now endpoint.old }
     ensures held { IsHeld (bare (held_of endpoint.new.station)) (answered_by asked.now fields.now endpoint.old) }
     ensures bounds { endpoint.new.station.bounds ≡ endpoint.old.station.bounds }
@@ -161,7 +161,7 @@ pub(crate) fn answer(
 
 /// The report of an answer that was handed in, with the packets of `reply`, the message that answers.
 pub(crate) fn report(
-    given: &Result<Taken, u8>,
+    given: &Result<MessageOutcome, u8>,
     reply: &[u8],
     packets: &mut [[u8; MAX_PACKET_BYTES]; MAX_PACKETS],
 ) -> StepReport
@@ -200,7 +200,7 @@ fn put_given(command: &Command, fields: &AnswerFields, given: &mut Answer) -> Re
 
 /// The report of what becomes of a packet, with the packets of `reply`, the message that answers.
 fn report_of(
-    taken: &Taken,
+    taken: &MessageOutcome,
     reply: &[u8],
     rooms: &mut [[u8; MAX_PACKET_BYTES]; MAX_PACKETS],
 ) -> StepReport
@@ -209,9 +209,9 @@ fn report_of(
     ensures other { result.kind ≤ 3 }
 {
     match taken {
-        Taken::Dropped(reason) => StepReport::without(1, reason.number()),
-        Taken::Partial => StepReport::without(2, 0),
-        Taken::Answered {
+        MessageOutcome::Dropped(reason) => StepReport::without(1, reason.number()),
+        MessageOutcome::Partial => StepReport::without(2, 0),
+        MessageOutcome::Answered {
             fresh,
             changed,
             route,

@@ -7,13 +7,57 @@ ghost use Rattle.pldm_endpoint.specs.Askers.{none_asked};
 
 use crate::asks::Asked;
 use mctp_packet::Memory;
-use std::alloc::Global;
+use std::alloc::{AllocError, Global};
 use std::marker::Model;
+
+/// A command in a place of its own, so that the list of them is short and moves fast.
+#[derive(Drop)]
+struct Place {
+    asked: Box<Asked>,
+}
+
+impl Model for Place {
+    ghost use Rattle.std.specs.Prelude.{box_value};
+    ghost use Rattle.pldm_endpoint.specs.contracts.asks.Asked as asked_type;
+    ghost use Rattle.pldm_endpoint.specs.declared.asks.Asked.{Asked as AskedValue};
+
+    ghost Value = { AskedValue };
+
+    ghost coded = { asked_type.the_row.coded };
+
+    ghost view = { λ p. box_value p.asked };
+}
+
+impl Place {
+    /// A place of its own for this command.
+    fn new(alloc: Global, asked: Asked) -> Result<Place, AllocError>
+        ensures { IfOk result (λ place. place ≡ asked) }
+    {
+        Ok(Place {
+            asked: Box::new(alloc, asked)?,
+        })
+    }
+
+    /// Puts a command in the place of this one.
+    fn replace(&mut self, asked: Asked)
+        ensures { self.new ≡ asked }
+    {
+        *self.asked = asked;
+    }
+
+    /// The command.
+    fn asked(&self) -> &Asked
+        ensures { result.now ≡ self.now }
+    {
+        &self.asked
+    }
+}
 
 /// Commands by the numbers of their askers, which rise: a look-up is a binary search.
 #[derive(Drop)]
 pub(crate) struct AskList {
-    list: Vec<(u16, Asked)>,
+    alloc: Global,
+    list: Vec<(u16, Place)>,
 }
 
 impl Model for AskList {
@@ -38,6 +82,7 @@ impl AskList {
         ensures { result ≡ [] }
     {
         AskList {
+            alloc,
             list: Vec::new(alloc),
         }
     }
@@ -55,7 +100,7 @@ impl AskList {
         ensures { option_copied result ≡ at self.now number }
     {
         match self.search(number) {
-            Ok(place) => Some(&self.list[place].1),
+            Ok(place) => Some(self.list[place].1.asked()),
             Err(_) => None,
         }
     }
@@ -66,8 +111,11 @@ impl AskList {
         ensures err { OnErr result (self.new ≡ self.old) }
     {
         match self.search(number) {
-            Ok(place) => self.list[place] = (number, asked),
-            Err(place) => self.list.insert(place, (number, asked))?,
+            Ok(place) => self.list[place].1.replace(asked),
+            Err(place) => {
+                let asked = Place::new(self.alloc, asked)?;
+                self.list.insert(place, (number, asked))?;
+            }
         }
         Ok(())
     }

@@ -17,10 +17,10 @@ ghost use Rattle.pldm_endpoint.specs.TwoSteps.{IsAnsweredBy, IsAskedBy, IsItsAns
 
 use crate::asks::{Asked, Asker, Asks};
 use crate::outside_device::OutsideDevice;
-use crate::step::{AnswerRefusal, Asking, ReceiveRefusal, Step, TakenStep, is_answer_to};
+use crate::step::{AnswerRefusal, Asking, ReceiveRefusal, Step, MessageStep, is_answer_to};
 use mctp_packet::{Body, Eid, Keep, Memory, Moment};
 use pldm_responder::laws::answers_come_from_outside;
-use pldm_responder::{Bounds, Outcome, Responder, Taken};
+use pldm_responder::{Bounds, Outcome, Responder, MessageOutcome};
 use pldm_wire::{Answer, Command};
 use std::alloc::Global;
 use std::marker::Model;
@@ -158,8 +158,8 @@ impl Endpoint {
     {
         let mut reply = Body::new();
         match self.receive_message(now, bytes, &mut reply)? {
-            TakenStep::Perform(asking) => Ok(Step::Perform(asking)),
-            TakenStep::Done(taken) => Ok(Step::Done(taken.outcome(&reply))),
+            MessageStep::Perform(asking) => Ok(Step::Perform(asking)),
+            MessageStep::Done(taken) => Ok(Step::Done(taken.outcome(&reply))),
         }
     }
 
@@ -174,7 +174,7 @@ impl Endpoint {
         now: Moment,
         bytes: &[u8],
         reply: &mut Body,
-    ) -> Result<TakenStep, ReceiveRefusal>
+    ) -> Result<MessageStep, ReceiveRefusal>
         requires { (held_of self.old.station).last ≤ now }
         ensures step { IfOk result (λ step. stepping reply.new.items step
             ≡ received_step (held_of self.old.station) now bytes.now self.old.count) }
@@ -236,7 +236,7 @@ impl Endpoint {
     }
 
     /// Takes a packet that is not refused.
-    fn take(&mut self, now: Moment, bytes: &[u8], reply: &mut Body) -> Result<TakenStep, Memory>
+    fn take(&mut self, now: Moment, bytes: &[u8], reply: &mut Body) -> Result<MessageStep, Memory>
         requires later { (held_of self.old.station).last ≤ now }
         requires taken { refused_by self.old now bytes.now ≡ None }
         ensures step { IfOk result (λ step. stepping reply.new.items step
@@ -260,10 +260,10 @@ impl Endpoint {
         answers_come_from_outside::<OutsideDevice>();
         if let Some(command) = self.responder.ask(now, bytes)? {
             let asking = self.hand_out(now, bytes, command, reply)?;
-            return Ok(TakenStep::Perform(asking));
+            return Ok(MessageStep::Perform(asking));
         }
         let taken = self.responder.receive_message(now, bytes, reply)?;
-        Ok(TakenStep::Done(taken))
+        Ok(MessageStep::Done(taken))
     }
 
     /// Has the command of a packet asked. Its request is kept at once, and there is room for it.
@@ -352,7 +352,7 @@ impl Endpoint {
         asking: &Asking,
         answer: &Answer,
         reply: &mut Body,
-    ) -> Result<Taken, AnswerRefusal>
+    ) -> Result<MessageOutcome, AnswerRefusal>
         ensures outcome { IfOk result (λ taken. IsAnsweredBy (held_of self.old.station) asking.now answer.now
             (asked_at self.old.asks asking.now) (answering reply.new.items taken)) }
         ensures some { IfOk result (HasReply reply.new.items) }

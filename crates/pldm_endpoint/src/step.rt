@@ -4,7 +4,7 @@ ghost use Rattle.std.specs.Prelude.{◌≡◌, true, false};
 ghost use Rattle.pldm_wire.specs.Answers.{IsAnswerTo, answered_kind};
 
 use mctp_packet::{Eid, Memory};
-use pldm_responder::{Outcome, Taken};
+use pldm_responder::{Outcome, MessageOutcome};
 use pldm_wire::{
     Answer, BASE, GET_NUMERIC_EFFECTER_VALUE, GET_PDR, GET_PDR_REPOSITORY_INFO, GET_PLDM_COMMANDS,
     GET_PLDM_TYPES, GET_PLDM_VERSION, GET_SENSOR_READING, GET_STATE_EFFECTER_STATES,
@@ -24,7 +24,7 @@ pub struct Asking {
     pub number: u64,
 }
 
-/// What becomes of the bytes of a packet.
+/// What becomes of the bytes of a packet, as [`crate::Endpoint::receive`] returns it.
 #[derive(Debug, Drop)]
 pub enum Step {
     /// They complete a request whose command the device has to perform now, once.
@@ -33,13 +33,14 @@ pub enum Step {
     Done(Outcome),
 }
 
-/// What becomes of the bytes of a packet, where the message that answers them stands beside it.
+/// What becomes of the bytes of a packet, as [`crate::Endpoint::receive_message`] returns it: the message that answers
+/// them is in a place of its own.
 #[derive(Debug, Drop)]
-pub enum TakenStep {
+pub enum MessageStep {
     /// They complete a request whose command the device has to perform now, once.
     Perform(Asking),
     /// They are done with: dropped, a part of a message, or answered.
-    Done(Taken),
+    Done(MessageOutcome),
 }
 
 /// Why a packet was refused. It counts as lost on the bus, and the endpoint is as before.

@@ -20,7 +20,7 @@ ghost use Rattle.pldm_requester.specs.Timings.{timing_fault};
 use crate::remembered::{Remembered, tick_all};
 use crate::{Due, Got, OpenFault, Opened, Status, Timing, TimingFault};
 use arrayvec::ArrayVec;
-use mctp_assembly::{Assembler, Given, Key};
+use mctp_assembly::{Assembler, FedInto, Key};
 use mctp_packet::{
     Body, Eid, MAX_MESSAGE_BYTES, Memory, Moment, PacketRef, Packets, Reason, Route, TAGS, Tag,
     read_for, split,
@@ -355,9 +355,9 @@ impl Requester {
         };
         let mut message = Body::new();
         match self.assembler.feed_into(packet, &mut message)? {
-            Given::Whole => Ok(self.answer(number, &message)),
-            Given::Partial => Ok(Got::Partial),
-            Given::Dropped(reason) => Ok(Got::Dropped(reason)),
+            FedInto::Whole => Ok(self.answer(number, &message)),
+            FedInto::Partial => Ok(Got::Partial),
+            FedInto::Dropped(reason) => Ok(Got::Dropped(reason)),
         }
     }
 

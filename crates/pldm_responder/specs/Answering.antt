@@ -3,16 +3,16 @@ use Rattle.std.specs.Prelude.{ℕ, ◌<◌, Bool, List, length, Option, Some, No
 use Rattle.mctp_packet.specs.Pieces.{written_packets}
 use Rattle.pldm_responder.specs.declared.outcome.Outcome.{Outcome}
 use Rattle.pldm_responder.specs.declared.outcome.Outcome.TheVariants as outcome
-use Rattle.pldm_responder.specs.declared.outcome.Taken.{Taken}
-use Rattle.pldm_responder.specs.declared.outcome.Taken.TheVariants.{Dropped, Partial, Answered}
+use Rattle.pldm_responder.specs.declared.outcome.MessageOutcome.{MessageOutcome}
+use Rattle.pldm_responder.specs.declared.outcome.MessageOutcome.TheVariants.{Dropped, Partial, Answered}
 
-abbrev pub answering : List ℕ → Taken → Outcome
+abbrev pub answering : List ℕ → MessageOutcome → Outcome
 answering reply (Dropped reason) = outcome.Dropped reason
 answering reply Partial = outcome.Partial
 answering reply (Answered fresh changed route) = outcome.Answered fresh changed (written_packets route reply)
 
 -- where there is an answer, its message has bytes
-abbrev pub HasReply : List ℕ → Taken → Type 0
+abbrev pub HasReply : List ℕ → MessageOutcome → Type 0
 HasReply reply (Dropped reason) = Unit {0}
 HasReply reply Partial = Unit {0}
 HasReply reply (Answered fresh changed route) = 0 < length reply

@@ -5,7 +5,7 @@ ghost use Rattle.pldm_responder.specs.Answering.{HasReply, answering};
 
 use mctp_packet::{Body, Packets, Reason, Route, split};
 
-/// What becomes of bytes that were received.
+/// What becomes of bytes that were received, as [`crate::Responder::receive`] returns it.
 #[derive(Debug, Drop)]
 pub enum Outcome {
     /// They are dropped, for one of the reasons 1 to 17.
@@ -24,9 +24,10 @@ pub enum Outcome {
     },
 }
 
-/// What becomes of bytes that were received, where the message that answers them stands beside it.
+/// What becomes of bytes that were received, as [`crate::Responder::receive_message`] returns it: the message that
+/// answers them is in a place of its own.
 #[derive(Debug, Drop)]
-pub enum Taken {
+pub enum MessageOutcome {
     /// They are dropped, for one of the reasons 1 to 17.
     Dropped(Reason),
     /// They begin a message of several packets, or go on with one.
@@ -43,16 +44,16 @@ pub enum Taken {
     },
 }
 
-impl Taken {
+impl MessageOutcome {
     /// The same with the packets of `reply`, the message that answers.
     pub fn outcome(self, reply: &Body) -> Outcome
         requires { HasReply reply.now.items self }
         ensures { result ≡ answering reply.now.items self }
     {
         match self {
-            Taken::Dropped(reason) => Outcome::Dropped(reason),
-            Taken::Partial => Outcome::Partial,
-            Taken::Answered {
+            MessageOutcome::Dropped(reason) => Outcome::Dropped(reason),
+            MessageOutcome::Partial => Outcome::Partial,
+            MessageOutcome::Answered {
                 fresh,
                 changed,
                 route,

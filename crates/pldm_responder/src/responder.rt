@@ -24,14 +24,14 @@ ghost use Rattle.pldm_responder.specs.Slots.{kept_in};
 ghost use Rattle.pldm_responder.specs.Stations.{held_of, with_platform};
 ghost use Rattle.pldm_responder.specs.Steps.{arrival_commands, arrival_held, arrival_outcome, copied_packets, passed_held, received_arrival, received_commands, received_held, received_outcome, repeats, restarted_held, sensed_held, updated_held};
 ghost use Rattle.pldm_responder.specs.contracts.responder.Responder.{the_row};
-ghost use Rattle.pldm_responder.specs.declared.outcome.Taken.TheVariants.{Answered};
+ghost use Rattle.pldm_responder.specs.declared.outcome.MessageOutcome.TheVariants.{Answered};
 ghost use Rattle.pldm_responder.specs.Wants.{ArrivalWants, PassedWants, WantsMemory};
 
 use crate::answering::answer_kept;
 use crate::bounds::Bounds;
 use crate::completed::Completed;
 use crate::kept_answers::KeptAnswers;
-use crate::outcome::{Outcome, Taken};
+use crate::outcome::{Outcome, MessageOutcome};
 use crate::performing::{perform, refuse, succeeded};
 use crate::routes::{not_performed, performed, way_back};
 use mctp_assembly::{Assembler, Fed, Key};
@@ -323,7 +323,7 @@ impl<P: Platform> Responder<P> {
         command: &Command,
         answer: &Answer,
         reply: &mut Body,
-    ) -> Taken
+    ) -> MessageOutcome
         requires id { id < ids }
         requires asked { IsKeptFor command.now id ((held_of self.old).kept source id) }
         requires its { IsAnswerTo (kind_of command.now) answer.now }
@@ -454,7 +454,7 @@ impl<P: Platform> Responder<P> {
         now: Moment,
         bytes: &[u8],
         reply: &mut Body,
-    ) -> Result<Taken, Memory>
+    ) -> Result<MessageOutcome, Memory>
         requires { (held_of self.old).last ≤ now }
         ensures outcome { IfOk result
             (λ taken. answering reply.new.items taken ≡ received_outcome (rules_of P.answer P.after P.sensed)
@@ -477,7 +477,7 @@ impl<P: Platform> Responder<P> {
             Ok(packet) => packet,
             Err(reason) => {
                 self.last = now;
-                return Ok(Taken::Dropped(reason));
+                return Ok(MessageOutcome::Dropped(reason));
             }
         };
         let taken = self.take(now, &packet, reply)?;
@@ -492,7 +492,7 @@ impl<P: Platform> Responder<P> {
         now: Moment,
         packet: &PacketRef<'_>,
         reply: &mut Body,
-    ) -> Result<Taken, Memory>
+    ) -> Result<MessageOutcome, Memory>
         requires { packet.now.route.source ≢ self.old.own }
         ensures outcome { IfOk result (λ taken.
             answering reply.new.items taken
@@ -518,7 +518,7 @@ impl<P: Platform> Responder<P> {
     {
         let route = packet.route();
         if !route.owner {
-            return Ok(Taken::Dropped(Reason::BadTag));
+            return Ok(MessageOutcome::Dropped(Reason::BadTag));
         }
         let Some(message) = self.alone(packet) else {
             return self.take_piece(now, packet, reply);
@@ -550,7 +550,7 @@ impl<P: Platform> Responder<P> {
         now: Moment,
         packet: &PacketRef<'_>,
         reply: &mut Body,
-    ) -> Result<Taken, Memory>
+    ) -> Result<MessageOutcome, Memory>
         requires owner { packet.now.route.owner ≡ true }
         requires other { packet.now.route.source ≢ self.old.own }
         ensures outcome { IfOk result (λ taken.
@@ -589,11 +589,11 @@ impl<P: Platform> Responder<P> {
                     return Err(Memory::at_limit(open, self.bounds.open_messages));
                 }
                 self.assembler.keep(packet)?;
-                Ok(Taken::Partial)
+                Ok(MessageOutcome::Partial)
             }
             Fed::Dropped(reason) => {
                 self.assembler.forget(key);
-                Ok(Taken::Dropped(*reason))
+                Ok(MessageOutcome::Dropped(*reason))
             }
         }
     }
@@ -618,7 +618,7 @@ impl<P: Platform> Responder<P> {
         tag: Tag,
         message: &[u8],
         reply: &mut Body,
-    ) -> Result<Taken, Memory>
+    ) -> Result<MessageOutcome, Memory>
         requires other { source ≢ self.old.own }
         requires few { length message.now ≤ MAX_MESSAGE_BYTES }
         ensures outcome { IfOk result (λ taken.
@@ -646,7 +646,7 @@ impl<P: Platform> Responder<P> {
     {
         let request = match read_request(message) {
             Ok(request) => request,
-            Err(reason) => return Ok(Taken::Dropped(reason)),
+            Err(reason) => return Ok(MessageOutcome::Dropped(reason)),
         };
         let route = way_back(self.own, source, tag);
         if self.is_busy(now) {

@@ -1,16 +1,16 @@
 //! Which way the message that answers a request goes.
 
 ghost use Rattle.std.specs.Prelude.{◌≡◌, true, false};
-ghost use Rattle.pldm_responder.specs.declared.outcome.Taken.TheVariants.{Answered};
+ghost use Rattle.pldm_responder.specs.declared.outcome.MessageOutcome.TheVariants.{Answered};
 
-use crate::outcome::Taken;
+use crate::outcome::MessageOutcome;
 use mctp_packet::{Eid, Route, Tag};
 
 /// What becomes of a message that is answered on this route and not performed.
-pub(crate) fn not_performed(route: Route) -> Taken
+pub(crate) fn not_performed(route: Route) -> MessageOutcome
     ensures { result ≡ Answered false false route }
 {
-    Taken::Answered {
+    MessageOutcome::Answered {
         fresh: false,
         changed: false,
         route,
@@ -18,10 +18,10 @@ pub(crate) fn not_performed(route: Route) -> Taken
 }
 
 /// What becomes of a message that is performed and answered on this route.
-pub(crate) fn performed(changed: bool, route: Route) -> Taken
+pub(crate) fn performed(changed: bool, route: Route) -> MessageOutcome
     ensures { result ≡ Answered true changed route }
 {
-    Taken::Answered {
+    MessageOutcome::Answered {
         fresh: true,
         changed,
         route,

@@ -1,5 +1,5 @@
 -- Where a line is reached, all lines before it are good.
-use Rattle.std.proofs.Common.{◌≡◌, ℕ, suc, ◌+◌, ◌-◌, ◌≤◌, List, [], ◌∷◌, ◌++◌, Result, Ok, Err, length, take, refl, sym, ap, subst, ◌∙◌, arith, length-append}
+use Rattle.std.proofs.Common.{◌≡◌, ℕ, ◌+◌, ◌-◌, List, [], ◌∷◌, ◌++◌, Result, Ok, Err, length, take, refl, ap, ◌∙◌, arith, length-append}
 use Rattle.schedule_text.specs.Schedules.{IsReached, Spelled, after_line, none_spelled, spelled_from, spelled_then}
 use Rattle.schedule_text.specs.declared.line_fault.LineFault.{LineFault}
 use Rattle.schedule_text.specs.declared.line_fault.LineFaultKind.{LineFaultKind}

@@ -1,7 +1,7 @@
 //! The command that words say.
 
-ghost use Rattle.std.specs.Prelude.{◌≡◌, MatchResult, Ok, Err, codes};
-ghost use Rattle.schedule_text.specs.CommandWords.{bare, byte_command_named, byte_of, command_of, field_command_named, getpdr_of, id_command_named, id_of, only_word, part_in, setnum_of, setstate_of, size_in, sized_in, state_in, states_in};
+ghost use Rattle.std.specs.Prelude.{◌≡◌, codes};
+ghost use Rattle.schedule_text.specs.CommandWords.{bare, byte_command_named, byte_of, command_of, field_command_named, getpdr_of, id_command_named, id_of, part_in, setnum_of, setstate_of, size_in, sized_in, state_in, states_in};
 ghost use Rattle.pldm_wire.specs.States.{IsComposite};
 
 use crate::LineFaultKind;
@@ -92,16 +92,6 @@ fn read_field_command(name: &Word<'_>, words: &[Word<'_>]) -> Result<Command, Li
     }
 }
 
-/// The one word that there has to be.
-fn only_word<'w, 'a>(words: &'w [Word<'a>]) -> Result<&'w Word<'a>, LineFaultKind>
-    ensures { MatchResult result (λ word. only_word words.now ≡ Ok word.now) (λ kind. only_word words.now ≡ Err kind) }
-{
-    match words {
-        [word] => Ok(word),
-        _ => Err(LineFaultKind::Words),
-    }
-}
-
 /// A command with no words after its name.
 fn bare(command: Command, words: &[Word<'_>]) -> Result<Command, LineFaultKind>
     ensures { result ≡ bare command words.now }
@@ -117,14 +107,20 @@ fn bare(command: Command, words: &[Word<'_>]) -> Result<Command, LineFaultKind>
 fn byte_of(words: &[Word<'_>]) -> Result<u8, LineFaultKind>
     ensures { result ≡ byte_of words.now }
 {
-    only_word(words)?.byte()
+    let [word] = words else {
+        return Err(LineFaultKind::Words);
+    };
+    word.byte()
 }
 
 /// The one ID that there has to be.
 fn id_of(words: &[Word<'_>]) -> Result<u16, LineFaultKind>
     ensures { result ≡ id_of words.now }
 {
-    only_word(words)?.id()
+    let [word] = words else {
+        return Err(LineFaultKind::Words);
+    };
+    word.id()
 }
 
 /// `ID SIZE VALUE`.

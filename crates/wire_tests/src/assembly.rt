@@ -10,18 +10,18 @@ const OWN: u8 = 9;
 
 /// What a packet gives.
 #[derive(Clone, Copy, Debug)]
-enum Given<'a> {
+enum FedInto<'a> {
     Whole(&'a [u8]),
     Partial,
     Dropped(Reason),
 }
 
 /// Whether a packet gave this.
-fn is(fed: &Fed, given: Given<'_>) -> bool {
+fn is(fed: &Fed, given: FedInto<'_>) -> bool {
     match (fed, given) {
-        (Fed::Whole(body), Given::Whole(bytes)) => body.as_slice() == bytes,
-        (Fed::Partial, Given::Partial) => true,
-        (Fed::Dropped(reason), Given::Dropped(other)) => *reason == other,
+        (Fed::Whole(body), FedInto::Whole(bytes)) => body.as_slice() == bytes,
+        (Fed::Partial, FedInto::Partial) => true,
+        (Fed::Dropped(reason), FedInto::Dropped(other)) => *reason == other,
         _ => false,
     }
 }
@@ -30,7 +30,7 @@ fn is(fed: &Fed, given: Given<'_>) -> bool {
 fn feed_all(
     rt: &impl Abort,
     assembler: &mut Assembler,
-    packets: &[(&[u8], Given<'_>)],
+    packets: &[(&[u8], FedInto<'_>)],
 ) -> Result<(), Fail> {
     let own = Eid::new(OWN).ok_or("no endpoint ID")?;
     for (bytes, given) in packets {
@@ -60,48 +60,48 @@ const LATE_END: &[u8] = &[0x01, 0x09, 0x08, 0x68, 0x05];
 #[test]
 fn packets_are_assembled_or_dropped(rt: HostRuntime) -> Result<(), Fail> {
     let mut assembler = Assembler::new(rt.alloc());
-    let late = Given::Dropped(Reason::UnexpectedMiddleOrEnd);
+    let late = FedInto::Dropped(Reason::UnexpectedMiddleOrEnd);
     feed_all(
         &rt,
         &mut assembler,
         &[
             // a start packet begins anew
-            (BEGUN, Given::Partial),
-            (&[0x01, 0x09, 0x08, 0x88, 0x01, 0x82], Given::Partial),
-            (END, Given::Whole(&[0x01, 0x82, 0x00, 0x02])),
+            (BEGUN, FedInto::Partial),
+            (&[0x01, 0x09, 0x08, 0x88, 0x01, 0x82], FedInto::Partial),
+            (END, FedInto::Whole(&[0x01, 0x82, 0x00, 0x02])),
             // a lost packet ends the assembly
-            (BEGUN, Given::Partial),
-            (LATE_END, Given::Dropped(Reason::OutOfSequence)),
+            (BEGUN, FedInto::Partial),
+            (LATE_END, FedInto::Dropped(Reason::OutOfSequence)),
             (MIDDLE, late),
             (LATE_END, late),
             // three packets in order
-            (BEGUN, Given::Partial),
-            (MIDDLE, Given::Partial),
-            (LATE_END, Given::Whole(&[0x01, 0x80, 0x00, 0x01, 0x05])),
+            (BEGUN, FedInto::Partial),
+            (MIDDLE, FedInto::Partial),
+            (LATE_END, FedInto::Whole(&[0x01, 0x80, 0x00, 0x01, 0x05])),
             // a middle packet of another length
-            (BEGUN, Given::Partial),
+            (BEGUN, FedInto::Partial),
             (
                 &[0x01, 0x09, 0x08, 0x18, 0x00],
-                Given::Dropped(Reason::WrongUnit),
+                FedInto::Dropped(Reason::WrongUnit),
             ),
             // five packets, of which the last has the number of the first
-            (&[0x01, 0x09, 0x08, 0x88, 0x01], Given::Partial),
-            (&[0x01, 0x09, 0x08, 0x18, 0x80], Given::Partial),
-            (&[0x01, 0x09, 0x08, 0x28, 0x00], Given::Partial),
-            (&[0x01, 0x09, 0x08, 0x38, 0x01], Given::Partial),
+            (&[0x01, 0x09, 0x08, 0x88, 0x01], FedInto::Partial),
+            (&[0x01, 0x09, 0x08, 0x18, 0x80], FedInto::Partial),
+            (&[0x01, 0x09, 0x08, 0x28, 0x00], FedInto::Partial),
+            (&[0x01, 0x09, 0x08, 0x38, 0x01], FedInto::Partial),
             (
                 &[0x01, 0x09, 0x08, 0x48, 0x05],
-                Given::Whole(&[0x01, 0x80, 0x00, 0x01, 0x05]),
+                FedInto::Whole(&[0x01, 0x80, 0x00, 0x01, 0x05]),
             ),
             // a packet more than a message may have
-            (&[0x01, 0x09, 0x08, 0x88, 0x01], Given::Partial),
-            (&[0x01, 0x09, 0x08, 0x18, 0x80], Given::Partial),
-            (&[0x01, 0x09, 0x08, 0x28, 0x00], Given::Partial),
-            (&[0x01, 0x09, 0x08, 0x38, 0x01], Given::Partial),
-            (&[0x01, 0x09, 0x08, 0x08, 0x00], Given::Partial),
+            (&[0x01, 0x09, 0x08, 0x88, 0x01], FedInto::Partial),
+            (&[0x01, 0x09, 0x08, 0x18, 0x80], FedInto::Partial),
+            (&[0x01, 0x09, 0x08, 0x28, 0x00], FedInto::Partial),
+            (&[0x01, 0x09, 0x08, 0x38, 0x01], FedInto::Partial),
+            (&[0x01, 0x09, 0x08, 0x08, 0x00], FedInto::Partial),
             (
                 &[0x01, 0x09, 0x08, 0x58, 0x05],
-                Given::Dropped(Reason::TooLong),
+                FedInto::Dropped(Reason::TooLong),
             ),
         ],
     )?;
@@ -112,7 +112,7 @@ fn packets_are_assembled_or_dropped(rt: HostRuntime) -> Result<(), Fail> {
 #[test]
 fn a_forgotten_key_has_nothing_to_go_on(rt: HostRuntime) -> Result<(), Fail> {
     let mut assembler = Assembler::new(rt.alloc());
-    feed_all(&rt, &mut assembler, &[(BEGUN, Given::Partial)])?;
+    feed_all(&rt, &mut assembler, &[(BEGUN, FedInto::Partial)])?;
     assert_eq!(rt; assembler.pending(), 1);
     let key = Key {
         source: Eid::new(8).ok_or("no endpoint ID")?,
@@ -126,7 +126,7 @@ fn a_forgotten_key_has_nothing_to_go_on(rt: HostRuntime) -> Result<(), Fail> {
     feed_all(
         &rt,
         &mut assembler,
-        &[(END, Given::Dropped(Reason::UnexpectedMiddleOrEnd))],
+        &[(END, FedInto::Dropped(Reason::UnexpectedMiddleOrEnd))],
     )
 }
 
@@ -146,13 +146,13 @@ fn feed_with(
     drop(hoard);
     match fed {
         Ok(fed) => {
-            assert!(rt; is(&fed, Given::Partial), "{fed:?} with {spare} bytes");
+            assert!(rt; is(&fed, FedInto::Partial), "{fed:?} with {spare} bytes");
             Ok(false)
         }
         Err(_) => {
             assert_eq!(rt; after, before);
             let fed = assembler.feed(packet)?;
-            assert!(rt; is(&fed, Given::Partial), "{fed:?} after {spare} bytes");
+            assert!(rt; is(&fed, FedInto::Partial), "{fed:?} after {spare} bytes");
             Ok(true)
         }
     }
@@ -185,10 +185,10 @@ fn each_growth_is_refused_in_turn(rt: HostRuntime) -> Result<(), Fail> {
         let fed = assembler.feed(&end)?;
         let again = assembler.feed(&end)?;
         drop(hoard);
-        assert!(rt; is(&seen, Given::Whole(&message)), "{seen:?}");
-        assert!(rt; is(&fed, Given::Whole(&message)), "{fed:?}");
+        assert!(rt; is(&seen, FedInto::Whole(&message)), "{seen:?}");
+        assert!(rt; is(&fed, FedInto::Whole(&message)), "{fed:?}");
         assert!(rt;
-            is(&again, Given::Dropped(Reason::UnexpectedMiddleOrEnd)),
+            is(&again, FedInto::Dropped(Reason::UnexpectedMiddleOrEnd)),
             "{again:?}"
         );
     }
@@ -204,13 +204,13 @@ fn every_key_has_an_assembly(rt: HostRuntime) -> Result<(), Fail> {
             for owner in [0x00u8, 0x08] {
                 let start = [0x01, OWN, source, 0x80 | owner | tag, 0x01];
                 let fed = assembler.feed(&read(&start)?)?;
-                assert!(rt; is(&fed, Given::Partial), "{fed:?} at {start:?}");
+                assert!(rt; is(&fed, FedInto::Partial), "{fed:?} at {start:?}");
             }
         }
     }
     assert_eq!(rt; assembler.pending(), 3_952);
     let fed = assembler.feed(&read(&[0x01, OWN, 0xfe, 0x5f, 0x05])?)?;
-    assert!(rt; is(&fed, Given::Whole(&[0x01, 0x05])), "{fed:?}");
+    assert!(rt; is(&fed, FedInto::Whole(&[0x01, 0x05])), "{fed:?}");
     assert_eq!(rt; assembler.pending(), 3_951);
     Ok(())
 }

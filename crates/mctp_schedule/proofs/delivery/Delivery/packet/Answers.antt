@@ -7,13 +7,13 @@ use Rattle.mctp_packet.specs.Pieces.{piece_count, written_packets}
 use Rattle.mctp_packet.specs.declared.packet.Route.{Route}
 use Rattle.pldm_responder.specs.Answering.{answering}
 use Rattle.pldm_responder.specs.declared.outcome.Outcome.{Outcome}
-use Rattle.pldm_responder.specs.declared.outcome.Taken.{Taken}
-use Rattle.pldm_responder.specs.declared.outcome.Taken.TheVariants.{Answered}
+use Rattle.pldm_responder.specs.declared.outcome.MessageOutcome.{MessageOutcome}
+use Rattle.pldm_responder.specs.declared.outcome.MessageOutcome.TheVariants.{Answered}
 use Rattle.mctp_schedule.specs.Deliveries.{packet_of_outcome}
 use Rattle.mctp_schedule.proofs.WrittenPlaces.{packet_past, packet_stands}
 use Rattle.mctp_schedule.proofs.delivery.Delivery.packet.Goals as goal
 
-place_is : (outcome : Outcome) (reply : List ℕ) (taken : Taken) (fresh changed : Bool) (route : Route) (message : List ℕ) (i : ℕ)
+place_is : (outcome : Outcome) (reply : List ℕ) (taken : MessageOutcome) (fresh changed : Bool) (route : Route) (message : List ℕ) (i : ℕ)
     → answering reply taken ≡ outcome → taken ≡ Answered fresh changed route → reply ≡ message
     → packet_of_outcome outcome i ≡ slice_get (written_packets route message) i
 place_is outcome reply taken fresh changed route message i is answered same =

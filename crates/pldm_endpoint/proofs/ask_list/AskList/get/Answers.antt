@@ -8,7 +8,7 @@ use Rattle.pldm_endpoint.proofs.ask_list.AskList.get.Goals as goal
 pub returns-in-Ok : goal.returns-in-Ok
 returns-in-Ok c =
     let found = open_at none_asked _ (subst (Rises none_asked) c.self.view_is c.self.invariant) _ _ c.in-Ok.ensures.found c.index.result.now in
-    ap Some (ap (λ p. p.1) c.index.ensures ∙ ap (λ l. (slice_index_or l c.in-Ok.place c.index.result.now).1) c.self.view_is) ∙ sym found
+    ap Some (c.asked.ensures ∙ ap (λ p. p.1) c.index.ensures ∙ ap (λ l. (slice_index_or l c.in-Ok.place c.index.result.now).1) c.self.view_is) ∙ sym found
 
 pub returns-in-Err : goal.returns-in-Err
 returns-in-Err c = sym (none_in_gap none_asked _ _ _ c.in-Err.ensures.absent)

@@ -2,7 +2,7 @@
 use Rattle.std.proofs.Common.{◌+◌, [], ◌∷◌, ◌++◌, Ok, refl, sym, ap, ◌∙◌, arith, append_assoc, length-append}
 use Rattle.line_words.specs.TextLines.{lines_of}
 use Rattle.schedule_text.specs.Schedules.{none_spelled, spelled_from, spelled_then}
-use Rattle.schedule_text.proofs.LinesReached.{one_more, reached}
+use Rattle.schedule_text.proofs.LinesReached.{one_more}
 use Rattle.schedule_text.proofs.ReadLines.{at_first}
 use Rattle.schedule_text.proofs.schedule.Schedule.read.Goals as goal
 

@@ -1,12 +1,12 @@
--- What a packet gives, where the message stands apart.
+-- What `feed` returns, from what `feed_into` returns and the message that it put into its place.
 use Rattle.std.specs.Prelude.{ℕ, List}
 use Rattle.mctp_assembly.specs.declared.fed.Fed.{Fed}
 use Rattle.mctp_assembly.specs.declared.fed.Fed.TheVariants as feds
-use Rattle.mctp_assembly.specs.declared.fed.Given.{Given}
-use Rattle.mctp_assembly.specs.declared.fed.Given.TheVariants.{Whole, Partial, Dropped}
+use Rattle.mctp_assembly.specs.declared.fed.FedInto.{FedInto}
+use Rattle.mctp_assembly.specs.declared.fed.FedInto.TheVariants.{Whole, Partial, Dropped}
 
 -- with the bytes of the message
-abbrev pub fed_with : List ℕ → Given → Fed
+abbrev pub fed_with : List ℕ → FedInto → Fed
 fed_with message Whole = feds.Whole (record { items = message })
 fed_with message Partial = feds.Partial
 fed_with message (Dropped reason) = feds.Dropped reason
