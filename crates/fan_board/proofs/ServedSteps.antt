@@ -17,25 +17,13 @@ use Rattle.pldm_endpoint.specs.TwoSteps.{IsAnsweredBy, IsLeftByAnswer, IsLeftByS
 use Rattle.pldm_endpoint.specs.declared.asks.Asked.{Asked}
 use Rattle.pldm_endpoint.specs.declared.asks.Asker.{Asker}
 use Rattle.pldm_endpoint.specs.declared.step.Asking.{Asking}
+use Rattle.pldm_responder.proofs.SameHeld.{same_held}
 use Rattle.pldm_endpoint.specs.declared.step.Step.{Step}
 use Rattle.pldm_endpoint.specs.declared.step.Step.TheVariants.{Done, Perform}
 use Rattle.pldm_endpoint.proofs.AskerOrder.{askers_exact, askers_total}
 use Rattle.pldm_endpoint.proofs.PendingGlue.{just_asked}
 use Rattle.pldm_endpoint.proofs.StepGlue.{then_held}
 use Rattle.fan_board.specs.Served.{IsServed}
-
--- what holds the same is the same
-one_held : {S : Type 0} (new held : Held S) → IsHeld new held → new ≡ held
-one_held new held same =
-    λ i. record {
-      own = same.own i;
-      keep = same.keep i;
-      open_messages = same.open_messages i;
-      kept = λ source id. same.kept source id i;
-      state = same.state i;
-      serves_from = same.serves_from i;
-      last = same.last i;
-    }
 
 -- what is asked alone and answered leaves nothing asked
 none_left : (by : Asker) (v : Asked) → map.remove (map.insert {R = asker_cmp} map.empty by v) by ≡ map.empty
@@ -118,7 +106,7 @@ module _ {S : Type 0} (old : Held S) (moment : ℕ) (bytes : List ℕ) (count : 
     pub served_performed : TwoStepsAreOne → (middle new : Held S) (given : Answer) (outcome : Outcome) → IsLeftByStep old moment bytes middle
         → IsAnsweredBy middle asking given (asked_at asks asking) outcome → IsLeftByAnswer middle asking given new → IsServed old new moment bytes outcome
     served_performed law middle new given outcome left answered last =
-        let same = one_held (bare middle) (received_held (gives unasked) (bare old) moment bytes) left in
+        let same = same_held {new = bare middle} {held = received_held (gives unasked) (bare old) moment bytes} left in
         let one = law (bare old) moment bytes is.m is.command given is.arrives is.commands in
         record {
           given = given;

@@ -1,6 +1,6 @@
 //! A board with two fans and a thermometer, behind a bus that fails now and then.
 
-ghost use Rattle.std.specs.Prelude.{◌≡◌, ℕ, ◌+◌, ◌-◌, ◌/◌, ◌==◌, ◌<◌, ◌≤◌, pos, count_by, IfOk};
+ghost use Rattle.std.specs.Prelude.{◌≡◌, ℕ, ◌+◌, ◌-◌, ◌/◌, ◌==◌, ◌<◌, ◌≤◌, pos, count_by, IfOk, [], ◌∷◌};
 ghost use Rattle.pldm_wire.specs.Answers.{IsAnswerTo};
 ghost use Rattle.pldm_wire.specs.Commands.{kind_of};
 ghost use Rattle.pldm_wire.specs.Kinds.{of_type};
@@ -90,7 +90,12 @@ pub struct Board {
 
 impl Board {
     /// A board at the moment 0 whose fans stand still.
-    pub fn new() -> Board {
+    pub fn new() -> Board
+        ensures speeds { result.speeds ≡ 0 ∷ 0 ∷ [] }
+        ensures degrees { result.degrees ≡ FIRST_DEGREES }
+        ensures since { result.since ≡ 0 }
+        ensures transfers { result.transfers ≡ 0 }
+    {
         Board {
             speeds: [0; FANS],
             degrees: FIRST_DEGREES,

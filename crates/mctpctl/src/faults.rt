@@ -2,6 +2,7 @@
 
 ghost use Rattle.std.specs.Prelude.{◌≡◌};
 ghost use Rattle.mctpctl.specs.LineFaults.{engine_fault_of};
+ghost use Rattle.mctpctl_input.specs.Statuses.{status_of_fault};
 
 use mctpctl_input::{EngineFault, fault_line, status_of};
 use mctpctl_serve::ServeFault;
@@ -9,7 +10,9 @@ use std::alloc::AllocError;
 
 /// Prints the line of a fault on standard error, and returns its exit status. Where there is no memory for the line,
 /// none is printed.
-pub fn print_fault(rt: &HostRuntime, fault: &EngineFault) -> u8 {
+pub fn print_fault(rt: &HostRuntime, fault: &EngineFault) -> u8
+    ensures { result ≡ status_of_fault fault.now }
+{
     if let Ok(line) = fault_line(rt.alloc(), fault) {
         let _ = eprintln!(rt; "mctpctl: {line}");
     }

@@ -3,7 +3,6 @@ pub mod AnswersOfRuns
 pub mod DescribedGlue
 pub mod LookingBack
 pub mod ObservedEntries
-pub mod SameHeld
 pub mod ScheduleGlue
 pub mod ShowRows
 pub mod ShownLookingBack

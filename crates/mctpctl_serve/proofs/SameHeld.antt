@@ -1,15 +1,7 @@
--- What a responder holds is settled by its parts, and of the kept answers by each of them.
+-- The lemma of the responder's crate, where this crate's tactics find it.
 use Rattle.std.proofs.Common.{◌≡◌}
 use Rattle.pldm_responder.specs.Held.{Held, IsHeld}
+use Rattle.pldm_responder.proofs.SameHeld as responder
 
 pub same_held : {S : Type 0} {new held : Held S} → IsHeld new held → new ≡ held
-same_held same =
-    λ i. record {
-      own = same.own i;
-      keep = same.keep i;
-      open_messages = same.open_messages i;
-      kept = λ source id. same.kept source id i;
-      state = same.state i;
-      serves_from = same.serves_from i;
-      last = same.last i;
-    }
+same_held same = responder.same_held same

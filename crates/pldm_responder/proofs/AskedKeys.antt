@@ -21,7 +21,7 @@ use Rattle.mctp_assembly.specs.declared.key.Key.{Key}
 use Rattle.pldm_responder.specs.Stations.{IsAsked, AreAsked}
 use Rattle.pldm_responder.specs.declared.responder.TheConstants.{MAX_PENDING}
 use Rattle.pldm_responder.proofs.FewSources.{place, place_low, same_place}
-use Rattle.pldm_responder.proofs.KeyOrder.{keys_total, keys_exact}
+use Rattle.mctp_assembly.proofs.KeyOrder.{keys_total, keys_exact}
 
 -- ---- a change keeps them so
 pub none_asked : (own : ℕ) → AreAsked own finite.empty

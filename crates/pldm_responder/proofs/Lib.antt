@@ -1,5 +1,4 @@
 pub mod FewSources
-pub mod KeyOrder
 pub mod AskedKeys
 pub mod CountedPairs
 pub mod SlotLookups
@@ -17,3 +16,4 @@ pub mod AskedOnce
 pub mod OpenBounds
 pub mod WorkedLight
 pub mod AnswersKept
+pub mod SameHeld

@@ -9,7 +9,7 @@ use Rattle.mctp_assembly.specs.Opened.{Opened}
 use Rattle.mctp_assembly.specs.Steps.{Held, answer, answer_to, after, stays_open, carried_on}
 use Rattle.mctp_assembly.specs.declared.fed.Fed.TheVariants.{Whole, Partial, Dropped}
 use Rattle.mctp_assembly.specs.declared.key.Key.{Key}
-use Rattle.pldm_responder.proofs.KeyOrder.{keys_total}
+use Rattle.mctp_assembly.proofs.KeyOrder.{keys_total}
 
 -- ---- a change keeps it within a bound
 removed_by : (t : Bool) (n bound : ℕ) → n ≤ bound → cond t (n - 1) n ≤ bound
