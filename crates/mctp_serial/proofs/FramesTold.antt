@@ -9,8 +9,8 @@ use Rattle.mctp_serial.specs.Laws.{OnlyFramesTold}
 use Rattle.mctp_serial.specs.Readings.{Reading, idle, opened, counting, inside, escaped, high, low, closing, Step, tells_nothing, drops, adds, after_end, inside_or_past, checks, packet_of, step, after}
 use Rattle.mctp_serial.specs.declared.TheConstants.{FLAG, ESCAPE, ESCAPED_FLAG, ESCAPED_ESCAPE, REVISION}
 use Rattle.mctp_serial.specs.declared.fault.FrameFault.TheVariants.{WrongRevision, Empty, TooLong, CutShort, BadEscape, WrongCheck, NoEnd}
-use Rattle.mctp_serial.specs.declared.told.Told.{Told}
-use Rattle.mctp_serial.specs.declared.told.Told.TheVariants.{Nothing, Packet, Dropped}
+use Rattle.mctp_serial.specs.declared.reader.Told.{Told}
+use Rattle.mctp_serial.specs.declared.reader.Told.TheVariants.{Nothing, Packet, Dropped}
 use Rattle.mctp_serial.proofs.Spelling.{spelled_all-append}
 
 -- the bytes end with these

@@ -2,8 +2,8 @@
 use Rattle.std.specs.Prelude.{ℕ, ◌<◌, ◌≤◌, List, length, ⊤}
 use Rattle.mctp_packet.specs.declared.TheConstants.{MAX_PACKET_BYTES}
 use Rattle.mctp_serial.specs.Readings.{Reading, idle, opened, counting, inside, escaped, high, low, closing}
-use Rattle.mctp_serial.specs.declared.place.Place.{Place}
-use Rattle.mctp_serial.specs.declared.place.Place.TheVariants as at
+use Rattle.mctp_serial.specs.declared.reader.Place.{Place}
+use Rattle.mctp_serial.specs.declared.reader.Place.TheVariants as at
 
 abbrev pub reading_of : Place → List ℕ → Reading
 reading_of at.Idle bytes = idle

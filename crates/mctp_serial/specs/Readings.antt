@@ -6,8 +6,8 @@ use Rattle.mctp_serial.specs.declared.TheConstants.{ESCAPE, ESCAPED_ESCAPE, ESCA
 use Rattle.mctp_serial.specs.declared.fault.FrameFault.{FrameFault}
 use Rattle.mctp_serial.specs.declared.fault.FrameFault.TheVariants.{WrongRevision, Empty, TooLong, CutShort}
 use Rattle.mctp_serial.specs.declared.fault.FrameFault.TheVariants.{BadEscape, WrongCheck, NoEnd}
-use Rattle.mctp_serial.specs.declared.told.Told.{Told}
-use Rattle.mctp_serial.specs.declared.told.Told.TheVariants.{Nothing, Packet, Dropped}
+use Rattle.mctp_serial.specs.declared.reader.Told.{Told}
+use Rattle.mctp_serial.specs.declared.reader.Told.TheVariants.{Nothing, Packet, Dropped}
 
 -- where a reader stands
 pub data Reading : Type 0 where

@@ -6,16 +6,13 @@ mod checking;
 mod fault;
 mod frames;
 pub mod laws;
-mod place;
 mod reader;
-mod told;
 
 use arrayvec::ArrayVec;
 pub use fault::FrameFault;
 pub use frames::frame;
 use mctp_packet::MAX_PACKET_BYTES;
-pub use reader::FrameReader;
-pub use told::Told;
+pub use reader::{FrameReader, Told};
 
 /// The framing flag, which stands before and after a frame.
 pub const FLAG: u8 = 0x7E;

@@ -1,14 +1,45 @@
 ghost use Rattle.std.specs.Prelude.{◌≡◌, ◌++◌, ◌∷◌, [], List, ℕ};
 ghost use Rattle.mctp_serial.specs.Places.{reading_of, HasRoom};
 ghost use Rattle.mctp_serial.specs.Readings.{idle, opened, counting, inside, escaped, closing, step, after_end, drops, inside_or_past};
-ghost use Rattle.mctp_serial.specs.declared.place.Place.TheVariants.{Inside, Escaped};
+ghost use Rattle.mctp_serial.specs.declared.reader.Place.TheVariants.{Inside, Escaped};
 
 use crate::checking::check_sequence;
-use crate::place::Place;
-use crate::{ESCAPE, ESCAPED_ESCAPE, ESCAPED_FLAG, FLAG, FrameFault, PacketBytes, REVISION, Told};
+use crate::{ESCAPE, ESCAPED_ESCAPE, ESCAPED_FLAG, FLAG, FrameFault, PacketBytes, REVISION};
 use mctp_packet::MAX_PACKET_BYTES;
 use std::marker::Model;
 use std::mem;
+
+/// What a byte told the reader.
+#[derive(Clone, Debug, PartialEq, Eq, Drop)]
+pub enum Told {
+    /// Nothing yet.
+    Nothing,
+    /// It ended the frame of this packet.
+    Packet(PacketBytes),
+    /// It is why the bytes since the last flag are no frame.
+    Dropped(FrameFault),
+}
+
+/// Which byte of a frame is to come.
+#[derive(Clone, Copy, Debug)]
+pub(crate) enum Place {
+    /// Bytes up to a flag do not count.
+    Idle,
+    /// After a flag, the revision.
+    Opened,
+    /// The count.
+    Counting,
+    /// One of the packet's bytes, of which there are so many.
+    Inside(u8),
+    /// The second byte of an escaped one.
+    Escaped(u8),
+    /// The check sequence's high byte.
+    High,
+    /// The low byte, after this high one.
+    Low(u8),
+    /// The flag that ends the frame, after this check sequence.
+    Closing(u16),
+}
 
 /// A reader of frames (DSP0253), which takes one byte after the other. It goes by the count, since a
 /// check sequence may have a flag in it.

@@ -1,8 +1,9 @@
 //! The description of a device, in a file.
 
 ghost use Rattle.mctpctl.specs.ServedTexts.{served_of};
-ghost use Rattle.mctpctl_engines.specs.DescribedPieces.{Tells, begun};
+ghost use Rattle.mctpctl_engines.specs.DescribedPieces.{Tells};
 
+use mctpctl_engines::read_description;
 use mctpctl_input::{DescriptionFault, EngineFault, MAX_DESCRIPTION};
 use pldm_device::{ControlTable, Description};
 use std::alloc::Global;
@@ -18,25 +19,12 @@ pub fn device_text(rt: &HostRuntime, name: &str) -> io::Result<Vec<u8>> {
     Ok(text)
 }
 
-/// The device that a text describes, or the fault that `answer` has of it.
-pub fn read_device(alloc: Global, text: &[u8]) -> Result<Description, EngineFault>
-    ensures { Tells (begun text.now) result }
-{
-    if text.len() > MAX_DESCRIPTION {
-        return Err(EngineFault::TooLarge);
-    }
-    match Description::read(alloc, text) {
-        Ok(description) => Ok(description),
-        Err(fault) => Err(EngineFault::Device(DescriptionFault::new(fault)?)),
-    }
-}
-
 /// The device that a text describes, and what the text says of its control messages; else the first fault, as
-/// `read_device` has it.
+/// [`read_description`] has it.
 pub fn read_served(alloc: Global, text: &[u8]) -> Result<(Description, ControlTable), EngineFault>
     ensures { Tells (served_of text.now) result }
 {
-    let description = read_device(alloc, text)?;
+    let description = read_description(alloc, text)?;
     match ControlTable::read(alloc, text) {
         Ok(table) => Ok((description, table)),
         Err(fault) => Err(EngineFault::Device(DescriptionFault::new(fault)?)),

@@ -10,6 +10,7 @@ mod schedule_run;
 mod show;
 
 pub use answer_run::answer_all;
+pub use described::read_description;
 pub use mctpctl_input::{
     DescriptionFault, EngineFault, LineKind, MAX_CAPTURE_LINE, MAX_DESCRIPTION, MAX_DIVIDER,
     MAX_INPUT, Port, fault_line, status_of,

@@ -1,8 +1,7 @@
 //! What is wrong with a line of a capture.
 
-use crate::quoted::quoted;
 use crate::slot::Slot;
-use crate::words::words_of;
+use crate::words::{quoted, words_of};
 use line_words::{first_word, read_decimal, split_line, split_word};
 use mctp_packet::{HEADER, Memory};
 use mctpctl_input::{LineKind, MAX_CAPTURE_LINE};

@@ -147,7 +147,7 @@ pub(crate) fn value_text(alloc: Global, value: &Value) -> Result<String, Memory>
         return Ok(format!(in alloc; "{number}")?);
     }
     if let Some(text) = value.as_str() {
-        return crate::quoted::quoted(alloc, text.as_bytes());
+        return crate::words::quoted(alloc, text.as_bytes());
     }
     if let Some(items) = value.as_array() {
         let count = items.len();

@@ -11,7 +11,7 @@ use crate::finding::Path;
 use crate::key_places::KeyPlace;
 use crate::known_keys::{LISTS, TOP_KEYS, entry_keys};
 use crate::limits::MAX_WARNINGS;
-use crate::quoted::quoted;
+use crate::words::quoted;
 use crate::suggest::suggestion;
 use line_words::split_line;
 use mctp_packet::Memory;

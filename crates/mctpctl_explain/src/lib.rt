@@ -15,7 +15,6 @@ mod key_places;
 mod known_keys;
 mod limits;
 mod place;
-mod quoted;
 mod schedule_line;
 mod slot;
 mod suggest;

@@ -1,10 +1,9 @@
 //! What is wrong with a line of a schedule.
 
 use crate::command_form::{ACTIONS, COMMANDS, Form};
-use crate::quoted::quoted;
 use crate::slot::Slot;
 use crate::suggest::{choice, suggestion};
-use crate::words::words_of;
+use crate::words::{quoted, words_of};
 use line_words::{read_decimal, read_value, split_line};
 use mctp_packet::Memory;
 use mctpctl_input::LineKind;

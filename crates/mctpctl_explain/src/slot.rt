@@ -1,6 +1,6 @@
 //! What may stand at a place of a schedule's line.
 
-use crate::quoted::quoted;
+use crate::words::quoted;
 use crate::suggest::suggestion;
 use line_words::{read_decimal, read_number, read_value};
 use mctp_packet::{MAX_EID, MAX_MOMENT, MIN_EID, Memory};

@@ -4,8 +4,8 @@ use Rattle.std.specs.Io.KnownBytes.{Appends, Consumes, Keeps, IsAtEnd}
 use Rattle.std.proofs.KnownBytes.{Appends-kept, Appends-trans, Appends-nil, Consumes-trans, Consumes-nil, Consumes-whole}
 use Rattle.mctp_control.specs.declared.endpoint.Endpoint.{Endpoint}
 use Rattle.mctp_serial.specs.Readings.{Reading, Step, step, after, told_by, then_told}
-use Rattle.mctp_serial.specs.declared.told.Told.{Told}
-use Rattle.mctp_serial.specs.declared.told.Told.TheVariants.{Nothing, Packet, Dropped}
+use Rattle.mctp_serial.specs.declared.reader.Told.{Told}
+use Rattle.mctp_serial.specs.declared.reader.Told.TheVariants.{Nothing, Packet, Dropped}
 use Rattle.mctpctl_input.specs.CaptureLine.{TimedPacket}
 use Rattle.mctpctl_serve.specs.Serving.{packets_told, packets_in, moment_after, timed, Answerers, answerers, packet_frames, packet_after, packets_after, control_after, frames_of, answers, came, Hears, HearsFront}
 use Rattle.pldm_responder.specs.Held.{Held}

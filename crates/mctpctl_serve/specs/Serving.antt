@@ -8,8 +8,8 @@ use Rattle.mctp_control.specs.declared.endpoint.Endpoint.{Endpoint}
 use Rattle.mctp_packet.specs.declared.TheConstants.{MAX_MOMENT}
 use Rattle.mctp_serial.specs.Frames.{frame}
 use Rattle.mctp_serial.specs.Readings.{Reading, after, told_by}
-use Rattle.mctp_serial.specs.declared.told.Told.{Told}
-use Rattle.mctp_serial.specs.declared.told.Told.TheVariants.{Nothing, Packet, Dropped}
+use Rattle.mctp_serial.specs.declared.reader.Told.{Told}
+use Rattle.mctp_serial.specs.declared.reader.Told.TheVariants.{Nothing, Packet, Dropped}
 use Rattle.mctpctl_input.specs.CaptureLine.{TimedPacket}
 use Rattle.pldm_responder.specs.Held.{Held}
 use Rattle.pldm_responder.specs.Performing.{Rules}

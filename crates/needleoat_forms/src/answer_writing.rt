@@ -1,5 +1,6 @@
 ghost use Rattle.std.specs.Prelude.{◌≡◌, IfSome, option_map};
 ghost use Rattle.pldm_wire.specs.Answers.{IsAnswerTo};
+ghost use Rattle.pldm_wire.specs.Crc.{crc};
 ghost use Rattle.pldm_wire.specs.Kinds.{IsKind, of_type};
 ghost use Rattle.pldm_wire.specs.Sizes.{size_of};
 ghost use Rattle.pldm_wire.specs.TransferFlags.{flag_of};
@@ -16,7 +17,7 @@ use pldm_wire::{
     GET_PDR_REPOSITORY_INFO, GET_PLDM_COMMANDS, GET_PLDM_TYPES, GET_PLDM_VERSION,
     GET_SENSOR_READING, GET_STATE_EFFECTER_STATES, GET_STATE_SENSOR_READINGS, GET_TID,
     INSTANCE_IDS, Kind, MAX_PART_BYTES, Number, PLATFORM, RecordPart, SET_NUMERIC_EFFECTER_VALUE,
-    SET_STATE_EFFECTER_STATES, SET_TID, TransferFlag, VersionData, write_answer,
+    SET_STATE_EFFECTER_STATES, SET_TID, TransferFlag, VersionData, crc8, write_answer,
 };
 
 /// How many PLDM types there are: a message's header has six bits for its type (DSP0240, "PLDM message
@@ -187,4 +188,12 @@ fn checksum_of(flag: TransferFlag, checksum: u8) -> Option<u8>
     ensures { result ≡ checksum_in flag checksum }
 {
     if flag.is_end() { Some(checksum) } else { None }
+}
+
+/// The checksum of a whole record, as the last part of a GetPDR answer carries it (DSP0248, "GetPDR
+/// command").
+pub fn record_checksum(bytes: &[u8]) -> u8
+    ensures { result ≡ crc bytes.now }
+{
+    crc8(bytes)
 }

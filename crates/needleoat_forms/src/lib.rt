@@ -5,7 +5,6 @@
 mod answer;
 mod answer_reading;
 mod answer_writing;
-mod checksum;
 mod command;
 mod command_reading;
 mod command_writing;
@@ -18,8 +17,7 @@ mod states;
 
 pub use answer::AnswerFields;
 pub use answer_reading::{answer_check, answer_read};
-pub use answer_writing::{answer_of, answer_write};
-pub use checksum::record_checksum;
+pub use answer_writing::{answer_of, answer_write, record_checksum};
 pub use command::CommandFields;
 pub use command_reading::{CommandReading, command_read};
 pub use command_writing::command_write;
