@@ -94,7 +94,8 @@ impl Platform for Dimmer {
 
     ghost none_performed = { λ value. counts_none value.performed };
 
-    ghost performed_in_turn = { λ first second third before after one other. counts_in_turn first.performed second.performed third.performed before after one other };
+    ghost performed_in_turn = { λ first second third before after one other.
+        counts_in_turn first.performed second.performed third.performed before after one other };
 
     fn perform(&mut self, alloc: Global, command: &Command) -> Result<Answer, Memory> {
         self.asked = self.asked.saturating_add(1);

@@ -65,8 +65,8 @@ abbrev pub code_of : Answer → ℕ
 code_of (Refused code) = code
 code_of _ = SUCCESS
 
--- the answer's fields stand in these bytes; reserved bits may be any, and so may the bytes after a refusal. Set Endpoint
--- ID has its status, where bits 1:0 say that there is no pool, the endpoint ID, and the size of the pool, 0.
+-- the answer's fields stand in these bytes; reserved bits may be any, and so may the bytes after a refusal. Set
+-- Endpoint ID has its status, where bits 1:0 say that there is no pool, the endpoint ID, and the size of the pool, 0.
 abbrev pub HasData : Answer → List ℕ → Type 0
 HasData (Refused code) bytes = IsCode code
 HasData (EndpointIdSet assignment eid) bytes =

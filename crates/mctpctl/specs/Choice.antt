@@ -20,7 +20,10 @@ use Rattle.mctpctl.specs.declared.choose.ChooseFault.TheVariants.{Help, Refused,
 
 -- `mctpctl` requires one of its subcommands, and has a version
 abbrev pub program : App
-program = record { top = record (new_app (codes "mctpctl")).top { subcommand_required = true; has_version = true }; subs = [] }
+program = record {
+  top = record (new_app (codes "mctpctl")).top { subcommand_required = true; has_version = true };
+  subs = [];
+}
 
 -- an argument of the command is one of its subcommands too
 abbrev pub has_globals : Command → Bool
@@ -41,7 +44,8 @@ text_subcommand name = with_rule (new_app name) (flag (codes "explain"))
 -- `serve` requires the file of a description
 abbrev pub serve_subcommand : App
 serve_subcommand =
-    with_rule (with_rule (with_rule (new_app (codes "serve")) (record (file_option (codes "device")) { required = true }))
+    with_rule (with_rule (with_rule (new_app (codes "serve"))
+    (record (file_option (codes "device")) { required = true }))
     (file_option (codes "log"))) (flag (codes "verbose"))
 
 -- the subcommands that simulate a device over a text

@@ -12,8 +12,8 @@ use std::io;
 use std::io::Read;
 
 /// Passes reads on to a reader, unchanged and once each (which is tested; no clause says it), and
-/// keeps a copy of the first [`MAX_INPUT`] bytes that came. Where a growth of the copy is refused, the reads go on and the copy
-/// ends there.
+/// keeps a copy of the first [`MAX_INPUT`] bytes that came. Where a growth of the copy is refused, the
+/// reads go on and the copy ends there.
 #[derive(Drop)]
 pub struct Keeping<R> {
     inner: R,

@@ -64,7 +64,8 @@ asking_in fields = record { source = fields.source; id = fields.instance_id; num
 abbrev pub no_asking : AskingFields
 no_asking = record { number = 0; source = 0; instance_id = 0 }
 
--- the command that an endpoint asked under a number and that is to be answered; a source that is no endpoint ID has none
+-- the command that an endpoint asked under a number and that is to be answered; a source that is no endpoint ID has
+-- none
 abbrev pub asked_in : AskingFields → Inside → Option Asked
 asked_in fields inside = if is_eid fields.source then asked_at inside.asks (asking_in fields) else None
 

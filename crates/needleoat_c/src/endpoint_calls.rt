@@ -37,8 +37,8 @@ pub extern "C" fn needleoat_endpoint_new(
         → result ≡ BAD_MOMENT }
     ensures number { endpoint.old.is_live ≡ false → IsSetup own keep_ms → now_ms ≤ MAX_MOMENT
         → (result ≡ 0) ⊎ (result ≡ NO_MEMORY) }
-    ensures made { result ≡ 0 →
-        IsNew (started own keep_ms first_start now_ms) (bounds sources open_messages) commands endpoint.new.handle.held }
+    ensures made { result ≡ 0 → IsNew (started own keep_ms first_start now_ms) (bounds sources open_messages)
+        commands endpoint.new.handle.held }
     ensures refused { result ≢ 0 → HoldsAfter unchanged endpoint.old.handle.held endpoint.new.handle.held }
     ensures asks { result ≢ 0 → AsksAfter asked counted endpoint.old.handle.held endpoint.new.handle.held }
 {
@@ -112,7 +112,8 @@ pub extern "C" fn needleoat_endpoint_answer(
     ensures upheld { IsUpheld endpoint.new }
     ensures report { ReportsAnswer asked.now answer.now result packets.new endpoint.old.handle.held }
     ensures held { HoldsAfter (answered_by asked.now answer.now) endpoint.old.handle.held endpoint.new.handle.held }
-    ensures asks { AsksAfter (asked_after asked.now result.kind) counted endpoint.old.handle.held endpoint.new.handle.held }
+    ensures asks { AsksAfter (asked_after asked.now result.kind) counted endpoint.old.handle.held
+        endpoint.new.handle.held }
 {
     if !endpoint.is_live {
         return StepReport::without(0, NOTHING_THERE);

@@ -26,7 +26,8 @@ asker_cmp a b = ordering_then (nat_cmp a.source b.source) (nat_cmp a.id b.id)
 -- it is stored as its parts
 abbrev pub coded_asker : Coded Asker
 coded_asker =
-    code_by (ℕ × ℕ) (coded× coded_ℕ coded_ℕ) (λ a. (a.source, a.id)) (λ c. record { source = c.0; id = c.1 }) (λ _. refl)
+    code_by (ℕ × ℕ) (coded× coded_ℕ coded_ℕ) (λ a. (a.source, a.id))
+    (λ c. record { source = c.0; id = c.1 }) (λ _. refl)
 
 -- at most one for each source and instance ID
 abbrev pub Asks : Type 0

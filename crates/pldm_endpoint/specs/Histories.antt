@@ -1,6 +1,6 @@
--- What an endpoint returns and holds after any list of calls: what a responder does whose platform gives the answers that
--- the device gave, each to the command that it was asked for. Each asking has a number, that of the askings before it,
--- and `answers` says what the device answers to it, sooner or later.
+-- What an endpoint returns and holds after any list of calls: what a responder does whose platform gives the answers
+-- that the device gave, each to the command that it was asked for. Each asking has a number, that of the askings before
+-- it, and `answers` says what the device answers to it, sooner or later.
 use Rattle.std.specs.FinMap as map
 use Rattle.std.specs.Prelude.{◌≡◌, ℕ, ◌+◌, List, [], ◌∷◌, Option, Some, None, Err}
 use Rattle.pldm_wire.specs.Headers.{id_at}

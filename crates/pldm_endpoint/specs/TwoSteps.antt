@@ -44,7 +44,8 @@ coded_pending =
     (λ c. record { station = c.0; asks = c.1.0; count = c.1.1.0; most = c.1.1.1 }) (λ _. refl)
 
 -- the request is kept whose command was asked
-pub record IsWithDevice (station : Station OutsideDevice OutsideDevice) (count : ℕ) (by : Asker) (a : Asked) : Type 0 where
+pub record IsWithDevice
+    (station : Station OutsideDevice OutsideDevice) (count : ℕ) (by : Asker) (a : Asked) : Type 0 where
   pub instance : by.id < INSTANCE_IDS
   pub request : IsKeptFor a.command by.id ((held_of station).kept by.source by.id)
   pub before : a.number < count

@@ -329,7 +329,8 @@ impl Endpoint {
         ensures its_answer { OnOk result (IsItsAnswer (asked_at self.old.asks asking.now) answer.now) }
         ensures not_asked { IsErrOf result AnswerRefusal.NotAsked → asked_at self.old.asks asking.now ≡ None }
         ensures other { IsErrOf result AnswerRefusal.OtherCommand →
-            IsSome (asked_at self.old.asks asking.now) × (IsItsAnswer (asked_at self.old.asks asking.now) answer.now → ⊥) }
+            IsSome (asked_at self.old.asks asking.now)
+            × (IsItsAnswer (asked_at self.old.asks asking.now) answer.now → ⊥) }
         ensures still_asked { OnErr result (self.new.asks ≡ self.old.asks) }
         ensures count { self.new.count ≡ self.old.count }
         ensures err { OnErr result (IsHeld (bare (held_of self.new.station)) (bare (held_of self.old.station))) }
@@ -363,7 +364,8 @@ impl Endpoint {
         ensures its_answer { OnOk result (IsItsAnswer (asked_at self.old.asks asking.now) answer.now) }
         ensures not_asked { IsErrOf result AnswerRefusal.NotAsked → asked_at self.old.asks asking.now ≡ None }
         ensures other { IsErrOf result AnswerRefusal.OtherCommand →
-            IsSome (asked_at self.old.asks asking.now) × (IsItsAnswer (asked_at self.old.asks asking.now) answer.now → ⊥) }
+            IsSome (asked_at self.old.asks asking.now)
+            × (IsItsAnswer (asked_at self.old.asks asking.now) answer.now → ⊥) }
         ensures still_asked { OnErr result (self.new.asks ≡ self.old.asks) }
         ensures count { self.new.count ≡ self.old.count }
         ensures err { OnErr result (IsHeld (bare (held_of self.new.station)) (bare (held_of self.old.station))) }
