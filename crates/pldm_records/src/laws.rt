@@ -12,10 +12,11 @@ pub fn parts_join_to_the_record()
     ensures end { PartsEnd }
 {}
 
-/// Where a fetch is done, whatever answers it was given, the parts joined are a whole record, the one
-/// that was asked for, and where a checksum came, it is the record's. Where it is given the parts of a
-/// record in turn, it goes on at each, asking for the next one with the record's change number, and is done at the last with the
-/// record. Followed over a repository, it ends with the record that was asked for.
+/// Where a fetch is done, whatever answers it was given, the parts joined are a whole record, the
+/// one that was asked for, and where a checksum came, it is the record's. Where it is given the
+/// parts of a record in turn, it goes on at each, asking for the next one with the record's change
+/// number, and is done at the last with the record. Followed over a repository, it ends with the
+/// record that was asked for.
 pub fn a_fetch_gives_the_record()
     ensures done { DoneIsTheRecord }
     ensures parts { PartsGiveTheRecord }
