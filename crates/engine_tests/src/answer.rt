@@ -2,7 +2,7 @@ mod changed_packets;
 mod records;
 mod transfer;
 
-use crate::fakes::OneByteWriter;
+use crate::fakes::{OneByteWriter, TEXT_ROOM};
 use example_device::{description, input};
 use mctpctl_engines::{DescriptionFault, EngineFault, LineKind, Port, answer_all};
 use pldm_device::FileFault;
@@ -17,7 +17,7 @@ fn run<R: Read + Drop>(
     reader: R,
 ) -> Result<(Result<(), EngineFault>, Vec<u8>), AllocError> {
     let mut reader = Port::new(reader);
-    let mut writer = Port::new(Vec::with_capacity(alloc, 4_096)?);
+    let mut writer = Port::new(Vec::with_capacity(alloc, TEXT_ROOM)?);
     let result = answer_all(alloc, &mut reader, &mut writer);
     Ok((result, writer.into_inner()))
 }

@@ -4,7 +4,7 @@ ghost use Rattle.std.specs.Prelude.{◌≡◌, false};
 ghost use Rattle.mctpctl_input.specs.Ports.{has_failed};
 
 use crate::engines::{Engine, RUNS, is_front};
-use crate::fakes::{FailsAt, OneByteWriter, PieceReader};
+use crate::fakes::{FailsAt, OneByteWriter, PieceReader, TEXT_ROOM};
 use mctpctl_engines::{EngineFault, Port};
 use std::alloc::{AllocError, Global};
 use std::process::Abort;
@@ -83,7 +83,7 @@ fn fail_each_read(
 ) -> Result<(), AllocError> {
     let calls = calls_of(input);
     for at in 0..calls.saturating_mul(2).saturating_add(2) {
-        let mut writer = Port::new(Vec::with_capacity(alloc, 4_096)?);
+        let mut writer = Port::new(Vec::with_capacity(alloc, TEXT_ROOM)?);
         let (calls_left, recovers) = (at / 2, at % 2 == 0);
         read_until(rt, alloc, engine, input, calls_left, recovers, &mut writer);
         let written = writer.into_inner();
@@ -145,7 +145,7 @@ fn fail_each_write(
     let calls = text.len().saturating_add(1);
     for at in 0..calls.saturating_mul(2).saturating_add(2) {
         let inner = OneByteWriter {
-            taken: Vec::with_capacity(alloc, 4_096)?,
+            taken: Vec::with_capacity(alloc, TEXT_ROOM)?,
             flushes: 0,
         };
         let mut writer = Port::new(FailsAt {

@@ -3,6 +3,9 @@
 use std::io;
 use std::io::{Error, ErrorKind, Read, Write};
 
+/// Room for all that an engine writes in a test. It is taken before the run, so that the writer needs no memory in it.
+pub const TEXT_ROOM: usize = 4_096;
+
 /// Gives `bytes` in pieces of at most `piece` bytes.
 #[derive(Drop)]
 pub struct PieceReader<'a> {

@@ -1,7 +1,7 @@
 //! Readers that never end are stopped, and what has the most bytes that are allowed is read.
 
 use crate::engines::{Engine, QUESTION_SHOWN, RUNS};
-use crate::fakes::OneByteWriter;
+use crate::fakes::{OneByteWriter, TEXT_ROOM};
 use example_device::description;
 use mctpctl_engines::{EngineFault, LineKind, Port};
 use std::alloc::{AllocError, Global};
@@ -21,7 +21,7 @@ fn expect(
 ) -> Result<(), AllocError> {
     let filling = io::repeat(byte).take(count as u64);
     let mut reader = Port::new(first.as_bytes().chain(filling).chain(last.as_bytes()));
-    let mut writer = Port::new(Vec::with_capacity(alloc, 4_096)?);
+    let mut writer = Port::new(Vec::with_capacity(alloc, TEXT_ROOM)?);
     let result = engine.run(alloc, &mut reader, &mut writer);
     assert_eq!(rt; result, want, "{engine:?} {byte} {count}");
     let written = writer.into_inner();

@@ -1,7 +1,7 @@
 //! Each growth of an engine is refused in turn.
 
 use crate::engines::{Engine, RUNS, is_front};
-use crate::fakes::OneByteWriter;
+use crate::fakes::{OneByteWriter, TEXT_ROOM};
 use mctpctl_engines::{EngineFault, Port};
 use memory_hoard::Hoard;
 use std::alloc::{AllocError, Global};
@@ -38,7 +38,7 @@ pub fn refuse_each_growth(
     text: &str,
 ) -> Result<(), Fail> {
     let mut writer = OneByteWriter {
-        taken: Vec::with_capacity(alloc, 4_096)?,
+        taken: Vec::with_capacity(alloc, TEXT_ROOM)?,
         flushes: 0,
     };
     let mut hoard = Hoard::take(alloc, 0)?;

@@ -1,4 +1,5 @@
 use crate::engines::{Engine, RETRY, RETRY_TOLD};
+use crate::fakes::TEXT_ROOM;
 use crate::refused_growths::refuse_each_growth;
 use mctpctl_engines::{Port, fault_line, run_all};
 use std::alloc::{AllocError, Global};
@@ -11,7 +12,7 @@ mod rows;
 fn expect(rt: &impl Abort, alloc: Global, schedule: &str, told: &str) -> Result<(), AllocError> {
     let input = example_device::input(alloc, schedule)?;
     let mut reader = Port::new(input.as_bytes());
-    let mut writer = Port::new(Vec::with_capacity(alloc, 4_096)?);
+    let mut writer = Port::new(Vec::with_capacity(alloc, TEXT_ROOM)?);
     assert_eq!(rt;
         run_all(alloc, &mut reader, &mut writer),
         Ok(()),

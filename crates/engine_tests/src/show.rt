@@ -1,4 +1,5 @@
 use crate::engines::{QUESTION, QUESTION_SHOWN};
+use crate::fakes::TEXT_ROOM;
 use mctpctl_engines::{EngineFault, LineKind, Port, show_all};
 use std::alloc::{AllocError, Global};
 use std::process::Abort;
@@ -13,7 +14,7 @@ fn expect(
     text: &str,
 ) -> Result<(), AllocError> {
     let mut reader = Port::new(capture.as_bytes());
-    let mut writer = Port::new(Vec::with_capacity(alloc, 4_096)?);
+    let mut writer = Port::new(Vec::with_capacity(alloc, TEXT_ROOM)?);
     let result = show_all(alloc, &mut reader, &mut writer);
     assert_eq!(rt; result, want, "{capture}");
     let written = writer.into_inner();

@@ -1,5 +1,5 @@
 -- The run of `answer` in pieces, past the line that divides and before it.
-use Rattle.std.specs.Prelude.{◌≡◌, ℕ, ◌+◌, nat_lt, Bool, true, false, if◌then◌else◌}
+use Rattle.std.specs.Prelude.{◌≡◌, ℕ, nat_lt, Bool, true, false, if◌then◌else◌}
 use Rattle.std.specs.Prelude.{List, [], ◌++◌, length, Option, None, Some, Result, Ok, Err, refl}
 use Rattle.mctpctl_engines.specs.AnswerText.{described_run}
 use Rattle.mctpctl_engines.specs.DescribedPieces.{run_described, description_gives, described_gives, described_count}

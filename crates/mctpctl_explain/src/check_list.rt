@@ -6,7 +6,7 @@ use crate::check::{
 use crate::finding::{Path, Stop};
 use mctp_packet::Memory;
 use pldm_device::FileFault;
-use pldm_wire::MAX_STATES;
+use pldm_wire::{MAX_STATES, Size};
 use std::alloc::Global;
 use toml::{Table, Value};
 
@@ -107,102 +107,120 @@ fn any_at<'t, 'a>(
     Ok((value, path))
 }
 
-/// The numeric sensors.
-pub(crate) fn numeric_sensors<'a>(
+/// What an entry of a description describes. It has a number, which is an ID or a handle.
+#[derive(Clone, Copy, Debug)]
+pub(crate) enum EntryKind {
+    NumericSensor,
+    StateSensor,
+    NumericEffecter,
+    StateEffecter,
+    Record,
+}
+
+impl EntryKind {
+    /// The key of the list of these entries.
+    fn key(self) -> &'static str {
+        match self {
+            EntryKind::NumericSensor => "numeric_sensor",
+            EntryKind::StateSensor => "state_sensor",
+            EntryKind::NumericEffecter => "numeric_effecter",
+            EntryKind::StateEffecter => "state_effecter",
+            EntryKind::Record => "pdr",
+        }
+    }
+
+    /// The number of an entry, which has no fault.
+    fn number_of<'a>(self, alloc: Global, entry: &Table, path: Path<'a>) -> Result<i64, Stop<'a>> {
+        match self {
+            EntryKind::NumericSensor => numeric_sensor(alloc, entry, path),
+            EntryKind::StateSensor => state_sensor(alloc, entry, path),
+            EntryKind::NumericEffecter => numeric_effecter(alloc, entry, path),
+            EntryKind::StateEffecter => state_effecter(alloc, entry, path),
+            EntryKind::Record => record(alloc, entry, path),
+        }
+    }
+}
+
+/// Checks the entries of a kind, whose numbers none of `given` has.
+pub(crate) fn entries_of<'a>(
     alloc: Global,
     table: &Table,
+    kind: EntryKind,
     given: &mut Given<'a>,
 ) -> Result<(), Stop<'a>> {
-    let list = "numeric_sensor";
-    for (place, entry) in entries(alloc, table, list)?.iter().enumerate() {
-        let path = Path::entry(list, place);
+    let key = kind.key();
+    for (place, entry) in entries(alloc, table, key)?.iter().enumerate() {
+        let path = Path::entry(key, place);
         let entry = table_of(alloc, entry, path)?;
-        let id = id(alloc, entry, path)?;
-        let (value, at) = any_at(alloc, entry, path, "size", "the name of a data size")?;
-        let size = size(alloc, value, at)?;
-        let (value, at) = any_at(alloc, entry, path, "states", "an array of 3 states")?;
-        numbers(alloc, value, at, MAX_SENSOR_STATE, 3, 3)?;
-        let (value, at) = any_at(alloc, entry, path, "value", "an integer of that size")?;
-        sized(alloc, value, at, size, i64::MIN, i64::MAX)?;
-        given.add(alloc, id, path)?;
+        let number = kind.number_of(alloc, entry, path)?;
+        given.add(alloc, number, path)?;
     }
     Ok(())
 }
 
-/// The state sensors.
-pub(crate) fn state_sensors<'a>(
-    alloc: Global,
-    table: &Table,
-    given: &mut Given<'a>,
-) -> Result<(), Stop<'a>> {
-    let list = "state_sensor";
-    for (place, entry) in entries(alloc, table, list)?.iter().enumerate() {
-        let path = Path::entry(list, place);
-        let entry = table_of(alloc, entry, path)?;
-        let id = id(alloc, entry, path)?;
-        let allowed = "an array of 1 to 8 arrays of 4 states";
-        let (value, at) = any_at(alloc, entry, path, "fields", allowed)?;
-        let fields = number_lists(alloc, value, at)?;
-        for (place, field) in fields.iter().enumerate() {
-            numbers(alloc, field, at.item(place), 255, 4, 4)?;
-        }
-        if fields.is_empty() {
-            return Err(refused(alloc, at, FileFault::OutOfRange, value, allowed));
-        }
-        given.add(alloc, id, path)?;
-    }
-    Ok(())
+/// The data size of an entry.
+fn size_at<'a>(alloc: Global, entry: &Table, path: Path<'a>) -> Result<Size, Stop<'a>> {
+    let (value, at) = any_at(alloc, entry, path, "size", "the name of a data size")?;
+    size(alloc, value, at)
 }
 
-/// The numeric effecters.
-pub(crate) fn numeric_effecters<'a>(
+/// The arrays at a key of an entry, of which there is one at least, each of `least` to `most` states.
+fn states_at<'t, 'a>(
     alloc: Global,
-    table: &Table,
-    given: &mut Given<'a>,
-) -> Result<(), Stop<'a>> {
-    let list = "numeric_effecter";
-    for (place, entry) in entries(alloc, table, list)?.iter().enumerate() {
-        let path = Path::entry(list, place);
-        let entry = table_of(alloc, entry, path)?;
-        let id = id(alloc, entry, path)?;
-        let (value, at) = any_at(alloc, entry, path, "size", "the name of a data size")?;
-        let size = size(alloc, value, at)?;
-        let (value, at) = any_at(alloc, entry, path, "min", "an integer of that size")?;
-        let min = sized(alloc, value, at, size, i64::MIN, i64::MAX)?;
-        let (value, at) = any_at(alloc, entry, path, "max", "an integer not below min")?;
-        let max = sized(alloc, value, at, size, min, i64::MAX)?;
-        let (value, at) = any_at(alloc, entry, path, "value", "an integer from min to max")?;
-        sized(alloc, value, at, size, min, max)?;
-        given.add(alloc, id, path)?;
+    entry: &'t Table,
+    path: Path<'a>,
+    key: &'a str,
+    allowed: &str,
+    least: usize,
+    most: usize,
+) -> Result<&'t [Value], Stop<'a>> {
+    let (value, at) = any_at(alloc, entry, path, key, allowed)?;
+    let lists = number_lists(alloc, value, at)?;
+    for (place, states) in lists.iter().enumerate() {
+        numbers(alloc, states, at.item(place), 255, least, most)?;
     }
-    Ok(())
+    if lists.is_empty() {
+        return Err(refused(alloc, at, FileFault::OutOfRange, value, allowed));
+    }
+    Ok(lists)
 }
 
-/// The state effecters.
-pub(crate) fn state_effecters<'a>(
-    alloc: Global,
-    table: &Table,
-    given: &mut Given<'a>,
-) -> Result<(), Stop<'a>> {
-    let list = "state_effecter";
-    for (place, entry) in entries(alloc, table, list)?.iter().enumerate() {
-        let path = Path::entry(list, place);
-        let entry = table_of(alloc, entry, path)?;
-        let id = id(alloc, entry, path)?;
-        let allowed = "an array of 1 to 8 arrays of states";
-        let (value, at) = any_at(alloc, entry, path, "allowed", allowed)?;
-        let lists = number_lists(alloc, value, at)?;
-        for (place, states) in lists.iter().enumerate() {
-            numbers(alloc, states, at.item(place), 255, 1, MAX_ALLOWED)?;
-        }
-        if lists.is_empty() {
-            return Err(refused(alloc, at, FileFault::OutOfRange, value, allowed));
-        }
-        let (value, at) = any_at(alloc, entry, path, "values", "a state for each field")?;
-        states_among(alloc, value, at, lists)?;
-        given.add(alloc, id, path)?;
-    }
-    Ok(())
+fn numeric_sensor<'a>(alloc: Global, entry: &Table, path: Path<'a>) -> Result<i64, Stop<'a>> {
+    let id = id(alloc, entry, path)?;
+    let size = size_at(alloc, entry, path)?;
+    let (value, at) = any_at(alloc, entry, path, "states", "an array of 3 states")?;
+    numbers(alloc, value, at, MAX_SENSOR_STATE, 3, 3)?;
+    let (value, at) = any_at(alloc, entry, path, "value", "an integer of that size")?;
+    sized(alloc, value, at, size, i64::MIN, i64::MAX)?;
+    Ok(id)
+}
+
+fn state_sensor<'a>(alloc: Global, entry: &Table, path: Path<'a>) -> Result<i64, Stop<'a>> {
+    let id = id(alloc, entry, path)?;
+    let allowed = "an array of 1 to 8 arrays of 4 states";
+    states_at(alloc, entry, path, "fields", allowed, 4, 4)?;
+    Ok(id)
+}
+
+fn numeric_effecter<'a>(alloc: Global, entry: &Table, path: Path<'a>) -> Result<i64, Stop<'a>> {
+    let id = id(alloc, entry, path)?;
+    let size = size_at(alloc, entry, path)?;
+    let (value, at) = any_at(alloc, entry, path, "min", "an integer of that size")?;
+    let min = sized(alloc, value, at, size, i64::MIN, i64::MAX)?;
+    let (value, at) = any_at(alloc, entry, path, "max", "an integer not below min")?;
+    let max = sized(alloc, value, at, size, min, i64::MAX)?;
+    let (value, at) = any_at(alloc, entry, path, "value", "an integer from min to max")?;
+    sized(alloc, value, at, size, min, max)?;
+    Ok(id)
+}
+
+fn state_effecter<'a>(alloc: Global, entry: &Table, path: Path<'a>) -> Result<i64, Stop<'a>> {
+    let id = id(alloc, entry, path)?;
+    let allowed = "an array of 1 to 8 arrays of states";
+    let lists = states_at(alloc, entry, path, "allowed", allowed, 1, MAX_ALLOWED)?;
+    let (value, at) = any_at(alloc, entry, path, "values", "a state for each field")?;
+    states_among(alloc, value, at, lists)?;
+    Ok(id)
 }
 
 /// The state of each field, which is one that the field can take.
@@ -244,27 +262,16 @@ fn contains(list: &Value, state: &Value) -> bool {
     false
 }
 
-/// The records.
-pub(crate) fn records<'a>(
-    alloc: Global,
-    table: &Table,
-    given: &mut Given<'a>,
-) -> Result<(), Stop<'a>> {
-    let list = "pdr";
-    for (place, entry) in entries(alloc, table, list)?.iter().enumerate() {
-        let path = Path::entry(list, place);
-        let entry = table_of(alloc, entry, path)?;
-        let (value, at) = any_at(alloc, entry, path, "hex", "a record as hex text")?;
-        let record = bytes(alloc, value, at, "two hex digits for each byte")?;
-        match handle_of(&record) {
-            Ok(handle) => given.add(alloc, handle, path)?,
-            Err(why) => {
-                let text = record_text(alloc, why);
-                return Err(Stop::fault(at, FileFault::BadRecord, text));
-            }
+fn record<'a>(alloc: Global, entry: &Table, path: Path<'a>) -> Result<i64, Stop<'a>> {
+    let (value, at) = any_at(alloc, entry, path, "hex", "a record as hex text")?;
+    let record = bytes(alloc, value, at, "two hex digits for each byte")?;
+    match handle_of(&record) {
+        Ok(handle) => Ok(handle),
+        Err(why) => {
+            let text = record_text(alloc, why);
+            Err(Stop::fault(at, FileFault::BadRecord, text))
         }
     }
-    Ok(())
 }
 
 fn record_text(alloc: Global, why: &str) -> Result<String, Memory> {

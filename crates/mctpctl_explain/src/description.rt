@@ -1,9 +1,7 @@
 //! What is wrong with a description.
 
 use crate::check::{bytes, number, range_text, refused, value_at};
-use crate::check_list::{
-    Given, numeric_effecters, numeric_sensors, records, state_effecters, state_sensors,
-};
+use crate::check_list::{EntryKind, Given, entries_of};
 use crate::finding::{Finding, Path, Stop};
 use crate::key_places::{KeyPlace, key_places};
 use crate::place::Place;
@@ -110,12 +108,12 @@ fn check(alloc: Global, table: &Table) -> Result<(), Stop<'static>> {
     time_at(alloc, table, "update_time")?;
     time_at(alloc, table, "oem_update_time")?;
     let mut sensors = Given::new(alloc);
-    numeric_sensors(alloc, table, &mut sensors)?;
-    state_sensors(alloc, table, &mut sensors)?;
+    entries_of(alloc, table, EntryKind::NumericSensor, &mut sensors)?;
+    entries_of(alloc, table, EntryKind::StateSensor, &mut sensors)?;
     let mut effecters = Given::new(alloc);
-    numeric_effecters(alloc, table, &mut effecters)?;
-    state_effecters(alloc, table, &mut effecters)?;
-    records(alloc, table, &mut Given::new(alloc))
+    entries_of(alloc, table, EntryKind::NumericEffecter, &mut effecters)?;
+    entries_of(alloc, table, EntryKind::StateEffecter, &mut effecters)?;
+    entries_of(alloc, table, EntryKind::Record, &mut Given::new(alloc))
 }
 
 fn number_at(

@@ -185,12 +185,8 @@ impl Walk {
     ) -> Result<Option<&'t str>, Halt>
         ensures { IfOk result (λ after. IfSome after (λ rest. length rest.now < length text.now)) }
     {
-        if first(text) == b',' {
-            return Ok(Some(skip(text, 1)));
-        }
-        if first(text) == b']' {
-            let _ = self.open.pop();
-            return Ok(Some(skip(text, 1)));
+        if let Some(rest) = self.sign(text, b']') {
+            return Ok(Some(rest));
         }
         let _ = self.open.pop();
         self.begin(Open::Array(depth, next.saturating_add(1)))?;
@@ -210,14 +206,26 @@ impl Walk {
     ) -> Result<Option<&'t str>, Halt>
         ensures { IfOk result (λ after. IfSome after (λ rest. length rest.now < length text.now)) }
     {
-        if first(text) == b',' {
-            return Ok(Some(skip(text, 1)));
-        }
-        if first(text) == b'}' {
-            let _ = self.open.pop();
-            return Ok(Some(skip(text, 1)));
+        if let Some(rest) = self.sign(text, b'}') {
+            return Ok(Some(rest));
         }
         self.entry(alloc, text, offset, depth)
+    }
+
+    /// What is left after a sign: a comma, or this one, which closes what is open.
+    fn sign<'t>(&mut self, text: &'t str, closing: u8) -> Option<&'t str>
+        requires some { 0 < closing }
+        requires ascii { closing < 128 }
+        ensures { IfSome result (λ rest. length rest.now < length text.now) }
+    {
+        if first(text) == b',' {
+            return Some(skip(text, 1));
+        }
+        if first(text) == closing {
+            let _ = self.open.pop();
+            return Some(skip(text, 1));
+        }
+        None
     }
 
     /// A value that is written in one piece, or the sign that begins an array or a table.

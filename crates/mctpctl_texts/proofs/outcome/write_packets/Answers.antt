@@ -1,5 +1,5 @@
 -- A packet further, its line is written.
-use Rattle.std.proofs.Common.{◌≡◌, refl, Some, sym, ap, subst, ◌∙◌, arith, rules}
+use Rattle.std.proofs.Common.{◌≡◌, refl, Some, sym, ap, subst, ◌∙◌, arith}
 use Rattle.std.proofs.lemmas.List.{take_all}
 use Rattle.std.specs.Io.KnownBytes.{Appends}
 use Rattle.std.specs.List.{slice_get}
