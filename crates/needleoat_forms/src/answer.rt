@@ -2,7 +2,6 @@ ghost use Rattle.std.specs.Prelude.{◌≡◌, Some};
 ghost use Rattle.pldm_wire.specs.Answers.{IsAnswerTo};
 ghost use Rattle.needleoat_forms.specs.Answers.{answer_in, kind_in};
 
-use crate::numbers::code_of;
 use crate::room::put_front;
 use crate::states::{EffecterState, SensorState, put_effecter_states, put_sensor_states};
 use pldm_wire::{
@@ -186,7 +185,7 @@ impl AnswerFields {
             } => {
                 self.pldm_type = PLATFORM;
                 self.command = GET_SENSOR_READING;
-                self.size = code_of(reading.size());
+                self.size = reading.size().code();
                 self.operational = *operational;
                 self.sensor_event_message_enable = *sensor_event_message_enable;
                 self.present = *present;
@@ -210,7 +209,7 @@ impl AnswerFields {
             } => {
                 self.pldm_type = PLATFORM;
                 self.command = GET_NUMERIC_EFFECTER_VALUE;
-                self.size = code_of(values.present().size());
+                self.size = values.present().size().code();
                 self.operational = *operational;
                 self.value = values.present().value();
                 self.pending_value = values.pending().value();

@@ -8,7 +8,7 @@ ghost use Rattle.needleoat_forms.specs.Answers.{answer_in, base_answer_in, bytes
 ghost use Rattle.needleoat_forms.specs.Written.{IsWritten};
 
 use crate::AnswerFields;
-use crate::numbers::{number_of, size_of};
+use crate::command_writing::number_of;
 use crate::room::put_front;
 use crate::states::{effecter_states_of, sensor_states_of};
 use mctp_packet::MAX_MESSAGE_BYTES;
@@ -17,7 +17,7 @@ use pldm_wire::{
     GET_PDR_REPOSITORY_INFO, GET_PLDM_COMMANDS, GET_PLDM_TYPES, GET_PLDM_VERSION,
     GET_SENSOR_READING, GET_STATE_EFFECTER_STATES, GET_STATE_SENSOR_READINGS, GET_TID,
     INSTANCE_IDS, Kind, MAX_PART_BYTES, Number, PLATFORM, RecordPart, SET_NUMERIC_EFFECTER_VALUE,
-    SET_STATE_EFFECTER_STATES, SET_TID, TransferFlag, VersionData, crc8, write_answer,
+    SET_STATE_EFFECTER_STATES, SET_TID, Size, TransferFlag, VersionData, crc8, write_answer,
 };
 
 /// How many PLDM types there are: a message's header has six bits for its type (DSP0240, "PLDM message
@@ -165,7 +165,7 @@ fn platform_answer_of(fields: &AnswerFields) -> Option<Answer>
 fn values_of(fields: &AnswerFields) -> Option<EffecterValues>
     ensures { result ≡ effecter_values_in (size_of fields.now.size) fields.now }
 {
-    let size = size_of(fields.size)?;
+    let size = Size::from_code(fields.size)?;
     let pending = Number::new(size, fields.pending_value)?;
     let present = Number::new(size, fields.value)?;
     EffecterValues::new(pending, present)

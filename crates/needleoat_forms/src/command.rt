@@ -1,7 +1,6 @@
 ghost use Rattle.std.specs.Prelude.{◌≡◌, Some};
 ghost use Rattle.needleoat_forms.specs.Commands.{command_in};
 
-use crate::numbers::code_of;
 use crate::states::{SetState, put_sets};
 use pldm_wire::{
     BASE, Command, GET_NUMERIC_EFFECTER_VALUE, GET_PDR, GET_PDR_REPOSITORY_INFO, GET_PLDM_COMMANDS,
@@ -135,7 +134,7 @@ impl CommandFields {
                 self.pldm_type = PLATFORM;
                 self.command = SET_NUMERIC_EFFECTER_VALUE;
                 self.effecter = *effecter;
-                self.size = code_of(value.size());
+                self.size = value.size().code();
                 self.value = value.value();
             }
             Command::GetNumericEffecterValue { effecter } => {

@@ -1,16 +1,15 @@
 ghost use Rattle.std.specs.Prelude.{◌≡◌};
-ghost use Rattle.needleoat_forms.specs.Commands.{base_command_in, command_in, platform_command_in, request_in};
+ghost use Rattle.needleoat_forms.specs.Commands.{base_command_in, command_in, number_in, platform_command_in, request_in};
 ghost use Rattle.needleoat_forms.specs.Written.{IsWritten};
 
 use crate::CommandFields;
-use crate::numbers::number_of;
 use crate::room::put_front;
 use crate::states::sets_of;
 use pldm_wire::{
     BASE, Command, GET_NUMERIC_EFFECTER_VALUE, GET_PDR, GET_PDR_REPOSITORY_INFO, GET_PLDM_COMMANDS,
     GET_PLDM_TYPES, GET_PLDM_VERSION, GET_SENSOR_READING, GET_STATE_EFFECTER_STATES,
-    GET_STATE_SENSOR_READINGS, GET_TID, INSTANCE_IDS, MAX_REQUEST_BYTES, PLATFORM,
-    SET_NUMERIC_EFFECTER_VALUE, SET_STATE_EFFECTER_STATES, SET_TID, write_command,
+    GET_STATE_SENSOR_READINGS, GET_TID, INSTANCE_IDS, MAX_REQUEST_BYTES, Number, PLATFORM,
+    SET_NUMERIC_EFFECTER_VALUE, SET_STATE_EFFECTER_STATES, SET_TID, Size, write_command,
 };
 
 /// Writes the request of a command to the front of `out`, and returns its length in bytes (DSP0240,
@@ -100,4 +99,11 @@ fn platform_command_of(fields: &CommandFields) -> Option<Command>
         },
         _ => return None,
     })
+}
+
+/// The number of this data size and value, where there is such a size and the value fits it.
+pub(crate) fn number_of(size: u8, value: i64) -> Option<Number>
+    ensures { result ≡ number_in size value }
+{
+    Number::new(Size::from_code(size)?, value)
 }

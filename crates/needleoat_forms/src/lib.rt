@@ -10,7 +10,6 @@ mod command_reading;
 mod command_writing;
 mod control;
 mod message;
-mod numbers;
 mod packet;
 mod room;
 mod states;

@@ -56,8 +56,8 @@ impl Size {
         }
     }
 
-    /// The size of this number, where there is one.
-    pub(crate) fn from_code(code: u8) -> Option<Size>
+    /// The size of this number on the wire, where there is one (DSP0248, "sensorDataSize" and "effecterDataSize").
+    pub fn from_code(code: u8) -> Option<Size>
         ensures { result ≡ size_of code }
     {
         match code {
@@ -72,7 +72,7 @@ impl Size {
     }
 
     /// Its number on the wire, 0 to 5.
-    pub(crate) fn code(self) -> u8
+    pub fn code(self) -> u8
         ensures { result ≡ size_code self }
     {
         match self {
