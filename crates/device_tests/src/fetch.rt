@@ -136,7 +136,7 @@ fn expect_first(
 
 /// An answer to another command leaves a fetch as it was, a refusal and an empty part end it.
 #[test]
-fn answers_that_a_fetch_does_not_take(rt: HostRuntime) -> Result<(), Fail> {
+fn answers_that_a_fetch_refuses(rt: HostRuntime) -> Result<(), Fail> {
     let alloc = rt.alloc();
     let mut fetch = Fetch::new(alloc, 1);
     let other = answer(alloc, &Command::GetTid, "010000020001")?;
@@ -156,7 +156,7 @@ fn answers_that_a_fetch_does_not_take(rt: HostRuntime) -> Result<(), Fail> {
 }
 
 #[test]
-fn a_record_of_another_handle_is_not_taken(rt: HostRuntime) -> Result<(), Fail> {
+fn a_record_of_another_handle_is_refused(rt: HostRuntime) -> Result<(), Fail> {
     let whole = hex::decode(rt.alloc(), "01000000010100000000")?;
     let whole = part(TransferFlag::StartAndEnd, 0, &whole, None).ok_or("no part")?;
     expect_first(&rt, rt.alloc(), 2, &whole, Err(FetchFault::Handle));

@@ -1,4 +1,4 @@
-use crate::recorder::{Recorder, told_tid};
+use crate::recorder::{Recorder, reported_tid};
 use example_device::description;
 use mctp_packet::{Eid, Keep};
 use pldm_device::{Description, Platform, ReadingFault, SimDevice};
@@ -55,8 +55,8 @@ fn readings_are_set(rt: HostRuntime) -> Result<(), Fail> {
 fn another_platform_behind_the_same_bound(rt: HostRuntime) -> Result<(), Fail> {
     let mut device = example(rt.alloc())?;
     let mut recorder = Recorder::new(rt.alloc());
-    assert_eq!(rt; told_tid(rt.alloc(), &mut device), Ok(Some(1)));
-    assert_eq!(rt; told_tid(rt.alloc(), &mut recorder), Ok(Some(0)));
+    assert_eq!(rt; reported_tid(rt.alloc(), &mut device), Ok(Some(1)));
+    assert_eq!(rt; reported_tid(rt.alloc(), &mut recorder), Ok(Some(0)));
     for tid in [7, 0] {
         let set = Command::SetTid { tid };
         assert_eq!(rt; recorder.perform(rt.alloc(), &set), Ok(Answer::SetTid));

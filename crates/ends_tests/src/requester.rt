@@ -227,7 +227,7 @@ fn timings(rt: HostRuntime) -> Result<(), Fail> {
 }
 
 #[test]
-fn faults_are_told(rt: HostRuntime) -> Result<(), Fail> {
+fn faults_are_reported(rt: HostRuntime) -> Result<(), Fail> {
     let timing = TimingFault::TooLate.to_string(rt.alloc())?;
     let open = OpenFault::IdInUse.to_string(rt.alloc())?;
     assert_eq!(rt;

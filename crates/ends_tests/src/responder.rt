@@ -248,7 +248,7 @@ fn copies_and_drops(
 }
 
 #[test]
-fn copies_and_drops_take_no_memory(rt: HostRuntime) -> Result<(), Fail> {
+fn copies_and_drops_allocate_nothing(rt: HostRuntime) -> Result<(), Fail> {
     let mut light = light(rt.alloc())?;
     copies_and_drops(&rt, rt.alloc(), &mut light)?;
     assert_eq!(rt; (light.pending(), light.last_moment().get()), (0, 1000));
@@ -305,7 +305,7 @@ fn message_in_three(
 }
 
 #[test]
-fn only_a_start_packet_wants_memory(rt: HostRuntime) -> Result<(), Fail> {
+fn only_a_start_packet_needs_memory(rt: HostRuntime) -> Result<(), Fail> {
     message_in_three(&rt, rt.alloc(), &mut example(rt.alloc())?)
 }
 
@@ -373,7 +373,7 @@ fn fill_a_row(rt: &impl Abort, alloc: Global, light: &mut Responder<Dimmer>) -> 
 }
 
 #[test]
-fn first_request_takes_the_room_of_all_instance_ids(rt: HostRuntime) -> Result<(), Fail> {
+fn first_request_allocates_for_all_instance_ids(rt: HostRuntime) -> Result<(), Fail> {
     let mut light = light(rt.alloc())?;
     fill_a_row(&rt, rt.alloc(), &mut light)?;
     assert_eq!(rt; light.kept(), 32);

@@ -8,7 +8,7 @@ use std::alloc::AllocError;
 use std::test::Fail;
 
 #[test]
-fn tells_each_fault(rt: HostRuntime) -> Result<(), Fail> {
+fn reports_each_fault(rt: HostRuntime) -> Result<(), Fail> {
     let requester = Eid::new(8).expect(&rt, "an endpoint ID");
     let refusal = DescriptionFault::new(FileFault::OutOfRange).expect(&rt, "a refusal");
     let rows = [

@@ -30,7 +30,7 @@ fn a_retry_is_answered_by_the_kept_answer(rt: HostRuntime) -> Result<(), Fail> {
 }
 
 #[test]
-fn schedules_tell_what_comes_of_them(rt: HostRuntime) -> Result<(), Fail> {
+fn schedules_report_what_comes_of_them(rt: HostRuntime) -> Result<(), Fail> {
     for (schedule, told) in rows::SCHEDULES {
         expect(&rt, rt.alloc(), schedule, told)?;
     }

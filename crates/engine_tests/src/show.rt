@@ -71,7 +71,7 @@ fn shows_messages_of_several_packets(rt: HostRuntime) -> Result<(), Fail> {
 }
 
 #[test]
-fn tells_a_refused_line(rt: HostRuntime) -> Result<(), Fail> {
+fn reports_a_refused_line(rt: HostRuntime) -> Result<(), Fail> {
     let cases = [
         ("# nothing\n\n", Ok(()), ""),
         (

@@ -126,7 +126,7 @@ const RESTARTS: [(&str, &str); 2] = [
 ];
 
 #[test]
-fn runs_tell_what_came_of_their_steps(rt: HostRuntime) -> Result<(), Fail> {
+fn runs_report_what_came_of_their_steps(rt: HostRuntime) -> Result<(), Fail> {
     let cases = [
         SINGLE_PACKETS.as_slice(),
         SEVERAL_PACKETS.as_slice(),
@@ -194,7 +194,7 @@ fn another_platform_is_run(rt: HostRuntime) -> Result<(), Fail> {
 }
 
 #[test]
-fn refused_requesters_are_told(rt: HostRuntime) -> Result<(), Fail> {
+fn refused_requesters_are_reported(rt: HostRuntime) -> Result<(), Fail> {
     let cases = [
         ("requester 9 timeout 200 tries 3", 9, TimingFault::SameEid),
         (

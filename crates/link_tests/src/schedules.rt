@@ -14,7 +14,7 @@ fn reads_a_schedule(rt: HostRuntime) -> Result<(), Fail> {
 }
 
 #[test]
-fn tells_the_first_faulty_line(rt: HostRuntime) -> Result<(), Fail> {
+fn reports_the_first_faulty_line(rt: HostRuntime) -> Result<(), Fail> {
     let text = b"requester 8 timeout 200 tries 3\nat 5 tick 8\nat 4 tick 8".as_slice();
     let Err(fault) = Schedule::read(rt.alloc(), text) else {
         return Err(Fail::from("no fault"));

@@ -16,7 +16,7 @@ use Rattle.pldm_requester.specs.Steps.{Held, IsHeld, Memo, arrived_by, got_at, i
 use Rattle.pldm_requester.specs.declared.results.Got.{Got}
 use Rattle.pldm_requester.specs.declared.results.Got.TheVariants as got
 use Rattle.pldm_requester.specs.declared.timing.Timing.{Timing}
-use Rattle.mctp_schedule.specs.Askers.{Side, TellsAnswer}
+use Rattle.mctp_schedule.specs.Askers.{Side, ReportsReply}
 use Rattle.mctp_schedule.specs.Entries.{as_it_stands, got_entry, numbers_of}
 use Rattle.mctp_schedule.specs.HandedPackets.{got_from}
 use Rattle.mctp_schedule.specs.HeldRuns.{HeldRun}
@@ -98,7 +98,7 @@ module _ {S : Type 0} (setting : Setting S) (w : World) (moment e : ℕ) (bytes 
     pub looks : ReceiveLooksBack
     pub same : SameIsLeft
     pub new_held : IsHeld (held_of new.station) (received_held (held_of side.station) moment bytes)
-    pub tells : TellsAnswer side.numbers (arrived_by (held_of side.station) (held_steps.passed (held_of side.station) bytes)) answered
+    pub tells : ReportsReply side.numbers (arrived_by (held_of side.station) (held_steps.passed (held_of side.station) bytes)) answered
 
   module _ (x : Receives) where
     looked : (got_at (held_of side.station) bytes ≡ got_owed e setting.eid (timing_of setting e) (w.calls e) bytes)
@@ -143,7 +143,7 @@ module _ {S : Type 0} (setting : Setting S) (w : World) (moment e : ℕ) (bytes 
         none nothing other =
             ap (λ a. answered_as a k (as_it_stands setting w r)) nothing ∙ sym (stays r (λ at. not_answered brought (arrived e setting.eid (timing_of setting e) (requests_of setting w e) bytes) r.own owed (other r.own)))
 
-        go : (a : Arrival) → brought ≡ a → TellsAnswer side.numbers a answered → answered_as answered k (as_it_stands setting w r) ≡ as_it_stands setting v r
+        go : (a : Arrival) → brought ≡ a → ReportsReply side.numbers a answered → answered_as answered k (as_it_stands setting w r) ≡ as_it_stands setting v r
         go (Drop reason) at tells = none tells (λ n m e'. let wrong : ◌≡◌ {A = Arrival} (Drop reason) (Answer n m) = sym at ∙ e' in absurd (cc))
         go Part at tells = none tells (λ n m e'. let wrong : ◌≡◌ {A = Arrival} Part (Answer n m) = sym at ∙ e' in absurd (cc))
         go (Answer n m) at tells = both (cases_eq r.source e) (cases_eq r.own n)
@@ -188,7 +188,7 @@ module _ {P S : Type 0} (setting : Setting S) (past : List Step) (run : HeldRun 
       pub same_numbers : new.numbers ≡ (running.sides q.source (running.opened k q is).source).0.numbers
       pub new_held : IsHeld (held_of new.station) (received_held (held_of (running.sides q.source (running.opened k q is).source).0.station) moment bytes)
       pub got_is : taken ≡ got_at (held_of (running.sides q.source (running.opened k q is).source).0.station) bytes
-      pub tells : TellsAnswer (running.sides q.source (running.opened k q is).source).0.numbers
+      pub tells : ReportsReply (running.sides q.source (running.opened k q is).source).0.numbers
           (arrived_by (held_of (running.sides q.source (running.opened k q is).source).0.station) (held_steps.passed (held_of (running.sides q.source (running.opened k q is).source).0.station) bytes)) answered
       pub time_is : in_time ≡ nat_le (held_of (running.sides q.source (running.opened k q is).source).0.station).count (q.own + 8)
       pub requests : (j : ℕ) → slice_get journal.requests.items j ≡ option_map (answered_as answered j) (slice_get run.journal.requests.items j)
@@ -237,13 +237,13 @@ module _ {P S : Type 0} (setting : Setting S) (past : List Step) (run : HeldRun 
 
 -- ---- the request that is told as answered has been opened
 pub told_below : {S : Type 0} (setting : Setting S) (w : World) (now e : ℕ) (side : Side) → IsSide setting w now e side → (bytes : List ℕ) (answered : Option AnsweredRequest) (bound : ℕ) → count_of w.log ≡ bound
-    → TellsAnswer side.numbers (arrived_by (held_of side.station) (held_steps.passed (held_of side.station) bytes)) answered → IfSome answered (λ a. a.number < bound)
+    → ReportsReply side.numbers (arrived_by (held_of side.station) (held_steps.passed (held_of side.station) bytes)) answered → IfSome answered (λ a. a.number < bound)
 told_below setting w now e side s bytes answered bound all tells = go (arrived_by (held_of side.station) (held_steps.passed (held_of side.station) bytes)) refl tells
   where
     none : answered ≡ None → IfSome answered (λ a. a.number < bound)
     none nothing = subst (λ o. IfSome o (λ a. a.number < bound)) (sym nothing) tt
 
-    go : (x : Arrival) → arrived_by (held_of side.station) (held_steps.passed (held_of side.station) bytes) ≡ x → TellsAnswer side.numbers x answered → IfSome answered (λ a. a.number < bound)
+    go : (x : Arrival) → arrived_by (held_of side.station) (held_steps.passed (held_of side.station) bytes) ≡ x → ReportsReply side.numbers x answered → IfSome answered (λ a. a.number < bound)
     go (Drop reason) at t = none t
     go Part at t = none t
     go (Answer n m) at t =

@@ -25,7 +25,7 @@ use Rattle.pldm_requester.specs.declared.requester.TheConstants.{MAX_OPEN, MAX_R
 use Rattle.pldm_requester.specs.Steps.{Held, IsHeld, Memo, arrived_by, goes_to, is_mine, is_open_in, latest_on, new_memo, opened_held, passed, passes, received_held, recent_numbers, remembered_after, where_open, with_course}
 use Rattle.pldm_requester.specs.declared.results.Got.TheVariants as got
 use Rattle.pldm_requester.specs.declared.results.Opened.{Opened}
-use Rattle.mctp_schedule.specs.Askers.{TellsAnswer, packet_bytes}
+use Rattle.mctp_schedule.specs.Askers.{ReportsReply, packet_bytes}
 use Rattle.mctp_schedule.specs.declared.askers.AnsweredRequest.{AnsweredRequest}
 use Rattle.mctp_schedule.proofs.ListPlaces.{take_all}
 
@@ -146,12 +146,12 @@ pub recent_below : (count : ℕ) (test : ℕ → Bool) → AllByRecursion (λ k.
 recent_below count test = all_filtered (λ k. k < count) test (recent_numbers count) (all_ranged count (count - MAX_OPEN) (count - (count - MAX_OPEN)) (omega arith))
 
 -- ---- what is told of an answer
-pub none_told : (numbers : List ℕ) (arrival : Arrival) → ((own : ℕ) → got_of arrival ≡ got.Answered own → ⊥) → TellsAnswer numbers arrival None
+pub none_told : (numbers : List ℕ) (arrival : Arrival) → ((own : ℕ) → got_of arrival ≡ got.Answered own → ⊥) → ReportsReply numbers arrival None
 none_told numbers (Drop reason) h = refl
 none_told numbers Part h = refl
 none_told numbers (Answer number message) h = absurd (h number refl)
 
-pub one_told : (numbers : List ℕ) (arrival : Arrival) (own : ℕ) (a : AnsweredRequest) → got_of arrival ≡ got.Answered own → a.number ≡ slice_index numbers own → ((m : List ℕ) → arrival ≡ Answer own m → a.message ≡ m) → TellsAnswer numbers arrival (Some a)
+pub one_told : (numbers : List ℕ) (arrival : Arrival) (own : ℕ) (a : AnsweredRequest) → got_of arrival ≡ got.Answered own → a.number ≡ slice_index numbers own → ((m : List ℕ) → arrival ≡ Answer own m → a.message ≡ m) → ReportsReply numbers arrival (Some a)
 one_told numbers (Drop reason) own a e number message = absurd (cc)
 one_told numbers Part own a e number message = absurd (cc)
 one_told numbers (Answer n m) own a e number message =

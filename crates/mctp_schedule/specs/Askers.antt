@@ -49,8 +49,8 @@ HasAnswer held number =
     × (option_map (λ memo. memo.course.standing) (held.remembered number) ≡ Some (courses.Answered message))
 
 -- the request that a packet answered is told by its number over all requests, with its answer
-abbrev pub TellsAnswer : List ℕ → Arrival → Option AnsweredRequest → Type 0
-TellsAnswer numbers (Drop reason) answered = answered ≡ None
-TellsAnswer numbers Part answered = answered ≡ None
-TellsAnswer numbers (Answer number message) answered =
+abbrev pub ReportsReply : List ℕ → Arrival → Option AnsweredRequest → Type 0
+ReportsReply numbers (Drop reason) answered = answered ≡ None
+ReportsReply numbers Part answered = answered ≡ None
+ReportsReply numbers (Answer number message) answered =
     (a : AnsweredRequest) × (answered ≡ Some a) × (a.number ≡ slice_index numbers number) × (a.message ≡ message)

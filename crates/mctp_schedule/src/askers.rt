@@ -4,7 +4,7 @@ ghost use Rattle.std.specs.Prelude.{◌≡◌, ◌≤◌, ◌<◌, ◌∷◌, �
 ghost use Rattle.std.specs.List.{AllByRecursion};
 ghost use Rattle.pldm_requester.specs.Steps.{IsHeld, again_at, arrived_by, given_up_at, got_at, opened_held, opening_answer, passed, received_held, ticked_held};
 ghost use Rattle.pldm_requester.specs.Slots.{held_of};
-ghost use Rattle.mctp_schedule.specs.Askers.{HasAnswer, HasPacket, IsSent, TellsAnswer};
+ghost use Rattle.mctp_schedule.specs.Askers.{HasAnswer, HasPacket, IsSent, ReportsReply};
 ghost use Rattle.mctp_schedule.specs.Entries.{numbered};
 ghost use Rattle.pldm_requester.specs.Courses as courses;
 
@@ -158,7 +158,7 @@ impl Asker {
         requires moment { (held_of self.old.station).last ≤ now }
         requires all { length self.old.numbers ≡ (held_of self.old.station).count }
         ensures got { IfOk result (λ received. received.got ≡ got_at (held_of self.old.station) bytes.now) }
-        ensures answered { IfOk result (λ received. TellsAnswer self.old.numbers (arrived_by (held_of self.old.station)
+        ensures answered { IfOk result (λ received. ReportsReply self.old.numbers (arrived_by (held_of self.old.station)
             (passed (held_of self.old.station) bytes.now)) received.answered) }
         ensures held { OnOk result (IsHeld (held_of self.new.station) (received_held (held_of self.old.station) now
             bytes.now)) }

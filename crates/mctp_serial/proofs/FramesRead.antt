@@ -6,8 +6,8 @@ use Rattle.mctp_serial.specs.CheckSequences.{check_sequence}
 use Rattle.mctp_serial.specs.Frames.{HasFrame, spelled, spelled_all, ending, frame}
 use Rattle.mctp_serial.specs.Readings.{Reading, idle, opened, inside, high, inside_or_past, packet_of, step, after, then_told, told_by}
 use Rattle.mctp_serial.specs.declared.TheConstants.{FLAG, ESCAPE}
-use Rattle.mctp_serial.specs.declared.reader.Told.{Told}
-use Rattle.mctp_serial.specs.declared.reader.Told.TheVariants.{Nothing, Packet, Dropped}
+use Rattle.mctp_serial.specs.declared.reader.FrameEvent.{FrameEvent}
+use Rattle.mctp_serial.specs.declared.reader.FrameEvent.TheVariants.{Nothing, Packet, Dropped}
 
 byte_by : (count : ℕ) (done : List ℕ) (b : ℕ) (rest : List ℕ) (x y : Bool) → (b == FLAG) ≡ x → (b == ESCAPE) ≡ y → told_by (inside count done) (spelled b ++ rest) ≡ told_by (inside_or_past count (done ++ b ∷ [])) rest
 byte_by count done b rest true y p q =
@@ -61,7 +61,7 @@ after_flag packet rest h =
 pub frame_read : (packet rest : List ℕ) → HasFrame packet → (told_by idle (frame packet ++ rest) ≡ packet_of packet ∷ told_by opened rest) × (told_by opened (frame packet ++ rest) ≡ packet_of packet ∷ told_by opened rest)
 frame_read packet rest h = (after_flag packet rest h, after_flag packet rest h)
 
-then_append : (t : Told) (x y : List Told) → then_told t (x ++ y) ≡ then_told t x ++ y
+then_append : (t : FrameEvent) (x y : List FrameEvent) → then_told t (x ++ y) ≡ then_told t x ++ y
 then_append Nothing x y = refl
 then_append (Packet packet) x y = refl
 then_append (Dropped drop) x y = refl

@@ -6,11 +6,11 @@ use Rattle.mctp_serial.specs.CheckLaws.{AreBytes}
 use Rattle.mctp_serial.specs.CheckSequences.{check_sequence}
 use Rattle.mctp_serial.specs.Frames.{HasFrame, spelled, spelled_all, ending, frame}
 use Rattle.mctp_serial.specs.Laws.{OnlyFramesTold}
-use Rattle.mctp_serial.specs.Readings.{Reading, idle, opened, counting, inside, escaped, high, low, closing, Step, tells_nothing, drops, adds, after_end, inside_or_past, checks, packet_of, step, after}
+use Rattle.mctp_serial.specs.Readings.{Reading, idle, opened, counting, inside, escaped, high, low, closing, Step, nothing_yet, drops, adds, after_end, inside_or_past, checks, packet_of, step, after}
 use Rattle.mctp_serial.specs.declared.TheConstants.{FLAG, ESCAPE, ESCAPED_FLAG, ESCAPED_ESCAPE, REVISION}
 use Rattle.mctp_serial.specs.declared.fault.FrameFault.TheVariants.{WrongRevision, Empty, TooLong, CutShort, BadEscape, WrongCheck, NoEnd}
-use Rattle.mctp_serial.specs.declared.reader.Told.{Told}
-use Rattle.mctp_serial.specs.declared.reader.Told.TheVariants.{Nothing, Packet, Dropped}
+use Rattle.mctp_serial.specs.declared.reader.FrameEvent.{FrameEvent}
+use Rattle.mctp_serial.specs.declared.reader.FrameEvent.TheVariants.{Nothing, Packet, Dropped}
 use Rattle.mctp_serial.proofs.Spelling.{spelled_all-append}
 
 -- the bytes end with these
@@ -130,7 +130,7 @@ stands_after r came (b ∷ bytes) are s =
     rw (← append_assoc came (b ∷ []) bytes) (stands_after (step r b).next (came ++ b ∷ []) bytes (λ i. are (suc i)) (stands_further r b came (are 0) s))
 
 -- the packet that is told, if one is
-abbrev told_packet : Told → Option (List ℕ)
+abbrev told_packet : FrameEvent → Option (List ℕ)
 told_packet Nothing = None
 told_packet (Packet packet) = Some packet.items
 told_packet (Dropped fault) = None
@@ -139,7 +139,7 @@ either_silent : (x : Bool) (s t : Step) → told_packet s.told ≡ None → told
 either_silent true s t h g = h
 either_silent false s t h g = g
 
-none_told : (packet : List ℕ) (t : Told) → told_packet t ≡ None → t ≡ packet_of packet → ⊥
+none_told : (packet : List ℕ) (t : FrameEvent) → told_packet t ≡ None → t ≡ packet_of packet → ⊥
 none_told packet t h e =
     let some : told_packet t ≡ Some packet = ap told_packet e in
     cc
@@ -176,20 +176,20 @@ told_frame idle byte bytes packet s e = absurd (none_told packet Nothing refl e)
 told_frame opened byte bytes packet s e =
     absurd
     (none_told packet (step opened byte).told
-    (either_silent (byte == FLAG) (tells_nothing opened) (if byte == REVISION then tells_nothing counting else drops WrongRevision byte) refl
-    (either_silent (byte == REVISION) (tells_nothing counting) (drops WrongRevision byte) refl refl))
+    (either_silent (byte == FLAG) (nothing_yet opened) (if byte == REVISION then nothing_yet counting else drops WrongRevision byte) refl
+    (either_silent (byte == REVISION) (nothing_yet counting) (drops WrongRevision byte) refl refl))
     e)
 told_frame counting byte bytes packet s e =
     absurd
     (none_told packet (step counting byte).told
-    (either_silent (byte == 0) (drops Empty byte) (if nat_le byte MAX_PACKET_BYTES then tells_nothing (inside byte []) else drops TooLong byte) refl
-    (either_silent (nat_le byte MAX_PACKET_BYTES) (tells_nothing (inside byte [])) (drops TooLong byte) refl refl))
+    (either_silent (byte == 0) (drops Empty byte) (if nat_le byte MAX_PACKET_BYTES then nothing_yet (inside byte []) else drops TooLong byte) refl
+    (either_silent (nat_le byte MAX_PACKET_BYTES) (nothing_yet (inside byte [])) (drops TooLong byte) refl refl))
     e)
 told_frame (inside count done) byte bytes packet s e =
     absurd
     (none_told packet (step (inside count done) byte).told
-    (either_silent (byte == FLAG) (drops CutShort byte) (if byte == ESCAPE then tells_nothing (escaped count done) else adds count done byte) refl
-    (either_silent (byte == ESCAPE) (tells_nothing (escaped count done)) (adds count done byte) refl refl))
+    (either_silent (byte == FLAG) (drops CutShort byte) (if byte == ESCAPE then nothing_yet (escaped count done) else adds count done byte) refl
+    (either_silent (byte == ESCAPE) (nothing_yet (escaped count done)) (adds count done byte) refl refl))
     e)
 told_frame (escaped count done) byte bytes packet s e =
     absurd

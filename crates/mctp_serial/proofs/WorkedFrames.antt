@@ -4,7 +4,7 @@ use Rattle.mctp_serial.specs.CheckSequences.{bit_further, bits_further, byte_fur
 use Rattle.mctp_serial.specs.Frames.{frame}
 use Rattle.mctp_serial.specs.Readings.{idle, packet_of, told_by}
 use Rattle.mctp_serial.specs.declared.fault.FrameFault.TheVariants.{WrongRevision, Empty, TooLong, CutShort, BadEscape, WrongCheck, NoEnd}
-use Rattle.mctp_serial.specs.declared.reader.Told.TheVariants.{Dropped}
+use Rattle.mctp_serial.specs.declared.reader.FrameEvent.TheVariants.{Dropped}
 
 abbrev a_packet : List ℕ
 a_packet = 0x01 ∷ 0x09 ∷ 0x08 ∷ 0xC8 ∷ 0x01 ∷ 0x80 ∷ 0x00 ∷ 0x02 ∷ []

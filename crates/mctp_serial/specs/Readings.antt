@@ -6,8 +6,8 @@ use Rattle.mctp_serial.specs.declared.TheConstants.{ESCAPE, ESCAPED_ESCAPE, ESCA
 use Rattle.mctp_serial.specs.declared.fault.FrameFault.{FrameFault}
 use Rattle.mctp_serial.specs.declared.fault.FrameFault.TheVariants.{WrongRevision, Empty, TooLong, CutShort}
 use Rattle.mctp_serial.specs.declared.fault.FrameFault.TheVariants.{BadEscape, WrongCheck, NoEnd}
-use Rattle.mctp_serial.specs.declared.reader.Told.{Told}
-use Rattle.mctp_serial.specs.declared.reader.Told.TheVariants.{Nothing, Packet, Dropped}
+use Rattle.mctp_serial.specs.declared.reader.FrameEvent.{FrameEvent}
+use Rattle.mctp_serial.specs.declared.reader.FrameEvent.TheVariants.{Nothing, Packet, Dropped}
 
 -- where a reader stands
 pub data Reading : Type 0 where
@@ -30,13 +30,13 @@ pub data Reading : Type 0 where
 
 -- what a byte tells, and where the reader stands after it
 pub record Step : Type 0 where
-  pub told : Told
+  pub told : FrameEvent
   pub next : Reading
 
-abbrev pub tells_nothing : Reading → Step
-tells_nothing next = record { told = Nothing; next = next }
+abbrev pub nothing_yet : Reading → Step
+nothing_yet next = record { told = Nothing; next = next }
 
-abbrev pub packet_of : List ℕ → Told
+abbrev pub packet_of : List ℕ → FrameEvent
 packet_of bytes = Packet (record { items = bytes })
 
 -- a flag opens a frame, whatever it ends; after another byte a flag is waited for
@@ -51,28 +51,28 @@ abbrev pub inside_or_past : ℕ → List ℕ → Reading
 inside_or_past count bytes = if length bytes == count then high bytes else inside count bytes
 
 abbrev pub adds : ℕ → List ℕ → ℕ → Step
-adds count bytes byte = tells_nothing (inside_or_past count (bytes ++ byte ∷ []))
+adds count bytes byte = nothing_yet (inside_or_past count (bytes ++ byte ∷ []))
 
 -- a packet is told where the check sequence that was sent is its own
-abbrev pub checks : List ℕ → ℕ → Told
+abbrev pub checks : List ℕ → ℕ → FrameEvent
 checks bytes sent = if check_sequence bytes == sent then packet_of bytes else Dropped WrongCheck
 
 abbrev pub step : Reading → ℕ → Step
-step idle byte = tells_nothing (after_end byte)
+step idle byte = nothing_yet (after_end byte)
 step opened byte =
-    if byte == FLAG then tells_nothing opened
-    else (if byte == REVISION then tells_nothing counting else drops WrongRevision byte)
+    if byte == FLAG then nothing_yet opened
+    else (if byte == REVISION then nothing_yet counting else drops WrongRevision byte)
 step counting byte =
     if byte == 0 then drops Empty byte
-    else (if nat_le byte MAX_PACKET_BYTES then tells_nothing (inside byte []) else drops TooLong byte)
+    else (if nat_le byte MAX_PACKET_BYTES then nothing_yet (inside byte []) else drops TooLong byte)
 step (inside count bytes) byte =
     if byte == FLAG then drops CutShort byte
-    else (if byte == ESCAPE then tells_nothing (escaped count bytes) else adds count bytes byte)
+    else (if byte == ESCAPE then nothing_yet (escaped count bytes) else adds count bytes byte)
 step (escaped count bytes) byte =
     if byte == ESCAPED_FLAG then adds count bytes FLAG
     else (if byte == ESCAPED_ESCAPE then adds count bytes ESCAPE else drops BadEscape byte)
-step (high bytes) byte = tells_nothing (low bytes byte)
-step (low bytes first) byte = tells_nothing (closing bytes (first * 256 + byte))
+step (high bytes) byte = nothing_yet (low bytes byte)
+step (low bytes first) byte = nothing_yet (closing bytes (first * 256 + byte))
 step (closing bytes sent) byte =
     if byte == FLAG then record { told = checks bytes sent; next = opened } else drops NoEnd byte
 
@@ -82,11 +82,11 @@ after reading [] = reading
 after reading (byte ∷ bytes) = after (step reading byte).next bytes
 
 -- what was told, before what is told later
-abbrev pub then_told : Told → List Told → List Told
+abbrev pub then_told : FrameEvent → List FrameEvent → List FrameEvent
 then_told Nothing later = later
 then_told told later = told ∷ later
 
 -- what the bytes tell, in order
-abbrev pub told_by : Reading → List ℕ → List Told
+abbrev pub told_by : Reading → List ℕ → List FrameEvent
 told_by reading [] = []
 told_by reading (byte ∷ bytes) = then_told (step reading byte).told (told_by (step reading byte).next bytes)

@@ -12,7 +12,7 @@ use arrayvec::ArrayVec;
 pub use fault::FrameFault;
 pub use frames::frame;
 use mctp_packet::MAX_PACKET_BYTES;
-pub use reader::{FrameReader, Told};
+pub use reader::{FrameReader, FrameEvent};
 
 /// The framing flag, which stands before and after a frame.
 pub const FLAG: u8 = 0x7E;

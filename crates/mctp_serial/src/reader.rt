@@ -11,7 +11,7 @@ use std::mem;
 
 /// What a byte told the reader.
 #[derive(Clone, Debug, PartialEq, Eq, Drop)]
-pub enum Told {
+pub enum FrameEvent {
     /// Nothing yet.
     Nothing,
     /// It ended the frame of this packet.
@@ -74,19 +74,19 @@ impl FrameReader {
 
     /// Takes the next byte, and gives what it tells: the packet where it ends a frame, or why the bytes
     /// since the last flag are no frame.
-    pub fn take(&mut self, byte: u8) -> Told
+    pub fn take(&mut self, byte: u8) -> FrameEvent
         ensures { step self.old byte ≡ record { told = result; next = self.new } }
     {
         let (place, told) = match self.place {
-            Place::Idle => (after_end(byte), Told::Nothing),
+            Place::Idle => (after_end(byte), FrameEvent::Nothing),
             Place::Opened => take_revision(byte),
             Place::Counting => take_count(byte, &mut self.bytes),
             Place::Inside(count) => take_inside(count, byte, &mut self.bytes),
             Place::Escaped(count) => take_escaped(count, byte, &mut self.bytes),
-            Place::High => (Place::Low(byte), Told::Nothing),
+            Place::High => (Place::Low(byte), FrameEvent::Nothing),
             Place::Low(high) => (
                 Place::Closing(u16::from_be_bytes([high, byte])),
-                Told::Nothing,
+                FrameEvent::Nothing,
             ),
             Place::Closing(sent) => take_end(sent, byte, &mut self.bytes),
         };
@@ -108,29 +108,29 @@ fn after_end(byte: u8) -> Place
 }
 
 /// The place after this byte, for which the bytes since the last flag are no frame.
-fn drop(fault: FrameFault, byte: u8) -> (Place, Told)
+fn drop(fault: FrameFault, byte: u8) -> (Place, FrameEvent)
     ensures reading { (bytes : List ℕ)
         → drops fault byte ≡ record { told = result.1; next = reading_of result.0 bytes } }
     ensures room { (bytes : List ℕ) → HasRoom result.0 bytes }
 {
-    (after_end(byte), Told::Dropped(fault))
+    (after_end(byte), FrameEvent::Dropped(fault))
 }
 
 /// Takes the byte after a flag.
-fn take_revision(byte: u8) -> (Place, Told)
+fn take_revision(byte: u8) -> (Place, FrameEvent)
     ensures reading { (bytes : List ℕ)
         → step opened byte ≡ record { told = result.1; next = reading_of result.0 bytes } }
     ensures room { (bytes : List ℕ) → HasRoom result.0 bytes }
 {
     match byte {
-        FLAG => (Place::Opened, Told::Nothing),
-        REVISION => (Place::Counting, Told::Nothing),
+        FLAG => (Place::Opened, FrameEvent::Nothing),
+        REVISION => (Place::Counting, FrameEvent::Nothing),
         _ => drop(FrameFault::WrongRevision, byte),
     }
 }
 
 /// Takes the count of a packet's bytes.
-fn take_count(byte: u8, bytes: &mut PacketBytes) -> (Place, Told)
+fn take_count(byte: u8, bytes: &mut PacketBytes) -> (Place, FrameEvent)
     ensures reading { step counting byte ≡ record { told = result.1; next = reading_of result.0 bytes.new.items } }
     ensures room { HasRoom result.0 bytes.new.items }
 {
@@ -141,11 +141,11 @@ fn take_count(byte: u8, bytes: &mut PacketBytes) -> (Place, Told)
         return drop(FrameFault::TooLong, byte);
     }
     bytes.clear();
-    (Place::Inside(byte), Told::Nothing)
+    (Place::Inside(byte), FrameEvent::Nothing)
 }
 
 /// Takes a byte in a packet of `count`.
-fn take_inside(count: u8, byte: u8, bytes: &mut PacketBytes) -> (Place, Told)
+fn take_inside(count: u8, byte: u8, bytes: &mut PacketBytes) -> (Place, FrameEvent)
     requires { HasRoom (Inside count) bytes.old.items }
     ensures reading { step (inside count bytes.old.items) byte
         ≡ record { told = result.1; next = reading_of result.0 bytes.new.items } }
@@ -153,21 +153,21 @@ fn take_inside(count: u8, byte: u8, bytes: &mut PacketBytes) -> (Place, Told)
 {
     match byte {
         FLAG => drop(FrameFault::CutShort, byte),
-        ESCAPE => (Place::Escaped(count), Told::Nothing),
-        _ => (add(count, byte, bytes), Told::Nothing),
+        ESCAPE => (Place::Escaped(count), FrameEvent::Nothing),
+        _ => (add(count, byte, bytes), FrameEvent::Nothing),
     }
 }
 
 /// Takes the byte after an escape.
-fn take_escaped(count: u8, byte: u8, bytes: &mut PacketBytes) -> (Place, Told)
+fn take_escaped(count: u8, byte: u8, bytes: &mut PacketBytes) -> (Place, FrameEvent)
     requires { HasRoom (Escaped count) bytes.old.items }
     ensures reading { step (escaped count bytes.old.items) byte
         ≡ record { told = result.1; next = reading_of result.0 bytes.new.items } }
     ensures room { HasRoom result.0 bytes.new.items }
 {
     match byte {
-        ESCAPED_FLAG => (add(count, FLAG, bytes), Told::Nothing),
-        ESCAPED_ESCAPE => (add(count, ESCAPE, bytes), Told::Nothing),
+        ESCAPED_FLAG => (add(count, FLAG, bytes), FrameEvent::Nothing),
+        ESCAPED_ESCAPE => (add(count, ESCAPE, bytes), FrameEvent::Nothing),
         _ => drop(FrameFault::BadEscape, byte),
     }
 }
@@ -188,7 +188,7 @@ fn add(count: u8, byte: u8, bytes: &mut PacketBytes) -> Place
 }
 
 /// Takes the byte after the check sequence that was sent.
-fn take_end(sent: u16, byte: u8, bytes: &mut PacketBytes) -> (Place, Told)
+fn take_end(sent: u16, byte: u8, bytes: &mut PacketBytes) -> (Place, FrameEvent)
     ensures reading { step (closing bytes.old.items sent) byte
         ≡ record { told = result.1; next = reading_of result.0 bytes.new.items } }
     ensures room { HasRoom result.0 bytes.new.items }
@@ -201,6 +201,6 @@ fn take_end(sent: u16, byte: u8, bytes: &mut PacketBytes) -> (Place, Told)
     }
     (
         Place::Opened,
-        Told::Packet(mem::replace(bytes, PacketBytes::new())),
+        FrameEvent::Packet(mem::replace(bytes, PacketBytes::new())),
     )
 }

@@ -129,15 +129,15 @@ choice_of words = if takes_line words then option_and_then choice_in (subcommand
 
 -- what a refusal says of the line: that it names no task, and whether help or the version was asked for; a call may
 -- run out of memory at any line
-abbrev pub TellsRefusal : List (List ℕ) → ChooseFault → Type 0
-TellsRefusal words (Help text) = (choice_of words ≡ None)
+abbrev pub ReportsRefusal : List (List ℕ) → ChooseFault → Type 0
+ReportsRefusal words (Help text) = (choice_of words ≡ None)
     × (IsAmong DisplayHelp (fault_of command words) ⊎ IsAmong DisplayVersion (fault_of command words))
-TellsRefusal words (Refused text) = (choice_of words ≡ None)
+ReportsRefusal words (Refused text) = (choice_of words ≡ None)
     × (fault_of command words ≢ DisplayHelp ∷ []) × (fault_of command words ≢ DisplayVersion ∷ [])
-TellsRefusal words (Memory refused) = Unit {0}
+ReportsRefusal words (Memory refused) = Unit {0}
 
 -- what a refusal says of the kind of `clap`'s error
-abbrev pub TellsKind : ErrorKind → ChooseFault → Type 0
-TellsKind kind (Help text) = (kind ≡ DisplayHelp) ⊎ (kind ≡ DisplayVersion)
-TellsKind kind (Refused text) = (kind ≢ DisplayHelp) × (kind ≢ DisplayVersion) × (kind ≢ OutOfMemory)
-TellsKind kind (Memory refused) = Unit {0}
+abbrev pub ReportsKind : ErrorKind → ChooseFault → Type 0
+ReportsKind kind (Help text) = (kind ≡ DisplayHelp) ⊎ (kind ≡ DisplayVersion)
+ReportsKind kind (Refused text) = (kind ≢ DisplayHelp) × (kind ≢ DisplayVersion) × (kind ≢ OutOfMemory)
+ReportsKind kind (Memory refused) = Unit {0}

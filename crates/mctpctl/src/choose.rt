@@ -4,7 +4,7 @@ ghost use Rattle.std.specs.Prelude.{◌≡◌, IfOk, IfErr, Some, false, map, op
 ghost use Rattle.mctp_packet.specs.Memories.{out_of_memory};
 ghost use Rattle.clap.specs.Words.{app_of, first_of, found_of, kind_of, rows_of, rule_of, subcommand_rows_of};
 ghost use Rattle.mctpctl.specs.FaultNumbers.{number_of_choose_fault};
-ghost use Rattle.mctpctl.specs.Choice.{asked, choice_in as the_choice, choice_of, command as the_command, device_command as the_device_command, file_option as the_file_option, flag as the_flag, has_globals, is_given, program as the_program, serve_subcommand as the_serve_subcommand, served, service_in, task_named, text_command as the_text_command, text_subcommand as the_text_subcommand, text_task_in, TellsKind, TellsRefusal};
+ghost use Rattle.mctpctl.specs.Choice.{asked, choice_in as the_choice, choice_of, command as the_command, device_command as the_device_command, file_option as the_file_option, flag as the_flag, has_globals, is_given, program as the_program, serve_subcommand as the_serve_subcommand, served, service_in, task_named, text_command as the_text_command, text_subcommand as the_text_subcommand, text_task_in, ReportsKind, ReportsRefusal};
 
 use crate::help::{
     ANSWER, DECODE, DEVICE, EXPLAIN, LOG, RUN, SERVE, SHOW, STATUSES, VERBOSE, VERSION,
@@ -97,7 +97,7 @@ impl ChooseFault {
 /// What a command line asks for, the program's name first.
 pub fn choose<'a>(alloc: Global, words: &'a [&'a str]) -> Result<Choice<'a>, ChooseFault>
     ensures ok { IfOk result (λ choice. choice_of (map (λ word. word.now) words.now) ≡ Some (asked choice)) }
-    ensures err { IfErr result (TellsRefusal (map (λ word. word.now) words.now)) }
+    ensures err { IfErr result (ReportsRefusal (map (λ word. word.now) words.now)) }
 {
     let command = command(alloc)?;
     match command.try_get_matches_from(words) {
@@ -273,7 +273,7 @@ fn named(name: &str) -> Option<Task>
 
 /// What `clap`'s error comes to.
 fn refusal(alloc: Global, error: &clap::Error) -> ChooseFault
-    ensures { TellsKind (kind_of error.now) result }
+    ensures { ReportsKind (kind_of error.now) result }
 {
     let kind = error.kind();
     if kind == ErrorKind::OutOfMemory {

@@ -1,7 +1,7 @@
 //! The description of a device, in a file.
 
 ghost use Rattle.mctpctl.specs.ServedTexts.{served_of};
-ghost use Rattle.mctpctl_engines.specs.DescribedPieces.{Tells};
+ghost use Rattle.mctpctl_engines.specs.DescribedPieces.{IsReturned};
 
 use mctpctl_engines::read_description;
 use mctpctl_input::{DescriptionFault, EngineFault, MAX_DESCRIPTION};
@@ -22,7 +22,7 @@ pub fn device_text(rt: &HostRuntime, name: &str) -> io::Result<Vec<u8>> {
 /// The device that a text describes, and what the text says of its control messages; else the first fault, as
 /// [`read_description`] has it.
 pub fn read_served(alloc: Global, text: &[u8]) -> Result<(Description, ControlTable), EngineFault>
-    ensures { Tells (served_of text.now) result }
+    ensures { IsReturned (served_of text.now) result }
 {
     let description = read_description(alloc, text)?;
     match ControlTable::read(alloc, text) {

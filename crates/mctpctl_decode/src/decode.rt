@@ -4,7 +4,7 @@ ghost use Rattle.std.specs.Prelude.{◌≡◌, ◌++◌, OnOk, false};
 ghost use Rattle.mctpctl_decode.specs.DecodedLines.{decoded_line};
 ghost use Rattle.mctpctl_engines.specs.ShowText.{seen_run, show_text};
 ghost use Rattle.mctpctl_input.specs.Ports.{has_failed};
-ghost use Rattle.mctpctl_input.specs.WholeRuns.{TellsFailed, WritesAll, WritesFront, WritesRead};
+ghost use Rattle.mctpctl_input.specs.WholeRuns.{ReportsFailed, WritesAll, WritesFront, WritesRead};
 
 use crate::message_line::push_decoded_line;
 use mctp_packet::Memory;
@@ -42,8 +42,8 @@ pub fn decode_all<R: Read, W: Write>(
         writer.new result }
     ensures at_memory { WritesFront R.remaining W.contents (seen_run decoded_line) reader.old writer.old writer.new
         result }
-    ensures read { TellsFailed EngineFault.Read result reader.new }
-    ensures write { TellsFailed EngineFault.Write result writer.new }
+    ensures read { ReportsFailed EngineFault.Read result reader.new }
+    ensures write { ReportsFailed EngineFault.Write result writer.new }
 {
     show_as(alloc, ByName, reader, writer)
 }

@@ -60,9 +60,9 @@ abbrev pub begun : List ℕ → Result Description EngineFault
 begun text = if nat_lt MAX_DESCRIPTION (length text) then Err faults.TooLarge else device_begun (stated text)
 
 -- the result is the value or the fault that there is; memory may run out at any input
-abbrev pub Tells : {T : Type 0} → Result T EngineFault → Result T EngineFault → Type 0
-Tells owed (Ok value) = owed ≡ Ok value
-Tells owed (Err fault) = (fault ≡ no_memory) ⊎ ((fault ≢ no_memory) × (owed ≡ Err fault))
+abbrev pub IsReturned : {T : Type 0} → Result T EngineFault → Result T EngineFault → Type 0
+IsReturned owed (Ok value) = owed ≡ Ok value
+IsReturned owed (Err fault) = (fault ≡ no_memory) ⊎ ((fault ≢ no_memory) × (owed ≡ Err fault))
 
 -- what is begun is held as by a new responder of the described device
 abbrev pub Begins : {T : Type 0} → (T → Held Device) → List ℕ → Result T EngineFault → Type 0

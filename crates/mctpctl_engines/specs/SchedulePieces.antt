@@ -21,9 +21,9 @@ abbrev pub schedule_gives : List ℕ → Gives
 schedule_gives kept = λ is_cut bytes. run_of scheduled_run is_cut (kept ++ bytes)
 
 -- the text of a run that has no fault, or its fault, before which there is no text
-abbrev pub TellsText : {T : Type 0} → (T → List ℕ) → Written → Result T EngineFault → Type 0
-TellsText bytes written (Ok text) = (written.fault ≡ None) × (written.text ≡ bytes text)
-TellsText bytes written (Err fault) = (fault ≡ no_memory) ⊎ ((fault ≢ no_memory) × (written ≡ stops_at fault))
+abbrev pub ReportsText : {T : Type 0} → (T → List ℕ) → Written → Result T EngineFault → Type 0
+ReportsText bytes written (Ok text) = (written.fault ≡ None) × (written.text ≡ bytes text)
+ReportsText bytes written (Err fault) = (fault ≡ no_memory) ⊎ ((fault ≢ no_memory) × (written ≡ stops_at fault))
 
 -- the text of a schedule and what came of it
 abbrev pub text_of_ran : Ran → List ℕ

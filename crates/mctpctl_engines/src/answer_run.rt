@@ -13,7 +13,7 @@ ghost use Rattle.pldm_responder.specs.Stations.{held_of};
 ghost use Rattle.pldm_responder.specs.Held.{Held};
 ghost use Rattle.pldm_device.specs.Devices.{Device};
 ghost use Rattle.mctpctl_engines.specs.AnswerText.{answer_text, called_run, run_of};
-ghost use Rattle.mctpctl_input.specs.WholeRuns.{TellsFailed, WritesAll, WritesFront, WritesRead};
+ghost use Rattle.mctpctl_input.specs.WholeRuns.{ReportsFailed, WritesAll, WritesFront, WritesRead};
 
 use crate::described::read_description;
 use crate::line_run::{LineRoom, LineRun, LineTask};
@@ -240,7 +240,7 @@ impl Run for AnswerRun {
         ensures meets { FinishesTo (answer_gives self.old is_cut []) (W.contents (inner_of writer.old))
             (W.contents (inner_of writer.new)) result }
         ensures read { result ≢ Err EngineFault.Read }
-        ensures write { TellsFailed EngineFault.Write result writer.new }
+        ensures write { ReportsFailed EngineFault.Write result writer.new }
     {
         match &mut self.lines {
             Some(lines) => lines.finish(alloc, is_cut, out, writer),
@@ -275,8 +275,8 @@ pub fn answer_all<R: Read, W: Write>(
     ensures at_read { WritesRead R.remaining W.contents (run_of called_run) reader.old reader.new writer.old writer.new
         result }
     ensures at_memory { WritesFront R.remaining W.contents (run_of called_run) reader.old writer.old writer.new result }
-    ensures read { TellsFailed EngineFault.Read result reader.new }
-    ensures write { TellsFailed EngineFault.Write result writer.new }
+    ensures read { ReportsFailed EngineFault.Read result reader.new }
+    ensures write { ReportsFailed EngineFault.Write result writer.new }
 {
     laws::looks_back::<SimDevice>();
     let mut run = AnswerRun::new(alloc);

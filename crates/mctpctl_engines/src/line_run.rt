@@ -6,7 +6,7 @@ ghost use Rattle.mctpctl_input.specs.declared.faults.LineKind.{LineKind};
 ghost use Rattle.mctpctl_engines.specs.LinePieces.{RefusesLong, run_gives, AddsLine};
 ghost use Rattle.mctpctl_input.specs.Pieces.{Takes, Finishes, FinishesTo};
 ghost use Rattle.mctpctl_input.specs.Ports.{inner_of, has_failed};
-ghost use Rattle.mctpctl_input.specs.WholeRuns.{TellsFailed};
+ghost use Rattle.mctpctl_input.specs.WholeRuns.{ReportsFailed};
 
 use line_words::split_line;
 use mctp_packet::Body;
@@ -204,7 +204,7 @@ impl<T: LineTask> Run for LineRun<T> {
         ensures meets { FinishesTo (run_gives T.step T.state_of self.old is_cut [])
             (W.contents (inner_of writer.old)) (W.contents (inner_of writer.new)) result }
         ensures read { result ≢ Err EngineFault.Read }
-        ensures write { TellsFailed EngineFault.Write result writer.new }
+        ensures write { ReportsFailed EngineFault.Write result writer.new }
     {
         let result = self.end_input(alloc, is_cut, out);
         if writer.write_all(out).is_err() {

@@ -9,10 +9,10 @@ ghost use Rattle.mctpctl_engines.specs.DescribedPieces.{begun};
 ghost use Rattle.mctpctl_input.specs.Pieces.{Takes, FinishesTo};
 ghost use Rattle.mctpctl_input.specs.Ports.{inner_of, has_failed};
 ghost use Rattle.mctpctl_engines.specs.RunText.{schedule_written, scheduled_run, spelled_by, stop_of_line, stop_of_run, run_text};
-ghost use Rattle.mctpctl_engines.specs.SchedulePieces.{TellsText, nothing_where_cut, schedule_gives, text_of_ran};
+ghost use Rattle.mctpctl_engines.specs.SchedulePieces.{ReportsText, nothing_where_cut, schedule_gives, text_of_ran};
 ghost use Rattle.mctpctl_input.specs.TextLines.{capture_lines, description_of};
 ghost use Rattle.mctpctl_input.specs.LineRuns.{no_memory};
-ghost use Rattle.mctpctl_input.specs.WholeRuns.{TellsFailed, WritesAll};
+ghost use Rattle.mctpctl_input.specs.WholeRuns.{ReportsFailed, WritesAll};
 
 use crate::described::read_description;
 use line_words::split_line;
@@ -115,7 +115,7 @@ fn run_schedule(
     description: Description,
     schedule: &[u8],
 ) -> Result<Ran, EngineFault>
-    ensures meets { TellsText text_of_ran (schedule_written description (schedule_of schedule.now)) result }
+    ensures meets { ReportsText text_of_ran (schedule_written description (schedule_of schedule.now)) result }
     ensures read { result ≢ Err EngineFault.Read }
     ensures write { result ≢ Err EngineFault.Write }
 {
@@ -134,7 +134,7 @@ fn run_schedule(
 
 /// Runs all of an input, of which there is more where it is cut off.
 fn run_input(alloc: Global, text: &[u8], is_cut: bool) -> Result<Ran, EngineFault>
-    ensures meets { TellsText text_of_ran (run_of scheduled_run is_cut text.now) result }
+    ensures meets { ReportsText text_of_ran (run_of scheduled_run is_cut text.now) result }
     ensures read { result ≢ Err EngineFault.Read }
     ensures write { result ≢ Err EngineFault.Write }
 {
@@ -156,12 +156,12 @@ fn run_input(alloc: Global, text: &[u8], is_cut: bool) -> Result<Ran, EngineFaul
 }
 
 /// Writes the text of a run, part by part, which takes no memory.
-fn tell<W: Write>(writer: &mut Port<W>, ran: &Ran) -> Result<(), EngineFault>
+fn write_ran<W: Write>(writer: &mut Port<W>, ran: &Ran) -> Result<(), EngineFault>
     requires { has_failed writer.old ≡ false }
     ensures text { OnOk result (Appends (W.contents (inner_of writer.old)) (W.contents (inner_of writer.new))
         (text_of_ran ran.now)) }
     ensures fault { IfErr result (λ fault. fault ≡ EngineFault.Write) }
-    ensures write { TellsFailed EngineFault.Write result writer.new }
+    ensures write { ReportsFailed EngineFault.Write result writer.new }
 {
     let steps = ran.schedule.steps();
     match write_report(writer, steps, &ran.report) {
@@ -202,10 +202,10 @@ impl Run for ScheduleRun {
         ensures meets { FinishesTo (schedule_gives self.old.kept.items is_cut []) (W.contents (inner_of writer.old))
             (W.contents (inner_of writer.new)) result }
         ensures read { result ≢ Err EngineFault.Read }
-        ensures write { TellsFailed EngineFault.Write result writer.new }
+        ensures write { ReportsFailed EngineFault.Write result writer.new }
     {
         match run_input(alloc, &self.kept, is_cut) {
-            Ok(ran) => tell(writer, &ran),
+            Ok(ran) => write_ran(writer, &ran),
             Err(fault) => Err(fault),
         }
     }
@@ -235,8 +235,8 @@ pub fn run_all<R: Read, W: Write>(
         → Keeps (W.contents (inner_of writer.old)) (W.contents (inner_of writer.new)) }
     ensures at_memory { IsErrOf result no_memory
         → Keeps (W.contents (inner_of writer.old)) (W.contents (inner_of writer.new)) }
-    ensures read { TellsFailed EngineFault.Read result reader.new }
-    ensures write { TellsFailed EngineFault.Write result writer.new }
+    ensures read { ReportsFailed EngineFault.Read result reader.new }
+    ensures write { ReportsFailed EngineFault.Write result writer.new }
 {
     let mut run = ScheduleRun::new(alloc);
     run_to_end(alloc, &mut run, reader, writer)

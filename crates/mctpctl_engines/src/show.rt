@@ -2,7 +2,7 @@
 
 ghost use Rattle.std.specs.Prelude.{◌≡◌, false};
 ghost use Rattle.mctpctl_input.specs.Ports.{has_failed};
-ghost use Rattle.mctpctl_input.specs.WholeRuns.{TellsFailed, WritesAll, WritesFront, WritesRead};
+ghost use Rattle.mctpctl_input.specs.WholeRuns.{ReportsFailed, WritesAll, WritesFront, WritesRead};
 ghost use Rattle.mctpctl_engines.specs.ShowText.{seen_run, show_text};
 ghost use Rattle.mctpctl_texts.specs.ShownLines.{message_line};
 
@@ -37,8 +37,8 @@ pub fn show_all<R: Read, W: Write>(
         writer.new result }
     ensures at_memory { WritesFront R.remaining W.contents (seen_run message_line) reader.old writer.old writer.new
         result }
-    ensures read { TellsFailed EngineFault.Read result reader.new }
-    ensures write { TellsFailed EngineFault.Write result writer.new }
+    ensures read { ReportsFailed EngineFault.Read result reader.new }
+    ensures write { ReportsFailed EngineFault.Write result writer.new }
 {
     show_as(alloc, InHex, reader, writer)
 }
@@ -56,8 +56,8 @@ pub fn show_as<F: MessageForm + Drop, R: Read, W: Write>(
     ensures at_read { WritesRead R.remaining W.contents (seen_run F.line) reader.old reader.new writer.old writer.new
         result }
     ensures at_memory { WritesFront R.remaining W.contents (seen_run F.line) reader.old writer.old writer.new result }
-    ensures read { TellsFailed EngineFault.Read result reader.new }
-    ensures write { TellsFailed EngineFault.Write result writer.new }
+    ensures read { ReportsFailed EngineFault.Read result reader.new }
+    ensures write { ReportsFailed EngineFault.Write result writer.new }
 {
     laws::looks_back();
     let mut run = LineRun::new(alloc, Observer::new(alloc, form));

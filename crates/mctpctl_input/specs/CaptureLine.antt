@@ -60,9 +60,9 @@ packet_in Skipped bytes = None
 packet_in (Packet moment) bytes = Some (record { moment = moment; bytes = bytes })
 
 -- a fault of the line is the one that it has; memory may be wanting at any line
-abbrev pub TellsFault : Result (Option TimedPacket) LineKind → CaptureFault → Type 0
-TellsFault said (Line kind) = said ≡ Err kind
-TellsFault said (Memory refused) = Unit {0}
+abbrev pub ReportsFault : Result (Option TimedPacket) LineKind → CaptureFault → Type 0
+ReportsFault said (Line kind) = said ≡ Err kind
+ReportsFault said (Memory refused) = Unit {0}
 
 -- the moment of a packet is in its range, and not before the last one
 abbrev pub IsInTime : ℕ → Option TimedPacket → Type 0
@@ -72,5 +72,5 @@ IsInTime last packet = IfSome packet (λ timed. (last ≤ timed.moment) × (time
 pub record ReadsLine (said : Result (Option TimedPacket) LineKind) (last : ℕ) (bytes : List ℕ)
     (result : Result CaptureLine CaptureFault) : Type 0 where
   pub ok : IfOk result (λ read. said ≡ Ok (packet_in read bytes))
-  pub err : IfErr result (λ fault. TellsFault said fault)
+  pub err : IfErr result (λ fault. ReportsFault said fault)
   pub moment : IfOk result (λ read. IsInTime last (packet_in read bytes))

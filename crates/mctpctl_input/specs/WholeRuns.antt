@@ -13,8 +13,8 @@ abbrev pub whole_text : Gives → List ℕ → Written
 whole_text gives all = gives (nat_lt MAX_INPUT (length all)) (take MAX_INPUT all)
 
 -- what is told of a port that fails: this fault is the result exactly where it has failed
-abbrev pub TellsFailed : {T : Type 0} → EngineFault → Result Unit EngineFault → Port T → Type 0
-TellsFailed fault result port = IsErrOf result fault ↔ (has_failed port ≡ true)
+abbrev pub ReportsFailed : {T : Type 0} → EngineFault → Result Unit EngineFault → Port T → Type 0
+ReportsFailed fault result port = IsErrOf result fault ↔ (has_failed port ≡ true)
 
 module _ {R W : Type 0} (remaining : R → Option (List ℕ)) (contents : W → Option (List ℕ)) where
   -- the text of all that the reader had is written, or its fault told
@@ -43,5 +43,5 @@ pub record RunsOver {R W : Type 0} (remaining : R → Option (List ℕ)) (conten
   pub text : WritesAll remaining contents (whole_text gives) reader before after result
   pub at_read : WritesRead remaining contents gives reader left before after result
   pub at_memory : WritesFront remaining contents gives reader before after result
-  pub read : TellsFailed Read result left
-  pub write : TellsFailed Write result after
+  pub read : ReportsFailed Read result left
+  pub write : ReportsFailed Write result after

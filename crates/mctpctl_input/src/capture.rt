@@ -3,7 +3,7 @@
 ghost use Rattle.std.specs.Prelude.{◌≡◌, ◌≤◌, ℕ, MatchResult, drop, Ok, Err, IfOk, IfErr, OnOk, true};
 ghost use Rattle.line_words.specs.Lines.{words_of};
 ghost use Rattle.mctp_packet.specs.Memories.{out_of_memory};
-ghost use Rattle.mctpctl_input.specs.CaptureLine.{IsInTime, ReadsLine, capture_of, packet_in, packet_at, packet_word, timed_packet, moment_of, TellsFault};
+ghost use Rattle.mctpctl_input.specs.CaptureLine.{IsInTime, ReadsLine, capture_of, packet_in, packet_at, packet_word, timed_packet, moment_of, ReportsFault};
 ghost use Rattle.hex.specs.Hex.{decode_of};
 
 use crate::faults::LineKind;
@@ -57,7 +57,7 @@ pub fn read_capture_line(
     packet: &mut Vec<u8>,
 ) -> Result<CaptureLine, CaptureFault>
     ensures ok { IfOk result (λ read. capture_of line.now last ≡ Ok (packet_in read packet.new.items)) }
-    ensures err { IfErr result (λ fault. TellsFault (capture_of line.now last) fault) }
+    ensures err { IfErr result (λ fault. ReportsFault (capture_of line.now last) fault) }
     ensures moment { IfOk result (λ read. IsInTime last (packet_in read packet.new.items)) }
 {
     if line.len() > MAX_CAPTURE_LINE {
@@ -138,7 +138,7 @@ fn read_packet_word(text: &[u8]) -> Result<&[u8], LineKind>
 /// Puts the bytes that hex digits of either case spell into `packet`.
 fn read_hex(digits: &[u8], packet: &mut Vec<u8>) -> Result<(), CaptureFault>
     ensures ok { OnOk result (decode_of digits.now ≡ Ok packet.new.items) }
-    ensures err { IfErr result (λ fault. (moment : ℕ) → TellsFault (packet_at moment (decode_of digits.now)) fault) }
+    ensures err { IfErr result (λ fault. (moment : ℕ) → ReportsFault (packet_at moment (decode_of digits.now)) fault) }
 {
     packet.resize(digits.len() / 2, 0)?;
     match hex::decode_to_slice(digits, packet.as_mut_slice()) {

@@ -5,7 +5,7 @@ ghost use Rattle.std.specs.Prelude.{◌≡◌, ◌≢◌, ◌≤◌, ◌<◌, �
 ghost use Rattle.mctpctl_input.specs.LineRuns.{Written};
 ghost use Rattle.mctpctl_input.specs.Pieces.{Takes, TakesTo, FinishesTo};
 ghost use Rattle.mctpctl_input.specs.Ports.{inner_of, has_failed};
-ghost use Rattle.mctpctl_input.specs.WholeRuns.{RunsOver, TellsFailed, WritesAll, WritesFront, WritesRead, whole_text};
+ghost use Rattle.mctpctl_input.specs.WholeRuns.{RunsOver, ReportsFailed, WritesAll, WritesFront, WritesRead, whole_text};
 
 use crate::faults::EngineFault;
 use crate::limits::MAX_INPUT;
@@ -50,7 +50,7 @@ pub trait Run {
         ensures meets { FinishesTo (gives self.old is_cut []) (W.contents (inner_of writer.old))
             (W.contents (inner_of writer.new)) result }
         ensures read { result ≢ Err EngineFault.Read }
-        ensures write { TellsFailed EngineFault.Write result writer.new };
+        ensures write { ReportsFailed EngineFault.Write result writer.new };
 
     ghost none_where_cut: { (run : Self) → (gives run true []).text ≡ [] };
 }
@@ -78,7 +78,7 @@ fn take_piece<T: Run, W: Write>(
     ensures counted { T.counted run.new ≤ T.counted run.old + length piece.now }
     ensures empty { OnOk result (out.new.items ≡ []) }
     ensures read { result ≢ Err EngineFault.Read }
-    ensures write { TellsFailed EngineFault.Write result writer.new }
+    ensures write { ReportsFailed EngineFault.Write result writer.new }
 {
     let result = run.take(alloc, piece, out);
     if writer.write_all(out).is_err() {
@@ -157,8 +157,8 @@ pub fn run_to_end<T: Run, R: Read, W: Write>(
     ensures at_read { WritesRead R.remaining W.contents (T.gives run.old) reader.old reader.new writer.old writer.new
         result }
     ensures at_memory { WritesFront R.remaining W.contents (T.gives run.old) reader.old writer.old writer.new result }
-    ensures read { TellsFailed EngineFault.Read result reader.new }
-    ensures write { TellsFailed EngineFault.Write result writer.new }
+    ensures read { ReportsFailed EngineFault.Read result reader.new }
+    ensures write { ReportsFailed EngineFault.Write result writer.new }
 {
     let result = run_input(alloc, run, reader, writer);
     if reader.failed() || writer.failed() {

@@ -4,8 +4,8 @@ use Rattle.std.specs.Io.KnownBytes.{Appends, Consumes, Keeps, IsAtEnd}
 use Rattle.std.proofs.KnownBytes.{Appends-kept, Appends-trans, Appends-nil, Consumes-trans, Consumes-nil, Consumes-whole}
 use Rattle.mctp_control.specs.declared.endpoint.Endpoint.{Endpoint}
 use Rattle.mctp_serial.specs.Readings.{Reading, Step, step, after, told_by, then_told}
-use Rattle.mctp_serial.specs.declared.reader.Told.{Told}
-use Rattle.mctp_serial.specs.declared.reader.Told.TheVariants.{Nothing, Packet, Dropped}
+use Rattle.mctp_serial.specs.declared.reader.FrameEvent.{FrameEvent}
+use Rattle.mctp_serial.specs.declared.reader.FrameEvent.TheVariants.{Nothing, Packet, Dropped}
 use Rattle.mctpctl_input.specs.CaptureLine.{TimedPacket}
 use Rattle.mctpctl_serve.specs.Serving.{packets_told, packets_in, moment_after, timed, Answerers, answerers, packet_frames, packet_after, packets_after, control_after, frames_of, answers, came, Hears, HearsFront}
 use Rattle.pldm_responder.specs.Held.{Held}
@@ -13,12 +13,12 @@ use Rattle.pldm_responder.specs.Performing.{Rules}
 use Rattle.pldm_responder.specs.Steps.{received_held, received_outcome}
 
 -- the packet of one word, if it tells one
-packet_of : Told → List (List ℕ)
+packet_of : FrameEvent → List (List ℕ)
 packet_of Nothing = []
 packet_of (Packet packet) = packet.items ∷ []
 packet_of (Dropped fault) = []
 
-packets-then : (t : Told) (told : List Told) → packets_told (then_told t told) ≡ packet_of t ++ packets_told told
+packets-then : (t : FrameEvent) (told : List FrameEvent) → packets_told (then_told t told) ≡ packet_of t ++ packets_told told
 unfolding packet_of
 packets-then Nothing told = refl
 packets-then (Packet packet) told = refl
@@ -103,7 +103,7 @@ module _ {S : Type 0} (device : Rules S) where
       (subst (λ h. Hears device h (after r xs) ys a2 r2 c1 c2 w1 w2) f.answer (subst (λ s. Hears device a1 s ys a2 r2 c1 c2 w1 w2) f.reader g))
 
   -- a byte that tells no packet
-  pub hears_silent : (a : Answerers S) (r : Reading) (byte : ℕ) (t : Told) (next : Reading) (clock old : Option (List ℕ))
+  pub hears_silent : (a : Answerers S) (r : Reading) (byte : ℕ) (t : FrameEvent) (next : Reading) (clock old : Option (List ℕ))
       → step r byte ≡ record { told = t; next = next } → packets_told (then_told t []) ≡ []
       → Hears device a r (byte ∷ []) a next clock clock old old
   hears_silent a r byte t next clock old e silent = record {

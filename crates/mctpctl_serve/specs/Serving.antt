@@ -8,8 +8,8 @@ use Rattle.mctp_control.specs.declared.endpoint.Endpoint.{Endpoint}
 use Rattle.mctp_packet.specs.declared.TheConstants.{MAX_MOMENT}
 use Rattle.mctp_serial.specs.Frames.{frame}
 use Rattle.mctp_serial.specs.Readings.{Reading, after, told_by}
-use Rattle.mctp_serial.specs.declared.reader.Told.{Told}
-use Rattle.mctp_serial.specs.declared.reader.Told.TheVariants.{Nothing, Packet, Dropped}
+use Rattle.mctp_serial.specs.declared.reader.FrameEvent.{FrameEvent}
+use Rattle.mctp_serial.specs.declared.reader.FrameEvent.TheVariants.{Nothing, Packet, Dropped}
 use Rattle.mctpctl_input.specs.CaptureLine.{TimedPacket}
 use Rattle.pldm_responder.specs.Held.{Held}
 use Rattle.pldm_responder.specs.Performing.{Rules}
@@ -18,7 +18,7 @@ use Rattle.pldm_responder.specs.declared.outcome.Outcome.{Outcome}
 use Rattle.pldm_responder.specs.declared.outcome.Outcome.TheVariants as outcome
 
 -- the packets of what was told
-abbrev pub packets_told : List Told → List (List ℕ)
+abbrev pub packets_told : List FrameEvent → List (List ℕ)
 packets_told [] = []
 packets_told (Nothing ∷ told) = packets_told told
 packets_told (Packet packet ∷ told) = packet.items ∷ packets_told told

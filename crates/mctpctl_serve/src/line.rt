@@ -20,7 +20,7 @@ use crate::fault::ServeFault;
 use crate::ticks::Ticks;
 use mctp_control::Endpoint;
 use mctp_packet::{Body, MAX_MOMENT, Moment, Reason};
-use mctp_serial::{FrameReader, Told, frame};
+use mctp_serial::{FrameReader, FrameEvent, frame};
 use mctpctl_input::Port;
 use pldm_platform::Platform;
 use pldm_responder::{Responder, MessageOutcome};
@@ -170,9 +170,9 @@ fn hear_byte<P: Platform, C: Ticks, L: Watch, W: Write>(
     ensures write { IsErrOf result ServeFault.Write ↔ (has_failed writer.new ≡ true) }
 {
     match line.frames.take(byte) {
-        Told::Nothing => Ok(()),
-        Told::Packet(packet) => hear_packet(line, &packet, reply, writer),
-        Told::Dropped(fault) => {
+        FrameEvent::Nothing => Ok(()),
+        FrameEvent::Packet(packet) => hear_packet(line, &packet, reply, writer),
+        FrameEvent::Dropped(fault) => {
             line.watch.saw(&Event::NoFrame(fault));
             Ok(())
         }

@@ -73,11 +73,11 @@ fn write_request_line<O: TextWriter>(
     write_text(out, " from ")?;
     write_number(out, request.requester().get().into())?;
     write_text(out, " ")?;
-    write_standing(out, request.status())?;
+    write_status(out, request.status())?;
     write_text(out, "\n")
 }
 
-fn write_standing<O: TextWriter>(out: &mut O, status: Status<'_>) -> Result<(), O::Refusal>
+fn write_status<O: TextWriter>(out: &mut O, status: Status<'_>) -> Result<(), O::Refusal>
     ensures { Wrote O.contents O.failed O.refused out.old out.new
         (standing_text (standing_told status.entry)) result }
 {

@@ -124,9 +124,9 @@ ReportsOpening (Ok opened) r = ReportsOpened opened r ⊎ (r.refusal ≡ NO_MEMO
 ReportsOpening (Err number) r = r.refusal ≡ number
 
 -- only the first requests want memory
-abbrev pub MayWantRoom : ℕ → Option Held → Type 0
-MayWantRoom most None = ⊥
-MayWantRoom most (Some held) = held.count < most
+abbrev pub MayNeedRoom : ℕ → Option Held → Type 0
+MayNeedRoom most None = ⊥
+MayNeedRoom most (Some held) = held.count < most
 
 abbrev pub with_opened : ℕ → Option Command → Held → Held
 with_opened now None held = held

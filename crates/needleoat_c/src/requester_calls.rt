@@ -2,7 +2,7 @@
 
 ghost use Rattle.std.specs.Prelude.{◌≡◌, ◌≢◌, ◌⊎◌, false, true};
 ghost use Rattle.needleoat_forms.specs.Written.{IsWritten};
-ghost use Rattle.needleoat_c.specs.Requesters.{HoldsAfter, IsNew, IsSetup, IsUpheld, MayWantRoom, ReportsDue, ReportsOpening, ReportsPacket, ReportsStanding, holding, opened_by, opening_at, packet_of, received_by, refusal_at, standing_of, ticked_by, timing, unchanged};
+ghost use Rattle.needleoat_c.specs.Requesters.{HoldsAfter, IsNew, IsSetup, IsUpheld, MayNeedRoom, ReportsDue, ReportsOpening, ReportsPacket, ReportsStanding, holding, opened_by, opening_at, packet_of, received_by, refusal_at, standing_of, ticked_by, timing, unchanged};
 
 use crate::refusals::{ALREADY_THERE, NO_MEMORY, NOTHING_THERE, OUT_OF_RANGE};
 use crate::reports::{DueReport, OpeningReport, PacketReport, StatusReport};
@@ -73,7 +73,7 @@ pub extern "C" fn needleoat_requester_open(
     requires { IsUpheld requester.old }
     ensures upheld { IsUpheld requester.new }
     ensures report { ReportsOpening (opening_at now_ms request.now (holding requester.old.handle.held)) result }
-    ensures memory { result.refusal ≡ NO_MEMORY → MayWantRoom MAX_REMEMBERED (holding requester.old.handle.held) }
+    ensures memory { result.refusal ≡ NO_MEMORY → MayNeedRoom MAX_REMEMBERED (holding requester.old.handle.held) }
     ensures held { HoldsAfter (opened_by now_ms request.now result.refusal)
         requester.old.handle.held requester.new.handle.held }
 {

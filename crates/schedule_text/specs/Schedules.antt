@@ -105,12 +105,12 @@ unfoldable pub schedule_of : List ℕ → Result Spelled LineFault
 schedule_of text = spelled_from 1 none_spelled (lines_of text)
 
 -- a fault is the first one of the text; memory may be wanting at any line
-abbrev pub TellsFault : Result Spelled LineFault → LineFault → Type 0
-TellsFault spelled fault = (fault.kind ≡ Memory out_of_memory) ⊎ (spelled ≡ Err fault)
+abbrev pub ReportsFault : Result Spelled LineFault → LineFault → Type 0
+ReportsFault spelled fault = (fault.kind ≡ Memory out_of_memory) ⊎ (spelled ≡ Err fault)
 
 -- the same of one line
-abbrev pub TellsKind : Result Spelled LineFaultKind → LineFaultKind → Type 0
-TellsKind spelled kind = (kind ≡ Memory out_of_memory) ⊎ (spelled ≡ Err kind)
+abbrev pub ReportsKind : Result Spelled LineFaultKind → LineFaultKind → Type 0
+ReportsKind spelled kind = (kind ≡ Memory out_of_memory) ⊎ (spelled ≡ Err kind)
 
 -- line n is one of these, and all lines before it are good, so that the first faulty one is not before it
 pub record IsReached (lines : List (List ℕ)) (n : ℕ) : Type 0 where

@@ -2,7 +2,7 @@
 
 ghost use Rattle.std.specs.Prelude.{◌≡◌, Ok, IfOk, IfErr, OnOk};
 ghost use Rattle.line_words.specs.TextLines.{lines_of};
-ghost use Rattle.schedule_text.specs.Schedules.{IsReached, IsSchedule, TellsFault, TellsKind, after_line, has_requester, is_known, last_moment, none_spelled, schedule_of, with_line, with_requester, with_step};
+ghost use Rattle.schedule_text.specs.Schedules.{IsReached, IsSchedule, ReportsFault, ReportsKind, after_line, has_requester, is_known, last_moment, none_spelled, schedule_of, with_line, with_requester, with_step};
 
 use crate::line::{Line, read_line};
 use crate::{Action, LineFault, LineFaultKind, RequesterLine, Step};
@@ -39,7 +39,7 @@ impl Schedule {
     /// all lines before are good.
     pub fn read(alloc: Global, text: &[u8]) -> Result<Schedule, LineFault>
         ensures ok { IfOk result (λ schedule. schedule_of text.now ≡ Ok schedule) }
-        ensures err { IfErr result (λ fault. TellsFault (schedule_of text.now) fault) }
+        ensures err { IfErr result (λ fault. ReportsFault (schedule_of text.now) fault) }
         ensures reached { IfErr result (λ fault. IsReached (lines_of text.now) fault.line) }
     {
         let mut schedule = Schedule::new(alloc);
@@ -83,7 +83,7 @@ impl Schedule {
     /// Adds what the line with this number says.
     fn add_numbered(&mut self, number: u64, line: &[u8]) -> Result<(), LineFault>
         ensures ok { OnOk result (after_line self.old line.now ≡ Ok self.new) }
-        ensures err { IfErr result (λ fault. (fault.line ≡ number) × TellsKind (after_line self.old line.now)
+        ensures err { IfErr result (λ fault. (fault.line ≡ number) × ReportsKind (after_line self.old line.now)
             fault.kind) }
     {
         match self.add_line(line) {
@@ -95,7 +95,7 @@ impl Schedule {
     /// Adds what a line says.
     fn add_line(&mut self, line: &[u8]) -> Result<(), LineFaultKind>
         ensures ok { OnOk result (after_line self.old line.now ≡ Ok self.new) }
-        ensures err { IfErr result (λ kind. TellsKind (after_line self.old line.now) kind) }
+        ensures err { IfErr result (λ kind. ReportsKind (after_line self.old line.now) kind) }
     {
         match read_line(line)? {
             Line::Nothing => Ok(()),
@@ -107,7 +107,7 @@ impl Schedule {
     /// Adds a requester, where none has its endpoint ID yet.
     fn add_requester(&mut self, line: RequesterLine) -> Result<(), LineFaultKind>
         ensures ok { OnOk result (with_requester self.old line ≡ Ok self.new) }
-        ensures err { IfErr result (λ kind. TellsKind (with_requester self.old line) kind) }
+        ensures err { IfErr result (λ kind. ReportsKind (with_requester self.old line) kind) }
     {
         if has_requester(&self.requesters, line.eid) {
             return Err(LineFaultKind::SameRequester);
@@ -119,7 +119,7 @@ impl Schedule {
     /// Adds a step, where its moment does not go back and its requester has a line.
     fn add_step(&mut self, step: Step) -> Result<(), LineFaultKind>
         ensures ok { OnOk result (with_step self.old step ≡ Ok self.new) }
-        ensures err { IfErr result (λ kind. TellsKind (with_step self.old step) kind) }
+        ensures err { IfErr result (λ kind. ReportsKind (with_step self.old step) kind) }
     {
         if step.moment.get() < last_moment(&self.steps) {
             return Err(LineFaultKind::BackInTime);

@@ -54,7 +54,7 @@ fn generic_completion_codes_have_their_numbers(rt: HostRuntime) {
 }
 
 #[test]
-fn values_that_no_reader_takes_are_not_made(rt: HostRuntime) {
+fn values_that_no_reader_accepts_are_not_made(rt: HostRuntime) {
     let beside = [
         (Size::Uint8, -1),
         (Size::Uint8, 256),

@@ -138,7 +138,7 @@ fn splits_messages(rt: HostRuntime) -> Result<(), Fail> {
 }
 
 #[test]
-fn want_of_memory_is_told(rt: HostRuntime) -> Result<(), Fail> {
+fn out_of_memory_is_returned(rt: HostRuntime) -> Result<(), Fail> {
     let text = Memory::from(AllocError).to_string(rt.alloc())?;
     assert_eq!(rt; text.as_str(), "out of memory");
     Ok(())

@@ -191,7 +191,7 @@ fn each_growth_of_an_answer_is_refused_in_turn(rt: HostRuntime) -> Result<(), Fa
 
 /// A device may number the packets of an answer from any number on.
 #[test]
-fn answer_that_is_numbered_from_three_is_taken(rt: HostRuntime) -> Result<(), Fail> {
+fn answer_that_is_numbered_from_three_is_accepted(rt: HostRuntime) -> Result<(), Fail> {
     let mut short = asked(&rt, rt.alloc())?;
     for (piece, flags, expected) in [
         (0, 0xb0, Got::Partial),

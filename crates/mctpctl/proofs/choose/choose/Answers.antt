@@ -9,7 +9,7 @@ use Rattle.clap.specs.declared.error.kind.ErrorKind.{ErrorKind}
 use Rattle.clap.specs.declared.error.kind.ErrorKind.TheVariants.{DisplayHelp, DisplayVersion, OutOfMemory}
 use Rattle.mctpctl.specs.Choice.{command as the_command}
 use Rattle.mctpctl.specs.Choice.{choice_in as the_choice}
-use Rattle.mctpctl.specs.Choice.{asked, choice_of, takes_line, Asked, TellsKind, TellsRefusal}
+use Rattle.mctpctl.specs.Choice.{asked, choice_of, takes_line, Asked, ReportsKind, ReportsRefusal}
 use Rattle.mctpctl.specs.declared.choose.ChooseFault.{ChooseFault}
 use Rattle.mctpctl.specs.declared.choose.ChooseFault.TheVariants.{Help, Refused, Memory}
 use Rattle.mctpctl.proofs.choose.choose.Goals as goal
@@ -25,7 +25,7 @@ only_kind : (kind only : ErrorKind) → IsAmong kind (only ∷ []) → kind ≡ 
 only_kind kind only (inl same) = same
 only_kind kind only (inr none) = absurd none
 
-refused : (words : List (List ℕ)) (error : Error) (fault : ChooseFault) → HasKind (fault_of the_command words) error → TellsKind (kind_of error) fault → TellsRefusal words fault
+refused : (words : List (List ℕ)) (error : Error) (fault : ChooseFault) → HasKind (fault_of the_command words) error → ReportsKind (kind_of error) fault → ReportsRefusal words fault
 refused words error (Help text) (inl memory) (inl help) = let same : DisplayHelp ≡ OutOfMemory = cc in cc
 refused words error (Help text) (inl memory) (inr version) = let same : DisplayVersion ≡ OutOfMemory = cc in cc
 refused words error (Help text) (inr among) (inl help) = (

@@ -1,7 +1,7 @@
 -- The byte that ends a packet's frame, or tells that there is none.
 use Rattle.std.proofs.Common.{◌≡◌, refl}
 use Rattle.mctp_serial.specs.Readings.{step}
-use Rattle.mctp_serial.specs.declared.reader.Told.TheVariants.{Packet, Dropped}
+use Rattle.mctp_serial.specs.declared.reader.FrameEvent.TheVariants.{Packet, Dropped}
 use Rattle.mctpctl_serve.proofs.Hearing.{hears_packet, hears_silent, on_ok}
 use Rattle.mctpctl_serve.specs.Serving.{answerers}
 use Rattle.pldm_responder.specs.Performing.{rules_of}

@@ -3,7 +3,7 @@ use Rattle.std.proofs.Common.{◌≡◌, None, Some, refl, subst, sym, ◌∙◌
 use Rattle.pldm_requester.specs.Slots.{held_of}
 use Rattle.std.specs.Prelude.{option_map}
 use Rattle.pldm_requester.specs.Steps.{IsHeld, Memo, arrived_by, got_at, passed, received_held}
-use Rattle.mctp_schedule.specs.Askers.{Side, TellsAnswer}
+use Rattle.mctp_schedule.specs.Askers.{Side, ReportsReply}
 use Rattle.mctp_schedule.proofs.AskerCalls.{answer_of_got, none_told, one_told, same_answer, standing_after}
 use Rattle.mctp_schedule.proofs.askers.Asker.receive.Goals as goal
 
@@ -21,7 +21,7 @@ returns-in_default c =
     let got = c.in_ok-got.ensures.got in
     subst (λ (s : Side). record {
       got : c.in_ok-got.got ≡ got_at (held_of s.station) c.args.bytes.now;
-      answered : TellsAnswer s.numbers (arrived_by (held_of s.station) (passed (held_of s.station) c.args.bytes.now)) None;
+      answered : ReportsReply s.numbers (arrived_by (held_of s.station) (passed (held_of s.station) c.args.bytes.now)) None;
       held : IsHeld (held_of c.receive.new.self) (received_held (held_of s.station) c.args.now c.args.bytes.now);
       numbers : c.self.inside.numbers.items ≡ s.numbers;
     }) c.self.view_is
@@ -38,7 +38,7 @@ returns-clause-answered c =
     let own = c.in-Answered.own in
     let answered = c.in_ok-answered.answered in
     let standing = option_map (λ (memo : Memo). memo.course.standing) ((held_of c.receive.new.self).remembered own) in
-    subst (λ (s : Side). TellsAnswer s.numbers (arrived_by (held_of s.station) (passed (held_of s.station) c.args.bytes.now)) (Some answered)) c.self.view_is
+    subst (λ (s : Side). ReportsReply s.numbers (arrived_by (held_of s.station) (passed (held_of s.station) c.args.bytes.now)) (Some answered)) c.self.view_is
     (one_told c.self.inside.numbers.items (arrived_by held (passed held c.args.bytes.now)) own answered (sym c.in_ok-got.ensures.got ∙ c.in-Answered.is) c.in_ok-answered.ensures.number
     (λ m e. same_answer standing answered.message m c.in_ok-answered.ensures.message (standing_after held (held_of c.receive.new.self) c.args.now c.args.bytes.now own m c.in_ok-got.ensures.held e)))
 

@@ -5,7 +5,7 @@ use Rattle.pldm_responder.specs.Performing.{rules_of}
 use Rattle.pldm_wire.specs.declared.command.Command.{Command}
 use Rattle.pldm_requester.specs.Slots.{held_of}
 use Rattle.pldm_requester.specs.Steps.{IsHeld, arrived_by, got_at, passed, received_held}
-use Rattle.mctp_schedule.specs.Askers.{Side, TellsAnswer}
+use Rattle.mctp_schedule.specs.Askers.{Side, ReportsReply}
 use Rattle.mctp_schedule.specs.Entries.{got_entry}
 use Rattle.mctp_schedule.specs.HandedPackets.{got_from}
 use Rattle.mctp_schedule.specs.Logs.{asked_at}
@@ -133,7 +133,7 @@ enter_received-requires g c =
     let received = c.in_ok-receive-in-Some-index_mut.ensures in
     let taken = c.in_ok-receive-in-Some-index_mut.field-0 in
     told_below setting (world setting past) (time_now past) f.q.source s.0 s.2 c.in-Some.bytes.now taken.answered (length c.args.self.now.journal.requests.items) (sym running.counted)
-    (subst (λ (x : Side). TellsAnswer x.numbers (arrived_by (held_of x.station) (passed (held_of x.station) c.in-Some.bytes.now)) taken.answered) same received.answered)
+    (subst (λ (x : Side). ReportsReply x.numbers (arrived_by (held_of x.station) (passed (held_of x.station) c.in-Some.bytes.now)) taken.answered) same received.answered)
 
 pub returns : goal.returns
 returns g c = record {
@@ -158,7 +158,7 @@ returns g c = record {
         same_numbers = received.numbers ∙ ap (λ (x : Side). x.numbers) same;
         new_held = subst (λ (x : Side). IsHeld (held_of c.receive.new.self.station) (received_held (held_of x.station) c.args.now c.in-Some.bytes.now)) same received.held;
         got_is = received.got ∙ ap (λ (x : Side). got_at (held_of x.station) c.in-Some.bytes.now) same;
-        tells = subst (λ (x : Side). TellsAnswer x.numbers (arrived_by (held_of x.station) (passed (held_of x.station) c.in-Some.bytes.now)) taken.answered) same received.answered;
+        tells = subst (λ (x : Side). ReportsReply x.numbers (arrived_by (held_of x.station) (passed (held_of x.station) c.in-Some.bytes.now)) taken.answered) same received.answered;
         time_is = ap (λ n. nat_le n c.number-own.result) before ∙ ap (nat_le (c.count.result - 8)) own ∙ tag_kept c.count.result f.q.own ∙ ap (λ n. nat_le n (f.q.own + 8)) count;
         requests = entered.requests;
         counted = entered.all;

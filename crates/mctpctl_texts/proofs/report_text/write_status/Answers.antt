@@ -3,7 +3,7 @@ use Rattle.std.proofs.Common.{◌≡◌, ◌++◌, codes, rules}
 use Rattle.hex.specs.Hex.{encode_lower}
 use Rattle.mctpctl_texts.specs.ReportTexts.{standing_text}
 use Rattle.mctpctl_texts.proofs.WrittenParts.{and_last, told_as}
-use Rattle.mctpctl_texts.proofs.report_text.write_standing.Goals as goal
+use Rattle.mctpctl_texts.proofs.report_text.write_status.Goals as goal
 use Rattle.pldm_requester.specs.Standings.{standing_told}
 
 pub returns-in_ok-write_text-in-Answered : goal.returns-in_ok-write_text-in-Answered
