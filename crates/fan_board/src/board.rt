@@ -1,6 +1,6 @@
 //! A board with two fans and a thermometer, behind a bus that fails now and then.
 
-ghost use Rattle.std.specs.Prelude.{◌≡◌, ℕ, ◌+◌, ◌-◌, ◌/◌, ◌==◌, ◌<◌, ◌≤◌, pos, count_by, IfOk, [], ◌∷◌};
+ghost use Rattle.std.specs.Prelude.{◌≡◌, ◌+◌, ◌-◌, ◌/◌, ◌==◌, ◌<◌, ◌≤◌, pos, count_by, IfOk, [], ◌∷◌};
 ghost use Rattle.pldm_wire.specs.Answers.{IsAnswerTo};
 ghost use Rattle.pldm_wire.specs.Commands.{kind_of};
 ghost use Rattle.pldm_wire.specs.Kinds.{of_type};

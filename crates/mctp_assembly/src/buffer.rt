@@ -1,4 +1,4 @@
-ghost use Rattle.std.specs.Prelude.{◌≡◌, ◌+◌, ◌≤◌, ◌++◌, length, Some, IfOk, OnOk, OnErr, false};
+ghost use Rattle.std.specs.Prelude.{◌≡◌, ◌+◌, ◌≤◌, ◌++◌, length, Some, false};
 ghost use Rattle.mctp_assembly.specs.Opened.{IsOpened};
 ghost use Rattle.mctp_assembly.specs.Fed.{fed_with};
 ghost use Rattle.mctp_assembly.specs.Steps.{answer_alone, answer_to, begun_by, carried_on};

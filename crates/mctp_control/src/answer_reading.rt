@@ -1,4 +1,4 @@
-ghost use Rattle.std.specs.Prelude.{◌≡◌, ℕ, Some, IfSome};
+ghost use Rattle.std.specs.Prelude.{◌≡◌, Some, IfSome};
 ghost use Rattle.mctp_control.specs.AnswerReading.{answer_of, endpoint_id_of, set_of, success_of, types_of, uuid_of, versions_of};
 ghost use Rattle.mctp_control.specs.Answers.{AnswerFields};
 ghost use Rattle.mctp_control.specs.declared.answer.Answer.{Answer as AnswerValue};

@@ -1,4 +1,4 @@
-ghost use Rattle.std.specs.Prelude.{◌≡◌, ℕ, Ok, IfOk};
+ghost use Rattle.std.specs.Prelude.{◌≡◌, Ok, IfOk};
 ghost use Rattle.mctp_control.specs.CommandReading.{command_of, of_length};
 ghost use Rattle.mctp_control.specs.Commands.{CommandFields};
 ghost use Rattle.mctp_control.specs.declared.command.Command.{Command as CommandValue};

@@ -1,4 +1,4 @@
-ghost use Rattle.std.specs.Prelude.{◌≡◌, ◌<◌, ◌∷◌, ◌++◌};
+ghost use Rattle.std.specs.Prelude.{◌≡◌, ◌<◌};
 ghost use Rattle.mctp_control.specs.Commands.{command_data};
 ghost use Rattle.mctp_control.specs.Written.{command_message};
 ghost use Rattle.mctp_control.specs.declared.assigned.TheConstants.{INSTANCE_IDS};

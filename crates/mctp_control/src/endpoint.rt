@@ -1,6 +1,6 @@
 //! What a simple endpoint answers.
 
-ghost use Rattle.std.specs.Prelude.{◌≡◌, ◌<◌, ◌∷◌, ◌++◌, Some, None, option_map, IfSome, length, slice_index, drop};
+ghost use Rattle.std.specs.Prelude.{◌≡◌, ◌<◌, Some, None, option_map, length};
 ghost use Rattle.mctp_control.specs.CommandReading.{command_of};
 ghost use Rattle.mctp_control.specs.Packets.{comes_to, eid_left, is_from, is_to, reply_to, request_in};
 ghost use Rattle.mctp_control.specs.Settings.{answer_to, assigned_answer, eid_after, eid_after_command, set_answer, eid_after_set, version_answer};

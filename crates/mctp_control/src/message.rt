@@ -1,6 +1,6 @@
 //! The messages that carry commands and answers.
 
-ghost use Rattle.std.specs.Prelude.{◌≡◌, ℕ, List, ◌<◌, Some, IfSome};
+ghost use Rattle.std.specs.Prelude.{◌≡◌, ◌<◌, Some, IfSome};
 ghost use Rattle.mctp_control.specs.Messages.{IsRequest, IsResponse, Request, Response, request_of, response_of};
 ghost use Rattle.mctp_control.specs.declared.assigned.TheConstants.{INSTANCE_IDS};
 

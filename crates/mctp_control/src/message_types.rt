@@ -1,4 +1,4 @@
-ghost use Rattle.std.specs.Prelude.{◌≡◌, ◌↔◌, ◌≤◌, nat_le, length, IsSome, IfSome, is_some};
+ghost use Rattle.std.specs.Prelude.{◌≡◌, ◌↔◌, nat_le, length, IsSome, IfSome, is_some};
 ghost use Rattle.mctp_control.specs.Lists.{IsTypes};
 ghost use Rattle.mctp_control.specs.declared.assigned.TheConstants.{MAX_MESSAGE_TYPES};
 

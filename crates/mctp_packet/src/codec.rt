@@ -1,4 +1,4 @@
-ghost use Rattle.std.specs.Prelude.{◌≡◌, ℕ, ◌+◌, ◌*◌, ◌%◌, ◌≤◌, List, ◌++◌, length, drop, Option, Some, None, Ok, IfOk, IfErr, IfSome, if◌then◌else◌};
+ghost use Rattle.std.specs.Prelude.{◌≡◌, ◌+◌, ◌*◌, ◌++◌, length, drop, Option, Some, None, Ok, IfOk, IfErr, IfSome, if◌then◌else◌};
 ghost use Rattle.mctp_packet.specs.Ids.{IsEid};
 ghost use Rattle.mctp_packet.specs.Packets.{Packet, Spells, IsFor, written, header};
 ghost use Rattle.mctp_packet.specs.Refusals.{refusal, is_destination, is_source};

@@ -1,6 +1,6 @@
 //! The numbers of a packet: endpoint IDs, message tags and packet sequence numbers (DSP0236).
 
-ghost use Rattle.std.specs.Prelude.{◌≡◌, ℕ, ◌≤◌, ◌↔◌, IsSome, IfSome};
+ghost use Rattle.std.specs.Prelude.{◌≡◌, ℕ, ◌↔◌, IsSome, IfSome};
 ghost use Rattle.mctp_packet.specs.Ids.{IsEid, IsTag, IsSeq};
 
 use crate::{MAX_EID, MIN_EID, SEQUENCE_NUMBERS, TAGS};

@@ -1,6 +1,6 @@
 //! Moments, and the time for which an answer is kept, both in milliseconds.
 
-ghost use Rattle.std.specs.Prelude.{◌≡◌, ℕ, ◌≤◌, ◌↔◌, IsSome, IfSome};
+ghost use Rattle.std.specs.Prelude.{◌≡◌, ℕ, ◌↔◌, IsSome, IfSome};
 ghost use Rattle.mctp_packet.specs.Ids.{IsMoment, IsKeep};
 
 use crate::{MAX_KEEP, MAX_MOMENT};

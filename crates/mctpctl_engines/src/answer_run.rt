@@ -7,8 +7,8 @@ ghost use Rattle.mctpctl_engines.specs.AnswerPieces.{answer_count, answer_gives,
 ghost use Rattle.mctpctl_engines.specs.LongLines.{held_refuses};
 ghost use Rattle.mctpctl_engines.specs.HeldRuns.{held_step};
 ghost use Rattle.mctpctl_engines.specs.LinePieces.{AddsLine};
-ghost use Rattle.mctpctl_input.specs.Pieces.{Takes, Finishes, FinishesTo};
-ghost use Rattle.mctpctl_input.specs.Ports.{inner_of, has_failed};
+ghost use Rattle.mctpctl_input.specs.Pieces.{Takes, Finishes};
+ghost use Rattle.mctpctl_input.specs.Ports.{has_failed};
 ghost use Rattle.pldm_responder.specs.Stations.{held_of};
 ghost use Rattle.pldm_responder.specs.Held.{Held};
 ghost use Rattle.pldm_device.specs.Devices.{Device};
@@ -212,14 +212,7 @@ impl Run for AnswerRun {
     ghost counted = { answer_count };
 
     /// Takes lines of the description, and once one divides lines of the capture.
-    fn take(&mut self, alloc: Global, piece: &[u8], out: &mut Vec<u8>) -> Result<(), EngineFault>
-        requires { answer_count self.old + length piece.now ≤ MAX_INPUT }
-        ensures meets { Takes (answer_gives self.old) piece.now (answer_gives self.new) out.old.items out.new.items
-            result }
-        ensures counted { answer_count self.new ≤ answer_count self.old + length piece.now }
-        ensures read { result ≢ Err EngineFault.Read }
-        ensures write { result ≢ Err EngineFault.Write }
-    {
+    fn take(&mut self, alloc: Global, piece: &[u8], out: &mut Vec<u8>) -> Result<(), EngineFault> {
         match &mut self.lines {
             Some(lines) => lines.take(alloc, piece, out),
             None => self.take_description(alloc, piece, out),
@@ -233,15 +226,7 @@ impl Run for AnswerRun {
         is_cut: bool,
         out: &mut Vec<u8>,
         writer: &mut Port<W>,
-    ) -> Result<(), EngineFault>
-        requires size { answer_count self.old ≤ MAX_INPUT }
-        requires works { has_failed writer.old ≡ false }
-        requires empty { out.old.items ≡ [] }
-        ensures meets { FinishesTo (answer_gives self.old is_cut []) (W.contents (inner_of writer.old))
-            (W.contents (inner_of writer.new)) result }
-        ensures read { result ≢ Err EngineFault.Read }
-        ensures write { ReportsFailed EngineFault.Write result writer.new }
-    {
+    ) -> Result<(), EngineFault> {
         match &mut self.lines {
             Some(lines) => lines.finish(alloc, is_cut, out, writer),
             None => self.finish_description(alloc, is_cut),

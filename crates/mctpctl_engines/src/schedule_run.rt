@@ -1,12 +1,11 @@
 //! The engine of `mctpctl run`, over an input that comes in pieces.
 
 ghost use Rattle.std.specs.Io.KnownBytes.{Appends, Keeps};
-ghost use Rattle.std.specs.Prelude.{◌≡◌, ◌≢◌, ◌≤◌, ◌+◌, [], Err, Some, IfErr, IfSome, IfNone, IsErrOf, None, OnOk, length, option_map, false};
+ghost use Rattle.std.specs.Prelude.{◌≡◌, ◌≢◌, [], Err, Some, IfErr, IfSome, IfNone, IsErrOf, None, OnOk, option_map, false};
 ghost use Rattle.line_words.specs.TextLines.{lines_of};
 ghost use Rattle.schedule_text.specs.Schedules.{schedule_of};
 ghost use Rattle.mctpctl_engines.specs.AnswerText.{run_of};
-ghost use Rattle.mctpctl_engines.specs.DescribedPieces.{begun};
-ghost use Rattle.mctpctl_input.specs.Pieces.{Takes, FinishesTo};
+ghost use Rattle.mctpctl_input.specs.Pieces.{Takes};
 ghost use Rattle.mctpctl_input.specs.Ports.{inner_of, has_failed};
 ghost use Rattle.mctpctl_engines.specs.RunText.{schedule_written, scheduled_run, spelled_by, stop_of_line, stop_of_run, run_text};
 ghost use Rattle.mctpctl_engines.specs.SchedulePieces.{ReportsText, nothing_where_cut, schedule_gives, text_of_ran};
@@ -176,13 +175,7 @@ impl Run for ScheduleRun {
     ghost counted = { λ run. 0 };
 
     /// Keeps a piece of the input.
-    fn take(&mut self, alloc: Global, piece: &[u8], out: &mut Vec<u8>) -> Result<(), EngineFault>
-        ensures meets { Takes (schedule_gives self.old.kept.items) piece.now (schedule_gives self.new.kept.items)
-            out.old.items out.new.items result }
-        ensures counted { 0 ≤ 0 + length piece.now }
-        ensures read { result ≢ Err EngineFault.Read }
-        ensures write { result ≢ Err EngineFault.Write }
-    {
+    fn take(&mut self, alloc: Global, piece: &[u8], out: &mut Vec<u8>) -> Result<(), EngineFault> {
         if let Err(refused) = self.kept.extend_from_slice(piece) {
             return Err(EngineFault::Memory(refused.into()));
         }
@@ -196,14 +189,7 @@ impl Run for ScheduleRun {
         is_cut: bool,
         out: &mut Vec<u8>,
         writer: &mut Port<W>,
-    ) -> Result<(), EngineFault>
-        requires works { has_failed writer.old ≡ false }
-        requires empty { out.old.items ≡ [] }
-        ensures meets { FinishesTo (schedule_gives self.old.kept.items is_cut []) (W.contents (inner_of writer.old))
-            (W.contents (inner_of writer.new)) result }
-        ensures read { result ≢ Err EngineFault.Read }
-        ensures write { ReportsFailed EngineFault.Write result writer.new }
-    {
+    ) -> Result<(), EngineFault> {
         match run_input(alloc, &self.kept, is_cut) {
             Ok(ran) => write_ran(writer, &ran),
             Err(fault) => Err(fault),

@@ -1,6 +1,6 @@
 //! The frames of an answer.
 
-ghost use Rattle.std.specs.Prelude.{◌≡◌, ◌++◌, ◌≤◌, ◌+◌, length};
+ghost use Rattle.std.specs.Prelude.{◌≡◌, ◌≤◌, length};
 ghost use Rattle.std.specs.List.{flat_map};
 ghost use Rattle.mctp_packet.specs.Packets.{written};
 ghost use Rattle.mctp_packet.specs.Pieces.{written_packets};

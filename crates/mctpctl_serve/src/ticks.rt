@@ -1,6 +1,6 @@
 //! Readings of a clock.
 
-ghost use Rattle.std.specs.Prelude.{◌≡◌, ℕ, List, [], ◌∷◌, Option, None, Some, IfOk};
+ghost use Rattle.std.specs.Prelude.{ℕ, List, [], ◌∷◌, Option, None, Some, IfOk};
 ghost use Rattle.std.specs.Io.KnownBytes.{Consumes};
 
 use std::io;

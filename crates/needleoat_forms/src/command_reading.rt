@@ -1,4 +1,3 @@
-ghost use Rattle.std.specs.Prelude.{◌≡◌};
 ghost use Rattle.pldm_wire.specs.Requests.{request_of};
 ghost use Rattle.needleoat_forms.specs.Commands.{IsCommandRead};
 

@@ -1,6 +1,6 @@
 //! The records of a description.
 
-ghost use Rattle.std.specs.Prelude.{◌≡◌, ◌≤◌, [], length};
+ghost use Rattle.std.specs.Prelude.{◌≤◌, [], length};
 ghost use Rattle.pldm_device.specs.FileFaults.{IsOrMemory};
 ghost use Rattle.pldm_device.specs.RecordEntries.{record_in, record_of, records_after, records_in};
 ghost use Rattle.toml.specs.View.{items_view, table_view, view};

@@ -1,6 +1,6 @@
 //! State effecters (DSP0248, "SetStateEffecterStates command").
 
-ghost use Rattle.std.specs.Prelude.{◌≡◌, ◌≤◌, length, map};
+ghost use Rattle.std.specs.Prelude.{◌≡◌, length, map};
 ghost use Rattle.pldm_wire.specs.States.{IsComposite};
 ghost use Rattle.pldm_device.specs.EffecterAnswers.{are_allowed, effecter_field, has_other_request, set_states, states_after, states_refusal};
 ghost use Rattle.pldm_platform.specs.Changes.{Changes};

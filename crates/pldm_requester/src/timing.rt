@@ -1,4 +1,4 @@
-ghost use Rattle.std.specs.Prelude.{◌≡◌, None, Some, OnOk, IfErr};
+ghost use Rattle.std.specs.Prelude.{◌≡◌, None, Some};
 ghost use Rattle.pldm_requester.specs.Timings.{timing_fault, number_of_timing_fault};
 
 use mctp_packet::{Eid, Keep};

@@ -1,6 +1,6 @@
 ghost use Rattle.std.specs.Borrow.{Lends, sem};
 ghost use Rattle.std.specs.FinMap as map;
-ghost use Rattle.std.specs.Prelude.{◌≡◌, ◌≢◌, ℕ, false, ◌*◌, ◌≤◌, ◌<◌, ◌&&◌, true, Bool, [], ◌∷◌, length, nat_lt, Ok, IfOk, IfSome, IsSome, is_some, option_map, OnOk, OnErr};
+ghost use Rattle.std.specs.Prelude.{◌≡◌, ◌≢◌, ℕ, false, ◌*◌, ◌≤◌, ◌<◌, ◌&&◌, true, Bool, [], length, nat_lt, Ok, IfOk, IfSome, IsSome, is_some, option_map, OnOk, OnErr};
 ghost use Rattle.mctp_packet.specs.Passing.{passed};
 ghost use Rattle.mctp_assembly.specs.Steps.{answer};
 ghost use Rattle.mctp_assembly.specs.declared.fed.Fed.TheVariants.{Whole};

@@ -1,4 +1,4 @@
-ghost use Rattle.std.specs.Prelude.{◌≡◌, ℕ, Ok, IfOk};
+ghost use Rattle.std.specs.Prelude.{◌≡◌, Ok, IfOk};
 ghost use Rattle.pldm_wire.specs.Commands.{CommandFields};
 ghost use Rattle.pldm_wire.specs.CommandReading.{command_of};
 ghost use Rattle.pldm_wire.specs.PlatformCommandReading.{platform_command_of};

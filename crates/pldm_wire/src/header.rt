@@ -1,4 +1,4 @@
-ghost use Rattle.std.specs.Prelude.{◌≡◌, ℕ, ◌<◌, ◌≤◌, [], ◌∷◌, length, None, Some, IfOk, IfErr, OnOk};
+ghost use Rattle.std.specs.Prelude.{◌≡◌, ◌<◌, ◌≤◌, [], ◌∷◌, length, None, Some, IfOk, IfErr, OnOk};
 ghost use Rattle.pldm_wire.specs.Headers.{refusal, id_at, kind_at};
 
 use crate::{Kind, MESSAGE_TYPE, REQUEST_HEADER};

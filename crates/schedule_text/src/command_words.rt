@@ -1,6 +1,6 @@
 //! The command that words say.
 
-ghost use Rattle.std.specs.Prelude.{◌≡◌, codes};
+ghost use Rattle.std.specs.Prelude.{◌≡◌};
 ghost use Rattle.schedule_text.specs.CommandWords.{bare, byte_command_named, byte_of, command_of, field_command_named, getpdr_of, id_command_named, id_of, part_in, setnum_of, setstate_of, size_in, sized_in, state_in, states_in};
 ghost use Rattle.pldm_wire.specs.States.{IsComposite};
 
