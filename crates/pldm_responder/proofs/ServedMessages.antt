@@ -1,26 +1,27 @@
--- What is held once a fresh message was performed and its answer kept, and that only such a message wants memory.
-use Rattle.std.proofs.Common.{◌≡◌, ℕ, ◌≤◌, ◌<◌, Bool, true, false, cond, not, ◌&&◌, ◌==◌, nat_lt, List, Option, Some, None, Result, Ok, Err, OnErr, if◌then◌else◌, refl, sym, ap, ◌∙◌, subst, arith}
+-- That only a fresh message wants memory for its answer, and that what a whole message wants, its packet wants.
+use Rattle.std.proofs.Common.{◌≡◌, ℕ, ◌≤◌, ◌<◌, Bool, true, false, cond, not, ◌&&◌, nat_lt, List, Option, Some, None, Result, Ok, Err, OnErr, if◌then◌else◌, refl, sym, ap, ◌∙◌, subst, arith}
 use Rattle.std.specs.Prelude.{◌+◌, bytes_eq}
 use borrow.Author.Tests.{ltb-true}
 use Rattle.mctp_packet.specs.Packets.{Packet}
-use Rattle.mctp_packet.specs.Passing.{passed}
 use Rattle.mctp_packet.specs.declared.packet.Route.{Route}
 use Rattle.mctp_packet.specs.declared.reason.Reason.{Reason}
 use Rattle.mctp_packet.specs.declared.reason.Reason.TheVariants.{BadTag}
 use Rattle.mctp_assembly.specs.Steps.{answer}
+use Rattle.mctp_assembly.specs.declared.fed.Fed.{Fed}
 use Rattle.mctp_assembly.specs.declared.fed.Fed.TheVariants.{Whole}
+use Rattle.pldm_wire.specs.declared.command.Command.{Command}
 use Rattle.pldm_wire.specs.Headers.{id_at}
 use Rattle.mctp_packet.specs.Reading.{unless}
 use Rattle.pldm_wire.specs.Requests.{Request, request_of, request_refusal}
 use Rattle.pldm_responder.specs.Answering.{packets_if}
-use Rattle.pldm_responder.specs.Arrivals.{fed_arrival, headed, is_expected, message_of}
-use Rattle.pldm_responder.specs.Events.{Message, is_of}
-use Rattle.pldm_responder.specs.Held.{Entry, Held, IsHeld}
-use Rattle.pldm_responder.specs.Performing.{Rules, reply_to, next_after, next}
+use Rattle.pldm_responder.specs.Arrivals.{fed_arrival, headed, message_arrival, packet_arrival, passed_arrival}
+use Rattle.pldm_responder.specs.Events.{Message}
+use Rattle.pldm_responder.specs.Held.{Entry}
 use Rattle.pldm_responder.specs.Slots.{kept_in}
 use Rattle.pldm_responder.specs.Stations.{Station, held_of}
-use Rattle.pldm_responder.specs.Steps.{repeats, copied_packets, performs, arrival_held}
-use Rattle.pldm_responder.specs.Wants.{KeepsNone, ArrivalWants, PassedWants}
+use Rattle.pldm_responder.specs.Steps.{repeats, copied_packets, performs}
+use Rattle.pldm_responder.specs.Taking.{WantedMemory}
+use Rattle.pldm_responder.specs.Wants.{KeepsNone, ArrivalWants}
 
 -- an error exit meets what holds in any case
 pub at_error : {T E F : Type 0} (r : Result T E) → F → OnErr r F
@@ -40,9 +41,14 @@ no_packets true packets h = cc
 no_packets false packets h = refl
 
 -- a message that is no copy has no kept packets
-pub no_copy : (is_copy : Bool) (packets : List (List ℕ)) (kept : Option (List (List ℕ))) → kept ≡ packets_if is_copy packets → is_copy ≡ false → None ≡ kept
-no_copy true packets kept are not_copy = cc
-no_copy false packets kept are not_copy = sym are
+pub no_copy : {P S : Type 0} (station : Station P S) (m : Message) (is_copy : Bool) (packets : List (List ℕ))
+    (asked id : ℕ)
+    → copied_packets station.own station.keep m (kept_in station.rows m.source asked) ≡ packets_if is_copy packets
+    → is_copy ≡ false → asked ≡ id
+    → None ≡ copied_packets station.own station.keep m (kept_in station.rows m.source id)
+no_copy station m true packets asked id are not_copy same = cc
+no_copy station m false packets asked id are not_copy same =
+    sym are ∙ ap (λ n. copied_packets station.own station.keep m (kept_in station.rows m.source n)) same
 
 -- a message without kept packets repeats none
 not_repeated : (own keep : ℕ) (m : Message) (o : Option Entry) → None ≡ copied_packets own keep m o → not (repeats keep m o) ≡ true
@@ -60,21 +66,25 @@ both : (a b : Bool) → a ≡ true → b ≡ true → (a && b) ≡ true
 both true b g h = h
 both false b g h = cc
 
-pub where_both : {A : Type 0} (a b : Bool) (x y : A) → b ≡ true → cond (a && b) x y ≡ cond a x y
-where_both true true x y h = refl
-where_both true false x y h = cc
-where_both false b x y h = refl
+-- where assembly gives a whole message, the packet brings what the message does
+whole_arrival : (gives : Packet → Fed) (moment : ℕ) (p : Packet) (route : Route) (items : List ℕ)
+    → route ≡ p.route → route.owner ≡ true → Whole (record { items = items }) ≡ gives p
+    → message_arrival route.source route.tag moment items ≡ packet_arrival gives moment p
+whole_arrival gives moment p route items same owner whole =
+    let expected : true ≡ p.route.owner = sym owner ∙ ap (λ (r : Route). r.owner) same in
+    ap (λ (r : Route). message_arrival r.source r.tag moment items) same
+    ∙ ap (fed_arrival p.route moment) whole
+    ∙ ap (λ t. passed_arrival gives moment (if t then Ok p else Err BadTag)) expected
 
--- what a whole message wants, its packet wants
-pub wants_when_whole : {S : Type 0} (held : Held S) (steady : Bool) (moment : ℕ) (p : Packet) (route : Route) (items : List ℕ)
-    → route ≡ p.route → route.owner ≡ true → Whole (record { items = items }) ≡ answer held.open_messages p
-    → ((start : Bool) → ArrivalWants held steady start (headed (message_of route.source route.tag moment items) (request_of items)))
-    → PassedWants held steady moment (passed is_expected (Ok p))
-wants_when_whole held steady moment p route items same owner whole wants =
-    let expected : p.route.owner ≡ true = ap (λ (r : Route). r.owner) (sym same) ∙ owner in
-    subst (λ t. PassedWants held steady moment (if t then Ok p else Err BadTag)) (sym expected)
-    (subst (λ fed. ArrivalWants held steady p.start (fed_arrival p.route moment fed)) whole
-    (subst (λ (r : Route). ArrivalWants held steady p.start (headed (message_of r.source r.tag moment items) (request_of items))) same (wants p.start)))
+-- memory that was refused for a whole message was refused for its packet
+pub wanted_when_whole : {P S : Type 0} (performing : P → List Command → P → Type 0) (old new : Station P S)
+    (steady : Bool) (moment : ℕ) (p : Packet) (route : Route) (items : List ℕ)
+    → route ≡ p.route → route.owner ≡ true → Whole (record { items = items }) ≡ answer old.open_messages p
+    → ((start : Bool) → WantedMemory performing old (message_arrival route.source route.tag moment items) steady start new)
+    → WantedMemory performing old (packet_arrival (answer old.open_messages) moment p) steady p.start new
+wanted_when_whole performing old new steady moment p route items same owner whole wanted =
+    subst (λ a. WantedMemory performing old a steady p.start new)
+    (whole_arrival (answer old.open_messages) moment p route items same owner whole) (wanted p.start)
 
 module _ {P S : Type 0} (station : Station P S) (m : Message) (request : Request) (read : request_of m.bytes ≡ Ok request)
     (serves : station.serves_from ≤ m.moment) (fresh : None ≡ copied_packets station.own station.keep m (kept_in station.rows m.source request.id)) where
@@ -88,27 +98,3 @@ module _ {P S : Type 0} (station : Station P S) (m : Message) (request : Request
   pub wants_once_performed : (steady : Bool) → (steady ≡ true → KeepsNone (held_of station) steady m.source) → (start : Bool)
       → ArrivalWants (held_of station) steady start (headed m (request_of m.bytes))
   wants_once_performed steady none start = rw read (is_performed, none)
-
-  pub held_once_performed : (device : Rules S) (new : Station P S) (answer : List ℕ)
-      → answer ≡ reply_to device station.state (Ok request)
-      → ((other i : ℕ) → kept_in new.rows other i ≡ cond (m.source == other && request.id == i) (Some (record { moment = m.moment; bytes = m.bytes; answer = answer })) (kept_in station.rows other i))
-      → new.state ≡ next_after device station.state (Ok request)
-      → new.own ≡ station.own → new.keep ≡ station.keep → new.open_messages ≡ station.open_messages → new.serves_from ≡ station.serves_from → new.last ≡ station.last
-      → IsHeld (held_of new) (arrival_held device (held_of station) (headed m (request_of m.bytes)))
-  held_once_performed device new answer replied put state own keep open_messages from last =
-      let id = id_of_request m.bytes request read in
-      let answered = replied ∙ ap (reply_to device station.state) (sym read) in
-      let left = state ∙ ap (next_after device station.state) (sym read) in
-      let done = is_performed in
-      rw read (record {
-        own = own;
-        keep = keep;
-        open_messages = open_messages;
-        kept = λ source i. put source i
-            ∙ ap (λ n. cond (m.source == source && n == i) (Some (record { moment = m.moment; bytes = m.bytes; answer = answer })) (kept_in station.rows source i)) id
-            ∙ ap (λ a. cond (is_of m source i) (Some (record { moment = m.moment; bytes = m.bytes; answer = a })) (kept_in station.rows source i)) answered
-            ∙ sym (where_both (is_of m source i) (performs (held_of station) m) _ _ done);
-        state = left ∙ sym (ap (λ t. cond t (next device station.state m.bytes) station.state) done);
-        serves_from = from;
-        last = last;
-      })

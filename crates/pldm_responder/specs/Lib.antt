@@ -13,5 +13,6 @@ pub mod Stations
 pub mod Laws
 pub mod Asked
 pub mod Rooms
+pub mod Taking
 pub mod Askings
 pub mod GivenAnswers

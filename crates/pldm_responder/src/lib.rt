@@ -16,5 +16,5 @@ mod row;
 
 pub use bounds::Bounds;
 pub use completed::Completed;
-pub use outcome::{Outcome, MessageOutcome};
+pub use outcome::{MessageOutcome, Outcome};
 pub use responder::{MAX_KEPT, MAX_PENDING, Responder};

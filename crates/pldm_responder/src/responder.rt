@@ -22,16 +22,17 @@ ghost use Rattle.pldm_responder.specs.Performing.{rules_of};
 ghost use Rattle.pldm_responder.specs.Rooms.{ArrivalLacksRow, HasRow, IsCommanded, LacksRow};
 ghost use Rattle.pldm_responder.specs.Slots.{kept_in};
 ghost use Rattle.pldm_responder.specs.Stations.{held_of, with_platform};
-ghost use Rattle.pldm_responder.specs.Steps.{arrival_commands, arrival_held, arrival_outcome, copied_packets, passed_held, received_arrival, received_commands, received_held, received_outcome, repeats, restarted_held, sensed_held, updated_held};
+ghost use Rattle.pldm_responder.specs.Steps.{arrival_commands, copied_packets, open_after, received_arrival, received_commands, received_held, received_outcome, repeats, restarted_held, sensed_held, updated_held};
 ghost use Rattle.pldm_responder.specs.contracts.responder.Responder.{the_row};
 ghost use Rattle.pldm_responder.specs.declared.outcome.MessageOutcome.TheVariants.{Answered};
-ghost use Rattle.pldm_responder.specs.Wants.{ArrivalWants, PassedWants, WantsMemory};
+ghost use Rattle.pldm_responder.specs.Taking.{HasTaken, WantedMemory};
+ghost use Rattle.pldm_responder.specs.Wants.{WantsMemory};
 
 use crate::answering::answer_kept;
 use crate::bounds::Bounds;
 use crate::completed::Completed;
 use crate::kept_answers::KeptAnswers;
-use crate::outcome::{Outcome, MessageOutcome};
+use crate::outcome::{MessageOutcome, Outcome};
 use crate::performing::{perform, refuse, succeeded};
 use crate::routes::{not_performed, performed, way_back};
 use mctp_assembly::{Assembler, Fed, Key};
@@ -494,26 +495,11 @@ impl<P: Platform> Responder<P> {
         reply: &mut Body,
     ) -> Result<MessageOutcome, Memory>
         requires { packet.now.route.source ≢ self.old.own }
-        ensures outcome { IfOk result (λ taken.
-            answering reply.new.items taken
-            ≡ arrival_outcome (rules_of P.answer P.after P.sensed) (held_of self.old)
-            (packet_arrival (answer self.old.open_messages) now packet.now)) }
-        ensures some { IfOk result (HasReply reply.new.items) }
-        ensures fits { OnOk result
-            (ArrivalFits (rules_of P.answer P.after P.sensed)
-            (held_of self.old) (packet_arrival (answer self.old.open_messages) now packet.now)) }
-        ensures held { OnOk result
-            (IsHeld (held_of self.new) (passed_held (rules_of P.answer P.after P.sensed)
-            (held_of self.old) now (passed is_expected (Ok packet.now)))) }
-        ensures performed { OnOk result
-            (P.performed self.old.platform (arrival_commands
-            (held_of self.old) (packet_arrival (answer self.old.open_messages) now packet.now)) self.new.platform) }
-        ensures memory { OnErr result
-            (PassedWants (held_of self.old) P.STEADY now (passed is_expected (Ok packet.now))) }
-        ensures err { OnErr result (IsHeld (held_of self.new) (held_of self.old)) }
-        ensures none_performed { OnErr result (P.performed self.old.platform [] self.new.platform) }
-        ensures no_row { OnErr result (P.STEADY ≡ true → ArrivalLacksRow self.old.rows
-            (packet_arrival (answer self.old.open_messages) now packet.now)) }
+        ensures ok { IfOk result (HasTaken P.performed self.old
+            (packet_arrival (answer self.old.open_messages) now packet.now) (rules_of P.answer P.after P.sensed)
+            (open_after self.old.open_messages (passed is_expected (Ok packet.now))) self.new reply.new.items) }
+        ensures err { OnErr result (WantedMemory P.performed self.old
+            (packet_arrival (answer self.old.open_messages) now packet.now) P.STEADY packet.now.start self.new) }
         ensures bounds { self.new.bounds ≡ self.old.bounds }
     {
         let route = packet.route();
@@ -553,26 +539,11 @@ impl<P: Platform> Responder<P> {
     ) -> Result<MessageOutcome, Memory>
         requires owner { packet.now.route.owner ≡ true }
         requires other { packet.now.route.source ≢ self.old.own }
-        ensures outcome { IfOk result (λ taken.
-            answering reply.new.items taken
-            ≡ arrival_outcome (rules_of P.answer P.after P.sensed) (held_of self.old)
-            (packet_arrival (answer self.old.open_messages) now packet.now)) }
-        ensures some { IfOk result (HasReply reply.new.items) }
-        ensures fits { OnOk result
-            (ArrivalFits (rules_of P.answer P.after P.sensed)
-            (held_of self.old) (packet_arrival (answer self.old.open_messages) now packet.now)) }
-        ensures held { OnOk result
-            (IsHeld (held_of self.new) (passed_held (rules_of P.answer P.after P.sensed)
-            (held_of self.old) now (passed is_expected (Ok packet.now)))) }
-        ensures performed { OnOk result
-            (P.performed self.old.platform (arrival_commands
-            (held_of self.old) (packet_arrival (answer self.old.open_messages) now packet.now)) self.new.platform) }
-        ensures memory { OnErr result
-            (PassedWants (held_of self.old) P.STEADY now (passed is_expected (Ok packet.now))) }
-        ensures err { OnErr result (IsHeld (held_of self.new) (held_of self.old)) }
-        ensures none_performed { OnErr result (P.performed self.old.platform [] self.new.platform) }
-        ensures no_row { OnErr result (P.STEADY ≡ true → ArrivalLacksRow self.old.rows
-            (packet_arrival (answer self.old.open_messages) now packet.now)) }
+        ensures ok { IfOk result (HasTaken P.performed self.old
+            (packet_arrival (answer self.old.open_messages) now packet.now) (rules_of P.answer P.after P.sensed)
+            (open_after self.old.open_messages (passed is_expected (Ok packet.now))) self.new reply.new.items) }
+        ensures err { OnErr result (WantedMemory P.performed self.old
+            (packet_arrival (answer self.old.open_messages) now packet.now) P.STEADY packet.now.start self.new) }
         ensures bounds { self.new.bounds ≡ self.old.bounds }
     {
         let route = packet.route();
@@ -621,27 +592,10 @@ impl<P: Platform> Responder<P> {
     ) -> Result<MessageOutcome, Memory>
         requires other { source ≢ self.old.own }
         requires few { length message.now ≤ MAX_MESSAGE_BYTES }
-        ensures outcome { IfOk result (λ taken.
-            answering reply.new.items taken
-            ≡ arrival_outcome (rules_of P.answer P.after P.sensed) (held_of self.old)
-            (message_arrival source tag now message.now)) }
-        ensures some { IfOk result (HasReply reply.new.items) }
-        ensures fits { OnOk result
-            (ArrivalFits (rules_of P.answer P.after P.sensed)
-            (held_of self.old) (message_arrival source tag now message.now)) }
-        ensures held { OnOk result
-            (IsHeld (held_of self.new) (arrival_held (rules_of P.answer P.after P.sensed)
-            (held_of self.old) (message_arrival source tag now message.now))) }
-        ensures performed { OnOk result
-            (P.performed self.old.platform
-            (arrival_commands (held_of self.old) (message_arrival source tag now message.now)) self.new.platform) }
-        ensures memory { OnErr result
-            ((start : Bool)
-            → ArrivalWants (held_of self.old) P.STEADY start (message_arrival source tag now message.now)) }
-        ensures err { OnErr result (IsHeld (held_of self.new) (held_of self.old)) }
-        ensures none_performed { OnErr result (P.performed self.old.platform [] self.new.platform) }
-        ensures no_row { OnErr result (P.STEADY ≡ true → ArrivalLacksRow self.old.rows
-            (message_arrival source tag now message.now)) }
+        ensures ok { IfOk result (HasTaken P.performed self.old (message_arrival source tag now message.now)
+            (rules_of P.answer P.after P.sensed) self.old.open_messages self.new reply.new.items) }
+        ensures err { OnErr result ((start : Bool) → WantedMemory P.performed self.old
+            (message_arrival source tag now message.now) P.STEADY start self.new) }
         ensures bounds { self.new.bounds ≡ self.old.bounds }
     {
         let request = match read_request(message) {

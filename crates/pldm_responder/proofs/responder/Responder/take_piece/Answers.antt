@@ -4,10 +4,10 @@ use Rattle.mctp_packet.specs.declared.packet.Route.{Route}
 use Rattle.mctp_assembly.specs.Keys.{IsKey, key_of}
 use Rattle.mctp_assembly.specs.Steps.{answer}
 use Rattle.mctp_assembly.specs.declared.fed.Fed.TheVariants.{Whole}
-use Rattle.pldm_responder.specs.Stations.{Station, IsAsked, held_of}
+use Rattle.pldm_responder.specs.Stations.{Station, IsAsked}
 use Rattle.pldm_responder.proofs.AskedKeys.{asked_without, asked_after}
 use Rattle.pldm_responder.proofs.OpenBounds.{len_after, len_without}
-use Rattle.pldm_responder.proofs.ServedMessages.{at_error, wants_when_whole}
+use Rattle.pldm_responder.proofs.ServedMessages.{at_error, wanted_when_whole}
 use Rattle.pldm_responder.proofs.responder.Responder.take_piece.Goals as goal
 
 pub invariant_of-self : goal.invariant_of-self
@@ -30,10 +30,10 @@ pub invariant_of-self-in-Dropped : goal.invariant_of-self-in-Dropped
 invariant_of-self-in-Dropped g c =
     (rw c.forget-in-Dropped.ensures (asked_without c.self.inside.own c.self.inside.assembler _ c.self.invariant.0), c.self.invariant.1, (rw c.forget-in-Dropped.ensures (len_without _ _ _ c.self.invariant.2.0), c.self.invariant.2.1))
 
-pub returns-in_err-taken-in-Whole-clause-memory : goal.returns-in_err-taken-in-Whole-clause-memory
-returns-in_err-taken-in-Whole-clause-memory g c =
+pub returns-in_err-taken-in-Whole-clause-err : goal.returns-in_err-taken-in-Whole-clause-err
+returns-in_err-taken-in-Whole-clause-err g c =
     let view = ap (λ (s : Station g.row.P.Denot g.row.P-State.Denot). s.open_messages) c.self.view_is in
     let owner = ap (λ (r : Route). r.owner) c.route-route.ensures ∙ c.requires.owner in
-    at_error _ (wants_when_whole (held_of c.args.self.now) g.P.Platform.STEADY c.args.now c.args.packet.now c.route-route.result c.deref.result.now
+    at_error _ (wanted_when_whole g.P.Platform.performed c.args.self.now c.serve.new.self g.P.Platform.STEADY c.args.now c.args.packet.now c.route-route.result c.deref.result.now
     c.route-route.ensures owner (ap (λ items. Whole (record { items = items })) c.deref.ensures.0 ∙ sym c.in-Whole.is ∙ c.look.ensures ∙ ap (λ m. answer m c.args.packet.now) view)
-    c.in_err-taken-in-Whole.ensures.memory)
+    c.in_err-taken-in-Whole.ensures.err)
