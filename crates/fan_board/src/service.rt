@@ -5,7 +5,7 @@ ghost use Rattle.std.specs.Prelude.{◌≡◌, ◌≤◌, ◌⊎◌, Some, true,
 ghost use Rattle.pldm_responder.specs.Held.{IsHeld};
 ghost use Rattle.pldm_responder.specs.Rooms.{IsCommanded};
 ghost use Rattle.pldm_responder.specs.Stations.{held_of};
-ghost use Rattle.pldm_responder.specs.Wants.{WantsMemory};
+ghost use Rattle.pldm_responder.specs.Needs.{NeedsMemory};
 ghost use Rattle.pldm_endpoint.specs.Refusing.{IsOfMemory, refused_by};
 ghost use Rattle.pldm_endpoint.specs.TwoSteps.{bare};
 ghost use Rattle.fan_board.specs.Served.{IsServed};
@@ -36,7 +36,7 @@ pub fn serve(
     ensures refused { IfErr result (λ refusal.
         IsOfMemory refusal ⊎ (refused_by endpoint.old now packet.now ≡ Some refusal)) }
     ensures memory { IfErr result (λ refusal. IsOfMemory refusal
-        → WantsMemory (held_of endpoint.old.station) true now packet.now
+        → NeedsMemory (held_of endpoint.old.station) true now packet.now
         ⊎ IsCommanded (held_of endpoint.old.station) now packet.now) }
     ensures err { OnErr result
         (IsHeld (bare (held_of endpoint.new.station)) (bare (held_of endpoint.old.station))) }

@@ -19,7 +19,7 @@ use Rattle.pldm_responder.specs.Held.{Held, IsHeld}
 use Rattle.pldm_responder.specs.Rooms.{IsCommanded}
 use Rattle.pldm_responder.specs.Stations.{held_of}
 use Rattle.pldm_responder.specs.Steps.{received_held, restarted_held}
-use Rattle.pldm_responder.specs.Wants.{WantsMemory}
+use Rattle.pldm_responder.specs.Needs.{NeedsMemory}
 use Rattle.pldm_responder.specs.declared.bounds.Bounds.{Bounds}
 use Rattle.pldm_responder.specs.declared.outcome.Outcome.{Outcome}
 use Rattle.pldm_responder.specs.declared.outcome.MessageOutcome.{MessageOutcome}
@@ -188,7 +188,7 @@ abbrev pub ReportsTaken : ℕ → List ℕ → StepReport → List (List ℕ) �
 ReportsTaken now bytes r rooms inside =
     ReportsStep (received_step (held_of inside.station) now bytes inside.count) r rooms
     ⊎ (IsRefused NO_MEMORY r
-    × (WantsMemory (held_of inside.station) true now bytes ⊎ IsCommanded (held_of inside.station) now bytes))
+    × (NeedsMemory (held_of inside.station) true now bytes ⊎ IsCommanded (held_of inside.station) now bytes))
 
 -- it is refused where the endpoint refuses it whatever memory there is, with the number of its reason
 abbrev pub ReportsAllowed :

@@ -9,7 +9,7 @@ ghost use Rattle.pldm_responder.specs.Held.{IsHeld};
 ghost use Rattle.pldm_responder.specs.Rooms.{HasRow, IsCommanded};
 ghost use Rattle.pldm_responder.specs.Stations.{held_of};
 ghost use Rattle.pldm_responder.specs.Steps.{received_commands, restarted_held};
-ghost use Rattle.pldm_responder.specs.Wants.{WantsMemory};
+ghost use Rattle.pldm_responder.specs.Needs.{NeedsMemory};
 ghost use Rattle.pldm_endpoint.specs.Refusing.{IsOfMemory, is_full, refused_by};
 ghost use Rattle.pldm_endpoint.specs.Stepping.{StepHasReply, stepping};
 ghost use Rattle.pldm_endpoint.specs.Askers.{asked_at, asker};
@@ -148,7 +148,7 @@ impl Endpoint {
         ensures refused { IfErr result (λ refusal.
             IsOfMemory refusal ⊎ (refused_by self.old now bytes.now ≡ Some refusal)) }
         ensures memory { IfErr result (λ refusal. IsOfMemory refusal → (refused_by self.old now bytes.now ≡ None)
-            × (WantsMemory (held_of self.old.station) true now bytes.now
+            × (NeedsMemory (held_of self.old.station) true now bytes.now
             ⊎ IsCommanded (held_of self.old.station) now bytes.now)) }
         ensures still_asked { OnErr result (self.new.asks ≡ self.old.asks) }
         ensures still_counted { OnErr result (self.new.count ≡ self.old.count) }
@@ -190,7 +190,7 @@ impl Endpoint {
         ensures refused { IfErr result (λ refusal.
             IsOfMemory refusal ⊎ (refused_by self.old now bytes.now ≡ Some refusal)) }
         ensures memory { IfErr result (λ refusal. IsOfMemory refusal → (refused_by self.old now bytes.now ≡ None)
-            × (WantsMemory (held_of self.old.station) true now bytes.now
+            × (NeedsMemory (held_of self.old.station) true now bytes.now
             ⊎ IsCommanded (held_of self.old.station) now bytes.now)) }
         ensures still_asked { OnErr result (self.new.asks ≡ self.old.asks) }
         ensures still_counted { OnErr result (self.new.count ≡ self.old.count) }
@@ -249,7 +249,7 @@ impl Endpoint {
         ensures count { OnOk result (self.new.count
             ≡ count_after (held_of self.old.station) now bytes.now self.old.count) }
         ensures held { OnOk result (IsLeftByStep (held_of self.old.station) now bytes.now (held_of self.new.station)) }
-        ensures memory { OnErr result (WantsMemory (held_of self.old.station) true now bytes.now
+        ensures memory { OnErr result (NeedsMemory (held_of self.old.station) true now bytes.now
             ⊎ IsCommanded (held_of self.old.station) now bytes.now) }
         ensures still_asked { OnErr result (self.new.asks ≡ self.old.asks) }
         ensures still_counted { OnErr result (self.new.count ≡ self.old.count) }

@@ -14,7 +14,7 @@ use Rattle.pldm_responder.specs.Slots.{Rows, row_of}
 use Rattle.pldm_responder.specs.Stations.{Station, held_of}
 use Rattle.pldm_responder.specs.Steps.{arrival_commands, performs}
 use Rattle.pldm_responder.specs.Performing.{commands_of}
-use Rattle.pldm_responder.specs.Wants.{ArrivalWants}
+use Rattle.pldm_responder.specs.Needs.{ArrivalNeeds}
 
 -- ---- what a packet brings is of its source
 module _ (rows : Rows) (moment : ℕ) where
@@ -38,16 +38,16 @@ module _ (rows : Rows) (moment : ℕ) where
   lacks_row p fed.Partial none = tt
   lacks_row p (fed.Dropped reason) none = tt
 
--- ---- a commanded request whose source has none wants memory
+-- ---- a commanded request whose source has none needs memory
 performed_by : (t : Bool) (commands : List Command) (command : Command) → command ∷ [] ≡ (if t then commands else []) → t ≡ true
 performed_by true commands command h = refl
 performed_by false commands command h = cc
 
-pub asked_wants : {P S : Type 0} (station : Station P S) (a : Arrival) (start : Bool) (command : Command) → command ∷ [] ≡ arrival_commands (held_of station) a → ArrivalLacksRow station.rows a
-    → ArrivalWants (held_of station) true start a
-asked_wants station (Drop reason) start command asked none = cc
-asked_wants station Part start command asked none = cc
-asked_wants station (Whole m) start command asked none = (
+pub asked_needs : {P S : Type 0} (station : Station P S) (a : Arrival) (start : Bool) (command : Command) → command ∷ [] ≡ arrival_commands (held_of station) a → ArrivalLacksRow station.rows a
+    → ArrivalNeeds (held_of station) true start a
+asked_needs station (Drop reason) start command asked none = cc
+asked_needs station Part start command asked none = cc
+asked_needs station (Whole m) start command asked none = (
   performed_by (performs (held_of station) m) (commands_of m.bytes) command asked,
   λ steady id. ap (option_and_then (λ row. slice_index_or row id None)) none,
 )

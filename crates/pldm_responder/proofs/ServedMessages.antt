@@ -1,4 +1,4 @@
--- That only a fresh message wants memory for its answer, and that what a whole message wants, its packet wants.
+-- That only a fresh message needs memory for its answer, and that what a whole message needs, its packet needs.
 use Rattle.std.proofs.Common.{◌≡◌, ℕ, ◌≤◌, ◌<◌, Bool, true, false, cond, not, ◌&&◌, nat_lt, List, Option, Some, None, Result, Ok, Err, OnErr, if◌then◌else◌, refl, sym, ap, ◌∙◌, subst, arith}
 use Rattle.std.specs.Prelude.{◌+◌, bytes_eq}
 use borrow.Author.Tests.{ltb-true}
@@ -20,8 +20,8 @@ use Rattle.pldm_responder.specs.Held.{Entry}
 use Rattle.pldm_responder.specs.Slots.{kept_in}
 use Rattle.pldm_responder.specs.Stations.{Station, held_of}
 use Rattle.pldm_responder.specs.Steps.{repeats, copied_packets, performs}
-use Rattle.pldm_responder.specs.Taking.{WantedMemory}
-use Rattle.pldm_responder.specs.Wants.{KeepsNone, ArrivalWants}
+use Rattle.pldm_responder.specs.Taking.{IsRefusedMemory}
+use Rattle.pldm_responder.specs.Needs.{KeepsNone, ArrivalNeeds}
 
 -- an error exit meets what holds in any case
 pub at_error : {T E F : Type 0} (r : Result T E) → F → OnErr r F
@@ -77,13 +77,13 @@ whole_arrival gives moment p route items same owner whole =
     ∙ ap (λ t. passed_arrival gives moment (if t then Ok p else Err BadTag)) expected
 
 -- memory that was refused for a whole message was refused for its packet
-pub wanted_when_whole : {P S : Type 0} (performing : P → List Command → P → Type 0) (old new : Station P S)
+pub needed_when_whole : {P S : Type 0} (performing : P → List Command → P → Type 0) (old new : Station P S)
     (steady : Bool) (moment : ℕ) (p : Packet) (route : Route) (items : List ℕ)
     → route ≡ p.route → route.owner ≡ true → Whole (record { items = items }) ≡ answer old.open_messages p
-    → ((start : Bool) → WantedMemory performing old (message_arrival route.source route.tag moment items) steady start new)
-    → WantedMemory performing old (packet_arrival (answer old.open_messages) moment p) steady p.start new
-wanted_when_whole performing old new steady moment p route items same owner whole wanted =
-    subst (λ a. WantedMemory performing old a steady p.start new)
+    → ((start : Bool) → IsRefusedMemory performing old (message_arrival route.source route.tag moment items) steady start new)
+    → IsRefusedMemory performing old (packet_arrival (answer old.open_messages) moment p) steady p.start new
+needed_when_whole performing old new steady moment p route items same owner whole wanted =
+    subst (λ a. IsRefusedMemory performing old a steady p.start new)
     (whole_arrival (answer old.open_messages) moment p route items same owner whole) (wanted p.start)
 
 module _ {P S : Type 0} (station : Station P S) (m : Message) (request : Request) (read : request_of m.bytes ≡ Ok request)
@@ -94,7 +94,7 @@ module _ {P S : Type 0} (station : Station P S) (m : Message) (request : Request
       (serves_by (nat_lt m.moment station.serves_from) m.moment station.serves_from refl serves)
       (not_repeated station.own station.keep m (kept_in station.rows m.source (id_at m.bytes)) (fresh ∙ ap (λ i. copied_packets station.own station.keep m (kept_in station.rows m.source i)) (id_of_request m.bytes request read)))
 
-  -- it wants memory where nothing is kept of its source, or the platform is not steady
-  pub wants_once_performed : (steady : Bool) → (steady ≡ true → KeepsNone (held_of station) steady m.source) → (start : Bool)
-      → ArrivalWants (held_of station) steady start (headed m (request_of m.bytes))
-  wants_once_performed steady none start = rw read (is_performed, none)
+  -- it needs memory where nothing is kept of its source, or the platform is not steady
+  pub needs_once_performed : (steady : Bool) → (steady ≡ true → KeepsNone (held_of station) steady m.source) → (start : Bool)
+      → ArrivalNeeds (held_of station) steady start (headed m (request_of m.bytes))
+  needs_once_performed steady none start = rw read (is_performed, none)

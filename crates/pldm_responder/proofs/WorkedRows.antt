@@ -17,7 +17,7 @@ use Rattle.pldm_responder.specs.Laws.{IsLeftBy}
 use Rattle.pldm_responder.specs.Performing.{Rules, rules_of, performed}
 use Rattle.pldm_responder.specs.Slots.{AreKept}
 use Rattle.pldm_responder.specs.Steps.{sensed_held, restarted_held, updated_held, arrival_commands}
-use Rattle.pldm_responder.specs.Wants.{KeepsNone}
+use Rattle.pldm_responder.specs.Needs.{KeepsNone}
 use Rattle.pldm_responder.specs.declared.outcome.Outcome.{Outcome}
 use Rattle.pldm_responder.specs.declared.outcome.Outcome.TheVariants.{Dropped, Partial, Answered}
 use Rattle.pldm_responder.proofs.CallsLookBack.{sensed_looks_back, updated_looks_back}

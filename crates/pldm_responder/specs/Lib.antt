@@ -6,7 +6,7 @@ pub mod Held
 pub mod Steps
 pub mod Answering
 pub mod Fitting
-pub mod Wants
+pub mod Needs
 pub mod Counts
 pub mod Slots
 pub mod Stations

@@ -11,7 +11,7 @@ use Rattle.pldm_responder.specs.Performing.{Rules}
 use Rattle.pldm_responder.specs.Rooms.{ArrivalLacksRow}
 use Rattle.pldm_responder.specs.Stations.{Station, held_of}
 use Rattle.pldm_responder.specs.Steps.{arrival_commands, arrival_held, arrival_outcome}
-use Rattle.pldm_responder.specs.Wants.{ArrivalWants}
+use Rattle.pldm_responder.specs.Needs.{ArrivalNeeds}
 use Rattle.pldm_responder.specs.declared.outcome.MessageOutcome.{MessageOutcome}
 
 module _ {P S : Type 0} (performing : P → List Command → P → Type 0) (old : Station P S) (arrival : Arrival) where
@@ -28,8 +28,8 @@ module _ {P S : Type 0} (performing : P → List Command → P → Type 0) (old 
     pub performed : performing old.platform (arrival_commands (held_of old) arrival) new.platform
 
   -- the step was refused memory for it, and all is as before
-  pub record WantedMemory (steady start : Bool) (new : Station P S) : Type 0 where
-    pub memory : ArrivalWants (held_of old) steady start arrival
+  pub record IsRefusedMemory (steady start : Bool) (new : Station P S) : Type 0 where
+    pub memory : ArrivalNeeds (held_of old) steady start arrival
     pub err : IsHeld (held_of new) (held_of old)
     pub none_performed : performing old.platform [] new.platform
     pub no_row : steady ≡ true → ArrivalLacksRow old.rows arrival

@@ -4,7 +4,6 @@
 
 mod answering;
 mod bounds;
-mod completed;
 mod kept_answer;
 mod kept_answers;
 pub mod laws;
@@ -15,6 +14,5 @@ mod routes;
 mod row;
 
 pub use bounds::Bounds;
-pub use completed::Completed;
-pub use outcome::{MessageOutcome, Outcome};
+pub use outcome::{Completed, MessageOutcome, Outcome};
 pub use responder::{MAX_KEPT, MAX_PENDING, Responder};

@@ -25,14 +25,13 @@ ghost use Rattle.pldm_responder.specs.Stations.{held_of, with_platform};
 ghost use Rattle.pldm_responder.specs.Steps.{arrival_commands, copied_packets, open_after, received_arrival, received_commands, received_held, received_outcome, repeats, restarted_held, sensed_held, updated_held};
 ghost use Rattle.pldm_responder.specs.contracts.responder.Responder.{the_row};
 ghost use Rattle.pldm_responder.specs.declared.outcome.MessageOutcome.TheVariants.{Answered};
-ghost use Rattle.pldm_responder.specs.Taking.{HasTaken, WantedMemory};
-ghost use Rattle.pldm_responder.specs.Wants.{WantsMemory};
+ghost use Rattle.pldm_responder.specs.Taking.{HasTaken, IsRefusedMemory};
+ghost use Rattle.pldm_responder.specs.Needs.{NeedsMemory};
 
 use crate::answering::answer_kept;
 use crate::bounds::Bounds;
-use crate::completed::Completed;
 use crate::kept_answers::KeptAnswers;
-use crate::outcome::{MessageOutcome, Outcome};
+use crate::outcome::{Completed, MessageOutcome, Outcome};
 use crate::performing::{perform, refuse, succeeded};
 use crate::routes::{not_performed, performed, way_back};
 use mctp_assembly::{Assembler, Fed, Key};
@@ -239,7 +238,7 @@ impl<P: Platform> Responder<P> {
         ensures platform { self.new.platform ≡ self.old.platform }
         ensures commanded { OnErr result (IsCommanded (held_of self.old) now bytes.now) }
         ensures no_row { OnErr result (LacksRow self.old now bytes.now) }
-        ensures memory { OnErr result (WantsMemory (held_of self.old) true now bytes.now) }
+        ensures memory { OnErr result (NeedsMemory (held_of self.old) true now bytes.now) }
     {
         let Ok(packet) = read_for(self.own, bytes) else {
             return Ok(None);
@@ -432,7 +431,7 @@ impl<P: Platform> Responder<P> {
             (received_held (rules_of P.answer P.after P.sensed) (held_of self.old) now bytes.now)) }
         ensures performed { OnOk result
             (P.performed self.old.platform (received_commands (held_of self.old) now bytes.now) self.new.platform) }
-        ensures memory { OnErr result (WantsMemory (held_of self.old) P.STEADY now bytes.now) }
+        ensures memory { OnErr result (NeedsMemory (held_of self.old) P.STEADY now bytes.now) }
         ensures err { OnErr result (IsHeld (held_of self.new) (held_of self.old)) }
         ensures none_performed { OnErr result (P.performed self.old.platform [] self.new.platform) }
         ensures no_row { OnErr result (P.STEADY ≡ true → LacksRow self.old now bytes.now) }
@@ -468,7 +467,7 @@ impl<P: Platform> Responder<P> {
             (received_held (rules_of P.answer P.after P.sensed) (held_of self.old) now bytes.now)) }
         ensures performed { OnOk result
             (P.performed self.old.platform (received_commands (held_of self.old) now bytes.now) self.new.platform) }
-        ensures memory { OnErr result (WantsMemory (held_of self.old) P.STEADY now bytes.now) }
+        ensures memory { OnErr result (NeedsMemory (held_of self.old) P.STEADY now bytes.now) }
         ensures err { OnErr result (IsHeld (held_of self.new) (held_of self.old)) }
         ensures none_performed { OnErr result (P.performed self.old.platform [] self.new.platform) }
         ensures no_row { OnErr result (P.STEADY ≡ true → LacksRow self.old now bytes.now) }
@@ -498,7 +497,7 @@ impl<P: Platform> Responder<P> {
         ensures ok { IfOk result (HasTaken P.performed self.old
             (packet_arrival (answer self.old.open_messages) now packet.now) (rules_of P.answer P.after P.sensed)
             (open_after self.old.open_messages (passed is_expected (Ok packet.now))) self.new reply.new.items) }
-        ensures err { OnErr result (WantedMemory P.performed self.old
+        ensures err { OnErr result (IsRefusedMemory P.performed self.old
             (packet_arrival (answer self.old.open_messages) now packet.now) P.STEADY packet.now.start self.new) }
         ensures bounds { self.new.bounds ≡ self.old.bounds }
     {
@@ -542,7 +541,7 @@ impl<P: Platform> Responder<P> {
         ensures ok { IfOk result (HasTaken P.performed self.old
             (packet_arrival (answer self.old.open_messages) now packet.now) (rules_of P.answer P.after P.sensed)
             (open_after self.old.open_messages (passed is_expected (Ok packet.now))) self.new reply.new.items) }
-        ensures err { OnErr result (WantedMemory P.performed self.old
+        ensures err { OnErr result (IsRefusedMemory P.performed self.old
             (packet_arrival (answer self.old.open_messages) now packet.now) P.STEADY packet.now.start self.new) }
         ensures bounds { self.new.bounds ≡ self.old.bounds }
     {
@@ -594,7 +593,7 @@ impl<P: Platform> Responder<P> {
         requires few { length message.now ≤ MAX_MESSAGE_BYTES }
         ensures ok { IfOk result (HasTaken P.performed self.old (message_arrival source tag now message.now)
             (rules_of P.answer P.after P.sensed) self.old.open_messages self.new reply.new.items) }
-        ensures err { OnErr result ((start : Bool) → WantedMemory P.performed self.old
+        ensures err { OnErr result ((start : Bool) → IsRefusedMemory P.performed self.old
             (message_arrival source tag now message.now) P.STEADY start self.new) }
         ensures bounds { self.new.bounds ≡ self.old.bounds }
     {

@@ -1,7 +1,7 @@
 use Rattle.std.proofs.Common.{◌≡◌, Bool, true, false, not, refl}
 use Rattle.pldm_responder.proofs.AskedKeys.{asked_without}
 use Rattle.pldm_responder.proofs.OpenBounds.{len_without}
-use Rattle.pldm_responder.proofs.ServedMessages.{at_error, wanted_when_whole}
+use Rattle.pldm_responder.proofs.ServedMessages.{at_error, needed_when_whole}
 use Rattle.pldm_responder.proofs.responder.Responder.take.Goals as goal
 
 true_by : (b : Bool) → not b ≡ false → b ≡ true
@@ -14,5 +14,5 @@ invariant_of-self g c =
 
 pub returns-in_err-taken-clause-err : goal.returns-in_err-taken-clause-err
 returns-in_err-taken-clause-err g c =
-    at_error _ (wanted_when_whole g.P.Platform.performed c.args.self.now c.serve.new.self g.P.Platform.STEADY c.args.now c.args.packet.now c.route-route.result c.in-Some.message.now
+    at_error _ (needed_when_whole g.P.Platform.performed c.args.self.now c.serve.new.self g.P.Platform.STEADY c.args.now c.args.packet.now c.route-route.result c.in-Some.message.now
     c.route-route.ensures (true_by _ c.if-not-route.false) c.in-Some.ensures.whole c.in_err-taken.ensures.err)

@@ -7,7 +7,7 @@ use Rattle.mctp_assembly.specs.declared.fed.Fed.TheVariants.{Whole}
 use Rattle.pldm_responder.specs.Stations.{Station, IsAsked}
 use Rattle.pldm_responder.proofs.AskedKeys.{asked_without, asked_after}
 use Rattle.pldm_responder.proofs.OpenBounds.{len_after, len_without}
-use Rattle.pldm_responder.proofs.ServedMessages.{at_error, wanted_when_whole}
+use Rattle.pldm_responder.proofs.ServedMessages.{at_error, needed_when_whole}
 use Rattle.pldm_responder.proofs.responder.Responder.take_piece.Goals as goal
 
 pub invariant_of-self : goal.invariant_of-self
@@ -34,6 +34,6 @@ pub returns-in_err-taken-in-Whole-clause-err : goal.returns-in_err-taken-in-Whol
 returns-in_err-taken-in-Whole-clause-err g c =
     let view = ap (λ (s : Station g.row.P.Denot g.row.P-State.Denot). s.open_messages) c.self.view_is in
     let owner = ap (λ (r : Route). r.owner) c.route-route.ensures ∙ c.requires.owner in
-    at_error _ (wanted_when_whole g.P.Platform.performed c.args.self.now c.serve.new.self g.P.Platform.STEADY c.args.now c.args.packet.now c.route-route.result c.deref.result.now
+    at_error _ (needed_when_whole g.P.Platform.performed c.args.self.now c.serve.new.self g.P.Platform.STEADY c.args.now c.args.packet.now c.route-route.result c.deref.result.now
     c.route-route.ensures owner (ap (λ items. Whole (record { items = items })) c.deref.ensures.0 ∙ sym c.in-Whole.is ∙ c.look.ensures ∙ ap (λ m. answer m c.args.packet.now) view)
     c.in_err-taken-in-Whole.ensures.err)
