@@ -74,7 +74,11 @@ impl Assembler {
     /// # Errors
     ///
     /// As [`Assembler::feed`].
-    pub fn feed_into(&mut self, packet: &PacketRef<'_>, message: &mut Body) -> Result<FedInto, Memory>
+    pub fn feed_into(
+        &mut self,
+        packet: &PacketRef<'_>,
+        message: &mut Body,
+    ) -> Result<FedInto, Memory>
         ensures fed { IfOk result (λ given. fed_with message.new.items given ≡ answer self.old packet.now) }
         ensures ok { OnOk result (self.new ≡ after self.old packet.now) }
         ensures memory { OnErr result (answer self.old packet.now ≡ Partial) }

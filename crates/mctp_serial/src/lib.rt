@@ -12,7 +12,7 @@ use arrayvec::ArrayVec;
 pub use fault::FrameFault;
 pub use frames::frame;
 use mctp_packet::MAX_PACKET_BYTES;
-pub use reader::{FrameReader, FrameEvent};
+pub use reader::{FrameEvent, FrameReader};
 
 /// The framing flag, which stands before and after a frame.
 pub const FLAG: u8 = 0x7E;

@@ -1,7 +1,7 @@
 //! What may stand at a place of a schedule's line.
 
-use crate::words::quoted;
 use crate::suggest::suggestion;
+use crate::words::quoted;
 use line_words::{read_decimal, read_number, read_value};
 use mctp_packet::{MAX_EID, MAX_MOMENT, MIN_EID, Memory};
 use schedule_text::{MAX_BYTE, MAX_HANDLE, MAX_ID, MAX_TIMEOUT};

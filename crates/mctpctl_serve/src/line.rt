@@ -20,10 +20,10 @@ use crate::fault::ServeFault;
 use crate::ticks::Ticks;
 use mctp_control::Endpoint;
 use mctp_packet::{Body, MAX_MOMENT, Moment, Reason};
-use mctp_serial::{FrameReader, FrameEvent, frame};
+use mctp_serial::{FrameEvent, FrameReader, frame};
 use mctpctl_input::Port;
 use pldm_platform::Platform;
-use pldm_responder::{Responder, MessageOutcome};
+use pldm_responder::{MessageOutcome, Responder};
 use std::io::{Read, Write};
 
 /// How many bytes are asked for at once: a line gives a few at a time, and these hold many frames, in a room that needs

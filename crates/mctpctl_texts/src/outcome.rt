@@ -28,7 +28,11 @@ pub fn push_outcome(out: &mut Vec<u8>, taken: &MessageOutcome, reply: &[u8]) -> 
 }
 
 /// As `push_outcome`, but that a front of the text may be taken before a refusal.
-fn write_outcome<O: TextWriter>(out: &mut O, taken: &MessageOutcome, reply: &[u8]) -> Result<(), O::Refusal>
+fn write_outcome<O: TextWriter>(
+    out: &mut O,
+    taken: &MessageOutcome,
+    reply: &[u8],
+) -> Result<(), O::Refusal>
     ensures written { Wrote O.contents O.failed O.refused out.old out.new
         (outcome_text (answering reply.now taken.now)) result }
     ensures front { KeepsFront O.begins out.old out.new }

@@ -21,7 +21,7 @@ use mctp_packet::{
     Body, Eid, Keep, MAX_PACKET_BYTES, MAX_PACKETS, Moment, Route, UNIT, packet_at, write,
 };
 use needleoat_forms::{AnswerFields, CommandFields, answer_of};
-use pldm_endpoint::{Asking, Endpoint, ReceiveRefusal, MessageStep};
+use pldm_endpoint::{Asking, Endpoint, MessageStep, ReceiveRefusal};
 use pldm_responder::{Bounds, MessageOutcome};
 use pldm_wire::{Answer, Command, INSTANCE_IDS};
 use std::alloc::Global;

@@ -17,10 +17,10 @@ ghost use Rattle.pldm_endpoint.specs.TwoSteps.{IsAnsweredBy, IsAskedBy, IsItsAns
 
 use crate::asks::{Asked, Asker, Asks};
 use crate::outside_device::OutsideDevice;
-use crate::step::{AnswerRefusal, Asking, ReceiveRefusal, Step, MessageStep, is_answer_to};
+use crate::step::{AnswerRefusal, Asking, MessageStep, ReceiveRefusal, Step, is_answer_to};
 use mctp_packet::{Body, Eid, Keep, Memory, Moment};
 use pldm_responder::laws::answers_come_from_outside;
-use pldm_responder::{Bounds, Outcome, Responder, MessageOutcome};
+use pldm_responder::{Bounds, MessageOutcome, Outcome, Responder};
 use pldm_wire::{Answer, Command};
 use std::alloc::Global;
 use std::marker::Model;
