@@ -12,4 +12,4 @@ mod step;
 pub use asks::{Asked, Asker};
 pub use endpoint::Endpoint;
 pub use outside_device::OutsideDevice;
-pub use step::{AnswerRefusal, Asking, ReceiveRefusal, Step, MessageStep};
+pub use step::{AnswerRefusal, Asking, MessageStep, ReceiveRefusal, Step};

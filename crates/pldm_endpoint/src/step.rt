@@ -4,7 +4,7 @@ ghost use Rattle.std.specs.Prelude.{◌≡◌, true, false};
 ghost use Rattle.pldm_wire.specs.Answers.{IsAnswerTo, answered_kind};
 
 use mctp_packet::{Eid, Memory};
-use pldm_responder::{Outcome, MessageOutcome};
+use pldm_responder::{MessageOutcome, Outcome};
 use pldm_wire::{
     Answer, BASE, GET_NUMERIC_EFFECTER_VALUE, GET_PDR, GET_PDR_REPOSITORY_INFO, GET_PLDM_COMMANDS,
     GET_PLDM_TYPES, GET_PLDM_VERSION, GET_SENSOR_READING, GET_STATE_EFFECTER_STATES,
@@ -58,6 +58,16 @@ pub enum ReceiveRefusal {
     /// No memory was to be had, or a bound would be passed.
     #[error("out of memory")]
     Memory(Memory),
+}
+
+impl From<Memory> for ReceiveRefusal {
+    ghost use Rattle.pldm_endpoint.specs.declared.step.ReceiveRefusal.TheVariants as refusals;
+
+    ghost from_gives = { λ memory refusal. refusal ≡ refusals.Memory memory };
+
+    fn from(memory: Memory) -> ReceiveRefusal {
+        ReceiveRefusal::Memory(memory)
+    }
 }
 
 /// Why an answer was refused. The endpoint is as before.
