@@ -201,10 +201,13 @@ impl Endpoint {
         if let Some(refusal) = self.refusal(now, bytes) {
             return Err(refusal);
         }
-        match self.take(now, bytes, reply) {
-            Ok(step) => Ok(step),
-            Err(memory) => Err(ReceiveRefusal::Memory(memory)),
+        answers_come_from_outside::<OutsideDevice>();
+        if let Some(command) = self.responder.ask(now, bytes)? {
+            let asking = self.hand_out(now, bytes, command, reply)?;
+            return Ok(MessageStep::Perform(asking));
         }
+        let taken = self.responder.receive_message(now, bytes, reply)?;
+        Ok(MessageStep::Done(taken))
     }
 
     /// Why a packet is refused, whatever memory there is.
@@ -233,37 +236,6 @@ impl Endpoint {
         ensures { result ≡ is_full self.now.asks self.now.count self.now.most }
     {
         self.performing() >= self.most || self.count == u64::MAX
-    }
-
-    /// Takes a packet that is not refused.
-    fn take(&mut self, now: Moment, bytes: &[u8], reply: &mut Body) -> Result<MessageStep, Memory>
-        requires later { (held_of self.old.station).last ≤ now }
-        requires taken { refused_by self.old now bytes.now ≡ None }
-        ensures step { IfOk result (λ step. stepping reply.new.items step
-            ≡ received_step (held_of self.old.station) now bytes.now self.old.count) }
-        ensures some { IfOk result (StepHasReply reply.new.items) }
-        ensures ready { IfOk result (λ step. IsAskedBy (stepping reply.new.items step) self.new.asks
-            (received_commands (held_of self.old.station) now bytes.now)) }
-        ensures asks { OnOk result (self.new.asks
-            ≡ asks_after (held_of self.old.station) now bytes.now self.old.asks self.old.count) }
-        ensures count { OnOk result (self.new.count
-            ≡ count_after (held_of self.old.station) now bytes.now self.old.count) }
-        ensures held { OnOk result (IsLeftByStep (held_of self.old.station) now bytes.now (held_of self.new.station)) }
-        ensures memory { OnErr result (NeedsMemory (held_of self.old.station) true now bytes.now
-            ⊎ IsCommanded (held_of self.old.station) now bytes.now) }
-        ensures still_asked { OnErr result (self.new.asks ≡ self.old.asks) }
-        ensures still_counted { OnErr result (self.new.count ≡ self.old.count) }
-        ensures err { OnErr result (IsHeld (bare (held_of self.new.station)) (bare (held_of self.old.station))) }
-        ensures bounds { self.new.station.bounds ≡ self.old.station.bounds }
-        ensures most { self.new.most ≡ self.old.most }
-    {
-        answers_come_from_outside::<OutsideDevice>();
-        if let Some(command) = self.responder.ask(now, bytes)? {
-            let asking = self.hand_out(now, bytes, command, reply)?;
-            return Ok(MessageStep::Perform(asking));
-        }
-        let taken = self.responder.receive_message(now, bytes, reply)?;
-        Ok(MessageStep::Done(taken))
     }
 
     /// Has the command of a packet asked. Its request is kept at once, and there is room for it.

@@ -60,6 +60,16 @@ pub enum ReceiveRefusal {
     Memory(Memory),
 }
 
+impl From<Memory> for ReceiveRefusal {
+    ghost use Rattle.pldm_endpoint.specs.declared.step.ReceiveRefusal.TheVariants as refusals;
+
+    ghost from_gives = { λ memory refusal. refusal ≡ refusals.Memory memory };
+
+    fn from(memory: Memory) -> ReceiveRefusal {
+        ReceiveRefusal::Memory(memory)
+    }
+}
+
 /// Why an answer was refused. The endpoint is as before.
 #[derive(Clone, Copy, Debug, PartialEq, Eq, Error)]
 pub enum AnswerRefusal {
