@@ -1,7 +1,7 @@
 //! What a schedule tells both ends to do.
 
+use crate::KeptCommand;
 use mctp_packet::{Eid, Moment};
-use pldm_wire::Command;
 
 /// A requester of a schedule, with what it takes for its retries.
 #[derive(Clone, Copy, Debug, PartialEq, Eq)]
@@ -31,7 +31,7 @@ pub enum Action {
         /// The requester's endpoint ID.
         requester: Eid,
         /// The command that it asks for.
-        command: Command,
+        command: KeptCommand,
     },
     /// A requester sends again and gives up what is due.
     Tick {
