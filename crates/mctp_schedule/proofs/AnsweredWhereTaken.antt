@@ -213,7 +213,7 @@ module _ {S : Type 0} (setting : Setting S) where
 
   module _ (lower : Lower) (past : List Step) (h : AllHold past) (timely : IsTimelyLog setting.keep (world setting past).log) (sound : IsSound setting past) (moment i j : ℕ) where
     abbrev replying : Step
-    replying = record { moment = moment; action = actions.Reply i j }
+    replying = record { moment = moment; action = actions.Reply j i }
 
     -- where there is no such packet
     holds_no_reply : part_count setting (world setting past) i ≤ j → AllHold (replying ∷ past)
@@ -229,7 +229,7 @@ module _ {S : Type 0} (setting : Setting S) where
         (λ (ne : i ≡ k → ⊥). and_left (i == k) (completes setting past k j) (ne_eqb i k ne))
         (cases_eq i k)))
 
-    module _ (own : IsTimelyAction setting (world setting past) moment (actions.Reply i j)) (q : Asked) (is : asked_at (Log past) i ≡ Some q) (l : j < part_count setting (world setting past) i) where
+    module _ (own : IsTimelyAction setting (world setting past) moment (actions.Reply j i)) (q : Asked) (is : asked_at (Log past) i ≡ Some q) (l : j < part_count setting (world setting past) i) where
       abbrev m : List ℕ
       m = reply_of setting (world setting past) i
 
@@ -311,7 +311,7 @@ module _ {S : Type 0} (setting : Setting S) where
           (λ k ne. ap (λ b. b || taken setting past k) (and_left (i == k) _ (ne_eqb i k (λ e. ne (sym e)))))
           holds_here
 
-    pub holds_reply : IsTimelyAction setting (world setting past) moment (actions.Reply i j) → AllHold (replying ∷ past)
+    pub holds_reply : IsTimelyAction setting (world setting past) moment (actions.Reply j i) → AllHold (replying ∷ past)
     holds_reply own = go (cases_lt j (part_count setting (world setting past) i))
       where
         asked : (l : j < part_count setting (world setting past) i) → (o : Option Asked) → asked_at (Log past) i ≡ o → AllHold (replying ∷ past)
@@ -410,7 +410,7 @@ module _ {S : Type 0} (setting : Setting S) where
       (λ k q f. holds_kept setting ticking past k q (h k q f) (tick_keeps setting (world setting past) (Log past) moment e q) refl refl)
       (none_new ticking past (λ k. refl))
   holds_done lower past h timely sound moment (actions.Request i) own = holds_log (record { moment = moment; action = actions.Request i }) past h (λ k. refl) (λ r. refl) (λ k. refl) (λ k. refl)
-  holds_done lower past h timely sound moment (actions.Reply i j) own = holds_reply lower past h timely sound moment i j own
+  holds_done lower past h timely sound moment (actions.Reply j i) own = holds_reply lower past h timely sound moment i j own
   holds_done lower past h timely sound moment (actions.Sense id value) own = holds_log (record { moment = moment; action = actions.Sense id value }) past h (λ k. refl) (λ r. refl) (λ k. refl) (λ k. refl)
   holds_done lower past h timely sound moment actions.Restart own = holds_log (record { moment = moment; action = actions.Restart }) past h (λ k. refl) (λ r. refl) (λ k. refl) (λ k. refl)
   holds_done lower past h timely sound moment (actions.Busy i) own = holds_busy lower past h timely sound moment i own

@@ -43,7 +43,7 @@ module _ {S : Type 0} (setting : Setting S) where
   commands_added w moment (actions.Open e command) = opened_or_not S setting.keep _ _ w.log
   commands_added w moment (actions.Tick e) = refl
   commands_added w moment (actions.Request k) = refl
-  commands_added w moment (actions.Reply k j) = ap (commands_performed S setting.keep) (handed_log setting w moment _ _)
+  commands_added w moment (actions.Reply j k) = ap (commands_performed S setting.keep) (handed_log setting w moment _ _)
   commands_added w moment (actions.Sense id value) = refl
   commands_added w moment actions.Restart = refl
   commands_added w moment (actions.Busy k) = ap (commands_performed S setting.keep) (handed_log setting w moment _ _)

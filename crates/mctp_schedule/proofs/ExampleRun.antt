@@ -36,35 +36,35 @@ setting = with_tries 3 5
 -- comes
 abbrev retried : List Step
 retried =
-    at 210 (Reply 0 0) ∷ at 200 (Request 0) ∷ at 200 (Tick 8) ∷ at 8 (Reply 1 0) ∷ at 7 (Request 1) ∷ at 6 (Request 0)
+    at 210 (Reply 0 0) ∷ at 200 (Request 0) ∷ at 200 (Tick 8) ∷ at 8 (Reply 0 1) ∷ at 7 (Request 1) ∷ at 6 (Request 0)
     ∷ at 5 (Request 1) ∷ at 0 (set_to 10 (pos 50)) ∷ at 0 (set_to 8 (pos 40)) ∷ []
 
 -- an answer of four packets: the third comes before the second, then all come in order
 abbrev out_of_order : List Step
 out_of_order =
-    at 310 (Reply 2 1) ∷ at 310 (Reply 2 2) ∷ at 310 (Reply 2 0) ∷ at 300 (Request 2)
+    at 310 (Reply 1 2) ∷ at 310 (Reply 2 2) ∷ at 310 (Reply 0 2) ∷ at 300 (Request 2)
     ∷ at 300 (Open 8 (GetPdr 0 0 1 239 0)) ∷ retried
 
 abbrev in_parts : List Step
 in_parts =
-    at 320 (Reply 2 3) ∷ at 320 (Reply 2 2) ∷ at 320 (Reply 2 1) ∷ at 320 (Reply 2 0) ∷ out_of_order
+    at 320 (Reply 3 2) ∷ at 320 (Reply 2 2) ∷ at 320 (Reply 1 2) ∷ at 320 (Reply 0 2) ∷ out_of_order
 
 -- so many more requests of 8, from number 3 on, each answered at once
 abbrev so_many_more : ℕ → List Step
 so_many_more zero = in_parts
 so_many_more (suc n) =
-    at 400 (Reply (n + 3) 0) ∷ at 400 (Request (n + 3)) ∷ at 400 (Open 8 GetTid) ∷ so_many_more n
+    at 400 (Reply 0 (n + 3)) ∷ at 400 (Request (n + 3)) ∷ at 400 (Open 8 GetTid) ∷ so_many_more n
 
 -- 10 sets another value, and 8 asks with the bytes of its first request, which has the same instance ID
 abbrev used_again : List Step
 used_again =
-    at 2000 (Reply 34 0) ∷ at 2000 (Request 34) ∷ at 2000 (set_to 8 (pos 40)) ∷ at 500 (Reply 33 0) ∷ at 500 (Request 33)
+    at 2000 (Reply 0 34) ∷ at 2000 (Request 34) ∷ at 2000 (set_to 8 (pos 40)) ∷ at 500 (Reply 0 33) ∷ at 500 (Request 33)
     ∷ at 500 (set_to 10 (pos 60)) ∷ so_many_more 30
 
 -- a restart: the busy answer is not taken, and the one to the retry is
 abbrev restarted : List Step
 restarted =
-    at 3110 (Reply 35 0) ∷ at 3100 (Request 35) ∷ at 3100 (Tick 10) ∷ at 2210 (Busy 35) ∷ at 2200 (Request 35)
+    at 3110 (Reply 0 35) ∷ at 3100 (Request 35) ∷ at 3100 (Tick 10) ∷ at 2210 (Busy 35) ∷ at 2200 (Request 35)
     ∷ at 2200 (Open 10 (GetSensorReading 1 0)) ∷ at 2100 Restart ∷ at 2050 (Sense 1 (pos 41)) ∷ used_again
 
 -- a request that is lost is given up

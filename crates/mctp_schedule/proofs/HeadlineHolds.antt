@@ -57,7 +57,7 @@ module _ {S : Type 0} (setting : Setting S) (laws : Halves setting) where
   entry_is past moment (actions.Tick e) s = refl
   entry_is past moment actions.Restart s = refl
   entry_is past moment (actions.Request k) s = delivery_is past moment k s (asked_at (world setting past).log k) refl
-  entry_is past moment (actions.Reply k j) s = ap got_entry (laws.reply past moment k j (before (record { moment = moment; action = actions.Reply k j }) past s) s.timely.0)
+  entry_is past moment (actions.Reply j k) s = ap got_entry (laws.reply past moment k j (before (record { moment = moment; action = actions.Reply j k }) past s) s.timely.0)
   entry_is past moment (actions.Busy k) s = ap got_entry (laws.busy past moment k (before (record { moment = moment; action = actions.Busy k }) past s) s.timely.0)
   entry_is past moment (actions.Sense id value) s =
       ap (λ state. Sensed (made_of (λ _. tt) (setting.device.sensed state id value)))

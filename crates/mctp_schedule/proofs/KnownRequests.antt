@@ -91,7 +91,7 @@ module _ {S : Type 0} (setting : Setting S) where
       go false = inl refl
   log_done w moment (actions.Tick e) = inl refl
   log_done w moment (actions.Request k) = inr (Delivered moment k, refl)
-  log_done w moment (actions.Reply k j) = inl (handed_log w moment (source_of (asked_at w.log k)) (reply_packet setting w k j))
+  log_done w moment (actions.Reply j k) = inl (handed_log w moment (source_of (asked_at w.log k)) (reply_packet setting w k j))
   log_done w moment (actions.Sense id value) = inr (Sensed moment id value, refl)
   log_done w moment actions.Restart = inr (WentDown moment, refl)
   log_done w moment (actions.Busy k) = inl (handed_log w moment (source_of (asked_at w.log k)) (busy_packet setting w k))
@@ -191,7 +191,7 @@ module _ {S : Type 0} (setting : Setting S) where
   known_done w moment (actions.Open e command) a = opened_known w moment e command a
   known_done w moment (actions.Tick e) a = called_known w e (Tick moment) a
   known_done w moment (actions.Request k) a = logged_known w (Delivered moment k ∷ w.log) (λ k. refl) a
-  known_done w moment (actions.Reply k j) a = handed_known w moment (source_of (asked_at w.log k)) (reply_packet setting w k j) a
+  known_done w moment (actions.Reply j k) a = handed_known w moment (source_of (asked_at w.log k)) (reply_packet setting w k j) a
   known_done w moment (actions.Sense id value) a = logged_known w (Sensed moment id value ∷ w.log) (λ k. refl) a
   known_done w moment actions.Restart a = logged_known w (WentDown moment ∷ w.log) (λ k. refl) a
   known_done w moment (actions.Busy k) a = handed_known w moment (source_of (asked_at w.log k)) (busy_packet setting w k) a

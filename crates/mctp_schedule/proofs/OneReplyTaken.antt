@@ -130,7 +130,7 @@ module _ {S : Type 0} (setting : Setting S) (lower : Lower) where
         ∙ brings)
 
   -- ---- a packet of a reply
-  module _ (past : List Step) (moment k j : ℕ) (s : IsTimelySchedule setting past) (timely : IsTimelyAction setting (world setting past) moment (Reply k j)) where
+  module _ (past : List Step) (moment k j : ℕ) (s : IsTimelySchedule setting past) (timely : IsTimelyAction setting (world setting past) moment (Reply j k)) where
     abbrev w : World
     w = world setting past
 

@@ -19,7 +19,7 @@ abbrev pub OpensAt : (ℕ → Type 0) → Action → Type 0
 OpensAt P (actions.Open e command) = P e
 OpensAt P (actions.Tick e) = Unit {0}
 OpensAt P (actions.Request k) = Unit {0}
-OpensAt P (actions.Reply k j) = Unit {0}
+OpensAt P (actions.Reply j k) = Unit {0}
 OpensAt P (actions.Sense id value) = Unit {0}
 OpensAt P actions.Restart = Unit {0}
 OpensAt P (actions.Busy k) = Unit {0}
@@ -46,7 +46,7 @@ module _ {S : Type 0} (setting : Setting S) (P : ℕ → Type 0) where
   sources_done w moment (actions.Request i) here s k r is = s k r is
   sources_done w moment (actions.Sense id value) here s k r is = s k r is
   sources_done w moment actions.Restart here s k r is = s k r is
-  sources_done w moment (actions.Reply i j) here s k r is =
+  sources_done w moment (actions.Reply j i) here s k r is =
       s k r (ap (λ (log : List Happening). asked_at log k) (sym (handed_log setting w moment (source_of (asked_at w.log i)) (reply_packet setting w i j))) ∙ is)
   sources_done w moment (actions.Busy i) here s k r is =
       s k r (ap (λ (log : List Happening). asked_at log k) (sym (handed_log setting w moment (source_of (asked_at w.log i)) (busy_packet setting w i))) ∙ is)
@@ -69,7 +69,7 @@ module _ (P : ℕ → Type 0) where
   known_opens_at lines each (actions.Open e command) known = found_line e lines each known
   known_opens_at lines each (actions.Tick e) known = tt
   known_opens_at lines each (actions.Request k) known = tt
-  known_opens_at lines each (actions.Reply k j) known = tt
+  known_opens_at lines each (actions.Reply j k) known = tt
   known_opens_at lines each (actions.Sense id value) known = tt
   known_opens_at lines each actions.Restart known = tt
   known_opens_at lines each (actions.Busy k) known = tt

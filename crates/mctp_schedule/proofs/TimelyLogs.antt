@@ -184,7 +184,7 @@ module _ {S : Type 0} (setting : Setting S) where
   joined_step ids w now moment (actions.Open e command) j later timely = joined_open ids w now moment e command j later
   joined_step ids w now moment (actions.Tick e) j later timely = joined_tick w now moment e j later
   joined_step ids w now moment (actions.Request k) j later timely = joined_happened w now (Delivered moment k) (λ n r is. is) j.apart (timely, j.in_time) j later
-  joined_step ids w now moment (actions.Reply k packet) j later timely = joined_handed w now moment (source_of (asked_at w.log k)) (reply_packet setting w k packet) j later
+  joined_step ids w now moment (actions.Reply packet k) j later timely = joined_handed w now moment (source_of (asked_at w.log k)) (reply_packet setting w k packet) j later
   joined_step ids w now moment (actions.Sense id value) j later timely = joined_happened w now (Sensed moment id value) (λ n r is. is) j.apart j.in_time j later
   joined_step ids w now moment actions.Restart j later timely = joined_happened w now (WentDown moment) (λ n r is. is) j.apart j.in_time j later
   joined_step ids w now moment (actions.Busy k) j later timely = joined_handed w now moment (source_of (asked_at w.log k)) (busy_packet setting w k) j later

@@ -40,7 +40,7 @@ module _ {S : Type 0} (setting : Setting S) where
 
   action_told : (w : World) (moment : ℕ) (action : Action) → is_timely_action setting w moment action ≡ true → IsTimelyAction setting w moment action
   action_told w moment (Request k) t = in_time_told moment (asked_at w.log k) t
-  action_told w moment (Reply k j) t = packet_told w k (reply_packet setting w k j) t
+  action_told w moment (Reply j k) t = packet_told w k (reply_packet setting w k j) t
   action_told w moment (Busy k) t = packet_told w k (busy_packet setting w k) t
   action_told w moment (Open e command) t = tt
   action_told w moment (Tick e) t = tt
@@ -49,7 +49,7 @@ module _ {S : Type 0} (setting : Setting S) where
 
   action_tested : (w : World) (moment : ℕ) (action : Action) → IsTimelyAction setting w moment action → is_timely_action setting w moment action ≡ true
   action_tested w moment (Request k) h = in_time_tested moment (asked_at w.log k) h
-  action_tested w moment (Reply k j) h = packet_tested w k (reply_packet setting w k j) h
+  action_tested w moment (Reply j k) h = packet_tested w k (reply_packet setting w k j) h
   action_tested w moment (Busy k) h = packet_tested w k (busy_packet setting w k) h
   action_tested w moment (Open e command) h = refl
   action_tested w moment (Tick e) h = refl

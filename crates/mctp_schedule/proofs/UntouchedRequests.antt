@@ -165,7 +165,7 @@ module _ {S : Type 0} (setting : Setting S) where
       go (Some r) e = let now = asked_stays_done setting (world setting past) step.moment step.action k r e in let wrong : Some r ≡ None = sym now ∙ off in absurd (cc)
 
   nothing_comes : (w : World) (k : ℕ) (action : Action) (js : List (Option ℕ)) → asked_at w.log k ≡ None → with_delivery setting w k action js ≡ js
-  nothing_comes w k (actions.Reply i j) js off =
+  nothing_comes w k (actions.Reply j i) js off =
       let none : part_count setting w k ≡ 0 = ap piece_count (no_parts w k (first_unopened S setting.keep w.log k off)) in
       cond-false (i == k && nat_lt j (part_count setting w k)) _ _ (and_right (i == k) _ (le-ltb j (part_count setting w k) (omega arith)))
   nothing_comes w k (actions.Busy i) js off =
@@ -177,7 +177,7 @@ module _ {S : Type 0} (setting : Setting S) where
   nothing_comes w k actions.Restart js off = refl
 
   nothing_taken : (past : List Step) (k : ℕ) (action : Action) → asked_at (Log past) k ≡ None → takes setting past k action ≡ false
-  nothing_taken past k (actions.Reply i j) off = and_right (i == k) _ (ap (completes_for setting past k j) off)
+  nothing_taken past k (actions.Reply j i) off = and_right (i == k) _ (ap (completes_for setting past k j) off)
   nothing_taken past k (actions.Busy i) off = refl
   nothing_taken past k (actions.Open e command) off = refl
   nothing_taken past k (actions.Tick e) off = refl

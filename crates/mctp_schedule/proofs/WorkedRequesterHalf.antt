@@ -50,7 +50,7 @@ asked = at 0 (Request 0) ∷ at 0 (Open 8 GetPdrRepositoryInfo) ∷ []
 
 -- packets 1, 0, 0, 1 and 2 were delivered: one too early, one that came again
 abbrev in_turn : List Step
-in_turn = at 5 (Reply 0 2) ∷ at 4 (Reply 0 1) ∷ at 3 (Reply 0 0) ∷ at 2 (Reply 0 0) ∷ at 1 (Reply 0 1) ∷ asked
+in_turn = at 5 (Reply 2 0) ∷ at 4 (Reply 1 0) ∷ at 3 (Reply 0 0) ∷ at 2 (Reply 0 0) ∷ at 1 (Reply 1 0) ∷ asked
 
 too_early : reply_owed long asked 0 1 ≡ Some (Dropped UnexpectedMiddleOrEnd)
 unfolding request_of command_of response_of
@@ -80,15 +80,15 @@ not_taken_yet : taken long in_turn 0 ≡ false
 unfolding request_of command_of response_of
 not_taken_yet = refl
 
-is_taken : taken long (at 6 (Reply 0 3) ∷ in_turn) 0 ≡ true
+is_taken : taken long (at 6 (Reply 3 0) ∷ in_turn) 0 ≡ true
 unfolding request_of command_of response_of
 is_taken = refl
 
-late_packet : reply_owed long (at 6 (Reply 0 3) ∷ in_turn) 0 3 ≡ Some (Dropped BadTag)
+late_packet : reply_owed long (at 6 (Reply 3 0) ∷ in_turn) 0 3 ≡ Some (Dropped BadTag)
 unfolding request_of command_of response_of
 late_packet = refl
 
-no_such_packet : reply_owed long (at 6 (Reply 0 3) ∷ in_turn) 0 4 ≡ None
+no_such_packet : reply_owed long (at 6 (Reply 3 0) ∷ in_turn) 0 4 ≡ None
 unfolding request_of command_of response_of
 no_such_packet = refl
 
@@ -101,11 +101,11 @@ second_is_lost : reply_owed long (at 1 (Reply 0 0) ∷ asked) 0 2 ≡ Some (Drop
 unfolding request_of command_of response_of
 second_is_lost = refl
 
-after_the_loss : reply_owed long (at 2 (Reply 0 2) ∷ at 1 (Reply 0 0) ∷ asked) 0 3 ≡ Some (Dropped UnexpectedMiddleOrEnd)
+after_the_loss : reply_owed long (at 2 (Reply 2 0) ∷ at 1 (Reply 0 0) ∷ asked) 0 3 ≡ Some (Dropped UnexpectedMiddleOrEnd)
 unfolding request_of command_of response_of
 after_the_loss = refl
 
-other_order : taken long (at 4 (Reply 0 3) ∷ at 3 (Reply 0 1) ∷ at 2 (Reply 0 2) ∷ at 1 (Reply 0 0) ∷ asked) 0 ≡ false
+other_order : taken long (at 4 (Reply 3 0) ∷ at 3 (Reply 1 0) ∷ at 2 (Reply 2 0) ∷ at 1 (Reply 0 0) ∷ asked) 0 ≡ false
 unfolding request_of command_of response_of
 other_order = refl
 
@@ -173,13 +173,13 @@ busy_answer_afterwards = refl
 -- ---- a busy answer ends a row of packets
 abbrev cut_by_busy : List Step
 cut_by_busy =
-    at 210 (Reply 0 2) ∷ at 209 (Busy 0) ∷ at 200 (Request 0) ∷ at 100 Restart ∷ at 5 (Reply 0 1) ∷ at 4 (Reply 0 0) ∷ asked
+    at 210 (Reply 2 0) ∷ at 209 (Busy 0) ∷ at 200 (Request 0) ∷ at 100 Restart ∷ at 5 (Reply 1 0) ∷ at 4 (Reply 0 0) ∷ asked
 
 row_is_cut : reply_owed long (drop 1 cut_by_busy) 0 2 ≡ Some (Dropped UnexpectedMiddleOrEnd)
 unfolding request_of command_of response_of
 row_is_cut = refl
 
-cut_row_is_not_taken : taken long (at 211 (Reply 0 3) ∷ cut_by_busy) 0 ≡ false
+cut_row_is_not_taken : taken long (at 211 (Reply 3 0) ∷ cut_by_busy) 0 ≡ false
 unfolding request_of command_of response_of
 cut_row_is_not_taken = refl
 
@@ -238,11 +238,11 @@ first_reply : reply_of gauge (world gauge two_readings) 0 ≡ reading_of_first
 unfolding request_of command_of response_of
 first_reply = refl
 
-first_stands : standing gauge (at 20 (Reply 1 0) ∷ at 20 (Reply 0 0) ∷ two_readings) 0 ≡ standings.Answered reading_of_first
+first_stands : standing gauge (at 20 (Reply 0 1) ∷ at 20 (Reply 0 0) ∷ two_readings) 0 ≡ standings.Answered reading_of_first
 unfolding request_of command_of response_of
 first_stands = refl
 
-second_stands : standing gauge (at 20 (Reply 1 0) ∷ at 20 (Reply 0 0) ∷ two_readings) 1 ≡ standings.Answered reading_of_second
+second_stands : standing gauge (at 20 (Reply 0 1) ∷ at 20 (Reply 0 0) ∷ two_readings) 1 ≡ standings.Answered reading_of_second
 unfolding request_of command_of response_of
 second_stands = refl
 
@@ -271,7 +271,7 @@ fourth_is_given : got_of_reply long (world long in_turn) 0 3 ≡ Some (Answered 
 unfolding request_of command_of response_of
 fourth_is_given = refl
 
-late_is_given : got_of_reply long (world long (at 6 (Reply 0 3) ∷ in_turn)) 0 3 ≡ Some (Dropped BadTag)
+late_is_given : got_of_reply long (world long (at 6 (Reply 3 0) ∷ in_turn)) 0 3 ≡ Some (Dropped BadTag)
 unfolding request_of command_of response_of
 late_is_given = refl
 

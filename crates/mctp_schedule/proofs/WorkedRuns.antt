@@ -71,7 +71,7 @@ retry_reply = refl
 -- ---- a reading between a request and its copy: the copy has the answer of before
 abbrev a_reading : List Step
 a_reading =
-    at 20 (Reply 1 0) ∷ at 20 (Reply 0 0) ∷ at 10 (Request 1) ∷ at 10 (Open 8 (GetSensorReading 1 0)) ∷ at 10 (Request 0)
+    at 20 (Reply 0 1) ∷ at 20 (Reply 0 0) ∷ at 10 (Request 1) ∷ at 10 (Open 8 (GetSensorReading 1 0)) ∷ at 10 (Request 0)
     ∷ at 5 (Sense 1 (pos 41)) ∷ at 0 (Request 0) ∷ at 0 (Open 8 (GetSensorReading 1 0)) ∷ []
 
 abbrev reading_message : ℕ → ℕ → List ℕ
@@ -156,7 +156,7 @@ of_four = at 0 (Request 0) ∷ at 0 (Open 8 (GetPdr 0 0 1 239 0)) ∷ []
 
 abbrev replies_after : List ℕ → List Step
 replies_after [] = of_four
-replies_after (j ∷ earlier) = at 0 (Reply 0 j) ∷ replies_after earlier
+replies_after (j ∷ earlier) = at 0 (Reply j 0) ∷ replies_after earlier
 
 four_reply : reply_of setting (world setting of_four) 0
     ≡ (0x01 ∷ 0x00 ∷ 0x02 ∷ 0x51 ∷ 0x00 ∷ 0x00 ∷ 0x00 ∷ 0x00 ∷ 0x00 ∷ 0xef ∷ 0x00 ∷ 0x00 ∷ 0x00 ∷ 0x00 ∷ 0xef ∷ 0x00
@@ -193,8 +193,8 @@ seven_opens past =
 
 abbrev tag_used_again : List Step
 tag_used_again =
-    at 620 (Reply 8 4) ∷ at 620 (Reply 8 3) ∷ at 620 (Reply 8 2) ∷ at 620 (Reply 8 1) ∷ at 620 (Reply 8 0)
-    ∷ at 610 (Reply 8 1) ∷ at 600 (Request 8)
+    at 620 (Reply 4 8) ∷ at 620 (Reply 3 8) ∷ at 620 (Reply 2 8) ∷ at 620 (Reply 1 8) ∷ at 620 (Reply 0 8)
+    ∷ at 610 (Reply 1 8) ∷ at 600 (Request 8)
     ∷ at 600 ask_for_record
     ∷ seven_opens (at 600 (Tick 8) ∷ at 0 (Reply 0 0) ∷ at 0 (Request 0) ∷ at 0 ask_for_record ∷ [])
 

@@ -69,7 +69,7 @@ module _ {S : Type 0} (setting : Setting S) where
       open_entry (count_of world.log) (open_owed e setting.eid (timing_of setting e) (world.calls e) moment)
   entry_of world moment (actions.Tick e) = Due (due_at world moment e)
   entry_of world moment (actions.Request k) = delivery_entry world.log moment (asked_at world.log k)
-  entry_of world moment (actions.Reply k j) = got_entry (got_of_reply setting world k j)
+  entry_of world moment (actions.Reply j k) = got_entry (got_of_reply setting world k j)
   entry_of world moment (actions.Sense id value) = reading_entry world.log id value
   entry_of world moment actions.Restart = Restarted
   entry_of world moment (actions.Busy k) = got_entry (got_of_busy setting world k)

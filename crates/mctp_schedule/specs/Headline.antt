@@ -40,7 +40,7 @@ module _ {S : Type 0} (setting : Setting S) where
   -- what the entry of an action owes after these steps; what an open and a tick owe is told by their requester's calls
   abbrev pub entry_owes : List Step → ℕ → Action → Entry
   entry_owes past moment (actions.Request k) = delivery_owes past moment k (asked_at (world setting past).log k)
-  entry_owes past moment (actions.Reply k j) = got_entry (reply_owed setting past k j)
+  entry_owes past moment (actions.Reply j k) = got_entry (reply_owed setting past k j)
   entry_owes past moment (actions.Busy k) = got_entry (busy_owed setting past k)
   entry_owes past moment (actions.Sense id value) =
       Sensed (made_of (λ _. tt) (setting.device.sensed (state_once past) id value))

@@ -39,7 +39,7 @@ module _ (S : Type 0) where
   commands_at_step keep log moment (Request k) = commands_at_delivery keep log moment k
   commands_at_step keep log moment (Open e command) = []
   commands_at_step keep log moment (Tick e) = []
-  commands_at_step keep log moment (Reply k j) = []
+  commands_at_step keep log moment (Reply j k) = []
   commands_at_step keep log moment (Sense id value) = []
   commands_at_step keep log moment Restart = []
   commands_at_step keep log moment (Busy k) = []

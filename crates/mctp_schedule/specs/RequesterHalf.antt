@@ -64,7 +64,7 @@ module _ {S : Type 0} (setting : Setting S) where
   abbrev pub ReplyIsOwed : Type 0
   ReplyIsOwed =
       (past : List Step) (moment k j : ℕ)
-      → IsTimelySchedule setting past → IsTimelyAction setting (world setting past) moment (Reply k j)
+      → IsTimelySchedule setting past → IsTimelyAction setting (world setting past) moment (Reply j k)
       → got_of_reply setting (world setting past) k j ≡ reply_owed setting past k j
 
   -- and so is what that of a busy answer gives

@@ -133,7 +133,7 @@ pub record MayCome (requesters : List RequesterLine) (past : List Step) (step : 
 -- a packet of the latest answer to request k is delivered, a busy answer or a reply
 abbrev pub answer_action : Bool → ℕ → ℕ → Action
 answer_action true k packet = Busy k
-answer_action false k packet = Reply k packet
+answer_action false k packet = Reply packet k
 
 -- an action at a moment
 abbrev pub at : ℕ → Action → Step

@@ -53,7 +53,7 @@ module _ {S : Type 0} (setting : Setting S) where
   has_part world k j = nat_lt j (part_count world k)
 
   abbrev pub with_delivery : World → ℕ → Action → List (Option ℕ) → List (Option ℕ)
-  with_delivery world k (Reply i j) deliveries =
+  with_delivery world k (Reply j i) deliveries =
       if i == k && has_part world k j then Some j ∷ deliveries else deliveries
   with_delivery world k (Busy i) deliveries =
       if i == k && was_busy S setting.keep world.log k then None ∷ deliveries else deliveries
@@ -95,7 +95,7 @@ module _ {S : Type 0} (setting : Setting S) where
   completes past k j = completes_for past k j (asked_at (world setting past).log k)
 
   abbrev pub takes : List Step → ℕ → Action → Bool
-  takes past k (Reply i j) = i == k && completes past k j
+  takes past k (Reply j i) = i == k && completes past k j
   takes past k _ = false
 
   -- request k was taken

@@ -102,7 +102,7 @@ module _ {S : Type 0} (setting : Setting S) where
       record { calls = with_call world.calls e opens; log = log_opened world moment e command }
   done world moment (Tick e) = record { calls = with_call world.calls e (requester.Tick moment); log = world.log }
   done world moment (Request k) = record { calls = world.calls; log = Delivered moment k ∷ world.log }
-  done world moment (Reply k j) = handed world moment (source_of (asked_at world.log k)) (reply_packet world k j)
+  done world moment (Reply j k) = handed world moment (source_of (asked_at world.log k)) (reply_packet world k j)
   done world moment (Sense id value) = record { calls = world.calls; log = Sensed moment id value ∷ world.log }
   done world moment Restart = record { calls = world.calls; log = WentDown moment ∷ world.log }
   done world moment (Busy k) = handed world moment (source_of (asked_at world.log k)) (busy_packet world k)
@@ -125,7 +125,7 @@ module _ {S : Type 0} (setting : Setting S) where
   abbrev pub IsTimelyAction : World → ℕ → Action → Type 0
   IsTimelyAction world moment (Request k) =
       (r : Asked) → asked_at world.log k ≡ Some r → moment < r.opening + setting.keep
-  IsTimelyAction world moment (Reply k j) = (bytes : List ℕ) → reply_packet world k j ≡ Some bytes → TagIsOwn world k
+  IsTimelyAction world moment (Reply j k) = (bytes : List ℕ) → reply_packet world k j ≡ Some bytes → TagIsOwn world k
   IsTimelyAction world moment (Busy k) = (bytes : List ℕ) → busy_packet world k ≡ Some bytes → TagIsOwn world k
   IsTimelyAction world moment (Open e command) = Unit {0}
   IsTimelyAction world moment (Tick e) = Unit {0}
@@ -160,7 +160,7 @@ module _ {S : Type 0} (setting : Setting S) where
 
   abbrev pub is_timely_action : World → ℕ → Action → Bool
   is_timely_action world moment (Request k) = comes_in_time moment (asked_at world.log k)
-  is_timely_action world moment (Reply k j) =
+  is_timely_action world moment (Reply j k) =
       not (is_some (reply_packet setting world k j)) || tag_is_own world (asked_at world.log k)
   is_timely_action world moment (Busy k) =
       not (is_some (busy_packet setting world k)) || tag_is_own world (asked_at world.log k)

@@ -146,7 +146,7 @@ impl<P: Platform> Ends<P> {
     {
         let now = step.moment;
         match &step.action {
-            Action::Open { requester, command } => self.open(now, *requester, command),
+            Action::Open { requester, command } => self.open(now, *requester, command.get()),
             Action::Tick { requester } => self.tick(now, *requester),
             Action::Request { number } => self.deliver(now, *number),
             Action::Reply { number, packet } => self.hand(now, *number, *packet, false),

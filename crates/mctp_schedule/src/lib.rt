@@ -19,4 +19,6 @@ pub use due_requests::DueRequests;
 pub use entry::Entry;
 pub use opened_request::OpenedRequest;
 pub use run_fault::RunFault;
-pub use schedule_text::{Action, LineFault, LineFaultKind, RequesterLine, Schedule, Step};
+pub use schedule_text::{
+    Action, KeptCommand, LineFault, LineFaultKind, RequesterLine, Schedule, Step,
+};

@@ -29,7 +29,7 @@ stays_known : (lines : List RequesterLine) (new : RequesterLine) (action : Actio
 stays_known lines new (Open eid command) e = stays_in lines new eid e
 stays_known lines new (Tick eid) e = stays_in lines new eid e
 stays_known lines new (Request number) e = refl
-stays_known lines new (Reply number packet) e = refl
+stays_known lines new (Reply packet number) e = refl
 stays_known lines new (Sense id value) e = refl
 stays_known lines new Restart e = refl
 stays_known lines new (Busy number) e = refl

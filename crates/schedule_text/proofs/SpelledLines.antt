@@ -53,9 +53,9 @@ reply_parts [] a e = absurd (let wrong : Err Words ≡ Ok a = e in cc)
 reply_parts (k ∷ []) a e = absurd (let wrong : Err Words ≡ Ok a = e in cc)
 reply_parts (k ∷ j ∷ more ∷ words) a e = absurd (let wrong : Err Words ≡ Ok a = e in cc)
 reply_parts (k ∷ j ∷ []) a e =
-    let read = bind_parts (any_number k) (λ number. number_up_to MAX_BYTE j >>= λ packet. Ok (Reply number packet)) a e in
-    let read_packet = bind_parts (number_up_to MAX_BYTE j) (λ packet. Ok (Reply read.0 packet)) a read.2 in
-    let whole : Reply read.0 read_packet.0 ≡ a = (let same : Ok (Reply read.0 read_packet.0) ≡ Ok a = read_packet.2 in cc) in
+    let read = bind_parts (any_number k) (λ number. number_up_to MAX_BYTE j >>= λ packet. Ok (Reply packet number)) a e in
+    let read_packet = bind_parts (number_up_to MAX_BYTE j) (λ packet. Ok (Reply packet read.0)) a read.2 in
+    let whole : Reply read_packet.0 read.0 ≡ a = (let same : Ok (Reply read_packet.0 read.0) ≡ Ok a = read_packet.2 in cc) in
     subst (λ a. SpellsAction a (codes "rep" ∷ k ∷ j ∷ [])) whole (k, j, refl, number_parts (decimal_of k) read.0 read.1, number_parts (number_of MAX_BYTE j) read_packet.0 read_packet.1)
 
 sense_parts : (words : List Word) (a : Action) → sense_of words ≡ Ok a → SpellsAction a (codes "sense" ∷ words)
@@ -140,10 +140,10 @@ action_ok (Open requester command) words (eid, rest, e, s, c) =
     (bind_ok (eid_in eid) (λ eid. Ok (Open eid command)) requester (Open requester command) (eid_ok eid requester s) refl)
 action_ok (Tick requester) words (eid, e, s) = ap named_words e ∙ bind_ok (eid_in eid) (λ eid. Ok (Tick eid)) requester (Tick requester) (eid_ok eid requester s) refl
 action_ok (Request number) words (k, e, s) = ap named_words e ∙ bind_ok (any_number k) (λ number. Ok (Request number)) number (Request number) (ap or_number s) refl
-action_ok (Reply number packet) words (k, j, e, s, p) =
+action_ok (Reply packet number) words (k, j, e, s, p) =
     ap named_words e
-    ∙ bind_ok (any_number k) (λ number. number_up_to MAX_BYTE j >>= λ packet. Ok (Reply number packet)) number (Reply number packet) (ap or_number s)
-    (bind_ok (number_up_to MAX_BYTE j) (λ packet. Ok (Reply number packet)) packet (Reply number packet) (ap or_number p) refl)
+    ∙ bind_ok (any_number k) (λ number. number_up_to MAX_BYTE j >>= λ packet. Ok (Reply packet number)) number (Reply packet number) (ap or_number s)
+    (bind_ok (number_up_to MAX_BYTE j) (λ packet. Ok (Reply packet number)) packet (Reply packet number) (ap or_number p) refl)
 action_ok (Sense sensor value) words (id, reading, e, s, v) =
     ap named_words e
     ∙ bind_ok (number_up_to MAX_ID id) (λ id. any_value reading >>= λ value. Ok (Sense id value)) sensor (Sense sensor value) (ap or_number s)

@@ -24,7 +24,7 @@ SpellsAction (Open requester command) words =
     × SpellsEid requester eid × SpellsCommand command rest
 SpellsAction (Tick requester) words = (eid : Word) × (words ≡ codes "tick" ∷ eid ∷ []) × SpellsEid requester eid
 SpellsAction (Request number) words = (k : Word) × (words ≡ codes "req" ∷ k ∷ []) × SpellsAny number k
-SpellsAction (Reply number packet) words =
+SpellsAction (Reply packet number) words =
     (k : Word) × (j : Word) × (words ≡ codes "rep" ∷ k ∷ j ∷ []) × SpellsAny number k × SpellsByte packet j
 SpellsAction (Sense sensor value) words =
     (id : Word) × (reading : Word) × (words ≡ codes "sense" ∷ id ∷ reading ∷ [])

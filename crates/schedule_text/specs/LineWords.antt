@@ -34,7 +34,7 @@ open_of (eid ∷ words) = command_of words >>= λ command. eid_in eid >>= λ eid
 
 abbrev pub reply_of : List (List ℕ) → Result Action LineFaultKind
 reply_of (number ∷ packet ∷ []) =
-    any_number number >>= λ number. number_up_to MAX_BYTE packet >>= λ packet. Ok (Reply number packet)
+    any_number number >>= λ number. number_up_to MAX_BYTE packet >>= λ packet. Ok (Reply packet number)
 reply_of _ = Err Words
 
 abbrev pub sense_of : List (List ℕ) → Result Action LineFaultKind

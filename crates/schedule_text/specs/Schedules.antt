@@ -108,9 +108,9 @@ schedule_of text = spelled_from 1 none_spelled (lines_of text)
 abbrev pub ReportsFault : Result Spelled LineFault → LineFault → Type 0
 ReportsFault spelled fault = (fault.kind ≡ Memory out_of_memory) ⊎ (spelled ≡ Err fault)
 
--- the same of one line
-abbrev pub ReportsKind : Result Spelled LineFaultKind → LineFaultKind → Type 0
-ReportsKind spelled kind = (kind ≡ Memory out_of_memory) ⊎ (spelled ≡ Err kind)
+-- the same of one line, or of a part of one
+abbrev pub ReportsKind : {A : Type 0} → Result A LineFaultKind → LineFaultKind → Type 0
+ReportsKind read kind = (kind ≡ Memory out_of_memory) ⊎ (read ≡ Err kind)
 
 -- line n is one of these, and all lines before it are good, so that the first faulty one is not before it
 pub record IsReached (lines : List (List ℕ)) (n : ℕ) : Type 0 where

@@ -2,6 +2,7 @@
 #![tactic(auto)]
 
 mod command_words;
+mod kept_command;
 pub mod laws;
 mod line;
 mod line_fault;
@@ -10,6 +11,7 @@ mod step;
 mod word;
 mod words;
 
+pub use kept_command::KeptCommand;
 pub use line_fault::{LineFault, LineFaultKind};
 pub use schedule::Schedule;
 pub use step::{Action, RequesterLine, Step};

@@ -46,11 +46,11 @@ impl Schedule {
         let mut number = 1;
         let mut rest = text;
         while let Some((line, after)) = split_line(rest) {
-            schedule.add_numbered(number, line)?;
+            schedule.add_numbered(alloc, number, line)?;
             number += 1;
             rest = after;
         }
-        schedule.add_numbered(number, rest)?;
+        schedule.add_numbered(alloc, number, rest)?;
         Ok(schedule)
     }
 
@@ -81,23 +81,23 @@ impl Schedule {
     }
 
     /// Adds what the line with this number says.
-    fn add_numbered(&mut self, number: u64, line: &[u8]) -> Result<(), LineFault>
+    fn add_numbered(&mut self, alloc: Global, number: u64, line: &[u8]) -> Result<(), LineFault>
         ensures ok { OnOk result (after_line self.old line.now ≡ Ok self.new) }
         ensures err { IfErr result (λ fault. (fault.line ≡ number) × ReportsKind (after_line self.old line.now)
             fault.kind) }
     {
-        match self.add_line(line) {
+        match self.add_line(alloc, line) {
             Ok(()) => Ok(()),
             Err(kind) => Err(LineFault { line: number, kind }),
         }
     }
 
     /// Adds what a line says.
-    fn add_line(&mut self, line: &[u8]) -> Result<(), LineFaultKind>
+    fn add_line(&mut self, alloc: Global, line: &[u8]) -> Result<(), LineFaultKind>
         ensures ok { OnOk result (after_line self.old line.now ≡ Ok self.new) }
         ensures err { IfErr result (λ kind. ReportsKind (after_line self.old line.now) kind) }
     {
-        match read_line(line)? {
+        match read_line(alloc, line)? {
             Line::Nothing => Ok(()),
             Line::Requester(line) => self.add_requester(line),
             Line::Step(step) => self.add_step(step),

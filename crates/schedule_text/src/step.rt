@@ -1,7 +1,7 @@
 //! What a schedule tells both ends to do.
 
+use crate::KeptCommand;
 use mctp_packet::{Eid, Moment};
-use pldm_wire::Command;
 
 /// A requester of a schedule, with what it takes for its retries.
 #[derive(Clone, Copy, Debug, PartialEq, Eq)]
@@ -23,6 +23,9 @@ pub struct Step {
     pub action: Action,
 }
 
+// A schedule may have a million steps: each is three words long.
+const _: () = prove!(size_of::<Step>() == 24);
+
 /// What happens at a step.
 #[derive(Debug, PartialEq, Eq, Drop)]
 pub enum Action {
@@ -31,7 +34,7 @@ pub enum Action {
         /// The requester's endpoint ID.
         requester: Eid,
         /// The command that it asks for.
-        command: Command,
+        command: KeptCommand,
     },
     /// A requester sends again and gives up what is due.
     Tick {
@@ -45,10 +48,10 @@ pub enum Action {
     },
     /// A packet of the latest reply to a request comes to its requester.
     Reply {
-        /// The request's number.
-        number: u64,
         /// The packet's number in the reply, from 0 on.
         packet: u8,
+        /// The request's number.
+        number: u64,
     },
     /// A sensor of the device gets a reading.
     Sense {
