@@ -10,10 +10,19 @@ the sources are the endpoints 8 to 254 but 9, in turn:
 - copies: the requests of `many`, each sent four times in a row. One in four is fresh.
 - messages: messages of four full packets (a GetTID with 252 bytes too many, which is refused), eight sources
   interleaved: packet 0 of each of the eight, then packet 1 of each, and so on.
+
+Two more are random, the same in each run, over the device of `large_device.py`:
+
+- scattered: requests of one packet, each from any of the 246 sources with any instance ID and tag; of ten packets one
+  is a late copy of one of the 64 requests before it.
+- interleaved: requests of four packets, 24 of them open at a time, of any source and tag; the next packet is of any of
+  the 24.
 """
 
-OWN = 9
-SOURCES = [eid for eid in range(8, 255) if eid != OWN]
+import random
+
+from large_device import OWN, SOURCES, description, long_request, short_request
+from timing import DESCRIBED
 
 
 def packet(moment, source, flags, payload):
@@ -69,4 +78,48 @@ def messages():
         number += 8
 
 
-RULES = (one, many, copies, messages)
+def scattered():
+    source = random.Random(1)
+    moment = 0
+    recent = []
+    while True:
+        if recent and source.random() < 0.1:
+            said = source.choice(recent)
+        else:
+            message = short_request(source.randrange(32), source)
+            said = bytes([1, OWN, source.choice(SOURCES), 0xC8 | source.randrange(8)]) + message
+            recent = recent[-63:] + [said]
+        yield b"%d %s\n" % (moment, said.hex().encode())
+        moment += source.random() < 0.3
+
+
+def packets_of(message, unit, sender, tag, first):
+    """The packets of a message that is cut into pieces of this length, the first with this sequence number."""
+    pieces = [message[place : place + unit] for place in range(0, len(message), unit)]
+    for number, piece in enumerate(pieces):
+        start, end = number == 0, number == len(pieces) - 1
+        flags = start << 7 | end << 6 | (first + number) % 4 << 4 | 0x08 | tag
+        yield bytes([1, OWN, sender, flags]) + piece
+
+
+def interleaved():
+    source = random.Random(2)
+    moment = 0
+    open_messages = {}
+    while True:
+        while len(open_messages) < 24:
+            key = source.choice(SOURCES), source.randrange(8)
+            if key not in open_messages:
+                message, unit = long_request(source.randrange(32), source)
+                open_messages[key] = list(packets_of(message, unit, *key, source.randrange(4)))
+        key = source.choice(list(open_messages))
+        said = open_messages[key].pop(0)
+        if not open_messages[key]:
+            del open_messages[key]
+        yield b"%d %s\n" % (moment, said.hex().encode())
+        moment += source.random() < 0.1
+
+
+# each rule with the device that its packets are for
+RULES = [(rule, DESCRIBED) for rule in (one, many, copies, messages)]
+RULES += [(rule, description()) for rule in (scattered, interleaved)]

@@ -1,6 +1,7 @@
 """What the scripts of this folder share: a program is timed over inputs, beside another one or alone."""
 
 import argparse
+import contextlib
 import os
 import subprocess
 import sys
@@ -58,8 +59,8 @@ def build_peer(folder, room):
 
 
 def measure(programs, task, text, room):
-    """The least seconds of each program, the peak memory of the first, and whether all wrote the same. What else the
-    machine does can only lengthen a run, so the least of several tells most."""
+    """The least seconds of each program, the peak memory of each, and whether all wrote the same. What else the
+    machine does can only lengthen a run, so the least of several says most."""
     outputs = [Path(room) / f"output{place}" for place in range(len(programs))]
     with tempfile.TemporaryFile() as given:
         given.write(text)
@@ -67,9 +68,9 @@ def measure(programs, task, text, room):
         rounds = [
             [run(program, task, given, output) for program, output in zip(programs, outputs)] for _ in range(RUNS)
         ]
-        memory = peak_memory(programs[0], task, given)
+        peaks = [peak_memory(program, task, given) for program in programs]
     seconds = [min(times[place] for times in rounds) for place in range(len(programs))]
-    return seconds, memory, len({output.read_bytes() for output in outputs}) == 1
+    return seconds, peaks, len({output.read_bytes() for output in outputs}) == 1
 
 
 def filled(head, rule, size):
@@ -85,36 +86,61 @@ def filled(head, rule, size):
         count += 1
 
 
-def bench(document, task, unit, head, rules):
-    """Times `mctpctl` with this subcommand over inputs of `head` and the lines of each rule; `unit` is what a line is
-    called."""
+def start_time(program):
+    """The least milliseconds from the program's start to its end where it does nothing but print its version."""
+    times = []
+    for _ in range(10 * RUNS):
+        start = time.monotonic()
+        subprocess.run([program, "--version"], stdout=subprocess.DEVNULL, check=True)
+        times.append(time.monotonic() - start)
+    return 1000 * min(times)
+
+
+@contextlib.contextmanager
+def busy_beside(count):
+    """Keeps this many other processes busy."""
+    others = [subprocess.Popen([sys.executable, "-c", "while True: pass"]) for _ in range(count)]
+    try:
+        yield
+    finally:
+        for other in others:
+            other.kill()
+            other.wait()
+
+
+def bench(document, task, unit, rules):
+    """Times `mctpctl` with this subcommand over inputs of the head and the lines of each rule; `unit` is what a line
+    is called."""
     arguments = argparse.ArgumentParser(description=document, formatter_class=argparse.RawDescriptionHelpFormatter)
     arguments.add_argument("--peer", metavar="FOLDER", help="a Rust program to compare with")
+    arguments.add_argument("--beside", metavar="COUNT", type=int, default=0, help="other processes to keep busy")
     arguments.add_argument("sizes", metavar="MiB", nargs="*", type=int, help="sizes of the inputs")
     chosen = arguments.parse_args()
     sizes = chosen.sizes or [1, 4, 16]
-    with tempfile.TemporaryDirectory() as room:
+    with tempfile.TemporaryDirectory() as room, busy_beside(chosen.beside):
         # proves and builds the program where it does not stand yet
         subprocess.run([ROOT / "prove"], check=True)
         programs = [ROOT / "crates" / "mctpctl" / "out" / "mctpctl"]
         if chosen.peer:
             programs.append(build_peer(chosen.peer, room + "/peer"))
         print(f"{'input':<10}{'MiB':>5}{unit:>9}{'seconds':>9}{'a second':>11}{'peak MiB':>10}", end="")
-        print(f"{'peer':>9}{'ratio':>7}" if chosen.peer else "")
+        print(f"{'peer':>9}{'ratio':>7}{'peer MiB':>10}" if chosen.peer else "")
         same = True
-        for rule in rules:
+        for rule, head in rules:
             times = []
             for size in sizes:
                 text, count = filled(head, rule, min(size * 1024 * 1024, MOST_INPUT))
-                seconds, memory, equal = measure(programs, task, text, room)
+                seconds, peaks, equal = measure(programs, task, text, room)
                 same = same and equal
                 times.append(seconds[0])
                 row = f"{rule.__name__:<10}{size:>5}{count:>9}"
-                row += f"{seconds[0]:>9.2f}{count / seconds[0]:>11.0f}{memory:>10.1f}"
+                row += f"{seconds[0]:>9.3f}{count / seconds[0]:>11.0f}{peaks[0]:>10.1f}"
                 if chosen.peer:
-                    row += f"{seconds[1]:>9.2f}{seconds[0] / seconds[1]:>7.2f}" + ("" if equal else "  outputs differ")
+                    row += f"{seconds[1]:>9.3f}{seconds[0] / seconds[1]:>7.2f}{peaks[1]:>10.1f}"
+                    row += "" if equal else "  outputs differ"
                 print(row)
             growth = times[-1] / times[0]
             print(f"{rule.__name__:<10} {sizes[-1]} MiB take {growth:.1f} times as long as {sizes[0]} MiB")
+        print(f"a start takes {start_time(programs[0]):.1f} ms")
     if not same:
         sys.exit("bench: the programs did not write the same")
