@@ -6,7 +6,7 @@ use lib.Seq.{take-append-add}
 use Rattle.std.specs.Prelude.{IsErrOf}
 use Rattle.mctpctl_input.specs.BoundedRead.{ReadUpTo}
 use Rattle.mctpctl_input.specs.LineRuns.{no_memory, Written, stops_at, after_text, Writes}
-use Rattle.mctpctl_input.specs.Pieces.{Gives, GoesOn, StopsWith, TakesErr, FinishesErr, FinishesTo, WroteOfFront}
+use Rattle.mctpctl_input.specs.Pieces.{Gives, GoesOn, StopsWith, TakesTo, FinishesTo, WroteOfFront}
 use Rattle.mctpctl_input.specs.declared.faults.EngineFault.{EngineFault}
 use Rattle.mctpctl_input.proofs.KnownInputs.{known_all_read, known_cut}
 use Rattle.mctpctl_input.proofs.RunsOverLines.{after_after, Writes-after}
@@ -97,7 +97,7 @@ err_same : (f h : EngineFault) → IsFault (Err f) h → f ≡ h
 err_same f h is = cc
 
 -- want of memory within a piece
-memory_told : (f g : Gives) (all now new c0 c1 c2 : Option (List ℕ)) (bytes piece text : List ℕ) → Consumes all now bytes → Consumes now new piece → Appends c0 c1 text → GoesOn f bytes text g → TakesErr g piece c1 c2 no_memory → WroteOfFront f all c0 c2
+memory_told : (f g : Gives) (all now new c0 c1 c2 : Option (List ℕ)) (bytes piece text : List ℕ) → Consumes all now bytes → Consumes now new piece → Appends c0 c1 text → GoesOn f bytes text g → TakesTo g piece g c1 c2 (Err no_memory) → WroteOfFront f all c0 c2
 memory_told f g all now new c0 c1 c2 bytes piece text before read written goes (inl wrong) = cc
 memory_told f g all now new c0 c1 c2 bytes piece text before read written goes (inr (more, added, inl (memory, (front, back, parts, is)))) = (
   bytes ++ front,
@@ -107,12 +107,12 @@ memory_told f g all now new c0 c1 c2 bytes piece text before read written goes (
 )
 memory_told f g all now new c0 c1 c2 bytes piece text before read written goes (inr (more, added, inr (apart, stops))) = absurd (apart refl)
 
-pub memory_within : (f g : Gives) (all now new c0 c1 c2 : Option (List ℕ)) (bytes piece text : List ℕ) (fault : EngineFault) → IsFault (Err fault) no_memory → Consumes all now bytes → Consumes now new piece → Appends c0 c1 text → GoesOn f bytes text g → TakesErr g piece c1 c2 fault → WroteOfFront f all c0 c2
+pub memory_within : (f g : Gives) (all now new c0 c1 c2 : Option (List ℕ)) (bytes piece text : List ℕ) (fault : EngineFault) → IsFault (Err fault) no_memory → Consumes all now bytes → Consumes now new piece → Appends c0 c1 text → GoesOn f bytes text g → TakesTo g piece g c1 c2 (Err fault) → WroteOfFront f all c0 c2
 memory_within f g all now new c0 c1 c2 bytes piece text fault is before read written goes told =
     memory_told f g all now new c0 c1 c2 bytes piece text before read written goes (rw (err_same fault no_memory is) at told)
 
 -- want of memory at the end
-memory_ended : (f g : Gives) (is_cut : Bool) (all now c0 c1 c2 : Option (List ℕ)) (bytes text : List ℕ) → Consumes all now bytes → Appends c0 c1 text → GoesOn f bytes text g → (g true []).text ≡ [] → FinishesErr (g is_cut []) c1 c2 no_memory → WroteOfFront f all c0 c2
+memory_ended : (f g : Gives) (is_cut : Bool) (all now c0 c1 c2 : Option (List ℕ)) (bytes text : List ℕ) → Consumes all now bytes → Appends c0 c1 text → GoesOn f bytes text g → (g true []).text ≡ [] → FinishesTo (g is_cut []) c1 c2 (Err no_memory) → WroteOfFront f all c0 c2
 memory_ended f g is_cut all now c0 c1 c2 bytes text before written goes none (inl wrong) = cc
 memory_ended f g is_cut all now c0 c1 c2 bytes text before written goes none (inr (inl (memory, added))) = (
   bytes,
@@ -128,7 +128,7 @@ memory_at_end f g is_cut all now c0 c1 c2 bytes text (Err fault) is before writt
     memory_ended f g is_cut all now c0 c1 c2 bytes text before written goes none (rw (err_same fault no_memory is) at told)
 
 -- a fault within a piece
-pub fault_within : (f g : Gives) (limit : ℕ) (all now new c0 c1 c2 : Option (List ℕ)) (bytes piece text : List ℕ) (fault : EngineFault) → Consumes all now bytes → Consumes now new piece → length (bytes ++ piece) ≤ limit → Appends c0 c1 text → GoesOn f bytes text g → TakesErr g piece c1 c2 fault → IfSome all (λ xs. Writes (f (nat_lt limit (length xs)) (take limit xs)) c0 c2 (Err fault))
+pub fault_within : (f g : Gives) (limit : ℕ) (all now new c0 c1 c2 : Option (List ℕ)) (bytes piece text : List ℕ) (fault : EngineFault) → Consumes all now bytes → Consumes now new piece → length (bytes ++ piece) ≤ limit → Appends c0 c1 text → GoesOn f bytes text g → TakesTo g piece g c1 c2 (Err fault) → IfSome all (λ xs. Writes (f (nat_lt limit (length xs)) (take limit xs)) c0 c2 (Err fault))
 fault_within f g limit all now new c0 c1 c2 bytes piece text fault before read within written goes (inl write) = outside all (λ xs. inl (inr (inl write)))
 fault_within f g limit all now new c0 c1 c2 bytes piece text fault before read within written goes (inr (more, added, inl (memory, front))) = outside all (λ xs. inl (inr (inr memory)))
 fault_within f g limit all now new c0 c1 c2 bytes piece text fault before read within written goes (inr (more, added, inr (apart, stops))) =

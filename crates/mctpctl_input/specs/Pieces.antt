@@ -40,32 +40,21 @@ Finishes rest old new result =
     (λ fault. ((fault ≡ no_memory) × (new ≡ old))
     ⊎ ((fault ≢ no_memory) × (rest.fault ≡ Some fault) × (new ≡ old ++ rest.text)))
 
--- a fault after a piece
-abbrev pub TakesErr : Gives → List ℕ → Option (List ℕ) → Option (List ℕ) → EngineFault → Type 0
-TakesErr before piece old new fault =
-    (fault ≡ Write)
-    ⊎ ((text : List ℕ) × Appends old new text
-    × (((fault ≡ no_memory) × IsFront before piece text) ⊎ ((fault ≢ no_memory) × StopsWith before piece text fault)))
-
--- as `Takes`, of what a writer took
+-- as `Takes`, of what a writer took, which may fail too
 abbrev pub TakesTo : Gives → List ℕ → Gives → Option (List ℕ) → Option (List ℕ) → Result Unit EngineFault → Type 0
 TakesTo before piece after old new result =
     MatchResult result
     (λ _. (text : List ℕ) × Appends old new text × GoesOn before piece text after)
-    (λ fault. TakesErr before piece old new fault)
+    (λ fault. (fault ≡ Write) ⊎ ((text : List ℕ) × Appends old new text
+    × (((fault ≡ no_memory) × IsFront before piece text) ⊎ ((fault ≢ no_memory) × StopsWith before piece text fault))))
 
--- a fault at the end
-abbrev pub FinishesErr : Written → Option (List ℕ) → Option (List ℕ) → EngineFault → Type 0
-FinishesErr rest old new fault =
-    (fault ≡ Write) ⊎ ((fault ≡ no_memory) × Appends old new [])
-    ⊎ ((fault ≢ no_memory) × (rest.fault ≡ Some fault) × Appends old new rest.text)
-
--- as `Finishes`, of what a writer took
+-- as `Finishes`, of what a writer took, which may fail too
 abbrev pub FinishesTo : Written → Option (List ℕ) → Option (List ℕ) → Result Unit EngineFault → Type 0
 FinishesTo rest old new result =
     MatchResult result
     (λ _. (rest.fault ≡ None) × Appends old new rest.text)
-    (λ fault. FinishesErr rest old new fault)
+    (λ fault. (fault ≡ Write) ⊎ ((fault ≡ no_memory) × Appends old new [])
+    ⊎ ((fault ≢ no_memory) × (rest.fault ≡ Some fault) × Appends old new rest.text))
 
 -- what was written is the text of the lines that ended in the bytes that were read
 abbrev pub WroteOfRead : Gives → Option (List ℕ) → Option (List ℕ) → Option (List ℕ) → Option (List ℕ) → Type 0
