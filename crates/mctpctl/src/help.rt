@@ -1,8 +1,8 @@
 //! The texts that `--help` adds to what clap says, and the version.
 
-/// What `--version` says after the program's name: its own version, and the toolchain that it is proved
-/// and built with.
-pub const VERSION: &str = "1.0.0 (rattle-kit-13f logic dac8208d650f15bf)";
+/// What `--version` says after the program's name: its own version, and the logic that it is proved in, as
+/// `rt version` names it.
+pub const VERSION: &str = "1.0.0 (rattle logic dac8208d650f15bf)";
 
 /// What `--explain` does.
 pub const EXPLAIN: &str =
