@@ -17,3 +17,4 @@ pub mod OpenBounds
 pub mod WorkedLight
 pub mod AnswersKept
 pub mod SameHeld
+pub mod StoredRows

@@ -52,9 +52,9 @@ impl KeptAnswers {
     }
 
     /// The answer that is kept for a source and an instance ID.
-    pub(crate) fn get(&self, source: Eid, id: u8) -> Option<&KeptAnswer>
+    pub(crate) fn get(&self, source: Eid, id: u8) -> Option<KeptAnswer<'_>>
         requires { id < INSTANCE_IDS }
-        ensures { option_copied result ≡ kept_in self.now source id }
+        ensures { result ≡ kept_in self.now source id }
     {
         self.row(source)?.get(id)
     }
