@@ -1,17 +1,19 @@
--- A run of which nothing has come gives what looking back over all packets says.
-use Rattle.std.proofs.Common.{◌≡◌, ℕ, Bool, List, [], Option, None, sym, ◌∙◌}
-use Rattle.mctpctl_engines.specs.AnswerPieces.{past_gives}
-use Rattle.mctpctl_engines.specs.AnswerText.{run_of, called_run}
-use Rattle.mctpctl_engines.specs.DescribedPieces.{description_gives, described_gives}
-use Rattle.mctpctl_engines.specs.HeldRuns.{held_run}
-use Rattle.mctpctl_engines.specs.declared.line_run.LineRun.{LineRun}
+-- A run of which nothing has come gives the text of its input.
+use Rattle.std.proofs.Common.{◌≡◌, ℕ, Bool, List, [], sym, ap, ◌∙◌}
+use Rattle.mctpctl_engines.specs.AnswerText.{run_of}
+use Rattle.mctpctl_engines.specs.DescribedPieces.{IsFirst, described_gives}
+use Rattle.mctpctl_engines.specs.DescriptionPieces.{RunPast, description_gives}
+use Rattle.mctpctl_engines.specs.declared.described_run.DescribedRun.{DescribedRun}
+use Rattle.mctpctl_engines.specs.declared.described_run.DescribedRun.TheVariants.{Before, Past}
 use Rattle.mctpctl_engines.proofs.DescribedGlue.{run_of_all}
-use Rattle.pldm_device.specs.Devices.{Device}
-use Rattle.pldm_responder.specs.Stations.{Station}
+use Rattle.mctpctl_input.specs.Pieces.{Gives}
 
--- at first the run gives the text of its input
-pub first_gives : (text kept : List ℕ) (lines : Option (LineRun (Station Device Device))) → text ≡ [] → kept ≡ [] → lines ≡ None
-    → ((is_cut : Bool) (bytes : List ℕ) → run_of held_run is_cut bytes ≡ run_of called_run is_cut bytes)
-    → described_gives past_gives (description_gives held_run text kept) lines ≡ run_of called_run
-first_gives text kept lines no_text no_kept no_lines looks =
-    rw (no_text, no_kept, no_lines) (λ i is_cut bytes. (sym (run_of_all held_run is_cut bytes) ∙ looks is_cut bytes) i)
+-- at first the run gives the text of its input, or of what writes the same of it
+pub first_gives : {T : Type 0} (written : RunPast) (past : T → Gives) (first : DescribedRun T) (whole : Gives) → IsFirst first
+    → ((is_cut : Bool) (bytes : List ℕ) → run_of written is_cut bytes ≡ whole is_cut bytes)
+    → described_gives written past first ≡ whole
+first_gives written past (Before lines) whole (no_text, no_kept) same =
+    ap (λ text. description_gives written text lines.kept.items) no_text
+    ∙ ap (λ kept. description_gives written [] kept) no_kept
+    ∙ (λ i is_cut bytes. (sym (run_of_all written is_cut bytes) ∙ same is_cut bytes) i)
+first_gives written past (Past run) whole wrong same = absurd wrong

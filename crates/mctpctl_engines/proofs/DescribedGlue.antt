@@ -6,23 +6,22 @@ use Rattle.std.proofs.lemmas.Bool.Decides.{nat_tests}
 use Rattle.std.proofs.lemmas.Slice.Eq.{bytes_eq-Decides}
 use Rattle.line_words.specs.TextLines.{HasNoFeed, lines_of}
 use Rattle.mctpctl_engines.specs.AnswerText.{described_run, divided_run, run_of}
-use Rattle.mctpctl_engines.specs.DescribedPieces.{run_described, description_gives, begun, device_begun}
-use Rattle.mctpctl_engines.specs.HeldRuns.{held_step, held_run}
-use Rattle.mctpctl_engines.specs.LinePieces.{glued, line_gives}
-use Rattle.mctpctl_input.specs.LineRuns.{Written, no_memory, stops_at, lines_written}
-use Rattle.mctpctl_input.specs.Pieces.{Gives, GoesOn, StopsWith, Takes, Finishes}
-use Rattle.mctpctl_engines.specs.AnswerPieces.{nothing_where_cut}
-use Rattle.mctpctl_input.proofs.PieceRuns.{goes_after, stops_after, front_text}
+use Rattle.mctpctl_engines.specs.DescriptionPieces.{DividesAt, EndsAt, EndsDescription, RunPast, run_described, description_gives, begun, begun_gives, device_begun}
+use Rattle.mctpctl_engines.specs.LinePieces.{glued}
+use Rattle.mctpctl_input.specs.LineRuns.{Written, no_memory, stops_at}
+use Rattle.mctpctl_input.specs.Pieces.{FinishesErr, Gives, GoesOn, StopsWith, Takes}
+use Rattle.std.specs.Io.KnownBytes.{Appends}
+use Rattle.std.proofs.KnownBytes.{Appends-nil}
+use Rattle.mctpctl_engines.specs.declared.description_lines.Divided.{Divided}
+use Rattle.mctpctl_input.proofs.PieceRuns.{stops_after}
 use Rattle.mctpctl_input.specs.TextLines.{is_divider, capture_lines, description_of}
 use Rattle.mctpctl_input.specs.declared.faults.EngineFault.{EngineFault}
 use Rattle.mctpctl_input.specs.declared.faults.EngineFault.TheVariants as faults
 use Rattle.line_words.specs.Lines.{without_cr}
 use Rattle.mctpctl_input.specs.declared.limits.TheConstants.{MAX_DIVIDER, MAX_DESCRIPTION}
-use Rattle.mctpctl_engines.proofs.LineGlue.{lines_glued, line_ended, glued_glued, glued_nil, feed_split, takes_after}
+use Rattle.mctpctl_engines.proofs.LineGlue.{lines_glued, line_ended, glued_glued, glued_nil, takes_after}
 use Rattle.mctpctl_input.proofs.RunsOverLines.{some_line}
 use Rattle.pldm_device.specs.Descriptions.{stated}
-use Rattle.pldm_device.specs.Devices.{Device}
-use Rattle.pldm_responder.specs.Held.{Held, held_at_first}
 use Rattle.pldm_device.specs.declared.description.Description.{Description}
 use Rattle.pldm_device.specs.declared.description_fault.FileFault.{FileFault}
 
@@ -56,7 +55,7 @@ described_at_least : (line : List ℕ) (more : List (List ℕ)) → is_divider l
 described_at_least line [] stays = rw stays (omega arith)
 described_at_least line (next ∷ more) stays = rw stays (omega (arith, length-append line (10 ∷ description_of (next ∷ more))))
 
-module _ (run : Description → Bool → List (List ℕ) → Written) where
+module _ (run : RunPast) where
   -- the front of a line of the description is kept
   pub description_kept : (text kept front : List ℕ) → HasNoFeed front → GoesOn (description_gives run text kept) front [] (description_gives run text (kept ++ front))
   description_kept text kept front none =
@@ -81,24 +80,6 @@ module _ (run : Description → Bool → List (List ℕ) → Written) where
       ∙ ap (λ d. run_described run is_cut (text ++ d) (capture_lines ((kept ++ line) ∷ lines_of later))) (divides (kept ++ line) (lines_of later) here).0
       ∙ ap (λ d. run_described run is_cut d (capture_lines ((kept ++ line) ∷ lines_of later))) (append-nil text)
       ∙ ap (run_described run is_cut text) (divides (kept ++ line) (lines_of later) here).1
-
-  -- after the line that divides the capture's lines are run over
-  pub divider_goes_on : (text kept line : List ℕ) (device : Description) → HasNoFeed line → is_divider (kept ++ line) ≡ true → nat_lt MAX_DESCRIPTION (length text) ≡ false → stated text ≡ Ok device → GoesOn (description_gives run text kept) (line ++ 10 ∷ []) [] (λ is_cut bytes. run device is_cut (lines_of bytes))
-  divider_goes_on text kept line device none here within said =
-      λ is_cut later. divided text kept line is_cut later none here
-      ∙ ap (λ b. if b then stops_at faults.TooLarge else described_run run is_cut (lines_of later) (stated text)) within
-      ∙ ap (described_run run is_cut (lines_of later)) said
-
-  pub divider_refused : (text kept line : List ℕ) (fault : FileFault) → HasNoFeed line → is_divider (kept ++ line) ≡ true → nat_lt MAX_DESCRIPTION (length text) ≡ false → stated text ≡ Err fault → StopsWith (description_gives run text kept) (line ++ 10 ∷ []) [] (faults.Device fault)
-  divider_refused text kept line fault none here within said =
-      λ is_cut later. divided text kept line is_cut later none here
-      ∙ ap (λ b. if b then stops_at faults.TooLarge else described_run run is_cut (lines_of later) (stated text)) within
-      ∙ ap (described_run run is_cut (lines_of later)) said
-
-  pub divider_too_late : (text kept line : List ℕ) → HasNoFeed line → is_divider (kept ++ line) ≡ true → nat_lt MAX_DESCRIPTION (length text) ≡ true → StopsWith (description_gives run text kept) (line ++ 10 ∷ []) [] faults.TooLarge
-  divider_too_late text kept line none here past =
-      λ is_cut later. divided text kept line is_cut later none here
-      ∙ ap (λ b. if b then stops_at faults.TooLarge else described_run run is_cut (lines_of later) (stated text)) past
 
   -- what is run over after the divider, by what the text before it begins
   begun_run : Bool → List (List ℕ) → Result Description EngineFault → Written
@@ -136,17 +117,6 @@ module _ (run : Description → Bool → List (List ℕ) → Written) where
   divider_stops text kept line fault none here e =
       λ is_cut later. divided text kept line is_cut later none here ∙ begun_fault is_cut text (lines_of later) fault e
 
-  -- the end of the input within the line that divides, or within the description
-  pub divider_at_end : (text kept : List ℕ) (is_cut : Bool) → is_divider kept ≡ true → description_gives run text kept is_cut [] ≡ run_described run is_cut text (Some [])
-  divider_at_end text kept is_cut here =
-      let last : is_divider (kept ++ []) ≡ true = ap is_divider (append-nil kept) ∙ here in
-      ap (λ d. run_described run is_cut (text ++ d) (capture_lines ((kept ++ []) ∷ []))) (divides (kept ++ []) [] last).0
-      ∙ ap (λ d. run_described run is_cut d (capture_lines ((kept ++ []) ∷ []))) (append-nil text)
-      ∙ ap (run_described run is_cut text) (divides (kept ++ []) [] last).1
-
-  pub no_divider_at_end : (text kept : List ℕ) (is_cut : Bool) → is_divider kept ≡ false → description_gives run text kept is_cut [] ≡ run_described run is_cut (text ++ kept) None
-  no_divider_at_end text kept is_cut stays = rw (append-nil kept, stays) refl
-
   -- lines of a description that is too long end the run, whatever comes later
   past_limit : (is_cut : Bool) (text : List ℕ) (found : Option (List (List ℕ))) → MAX_DESCRIPTION < length text → run_described run is_cut text found ≡ stops_at faults.TooLarge
   past_limit is_cut text None long =
@@ -155,10 +125,6 @@ module _ (run : Description → Bool → List (List ℕ) → Written) where
   past_limit is_cut text (Some lines) long =
       let test : nat_lt MAX_DESCRIPTION (length text) ≡ true = search (rules, nat_tests) in
       rw test refl
-
-  pub description_stops : (text kept piece : List ℕ) → MAX_DESCRIPTION < length text → StopsWith (description_gives run text kept) piece [] faults.TooLarge
-  description_stops text kept piece long =
-      λ is_cut later. past_limit is_cut (text ++ description_of (glued kept (lines_of (piece ++ later)))) (capture_lines (glued kept (lines_of (piece ++ later)))) (omega (arith, length-append {A = ℕ}))
 
   -- so does a line that is too long for it, since no longer one divides
   long_line : (is_cut : Bool) (text line : List ℕ) (more : List (List ℕ)) (here : Bool) → is_divider line ≡ here
@@ -222,103 +188,70 @@ module _ (run : Description → Bool → List (List ℕ) → Written) where
   divider_ends text told kept line both fault same none is here (inr (apart, e)) =
       inr (apart, divider_stops text kept line fault none (sym (ap is_divider is) ∙ here) (ap begun (sym same) ∙ e))
 
--- the run past the divider
-pub starts_past : (text told kept line both left : List ℕ) (device : Description) (held : Held Device) → told ≡ text → HasNoFeed line
-    → both ≡ kept ++ line → is_divider both ≡ true → begun told ≡ Ok device → left ≡ [] → held ≡ held_at_first device.eid device.keep device.device → GoesOn (description_gives held_run text kept) (line ++ 10 ∷ []) [] (line_gives held_step 1 held left)
-starts_past text told kept line both left device held tells none is here e empty same =
-    λ is_cut later. divider_begins held_run text kept line device none (sym (ap is_divider is) ∙ here) (ap begun (sym tells) ∙ e) is_cut later
-    ∙ ap (λ h. lines_written held_step is_cut 1 h (lines_of later)) (sym same)
-    ∙ ap (lines_written held_step is_cut 1 held) (sym (glued_nil (lines_of later) (some_line later)) ∙ ap (λ l. glued l (lines_of later)) (sym empty))
+  -- the front of a line is kept, or ends the run
+  pub front_is_kept : (text kept front both : List ℕ) → HasNoFeed front → both ≡ kept ++ front
+      → GoesOn (description_gives run text kept) front [] (description_gives run text both)
+  front_is_kept text kept front both none is =
+      subst (λ b. GoesOn (description_gives run text kept) front [] (description_gives run text b)) (sym is) (description_kept text kept front none)
 
--- the front of a line is kept, or ends the run
-pub front_keeps_described : (text kept front both : List ℕ) → HasNoFeed front → both ≡ kept ++ front
-    → Takes (description_gives held_run text kept) front (description_gives held_run text both) [] [] (Ok tt)
-front_keeps_described text kept front both none is =
-    ([], refl, subst (λ b. GoesOn (description_gives held_run text kept) front [] (description_gives held_run text b)) (sym is) (description_kept held_run text kept front none))
+  pub front_is_too_long : (text kept front both : List ℕ) → HasNoFeed front → both ≡ kept ++ front
+      → MAX_DESCRIPTION + MAX_DIVIDER < length text + length both
+      → EndsAt (description_gives run text kept) front faults.TooLarge
+  front_is_too_long text kept front both none is long = inr ((λ e. cc), front_stops text kept front both none is long)
 
-pub front_too_long_described : (text kept front both : List ℕ) (h : Gives) → HasNoFeed front → both ≡ kept ++ front
-    → MAX_DESCRIPTION + MAX_DIVIDER < length text + length both
-    → Takes (description_gives held_run text kept) front h [] [] (Err faults.TooLarge)
-front_too_long_described text kept front both h none is long =
-    ([], refl, inr ((λ e. cc), front_stops held_run text kept front both none is long))
+  -- after the line that divides the lines of the run past it come
+  pub begins_past : (text told kept line both : List ℕ) (device : Description) → told ≡ text → HasNoFeed line → both ≡ kept ++ line → is_divider both ≡ true
+      → begun told ≡ Ok device → GoesOn (description_gives run text kept) (line ++ 10 ∷ []) [] (begun_gives run device)
+  begins_past text told kept line both device same none is here e =
+      divider_begins text kept line device none (sym (ap is_divider is) ∙ here) (ap begun (sym same) ∙ e)
 
-pub nothing_described : (text kept piece out : List ℕ) (h : Gives) → Takes (description_gives held_run text kept) piece h out out (Err no_memory)
-nothing_described text kept piece out h =
-    ([], sym (append-nil out), inl (refl, ([], piece, refl, sym (nothing_where_cut text kept None))))
+-- a fault after lines of the description, whatever comes later
+pub ends_after : (f g : Gives) (before piece after whole : List ℕ) (fault : EngineFault) → GoesOn f before [] g
+    → whole ≡ before ++ (piece ++ after) → EndsAt g piece fault → EndsAt f whole fault
+ends_after f g before piece after whole fault goes is (inl memory) = inl memory
+ends_after f g before piece after whole fault goes is (inr (apart, stops)) =
+    inr (
+      apart,
+      λ is_cut later.
+          ap (λ bytes. f is_cut (bytes ++ later)) (is ∙ sym (append_assoc before piece after))
+          ∙ ap (f is_cut) (append_assoc (before ++ piece) after later)
+          ∙ stops_after f g before piece [] [] fault goes stops is_cut (after ++ later),
+    )
 
--- a fault of a line of the description, after the lines before it
-pub described_fault : (f g h : Gives) (before line after whole out0 out1 : List ℕ) (fault : EngineFault) → GoesOn f before [] g → (g true []).text ≡ []
-    → whole ≡ before ++ (line ++ 10 ∷ after) → out1 ≡ out0
-    → (fault ≡ no_memory) ⊎ ((fault ≢ no_memory) × StopsWith g (line ++ 10 ∷ []) [] fault)
-    → Takes f whole h out0 out1 (Err fault)
-described_fault f g h before line after whole out0 out1 fault goes nothing is same (inl memory) =
-    ([], same ∙ sym (append-nil out0), inl (memory, (before, line ++ 10 ∷ after, is, sym (front_text f g before [] goes nothing))))
-described_fault f g h before line after whole out0 out1 fault goes nothing is same (inr (apart, stops)) = (
-  [],
-  same ∙ sym (append-nil out0),
-  inr (
-    apart,
-    λ is_cut later.
-        ap (λ bytes. f is_cut (bytes ++ later)) (is ∙ ap (λ l. before ++ l) (feed_split line after) ∙ sym (append_assoc before (line ++ 10 ∷ []) after))
-        ∙ ap (f is_cut) (append_assoc (before ++ (line ++ 10 ∷ [])) after later)
-        ∙ stops_after f g before (line ++ 10 ∷ []) [] [] fault goes stops is_cut (after ++ later),
-  ),
-)
+-- a piece of the description, before whatever there was to write
+pub piece_described : (run : RunPast) (whole f h : Gives) (piece out : List ℕ) (found : Result (Option Divided) EngineFault) → whole ≡ f → found ≡ Ok None
+    → DividesAt run f piece h found → Takes whole piece h out out (Ok tt)
+piece_described run whole f h piece out found same is meets =
+    let goes : GoesOn f piece [] h = subst (DividesAt run f piece h) is meets in
+    subst (λ w. Takes w piece h out out (Ok tt)) (sym same) ([], sym (append-nil out), goes)
 
--- the line that divides, and what the run over the capture makes of the rest of the piece
-pub described_past : (f g p h : Gives) (before line after whole out0 out1 out2 : List ℕ) (result : Result Unit EngineFault) → GoesOn f before [] g
-    → GoesOn g (line ++ 10 ∷ []) [] p → whole ≡ before ++ (line ++ 10 ∷ after) → out1 ≡ out0 → Takes p after h out1 out2 result
-    → Takes f whole h out0 out2 result
-described_past f g p h before line after whole out0 out1 out2 result goes past is same takes =
-    let parts : whole ≡ (before ++ (line ++ 10 ∷ [])) ++ after =
-    is ∙ ap (λ l. before ++ l) (feed_split line after) ∙ sym (append_assoc before (line ++ 10 ∷ []) after) in
-    subst (λ w. Takes f w h out0 out2 result) (sym parts)
-    (takes_after f p h (before ++ (line ++ 10 ∷ [])) after [] out0 out1 out2 result (goes_after f g p before (line ++ 10 ∷ []) [] [] goes past) (same ∙ sym (append-nil out0)) takes)
+-- a piece in which a line divides, and what the run past it makes of the rest
+pub piece_divided : (run : RunPast) (whole f h p k : Gives) (piece out0 out1 : List ℕ) (past : Divided) (found : Result (Option Divided) EngineFault) (result : Result Unit EngineFault)
+    → whole ≡ f → found ≡ Ok (Some past) → DividesAt run f piece h found
+    → ((is_cut : Bool) (bytes : List ℕ) → p is_cut bytes ≡ run past.description is_cut (lines_of bytes))
+    → Takes p past.rest.now k out0 out1 result → Takes whole piece k out0 out1 result
+piece_divided run whole f h p k piece out0 out1 past found result same is meets begins takes =
+    let parts : DividesAt run f piece h (Ok (Some past)) = subst (DividesAt run f piece h) is meets in
+    let goes : GoesOn f parts.0 [] p = λ is_cut later. parts.2 is_cut later ∙ sym (begins is_cut later) in
+    subst (λ w. Takes w piece k out0 out1 result) (sym same)
+    (subst (λ l. Takes f l k out0 out1 result) (sym parts.1)
+    (takes_after f p k parts.0 past.rest.now [] out0 out0 out1 result goes (sym (append-nil out0)) takes))
 
--- what gives nothing gives nothing more
-takes_nothing : (f h : Gives) (piece out : List ℕ) (result : Result Unit EngineFault) → Takes f piece h [] [] result → Takes f piece h out out result
-takes_nothing f h piece out (Ok u) (text, e, goes) = (text, sym (append-nil out) ∙ ap (λ t. out ++ t) e, goes)
-takes_nothing f h piece out (Err fault) (text, e, ends) = (text, sym (append-nil out) ∙ ap (λ t. out ++ t) e, ends)
-
--- the front of a line of the description, after the lines before it
-pub described_front : (f g h : Gives) (before front whole out0 out1 : List ℕ) (result : Result Unit EngineFault) → GoesOn f before [] g
-    → whole ≡ before ++ front → out1 ≡ out0 → Takes g front h [] [] result → Takes f whole h out0 out1 result
-described_front f g h before front whole out0 out1 result goes is same takes =
-    subst (λ w. Takes f w h out0 out1 result) (sym is)
-    (takes_after f g h before front [] out0 out1 out1 result goes (same ∙ sym (append-nil out0)) (takes_nothing g h front out1 result takes))
+-- a piece that ends the run before a line has divided
+pub piece_stops : (run : RunPast) (whole f h k : Gives) (piece out : List ℕ) (fault : EngineFault) (found : Result (Option Divided) EngineFault)
+    → whole ≡ f → found ≡ Err fault → (f true []).text ≡ [] → DividesAt run f piece h found → Takes whole piece k out out (Err fault)
+piece_stops run whole f h k piece out fault found same is nothing meets =
+    subst (λ w. Takes w piece k out out (Err fault)) (sym same) (stops (subst (DividesAt run f piece h) is meets)) where
+      stops : EndsAt f piece fault → Takes f piece k out out (Err fault)
+      stops (inl memory) = ([], sym (append-nil out), inl (memory, ([], piece, refl, sym nothing)))
+      stops (inr (apart, on)) = ([], sym (append-nil out), inr (apart, on))
 
 -- the end of the input before a line has divided
-pub undivided : (text kept : List ℕ) (is_cut : Bool) (fault : EngineFault) → is_divider kept ≡ false → fault ≢ no_memory
-    → fault ≡ (if nat_lt MAX_DESCRIPTION (length text + length kept) then faults.TooLarge else faults.NoDivider)
-    → Finishes (description_gives held_run text kept is_cut []) [] [] (Err fault)
-undivided text kept is_cut fault stays apart is =
-    let ends : description_gives held_run text kept is_cut [] ≡ stops_at fault =
-    no_divider_at_end held_run text kept is_cut stays
-    ∙ ap (λ n. stops_at (if nat_lt MAX_DESCRIPTION n then faults.TooLarge else faults.NoDivider)) (length-append text kept)
-    ∙ ap stops_at (sym is) in
-    inr (apart, ap (λ (w : Written). w.fault) ends, ap (λ (w : Written). w.text) (sym ends))
-
--- or with the line that divides
-pub divided_ends : (text kept : List ℕ) (is_cut : Bool) (device : Description) (result : Result Unit EngineFault) → is_divider kept ≡ true → begun text ≡ Ok device
-    → result ≡ (if is_cut then Err faults.TooLarge else Ok tt) → Finishes (description_gives held_run text kept is_cut []) [] [] result
-divided_ends text kept is_cut device result here e is =
-    subst (λ r. Finishes (description_gives held_run text kept is_cut []) [] [] r) (sym is)
-    (subst (λ w. Finishes w [] [] (if is_cut then Err faults.TooLarge else Ok tt)) (sym (divider_at_end held_run text kept is_cut here ∙ begun_device held_run is_cut text [] device e))
-    (by_cut is_cut)) where
-      by_cut : (cut : Bool) → Finishes (held_run device cut []) [] [] (if cut then Err faults.TooLarge else Ok tt)
-      by_cut true = inr ((λ e. cc), refl, refl)
-      by_cut false = (refl, refl)
-
-pub divided_refused : (text kept : List ℕ) (is_cut : Bool) (fault : EngineFault) → is_divider kept ≡ true
-    → (fault ≡ no_memory) ⊎ ((fault ≢ no_memory) × (begun text ≡ Err fault)) → Finishes (description_gives held_run text kept is_cut []) [] [] (Err fault)
-divided_refused text kept is_cut fault here (inl memory) = inl (memory, refl)
-divided_refused text kept is_cut fault here (inr (apart, e)) =
-    let ends : description_gives held_run text kept is_cut [] ≡ stops_at fault =
-    divider_at_end held_run text kept is_cut here ∙ begun_fault held_run is_cut text [] fault e in
-    inr (apart, ap (λ (w : Written). w.fault) ends, ap (λ (w : Written). w.text) (sym ends))
-
--- what is added to nothing is added to whatever there was
-pub finishes_nothing : (rest : Written) (out : List ℕ) (result : Result Unit EngineFault) → Finishes rest [] [] result → Finishes rest out out result
-finishes_nothing rest out (Ok u) (none, e) = (none, sym (append-nil out) ∙ ap (λ t. out ++ t) e)
-finishes_nothing rest out (Err fault) (inl (memory, e)) = inl (memory, refl)
-finishes_nothing rest out (Err fault) (inr (apart, is, e)) = inr (apart, is, sym (append-nil out) ∙ ap (λ t. out ++ t) e)
+pub end_stops : (run : RunPast) (whole f : Gives) (is_cut : Bool) (fault : EngineFault) (found : Result Description EngineFault) (out : Option (List ℕ))
+    → whole ≡ f → found ≡ Err fault → EndsDescription run f found → FinishesErr (whole is_cut []) out out fault
+end_stops run whole f is_cut fault found out same is meets =
+    subst (λ w. FinishesErr (w is_cut []) out out fault) (sym same) (stops (subst (EndsDescription run f) is meets)) where
+      stops : EndsDescription run f (Err fault) → FinishesErr (f is_cut []) out out fault
+      stops (inl memory) = inr (inl (memory, Appends-nil out))
+      stops (inr (apart, ends)) =
+          inr (inr (apart, ap (λ (w : Written). w.fault) (ends is_cut), subst (λ t. Appends out out t) (sym (ap (λ (w : Written). w.text) (ends is_cut))) (Appends-nil out)))

@@ -1,72 +1,55 @@
 -- A run over an input of which the description comes first, in pieces.
-use Rattle.std.specs.Prelude.{◌≡◌, ◌≢◌, ◌⊎◌, [], Result, Ok, Err, ℕ, nat_lt}
-use Rattle.std.specs.Prelude.{Bool, if◌then◌else◌, List, ◌++◌, length, Option, None, Some}
-use Rattle.line_words.specs.TextLines.{lines_of}
+use Rattle.std.specs.Prelude.{◌≡◌, ℕ, nat_lt, Bool, true, false, if◌then◌else◌}
+use Rattle.std.specs.Prelude.{List, [], ◌++◌, length, None, Some, Result, Ok, Err, refl}
 use Rattle.mctpctl_engines.specs.AnswerText.{described_run}
-use Rattle.mctpctl_engines.specs.LinePieces.{glued}
-use Rattle.mctpctl_input.specs.LineRuns.{Written, no_memory, stops_at}
-use Rattle.mctpctl_input.specs.Pieces.{Gives, GoesOn, StopsWith}
-use Rattle.mctpctl_input.specs.TextLines.{capture_lines, description_of}
-use Rattle.mctpctl_input.specs.declared.faults.EngineFault.{EngineFault}
+use Rattle.mctpctl_engines.specs.DescriptionPieces.{RunPast, description_gives, lines_give, run_described}
+use Rattle.mctpctl_engines.specs.declared.described_run.DescribedRun.{DescribedRun}
+use Rattle.mctpctl_engines.specs.declared.described_run.DescribedRun.TheVariants.{Before, Past}
+use Rattle.mctpctl_input.specs.LineRuns.{stops_at}
+use Rattle.mctpctl_input.specs.Pieces.{Gives}
+use Rattle.mctpctl_input.specs.TextLines.{is_divider}
 use Rattle.mctpctl_input.specs.declared.faults.EngineFault.TheVariants as faults
 use Rattle.mctpctl_input.specs.declared.limits.TheConstants.{MAX_DESCRIPTION}
 use Rattle.pldm_device.specs.Descriptions.{stated}
 use Rattle.pldm_device.specs.declared.description.Description.{Description}
 use Rattle.pldm_device.specs.declared.description_fault.FileFault.{FileFault}
-use Rattle.pldm_device.specs.Devices.{Device}
-use Rattle.pldm_responder.specs.Held.{Held, held_at_first}
 
-module _ (run : Description → Bool → List (List ℕ) → Written) where
-  -- the run over the lines after the divider, if a line divides, where this is the description
-  abbrev pub run_described : Bool → List ℕ → Option (List (List ℕ)) → Written
-  run_described is_cut text None =
-      stops_at (if nat_lt MAX_DESCRIPTION (length text) then faults.TooLarge else faults.NoDivider)
-  run_described is_cut text (Some lines) =
-      if nat_lt MAX_DESCRIPTION (length text)
-      then stops_at faults.TooLarge
-      else described_run run is_cut lines (stated text)
+-- what a run writes of the bytes to come, before its description has ended and after
+abbrev pub described_gives : {T : Type 0} → RunPast → (T → Gives) → DescribedRun T → Gives
+described_gives written past (Before lines) = lines_give written lines
+described_gives written past (Past run) = past run
 
-  -- what the run writes of the bytes to come, where `text` is what came of the description before, and `kept` has come
-  -- of a line
-  abbrev pub description_gives : List ℕ → List ℕ → Gives
-  description_gives text kept = λ is_cut bytes.
-      run_described is_cut
-      (text ++ description_of (glued kept (lines_of bytes)))
-      (capture_lines (glued kept (lines_of bytes)))
+-- how many lines have ended after the divider
+abbrev pub described_count : {T : Type 0} → (T → ℕ) → DescribedRun T → ℕ
+described_count counted (Before lines) = 0
+described_count counted (Past run) = counted run
 
--- what a run writes of the bytes to come, once it is past its description or before
-abbrev pub described_gives : {T : Type 0} → (T → Gives) → Gives → Option T → Gives
-described_gives past before None = before
-described_gives past before (Some run) = past run
+-- nothing has come
+abbrev pub IsFirst : {T : Type 0} → DescribedRun T → Type 0
+IsFirst (Before lines) = (lines.text.items ≡ []) × (lines.kept.items ≡ [])
+IsFirst (Past run) = ⊥
 
--- what a line of the description gives: more description, or a run past it
-abbrev pub Describes : {T : Type 0} → (T → Gives) → Gives → List ℕ → Gives → Result (Option T) EngineFault → Type 0
-Describes past before piece after (Ok None) = GoesOn before piece [] after
-Describes past before piece after (Ok (Some run)) = GoesOn before piece [] (past run)
-Describes past before piece after (Err fault) =
-    (fault ≡ no_memory) ⊎ ((fault ≢ no_memory) × StopsWith before piece [] fault)
+-- a run whose input is cut off at once writes nothing more
 
--- how many lines of the capture have ended
-abbrev pub described_count : {T : Type 0} → (T → ℕ) → Option T → ℕ
-described_count counted None = 0
-described_count counted (Some run) = counted run
+module _ (written : RunPast) (nothing_after : (description : Description) → (written description true []).text ≡ []) where
+  device_writes_nothing : (said : Result Description FileFault) (long : Bool)
+      → (if long then stops_at faults.TooLarge else described_run written true [] said).text ≡ []
+  device_writes_nothing said true = refl
+  device_writes_nothing (Ok description) false = nothing_after description
+  device_writes_nothing (Err fault) false = refl
 
--- the device that the text before the divider describes, or why the run ends there
-abbrev pub device_begun : Result Description FileFault → Result Description EngineFault
-device_begun (Ok description) = Ok description
-device_begun (Err fault) = Err (faults.Device fault)
+  pub description_where_cut : (text kept : List ℕ) → (description_gives written text kept true []).text ≡ []
+  description_where_cut text kept = by_line (is_divider (kept ++ [])) where
+    by_line : (here : Bool)
+        → (run_described written true (text ++ (if here then [] else kept ++ [])) (if here then Some [] else None)).text
+        ≡ []
+    by_line true = device_writes_nothing (stated (text ++ [])) (nat_lt MAX_DESCRIPTION (length (text ++ [])))
+    by_line false = refl
 
-abbrev pub begun : List ℕ → Result Description EngineFault
-begun text = if nat_lt MAX_DESCRIPTION (length text) then Err faults.TooLarge else device_begun (stated text)
-
--- the result is the value or the fault that there is; memory may run out at any input
-abbrev pub IsReturned : {T : Type 0} → Result T EngineFault → Result T EngineFault → Type 0
-IsReturned owed (Ok value) = owed ≡ Ok value
-IsReturned owed (Err fault) = (fault ≡ no_memory) ⊎ ((fault ≢ no_memory) × (owed ≡ Err fault))
-
--- what is begun is held as by a new responder of the described device
-abbrev pub Begins : {T : Type 0} → (T → Held Device) → List ℕ → Result T EngineFault → Type 0
-Begins held text (Ok task) =
-    (description : Description) × (begun text ≡ Ok description)
-    × (held task ≡ held_at_first description.eid description.keep description.device)
-Begins held text (Err fault) = (fault ≡ no_memory) ⊎ ((fault ≢ no_memory) × (begun text ≡ Err fault))
+pub nothing_where_cut : {T : Type 0} (written : RunPast) (past : T → Gives)
+    → ((description : Description) → (written description true []).text ≡ [])
+    → ((run : T) → (past run true []).text ≡ [])
+    → (run : DescribedRun T) → (described_gives written past run true []).text ≡ []
+nothing_where_cut written past nothing_after none_past (Before lines) =
+    description_where_cut written nothing_after lines.text.items lines.kept.items
+nothing_where_cut written past nothing_after none_past (Past run) = none_past run

@@ -3,9 +3,13 @@
 
 mod answer_run;
 mod described;
+mod described_run;
+mod description_lines;
 mod line_run;
 mod message_form;
 mod observer;
+mod ran;
+mod schedule_lines;
 mod schedule_run;
 mod show;
 

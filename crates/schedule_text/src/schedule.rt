@@ -1,6 +1,6 @@
 //! A whole schedule.
 
-ghost use Rattle.std.specs.Prelude.{◌≡◌, Ok, IfOk, IfErr, OnOk};
+ghost use Rattle.std.specs.Prelude.{◌≡◌, Ok, IfOk, IfErr, OnOk, OnErr};
 ghost use Rattle.line_words.specs.TextLines.{lines_of};
 ghost use Rattle.schedule_text.specs.Schedules.{IsReached, IsSchedule, ReportsFault, ReportsKind, after_line, has_requester, is_known, last_moment, none_spelled, schedule_of, with_line, with_requester, with_step};
 
@@ -30,6 +30,34 @@ impl Model for Schedule {
 }
 
 impl Schedule {
+    /// The schedule of no line, to which lines are added as they come.
+    pub fn new(alloc: Global) -> Schedule
+        ensures { result ≡ none_spelled }
+    {
+        Schedule {
+            requesters: Vec::new(alloc),
+            steps: Vec::new(alloc),
+        }
+    }
+
+    /// Adds what one more line says, given without its LF; a CR at its end is dropped, and a blank line or
+    /// a comment (`#`) adds nothing. `number` is the line's own, which a fault names.
+    ///
+    /// # Errors
+    ///
+    /// The line's first fault, or `Memory`, which may come at any line. The schedule is then unchanged.
+    pub fn add_line(&mut self, alloc: Global, number: u64, line: &[u8]) -> Result<(), LineFault>
+        ensures ok { OnOk result (after_line self.old line.now ≡ Ok self.new) }
+        ensures err { IfErr result (λ fault. (fault.line ≡ number) × ReportsKind (after_line self.old line.now)
+            fault.kind) }
+        ensures unchanged { OnErr result (self.new ≡ self.old) }
+    {
+        match self.add_unnumbered(alloc, line) {
+            Ok(()) => Ok(()),
+            Err(kind) => Err(LineFault { line: number, kind }),
+        }
+    }
+
     /// Reads the schedule that a text spells, line by line. Lines end with LF, the last one may end
     /// without; a CR at a line's end is dropped. Blank lines and comments (`#`) are skipped but counted.
     ///
@@ -46,11 +74,11 @@ impl Schedule {
         let mut number = 1;
         let mut rest = text;
         while let Some((line, after)) = split_line(rest) {
-            schedule.add_numbered(alloc, number, line)?;
+            schedule.add_line(alloc, number, line)?;
             number += 1;
             rest = after;
         }
-        schedule.add_numbered(alloc, number, rest)?;
+        schedule.add_line(alloc, number, rest)?;
         Ok(schedule)
     }
 
@@ -70,32 +98,11 @@ impl Schedule {
         &self.steps
     }
 
-    /// The schedule of no line.
-    fn new(alloc: Global) -> Schedule
-        ensures { result ≡ none_spelled }
-    {
-        Schedule {
-            requesters: Vec::new(alloc),
-            steps: Vec::new(alloc),
-        }
-    }
-
-    /// Adds what the line with this number says.
-    fn add_numbered(&mut self, alloc: Global, number: u64, line: &[u8]) -> Result<(), LineFault>
-        ensures ok { OnOk result (after_line self.old line.now ≡ Ok self.new) }
-        ensures err { IfErr result (λ fault. (fault.line ≡ number) × ReportsKind (after_line self.old line.now)
-            fault.kind) }
-    {
-        match self.add_line(alloc, line) {
-            Ok(()) => Ok(()),
-            Err(kind) => Err(LineFault { line: number, kind }),
-        }
-    }
-
-    /// Adds what a line says.
-    fn add_line(&mut self, alloc: Global, line: &[u8]) -> Result<(), LineFaultKind>
+    /// Adds what a line says, without its number.
+    fn add_unnumbered(&mut self, alloc: Global, line: &[u8]) -> Result<(), LineFaultKind>
         ensures ok { OnOk result (after_line self.old line.now ≡ Ok self.new) }
         ensures err { IfErr result (λ kind. ReportsKind (after_line self.old line.now) kind) }
+        ensures unchanged { OnErr result (self.new ≡ self.old) }
     {
         match read_line(alloc, line)? {
             Line::Nothing => Ok(()),
@@ -108,6 +115,7 @@ impl Schedule {
     fn add_requester(&mut self, line: RequesterLine) -> Result<(), LineFaultKind>
         ensures ok { OnOk result (with_requester self.old line ≡ Ok self.new) }
         ensures err { IfErr result (λ kind. ReportsKind (with_requester self.old line) kind) }
+        ensures unchanged { OnErr result (self.new ≡ self.old) }
     {
         if has_requester(&self.requesters, line.eid) {
             return Err(LineFaultKind::SameRequester);
@@ -120,6 +128,7 @@ impl Schedule {
     fn add_step(&mut self, step: Step) -> Result<(), LineFaultKind>
         ensures ok { OnOk result (with_step self.old step ≡ Ok self.new) }
         ensures err { IfErr result (λ kind. ReportsKind (with_step self.old step) kind) }
+        ensures unchanged { OnErr result (self.new ≡ self.old) }
     {
         if step.moment.get() < last_moment(&self.steps) {
             return Err(LineFaultKind::BackInTime);

@@ -23,7 +23,7 @@ loop-line-preserved c =
     let after = lines_of c.in-Some.after.now in
     let parts = c.in-Some.ensures.some in
     let long = c.in-Some.ensures.len in
-    let ok = c.in_ok-add_numbered.ensures.ok in
+    let ok = c.in_ok-add_line.ensures.ok in
     let size = i.size in
     let number = i.number in
     let more = length-append i.done (line ∷ []) in
@@ -33,6 +33,6 @@ loop-line-preserved c =
       size = omega (arith, size, long);
       done = i.done ++ line ∷ [];
       lines = i.lines ∙ ap (λ lines. i.done ++ lines) parts ∙ sym (append_assoc i.done (line ∷ []) after);
-      good = one_more 1 none_spelled i.done line c.loop-line.schedule c.add_numbered.new.self i.good ok;
+      good = one_more 1 none_spelled i.done line c.loop-line.schedule c.add_line.new.self i.good ok;
       number = omega (arith, number, more);
     }

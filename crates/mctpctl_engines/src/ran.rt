@@ -1,0 +1,66 @@
+//! A schedule that was run over the described device, and its text.
+
+ghost use Rattle.std.specs.Io.KnownBytes.{Appends};
+ghost use Rattle.std.specs.Prelude.{◌≡◌, ◌≢◌, Ok, Err, IfErr, OnOk, false};
+ghost use Rattle.mctpctl_engines.specs.RunText.{schedule_written, stop_of_run};
+ghost use Rattle.mctpctl_engines.specs.SchedulePieces.{ReportsText, text_of_ran};
+ghost use Rattle.mctpctl_input.specs.Ports.{inner_of, has_failed};
+ghost use Rattle.mctpctl_input.specs.WholeRuns.{ReportsFailed};
+
+use mctp_schedule::{Report, RunFault, Schedule, Setup, run};
+use mctpctl_input::{EngineFault, Port};
+use mctpctl_texts::{NotWritten, write_report};
+use pldm_device::{Description, SimDevice};
+use std::alloc::Global;
+use std::io::Write;
+
+/// What ends the run where a requester is refused.
+fn stop_of_run(fault: RunFault) -> EngineFault
+    ensures { result ≡ stop_of_run fault }
+{
+    match fault {
+        RunFault::Timing(requester, fault) => EngineFault::Timing(requester, fault),
+        RunFault::Memory(memory) => EngineFault::Memory(memory),
+    }
+}
+
+/// A schedule, and what came of it.
+#[derive(Drop)]
+pub struct Ran {
+    schedule: Schedule,
+    report: Report<SimDevice>,
+}
+
+/// Runs a schedule over the described device.
+pub fn run_schedule(
+    alloc: Global,
+    description: Description,
+    schedule: Schedule,
+) -> Result<Ran, EngineFault>
+    ensures meets { ReportsText text_of_ran (schedule_written description (Ok schedule)) result }
+    ensures read { result ≢ Err EngineFault.Read }
+    ensures write { result ≢ Err EngineFault.Write }
+{
+    let Description { eid, keep, device } = description;
+    let setup = Setup { eid, keep, device };
+    let report = match run(alloc, setup, &schedule) {
+        Ok(report) => report,
+        Err(fault) => return Err(stop_of_run(fault)),
+    };
+    Ok(Ran { schedule, report })
+}
+
+/// Writes the text of a run, part by part, which takes no memory.
+pub fn write_ran<W: Write>(writer: &mut Port<W>, ran: &Ran) -> Result<(), EngineFault>
+    requires { has_failed writer.old ≡ false }
+    ensures text { OnOk result (Appends (W.contents (inner_of writer.old)) (W.contents (inner_of writer.new))
+        (text_of_ran ran.now)) }
+    ensures fault { IfErr result (λ fault. fault ≡ EngineFault.Write) }
+    ensures write { ReportsFailed EngineFault.Write result writer.new }
+{
+    let steps = ran.schedule.steps();
+    match write_report(writer, steps, &ran.report) {
+        Ok(()) => Ok(()),
+        Err(NotWritten) => Err(EngineFault::Write),
+    }
+}
