@@ -8,6 +8,7 @@ ghost use Rattle.mctp_schedule.specs.Askers.{HasAnswer, HasPacket, IsSent, Repor
 ghost use Rattle.mctp_schedule.specs.Entries.{numbered};
 ghost use Rattle.pldm_requester.specs.Courses as courses;
 
+use crate::Delivery;
 use crate::stored_message::StoredMessage;
 use arrayvec::ArrayVec;
 use mctp_packet::{HEADER, Memory, Moment};
@@ -146,14 +147,14 @@ impl Asker {
         self.requester.count()
     }
 
-    /// Takes the bytes of a packet. An answer that it completes stands where `sent` does, if both are the
-    /// same.
+    /// Takes the bytes of a packet. Those of an answer that it completes lie where the answer of `sent` does,
+    /// if both are the same.
     pub(crate) fn receive(
         &mut self,
         alloc: Global,
         now: Moment,
         bytes: &[u8],
-        sent: Option<&StoredMessage>,
+        sent: Option<&Delivery>,
     ) -> Result<ReceivedPacket, Memory>
         requires moment { (held_of self.old.station).last ≤ now }
         requires all { length self.old.numbers ≡ (held_of self.old.station).count }
@@ -178,12 +179,13 @@ impl Asker {
         })
     }
 
-    /// Stores the answer to a request that has one. It stands where `sent` does, if both are the same.
+    /// Stores the answer to a request that has one. It lies where the answer of `sent` does, if both are the
+    /// same.
     fn store_answer(
         &self,
         alloc: Global,
         own: u64,
-        sent: Option<&StoredMessage>,
+        sent: Option<&Delivery>,
     ) -> Result<AnsweredRequest, Memory>
         requires answer { HasAnswer (held_of self.now.station) own }
         requires one { own < length self.now.numbers }

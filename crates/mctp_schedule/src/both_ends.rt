@@ -236,7 +236,7 @@ impl<P: Platform> Ends<P> {
             self.journal.enter(Entry::Nothing)?;
             return Ok(());
         };
-        let sent = journal.latest_answer(number, busy);
+        let sent = journal.latest_delivery(number, busy);
         let request = &journal.requests[number as usize];
         let own = request.number();
         let (in_time, received) = match &mut self.places[usize::from(request.requester().get())] {

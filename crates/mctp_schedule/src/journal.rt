@@ -8,7 +8,6 @@ ghost use Rattle.mctp_schedule.specs.Journals.{answered_as, answers_at, fresh_nu
 ghost use Rattle.mctp_schedule.specs.Requests.{begun};
 
 use crate::askers::{AnsweredRequest, MAX_REQUEST_PACKET_BYTES, SentRequest};
-use crate::stored_message::StoredMessage;
 use crate::{Delivery, DueRequests, Entry, OpenedRequest};
 use arrayvec::ArrayVec;
 use mctp_packet::{Eid, MAX_PACKET_BYTES, Memory, Moment};
@@ -124,14 +123,8 @@ impl Journal {
         }
     }
 
-    /// The latest answer to a request, a busy one or not, if there is one.
-    pub(crate) fn latest_answer(&self, number: u64, busy: bool) -> Option<&StoredMessage> {
-        let delivery = self.latest_delivery(number, busy)?;
-        Some(delivery.reply())
-    }
-
     /// The delivery that brought the latest answer to a request, a busy one or not.
-    fn latest_delivery(&self, number: u64, busy: bool) -> Option<&Delivery>
+    pub(crate) fn latest_delivery(&self, number: u64, busy: bool) -> Option<&Delivery>
         ensures { option_and_then (λ delivery. packets_of_outcome delivery.now) result ≡ latest_packets
             self.now.entries.items busy (slice_get self.now.traffic.items number) }
     {
@@ -241,7 +234,8 @@ impl Journal {
         }
         self.timely = in_time && self.timely;
         // Looked up before this answer is the latest: a copy's answer is mostly the one before it, and is shared.
-        let delivery = Delivery::new(self.alloc, taken, reply, self.latest_answer(number, busy))?;
+        let last = self.latest_delivery(number, busy);
+        let delivery = Delivery::new(self.alloc, taken, reply, last)?;
         self.point_to_next_entry(number, busy);
         self.enter(Entry::Delivered { busy, delivery })
     }

@@ -1,8 +1,9 @@
 //! A message that is kept: a short one in place, a longer one shared.
 
-ghost use Rattle.std.specs.Prelude.{◌≡◌, ◌≤◌, length, IfOk, IfSome};
-ghost use Rattle.std.specs.Rc.{rc_slice_items};
+ghost use Rattle.std.specs.Prelude.{◌≡◌, ◌≤◌, length, IfOk};
+ghost use Rattle.mctp_schedule.specs.StoredMessages.{bytes_of};
 
+use crate::Delivery;
 use mctp_packet::Memory;
 use std::alloc::Global;
 use std::marker::Model;
@@ -58,8 +59,10 @@ pub(crate) struct StoredMessage {
     bytes: StoredBytes,
 }
 
+/// How they are stored. What holds a message has variants of its own for the two, so that they are told by
+/// one mark with what it holds beside them.
 #[derive(Debug, Drop)]
-enum StoredBytes {
+pub(crate) enum StoredBytes {
     Short(ShortMessage),
     Shared(RcSlice<u8>),
 }
@@ -74,11 +77,11 @@ impl Model for StoredMessage {
 }
 
 impl StoredMessage {
-    /// These bytes, which stand where those of `other` do if they are the same.
+    /// These bytes, which lie where those of the answer of `other` do if both are the same.
     pub(crate) fn new(
         alloc: Global,
         bytes: &[u8],
-        other: Option<&StoredMessage>,
+        other: Option<&Delivery>,
     ) -> Result<StoredMessage, Memory>
         ensures { IfOk result (λ message. message ≡ bytes.now) }
     {
@@ -99,15 +102,11 @@ impl StoredMessage {
         Ok(StoredMessage { bytes })
     }
 
-    /// A share of its bytes, where they are these and may be shared.
-    fn share(&self, bytes: &[u8]) -> Result<Option<RcSlice<u8>>, Memory>
-        ensures { IfOk result (λ shared. IfSome shared (λ s. rc_slice_items s ≡ bytes.now)) }
+    /// How they are stored.
+    pub(crate) fn into_bytes(self) -> StoredBytes
+        ensures { bytes_of result ≡ self }
     {
-        match &self.bytes {
-            // Compared, and not taken on trust: the journal tells each answer as it was given.
-            StoredBytes::Shared(shared) if shared.as_slice() == bytes => Ok(Some(shared.clone()?)),
-            _ => Ok(None),
-        }
+        self.bytes
     }
 
     /// The bytes.
