@@ -6,7 +6,7 @@ ghost use Rattle.mctp_packet.specs.Packets.{written};
 ghost use Rattle.pldm_responder.specs.Answering.{answering};
 ghost use Rattle.mctp_schedule.specs.Deliveries.{ComesTo, packet_of_outcome};
 
-use crate::stored_message::{ShortMessage, StoredBytes, StoredMessage};
+use crate::stored_message::{MAX_SHORT, ShortMessage, StoredBytes, StoredMessage};
 use mctp_packet::{MAX_PACKET_BYTES, Memory, PacketRef, packet_at, write};
 use pldm_responder::MessageOutcome;
 use std::alloc::Global;
@@ -27,7 +27,7 @@ enum KeptDelivery {
     /// The answer is short. So is that of a packet which was not answered: it has no bytes.
     Short {
         taken: MessageOutcome,
-        reply: ShortMessage,
+        reply: ShortMessage<MAX_SHORT>,
     },
     /// The answer is longer, and may be shared.
     Shared {

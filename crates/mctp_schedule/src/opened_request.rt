@@ -1,27 +1,32 @@
 //! A request that was opened, as a report tells it.
 
-ghost use Rattle.std.specs.Prelude.{◌≡◌, ◌%◌};
+ghost use Rattle.std.specs.Prelude.{◌≡◌, ◌++◌, ◌%◌};
 ghost use Rattle.pldm_requester.specs.Courses.{GaveUp, Answered};
 ghost use Rattle.pldm_requester.specs.Numbering.{id_of, tag_of};
 ghost use Rattle.pldm_requester.specs.Standings.{standing_told};
 ghost use Rattle.mctp_schedule.specs.Requests.{begun, with_standing};
 
-use crate::stored_message::StoredMessage;
+use crate::askers::MAX_REQUEST_PACKET_BYTES;
+use crate::stored_message::{ShortMessage, StoredMessage};
 use arrayvec::ArrayVec;
-use mctp_packet::{Eid, Moment, TAGS, Tag};
+use mctp_packet::{Eid, HEADER, Moment, TAGS, Tag};
 use pldm_requester::Status;
 use pldm_wire::{INSTANCE_IDS, MAX_REQUEST_BYTES};
 use std::marker::Model;
 
-/// A request that was opened, and how it stands.
+/// A request that was opened, and how it stands. Its message has few bytes and stands in place, so that an
+/// opening asks for memory only where a list grows.
 #[derive(Debug, Drop)]
 pub struct OpenedRequest {
-    requester: Eid,
     number: u64,
     opening: Moment,
-    message: ArrayVec<u8, MAX_REQUEST_BYTES>,
+    requester: Eid,
+    message: ShortMessage<MAX_REQUEST_BYTES>,
     standing: Standing,
 }
+
+// A run holds one for each request: the requester and the message, with its count, lie in four words together.
+const _: () = prove!(size_of::<OpenedRequest>() == 80);
 
 /// How it stands.
 #[derive(Debug, Drop)]
@@ -42,7 +47,7 @@ impl Model for OpenedRequest {
     ghost coded = { coded_request };
 
     ghost view = { λ r. record {
-      asked = record { source = r.requester; own = r.number; opening = r.opening; message = r.message.items };
+      asked = record { source = r.requester; own = r.number; opening = r.opening; message = r.message };
       standing = standing_of r.standing;
     } };
 }
@@ -53,14 +58,14 @@ impl OpenedRequest {
         requester: Eid,
         number: u64,
         opening: Moment,
-        message: ArrayVec<u8, MAX_REQUEST_BYTES>,
+        message: ShortMessage<MAX_REQUEST_BYTES>,
     ) -> OpenedRequest
-        ensures { result ≡ begun requester number opening message.items }
+        ensures { result ≡ begun requester number opening message }
     {
         OpenedRequest {
-            requester,
             number,
             opening,
+            requester,
             message,
             standing: Standing::Waiting,
         }
@@ -105,7 +110,17 @@ impl OpenedRequest {
     pub fn message(&self) -> &[u8]
         ensures { result.now ≡ self.now.asked.message }
     {
-        &self.message
+        self.message.bytes()
+    }
+
+    /// The bytes of its packet, which has this header.
+    pub(crate) fn packet(&self, header: &[u8; HEADER]) -> ArrayVec<u8, MAX_REQUEST_PACKET_BYTES>
+        ensures { result.items ≡ header.now ++ self.now.asked.message }
+    {
+        let mut packet = ArrayVec::new();
+        packet.try_extend_from_slice(header).unwrap();
+        packet.try_extend_from_slice(self.message.bytes()).unwrap();
+        packet
     }
 
     /// How it stands.

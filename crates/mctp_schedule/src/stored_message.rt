@@ -1,6 +1,6 @@
 //! A message that is kept: a short one in place, a longer one shared.
 
-ghost use Rattle.std.specs.Prelude.{◌≡◌, ◌≤◌, length, IfOk};
+ghost use Rattle.std.specs.Prelude.{◌≡◌, ◌≤◌, ◌<◌, ◌^◌, length, IfOk};
 ghost use Rattle.mctp_schedule.specs.StoredMessages.{bytes_of};
 
 use crate::Delivery;
@@ -9,34 +9,34 @@ use std::alloc::Global;
 use std::marker::Model;
 use std::rc::RcSlice;
 
-/// The most bytes of a short message: an answer that tells a sensor's reading has no more.
+/// The most bytes of an answer that is stored in place: one that tells a sensor's reading has no more.
 pub(crate) const MAX_SHORT: usize = 15;
 
-/// The bytes of a short message, at most [`MAX_SHORT`].
+/// The bytes of a short message, at most `MOST`. Their count is one byte long.
 #[derive(Debug, Drop)]
-pub(crate) struct ShortMessage {
-    room: [u8; MAX_SHORT],
+pub(crate) struct ShortMessage<const MOST: usize> {
+    room: [u8; MOST],
     count: u8,
 }
 
-impl Model for ShortMessage {
+impl<const MOST: usize> Model for ShortMessage<MOST> {
     ghost use Rattle.std.specs.Prelude.{ℕ, ◌≤◌, List, take};
-    ghost use Rattle.mctp_schedule.specs.declared.stored_message.TheConstants.{MAX_SHORT};
 
     ghost Value = { List ℕ };
 
     ghost view = { λ m. take m.count m.room };
 
-    ghost invariant = { λ m. m.count ≤ MAX_SHORT };
+    ghost invariant = { λ m. m.count ≤ MOST };
 }
 
-impl ShortMessage {
+impl<const MOST: usize> ShortMessage<MOST> {
     /// These bytes.
-    pub(crate) fn new(bytes: &[u8]) -> ShortMessage
-        requires { length bytes.now ≤ MAX_SHORT }
+    pub(crate) fn new(bytes: &[u8]) -> ShortMessage<MOST>
+        requires few { length bytes.now ≤ MOST }
+        requires counted { MOST < 2 ^ 8 }
         ensures { result ≡ bytes.now }
     {
-        let mut room = [0; MAX_SHORT];
+        let mut room = [0; MOST];
         room[..bytes.len()].copy_from_slice(bytes);
         ShortMessage {
             room,
@@ -46,7 +46,8 @@ impl ShortMessage {
 
     /// The bytes.
     pub(crate) fn bytes(&self) -> &[u8]
-        ensures { result.now ≡ self.now }
+        ensures bytes { result.now ≡ self.now }
+        ensures few { length result.now ≤ MOST }
     {
         &self.room[..usize::from(self.count)]
     }
@@ -63,7 +64,7 @@ pub(crate) struct StoredMessage {
 /// one mark with what it holds beside them.
 #[derive(Debug, Drop)]
 pub(crate) enum StoredBytes {
-    Short(ShortMessage),
+    Short(ShortMessage<MAX_SHORT>),
     Shared(RcSlice<u8>),
 }
 
