@@ -7,12 +7,13 @@ ghost use Rattle.pldm_requester.specs.Standings.{standing_told};
 ghost use Rattle.mctp_schedule.specs.Requests.{begun, with_standing};
 
 use crate::askers::MAX_REQUEST_PACKET_BYTES;
-use crate::stored_message::{ShortMessage, StoredMessage};
+use crate::stored_message::{MAX_SHORT, ShortMessage, StoredBytes, StoredMessage};
 use arrayvec::ArrayVec;
 use mctp_packet::{Eid, HEADER, Moment, TAGS, Tag};
 use pldm_requester::Status;
 use pldm_wire::{INSTANCE_IDS, MAX_REQUEST_BYTES};
 use std::marker::Model;
+use std::rc::RcSlice;
 
 /// A request that was opened, and how it stands. Its message has few bytes and stands in place, so that an
 /// opening asks for memory only where a list grows.
@@ -26,15 +27,17 @@ pub struct OpenedRequest {
 }
 
 // A run holds one for each request: the requester and the message, with its count, lie in four words together.
-const _: () = prove!(size_of::<OpenedRequest>() == 80);
+const _: () = prove!(size_of::<OpenedRequest>() == 72);
 
-/// How it stands.
+/// How it stands. How its answer is stored is told by the same mark.
 #[derive(Debug, Drop)]
 enum Standing {
     /// It is open.
     Waiting,
-    /// It was answered, by this message.
-    Answered(StoredMessage),
+    /// It was answered, by this short message.
+    AnsweredShort(ShortMessage<MAX_SHORT>),
+    /// It was answered, by this longer message, which may be shared.
+    AnsweredShared(RcSlice<u8>),
     /// It was given up.
     GaveUp,
 }
@@ -129,7 +132,8 @@ impl OpenedRequest {
     {
         match &self.standing {
             Standing::Waiting => Status::Open,
-            Standing::Answered(message) => Status::Answered(message.bytes()),
+            Standing::AnsweredShort(message) => Status::Answered(message.bytes()),
+            Standing::AnsweredShared(message) => Status::Answered(message.as_slice()),
             Standing::GaveUp => Status::GaveUp,
         }
     }
@@ -145,6 +149,9 @@ impl OpenedRequest {
     pub(crate) fn answer(&mut self, message: StoredMessage)
         ensures { self.new ≡ with_standing (Answered message) self.old }
     {
-        self.standing = Standing::Answered(message);
+        self.standing = match message.into_bytes() {
+            StoredBytes::Short(message) => Standing::AnsweredShort(message),
+            StoredBytes::Shared(message) => Standing::AnsweredShared(message),
+        };
     }
 }

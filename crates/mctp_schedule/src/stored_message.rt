@@ -109,14 +109,4 @@ impl StoredMessage {
     {
         self.bytes
     }
-
-    /// The bytes.
-    pub(crate) fn bytes(&self) -> &[u8]
-        ensures { result.now ≡ self.now }
-    {
-        match &self.bytes {
-            StoredBytes::Short(message) => message.bytes(),
-            StoredBytes::Shared(message) => message.as_slice(),
-        }
-    }
 }
