@@ -21,11 +21,11 @@ use Rattle.pldm_responder.specs.Steps.{performs, received_arrival, received_held
 use Rattle.pldm_responder.specs.declared.outcome.Outcome.{Outcome}
 use Rattle.pldm_responder.specs.declared.outcome.Outcome.TheVariants.{Answered}
 use Rattle.mctp_schedule.specs.Askers.{packet_bytes}
-use Rattle.mctp_schedule.specs.Entries.{delivery_entry, entries}
+use Rattle.mctp_schedule.specs.Entries.{as_it_stands, delivery_entry, entries}
 use Rattle.mctp_schedule.specs.FirstArrivals.{fresh_of, order}
 use Rattle.mctp_schedule.specs.Deliveries.{packets_of_outcome}
 use Rattle.mctp_schedule.specs.HeldRuns.{HeldRun}
-use Rattle.mctp_schedule.specs.Journals.{Carried, answers_at, fresh_numbers, packets_in, packets_of_entry}
+use Rattle.mctp_schedule.specs.Journals.{Carried, answers_at, fresh_numbers, packet_of_request, packets_in, packets_of_entry}
 use Rattle.mctp_schedule.specs.Logs.{Asked, asked_at, message_at, told, told_of}
 use Rattle.mctp_schedule.specs.OncePerformed.{FitsPackets}
 use Rattle.mctp_schedule.specs.Requests.{Request}
@@ -87,6 +87,18 @@ append_none (x ∷ xs) = ap (λ ys. x ∷ ys) (append_none xs)
 listed : (b : Bool) (xs : List ℕ) (n : ℕ) → xs ++ (if b then n ∷ [] else []) ≡ (if b then xs ++ n ∷ [] else xs)
 listed true xs n = refl
 listed false xs n = append_none xs
+
+-- ---- the packet of a request, of which the header and the message stand apart
+pub carried_packet : {P S : Type 0} (setting : Setting S) (past : List Step) (run : HeldRun P S) → IsRunning setting past run
+    → (n : ℕ) (r : Asked) → asked_at (world setting past).log n ≡ Some r → (bytes : List ℕ)
+    → Some bytes ≡ packet_of_request (slice_get run.journal.traffic.items n) (slice_get run.journal.requests.items n)
+    → bytes ≡ packet_bytes r.source setting.eid r.own r.message
+carried_packet setting past run running n r is bytes made =
+    let t = running.traffic n r is in
+    let stands : slice_get run.journal.requests.items n ≡ Some (as_it_stands setting (world setting past) r) = running.requests n ∙ ap (option_map (as_it_stands setting (world setting past))) is in
+    let here : Some bytes ≡ Some (t.0.header ++ r.message) = made ∙ ap (λ carried. packet_of_request carried (slice_get run.journal.requests.items n)) t.1 ∙ ap (packet_of_request (Some t.0)) stands in
+    let whole : bytes ≡ t.0.header ++ r.message = cc in
+    whole ∙ t.2.packet
 
 module _ {P S : Type 0} (setting : Setting S) (past : List Step) (run : HeldRun P S) (journal : Journal) (running : IsRunning setting past run) (moment n : ℕ) (later : time_now past ≤ moment) where
   abbrev w : World

@@ -143,8 +143,8 @@ module _ {P S : Type 0} (setting : Setting S) (past : List Step) (run : HeldRun 
     pub new_held : IsHeld (held_of new.station) (opened_held (held_of (running.sides e has).0.station) moment command)
     pub more_numbers : new.numbers ≡ (running.sides e has).0.numbers ++ length run.journal.requests.items ∷ []
     pub new_entries : journal.entries.items ≡ run.journal.entries.items ++ entry.Opened (length run.journal.requests.items) ∷ []
-    pub new_requests : journal.requests.items ≡ run.journal.requests.items ++ begun e sent.own moment sent.message.items ∷ []
-    pub new_traffic : journal.traffic.items ≡ run.journal.traffic.items ++ (record { packet = sent.packet.items; reply = None; busy = None }) ∷ []
+    pub new_requests : journal.requests.items ≡ run.journal.requests.items ++ begun e sent.own moment sent.message ∷ []
+    pub new_traffic : journal.traffic.items ≡ run.journal.traffic.items ++ (record { header = sent.header; reply = None; busy = None }) ∷ []
     pub new_order : journal.order.items ≡ run.journal.order.items
     pub timely : journal.timely ≡ run.journal.timely
 
@@ -162,7 +162,7 @@ module _ {P S : Type 0} (setting : Setting S) (past : List Step) (run : HeldRun 
     s = (running.sides e has).2
 
     abbrev carried_new : Carried
-    carried_new = record { packet = sent.packet.items; reply = None; busy = None }
+    carried_new = record { header = sent.header; reply = None; busy = None }
 
     on : held_steps.accepts (held_of side.station) moment ≡ true
     on = accepted_is (held_steps.is_tag_in_use (held_of side.station)) (held_steps.is_id_in_use (held_of side.station) moment) (held_of side.station).count (opened_as (held_of side.station).count) x.is_sent.opened
@@ -182,7 +182,7 @@ module _ {P S : Type 0} (setting : Setting S) (past : List Step) (run : HeldRun 
     own_is : sent.own ≡ before.count
     own_is = x.is_sent.own ∙ s.left.count
 
-    message_is : sent.message.items ≡ message_of before.count command
+    message_is : sent.message ≡ message_of before.count command
     message_is = x.is_sent.message ∙ ap (λ n. message_of n command) s.left.count
 
     numbers_here : numbers_of v.log e ≡ numbers_of w.log e ++ count ∷ []
@@ -262,9 +262,9 @@ module _ {P S : Type 0} (setting : Setting S) (past : List Step) (run : HeldRun 
             ∙ ap (λ (a : Requests). (a.each r.own).course.standing) here
             ∙ ap (λ (y : requester.Request). y.course.standing) (cond-false (r.own == before.count) (new_request moment command) (before.each r.own) (ne_eqb r.own before.count (λ same_own. absurd (omega (arith, low, same_own))))))
 
-    new_stands : begun e sent.own moment sent.message.items ≡ as_it_stands setting v q
+    new_stands : begun e sent.own moment sent.message ≡ as_it_stands setting v q
     new_stands =
-        ap (λ own. begun e own moment sent.message.items) own_is ∙ ap (begun e before.count moment) message_is
+        ap (λ own. begun e own moment sent.message) own_is ∙ ap (begun e before.count moment) message_is
         ∙ ap (λ c. record { asked = q; standing = c })
         (sym (ap (λ (a : Requests). (a.each before.count).course.standing) here ∙ ap (λ (y : requester.Request). y.course.standing) (cond-true (before.count == before.count) (new_request moment command) (before.each before.count) (eq-eqb before.count before.count refl))))
 
@@ -272,33 +272,33 @@ module _ {P S : Type 0} (setting : Setting S) (past : List Step) (run : HeldRun 
     requests_now k = ap (λ rs. slice_get rs k) x.new_requests ∙ go (cases_eq k count)
       where
         r : Request
-        r = begun e sent.own moment sent.message.items
+        r = begun e sent.own moment sent.message
 
         older : (o : Option Asked) → asked_at w.log k ≡ o → option_map (as_it_stands setting w) o ≡ option_map (as_it_stands setting v) o
         older None is = refl
         older (Some a) is = ap Some (stands k a is)
 
-        past_end : (k ≡ count → ⊥) → slice_get (run.journal.requests.items ++ begun e sent.own moment sent.message.items ∷ []) k ≡ slice_get run.journal.requests.items k
+        past_end : (k ≡ count → ⊥) → slice_get (run.journal.requests.items ++ begun e sent.own moment sent.message ∷ []) k ≡ slice_get run.journal.requests.items k
         past_end other = at (cases_Bool (nat_lt k (length run.journal.requests.items)))
           where
-            at : (nat_lt k (length run.journal.requests.items) ≡ true) ⊎ (nat_lt k (length run.journal.requests.items) ≡ false) → slice_get (run.journal.requests.items ++ begun e sent.own moment sent.message.items ∷ []) k ≡ slice_get run.journal.requests.items k
-            at (inl low) = get_front run.journal.requests.items (begun e sent.own moment sent.message.items) k (ltb-true k (length run.journal.requests.items) low)
+            at : (nat_lt k (length run.journal.requests.items) ≡ true) ⊎ (nat_lt k (length run.journal.requests.items) ≡ false) → slice_get (run.journal.requests.items ++ begun e sent.own moment sent.message ∷ []) k ≡ slice_get run.journal.requests.items k
+            at (inl low) = get_front run.journal.requests.items (begun e sent.own moment sent.message) k (ltb-true k (length run.journal.requests.items) low)
             at (inr high) =
                 let above = ltb-false k (length run.journal.requests.items) high in
                 let all = running.counted in
-                let more = length_pushed run.journal.requests.items (begun e sent.own moment sent.message.items) in
-                get_past (run.journal.requests.items ++ begun e sent.own moment sent.message.items ∷ []) k (omega (arith, above, all, more, other)) ∙ sym (get_past run.journal.requests.items k above)
+                let more = length_pushed run.journal.requests.items (begun e sent.own moment sent.message) in
+                get_past (run.journal.requests.items ++ begun e sent.own moment sent.message ∷ []) k (omega (arith, above, all, more, other)) ∙ sym (get_past run.journal.requests.items k above)
 
-        go : (k ≡ count) ⊎ (k ≡ count → ⊥) → slice_get (run.journal.requests.items ++ begun e sent.own moment sent.message.items ∷ []) k ≡ option_map (as_it_stands setting v) (asked_at v.log k)
+        go : (k ≡ count) ⊎ (k ≡ count → ⊥) → slice_get (run.journal.requests.items ++ begun e sent.own moment sent.message ∷ []) k ≡ option_map (as_it_stands setting v) (asked_at v.log k)
         go (inl same_k) =
-            ap (slice_get (run.journal.requests.items ++ begun e sent.own moment sent.message.items ∷ [])) (same_k ∙ sym running.counted) ∙ get_last run.journal.requests.items (begun e sent.own moment sent.message.items) ∙ ap Some new_stands
+            ap (slice_get (run.journal.requests.items ++ begun e sent.own moment sent.message ∷ [])) (same_k ∙ sym running.counted) ∙ get_last run.journal.requests.items (begun e sent.own moment sent.message) ∙ ap Some new_stands
             ∙ sym (ap (option_map (as_it_stands setting v)) (ap (asked_at v.log) same_k ∙ asked_here w.log q))
         go (inr other) =
             past_end other ∙ running.requests k ∙ older (asked_at w.log k) refl ∙ sym (ap (option_map (as_it_stands setting v)) (cond-false (k == count) (Some q) (asked_at w.log k) (ne_eqb k count other)))
 
     carried_is : IsCarried setting v journal.entries.items count q carried_new
     carried_is = record {
-      packet = x.is_sent.packet ∙ ap (λ own. packet_bytes own (held_of side.station).device (held_of side.station).count (message_of (held_of side.station).count command)) s.left.endpoint
+      packet = ap (λ m. sent.header ++ m) (sym message_is) ∙ x.is_sent.packet ∙ ap (λ own. packet_bytes own (held_of side.station).device (held_of side.station).count (message_of (held_of side.station).count command)) s.left.endpoint
           ∙ ap (λ peer. packet_bytes e peer (held_of side.station).count (message_of (held_of side.station).count command)) s.left.peer
           ∙ ap (λ n. packet_bytes e setting.eid n (message_of n command)) s.left.count;
       reply = sym (ap (option_map (answer_packets setting.eid q)) (none_given setting.device setting.keep setting.start w.log count (omega arith)));
@@ -356,7 +356,7 @@ module _ {P S : Type 0} (setting : Setting S) (past : List Step) (run : HeldRun 
           sides = λ d known. let y = side_in d known in (y.0, y.1, subst (λ u. IsSide setting u moment d y.0) back y.2);
           opened = λ k r is. opened_at k r back (asked_cases k r (ap (λ (u : World). asked_at u.log k) back ∙ is));
           requests = λ k. requests_now k ∙ ap (λ u. option_map (as_it_stands setting u) (asked_at u.log k)) back;
-          counted = ap (λ (rs : List Request). length rs) x.new_requests ∙ length_pushed run.journal.requests.items (begun e sent.own moment sent.message.items) ∙ ap suc running.counted ∙ ap (λ (u : World). count_of u.log) back;
+          counted = ap (λ (rs : List Request). length rs) x.new_requests ∙ length_pushed run.journal.requests.items (begun e sent.own moment sent.message) ∙ ap suc running.counted ∙ ap (λ (u : World). count_of u.log) back;
           traffic = λ k r is.
               let t = traffic_now k r (ap (λ (u : World). asked_at u.log k) back ∙ is) in
               (t.0, t.1, subst (λ u. IsCarried setting u journal.entries.items k r t.0) back t.2);

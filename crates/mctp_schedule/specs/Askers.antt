@@ -1,5 +1,5 @@
 -- What contracts see of a requester of a run, and what its calls give.
-use Rattle.std.specs.Prelude.{◌≡◌, ℕ, true, List, [], ◌∷◌, Option, Some, None, Ok, option_map, slice_index, refl}
+use Rattle.std.specs.Prelude.{◌≡◌, ℕ, true, List, [], ◌∷◌, ◌++◌, Option, Some, None, Ok, option_map, slice_index, refl}
 use Rattle.std.specs.Coded.{Coded, code_by, coded×, coded_ℕ, coded_list}
 use Rattle.mctp_packet.specs.Packets.{packet, written}
 use Rattle.pldm_wire.specs.Commands.{IsCommand}
@@ -33,8 +33,8 @@ packet_bytes own device number message = written (packet (route_of own device nu
 pub record IsSent (held : Held) (moment : ℕ) (command : Command) (sent : SentRequest) : Type 0 where
   pub opened : opening_answer held moment ≡ Ok (opened_as held.count)
   pub own : sent.own ≡ held.count
-  pub message : sent.message.items ≡ message_of held.count command
-  pub packet : sent.packet.items ≡ packet_bytes held.own held.device held.count (message_of held.count command)
+  pub message : sent.message ≡ message_of held.count command
+  pub packet : sent.header ++ sent.message ≡ packet_bytes held.own held.device held.count (message_of held.count command)
   pub readable : IsCommand command
 
 -- a request is remembered, and has one packet

@@ -1,5 +1,5 @@
 -- What a run writes down of its requests and their answers.
-use Rattle.std.specs.Prelude.{ℕ, Bool, true, false, List, [], ◌∷◌, ◌==◌, Option, Some, None, option_and_then, slice_get, if◌then◌else◌, refl}
+use Rattle.std.specs.Prelude.{ℕ, Bool, true, false, List, [], ◌∷◌, ◌++◌, ◌==◌, Option, Some, None, option_and_then, slice_get, if◌then◌else◌, refl}
 use Rattle.std.specs.List.{list_any}
 use Rattle.std.specs.Coded.{Coded, code_by, coded×, coded_ℕ, coded_list, coded_option}
 use Rattle.pldm_requester.specs.Courses as courses
@@ -11,9 +11,10 @@ use Rattle.mctp_schedule.specs.declared.askers.AnsweredRequest.{AnsweredRequest}
 use Rattle.mctp_schedule.specs.declared.entry.Entry.{Entry}
 use Rattle.mctp_schedule.specs.declared.entry.Entry.TheVariants.{Delivered}
 
--- the packet of a request, and the places of the latest reply and of the latest busy answer among the entries
+-- the header of the packet of a request, and the places of the latest reply and of the latest busy answer among the
+-- entries
 pub record Carried : Type 0 where
-  pub packet : List ℕ
+  pub header : List ℕ
   pub reply : Option ℕ
   pub busy : Option ℕ
 
@@ -22,14 +23,19 @@ abbrev pub coded_carried : Coded Carried
 coded_carried =
     code_by (List ℕ × (Option ℕ × Option ℕ))
     (coded× (coded_list coded_ℕ) (coded× (coded_option coded_ℕ) (coded_option coded_ℕ)))
-    (λ c. (c.packet, (c.reply, c.busy)))
-    (λ c. record { packet = c.0; reply = c.1.0; busy = c.1.1 })
+    (λ c. (c.header, (c.reply, c.busy)))
+    (λ c. record { header = c.0; reply = c.1.0; busy = c.1.1 })
     (λ _. refl)
 
 -- the latest answer, busy or not, stands at this place
 abbrev pub answers_at : ℕ → Bool → Carried → Carried
-answers_at place true carried = record { packet = carried.packet; reply = carried.reply; busy = Some place }
-answers_at place false carried = record { packet = carried.packet; reply = Some place; busy = carried.busy }
+answers_at place true carried = record { header = carried.header; reply = carried.reply; busy = Some place }
+answers_at place false carried = record { header = carried.header; reply = Some place; busy = carried.busy }
+
+-- the packet of a request: its header, and the request's message
+abbrev pub packet_of_request : Option Carried → Option Request → Option (List ℕ)
+packet_of_request (Some carried) (Some request) = Some (carried.header ++ request.asked.message)
+packet_of_request carried request = None
 
 abbrev pub packets_of_entry : Entry → Option (List (List ℕ))
 packets_of_entry (Delivered busy outcome) = packets_of_outcome outcome

@@ -1,11 +1,12 @@
 -- A request that was opened, and how it stands.
 use Rattle.std.specs.Prelude.{ℕ, List, refl}
+use Rattle.std.specs.Rc.{rc_slice_items}
 use Rattle.std.specs.Coded.{Coded, code_by, coded×, coded_ℕ, coded_list}
 use Rattle.pldm_requester.specs.Courses as courses
 use Rattle.pldm_requester.specs.Slots.{coded_standing}
 use Rattle.mctp_schedule.specs.Logs.{Asked}
 use Rattle.mctp_schedule.specs.declared.opened_request.Standing.{Standing}
-use Rattle.mctp_schedule.specs.declared.opened_request.Standing.TheVariants.{Waiting, Answered, GaveUp}
+use Rattle.mctp_schedule.specs.declared.opened_request.Standing.TheVariants.{Waiting, AnsweredShort, AnsweredShared, GaveUp}
 
 pub record Request : Type 0 where
   pub asked : Asked
@@ -13,7 +14,8 @@ pub record Request : Type 0 where
 
 abbrev pub standing_of : Standing → courses.Standing
 standing_of Waiting = courses.Waiting
-standing_of (Answered message) = courses.Answered message
+standing_of (AnsweredShort message) = courses.Answered message
+standing_of (AnsweredShared message) = courses.Answered (rc_slice_items message)
 standing_of GaveUp = courses.GaveUp
 
 -- it is stored as its parts

@@ -1,5 +1,5 @@
 -- What a run holds after some steps, the newest first: both ends, and what is written down of them.
-use Rattle.std.specs.Prelude.{◌≡◌, ◌≢◌, ℕ, ◌<◌, ◌≤◌, true, false, List, [], ◌∷◌, length, Option, Some, None, IfSome, option_map, slice_get, Bool}
+use Rattle.std.specs.Prelude.{◌≡◌, ◌≢◌, ℕ, ◌<◌, ◌≤◌, true, false, List, [], ◌∷◌, ◌++◌, length, Option, Some, None, IfSome, option_map, slice_get, Bool}
 use Rattle.mctp_packet.specs.Ids.{IsEid}
 use Rattle.mctp_packet.specs.declared.TheConstants.{UNIT}
 use Rattle.pldm_responder.specs.Calls as responder
@@ -81,7 +81,7 @@ busy_packets eid r false = None
 -- what is written down of request k, which is r, tells its packet, its latest reply and its latest busy answer
 pub record IsCarried {S : Type 0}
     (setting : Setting S) (w : World) (entries : List Entry) (k : ℕ) (r : Asked) (carried : Carried) : Type 0 where
-  pub packet : carried.packet ≡ packet_bytes r.source setting.eid r.own r.message
+  pub packet : carried.header ++ r.message ≡ packet_bytes r.source setting.eid r.own r.message
   pub reply : packets_in entries carried.reply
       ≡ option_map (answer_packets setting.eid r) (given setting.device setting.keep setting.start w.log k)
   pub busy : packets_in entries carried.busy ≡ busy_packets setting.eid r (was_busy S setting.keep w.log k)

@@ -1,6 +1,6 @@
 //! The requesters of a run.
 
-ghost use Rattle.std.specs.Prelude.{◌≡◌, ◌≤◌, ◌<◌, ◌∷◌, ◌++◌, [], Ok, Err, Some, IfOk, IfErr, OnOk, drop, slice_index, length, option_map};
+ghost use Rattle.std.specs.Prelude.{◌≡◌, ◌≤◌, ◌<◌, ◌∷◌, ◌++◌, [], Ok, Err, Some, IfOk, IfErr, OnOk, drop, take, slice_index, length, option_map};
 ghost use Rattle.std.specs.List.{AllByRecursion};
 ghost use Rattle.pldm_requester.specs.Steps.{IsHeld, again_at, arrived_by, given_up_at, got_at, opened_held, opening_answer, passed, received_held, ticked_held};
 ghost use Rattle.pldm_requester.specs.Slots.{held_of};
@@ -8,7 +8,8 @@ ghost use Rattle.mctp_schedule.specs.Askers.{HasAnswer, HasPacket, IsSent, Repor
 ghost use Rattle.mctp_schedule.specs.Entries.{numbered};
 ghost use Rattle.pldm_requester.specs.Courses as courses;
 
-use crate::stored_message::StoredMessage;
+use crate::Delivery;
+use crate::stored_message::{ShortMessage, StoredMessage};
 use arrayvec::ArrayVec;
 use mctp_packet::{HEADER, Memory, Moment};
 use pldm_requester::{Due, Got, MAX_OPEN, OpenFault, Requester, Status};
@@ -16,8 +17,7 @@ use pldm_wire::{Command, MAX_REQUEST_BYTES};
 use std::alloc::Global;
 use std::marker::Model;
 
-/// The most bytes of the packet that carries a command. So few stand in place, and an opening asks for
-/// memory only where a list grows.
+/// The most bytes of the packet that carries a command.
 pub(crate) const MAX_REQUEST_PACKET_BYTES: usize = HEADER + MAX_REQUEST_BYTES;
 
 /// A requester, and the numbers of its requests over all requests.
@@ -42,10 +42,10 @@ impl Model for Asker {
 pub(crate) struct SentRequest {
     /// Its number, counted from 0 over the requests of its requester.
     pub(crate) own: u64,
-    /// Its message, which one packet carries.
-    pub(crate) message: ArrayVec<u8, MAX_REQUEST_BYTES>,
-    /// The bytes of its packet.
-    pub(crate) packet: ArrayVec<u8, MAX_REQUEST_PACKET_BYTES>,
+    /// The header of the one packet that carries its message.
+    pub(crate) header: [u8; HEADER],
+    /// Its message, which is the rest of that packet.
+    pub(crate) message: ShortMessage<MAX_REQUEST_BYTES>,
 }
 
 /// What a packet that came to an asker gave.
@@ -102,8 +102,8 @@ impl Asker {
         let packet = self.packet(opened.number);
         let sent = SentRequest {
             own: opened.number,
-            message: array_of(payload_of(packet)),
-            packet: array_of(packet),
+            header: header_of(packet),
+            message: ShortMessage::new(payload_of(packet)),
         };
         // At a refused growth the requester has one request more than `numbers`. Nobody sees it: the run ends.
         self.numbers.push(number)?;
@@ -146,14 +146,14 @@ impl Asker {
         self.requester.count()
     }
 
-    /// Takes the bytes of a packet. An answer that it completes stands where `sent` does, if both are the
-    /// same.
+    /// Takes the bytes of a packet. Those of an answer that it completes lie where the answer of `sent` does,
+    /// if both are the same.
     pub(crate) fn receive(
         &mut self,
         alloc: Global,
         now: Moment,
         bytes: &[u8],
-        sent: Option<&StoredMessage>,
+        sent: Option<&Delivery>,
     ) -> Result<ReceivedPacket, Memory>
         requires moment { (held_of self.old.station).last ≤ now }
         requires all { length self.old.numbers ≡ (held_of self.old.station).count }
@@ -178,12 +178,13 @@ impl Asker {
         })
     }
 
-    /// Stores the answer to a request that has one. It stands where `sent` does, if both are the same.
+    /// Stores the answer to a request that has one. It lies where the answer of `sent` does, if both are the
+    /// same.
     fn store_answer(
         &self,
         alloc: Global,
         own: u64,
-        sent: Option<&StoredMessage>,
+        sent: Option<&Delivery>,
     ) -> Result<AnsweredRequest, Memory>
         requires answer { HasAnswer (held_of self.now.station) own }
         requires one { own < length self.now.numbers }
@@ -202,20 +203,22 @@ impl Asker {
     }
 }
 
+/// The header of a packet of these bytes.
+fn header_of(packet: &[u8]) -> [u8; HEADER]
+    requires { HEADER ≤ length packet.now }
+    ensures { result ≡ take HEADER packet.now }
+{
+    let mut header = [0; HEADER];
+    header.copy_from_slice(&packet[..HEADER]);
+    header
+}
+
 /// The payload of a packet of these bytes.
 fn payload_of(packet: &[u8]) -> &[u8]
     requires { HEADER ≤ length packet.now }
     ensures { result.now ≡ drop HEADER packet.now }
 {
     &packet[HEADER..]
-}
-
-/// An array of these bytes, of which there are at most `MOST`.
-fn array_of<const MOST: usize>(bytes: &[u8]) -> ArrayVec<u8, MOST>
-    requires { length bytes.now ≤ MOST }
-    ensures { result.items ≡ bytes.now }
-{
-    ArrayVec::try_from(bytes).unwrap()
 }
 
 /// Own numbers as numbers over all requests.

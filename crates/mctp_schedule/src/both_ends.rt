@@ -211,10 +211,10 @@ impl<P: Platform> Ends<P> {
         let in_time = now.get() < opening.get() + u64::from(self.keep.get());
         // Asked before the packet comes, since the entry tells a busy answer from a copy by it.
         let busy = self.responder.busy(now);
-        let packet = self.journal.traffic[number as usize].packet();
+        let packet = self.journal.request_packet(number);
         let taken = self
             .responder
-            .receive_message(now, packet, &mut self.reply)?;
+            .receive_message(now, packet.as_slice(), &mut self.reply)?;
         self.journal
             .enter_delivered(number, in_time, busy, taken, &self.reply)?;
         Ok(())
@@ -236,7 +236,7 @@ impl<P: Platform> Ends<P> {
             self.journal.enter(Entry::Nothing)?;
             return Ok(());
         };
-        let sent = journal.latest_answer(number, busy);
+        let sent = journal.latest_delivery(number, busy);
         let request = &journal.requests[number as usize];
         let own = request.number();
         let (in_time, received) = match &mut self.places[usize::from(request.requester().get())] {

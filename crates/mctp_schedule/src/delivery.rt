@@ -1,41 +1,58 @@
 //! What became of a delivered packet.
 
-ghost use Rattle.std.specs.Prelude.{◌≡◌, IfOk, option_map};
+ghost use Rattle.std.specs.Prelude.{◌≡◌, IfOk, IfSome, option_map};
+ghost use Rattle.std.specs.Rc.{rc_slice_items};
 ghost use Rattle.mctp_packet.specs.Packets.{written};
 ghost use Rattle.pldm_responder.specs.Answering.{answering};
 ghost use Rattle.mctp_schedule.specs.Deliveries.{ComesTo, packet_of_outcome};
 
-use crate::stored_message::StoredMessage;
+use crate::stored_message::{MAX_SHORT, ShortMessage, StoredBytes, StoredMessage};
 use mctp_packet::{MAX_PACKET_BYTES, Memory, PacketRef, packet_at, write};
 use pldm_responder::MessageOutcome;
 use std::alloc::Global;
 use std::marker::Model;
+use std::rc::RcSlice;
 
 /// What became of the packet of a request. An answer is kept as one message, of which packets are made
 /// where they are asked for.
 #[derive(Debug, Drop)]
 pub struct Delivery {
-    taken: MessageOutcome,
-    reply: StoredMessage,
+    kept: KeptDelivery,
+}
+
+/// What is kept of a delivery. How its answer is stored is told by the same mark as the delivery, so that
+/// what became of the packet lies beside that mark and takes no place of its own.
+#[derive(Debug, Drop)]
+enum KeptDelivery {
+    /// The answer is short. So is that of a packet which was not answered: it has no bytes.
+    Short {
+        taken: MessageOutcome,
+        reply: ShortMessage<MAX_SHORT>,
+    },
+    /// The answer is longer, and may be shared.
+    Shared {
+        taken: MessageOutcome,
+        reply: RcSlice<u8>,
+    },
 }
 
 impl Model for Delivery {
-    ghost use Rattle.pldm_responder.specs.Answering.{answering};
+    ghost use Rattle.mctp_schedule.specs.Deliveries.{outcome_of};
     ghost use Rattle.pldm_responder.specs.declared.outcome.Outcome.{Outcome};
 
     ghost Value = { Outcome };
 
-    ghost view = { λ d. answering d.reply d.taken };
+    ghost view = { λ d. outcome_of d.kept };
 }
 
 impl Delivery {
-    /// The delivery of which this became, where `reply` is the message that answers it. It stands where
-    /// `last` does if both are the same.
+    /// The delivery of which this became, where `reply` is the message that answers it. Its bytes lie where
+    /// those of the answer of `last` do if both are the same.
     pub(crate) fn new(
         alloc: Global,
         taken: MessageOutcome,
         reply: &[u8],
-        last: Option<&StoredMessage>,
+        last: Option<&Delivery>,
     ) -> Result<Delivery, Memory>
         ensures { IfOk result (λ delivery. delivery ≡ answering reply.now taken) }
     {
@@ -43,19 +60,41 @@ impl Delivery {
             MessageOutcome::Answered { .. } => StoredMessage::new(alloc, reply, last)?,
             _ => StoredMessage::new(alloc, &[], None)?, // takes no memory
         };
-        Ok(Delivery { taken, reply })
+        let kept = match reply.into_bytes() {
+            StoredBytes::Short(reply) => KeptDelivery::Short { taken, reply },
+            StoredBytes::Shared(reply) => KeptDelivery::Shared { taken, reply },
+        };
+        Ok(Delivery { kept })
+    }
+
+    /// What became of it, but for the answer, and the message that answers it, empty where none does.
+    fn parts(&self) -> (&MessageOutcome, &[u8])
+        ensures { answering result.1.now result.0.now ≡ self.now }
+    {
+        match &self.kept {
+            KeptDelivery::Short { taken, reply } => (taken, reply.bytes()),
+            KeptDelivery::Shared { taken, reply } => (taken, reply.as_slice()),
+        }
     }
 
     /// What became of it, and whether it was performed, but for the answer.
     pub fn taken(&self) -> &MessageOutcome
         ensures { ComesTo result.now self.now }
     {
-        &self.taken
+        self.parts().0
     }
 
-    /// The message that answers it, empty where none does.
-    pub(crate) fn reply(&self) -> &StoredMessage {
-        &self.reply
+    /// A share of the bytes of its answer, where they are these and may be shared.
+    pub(crate) fn share(&self, bytes: &[u8]) -> Result<Option<RcSlice<u8>>, Memory>
+        ensures { IfOk result (λ shared. IfSome shared (λ s. rc_slice_items s ≡ bytes.now)) }
+    {
+        match &self.kept {
+            // Compared, and not taken on trust: the journal tells each answer as it was given.
+            KeptDelivery::Shared { reply, .. } if reply.as_slice() == bytes => {
+                Ok(Some(reply.clone()?))
+            }
+            _ => Ok(None),
+        }
     }
 
     /// The bytes of packet `index` of the answer, counted from 0, which are written in front of `room`;
@@ -63,10 +102,11 @@ impl Delivery {
     pub fn packet<'a>(&self, index: usize, room: &'a mut [u8; MAX_PACKET_BYTES]) -> Option<&'a [u8]>
         ensures { option_map (λ bytes. bytes.now) result ≡ packet_of_outcome self.now index }
     {
-        let MessageOutcome::Answered { route, .. } = &self.taken else {
+        let (taken, reply) = self.parts();
+        let MessageOutcome::Answered { route, .. } = taken else {
             return None;
         };
-        let packet = packet_at(route, self.reply.bytes(), index)?;
+        let packet = packet_at(route, reply, index)?;
         Some(bytes_of(&packet, room))
     }
 }

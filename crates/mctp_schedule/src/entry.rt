@@ -29,3 +29,7 @@ pub enum Entry {
     /// The device's end restarted.
     Restarted,
 }
+
+// A run holds an entry for each step, and a schedule may have a million: each is four words long. A delivery's
+// answer lies in it, in place or shared, and what became of the packet lies beside the mark that tells which.
+const _: () = prove!(size_of::<Entry>() == 32);

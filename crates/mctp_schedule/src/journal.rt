@@ -1,30 +1,32 @@
 //! What a run writes down as it goes.
 
-ghost use Rattle.std.specs.Prelude.{◌≡◌, ◌<◌, ◌++◌, ◌∷◌, [], ◌&&◌, ◌==◌, true, ℕ, None, OnOk, IfSome, length, option_and_then, option_map, slice_get, if◌then◌else◌};
+ghost use Rattle.std.specs.Prelude.{◌≡◌, ◌<◌, ◌++◌, ◌∷◌, [], ◌&&◌, ◌==◌, true, ℕ, None, Some, OnOk, IfSome, length, option_and_then, option_map, slice_get, if◌then◌else◌};
 ghost use Rattle.std.specs.List.{list_any};
 ghost use Rattle.pldm_responder.specs.Answering.{answering};
 ghost use Rattle.mctp_schedule.specs.Deliveries.{packets_of_outcome};
-ghost use Rattle.mctp_schedule.specs.Journals.{answered_as, answers_at, fresh_numbers, latest_packets, packet_at, place_of, stands_after};
+ghost use Rattle.mctp_schedule.specs.Journals.{answered_as, answers_at, fresh_numbers, latest_packets, packet_at, packet_of_request, place_of, stands_after};
 ghost use Rattle.mctp_schedule.specs.Requests.{begun};
 
 use crate::askers::{AnsweredRequest, MAX_REQUEST_PACKET_BYTES, SentRequest};
-use crate::stored_message::StoredMessage;
 use crate::{Delivery, DueRequests, Entry, OpenedRequest};
 use arrayvec::ArrayVec;
-use mctp_packet::{Eid, MAX_PACKET_BYTES, Memory, Moment};
+use mctp_packet::{Eid, HEADER, MAX_PACKET_BYTES, Memory, Moment};
 use pldm_requester::{Due, Got};
 use pldm_responder::MessageOutcome;
 use std::alloc::Global;
 use std::marker::Model;
 
-/// The packet of a request, and where the latest answers to it stand among the entries. A requester
-/// remembers its last requests alone, and a schedule may deliver any.
+/// The header of a request's packet, and where the latest answers to it stand among the entries. A requester
+/// remembers its last requests alone, and a schedule may deliver any. The rest of the packet is the request's
+/// message, which is stored once.
 #[derive(Debug, Drop)]
 pub(crate) struct Traffic {
-    packet: ArrayVec<u8, MAX_REQUEST_PACKET_BYTES>,
+    header: [u8; HEADER],
     reply: Option<usize>,
     busy: Option<usize>,
 }
+
+const _: () = prove!(size_of::<Traffic>() == 40);
 
 impl Model for Traffic {
     ghost use Rattle.mctp_schedule.specs.Journals.{Carried, coded_carried};
@@ -33,26 +35,26 @@ impl Model for Traffic {
 
     ghost coded = { coded_carried };
 
-    ghost view = { λ t. record { packet = t.packet.items; reply = t.reply; busy = t.busy } };
+    ghost view = { λ t. record { header = t.header; reply = t.reply; busy = t.busy } };
 }
 
 impl Traffic {
     /// A request that has no answer yet.
-    fn new(packet: ArrayVec<u8, MAX_REQUEST_PACKET_BYTES>) -> Traffic
-        ensures { result ≡ record { packet = packet.items; reply = None; busy = None } }
+    fn new(header: [u8; HEADER]) -> Traffic
+        ensures { result ≡ record { header = header; reply = None; busy = None } }
     {
         Traffic {
-            packet,
+            header,
             reply: None,
             busy: None,
         }
     }
 
-    /// The bytes of the request's packet.
-    pub(crate) fn packet(&self) -> &[u8]
-        ensures { result.now ≡ self.now.packet }
+    /// The header of the request's packet.
+    fn header(&self) -> &[u8; HEADER]
+        ensures { result.now ≡ self.now.header }
     {
-        &self.packet
+        &self.header
     }
 
     /// The place among the entries of the latest answer, a busy one or not.
@@ -106,6 +108,17 @@ impl Journal {
         }
     }
 
+    /// The bytes of the packet of a request.
+    pub(crate) fn request_packet(&self, number: u64) -> ArrayVec<u8, MAX_REQUEST_PACKET_BYTES>
+        requires requests { number < length self.now.requests.items }
+        requires traffic { number < length self.now.traffic.items }
+        ensures { Some result.items ≡ packet_of_request (slice_get self.now.traffic.items number)
+            (slice_get self.now.requests.items number) }
+    {
+        let header = self.traffic[number as usize].header();
+        self.requests[number as usize].packet(header)
+    }
+
     /// The bytes of a packet of the latest answer to a request, a busy one or not, which are written in
     /// front of `room`.
     pub(crate) fn latest_answer_packet<'a>(
@@ -124,14 +137,8 @@ impl Journal {
         }
     }
 
-    /// The latest answer to a request, a busy one or not, if there is one.
-    pub(crate) fn latest_answer(&self, number: u64, busy: bool) -> Option<&StoredMessage> {
-        let delivery = self.latest_delivery(number, busy)?;
-        Some(delivery.reply())
-    }
-
     /// The delivery that brought the latest answer to a request, a busy one or not.
-    fn latest_delivery(&self, number: u64, busy: bool) -> Option<&Delivery>
+    pub(crate) fn latest_delivery(&self, number: u64, busy: bool) -> Option<&Delivery>
         ensures { option_and_then (λ delivery. packets_of_outcome delivery.now) result ≡ latest_packets
             self.now.entries.items busy (slice_get self.now.traffic.items number) }
     {
@@ -164,21 +171,21 @@ impl Journal {
         ensures entries { OnOk result (self.new.entries.items ≡ self.old.entries.items ++ Entry.Opened
             (length self.old.requests.items) ∷ []) }
         ensures requests { OnOk result (self.new.requests.items ≡ self.old.requests.items ++ begun requester sent.own
-            opening sent.message.items ∷ []) }
+            opening sent.message ∷ []) }
         ensures traffic { OnOk result (self.new.traffic.items ≡ self.old.traffic.items
-            ++ (record { packet = sent.packet.items; reply = None; busy = None }) ∷ []) }
+            ++ (record { header = sent.header; reply = None; busy = None }) ∷ []) }
         ensures order { OnOk result (self.new.order.items ≡ self.old.order.items) }
         ensures timely { OnOk result (self.new.timely ≡ self.old.timely) }
     {
         let number = self.requests.len() as u64;
         let SentRequest {
             own,
+            header,
             message,
-            packet,
         } = sent;
         self.requests
             .push(OpenedRequest::new(requester, own, opening, message))?;
-        self.traffic.push(Traffic::new(packet))?;
+        self.traffic.push(Traffic::new(header))?;
         self.enter(Entry::Opened(number))
     }
 
@@ -241,7 +248,8 @@ impl Journal {
         }
         self.timely = in_time && self.timely;
         // Looked up before this answer is the latest: a copy's answer is mostly the one before it, and is shared.
-        let delivery = Delivery::new(self.alloc, taken, reply, self.latest_answer(number, busy))?;
+        let last = self.latest_delivery(number, busy);
+        let delivery = Delivery::new(self.alloc, taken, reply, last)?;
         self.point_to_next_entry(number, busy);
         self.enter(Entry::Delivered { busy, delivery })
     }

@@ -1,35 +1,43 @@
 //! A request that was opened, as a report tells it.
 
-ghost use Rattle.std.specs.Prelude.{◌≡◌, ◌%◌};
+ghost use Rattle.std.specs.Prelude.{◌≡◌, ◌++◌, ◌%◌};
 ghost use Rattle.pldm_requester.specs.Courses.{GaveUp, Answered};
 ghost use Rattle.pldm_requester.specs.Numbering.{id_of, tag_of};
 ghost use Rattle.pldm_requester.specs.Standings.{standing_told};
 ghost use Rattle.mctp_schedule.specs.Requests.{begun, with_standing};
 
-use crate::stored_message::StoredMessage;
+use crate::askers::MAX_REQUEST_PACKET_BYTES;
+use crate::stored_message::{MAX_SHORT, ShortMessage, StoredBytes, StoredMessage};
 use arrayvec::ArrayVec;
-use mctp_packet::{Eid, Moment, TAGS, Tag};
+use mctp_packet::{Eid, HEADER, Moment, TAGS, Tag};
 use pldm_requester::Status;
 use pldm_wire::{INSTANCE_IDS, MAX_REQUEST_BYTES};
 use std::marker::Model;
+use std::rc::RcSlice;
 
-/// A request that was opened, and how it stands.
+/// A request that was opened, and how it stands. Its message has few bytes and stands in place, so that an
+/// opening asks for memory only where a list grows.
 #[derive(Debug, Drop)]
 pub struct OpenedRequest {
-    requester: Eid,
     number: u64,
     opening: Moment,
-    message: ArrayVec<u8, MAX_REQUEST_BYTES>,
+    requester: Eid,
+    message: ShortMessage<MAX_REQUEST_BYTES>,
     standing: Standing,
 }
 
-/// How it stands.
+// A run holds one for each request: the requester and the message, with its count, lie in four words together.
+const _: () = prove!(size_of::<OpenedRequest>() == 72);
+
+/// How it stands. How its answer is stored is told by the same mark.
 #[derive(Debug, Drop)]
 enum Standing {
     /// It is open.
     Waiting,
-    /// It was answered, by this message.
-    Answered(StoredMessage),
+    /// It was answered, by this short message.
+    AnsweredShort(ShortMessage<MAX_SHORT>),
+    /// It was answered, by this longer message, which may be shared.
+    AnsweredShared(RcSlice<u8>),
     /// It was given up.
     GaveUp,
 }
@@ -42,7 +50,7 @@ impl Model for OpenedRequest {
     ghost coded = { coded_request };
 
     ghost view = { λ r. record {
-      asked = record { source = r.requester; own = r.number; opening = r.opening; message = r.message.items };
+      asked = record { source = r.requester; own = r.number; opening = r.opening; message = r.message };
       standing = standing_of r.standing;
     } };
 }
@@ -53,14 +61,14 @@ impl OpenedRequest {
         requester: Eid,
         number: u64,
         opening: Moment,
-        message: ArrayVec<u8, MAX_REQUEST_BYTES>,
+        message: ShortMessage<MAX_REQUEST_BYTES>,
     ) -> OpenedRequest
-        ensures { result ≡ begun requester number opening message.items }
+        ensures { result ≡ begun requester number opening message }
     {
         OpenedRequest {
-            requester,
             number,
             opening,
+            requester,
             message,
             standing: Standing::Waiting,
         }
@@ -105,7 +113,17 @@ impl OpenedRequest {
     pub fn message(&self) -> &[u8]
         ensures { result.now ≡ self.now.asked.message }
     {
-        &self.message
+        self.message.bytes()
+    }
+
+    /// The bytes of its packet, which has this header.
+    pub(crate) fn packet(&self, header: &[u8; HEADER]) -> ArrayVec<u8, MAX_REQUEST_PACKET_BYTES>
+        ensures { result.items ≡ header.now ++ self.now.asked.message }
+    {
+        let mut packet = ArrayVec::new();
+        packet.try_extend_from_slice(header).unwrap();
+        packet.try_extend_from_slice(self.message.bytes()).unwrap();
+        packet
     }
 
     /// How it stands.
@@ -114,7 +132,8 @@ impl OpenedRequest {
     {
         match &self.standing {
             Standing::Waiting => Status::Open,
-            Standing::Answered(message) => Status::Answered(message.bytes()),
+            Standing::AnsweredShort(message) => Status::Answered(message.bytes()),
+            Standing::AnsweredShared(message) => Status::Answered(message.as_slice()),
             Standing::GaveUp => Status::GaveUp,
         }
     }
@@ -130,6 +149,9 @@ impl OpenedRequest {
     pub(crate) fn answer(&mut self, message: StoredMessage)
         ensures { self.new ≡ with_standing (Answered message) self.old }
     {
-        self.standing = Standing::Answered(message);
+        self.standing = match message.into_bytes() {
+            StoredBytes::Short(message) => Standing::AnsweredShort(message),
+            StoredBytes::Shared(message) => Standing::AnsweredShared(message),
+        };
     }
 }

@@ -1,41 +1,42 @@
 //! A message that is kept: a short one in place, a longer one shared.
 
-ghost use Rattle.std.specs.Prelude.{◌≡◌, ◌≤◌, length, IfOk, IfSome};
-ghost use Rattle.std.specs.Rc.{rc_slice_items};
+ghost use Rattle.std.specs.Prelude.{◌≡◌, ◌≤◌, ◌<◌, ◌^◌, length, IfOk};
+ghost use Rattle.mctp_schedule.specs.StoredMessages.{bytes_of};
 
+use crate::Delivery;
 use mctp_packet::Memory;
 use std::alloc::Global;
 use std::marker::Model;
 use std::rc::RcSlice;
 
-/// The most bytes of a short message: an answer that tells a sensor's reading has no more.
+/// The most bytes of an answer that is stored in place: one that tells a sensor's reading has no more.
 pub(crate) const MAX_SHORT: usize = 15;
 
-/// The bytes of a short message, at most [`MAX_SHORT`].
+/// The bytes of a short message, at most `MOST`. Their count is one byte long.
 #[derive(Debug, Drop)]
-pub(crate) struct ShortMessage {
-    room: [u8; MAX_SHORT],
+pub(crate) struct ShortMessage<const MOST: usize> {
+    room: [u8; MOST],
     count: u8,
 }
 
-impl Model for ShortMessage {
+impl<const MOST: usize> Model for ShortMessage<MOST> {
     ghost use Rattle.std.specs.Prelude.{ℕ, ◌≤◌, List, take};
-    ghost use Rattle.mctp_schedule.specs.declared.stored_message.TheConstants.{MAX_SHORT};
 
     ghost Value = { List ℕ };
 
     ghost view = { λ m. take m.count m.room };
 
-    ghost invariant = { λ m. m.count ≤ MAX_SHORT };
+    ghost invariant = { λ m. m.count ≤ MOST };
 }
 
-impl ShortMessage {
+impl<const MOST: usize> ShortMessage<MOST> {
     /// These bytes.
-    pub(crate) fn new(bytes: &[u8]) -> ShortMessage
-        requires { length bytes.now ≤ MAX_SHORT }
+    pub(crate) fn new(bytes: &[u8]) -> ShortMessage<MOST>
+        requires few { length bytes.now ≤ MOST }
+        requires counted { MOST < 2 ^ 8 }
         ensures { result ≡ bytes.now }
     {
-        let mut room = [0; MAX_SHORT];
+        let mut room = [0; MOST];
         room[..bytes.len()].copy_from_slice(bytes);
         ShortMessage {
             room,
@@ -45,7 +46,8 @@ impl ShortMessage {
 
     /// The bytes.
     pub(crate) fn bytes(&self) -> &[u8]
-        ensures { result.now ≡ self.now }
+        ensures bytes { result.now ≡ self.now }
+        ensures few { length result.now ≤ MOST }
     {
         &self.room[..usize::from(self.count)]
     }
@@ -58,9 +60,11 @@ pub(crate) struct StoredMessage {
     bytes: StoredBytes,
 }
 
+/// How they are stored. What holds a message has variants of its own for the two, so that they are told by
+/// one mark with what it holds beside them.
 #[derive(Debug, Drop)]
-enum StoredBytes {
-    Short(ShortMessage),
+pub(crate) enum StoredBytes {
+    Short(ShortMessage<MAX_SHORT>),
     Shared(RcSlice<u8>),
 }
 
@@ -74,11 +78,11 @@ impl Model for StoredMessage {
 }
 
 impl StoredMessage {
-    /// These bytes, which stand where those of `other` do if they are the same.
+    /// These bytes, which lie where those of the answer of `other` do if both are the same.
     pub(crate) fn new(
         alloc: Global,
         bytes: &[u8],
-        other: Option<&StoredMessage>,
+        other: Option<&Delivery>,
     ) -> Result<StoredMessage, Memory>
         ensures { IfOk result (λ message. message ≡ bytes.now) }
     {
@@ -99,24 +103,10 @@ impl StoredMessage {
         Ok(StoredMessage { bytes })
     }
 
-    /// A share of its bytes, where they are these and may be shared.
-    fn share(&self, bytes: &[u8]) -> Result<Option<RcSlice<u8>>, Memory>
-        ensures { IfOk result (λ shared. IfSome shared (λ s. rc_slice_items s ≡ bytes.now)) }
+    /// How they are stored.
+    pub(crate) fn into_bytes(self) -> StoredBytes
+        ensures { bytes_of result ≡ self }
     {
-        match &self.bytes {
-            // Compared, and not taken on trust: the journal tells each answer as it was given.
-            StoredBytes::Shared(shared) if shared.as_slice() == bytes => Ok(Some(shared.clone()?)),
-            _ => Ok(None),
-        }
-    }
-
-    /// The bytes.
-    pub(crate) fn bytes(&self) -> &[u8]
-        ensures { result.now ≡ self.now }
-    {
-        match &self.bytes {
-            StoredBytes::Short(message) => message.bytes(),
-            StoredBytes::Shared(message) => message.as_slice(),
-        }
+        self.bytes
     }
 }

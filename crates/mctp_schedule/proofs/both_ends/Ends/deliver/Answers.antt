@@ -5,7 +5,6 @@ use Rattle.pldm_responder.specs.Answering.{answering}
 use Rattle.pldm_responder.specs.Performing.{rules_of}
 use Rattle.pldm_wire.specs.declared.command.Command.{Command}
 use Rattle.mctp_schedule.specs.Entries.{as_it_stands}
-use Rattle.mctp_schedule.specs.Journals.{Carried}
 use Rattle.mctp_schedule.specs.Requests.{Request}
 use Rattle.mctp_schedule.specs.FirstArrivals.{fresh_of}
 use Rattle.mctp_schedule.specs.Logs.{count_of, told}
@@ -15,7 +14,7 @@ use Rattle.mctp_schedule.specs.Running.{setting_of}
 use Rattle.mctp_schedule.specs.Worlds.{world}
 use Rattle.mctp_schedule.proofs.LoggedRequests.{asked_some, none_past}
 use Rattle.mctp_schedule.proofs.CommandsPerformed.{delivery_performs}
-use Rattle.mctp_schedule.proofs.AfterDelivery.{delivered_runs, never_opened}
+use Rattle.mctp_schedule.proofs.AfterDelivery.{carried_packet, delivered_runs, never_opened}
 use Rattle.mctp_schedule.proofs.ListPlaces.{or_get}
 use Rattle.mctp_schedule.proofs.both_ends.Ends.deliver.Goals as goal
 
@@ -59,18 +58,15 @@ returns g c = record {
       let asked = asked_some (world setting past).log c.args.number within in
       let entered = c.in_ok-enter_delivered.ensures in
       let w = world setting past in
-      let traffic = c.args.self.now.journal.traffic.items in
       let requests = c.args.self.now.journal.requests.items in
-      let t = running.traffic c.args.number asked.0 asked.1 in
-      let carried = c.index-2.ensures ∙ or_get traffic c.args.number c.index-2.result.now t.0 t.1 in
       let stands = or_get requests c.args.number c.index.result.now (as_it_stands setting w asked.0) (running.requests c.args.number ∙ ap (option_map (as_it_stands setting w)) asked.1) in
       let opening = c.get-2.ensures.value ∙ c.opening-opening.ensures ∙ ap (λ (q : Request). q.asked.opening) (c.index.ensures ∙ stands) in
       let keep = c.from.ensures ∙ c.get-3.ensures.value ∙ running.times in
       delivered_runs setting past (held_by c.args.self.now) c.enter_delivered.new.self running c.args.now c.args.number may.later
-      asked.0 asked.1 c.receive_message.new.self c.packet-packet.result.now (answering c.deref.result.now c.in_ok-taken.taken) c.busy-busy.result (nat_lt c.get.result (c.get-2.result + c.from.result))
+      asked.0 asked.1 c.receive_message.new.self c.as_slice.result.now (answering c.deref.result.now c.in_ok-taken.taken) c.busy-busy.result (nat_lt c.get.result (c.get-2.result + c.from.result))
       c.looks_back.ensures.received c.looks_back.ensures.same c.bytes_spell_one_packet.ensures.written c.reading_is_spelling.ensures.read_for
       (record {
-        packet_is = c.packet-packet.ensures ∙ ap (λ (x : Carried). x.packet) carried ∙ t.2.packet;
+        packet_is = c.as_slice.ensures.value ∙ carried_packet setting past (held_by c.args.self.now) running c.args.number asked.0 asked.1 c.request_packet-packet.result.items c.request_packet-packet.ensures;
         new_held = c.in_ok-taken.ensures.held;
         given_outcome = ap (λ message. answering message c.in_ok-taken.taken) c.deref.ensures.0 ∙ c.in_ok-taken.ensures.outcome;
         given_fits = c.in_ok-taken.ensures.fits;
@@ -90,11 +86,9 @@ returns g c = record {
       let count = running.counted in
       let within : c.args.number < count_of (world setting past).log = omega (arith, len, below, count) in
       let asked = asked_some (world setting past).log c.args.number within in
-      let t = running.traffic c.args.number asked.0 asked.1 in
-      let carried = c.index-2.ensures ∙ or_get c.args.self.now.journal.traffic.items c.args.number c.index-2.result.now t.0 t.1 in
       subst (λ (cs : List Command). g.P.Platform.performed c.args.self.now.responder.platform cs c.receive_message.new.self.platform)
       (delivery_performs setting past (held_by c.args.self.now) running c.args.now c.args.number
-      asked.0 asked.1 c.packet-packet.result.now (c.packet-packet.ensures ∙ ap (λ (x : Carried). x.packet) carried ∙ t.2.packet)
+      asked.0 asked.1 c.as_slice.result.now (c.as_slice.ensures.value ∙ carried_packet setting past (held_by c.args.self.now) running c.args.number asked.0 asked.1 c.request_packet-packet.result.items c.request_packet-packet.ensures)
       c.bytes_spell_one_packet.ensures.written c.reading_is_spelling.ensures.read_for)
       c.in_ok-taken.ensures.performed;
 }
