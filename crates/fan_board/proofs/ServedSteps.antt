@@ -7,7 +7,7 @@ use Rattle.pldm_wire.specs.declared.answer.Answer.{Answer}
 use Rattle.pldm_wire.specs.declared.command.Command.{Command}
 use Rattle.pldm_responder.specs.Asked.{gives, listed}
 use Rattle.pldm_responder.specs.Events.{Message}
-use Rattle.pldm_responder.specs.GivenAnswers.{given_held, kept_bytes, outcome_given}
+use Rattle.pldm_responder.specs.OutsideAnswers.{answered_held, kept_bytes, outcome_of_answer}
 use Rattle.pldm_responder.specs.Held.{Held, IsHeld}
 use Rattle.pldm_responder.specs.Steps.{received_commands, received_held, received_outcome}
 use Rattle.pldm_responder.specs.declared.outcome.Outcome.{Outcome}
@@ -113,10 +113,10 @@ module _ {S : Type 0} (old : Held S) (moment : ℕ) (bytes : List ℕ) (count : 
           returned =
               subst (λ (k : Asking). IsAnsweredBy middle k given (Some (record { tag = is.m.tag; number = count; command = is.command })) outcome) is.number
               (subst (λ o. IsAnsweredBy middle asking given o outcome) found answered)
-              ∙ ap (λ (h : Held (Unit {0})). outcome_given h.own is.m.source is.m.tag (kept_bytes (h.kept is.m.source (id_at is.m.bytes))) given) same
+              ∙ ap (λ (h : Held (Unit {0})). outcome_of_answer h.own is.m.source is.m.tag (kept_bytes (h.kept is.m.source (id_at is.m.bytes))) given) same
               ∙ one.0;
           left = then_held _ _ _
-              (subst (λ (h : Held (Unit {0})). IsHeld (bare new) (given_held h is.m.source (id_at is.m.bytes) given)) same
+              (subst (λ (h : Held (Unit {0})). IsHeld (bare new) (answered_held h is.m.source (id_at is.m.bytes) given)) same
               (subst (λ (k : Asking). IsLeftByAnswer middle k given new) is.number last))
               one.1;
         }

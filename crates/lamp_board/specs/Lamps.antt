@@ -40,9 +40,9 @@ level_set effecter number =
     else Err INVALID_EFFECTER_ID
 
 -- the answer to that
-abbrev pub set_told : Result SizedNumber ℕ → Answer
-set_told (Ok level) = answers.SetNumericEffecterValue
-set_told (Err code) = answers.Refused code
+abbrev pub set_result : Result SizedNumber ℕ → Answer
+set_result (Ok level) = answers.SetNumericEffecterValue
+set_result (Err code) = answers.Refused code
 
 -- the reading of a sensor (DSP0248, "GetSensorReading command")
 abbrev pub reading : ℕ → SizedNumber → Answer
@@ -62,7 +62,7 @@ abbrev pub lamp_answer : SizedNumber → Command → Answer
 lamp_answer level GetTid = answers.GetTid TID
 lamp_answer level GetPldmTypes = answers.GetPldmTypes types
 lamp_answer level (GetSensorReading sensor rearm) = reading sensor level
-lamp_answer level (SetNumericEffecterValue effecter number) = set_told (level_set effecter number)
+lamp_answer level (SetNumericEffecterValue effecter number) = set_result (level_set effecter number)
 lamp_answer level (GetNumericEffecterValue effecter) = values effecter level
 lamp_answer level _ = answers.Refused ERROR_UNSUPPORTED_PLDM_CMD
 
@@ -87,7 +87,7 @@ lamp_reads_only level _ asks = refl
 
 refused_set :
     (level : SizedNumber) (outcome : Result SizedNumber ℕ) (code : ℕ)
-    → set_told outcome ≡ answers.Refused code → changed_or level outcome ≡ level
+    → set_result outcome ≡ answers.Refused code → changed_or level outcome ≡ level
 refused_set level (Ok changed) code refused = cc
 refused_set level (Err refusal) code refused = refl
 
@@ -106,7 +106,7 @@ either true kind one other is also = is
 either false kind one other is also = also
 
 set_answers :
-    (outcome : Result SizedNumber ℕ) → IsAnswerTo (of_type PLATFORM SET_NUMERIC_EFFECTER_VALUE) (set_told outcome)
+    (outcome : Result SizedNumber ℕ) → IsAnswerTo (of_type PLATFORM SET_NUMERIC_EFFECTER_VALUE) (set_result outcome)
 set_answers (Ok level) = refl
 set_answers (Err code) = tt
 

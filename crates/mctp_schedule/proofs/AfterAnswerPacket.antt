@@ -6,7 +6,7 @@ use Rattle.mctp_packet.specs.Packets.{Packet}
 use Rattle.mctp_packet.specs.declared.reason.Reason.{Reason}
 use Rattle.pldm_requester.specs.Arrivals.{Arrival, Drop, Part, Answer, got_of}
 use Rattle.pldm_requester.specs.Calls as requester
-use Rattle.pldm_requester.specs.Calls.{Requests, answered_by, arrived, fed_by, fed_to, goes_to, got_owed, passed, put, received, requests}
+use Rattle.pldm_requester.specs.Calls.{Requests, answered_by, arrived, fed_by, fed_to, goes_to, got_expected, passed, put, received, requests}
 use Rattle.pldm_requester.specs.Courses as courses
 use Rattle.pldm_requester.specs.Courses.{Course}
 use Rattle.pldm_requester.specs.Laws.{IsLeftBy, ReceiveLooksBack, SameIsLeft, memo_of}
@@ -29,7 +29,7 @@ use Rattle.mctp_schedule.specs.declared.askers.AnsweredRequest.{AnsweredRequest}
 use Rattle.mctp_schedule.specs.declared.entry.Entry.TheVariants as entry
 use Rattle.mctp_schedule.specs.declared.journal.Journal.{Journal}
 use Rattle.schedule_text.specs.declared.step.Step.{Step}
-use Rattle.mctp_schedule.proofs.AskerCalls.{answer_of_got, answer_remembered, own_below, standing_after}
+use Rattle.mctp_schedule.proofs.AskerCalls.{answer_of_got, answer_remembered, own_below, progress_left}
 use Rattle.mctp_schedule.proofs.LoggedRequests.{asked_below}
 use Rattle.mctp_schedule.proofs.AfterCall.{with_side, Writes, called_runs, new_side}
 use Rattle.mctp_schedule.proofs.HandedAnswerPackets.{delivered, done_is, entry_is, timely_is}
@@ -65,9 +65,9 @@ module _ (own device : ℕ) (timing : Timing) where
       answered_other (fed_by own device timing a (passed own device timing a bytes)) (arrived own device timing a bytes) n other ∙ fed_course a (passed own device timing a bytes) n
 
 -- ---- what is remembered of a request stands as it does
-memo_standing : (b : Bool) (memo : Memo) (standing : courses.Standing) → option_map (λ (m : Memo). m.course.standing) (if b then Some memo else None) ≡ Some standing → memo.course.standing ≡ standing
-memo_standing true memo standing e = cc
-memo_standing false memo standing e = absurd (cc)
+memo_progress : (b : Bool) (memo : Memo) (progress : courses.Progress) → option_map (λ (m : Memo). m.course.progress) (if b then Some memo else None) ≡ Some progress → memo.course.progress ≡ progress
+memo_progress true memo progress e = cc
+memo_progress false memo progress e = absurd (cc)
 
 not_answered : (x : Arrival) (y : Arrival) (n : ℕ) → got_of x ≡ got_of y → ((m : List ℕ) → x ≡ Answer n m → ⊥) → (m : List ℕ) → y ≡ Answer n m → ⊥
 not_answered x y n same none m e =
@@ -101,7 +101,7 @@ module _ {S : Type 0} (setting : Setting S) (w : World) (moment e : ℕ) (bytes 
     pub tells : ReportsReply side.numbers (arrived_by (held_of side.station) (held_steps.passed (held_of side.station) bytes)) answered
 
   module _ (x : Receives) where
-    looked : (got_at (held_of side.station) bytes ≡ got_owed e setting.eid (timing_of setting e) (w.calls e) bytes)
+    looked : (got_at (held_of side.station) bytes ≡ got_expected e setting.eid (timing_of setting e) (w.calls e) bytes)
         × IsLeftBy e setting.eid (timing_of setting e) (received_held (held_of side.station) moment bytes) (requester.Receive moment bytes ∷ w.calls e)
     looked = x.looks e setting.eid (timing_of setting e) (held_of side.station) (w.calls e) moment bytes s.left
 
@@ -113,35 +113,35 @@ module _ {S : Type 0} (setting : Setting S) (w : World) (moment e : ℕ) (bytes 
 
     -- a request stands as before where this packet is no answer to it
     stays : (r : Asked) → ((r.source ≡ e) → (m : List ℕ) → arrived e setting.eid (timing_of setting e) (requests_of setting w e) bytes ≡ Answer r.own m → ⊥) → as_it_stands setting v r ≡ as_it_stands setting w r
-    stays r other = ap (λ c. record { asked = r; standing = c }) (go (cases_eq r.source e))
+    stays r other = ap (λ c. record { asked = r; progress = c }) (go (cases_eq r.source e))
       where
-        go : (r.source ≡ e) ⊎ (r.source ≡ e → ⊥) → (as_it_stands setting v r).standing ≡ (as_it_stands setting w r).standing
-        go (inr apart) = ap (λ cs. ((requests r.source setting.eid (timing_of setting r.source) cs).each r.own).course.standing) (call_other w.calls e (requester.Receive moment bytes) r.source apart)
+        go : (r.source ≡ e) ⊎ (r.source ≡ e → ⊥) → (as_it_stands setting v r).progress ≡ (as_it_stands setting w r).progress
+        go (inr apart) = ap (λ cs. ((requests r.source setting.eid (timing_of setting r.source) cs).each r.own).course.progress) (call_other w.calls e (requester.Receive moment bytes) r.source apart)
         go (inl at) =
-            ap (λ d. ((requests d setting.eid (timing_of setting d) (v.calls d)).each r.own).course.standing) at
-            ∙ ap (λ cs. ((requests e setting.eid (timing_of setting e) cs).each r.own).course.standing) (call_here w.calls e (requester.Receive moment bytes))
-            ∙ ap (λ (c : Course). c.standing) (received_other e setting.eid (timing_of setting e) (requests_of setting w e) bytes r.own (other at))
-            ∙ ap (λ d. ((requests_of setting w d).each r.own).course.standing) (sym at)
+            ap (λ d. ((requests d setting.eid (timing_of setting d) (v.calls d)).each r.own).course.progress) at
+            ∙ ap (λ cs. ((requests e setting.eid (timing_of setting e) cs).each r.own).course.progress) (call_here w.calls e (requester.Receive moment bytes))
+            ∙ ap (λ (c : Course). c.progress) (received_other e setting.eid (timing_of setting e) (requests_of setting w e) bytes r.own (other at))
+            ∙ ap (λ d. ((requests_of setting w d).each r.own).course.progress) (sym at)
 
     -- the one that it answers stands answered
-    stands : (r : Asked) (n : ℕ) (m : List ℕ) → r.source ≡ e → r.own ≡ n → brought ≡ Answer n m → (as_it_stands setting v r).standing ≡ courses.Answered m
+    stands : (r : Asked) (n : ℕ) (m : List ℕ) → r.source ≡ e → r.own ≡ n → brought ≡ Answer n m → (as_it_stands setting v r).progress ≡ courses.Answered m
     stands r n m at own is =
         let now = requests e setting.eid (timing_of setting e) (requester.Receive moment bytes ∷ w.calls e) in
-        let memo = standing_after (held_of side.station) (held_of new.station) moment bytes n m x.new_held is in
-        ap (λ d. ((requests d setting.eid (timing_of setting d) (v.calls d)).each r.own).course.standing) at
-        ∙ ap (λ cs. ((requests e setting.eid (timing_of setting e) cs).each r.own).course.standing) (call_here w.calls e (requester.Receive moment bytes))
-        ∙ ap (λ k. (now.each k).course.standing) own
-        ∙ memo_standing (is_recent now.count n) (memo_of e setting.eid now n) (courses.Answered m) (sym (ap (option_map (λ (q : Memo). q.course.standing)) (new_left.remembered n)) ∙ memo)
+        let memo = progress_left (held_of side.station) (held_of new.station) moment bytes n m x.new_held is in
+        ap (λ d. ((requests d setting.eid (timing_of setting d) (v.calls d)).each r.own).course.progress) at
+        ∙ ap (λ cs. ((requests e setting.eid (timing_of setting e) cs).each r.own).course.progress) (call_here w.calls e (requester.Receive moment bytes))
+        ∙ ap (λ k. (now.each k).course.progress) own
+        ∙ memo_progress (is_recent now.count n) (memo_of e setting.eid now n) (courses.Answered m) (sym (ap (option_map (λ (q : Memo). q.course.progress)) (new_left.remembered n)) ∙ memo)
 
     pub answered_stands : (k : ℕ) (r : Asked) → asked_at w.log k ≡ Some r → IsOpened setting w k r → answered_as answered k (as_it_stands setting w r) ≡ as_it_stands setting v r
     answered_stands k r is o = go brought refl x.tells
       where
-        owed : got_of brought ≡ got_of (arrived e setting.eid (timing_of setting e) (requests_of setting w e) bytes)
-        owed = looked.0
+        expected : got_of brought ≡ got_of (arrived e setting.eid (timing_of setting e) (requests_of setting w e) bytes)
+        expected = looked.0
 
         none : answered ≡ None → ((n : ℕ) (m : List ℕ) → brought ≡ Answer n m → ⊥) → answered_as answered k (as_it_stands setting w r) ≡ as_it_stands setting v r
         none nothing other =
-            ap (λ a. answered_as a k (as_it_stands setting w r)) nothing ∙ sym (stays r (λ at. not_answered brought (arrived e setting.eid (timing_of setting e) (requests_of setting w e) bytes) r.own owed (other r.own)))
+            ap (λ a. answered_as a k (as_it_stands setting w r)) nothing ∙ sym (stays r (λ at. not_answered brought (arrived e setting.eid (timing_of setting e) (requests_of setting w e) bytes) r.own expected (other r.own)))
 
         go : (a : Arrival) → brought ≡ a → ReportsReply side.numbers a answered → answered_as answered k (as_it_stands setting w r) ≡ as_it_stands setting v r
         go (Drop reason) at tells = none tells (λ n m e'. let wrong : ◌≡◌ {A = Arrival} (Drop reason) (Answer n m) = sym at ∙ e' in absurd (cc))
@@ -166,13 +166,13 @@ module _ {S : Type 0} (setting : Setting S) (w : World) (moment e : ℕ) (bytes 
                 let number = index_get (numbers_of w.log e) n k (subst (λ j. slice_get (numbers_of w.log e) j ≡ Some k) own (subst (λ d. slice_get (numbers_of w.log d) r.own ≡ Some k) at_e o.number)) in
                 ap (λ a. answered_as a k (as_it_stands setting w r)) tells.1
                 ∙ cond-true (k == tells.0.number) _ _ (eq-eqb k tells.0.number (sym number ∙ sym numbers_are))
-                ∙ ap (λ c. record { asked = r; standing = c }) (ap courses.Answered tells.3 ∙ sym (stands r n m at_e own at))
+                ∙ ap (λ c. record { asked = r; progress = c }) (ap courses.Answered tells.3 ∙ sym (stands r n m at_e own at))
 
             away : ((r.source ≡ e) → (n ≡ r.own) → ⊥) → answered_as answered k (as_it_stands setting w r) ≡ as_it_stands setting v r
             away other =
                 ap (λ a. answered_as a k (as_it_stands setting w r)) tells.1
                 ∙ cond-false (k == tells.0.number) _ _ (ne_eqb k tells.0.number (λ same. let both = alone same in other both.0 both.1))
-                ∙ sym (stays r (λ at_e m2 is2. other at_e (let same : ◌≡◌ {A = Got} (got.Answered n) (got.Answered r.own) = ap got_of (sym at) ∙ owed ∙ ap got_of is2 in cc)))
+                ∙ sym (stays r (λ at_e m2 is2. other at_e (let same : ◌≡◌ {A = Got} (got.Answered n) (got.Answered r.own) = ap got_of (sym at) ∙ expected ∙ ap got_of is2 in cc)))
 
             both : (r.source ≡ e) ⊎ (r.source ≡ e → ⊥) → (r.own ≡ n) ⊎ (r.own ≡ n → ⊥) → answered_as answered k (as_it_stands setting w r) ≡ as_it_stands setting v r
             both (inl at_e) (inl own) = here at_e own

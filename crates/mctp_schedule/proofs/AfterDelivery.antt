@@ -9,7 +9,7 @@ use Rattle.mctp_assembly.specs.declared.fed.Fed.{Fed}
 use Rattle.mctp_assembly.specs.declared.fed.Fed.TheVariants as feds
 use Rattle.pldm_wire.specs.Headers.{id_at}
 use Rattle.pldm_responder.specs.Arrivals.{Whole, arrival, packets_back}
-use Rattle.pldm_responder.specs.Calls.{answer_owed, events, fed, looked_back, outcome_owed, with_arrival}
+use Rattle.pldm_responder.specs.Calls.{answer_expected, events, fed, looked_back, outcome_expected, with_arrival}
 use Rattle.pldm_responder.specs.Calls as responder
 use Rattle.pldm_responder.specs.Events.{Message, Event, Came, Place, is_busy, is_copy, is_copy_of, is_fresh, origin}
 use Rattle.pldm_responder.specs.Fitting.{ArrivalFits, Fits, ReceivedFits}
@@ -41,28 +41,28 @@ use Rattle.mctp_schedule.proofs.ListPlaces.{get_last, length_pushed}
 use Rattle.mctp_schedule.proofs.AfterReadingOrRestart.{Enters, with_responder}
 use Rattle.mctp_schedule.proofs.KeptByAStep.{before_more, packets_stay, still_carried, still_opened, still_side}
 
--- ---- what is owed to a message, by its packets and whether it is fresh
+-- ---- what is expected to a message, by its packets and whether it is fresh
 module _ {S : Type 0} (device : Rules S) (own keep : ℕ) (start : S) (es : List (Event S)) (m : Message) where
-  abbrev owed : Bool → Bool → Outcome
-  owed busy copy =
+  abbrev expected : Bool → Bool → Outcome
+  expected busy copy =
       if busy then Answered false false (packets_back own m (busy_reply m.bytes))
       else (if copy then Answered false false (packets_back own m (answered device keep start es m))
       else Answered true (changes device (performed device keep start es) m.bytes) (packets_back own m (answered device keep start es m)))
 
-  pub owed_busy : is_busy keep es m.moment ≡ true → packets_of_outcome (answer_owed device own keep start es m) ≡ Some (packets_back own m (busy_reply m.bytes))
-  owed_busy on = ap (λ b. packets_of_outcome (owed b (is_copy keep es m))) on
+  pub expected_busy : is_busy keep es m.moment ≡ true → packets_of_outcome (answer_expected device own keep start es m) ≡ Some (packets_back own m (busy_reply m.bytes))
+  expected_busy on = ap (λ b. packets_of_outcome (expected b (is_copy keep es m))) on
 
-  pub owed_served : is_busy keep es m.moment ≡ false → packets_of_outcome (answer_owed device own keep start es m) ≡ Some (packets_back own m (answered device keep start es m))
-  owed_served off = ap (λ b. packets_of_outcome (owed b (is_copy keep es m))) off ∙ go (is_copy keep es m)
+  pub expected_served : is_busy keep es m.moment ≡ false → packets_of_outcome (answer_expected device own keep start es m) ≡ Some (packets_back own m (answered device keep start es m))
+  expected_served off = ap (λ b. packets_of_outcome (expected b (is_copy keep es m))) off ∙ go (is_copy keep es m)
     where
-      go : (copy : Bool) → packets_of_outcome (owed false copy) ≡ Some (packets_back own m (answered device keep start es m))
+      go : (copy : Bool) → packets_of_outcome (expected false copy) ≡ Some (packets_back own m (answered device keep start es m))
       go true = refl
       go false = refl
 
-  pub owed_fresh : (n : ℕ) → fresh_numbers n (answer_owed device own keep start es m) ≡ (if is_fresh keep es m then n ∷ [] else [])
-  owed_fresh n = go (is_busy keep es m.moment) (is_copy keep es m)
+  pub expected_fresh : (n : ℕ) → fresh_numbers n (answer_expected device own keep start es m) ≡ (if is_fresh keep es m then n ∷ [] else [])
+  expected_fresh n = go (is_busy keep es m.moment) (is_copy keep es m)
     where
-      go : (busy copy : Bool) → fresh_numbers n (owed busy copy) ≡ (if not busy && not copy then n ∷ [] else [])
+      go : (busy copy : Bool) → fresh_numbers n (expected busy copy) ≡ (if not busy && not copy then n ∷ [] else [])
       go true copy = refl
       go false true = refl
       go false false = refl
@@ -179,11 +179,11 @@ module _ {P S : Type 0} (setting : Setting S) (past : List Step) (run : HeldRun 
       busy_is =
           d.given_busy ∙ ap (nat_lt moment) running.device.left.serves_from ∙ ap (λ es. is_busy setting.keep es moment) running.device.events
 
-      outcome_is : outcome ≡ answer_owed setting.device setting.eid setting.keep setting.start (told w.log) m
+      outcome_is : outcome ≡ answer_expected setting.device setting.eid setting.keep setting.start (told w.log) m
       outcome_is =
           d.given_outcome ∙ looked.0
-          ∙ ap (outcome_owed setting.device setting.eid setting.keep setting.start (events setting.eid calls)) arrives_here
-          ∙ ap (λ es. answer_owed setting.device setting.eid setting.keep setting.start es m) running.device.events
+          ∙ ap (outcome_expected setting.device setting.eid setting.keep setting.start (events setting.eid calls)) arrives_here
+          ∙ ap (λ es. answer_expected setting.device setting.eid setting.keep setting.start es m) running.device.events
 
       called_with : received setting.eid moment (asked_at w.log n) calls ≡ responder.Received moment bytes ∷ calls
       called_with = ap (λ o. received setting.eid moment o calls) is ∙ ap (λ b. responder.Received moment b ∷ calls) (sym d.packet_is)
@@ -209,7 +209,7 @@ module _ {P S : Type 0} (setting : Setting S) (past : List Step) (run : HeldRun 
               record {
                 packet = t.packet;
                 reply = packets_stay run.journal.entries.items x c.reply t.reply_place ∙ t.reply ∙ ap (option_map (answer_packets setting.eid r)) (sym (given_busy setting.device setting.keep setting.start w.log moment n r is up));
-                busy = at_place ∙ ap packets_of_outcome outcome_is ∙ owed_busy setting.device setting.eid setting.keep setting.start (told {S = S} w.log) m up ∙ ap (busy_packets setting.eid r) (sym (busy_here setting.device setting.keep setting.start w.log moment n r is up));
+                busy = at_place ∙ ap packets_of_outcome outcome_is ∙ expected_busy setting.device setting.eid setting.keep setting.start (told {S = S} w.log) m up ∙ ap (busy_packets setting.eid r) (sym (busy_here setting.device setting.keep setting.start w.log moment n r is up));
                 reply_place = before_more run.journal.entries.items x c.reply t.reply_place;
                 busy_place = below;
               }
@@ -217,7 +217,7 @@ module _ {P S : Type 0} (setting : Setting S) (past : List Step) (run : HeldRun 
               let up = sym busy_is ∙ off in
               record {
                 packet = t.packet;
-                reply = at_place ∙ ap packets_of_outcome outcome_is ∙ owed_served setting.device setting.eid setting.keep setting.start (told {S = S} w.log) m up ∙ ap (option_map (answer_packets setting.eid r)) (sym (given_here setting.device setting.keep setting.start w.log moment n r is up));
+                reply = at_place ∙ ap packets_of_outcome outcome_is ∙ expected_served setting.device setting.eid setting.keep setting.start (told {S = S} w.log) m up ∙ ap (option_map (answer_packets setting.eid r)) (sym (given_here setting.device setting.keep setting.start w.log moment n r is up));
                 busy = packets_stay run.journal.entries.items x c.busy t.busy_place ∙ t.busy ∙ ap (busy_packets setting.eid r) (sym (busy_served setting.device setting.keep setting.start w.log moment n r is up));
                 reply_place = below;
                 busy_place = before_more run.journal.entries.items x c.busy t.busy_place;
@@ -284,7 +284,7 @@ module _ {P S : Type 0} (setting : Setting S) (past : List Step) (run : HeldRun 
             ∙ ap (λ y. entries setting past ++ y ∷ []) (ap (λ b. entry.Delivered b outcome) busy_is ∙ ap (entry.Delivered (is_busy setting.keep (told {S = S} w.log) moment)) outcome_is ∙ sym (ap (delivery_entry setting w.log moment) is));
         order = d.new_order ∙ ap (λ xs. xs ++ fresh_numbers n outcome) running.order
             ∙ ap (λ o. order S setting.keep w.log ++ fresh_numbers n o) outcome_is
-            ∙ ap (λ xs. order S setting.keep w.log ++ xs) (owed_fresh setting.device setting.eid setting.keep setting.start (told {S = S} w.log) m n)
+            ∙ ap (λ xs. order S setting.keep w.log ++ xs) (expected_fresh setting.device setting.eid setting.keep setting.start (told {S = S} w.log) m n)
             ∙ listed (is_fresh setting.keep (told {S = S} w.log) m) (order S setting.keep w.log) n
             ∙ ap (λ o. if fresh_of setting.keep (told {S = S} w.log) moment o then order S setting.keep w.log ++ n ∷ [] else order S setting.keep w.log) (sym is);
         timely = d.new_timely ∙ ap (λ b. b && run.journal.timely) d.given_in_time ∙ ap (λ b. nat_lt moment (r.opening + setting.keep) && b) running.timely ∙ ap (λ o. comes_in_time setting moment o && is_timely setting past) (sym is);

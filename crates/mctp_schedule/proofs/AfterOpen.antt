@@ -8,7 +8,7 @@ use Rattle.pldm_wire.specs.declared.command.Command.{Command}
 use Rattle.pldm_responder.specs.Events.{is_busy}
 use Rattle.pldm_responder.specs.Performing.{Rules}
 use Rattle.pldm_requester.specs.Calls as requester
-use Rattle.pldm_requester.specs.Calls.{Requests, accepts, new_request, open_answer, open_owed, opened, put, requests}
+use Rattle.pldm_requester.specs.Calls.{Requests, accepts, new_request, open_answer, open_expected, opened, put, requests}
 use Rattle.pldm_requester.specs.Laws.{IsLeftBy, OpenLooksBack, SameIsLeft}
 use Rattle.pldm_requester.specs.Numbering.{message_of, opened_as}
 use Rattle.pldm_requester.specs.Slots.{held_of}
@@ -19,7 +19,7 @@ use Rattle.pldm_requester.specs.declared.results.OpenFault.{OpenFault}
 use Rattle.pldm_requester.specs.declared.timing.Timing.{Timing}
 use Rattle.mctp_schedule.specs.Askers.{IsSent, Side, packet_bytes}
 use Rattle.mctp_schedule.specs.Entries.{as_it_stands, entries, entry_of, numbers_of, open_entry}
-use Rattle.mctp_schedule.specs.FirstArrivals.{arrives, is_owed_busy, order}
+use Rattle.mctp_schedule.specs.FirstArrivals.{arrives, is_answered_busy, order}
 use Rattle.mctp_schedule.specs.HeldRuns.{HeldRun}
 use Rattle.mctp_schedule.specs.Journals.{Carried}
 use Rattle.mctp_schedule.specs.Logs.{Asked, Happening, Opened, Delivered, Sensed, WentDown, asked_at, count_of, told}
@@ -68,7 +68,7 @@ module _ (S : Type 0) where
   never_busy keep (Sensed _ _ _ ∷ past) k l = never_busy keep past k l
   never_busy keep (WentDown _ ∷ past) k l = never_busy keep past k l
   never_busy keep (Delivered t j ∷ past) k l =
-      ap (λ b. b || was_busy S keep past k) (and_right (j == k) _ (ap (λ o. is_owed_busy o (is_busy keep (told {S = S} past) t)) (none_past past k l)))
+      ap (λ b. b || was_busy S keep past k) (and_right (j == k) _ (ap (λ o. is_answered_busy o (is_busy keep (told {S = S} past) t)) (none_past past k l)))
       ∙ never_busy keep past k l
 
 module _ {P S : Type 0} (setting : Setting S) (past : List Step) (run : HeldRun P S) (journal : Journal) (running : IsRunning setting past run) (moment : ℕ) (later : time_now past ≤ moment) (e : ℕ) (has : has_requester setting.requesters e ≡ true) (command : Command) (new : Side) (looks : OpenLooksBack) (same : SameIsLeft) where
@@ -116,16 +116,16 @@ module _ {P S : Type 0} (setting : Setting S) (past : List Step) (run : HeldRun 
       })
     where
       stand_of : accepts (timing_of setting e).keep (requests_of setting (world setting past) e) moment ≡ false → (r : Asked) → as_it_stands setting (world setting past) r ≡ as_it_stands setting (record { calls = with_call (world setting past).calls e (requester.Open moment command); log = (world setting past).log }) r
-      stand_of shut r = ap (λ c. record { asked = r; standing = c }) (go (cases_eq r.source e))
+      stand_of shut r = ap (λ c. record { asked = r; progress = c }) (go (cases_eq r.source e))
         where
-          go : (r.source ≡ e) ⊎ (r.source ≡ e → ⊥) → (as_it_stands setting (world setting past) r).standing ≡ (as_it_stands setting (record { calls = with_call (world setting past).calls e (requester.Open moment command); log = (world setting past).log }) r).standing
-          go (inr other) = sym (ap (λ cs. ((requests r.source setting.eid (timing_of setting r.source) cs).each r.own).course.standing) (call_other (world setting past).calls e (requester.Open moment command) r.source other))
+          go : (r.source ≡ e) ⊎ (r.source ≡ e → ⊥) → (as_it_stands setting (world setting past) r).progress ≡ (as_it_stands setting (record { calls = with_call (world setting past).calls e (requester.Open moment command); log = (world setting past).log }) r).progress
+          go (inr other) = sym (ap (λ cs. ((requests r.source setting.eid (timing_of setting r.source) cs).each r.own).course.progress) (call_other (world setting past).calls e (requester.Open moment command) r.source other))
           go (inl at) =
-              ap (λ d. ((requests_of setting (world setting past) d).each r.own).course.standing) at
+              ap (λ d. ((requests_of setting (world setting past) d).each r.own).course.progress) at
               ∙ sym (
-              ap (λ d. ((requests d setting.eid (timing_of setting d) (with_call (world setting past).calls e (requester.Open moment command) d)).each r.own).course.standing) at
-              ∙ ap (λ cs. ((requests e setting.eid (timing_of setting e) cs).each r.own).course.standing) (call_here (world setting past).calls e (requester.Open moment command))
-              ∙ ap (λ (a : Requests). (a.each r.own).course.standing) (cond-false (accepts (timing_of setting e).keep (requests_of setting (world setting past) e) moment) _ _ shut))
+              ap (λ d. ((requests d setting.eid (timing_of setting d) (with_call (world setting past).calls e (requester.Open moment command) d)).each r.own).course.progress) at
+              ∙ ap (λ cs. ((requests e setting.eid (timing_of setting e) cs).each r.own).course.progress) (call_here (world setting past).calls e (requester.Open moment command))
+              ∙ ap (λ (a : Requests). (a.each r.own).course.progress) (cond-false (accepts (timing_of setting e).keep (requests_of setting (world setting past) e) moment) _ _ shut))
 
       stand : accepts (timing_of setting e).keep (requests_of setting (world setting past) e) moment ≡ false → (k : ℕ) (o : Option Asked) → option_map (as_it_stands setting (world setting past)) o ≡ option_map (as_it_stands setting (record { calls = with_call (world setting past).calls e (requester.Open moment command); log = (world setting past).log })) o
       stand shut k None = refl
@@ -250,23 +250,23 @@ module _ {P S : Type 0} (setting : Setting S) (past : List Step) (run : HeldRun 
 
     -- an older request stands as before
     stands : (k : ℕ) (r : Asked) → asked_at w.log k ≡ Some r → as_it_stands setting w r ≡ as_it_stands setting v r
-    stands k r is = ap (λ c. record { asked = r; standing = c }) (go (cases_eq r.source e))
+    stands k r is = ap (λ c. record { asked = r; progress = c }) (go (cases_eq r.source e))
       where
-        go : (r.source ≡ e) ⊎ (r.source ≡ e → ⊥) → (as_it_stands setting w r).standing ≡ (as_it_stands setting v r).standing
-        go (inr other) = sym (ap (λ cs. ((requests r.source setting.eid (timing_of setting r.source) cs).each r.own).course.standing) (call_other w.calls e call r.source other))
+        go : (r.source ≡ e) ⊎ (r.source ≡ e → ⊥) → (as_it_stands setting w r).progress ≡ (as_it_stands setting v r).progress
+        go (inr other) = sym (ap (λ cs. ((requests r.source setting.eid (timing_of setting r.source) cs).each r.own).course.progress) (call_other w.calls e call r.source other))
         go (inl at) =
             let low = subst (λ d. r.own < (requests_of setting w d).count) at (running.opened k r is).within in
-            ap (λ d. ((requests_of setting w d).each r.own).course.standing) at
+            ap (λ d. ((requests_of setting w d).each r.own).course.progress) at
             ∙ sym (
-            ap (λ d. ((requests_of setting v d).each r.own).course.standing) at
-            ∙ ap (λ (a : Requests). (a.each r.own).course.standing) here
-            ∙ ap (λ (y : requester.Request). y.course.standing) (cond-false (r.own == before.count) (new_request moment command) (before.each r.own) (ne_eqb r.own before.count (λ same_own. absurd (omega (arith, low, same_own))))))
+            ap (λ d. ((requests_of setting v d).each r.own).course.progress) at
+            ∙ ap (λ (a : Requests). (a.each r.own).course.progress) here
+            ∙ ap (λ (y : requester.Request). y.course.progress) (cond-false (r.own == before.count) (new_request moment command) (before.each r.own) (ne_eqb r.own before.count (λ same_own. absurd (omega (arith, low, same_own))))))
 
     new_stands : begun e sent.own moment sent.message ≡ as_it_stands setting v q
     new_stands =
         ap (λ own. begun e own moment sent.message) own_is ∙ ap (begun e before.count moment) message_is
-        ∙ ap (λ c. record { asked = q; standing = c })
-        (sym (ap (λ (a : Requests). (a.each before.count).course.standing) here ∙ ap (λ (y : requester.Request). y.course.standing) (cond-true (before.count == before.count) (new_request moment command) (before.each before.count) (eq-eqb before.count before.count refl))))
+        ∙ ap (λ c. record { asked = q; progress = c })
+        (sym (ap (λ (a : Requests). (a.each before.count).course.progress) here ∙ ap (λ (y : requester.Request). y.course.progress) (cond-true (before.count == before.count) (new_request moment command) (before.each before.count) (eq-eqb before.count before.count refl))))
 
     requests_now : (k : ℕ) → slice_get journal.requests.items k ≡ option_map (as_it_stands setting v) (asked_at v.log k)
     requests_now k = ap (λ rs. slice_get rs k) x.new_requests ∙ go (cases_eq k count)

@@ -4,7 +4,7 @@ use Rattle.std.specs.Prelude.{◌==◌, option_map, slice_get, slice_index, if�
 use Rattle.std.specs.List.{list_any}
 use Rattle.std.proofs.lemmas.Bool.{cases_eq, cond-true, cond-false}
 use Rattle.pldm_requester.specs.Calls as requester
-use Rattle.pldm_requester.specs.Calls.{again_owed, given_up_owed, requests}
+use Rattle.pldm_requester.specs.Calls.{again_expected, given_up_expected, requests}
 use Rattle.pldm_requester.specs.Courses as courses
 use Rattle.pldm_requester.specs.Courses.{Course, given_up, is_given_up, is_sent_again, sent_again, ticked}
 use Rattle.pldm_requester.specs.Laws.{SameIsLeft, TickLooksBack}
@@ -15,7 +15,7 @@ use Rattle.pldm_requester.specs.declared.timing.Timing.{Timing}
 use Rattle.mctp_schedule.specs.Askers.{Side}
 use Rattle.mctp_schedule.specs.Entries.{as_it_stands, numbered, numbers_of}
 use Rattle.mctp_schedule.specs.HeldRuns.{HeldRun}
-use Rattle.mctp_schedule.specs.Journals.{stands_after}
+use Rattle.mctp_schedule.specs.Journals.{progress_after}
 use Rattle.mctp_schedule.specs.Logs.{Asked, asked_at}
 use Rattle.mctp_schedule.specs.Running.{IsOpened, IsRunning}
 use Rattle.schedule_text.specs.Schedules.{has_requester}
@@ -28,10 +28,10 @@ use Rattle.mctp_schedule.proofs.AfterCall.{with_side, Writes, called_runs, new_s
 use Rattle.mctp_schedule.proofs.NumberedRequests.{among_none, among_one, get_index, index_get}
 use Rattle.mctp_schedule.proofs.KeptByAStep.{call_here, call_other}
 
-ticked_standing : (timing : Timing) (moment : ℕ) (course : Course) → (ticked timing moment course).standing ≡ (if is_given_up timing moment course then courses.GaveUp else course.standing)
-ticked_standing timing moment course = go (is_given_up timing moment course) (is_sent_again timing moment course)
+ticked_progress : (timing : Timing) (moment : ℕ) (course : Course) → (ticked timing moment course).progress ≡ (if is_given_up timing moment course then courses.GaveUp else course.progress)
+ticked_progress timing moment course = go (is_given_up timing moment course) (is_sent_again timing moment course)
   where
-    go : (b c : Bool) → (if b then given_up course else (if c then sent_again moment course else course)).standing ≡ (if b then courses.GaveUp else course.standing)
+    go : (b c : Bool) → (if b then given_up course else (if c then sent_again moment course else course)).progress ≡ (if b then courses.GaveUp else course.progress)
     go true c = refl
     go false true = refl
     go false false = refl
@@ -59,24 +59,24 @@ module _ {S : Type 0} (setting : Setting S) (w : World) (moment e : ℕ) where
       let same = one_asked (asked_at w.log k) q.0 r q.1 is in
       (sym (ap (λ (a : Asked). a.source) same) ∙ q.2, sym q.3 ∙ ap (λ (a : Asked). a.own) same)
 
-  stood : (k : ℕ) (r : Asked) (b : Bool) → list_any (λ n. n == k) (numbered (numbers_of w.log e) (given_up_owed e setting.eid (timing_of setting e) (w.calls e) moment)) ≡ b
-      → (as_it_stands setting v r).standing ≡ (if b then courses.GaveUp else (as_it_stands setting w r).standing)
-      → stands_after (numbered (numbers_of w.log e) (given_up_owed e setting.eid (timing_of setting e) (w.calls e) moment)) k (as_it_stands setting w r) ≡ as_it_stands setting v r
-  stood k r true listed standing = cond-true _ _ _ listed ∙ ap (λ s. record { asked = r; standing = s }) (sym standing)
-  stood k r false listed standing = cond-false _ _ _ listed ∙ ap (λ s. record { asked = r; standing = s }) (sym standing)
+  stood : (k : ℕ) (r : Asked) (b : Bool) → list_any (λ n. n == k) (numbered (numbers_of w.log e) (given_up_expected e setting.eid (timing_of setting e) (w.calls e) moment)) ≡ b
+      → (as_it_stands setting v r).progress ≡ (if b then courses.GaveUp else (as_it_stands setting w r).progress)
+      → progress_after (numbered (numbers_of w.log e) (given_up_expected e setting.eid (timing_of setting e) (w.calls e) moment)) k (as_it_stands setting w r) ≡ as_it_stands setting v r
+  stood k r true listed progress = cond-true _ _ _ listed ∙ ap (λ s. record { asked = r; progress = s }) (sym progress)
+  stood k r false listed progress = cond-false _ _ _ listed ∙ ap (λ s. record { asked = r; progress = s }) (sym progress)
 
   pub ticked_stands : Numbered → (k : ℕ) (r : Asked) → asked_at w.log k ≡ Some r → IsOpened setting w k r
-      → stands_after (numbered (numbers_of w.log e) (given_up_owed e setting.eid (timing_of setting e) (w.calls e) moment)) k (as_it_stands setting w r) ≡ as_it_stands setting v r
+      → progress_after (numbered (numbers_of w.log e) (given_up_expected e setting.eid (timing_of setting e) (w.calls e) moment)) k (as_it_stands setting w r) ≡ as_it_stands setting v r
   ticked_stands z k r is o = go (cases_eq r.source e)
     where
       test : ℕ → Bool
       test n = is_given_up (timing_of setting e) moment ((requests_of setting w e).each n).course
 
-      go : (r.source ≡ e) ⊎ (r.source ≡ e → ⊥) → stands_after (numbered (numbers_of w.log e) (given_up_owed e setting.eid (timing_of setting e) (w.calls e) moment)) k (as_it_stands setting w r) ≡ as_it_stands setting v r
+      go : (r.source ≡ e) ⊎ (r.source ≡ e → ⊥) → progress_after (numbered (numbers_of w.log e) (given_up_expected e setting.eid (timing_of setting e) (w.calls e) moment)) k (as_it_stands setting w r) ≡ as_it_stands setting v r
       go (inr other) =
           stood k r false
           (among_none (slice_index (numbers_of w.log e)) (λ n. is_given_up (timing_of setting e) moment ((requests_of setting w e).each n).course) k 0 (requests_of setting w e).count (λ i low high at. other (unique z k r is i (omega arith) at).0))
-          (ap (λ cs. ((requests r.source setting.eid (timing_of setting r.source) cs).each r.own).course.standing) (call_other w.calls e (requester.Tick moment) r.source other))
+          (ap (λ cs. ((requests r.source setting.eid (timing_of setting r.source) cs).each r.own).course.progress) (call_other w.calls e (requester.Tick moment) r.source other))
       go (inl same) =
           let within = subst (λ d. r.own < (requests_of setting w d).count) same o.within in
           let number = subst (λ d. slice_get (numbers_of w.log d) r.own ≡ Some k) same o.number in
@@ -85,9 +85,9 @@ module _ {S : Type 0} (setting : Setting S) (w : World) (moment e : ℕ) where
           stood k r (is_given_up (timing_of setting e) moment ((requests_of setting w e).each r.own).course)
           (among_one (slice_index (numbers_of w.log e)) (λ n. is_given_up (timing_of setting e) moment ((requests_of setting w e).each n).course) k r.own 0 (requests_of setting w e).count (omega arith) (omega (arith, within)) (index_get (numbers_of w.log e) r.own k number)
           (λ i low high at. (unique z k r is i (omega arith) at).1))
-          (ap (λ cs. ((requests r.source setting.eid (timing_of setting r.source) cs).each r.own).course.standing) here
-          ∙ ticked_standing (timing_of setting r.source) moment ((requests_of setting w r.source).each r.own).course
-          ∙ ap (λ d. if is_given_up (timing_of setting d) moment ((requests_of setting w d).each r.own).course then courses.GaveUp else (as_it_stands setting w r).standing) same)
+          (ap (λ cs. ((requests r.source setting.eid (timing_of setting r.source) cs).each r.own).course.progress) here
+          ∙ ticked_progress (timing_of setting r.source) moment ((requests_of setting w r.source).each r.own).course
+          ∙ ap (λ d. if is_given_up (timing_of setting d) moment ((requests_of setting w d).each r.own).course then courses.GaveUp else (as_it_stands setting w r).progress) same)
 
 -- what a tick found due, over all requests
 pub due_is : (due : DueNumbers) (again given_up : List ℕ) → due.again.items ≡ again → due.given_up.items ≡ given_up → due ≡ record { again = record { items = again }; given_up = record { items = given_up } }
@@ -100,7 +100,7 @@ module _ {P S : Type 0} (setting : Setting S) (past : List Step) (run : HeldRun 
     pub same_numbers : new.numbers ≡ (running.sides e has).0.numbers
     pub again : due.again.items ≡ numbered (running.sides e has).0.numbers (again_at (held_of (running.sides e has).0.station) moment)
     pub given_up : due.given_up.items ≡ numbered (running.sides e has).0.numbers (given_up_at (held_of (running.sides e has).0.station) moment)
-    pub requests : (k : ℕ) → slice_get journal.requests.items k ≡ option_map (stands_after due.given_up.items k) (slice_get run.journal.requests.items k)
+    pub requests : (k : ℕ) → slice_get journal.requests.items k ≡ option_map (progress_after due.given_up.items k) (slice_get run.journal.requests.items k)
     pub counted : length journal.requests.items ≡ length run.journal.requests.items
     pub writes : Writes run.journal journal (entry.Due due)
     pub timely : journal.timely ≡ run.journal.timely
@@ -119,16 +119,16 @@ module _ {P S : Type 0} (setting : Setting S) (past : List Step) (run : HeldRun 
       (record {
         after = refl;
         is_side = new_side setting past run journal running moment later (actions.Tick e) e has (requester.Tick moment) new left t.same_numbers refl (let l = t.held.last in omega (arith, l));
-        requests = λ k. t.requests k ∙ ap (option_map (stands_after due.given_up.items k)) (running.requests k) ∙ stand k given_up (asked_at w.log k) refl;
+        requests = λ k. t.requests k ∙ ap (option_map (progress_after due.given_up.items k)) (running.requests k) ∙ stand k given_up (asked_at w.log k) refl;
         counted = t.counted;
         writes = t.writes;
         is_entry = ap entry.Due (due_is due _ _ again given_up);
         timely = t.timely ∙ running.timely;
       })
     where
-      stand : (k : ℕ) → due.given_up.items ≡ numbered (numbers_of (world setting past).log e) (given_up_owed e setting.eid (timing_of setting e) ((world setting past).calls e) moment) → (o : Option Asked) → asked_at (world setting past).log k ≡ o
-          → option_map (stands_after due.given_up.items k) (option_map (as_it_stands setting (world setting past)) o) ≡ option_map (as_it_stands setting (record { calls = with_call (world setting past).calls e (requester.Tick moment); log = (world setting past).log })) o
+      stand : (k : ℕ) → due.given_up.items ≡ numbered (numbers_of (world setting past).log e) (given_up_expected e setting.eid (timing_of setting e) ((world setting past).calls e) moment) → (o : Option Asked) → asked_at (world setting past).log k ≡ o
+          → option_map (progress_after due.given_up.items k) (option_map (as_it_stands setting (world setting past)) o) ≡ option_map (as_it_stands setting (record { calls = with_call (world setting past).calls e (requester.Tick moment); log = (world setting past).log })) o
       stand k given_up None is = refl
       stand k given_up (Some r) is =
           let s = (running.sides e has).2 in
-          ap Some (ap (λ xs. stands_after xs k (as_it_stands setting (world setting past) r)) given_up ∙ ticked_stands setting (world setting past) moment e (record { counted = s.counted; back = s.numbered }) k r is (running.opened k r is))
+          ap Some (ap (λ xs. progress_after xs k (as_it_stands setting (world setting past) r)) given_up ∙ ticked_stands setting (world setting past) moment e (record { counted = s.counted; back = s.numbered }) k r is (running.opened k r is))

@@ -31,7 +31,7 @@ use Rattle.mctp_schedule.specs.Taken.{brought, came, completes, completes_for, i
 use Rattle.mctp_schedule.specs.Worlds.{Setting, World, answer_packets, busy_from, busy_packet, packet_of, reply_packet, requests_of, timing_of, world}
 use Rattle.schedule_text.specs.declared.step.Step.{Step}
 use Rattle.mctp_schedule.proofs.RepliesAreTaken.{AnswersRequest, answer_arrives, busy_refuses, reply_answers, whole_arrival}
-use Rattle.mctp_schedule.proofs.DeliveriesOwed.{given_is_the_reply, the_reply_fits}
+use Rattle.mctp_schedule.proofs.DeliveriesExpected.{given_is_the_reply, the_reply_fits}
 use Rattle.mctp_schedule.proofs.AnswerPacketsAtRequester.{IsOf, packet_past}
 use Rattle.mctp_schedule.proofs.KnownRequests.{Known, all_known}
 use Rattle.mctp_schedule.proofs.OneReplyGiven.{reply_at_first}
@@ -138,8 +138,8 @@ module _ {S : Type 0} (setting : Setting S) (lower : Lower) (past : List Step) (
       ∙ ap (whole_arrival r.own) refuses
 
   -- ---- a packet of the reply
-  abbrev pub arrival_owed : ℕ → Arrival
-  arrival_owed j =
+  abbrev pub arrival_expected : ℕ → Arrival
+  arrival_expected j =
       if completes setting past k j then Answer r.own m
       else arrival_by (next (came setting past k r) (brought setting r m (Some j)))
 
@@ -181,10 +181,10 @@ module _ {S : Type 0} (setting : Setting S) (lower : Lower) (past : List Step) (
     done : in_row ≡ true → is_ready m ≡ true → completes setting past k j ≡ true
     done on ready = completes_is ∙ and_from (nat_lt j (part_count setting w k)) _ (lt-ltb j (part_count setting w k) l) (and_from (is_waiting setting w r) _ opens (and_from in_row (is_ready m) on ready))
 
-    pub reply_brings : fed_arrival mine r.own gave ≡ arrival_owed j
+    pub reply_brings : fed_arrival mine r.own gave ≡ arrival_expected j
     reply_brings = go (cases_Bool in_row) (cases_Bool (is_ready m))
       where
-        go : (in_row ≡ true) ⊎ (in_row ≡ false) → (is_ready m ≡ true) ⊎ (is_ready m ≡ false) → fed_arrival mine r.own gave ≡ arrival_owed j
+        go : (in_row ≡ true) ⊎ (in_row ≡ false) → (is_ready m ≡ true) ⊎ (is_ready m ≡ false) → fed_arrival mine r.own gave ≡ arrival_expected j
         go (inl on) (inl ready) =
             brings_whole on ∙ cond-true (is_ready m) _ _ ready
             ∙ sym (cond-true (completes setting past k j) _ _ (done on ready))
@@ -200,8 +200,8 @@ module _ {S : Type 0} (setting : Setting S) (lower : Lower) (past : List Step) (
   by_is_own Partial = tt
   by_is_own (Dropped reason) = tt
 
-  pub owed_is_own : (j : ℕ) → IsOf r.own (arrival_owed j)
-  owed_is_own j = go (completes setting past k j)
+  pub expected_is_own : (j : ℕ) → IsOf r.own (arrival_expected j)
+  expected_is_own j = go (completes setting past k j)
     where
       go : (b : Bool) → IsOf r.own (if b then Answer r.own m else arrival_by (next (came setting past k r) (brought setting r m (Some j))))
       go true = refl

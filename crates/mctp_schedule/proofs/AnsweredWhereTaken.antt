@@ -12,17 +12,17 @@ use Rattle.pldm_wire.specs.declared.command.Command.{Command}
 use Rattle.pldm_responder.specs.Performing.{busy_reply}
 use Rattle.pldm_requester.specs.Arrivals.{Arrival, Drop, fed_arrival}
 use Rattle.pldm_requester.specs.Calls.{Receive, Request, accepts, arrived, is_from_device, new_request}
-use Rattle.pldm_requester.specs.Courses.{Course, Standing, Answered, answered, is_open}
+use Rattle.pldm_requester.specs.Courses.{Course, Progress, Answered, answered, is_open}
 use Rattle.mctp_schedule.specs.Logs.{Asked, Happening, IsTimelyLog, Opened, asked_at, count_of}
 use Rattle.mctp_schedule.specs.FirstArrivals.{first}
 use Rattle.mctp_schedule.specs.OncePerformed.{RepliesFit, given, was_busy}
-use Rattle.mctp_schedule.specs.RequesterHalf.{IsSound, StandingIs}
+use Rattle.mctp_schedule.specs.RequesterHalf.{IsSound, ProgressIs}
 use Rattle.mctp_schedule.specs.Taken.{brought, came, completes, completes_for, is_waiting, part_count, replies, reply_of, taken, way_to}
 use Rattle.mctp_schedule.specs.Worlds.{IsTimely, IsTimelyAction, NeverWentBack, Setting, TagIsOwn, World, answer_packets, asked_by, busy_from, busy_packet, handed, packet_of, reply_packet, requests_of, source_of, timing_of, world}
 use Rattle.schedule_text.specs.declared.step.Action.{Action}
 use Rattle.schedule_text.specs.declared.step.Action.TheVariants as actions
 use Rattle.schedule_text.specs.declared.step.Step.{Step}
-use Rattle.mctp_schedule.proofs.AnswerPacketOutcomes.{Lower, arrival_by, arrival_owed, busy_brings, busy_is, busy_is_one, has_arrived, mine, owed_is_own, packet_is, reads_back, reply_brings}
+use Rattle.mctp_schedule.proofs.AnswerPacketOutcomes.{Lower, arrival_by, arrival_expected, busy_brings, busy_is, busy_is_one, has_arrived, mine, expected_is_own, packet_is, reads_back, reply_brings}
 use Rattle.mctp_schedule.proofs.FirstPerformed.{request_opened}
 use Rattle.mctp_schedule.proofs.FittingReplies.{fits_before}
 use Rattle.mctp_schedule.proofs.OneReplyGiven.{busy_opened}
@@ -93,7 +93,7 @@ module _ {S : Type 0} (setting : Setting S) where
         record {
           fed = λ _. ap (λ (r : Request). r.fed) stands ∙ sym (ap (map (brought setting new (reply_of setting (world setting (opening ∷ past)) k))) q.0);
           below = subst (Below (part_count setting (world setting (opening ∷ past)) k)) (sym q.0) tt;
-          standing = subst (λ (r : Request). StandingIs setting (opening ∷ past) k r.course.standing) (sym stands) q.1;
+          progress = subst (λ (r : Request). ProgressIs setting (opening ∷ past) k r.course.progress) (sym stands) q.1;
           arrived = λ t. absurd (let wrong : true ≡ false = sym t ∙ q.1 in cc);
         }
 
@@ -121,13 +121,13 @@ module _ {S : Type 0} (setting : Setting S) where
       → replies setting (step ∷ past) k ≡ d ∷ replies setting past k
       → p ≡ brought setting q (reply_of setting (world setting (step ∷ past)) k) d
       → Below (part_count setting (world setting (step ∷ past)) k) (d ∷ replies setting past k)
-      → StandingIs setting (step ∷ past) k (Stands setting (step ∷ past) q).course.standing
+      → ProgressIs setting (step ∷ past) k (Stands setting (step ∷ past) q).course.progress
       → (taken setting (step ∷ past) k ≡ true → HasArrived (step ∷ past) k)
       → Holds setting (step ∷ past) k q
-  hit step past k q p d arrival h opens shuts rs is below standing arrives = record {
+  hit step past k q p d arrival h opens shuts rs is below progress arrives = record {
     fed = λ now. go now (cases_Bool (is_waiting setting (world setting past) q));
     below = subst (Below (part_count setting (world setting (step ∷ past)) k)) (sym rs) below;
-    standing = standing;
+    progress = progress;
     arrived = arrives;
   }
     where
@@ -254,59 +254,59 @@ module _ {S : Type 0} (setting : Setting S) where
       before : Holds setting past i q
       before = h i q is
 
-      abbrev owed : Arrival
-      owed = arrival_owed setting lower past timely sound i q is j
+      abbrev expected : Arrival
+      expected = arrival_expected setting lower past timely sound i q is j
 
-      brings : is_waiting setting (world setting past) q ≡ true → fed_arrival (mine setting lower past timely sound i q is) q.own (next (Stands setting past q).fed (packet_at (way_to setting q) m j)) ≡ owed
+      brings : is_waiting setting (world setting past) q ≡ true → fed_arrival (mine setting lower past timely sound i q is) q.own (next (Stands setting past q).fed (packet_at (way_to setting q) m j)) ≡ expected
       brings waits =
           ap (λ fed. fed_arrival (mine setting lower past timely sound i q is) q.own (next fed (packet_at (way_to setting q) m j))) (before.fed waits)
           ∙ reply_brings setting lower past timely sound i q is j l waits before.below
 
-      is_own : IsOf q.own owed
-      is_own = owed_is_own setting lower past timely sound i q is j
+      is_own : IsOf q.own expected
+      is_own = expected_is_own setting lower past timely sound i q is j
 
-      opened : is_waiting setting (world setting past) q ≡ true → Stands setting (replying ∷ past) q ≡ with_arrival (Stands setting past q) (packet_at (way_to setting q) m j) owed
-      opened = stands_open lower past h timely sound replying moment i q is (own bytes handed_over) m j bytes sent now_is owed is_own brings
+      opened : is_waiting setting (world setting past) q ≡ true → Stands setting (replying ∷ past) q ≡ with_arrival (Stands setting past q) (packet_at (way_to setting q) m j) expected
+      opened = stands_open lower past h timely sound replying moment i q is (own bytes handed_over) m j bytes sent now_is expected is_own brings
 
       shut : is_waiting setting (world setting past) q ≡ false → Stands setting (replying ∷ past) q ≡ Stands setting past q
-      shut = stands_shut lower past h timely sound replying moment i q is (own bytes handed_over) m j bytes sent now_is owed is_own brings
+      shut = stands_shut lower past h timely sound replying moment i q is (own bytes handed_over) m j bytes sent now_is expected is_own brings
 
       -- it is taken now, or what was claimed stays
-      stays : completes setting past i j ≡ false → (x : Standing) → StandingIs setting past i x → StandingIs setting (replying ∷ past) i x
+      stays : completes setting past i j ≡ false → (x : Progress) → ProgressIs setting past i x → ProgressIs setting (replying ∷ past) i x
       stays off x c = claim_moves setting replying past i x (ap (λ b. b || taken setting past i) (and_right (i == i) _ off)) before.arrived c
 
       not_waiting : is_waiting setting (world setting past) q ≡ false → completes setting past i j ≡ false
       not_waiting closed = ap (completes_for setting past i j) is ∙ and_right (nat_lt j (part_count setting (world setting past) i)) _ (and_left (is_waiting setting (world setting past) q) _ closed)
 
-      standing : StandingIs setting (replying ∷ past) i (Stands setting (replying ∷ past) q).course.standing
-      standing = go (cases_Bool (is_waiting setting (world setting past) q)) (cases_Bool (completes setting past i j))
+      progress : ProgressIs setting (replying ∷ past) i (Stands setting (replying ∷ past) q).course.progress
+      progress = go (cases_Bool (is_waiting setting (world setting past) q)) (cases_Bool (completes setting past i j))
         where
           course : Course
           course = (Stands setting past q).course
 
-          go : (is_waiting setting (world setting past) q ≡ true) ⊎ (is_waiting setting (world setting past) q ≡ false) → (completes setting past i j ≡ true) ⊎ (completes setting past i j ≡ false) → StandingIs setting (replying ∷ past) i (Stands setting (replying ∷ past) q).course.standing
-          go (inr closed) _ = subst (λ (r : Request). StandingIs setting (replying ∷ past) i r.course.standing) (sym (shut closed)) (stays (not_waiting closed) course.standing before.standing)
+          go : (is_waiting setting (world setting past) q ≡ true) ⊎ (is_waiting setting (world setting past) q ≡ false) → (completes setting past i j ≡ true) ⊎ (completes setting past i j ≡ false) → ProgressIs setting (replying ∷ past) i (Stands setting (replying ∷ past) q).course.progress
+          go (inr closed) _ = subst (λ (r : Request). ProgressIs setting (replying ∷ past) i r.course.progress) (sym (shut closed)) (stays (not_waiting closed) course.progress before.progress)
           go (inl waits) (inl done) =
               let now : (Stands setting (replying ∷ past) q).course ≡ answered m course = ap (λ (r : Request). r.course) (opened waits) ∙ ap (λ x. course_after x course) (cond-true (completes setting past i j) _ _ done) in
-              let claim : StandingIs setting (replying ∷ past) i (Answered m) = (or_left (i == i && completes setting past i j) (taken setting past i) (and_from (i == i) (completes setting past i j) (eq-eqb i i refl) done), sym same_reply) in
-              subst (λ (c : Course). StandingIs setting (replying ∷ past) i c.standing) (sym now) claim
+              let claim : ProgressIs setting (replying ∷ past) i (Answered m) = (or_left (i == i && completes setting past i j) (taken setting past i) (and_from (i == i) (completes setting past i j) (eq-eqb i i refl) done), sym same_reply) in
+              subst (λ (c : Course). ProgressIs setting (replying ∷ past) i c.progress) (sym now) claim
           go (inl waits) (inr off) =
               let now : (Stands setting (replying ∷ past) q).course ≡ course =
               (ap (λ (r : Request). r.course) (opened waits) ∙ ap (λ x. course_after x course) (cond-false (completes setting past i j) _ _ off) ∙ by_keeps _ course) in
-              subst (λ (c : Course). StandingIs setting (replying ∷ past) i c.standing) (sym now) (stays off course.standing before.standing)
+              subst (λ (c : Course). ProgressIs setting (replying ∷ past) i c.progress) (sym now) (stays off course.progress before.progress)
 
       holds_here : Holds setting (replying ∷ past) i q
       holds_here =
-          hit replying past i q (packet_at (way_to setting q) m j) (Some j) owed before opened shut
+          hit replying past i q (packet_at (way_to setting q) m j) (Some j) expected before opened shut
           (cond-true (i == i && nat_lt j (part_count setting (world setting past) i)) _ _ (and_from (i == i) _ (eq-eqb i i refl) (lt-ltb j (part_count setting (world setting past) i) l)))
           (ap (λ x. packet_at (way_to setting q) x j) (sym same_reply))
           (subst (λ x. j < piece_count x) (sym same_reply) l, still_below setting replying past i before.below)
-          standing
+          progress
           (λ _. (place.0, arrived_stays setting replying past i place.0 place.1))
 
       holds_reply_to : AllHold (replying ∷ past)
       holds_reply_to =
-          holds_handed lower past h timely sound replying moment i q is (own bytes handed_over) m j bytes sent now_is owed is_own brings
+          holds_handed lower past h timely sound replying moment i q is (own bytes handed_over) m j bytes sent now_is expected is_own brings
           (λ k ne. cond-false (i == k && nat_lt j (part_count setting (world setting past) k)) _ _ (and_left (i == k) _ (ne_eqb i k (λ e. ne (sym e)))))
           (λ k ne. ap (λ b. b || taken setting past k) (and_left (i == k) _ (ne_eqb i k (λ e. ne (sym e)))))
           holds_here
@@ -380,7 +380,7 @@ module _ {S : Type 0} (setting : Setting S) where
           (cond-true (i == i && was_busy S setting.keep (Log past) i) _ _ (and_from (i == i) _ (eq-eqb i i refl) busy))
           refl
           (still_below setting busying past i before.below)
-          (subst (λ (c : Course). StandingIs setting (busying ∷ past) i c.standing) (sym same_course) (claim_moves setting busying past i (Stands setting past q).course.standing refl before.arrived before.standing))
+          (subst (λ (c : Course). ProgressIs setting (busying ∷ past) i c.progress) (sym same_course) (claim_moves setting busying past i (Stands setting past q).course.progress refl before.arrived before.progress))
           (λ t. let x = before.arrived t in (x.0, arrived_stays setting busying past i x.0 x.1))
 
       holds_busy_to : AllHold (busying ∷ past)

@@ -115,11 +115,11 @@ answer_of_got Part own e = absurd (cc)
 answer_of_got (Answer number message) own e = let same : number ≡ own = cc in (message, ap (λ n. Answer n message) same)
 
 -- what is held after an answer to this request
-pub standing_after : (held new : Held) (moment : ℕ) (bytes : List ℕ) (own : ℕ) (message : List ℕ) → IsHeld new (received_held held moment bytes) → arrived_by held (passed held bytes) ≡ Answer own message
-    → option_map (λ (memo : Memo). memo.course.standing) (new.remembered own) ≡ Some (courses.Answered message)
-standing_after held new moment bytes own message h e =
+pub progress_left : (held new : Held) (moment : ℕ) (bytes : List ℕ) (own : ℕ) (message : List ℕ) → IsHeld new (received_held held moment bytes) → arrived_by held (passed held bytes) ≡ Answer own message
+    → option_map (λ (memo : Memo). memo.course.progress) (new.remembered own) ≡ Some (courses.Answered message)
+progress_left held new moment bytes own message h e =
     let memo = answer_remembered held (passed held bytes) own message e in
-    ap (option_map (λ (m : Memo). m.course.standing))
+    ap (option_map (λ (m : Memo). m.course.progress))
     (h.remembered own ∙ ap (λ arrival. remembered_after held arrival own) e ∙ cond-true (own == own) _ _ (eq-eqb own own refl) ∙ ap (option_map (with_course (courses.answered message))) memo.1)
 
 pub own_below : (count : ℕ) (slots : List Memo) (own : ℕ) (memo : Memo) → remembered_in count slots own ≡ Some memo → own < count
@@ -157,5 +157,5 @@ one_told numbers Part own a e number message = absurd (cc)
 one_told numbers (Answer n m) own a e number message =
     let same : n ≡ own = cc in (a, refl, number ∙ ap (slice_index numbers) (sym same), message m (ap (λ k. Answer k m) same))
 
-pub same_answer : (standing : Option courses.Standing) (a b : List ℕ) → standing ≡ Some (courses.Answered a) → standing ≡ Some (courses.Answered b) → a ≡ b
-same_answer standing a b e f = let both : ◌≡◌ {A = Option courses.Standing} (Some (courses.Answered a)) (Some (courses.Answered b)) = sym e ∙ f in cc
+pub same_answer : (progress : Option courses.Progress) (a b : List ℕ) → progress ≡ Some (courses.Answered a) → progress ≡ Some (courses.Answered b) → a ≡ b
+same_answer progress a b e f = let both : ◌≡◌ {A = Option courses.Progress} (Some (courses.Answered a)) (Some (courses.Answered b)) = sym e ∙ f in cc

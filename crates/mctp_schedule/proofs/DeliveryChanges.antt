@@ -22,7 +22,7 @@ use Rattle.pldm_responder.specs.Events.{is_busy}
 use Rattle.pldm_responder.specs.Performing.{Rules, answered}
 use Rattle.pldm_requester.specs.Numbering.{route_of}
 use Rattle.mctp_schedule.specs.Askers.{packet_bytes}
-use Rattle.mctp_schedule.specs.FirstArrivals.{arrives, is_owed_busy}
+use Rattle.mctp_schedule.specs.FirstArrivals.{arrives, is_answered_busy}
 use Rattle.mctp_schedule.specs.Logs.{Asked, Happening, Delivered, asked_at, message_at, told}
 use Rattle.mctp_schedule.specs.OncePerformed.{answered_to, given, was_busy}
 
@@ -55,27 +55,27 @@ module _ {S : Type 0} (device : Rules S) (keep : ℕ) (start : S) (past : List H
       ∙ ap (λ o. Some (answered_to device keep start moment past o)) is
 
   -- and which busy answers
-  abbrev owed : ℕ → Bool
-  owed k = is_owed_busy (asked_at past k) busy
+  abbrev expected : ℕ → Bool
+  expected k = is_answered_busy (asked_at past k) busy
 
   pub busy_other : (k : ℕ) → (n ≡ k → ⊥) → was_busy S keep log k ≡ was_busy S keep past k
-  busy_other k other = ap (λ b. b || was_busy S keep past k) (and_left (n == k) (owed k) (ne_eqb n k other))
+  busy_other k other = ap (λ b. b || was_busy S keep past k) (and_left (n == k) (expected k) (ne_eqb n k other))
 
   pub busy_none : asked_at past n ≡ None → (k : ℕ) → was_busy S keep log k ≡ was_busy S keep past k
   busy_none none k = go (cases_eq n k)
     where
       go : (n ≡ k) ⊎ (n ≡ k → ⊥) → was_busy S keep log k ≡ was_busy S keep past k
       go (inl same) =
-          ap (λ b. b || was_busy S keep past k) (and_right (n == k) (owed k) (ap (λ o. is_owed_busy o busy) (sym (ap (asked_at past) same) ∙ none)))
+          ap (λ b. b || was_busy S keep past k) (and_right (n == k) (expected k) (ap (λ o. is_answered_busy o busy) (sym (ap (asked_at past) same) ∙ none)))
       go (inr other) = busy_other k other
 
   pub busy_here : (r : Asked) → asked_at past n ≡ Some r → busy ≡ true → was_busy S keep log n ≡ true
   busy_here r is on =
-      ap (λ b. b || was_busy S keep past n) (and_from (n == n) (owed n) (eq-eqb n n refl) (ap (λ o. is_owed_busy o busy) is ∙ on))
+      ap (λ b. b || was_busy S keep past n) (and_from (n == n) (expected n) (eq-eqb n n refl) (ap (λ o. is_answered_busy o busy) is ∙ on))
 
   pub busy_served : (r : Asked) → asked_at past n ≡ Some r → busy ≡ false → was_busy S keep log n ≡ was_busy S keep past n
   busy_served r is off =
-      ap (λ b. b || was_busy S keep past n) (and_right (n == n) (owed n) (ap (λ o. is_owed_busy o busy) is ∙ off))
+      ap (λ b. b || was_busy S keep past n) (and_right (n == n) (expected n) (ap (λ o. is_answered_busy o busy) is ∙ off))
 
 -- ---- the packet of a request, which has both SOM and EOM, is a whole message after any others
 abbrev pub packet_for : ℕ → Asked → Packet

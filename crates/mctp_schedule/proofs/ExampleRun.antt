@@ -23,7 +23,7 @@ use Rattle.mctp_schedule.specs.Taken.{is_waiting, replies, taken}
 use Rattle.mctp_schedule.specs.Worlds.{Setting, is_timely, requests_of, world}
 use Rattle.schedule_text.specs.declared.step.Action.TheVariants.{Open, Tick, Request, Reply, Sense, Restart, Busy}
 use Rattle.schedule_text.specs.declared.step.Step.{Step}
-use Rattle.mctp_schedule.proofs.DeliveriesOwed.{state_is_once}
+use Rattle.mctp_schedule.proofs.DeliveriesExpected.{state_is_once}
 use Rattle.mctp_schedule.proofs.ExampleDevice.{at, set_to, with_tries, with_values}
 use Rattle.mctp_schedule.proofs.SourcesOfRequests.{each_known_opens_at, sources_of}
 use Rattle.mctp_schedule.proofs.PremiseTests.{all_fit, all_known, all_read, apart, are_requests, each_is_known, goes_on, in_order, in_time, is_schedule, never_went_back, replies_fit, timely_log}
@@ -92,7 +92,7 @@ all_but_the_lost_one : map (taken setting steps) (range_with_len 0 37) ≡ repli
 unfolding request_of command_of response_of
 all_but_the_lost_one = refl
 
-lost_one_is_given_up : ((requests_of setting (world setting steps) 10).each 3).course.standing ≡ GaveUp
+lost_one_is_given_up : ((requests_of setting (world setting steps) 10).each 3).course.progress ≡ GaveUp
 unfolding request_of command_of response_of
 lost_one_is_given_up = refl
 
@@ -106,7 +106,7 @@ unfolding request_of command_of response_of
 these_came = refl
 
 -- the request with the instance ID of the first one is answered
-answered_again : ((requests_of setting (world setting steps) 8).each 32).course.standing ≡ Answered (0x01 ∷ 0x00 ∷ 0x02 ∷ 0x31 ∷ 0x00 ∷ [])
+answered_again : ((requests_of setting (world setting steps) 8).each 32).course.progress ≡ Answered (0x01 ∷ 0x00 ∷ 0x02 ∷ 0x31 ∷ 0x00 ∷ [])
 unfolding request_of command_of response_of
 answered_again = refl
 

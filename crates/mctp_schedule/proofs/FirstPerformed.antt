@@ -132,15 +132,15 @@ module _ {S : Type 0} (device : Rules S) (keep : ℕ) (start : S) where
   Kept log h k r = (p : Place S) × (origin keep h r.source (id_at r.message) ≡ Some p) × (p.message.bytes ≡ r.message) × (r.opening ≤ p.message.moment) × (reply_at device keep start p ≡ reply_from device keep start r.message (first S keep log k))
 
   -- or no copy of it can come any more, or the responder is busy as long as one can
-  abbrev Standing : List Happening → List (Event S) → ℕ → Asked → Type 0
-  Standing log h k r = Kept log h k r ⊎ ((r.opening + keep ≤ last_of log) ⊎ (r.opening + keep ≤ busy_until keep h))
+  abbrev Progress : List Happening → List (Event S) → ℕ → Asked → Type 0
+  Progress log h k r = Kept log h k r ⊎ ((r.opening + keep ≤ last_of log) ⊎ (r.opening + keep ≤ busy_until keep h))
 
   abbrev Owner : List Happening → ℕ → ℕ → Place S → Type 0
   Owner log source id p = (k : ℕ) × (r : Asked) × (place : List Happening) × (asked_at log k ≡ Some r) × (r.source ≡ source) × (id_at r.message ≡ id) × (first S keep log k ≡ Some place) × (p.message.moment < r.opening + keep)
 
   pub record Inv (log : List Happening) (h : List (Event S)) : Type 0 where
     pub same : performed device keep start h ≡ once device keep start log
-    pub known : (k : ℕ) (r : Asked) (place : List Happening) → asked_at log k ≡ Some r → first S keep log k ≡ Some place → Standing log h k r
+    pub known : (k : ℕ) (r : Asked) (place : List Happening) → asked_at log k ≡ Some r → first S keep log k ≡ Some place → Progress log h k r
     pub owned : (source id : ℕ) (p : Place S) → origin keep h source id ≡ Some p → Owner log source id p
 
   -- nothing new is performed
@@ -153,7 +153,7 @@ module _ {S : Type 0} (device : Rules S) (keep : ℕ) (start : S) where
         (w.0, w.1, w.2, w.3, w.4, w.5, firsts w.0 ∙ w.6, w.7);
   }
     where
-      moves : (j : ℕ) (q : Asked) → Standing past (told {S = S} past) j q → Standing (Delivered t k ∷ past) (Came m ∷ told {S = S} past) j q
+      moves : (j : ℕ) (q : Asked) → Progress past (told {S = S} past) j q → Progress (Delivered t k ∷ past) (Came m ∷ told {S = S} past) j q
       moves j q (inl x) = inl (x.0, origin_stays keep (told {S = S} past) m old q.source (id_at q.message) ∙ x.1, x.2, x.3, x.4 ∙ ap (reply_from device keep start q.message) (sym (firsts j)))
       moves j q (inr (inl x)) = inr (inl (omega arith))
       moves j q (inr (inr x)) = inr (inr x)
@@ -175,7 +175,7 @@ module _ {S : Type 0} (device : Rules S) (keep : ℕ) (start : S) where
       opened : (j : ℕ) (q : Asked) → asked_at past j ≡ Some q → q.opening ≤ t
       opened j q x = let i = opened_before past order j q x in omega arith
 
-      moves : (j : ℕ) (q : Asked) → k ≢ j → asked_at past j ≡ Some q → Standing past (told {S = S} past) j q → (is_of m q.source (id_at q.message) ≡ true) ⊎ (is_of m q.source (id_at q.message) ≡ false) → Standing (Delivered t k ∷ past) (Came m ∷ told {S = S} past) j q
+      moves : (j : ℕ) (q : Asked) → k ≢ j → asked_at past j ≡ Some q → Progress past (told {S = S} past) j q → (is_of m q.source (id_at q.message) ≡ true) ⊎ (is_of m q.source (id_at q.message) ≡ false) → Progress (Delivered t k ∷ past) (Came m ∷ told {S = S} past) j q
       moves j q ne e' (inr (inl x)) b = inr (inl (omega arith))
       moves j q ne e' (inr (inr x)) b = inr (inr x)
       moves j q ne e' (inl x) (inr other) = inl (x.0, origin_other keep (told {S = S} past) m q.source (id_at q.message) other ∙ x.1, x.2, x.3, x.4 ∙ ap (reply_from device keep start q.message) (sym (first_other S keep past t k j ne)))
@@ -188,7 +188,7 @@ module _ {S : Type 0} (device : Rules S) (keep : ℕ) (start : S) where
           (λ (y : r.opening + 2 * keep ≤ q.opening). absurd (omega arith))
           far
 
-      own : (j : ℕ) (q : Asked) → k ≡ j → r ≡ q → Standing (Delivered t k ∷ past) (Came m ∷ told {S = S} past) j q
+      own : (j : ℕ) (q : Asked) → k ≡ j → r ≡ q → Progress (Delivered t k ∷ past) (Came m ∷ told {S = S} past) j q
       own j q is same =
           inl (subst (λ (x : ℕ × Asked). Kept (Delivered t k ∷ past) (Came m ∷ told {S = S} past) x.0 x.1) (λ i. (is i, same i)) (
             record { before = told {S = S} past; message = m },
@@ -198,7 +198,7 @@ module _ {S : Type 0} (device : Rules S) (keep : ℕ) (start : S) where
             ap (λ s. reply device s r.message) inv.same ∙ ap (reply_from device keep start r.message) (sym here),
           ))
 
-      known_case : (j : ℕ) (q : Asked) (place : List Happening) → asked_at past j ≡ Some q → first S keep (Delivered t k ∷ past) j ≡ Some place → (k ≡ j) ⊎ (k ≡ j → ⊥) → Standing (Delivered t k ∷ past) (Came m ∷ told {S = S} past) j q
+      known_case : (j : ℕ) (q : Asked) (place : List Happening) → asked_at past j ≡ Some q → first S keep (Delivered t k ∷ past) j ≡ Some place → (k ≡ j) ⊎ (k ≡ j → ⊥) → Progress (Delivered t k ∷ past) (Came m ∷ told {S = S} past) j q
       known_case j q place e' f (inl is) = own j q is (let x : Some r ≡ Some q = sym e ∙ ap (asked_at past) is ∙ e' in cc)
       known_case j q place e' f (inr ne) = moves j q ne e' (inv.known j q place e' (sym (first_other S keep past t k j ne) ∙ f)) (cases_Bool (is_of m q.source (id_at q.message)))
 
@@ -216,7 +216,7 @@ module _ {S : Type 0} (device : Rules S) (keep : ℕ) (start : S) where
   pub copies : (past : List Happening) (t k : ℕ) (r : Asked) (place : List Happening) → Inv past (told {S = S} past) → last_of past ≤ t → t < r.opening + keep → asked_at past k ≡ Some r → is_busy keep (told {S = S} past) t ≡ false → first S keep past k ≡ Some place → (p : Place S) × (origin keep (told {S = S} past) r.source (id_at r.message) ≡ Some p) × (is_copy_of keep (message_at t r) (Some p) ≡ true) × (reply_at device keep start p ≡ reply_from device keep start r.message (first S keep past k))
   copies past t k r place inv later soon e idle came = go (inv.known k r place e came)
     where
-      go : Standing past (told {S = S} past) k r → (p : Place S) × (origin keep (told {S = S} past) r.source (id_at r.message) ≡ Some p) × (is_copy_of keep (message_at t r) (Some p) ≡ true) × (reply_at device keep start p ≡ reply_from device keep start r.message (first S keep past k))
+      go : Progress past (told {S = S} past) k r → (p : Place S) × (origin keep (told {S = S} past) r.source (id_at r.message) ≡ Some p) × (is_copy_of keep (message_at t r) (Some p) ≡ true) × (reply_at device keep start p ≡ reply_from device keep start r.message (first S keep past k))
       go (inl x) = (x.0, x.1, copy_of keep (message_at t r) x.0 (sym x.2) (let b = x.3 in omega arith), x.4)
       go (inr (inl x)) = absurd (omega arith)
       go (inr (inr x)) = let served = ltb-false t (busy_until keep (told {S = S} past)) idle in absurd (omega arith)
@@ -247,7 +247,7 @@ module _ {S : Type 0} (device : Rules S) (keep : ℕ) (start : S) where
       firsts : (j : ℕ) → first S keep (Delivered t k ∷ past) j ≡ first S keep past j
       firsts j = first_none S keep past t k j e
 
-      moves : (j : ℕ) (q : Asked) → Standing past (told {S = S} past) j q → Standing (Delivered t k ∷ past) (told {S = S} past) j q
+      moves : (j : ℕ) (q : Asked) → Progress past (told {S = S} past) j q → Progress (Delivered t k ∷ past) (told {S = S} past) j q
       moves j q (inl x) = inl (x.0, x.1, x.2, x.3, x.4 ∙ ap (reply_from device keep start q.message) (sym (firsts j)))
       moves j q (inr (inl x)) = inr (inl (omega arith))
       moves j q (inr (inr x)) = inr (inr x)

@@ -5,8 +5,8 @@ use Rattle.std.specs.List.{list_any}
 use Rattle.std.proofs.lemmas.Bool.{cases_eq, ne_eqb}
 use Rattle.std.proofs.lemmas.List.Folds.{list_any_at, list_any_more}
 use Rattle.pldm_requester.specs.Courses.{GaveUp}
-use Rattle.mctp_schedule.specs.Journals.{stands_after}
-use Rattle.mctp_schedule.specs.Requests.{Request, with_standing}
+use Rattle.mctp_schedule.specs.Journals.{progress_after}
+use Rattle.mctp_schedule.specs.Requests.{Request, with_progress}
 use Rattle.mctp_schedule.proofs.ListPlaces.{get_set_at, get_set_other}
 
 -- a number of the list is below a bound of all of them
@@ -17,16 +17,16 @@ number_below numbers bound i h within =
 
 module _ (numbers : List ℕ) (old : List Request) where
   abbrev Given : ℕ → List Request → Type 0
-  Given i now = (k : ℕ) → slice_get now k ≡ option_map (stands_after (take i numbers) k) (slice_get old k)
+  Given i now = (k : ℕ) → slice_get now k ≡ option_map (progress_after (take i numbers) k) (slice_get old k)
 
   -- a request that is given up is so, whatever it was
-  twice : (b : Bool) (was : Option Request) (r : Request) → Some r ≡ option_map (λ q. if b then with_standing GaveUp q else q) was → Some (with_standing GaveUp r) ≡ option_map (with_standing GaveUp) was
+  twice : (b : Bool) (was : Option Request) (r : Request) → Some r ≡ option_map (λ q. if b then with_progress GaveUp q else q) was → Some (with_progress GaveUp r) ≡ option_map (with_progress GaveUp) was
   twice b None r e = absurd (cc)
-  twice true (Some q) r e = let same : r ≡ with_standing GaveUp q = cc in ap (λ x. Some (with_standing GaveUp x)) same
-  twice false (Some q) r e = let same : r ≡ q = cc in ap (λ x. Some (with_standing GaveUp x)) same
+  twice true (Some q) r e = let same : r ≡ with_progress GaveUp q = cc in ap (λ x. Some (with_progress GaveUp x)) same
+  twice false (Some q) r e = let same : r ≡ q = cc in ap (λ x. Some (with_progress GaveUp x)) same
 
   pub one_more : (i : ℕ) (now : List Request) (r new : Request) → i < length numbers → Given i now → slice_index_or numbers i 0 < length now
-      → slice_get now (slice_index_or numbers i 0) ≡ Some r → new ≡ with_standing GaveUp r → Given (i + 1) (slice_set now (slice_index_or numbers i 0) new)
+      → slice_get now (slice_index_or numbers i 0) ≡ Some r → new ≡ with_progress GaveUp r → Given (i + 1) (slice_set now (slice_index_or numbers i 0) new)
   one_more i now r new within given below here is k = go (cases_eq k n)
     where
       n : ℕ
@@ -43,13 +43,13 @@ module _ (numbers : List ℕ) (old : List Request) where
       or_false true = refl
       or_false false = refl
 
-      stands : (b : Bool) → list_any (λ m. m == k) (take (i + 1) numbers) ≡ b → option_map (λ q. if b then with_standing GaveUp q else q) (slice_get old k) ≡ option_map (stands_after (take (i + 1) numbers) k) (slice_get old k)
-      stands b t = ap (λ c. option_map (λ (q : Request). if c then with_standing GaveUp q else q) (slice_get old k)) (sym t)
+      stands : (b : Bool) → list_any (λ m. m == k) (take (i + 1) numbers) ≡ b → option_map (λ q. if b then with_progress GaveUp q else q) (slice_get old k) ≡ option_map (progress_after (take (i + 1) numbers) k) (slice_get old k)
+      stands b t = ap (λ c. option_map (λ (q : Request). if c then with_progress GaveUp q else q) (slice_get old k)) (sym t)
 
-      go : (k ≡ n) ⊎ (k ≡ n → ⊥) → slice_get (slice_set now n new) k ≡ option_map (stands_after (take (i + 1) numbers) k) (slice_get old k)
+      go : (k ≡ n) ⊎ (k ≡ n → ⊥) → slice_get (slice_set now n new) k ≡ option_map (progress_after (take (i + 1) numbers) k) (slice_get old k)
       go (inl same) =
-          let was : Some r ≡ option_map (stands_after (take i numbers) k) (slice_get old k) = sym here ∙ ap (slice_get now) (sym same) ∙ given k in
-          let here_now : Some (with_standing GaveUp r) ≡ option_map (with_standing GaveUp) (slice_get old k) = twice (list_any (λ m. m == k) (take i numbers)) (slice_get old k) r was in
+          let was : Some r ≡ option_map (progress_after (take i numbers) k) (slice_get old k) = sym here ∙ ap (slice_get now) (sym same) ∙ given k in
+          let here_now : Some (with_progress GaveUp r) ≡ option_map (with_progress GaveUp) (slice_get old k) = twice (list_any (λ m. m == k) (take i numbers)) (slice_get old k) r was in
           let all : list_any (λ m. m == k) (take (i + 1) numbers) ≡ true = more true (eq-eqb n k (sym same)) ∙ or_true (list_any (λ m. m == k) (take i numbers)) in
           ap (slice_get (slice_set now n new)) same ∙ get_set_at now n new below ∙ ap Some is ∙ here_now ∙ stands true all
       go (inr other) =

@@ -6,14 +6,14 @@ use Rattle.pldm_responder.specs.Events.{is_busy}
 use Rattle.pldm_responder.specs.Performing.{performed}
 use Rattle.pldm_responder.specs.Stations as responder_stations
 use Rattle.pldm_wire.specs.declared.command.Command.{Command}
-use Rattle.mctp_schedule.specs.DeviceHalf.{DeliveryIsOwed, FreshInOrderOfFirsts, FreshWhereFirst, StateIsOnce}
+use Rattle.mctp_schedule.specs.DeviceHalf.{DeliveryIsExpected, FreshInOrderOfFirsts, FreshWhereFirst, StateIsOnce}
 use Rattle.mctp_schedule.specs.Entries.{as_it_stands, delivery_entry, entries, entry_of, got_entry}
 use Rattle.mctp_schedule.specs.FirstArrivals.{order}
-use Rattle.mctp_schedule.specs.Headline.{Headline, delivery_owes, entries_owed, entry_owes}
+use Rattle.mctp_schedule.specs.Headline.{Headline, delivery_owes, entries_expected, entry_owes}
 use Rattle.mctp_schedule.specs.HeldRuns.{HeldRun}
 use Rattle.mctp_schedule.specs.Laws.{LogIsTimely, TimelyIsTested}
 use Rattle.mctp_schedule.specs.Logs.{Asked, IsTimelyLog, asked_at, told}
-use Rattle.mctp_schedule.specs.RequesterHalf.{AnsweredWasPerformed, AnsweredWhereTaken, BusyIsOwed, IsSound, IsTimelySchedule, ReplyIsOwed}
+use Rattle.mctp_schedule.specs.RequesterHalf.{AnsweredWasPerformed, AnsweredWhereTaken, BusyIsExpected, IsSound, IsTimelySchedule, ReplyIsExpected}
 use Rattle.mctp_schedule.specs.PerformedCommands.{commands_performed}
 use Rattle.mctp_schedule.specs.Requests.{Request as EndedRequest}
 use Rattle.mctp_schedule.specs.Running.{IsRunning}
@@ -30,11 +30,11 @@ pub record Halves {S : Type 0} (setting : Setting S) : Type 0 where
   pub log : LogIsTimely setting
   pub tested : TimelyIsTested setting
   pub state : StateIsOnce setting.device
-  pub delivery : DeliveryIsOwed setting.device
+  pub delivery : DeliveryIsExpected setting.device
   pub order : FreshInOrderOfFirsts S
   pub fresh : FreshWhereFirst S
-  pub reply : ReplyIsOwed setting
-  pub busy : BusyIsOwed setting
+  pub reply : ReplyIsExpected setting
+  pub busy : BusyIsExpected setting
   pub answered : AnsweredWhereTaken setting
   pub performed : AnsweredWasPerformed setting
 
@@ -63,18 +63,18 @@ module _ {S : Type 0} (setting : Setting S) (laws : Halves setting) where
       ap (λ state. Sensed (made_of (λ _. tt) (setting.device.sensed state id value)))
       (laws.state setting.keep setting.start (world setting past).log (log_of past (before (record { moment = moment; action = actions.Sense id value }) past s)))
 
-  entries_are : (steps : List Step) → IsTimelySchedule setting steps → entries setting steps ≡ entries_owed setting steps
+  entries_are : (steps : List Step) → IsTimelySchedule setting steps → entries setting steps ≡ entries_expected setting steps
   entries_are [] s = refl
   entries_are (step ∷ past) s =
       ap (λ es. es ++ entry_of setting (world setting past) step.moment step.action ∷ []) (entries_are past (before step past s))
-      ∙ ap (λ x. entries_owed setting past ++ x ∷ []) (entry_is past step.moment step.action s)
+      ∙ ap (λ x. entries_expected setting past ++ x ∷ []) (entry_is past step.moment step.action s)
 
   pub headline_holds : (Performed : List Command → Type 0) (steps : List Step) (requests : List EndedRequest) → Performed (commands_performed S setting.keep (world setting steps).log) → IsTimelySchedule setting steps → ((k : ℕ) → slice_get requests k ≡ option_map (as_it_stands setting (world setting steps)) (asked_at (world setting steps).log k))
       → Headline setting steps (entries setting steps) requests (order S setting.keep (world setting steps).log) (performed setting.device setting.keep setting.start (told (world setting steps).log)) Performed
   headline_holds Performed steps requests given s each = record {
     each_step = entries_are steps s;
     each_request = λ k r is. record {
-      standing = (as_it_stands setting (world setting steps) r).standing;
+      progress = (as_it_stands setting (world setting steps) r).progress;
       told = each k ∙ ap (option_map (as_it_stands setting (world setting steps))) is;
       stands = laws.answered steps k r s is;
       performed = λ message e. laws.performed steps k r message s is e;

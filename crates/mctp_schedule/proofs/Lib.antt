@@ -10,7 +10,7 @@ pub mod AnsweredWhereTaken
 pub mod AskerCalls
 pub mod BegunRequesters
 pub mod CommandsPerformed
-pub mod DeliveriesOwed
+pub mod DeliveriesExpected
 pub mod DeliveryChanges
 pub mod ExampleDevice
 pub mod ExampleRun

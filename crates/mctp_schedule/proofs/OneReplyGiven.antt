@@ -5,7 +5,7 @@ use Rattle.std.proofs.lemmas.Bool.{and_parts, and_right, not-true, cases_Bool, c
 use Rattle.pldm_responder.specs.Events.{is_busy}
 use Rattle.pldm_responder.specs.Performing.{Rules}
 use Rattle.mctp_schedule.specs.Logs.{Asked, Happening, Opened, Delivered, Sensed, WentDown, count_of, asked_at, told, InOrder, Apart, InTime}
-use Rattle.mctp_schedule.specs.FirstArrivals.{arrives, earlier, first, is_owed_busy}
+use Rattle.mctp_schedule.specs.FirstArrivals.{arrives, earlier, first, is_answered_busy}
 use Rattle.mctp_schedule.specs.OncePerformed.{bytes_of, reply_from, the_reply, answered_to, given, given_once, was_busy}
 use Rattle.mctp_schedule.proofs.FirstPerformed.{request_older, first_below, first_here, first_stays, entry}
 
@@ -117,5 +117,5 @@ module _ {S : Type 0} (device : Rules S) (keep : ℕ) (start : S) where
       go false e = e
   busy_opened (Delivered moment i ∷ past) k off =
       ap (λ b. b || was_busy S keep past k)
-      (and_right (i == k) _ (ap (λ o. is_owed_busy o (is_busy keep (told {S = S} past) moment)) off))
+      (and_right (i == k) _ (ap (λ o. is_answered_busy o (is_busy keep (told {S = S} past) moment)) off))
       ∙ busy_opened past k off

@@ -12,7 +12,7 @@ use Rattle.mctp_assembly.specs.declared.fed.Fed.TheVariants.{Whole, Partial, Dro
 use Rattle.pldm_responder.specs.Performing.{busy_reply}
 use Rattle.pldm_requester.specs.Arrivals.{Arrival, Answer, fed_arrival, got_of}
 use Rattle.pldm_requester.specs.Calls.{Call, is_from_device}
-use Rattle.pldm_requester.specs.Courses.{Standing, Answered}
+use Rattle.pldm_requester.specs.Courses.{Progress, Answered}
 use Rattle.pldm_requester.specs.Laws.{FedSinceItsOpening}
 use Rattle.pldm_requester.specs.declared.results.Got.{Got}
 use Rattle.pldm_requester.specs.declared.results.Got.TheVariants as got
@@ -21,13 +21,13 @@ use Rattle.mctp_schedule.specs.HandedPackets.{got_from, got_of_busy, got_of_repl
 use Rattle.mctp_schedule.specs.FirstArrivals.{order}
 use Rattle.mctp_schedule.specs.Logs.{Asked, IsTimelyLog, asked_at}
 use Rattle.mctp_schedule.specs.OncePerformed.{given, was_busy}
-use Rattle.mctp_schedule.specs.RequesterHalf.{AnsweredWasPerformed, AnsweredWhereTaken, BusyIsOwed, IsTimelySchedule, OwnAssembly, OwnDeliveries, ReplyIsOwed, StandingIs, TakenOnce}
-use Rattle.mctp_schedule.specs.Taken.{brought, busy_owed, busy_owed_to, came, completes, completes_for, got_by, if_waiting, is_waiting, part_count, reply_of, reply_owed, reply_owed_to, taken, way_to}
+use Rattle.mctp_schedule.specs.RequesterHalf.{AnsweredWasPerformed, AnsweredWhereTaken, BusyIsExpected, IsTimelySchedule, OwnAssembly, OwnDeliveries, ReplyIsExpected, ProgressIs, TakenOnce}
+use Rattle.mctp_schedule.specs.Taken.{brought, busy_expected, busy_expected_to, came, completes, completes_for, got_by, if_waiting, is_waiting, part_count, reply_of, reply_expected, reply_expected_to, taken, way_to}
 use Rattle.mctp_schedule.specs.Worlds.{IsTimelyAction, Setting, TagIsOwn, World, answer_packets, busy_from, busy_packet, packet_of, reply_packet, source_of, timing_of, world}
 use Rattle.schedule_text.specs.declared.step.Action.TheVariants.{Reply, Busy}
 use Rattle.schedule_text.specs.declared.step.Step.{Step}
-use Rattle.mctp_schedule.proofs.AnswerPacketOutcomes.{Lower, arrival_by, arrival_owed, busy_brings, busy_is, busy_is_one, mine, packet_is, performed_at, reads_back, reply_brings}
-use Rattle.mctp_schedule.proofs.DeliveriesOwed.{fresh_in_order_of_firsts}
+use Rattle.mctp_schedule.proofs.AnswerPacketOutcomes.{Lower, arrival_by, arrival_expected, busy_brings, busy_is, busy_is_one, mine, packet_is, performed_at, reads_back, reply_brings}
+use Rattle.mctp_schedule.proofs.DeliveriesExpected.{fresh_in_order_of_firsts}
 use Rattle.mctp_schedule.proofs.AnswerPacketsAtRequester.{bad_tag, comes_in, packet_past, packet_there}
 use Rattle.mctp_schedule.proofs.KnownRequests.{Known, all_known}
 use Rattle.mctp_schedule.proofs.UntouchedRequests.{Stands}
@@ -65,7 +65,7 @@ module _ {S : Type 0} (setting : Setting S) (lower : Lower) where
       ∙ own_deliveries steps k r s is waits
 
   pub answered_where_taken : AnsweredWhereTaken setting
-  answered_where_taken steps k r s is = (all_of steps s k r is).standing
+  answered_where_taken steps k r s is = (all_of steps s k r is).progress
 
   pub taken_once : TakenOnce setting
   taken_once steps k j s took = go (asked_at (world setting steps).log k) refl
@@ -73,21 +73,21 @@ module _ {S : Type 0} (setting : Setting S) (lower : Lower) where
       closed : (r : Asked) → asked_at (world setting steps).log k ≡ Some r → (is_waiting setting (world setting steps) r ≡ true) ⊎ (is_waiting setting (world setting steps) r ≡ false) → is_waiting setting (world setting steps) r ≡ false
       closed r is (inr shut) = shut
       closed r is (inl opens) =
-          let still = waits_so (Stands setting steps r).course.standing opens in
-          let off : taken setting steps k ≡ false = subst (StandingIs setting steps k) still (all_of steps s k r is).standing in
+          let still = waits_so (Stands setting steps r).course.progress opens in
+          let off : taken setting steps k ≡ false = subst (ProgressIs setting steps k) still (all_of steps s k r is).progress in
           absurd (let wrong : true ≡ false = sym took ∙ off in cc)
 
       go : (o : Option Asked) → asked_at (world setting steps).log k ≡ o → completes_for setting steps k j o ≡ false
       go None e = refl
       go (Some r) e = and_right (nat_lt j (part_count setting (world setting steps) k)) _ (and_left (is_waiting setting (world setting steps) r) _ (closed r e (cases_Bool (is_waiting setting (world setting steps) r))))
 
-  taken_of : (steps : List Step) (k : ℕ) (message : List ℕ) (x : Standing) → x ≡ Answered message → StandingIs setting steps k x → (taken setting steps k ≡ true) × (message ≡ reply_of setting (world setting steps) k)
-  taken_of steps k message x e c = subst (StandingIs setting steps k) e c
+  taken_of : (steps : List Step) (k : ℕ) (message : List ℕ) (x : Progress) → x ≡ Answered message → ProgressIs setting steps k x → (taken setting steps k ≡ true) × (message ≡ reply_of setting (world setting steps) k)
+  taken_of steps k message x e c = subst (ProgressIs setting steps k) e c
 
   pub answered_was_performed : AnsweredWasPerformed setting
   answered_was_performed steps k r message s is stands =
       let h = all_of steps s k r is in
-      let took = taken_of steps k message (Stands setting steps r).course.standing stands h.standing in
+      let took = taken_of steps k message (Stands setting steps r).course.progress stands h.progress in
       let came_in = h.arrived took.0 in
       let listing = fresh_in_order_of_firsts setting.keep (world setting steps).log (log_of steps s) in
       let at = listed_at k (order S setting.keep (world setting steps).log) (listing.has k ∙ ap is_some came_in.1) in
@@ -152,7 +152,7 @@ module _ {S : Type 0} (setting : Setting S) (lower : Lower) where
 
       waiting : is_waiting setting w r ≡ true → got_from setting w r.source (Some bytes) ≡ Some (if completes setting past k j then got.Answered r.own else if_waiting setting past r assembled)
       waiting waits =
-          gives_arrival past s k r is (timely bytes handed_over) m j bytes sent (arrival_owed setting lower past (log_of past s) s.sound k r is j) waits
+          gives_arrival past s k r is (timely bytes handed_over) m j bytes sent (arrival_expected setting lower past (log_of past s) s.sound k r is j) waits
           (reply_brings setting lower past (log_of past s) s.sound k r is j l waits (all_of past s k r is).below)
           ∙ ap Some (turn (completes setting past k j) ∙ ap (λ x. if completes setting past k j then got.Answered r.own else x) (sym (cond-true (is_waiting setting w r) _ _ waits)))
         where
@@ -166,7 +166,7 @@ module _ {S : Type 0} (setting : Setting S) (lower : Lower) where
           gives_bad_tag past s k r is (timely bytes handed_over) m j bytes sent shut
           ∙ ap Some (sym (cond-false (completes setting past k j) _ _ off ∙ cond-false (is_waiting setting w r) _ _ shut))
 
-      there : got_from setting w r.source (reply_packet setting w k j) ≡ reply_owed_to setting past k j (Some r)
+      there : got_from setting w r.source (reply_packet setting w k j) ≡ reply_expected_to setting past k j (Some r)
       there =
           ap (got_from setting w r.source) handed_over
           ∙ go (cases_Bool (is_waiting setting w r))
@@ -176,26 +176,26 @@ module _ {S : Type 0} (setting : Setting S) (lower : Lower) where
           go (inl waits) = waiting waits
           go (inr shut) = not_waiting shut
 
-    past_them : (r : Asked) → asked_at w.log k ≡ Some r → part_count setting w k ≤ j → got_from setting w r.source (reply_packet setting w k j) ≡ reply_owed_to setting past k j (Some r)
+    past_them : (r : Asked) → asked_at w.log k ≡ Some r → part_count setting w k ≤ j → got_from setting w r.source (reply_packet setting w k j) ≡ reply_expected_to setting past k j (Some r)
     past_them r is l =
         ap (got_from setting w r.source) (packet_is setting lower past (log_of past s) s.sound k r is j ∙ packet_past (way_to setting r) (reply_of setting w k) j l)
         ∙ sym (cond-false (nat_lt j (part_count setting w k)) _ _ (le-ltb j (part_count setting w k) l))
 
-    owed_to : (o : Option Asked) → asked_at w.log k ≡ o → got_of_reply setting w k j ≡ reply_owed setting past k j
-    owed_to None off =
+    expected_to : (o : Option Asked) → asked_at w.log k ≡ o → got_of_reply setting w k j ≡ reply_expected setting past k j
+    expected_to None off =
         (λ i. got_from setting w (source_of (off i)) (packet_of setting (off i) (given setting.device setting.keep setting.start w.log k) j))
-        ∙ sym (ap (reply_owed_to setting past k j) off)
-    owed_to (Some r) is =
+        ∙ sym (ap (reply_expected_to setting past k j) off)
+    expected_to (Some r) is =
         ap (λ o. got_from setting w (source_of o) (reply_packet setting w k j)) is
         ∙ by_place (cases_lt j (part_count setting w k))
-        ∙ sym (ap (reply_owed_to setting past k j) is)
+        ∙ sym (ap (reply_expected_to setting past k j) is)
       where
-        by_place : (j < part_count setting w k) ⊎ (part_count setting w k ≤ j) → got_from setting w r.source (reply_packet setting w k j) ≡ reply_owed_to setting past k j (Some r)
+        by_place : (j < part_count setting w k) ⊎ (part_count setting w k ≤ j) → got_from setting w r.source (reply_packet setting w k j) ≡ reply_expected_to setting past k j (Some r)
         by_place (inl l) = there r is l
         by_place (inr l) = past_them r is l
 
-  pub reply_is_owed : ReplyIsOwed setting
-  reply_is_owed past moment k j s timely = owed_to past moment k j s timely (asked_at (world setting past).log k) refl
+  pub reply_is_expected : ReplyIsExpected setting
+  reply_is_expected past moment k j s timely = expected_to past moment k j s timely (asked_at (world setting past).log k) refl
 
   -- ---- a busy answer
   module _ (past : List Step) (moment k : ℕ) (s : IsTimelySchedule setting past) (timely : IsTimelyAction setting (world setting past) moment (Busy k)) where
@@ -224,25 +224,25 @@ module _ {S : Type 0} (setting : Setting S) (lower : Lower) where
           gives_bad_tag past s k r is (timely busy_bytes one_handed) message 0 busy_bytes one_sent shut
           ∙ ap Some (sym (cond-false (is_waiting setting now r) _ _ shut))
 
-      busy_there : got_from setting now r.source (busy_packet setting now k) ≡ busy_owed_to setting past k (Some r)
+      busy_there : got_from setting now r.source (busy_packet setting now k) ≡ busy_expected_to setting past k (Some r)
       busy_there =
           ap (got_from setting now r.source) one_handed
           ∙ gives_not_ready (cases_Bool (is_waiting setting now r))
           ∙ sym (cond-true (was_busy S setting.keep now.log k) _ _ busy)
 
-    busy_owed_of : (o : Option Asked) → asked_at now.log k ≡ o → (b : Bool) → was_busy S setting.keep now.log k ≡ b → got_of_busy setting now k ≡ busy_owed setting past k
-    busy_owed_of None off b e =
+    busy_expected_of : (o : Option Asked) → asked_at now.log k ≡ o → (b : Bool) → was_busy S setting.keep now.log k ≡ b → got_of_busy setting now k ≡ busy_expected setting past k
+    busy_expected_of None off b e =
         (λ i. got_from setting now (source_of (off i)) (busy_from setting (off i) (was_busy S setting.keep now.log k)))
-        ∙ sym (ap (busy_owed_to setting past k) off)
-    busy_owed_of (Some r) is true busy =
+        ∙ sym (ap (busy_expected_to setting past k) off)
+    busy_expected_of (Some r) is true busy =
         ap (λ o. got_from setting now (source_of o) (busy_packet setting now k)) is
         ∙ busy_there r is busy
-        ∙ sym (ap (busy_owed_to setting past k) is)
-    busy_owed_of (Some r) is false off =
+        ∙ sym (ap (busy_expected_to setting past k) is)
+    busy_expected_of (Some r) is false off =
         (λ i. got_from setting now (source_of (is i)) (busy_from setting (is i) (off i)))
         ∙ sym (cond-false (was_busy S setting.keep now.log k) _ _ off)
-        ∙ sym (ap (busy_owed_to setting past k) is)
+        ∙ sym (ap (busy_expected_to setting past k) is)
 
-  pub busy_is_owed : BusyIsOwed setting
-  busy_is_owed past moment k s timely =
-      busy_owed_of past moment k s timely (asked_at (world setting past).log k) refl (was_busy S setting.keep (world setting past).log k) refl
+  pub busy_is_expected : BusyIsExpected setting
+  busy_is_expected past moment k s timely =
+      busy_expected_of past moment k s timely (asked_at (world setting past).log k) refl (was_busy S setting.keep (world setting past).log k) refl

@@ -8,7 +8,7 @@ use Rattle.mctp_packet.specs.declared.TheConstants.{TAGS}
 use Rattle.pldm_wire.specs.declared.command.Command.{Command}
 use Rattle.pldm_requester.specs.Arrivals.{Arrival}
 use Rattle.pldm_requester.specs.Calls.{Call, Open, Tick, Receive, Request, Requests, accepts, after_call, arrived, is_from_device, is_open_at, new_request, opened, requests}
-use Rattle.pldm_requester.specs.Courses.{Course, Standing, Waiting, Answered, GaveUp, given_up, is_given_up, is_open, is_over, is_sent_again, is_waiting as waits, sent_again, ticked}
+use Rattle.pldm_requester.specs.Courses.{Course, Progress, Waiting, Answered, GaveUp, given_up, is_given_up, is_open, is_over, is_sent_again, is_waiting as waits, sent_again, ticked}
 use Rattle.pldm_requester.specs.Laws.{FoundOnItsTag}
 use Rattle.pldm_requester.specs.Numbering.{tag_of}
 use Rattle.pldm_requester.specs.declared.timing.Timing.{Timing}
@@ -18,7 +18,7 @@ use Rattle.mctp_schedule.proofs.AnswerPacketsAtRequester.{IsOf, Moved, nothing_m
 use Rattle.mctp_schedule.proofs.KnownRequests.{Known}
 use Rattle.mctp_schedule.proofs.UntouchedRequests.{Kept, same_kept}
 
-pub waits_so : (x : Standing) → waits x ≡ true → x ≡ Waiting
+pub waits_so : (x : Progress) → waits x ≡ true → x ≡ Waiting
 waits_so Waiting e = refl
 waits_so (Answered message) e = cc
 waits_so GaveUp e = cc
@@ -31,13 +31,13 @@ ticked_kept timing moment x y fed course = go (is_given_up timing moment x.cours
     go true up c e =
         let opens = (and_parts (is_open x.course) (is_over timing moment x.course) up).0 in
         let now : y.course ≡ given_up x.course = course ∙ cond-true (is_given_up timing moment x.course) _ _ up in
-        record { fed = fed; standing = inr (waits_so x.course.standing opens, ap (λ (c : Course). c.standing) now) }
+        record { fed = fed; progress = inr (waits_so x.course.progress opens, ap (λ (c : Course). c.progress) now) }
     go false stays true again =
         let now : y.course ≡ sent_again moment x.course = course ∙ cond-false (is_given_up timing moment x.course) _ _ stays ∙ cond-true (is_sent_again timing moment x.course) _ _ again in
-        record { fed = fed; standing = inl (ap (λ (c : Course). c.standing) now) }
+        record { fed = fed; progress = inl (ap (λ (c : Course). c.progress) now) }
     go false stays false e =
         let now : y.course ≡ x.course = course ∙ cond-false (is_given_up timing moment x.course) _ _ stays ∙ cond-false (is_sent_again timing moment x.course) _ _ e in
-        record { fed = fed; standing = inl (ap (λ (c : Course). c.standing) now) }
+        record { fed = fed; progress = inl (ap (λ (c : Course). c.progress) now) }
 
 module _ {S : Type 0} (setting : Setting S) (w : World) (log : List Happening) where
   abbrev at : ℕ → List Call → Requests

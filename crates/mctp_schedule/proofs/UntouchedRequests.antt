@@ -1,15 +1,15 @@
--- What is told of a request stays over a step that brings it nothing: its one reply, the packets that came, and its standing.
+-- What is told of a request stays over a step that brings it nothing: its one reply, the packets that came, and its progress.
 use Rattle.std.proofs.Common.{◌≡◌, ◌⊎◌, ℕ, List, [], ◌∷◌, map, Option, Some, None, Bool, true, false, refl, sym, ap, ◌∙◌, subst, inl, inr, arith}
 use Rattle.std.specs.Prelude.{◌&&◌, ◌==◌, nat_lt, if◌then◌else◌}
 use Rattle.std.proofs.lemmas.Bool.{and_right, or_from, le-ltb, cond-false}
 use Rattle.mctp_packet.specs.Pieces.{piece_count}
 use Rattle.pldm_responder.specs.Events.{is_busy}
 use Rattle.pldm_requester.specs.Calls.{Request}
-use Rattle.pldm_requester.specs.Courses.{Standing, Waiting, Answered, GaveUp, is_open, is_waiting as waits}
+use Rattle.pldm_requester.specs.Courses.{Progress, Waiting, Answered, GaveUp, is_open, is_waiting as waits}
 use Rattle.mctp_schedule.specs.Logs.{Asked, Happening, Opened, Delivered, Sensed, WentDown, asked_at, count_of, told}
 use Rattle.mctp_schedule.specs.FirstArrivals.{arrives, earlier, first}
 use Rattle.mctp_schedule.specs.OncePerformed.{bytes_of, given_once, reply_from, the_reply, was_busy}
-use Rattle.mctp_schedule.specs.RequesterHalf.{StandingIs}
+use Rattle.mctp_schedule.specs.RequesterHalf.{ProgressIs}
 use Rattle.mctp_schedule.specs.Taken.{brought, came, completes_for, is_waiting, part_count, replies, reply_of, taken, takes, with_delivery}
 use Rattle.mctp_schedule.specs.Worlds.{Setting, World, requests_of, world}
 use Rattle.schedule_text.specs.declared.step.Action.{Action}
@@ -52,16 +52,16 @@ module _ (S : Type 0) where
 -- ---- one request stays as it was, or is given up
 pub record Kept (x y : Request) : Type 0 where
   pub fed : y.fed ≡ x.fed
-  pub standing :
-      (y.course.standing ≡ x.course.standing) ⊎ ((x.course.standing ≡ Waiting) × (y.course.standing ≡ GaveUp))
+  pub progress :
+      (y.course.progress ≡ x.course.progress) ⊎ ((x.course.progress ≡ Waiting) × (y.course.progress ≡ GaveUp))
 
 pub same_kept : (x y : Request) → y ≡ x → Kept x y
-same_kept x y same = record { fed = ap (λ (r : Request). r.fed) same; standing = inl (ap (λ (r : Request). r.course.standing) same) }
+same_kept x y same = record { fed = ap (λ (r : Request). r.fed) same; progress = inl (ap (λ (r : Request). r.course.progress) same) }
 
 kept_opens : (x y : Request) → Kept x y → is_open y.course ≡ true → is_open x.course ≡ true
-kept_opens x y kept opens = go kept.standing
+kept_opens x y kept opens = go kept.progress
   where
-    go : ((y.course.standing ≡ x.course.standing) ⊎ ((x.course.standing ≡ Waiting) × (y.course.standing ≡ GaveUp))) → is_open x.course ≡ true
+    go : ((y.course.progress ≡ x.course.progress) ⊎ ((x.course.progress ≡ Waiting) × (y.course.progress ≡ GaveUp))) → is_open x.course ≡ true
     go (inl same) = ap waits (sym same) ∙ opens
     go (inr both) = absurd (let wrong = ap waits (both.1) in cc)
 
@@ -128,31 +128,31 @@ module _ {S : Type 0} (setting : Setting S) where
   pub record Holds (steps : List Step) (k : ℕ) (r : Asked) : Type 0 where
     pub fed : is_waiting setting (world setting steps) r ≡ true → (Stands steps r).fed ≡ came setting steps k r
     pub below : Below (part_count setting (world setting steps) k) (replies setting steps k)
-    pub standing : StandingIs setting steps k (Stands steps r).course.standing
+    pub progress : ProgressIs setting steps k (Stands steps r).course.progress
     pub arrived : taken setting steps k ≡ true → (place : List Happening) × (first S setting.keep (Log steps) k ≡ Some place)
 
-  pub claim_moves : (step : Step) (past : List Step) (k : ℕ) (x : Standing) → taken setting (step ∷ past) k ≡ taken setting past k → (taken setting past k ≡ true → (place : List Happening) × (first S setting.keep (Log past) k ≡ Some place)) → StandingIs setting past k x → StandingIs setting (step ∷ past) k x
+  pub claim_moves : (step : Step) (past : List Step) (k : ℕ) (x : Progress) → taken setting (step ∷ past) k ≡ taken setting past k → (taken setting past k ≡ true → (place : List Happening) × (first S setting.keep (Log past) k ≡ Some place)) → ProgressIs setting past k x → ProgressIs setting (step ∷ past) k x
   claim_moves step past k Waiting same arrived c = same ∙ c
   claim_moves step past k GaveUp same arrived c = same ∙ c
   claim_moves step past k (Answered message) same arrived c =
       let came_in = arrived c.0 in
       (same ∙ c.0, c.1 ∙ sym (reply_stays step past k came_in.0 came_in.1))
 
-  claim_kept : (step : Step) (past : List Step) (k : ℕ) (x y : Request) → Kept x y → taken setting (step ∷ past) k ≡ taken setting past k → (taken setting past k ≡ true → (place : List Happening) × (first S setting.keep (Log past) k ≡ Some place)) → StandingIs setting past k x.course.standing → StandingIs setting (step ∷ past) k y.course.standing
-  claim_kept step past k x y kept same arrived c = go kept.standing
+  claim_kept : (step : Step) (past : List Step) (k : ℕ) (x y : Request) → Kept x y → taken setting (step ∷ past) k ≡ taken setting past k → (taken setting past k ≡ true → (place : List Happening) × (first S setting.keep (Log past) k ≡ Some place)) → ProgressIs setting past k x.course.progress → ProgressIs setting (step ∷ past) k y.course.progress
+  claim_kept step past k x y kept same arrived c = go kept.progress
     where
-      go : ((y.course.standing ≡ x.course.standing) ⊎ ((x.course.standing ≡ Waiting) × (y.course.standing ≡ GaveUp))) → StandingIs setting (step ∷ past) k y.course.standing
-      go (inl e) = subst (StandingIs setting (step ∷ past) k) (sym e) (claim_moves step past k x.course.standing same arrived c)
+      go : ((y.course.progress ≡ x.course.progress) ⊎ ((x.course.progress ≡ Waiting) × (y.course.progress ≡ GaveUp))) → ProgressIs setting (step ∷ past) k y.course.progress
+      go (inl e) = subst (ProgressIs setting (step ∷ past) k) (sym e) (claim_moves step past k x.course.progress same arrived c)
       go (inr both) =
-          let off : taken setting past k ≡ false = subst (StandingIs setting past k) both.0 c in
-          subst (StandingIs setting (step ∷ past) k) (sym both.1) (same ∙ off)
+          let off : taken setting past k ≡ false = subst (ProgressIs setting past k) both.0 c in
+          subst (ProgressIs setting (step ∷ past) k) (sym both.1) (same ∙ off)
 
   -- it holds after a step that brought it nothing
   pub holds_kept : (step : Step) (past : List Step) (k : ℕ) (r : Asked) → Holds past k r → Kept (Stands past r) (Stands (step ∷ past) r) → replies setting (step ∷ past) k ≡ replies setting past k → taken setting (step ∷ past) k ≡ taken setting past k → Holds (step ∷ past) k r
   holds_kept step past k r h kept rs ts = record {
     fed = λ opens. kept.fed ∙ h.fed (kept_opens (Stands past r) (Stands (step ∷ past) r) kept opens) ∙ sym (still_brought step past k r h.below) ∙ ap (map (brought setting r (reply_of setting (world setting (step ∷ past)) k))) (sym rs);
     below = subst (Below (part_count setting (world setting (step ∷ past)) k)) (sym rs) (still_below step past k h.below);
-    standing = claim_kept step past k (Stands past r) (Stands (step ∷ past) r) kept ts h.arrived h.standing;
+    progress = claim_kept step past k (Stands past r) (Stands (step ∷ past) r) kept ts h.arrived h.progress;
     arrived = λ t. let x = h.arrived (sym ts ∙ t) in (x.0, arrived_stays step past k x.0 x.1);
   }
 

@@ -15,11 +15,11 @@ use Rattle.pldm_wire.specs.declared.size.Size.TheVariants.{Uint8}
 use Rattle.pldm_platform.specs.declared.platform.ReadingFault.TheVariants.{NoSuchSensor}
 use Rattle.pldm_responder.proofs.WorkedLight.{light_answer, light_after, light_sensed}
 use Rattle.pldm_responder.specs.Performing.{Rules, rules_of}
-use Rattle.pldm_requester.specs.Courses as standings
-use Rattle.pldm_requester.specs.Courses.{Standing}
+use Rattle.pldm_requester.specs.Courses as progresses
+use Rattle.pldm_requester.specs.Courses.{Progress}
 use Rattle.pldm_requester.specs.declared.results.Got.TheVariants.{Dropped, Partial, Answered}
 use Rattle.mctp_schedule.specs.HandedPackets.{got_of_reply, got_of_busy}
-use Rattle.mctp_schedule.specs.Taken.{busy_owed, replies, reply_of, reply_owed, taken}
+use Rattle.mctp_schedule.specs.Taken.{busy_expected, replies, reply_of, reply_expected, taken}
 use Rattle.mctp_schedule.specs.Worlds.{Setting, requests_of, world}
 use Rattle.schedule_text.specs.declared.step.Action.{Action}
 use Rattle.schedule_text.specs.declared.step.Action.TheVariants.{Open, Tick, Request, Reply, Sense, Restart, Busy}
@@ -52,27 +52,27 @@ asked = at 0 (Request 0) ∷ at 0 (Open 8 GetPdrRepositoryInfo) ∷ []
 abbrev in_turn : List Step
 in_turn = at 5 (Reply 2 0) ∷ at 4 (Reply 1 0) ∷ at 3 (Reply 0 0) ∷ at 2 (Reply 0 0) ∷ at 1 (Reply 1 0) ∷ asked
 
-too_early : reply_owed long asked 0 1 ≡ Some (Dropped UnexpectedMiddleOrEnd)
+too_early : reply_expected long asked 0 1 ≡ Some (Dropped UnexpectedMiddleOrEnd)
 unfolding request_of command_of response_of
 too_early = refl
 
-first_packet : reply_owed long (drop 4 in_turn) 0 0 ≡ Some Partial
+first_packet : reply_expected long (drop 4 in_turn) 0 0 ≡ Some Partial
 unfolding request_of command_of response_of
 first_packet = refl
 
-first_packet_again : reply_owed long (drop 3 in_turn) 0 0 ≡ Some Partial
+first_packet_again : reply_expected long (drop 3 in_turn) 0 0 ≡ Some Partial
 unfolding request_of command_of response_of
 first_packet_again = refl
 
-second_packet : reply_owed long (drop 2 in_turn) 0 1 ≡ Some Partial
+second_packet : reply_expected long (drop 2 in_turn) 0 1 ≡ Some Partial
 unfolding request_of command_of response_of
 second_packet = refl
 
-third_packet : reply_owed long (drop 1 in_turn) 0 2 ≡ Some Partial
+third_packet : reply_expected long (drop 1 in_turn) 0 2 ≡ Some Partial
 unfolding request_of command_of response_of
 third_packet = refl
 
-fourth_packet : reply_owed long in_turn 0 3 ≡ Some (Answered 0)
+fourth_packet : reply_expected long in_turn 0 3 ≡ Some (Answered 0)
 unfolding request_of command_of response_of
 fourth_packet = refl
 
@@ -84,11 +84,11 @@ is_taken : taken long (at 6 (Reply 3 0) ∷ in_turn) 0 ≡ true
 unfolding request_of command_of response_of
 is_taken = refl
 
-late_packet : reply_owed long (at 6 (Reply 3 0) ∷ in_turn) 0 3 ≡ Some (Dropped BadTag)
+late_packet : reply_expected long (at 6 (Reply 3 0) ∷ in_turn) 0 3 ≡ Some (Dropped BadTag)
 unfolding request_of command_of response_of
 late_packet = refl
 
-no_such_packet : reply_owed long (at 6 (Reply 3 0) ∷ in_turn) 0 4 ≡ None
+no_such_packet : reply_expected long (at 6 (Reply 3 0) ∷ in_turn) 0 4 ≡ None
 unfolding request_of command_of response_of
 no_such_packet = refl
 
@@ -97,11 +97,11 @@ unfolding request_of command_of response_of
 deliveries_of_it = refl
 
 -- a lost packet, and two that came in the other order
-second_is_lost : reply_owed long (at 1 (Reply 0 0) ∷ asked) 0 2 ≡ Some (Dropped OutOfSequence)
+second_is_lost : reply_expected long (at 1 (Reply 0 0) ∷ asked) 0 2 ≡ Some (Dropped OutOfSequence)
 unfolding request_of command_of response_of
 second_is_lost = refl
 
-after_the_loss : reply_owed long (at 2 (Reply 2 0) ∷ at 1 (Reply 0 0) ∷ asked) 0 3 ≡ Some (Dropped UnexpectedMiddleOrEnd)
+after_the_loss : reply_expected long (at 2 (Reply 2 0) ∷ at 1 (Reply 0 0) ∷ asked) 0 3 ≡ Some (Dropped UnexpectedMiddleOrEnd)
 unfolding request_of command_of response_of
 after_the_loss = refl
 
@@ -109,11 +109,11 @@ other_order : taken long (at 4 (Reply 3 0) ∷ at 3 (Reply 1 0) ∷ at 2 (Reply 
 unfolding request_of command_of response_of
 other_order = refl
 
-no_reply_before_it_arrives : reply_owed long (at 0 (Open 8 GetPdrRepositoryInfo) ∷ []) 0 0 ≡ None
+no_reply_before_it_arrives : reply_expected long (at 0 (Open 8 GetPdrRepositoryInfo) ∷ []) 0 0 ≡ None
 unfolding request_of command_of response_of
 no_reply_before_it_arrives = refl
 
-nothing_to_a_number_that_was_never_opened : reply_owed long asked 1 0 ≡ None
+nothing_to_a_number_that_was_never_opened : reply_expected long asked 1 0 ≡ None
 unfolding request_of command_of response_of
 nothing_to_a_number_that_was_never_opened = refl
 
@@ -142,19 +142,19 @@ retry_is_taken : taken light a_retry 0 ≡ true
 unfolding request_of command_of response_of
 retry_is_taken = refl
 
-answer_of_it : reply_owed light (drop 1 a_retry) 0 0 ≡ Some (Answered 0)
+answer_of_it : reply_expected light (drop 1 a_retry) 0 0 ≡ Some (Answered 0)
 unfolding request_of command_of response_of
 answer_of_it = refl
 
-answer_again : reply_owed light a_retry 0 0 ≡ Some (Dropped BadTag)
+answer_again : reply_expected light a_retry 0 0 ≡ Some (Dropped BadTag)
 unfolding request_of command_of response_of
 answer_again = refl
 
-busy_answer : busy_owed light (drop 1 after_restart) 0 ≡ Some (Dropped NotReady)
+busy_answer : busy_expected light (drop 1 after_restart) 0 ≡ Some (Dropped NotReady)
 unfolding request_of command_of response_of
 busy_answer = refl
 
-busy_answer_is_none_before : busy_owed light (drop 2 after_restart) 0 ≡ None
+busy_answer_is_none_before : busy_expected light (drop 2 after_restart) 0 ≡ None
 unfolding request_of command_of response_of
 busy_answer_is_none_before = refl
 
@@ -162,11 +162,11 @@ busy_is_told : replies light after_restart 0 ≡ None ∷ []
 unfolding request_of command_of response_of
 busy_is_told = refl
 
-reply_after_it : reply_owed light after_restart 0 0 ≡ Some (Answered 0)
+reply_after_it : reply_expected light after_restart 0 0 ≡ Some (Answered 0)
 unfolding request_of command_of response_of
 reply_after_it = refl
 
-busy_answer_afterwards : busy_owed light (at 220 (Reply 0 0) ∷ after_restart) 0 ≡ Some (Dropped BadTag)
+busy_answer_afterwards : busy_expected light (at 220 (Reply 0 0) ∷ after_restart) 0 ≡ Some (Dropped BadTag)
 unfolding request_of command_of response_of
 busy_answer_afterwards = refl
 
@@ -175,7 +175,7 @@ abbrev cut_by_busy : List Step
 cut_by_busy =
     at 210 (Reply 2 0) ∷ at 209 (Busy 0) ∷ at 200 (Request 0) ∷ at 100 Restart ∷ at 5 (Reply 1 0) ∷ at 4 (Reply 0 0) ∷ asked
 
-row_is_cut : reply_owed long (drop 1 cut_by_busy) 0 2 ≡ Some (Dropped UnexpectedMiddleOrEnd)
+row_is_cut : reply_expected long (drop 1 cut_by_busy) 0 2 ≡ Some (Dropped UnexpectedMiddleOrEnd)
 unfolding request_of command_of response_of
 row_is_cut = refl
 
@@ -187,18 +187,18 @@ cut_row_is_not_taken = refl
 abbrev tid_asked : List Step
 tid_asked = at 0 (Request 0) ∷ at 0 (Open 8 GetTid) ∷ []
 
-abbrev standing : {S : Type 0} → Setting S → List Step → ℕ → Standing
-standing setting steps n = ((requests_of setting (world setting steps) 8).each n).course.standing
+abbrev progress : {S : Type 0} → Setting S → List Step → ℕ → Progress
+progress setting steps n = ((requests_of setting (world setting steps) 8).each n).course.progress
 
-tid_comes : reply_owed long tid_asked 0 0 ≡ Some (Answered 0)
+tid_comes : reply_expected long tid_asked 0 0 ≡ Some (Answered 0)
 unfolding request_of command_of response_of
 tid_comes = refl
 
-tid_comes_again : reply_owed long (at 0 (Reply 0 0) ∷ tid_asked) 0 0 ≡ Some (Dropped BadTag)
+tid_comes_again : reply_expected long (at 0 (Reply 0 0) ∷ tid_asked) 0 0 ≡ Some (Dropped BadTag)
 unfolding request_of command_of response_of
 tid_comes_again = refl
 
-tid_is_taken : standing long (at 600 (Tick 8) ∷ at 0 (Reply 0 0) ∷ at 0 (Reply 0 0) ∷ tid_asked) 0 ≡ standings.Answered (1 ∷ 0 ∷ 0 ∷ 2 ∷ 0 ∷ 1 ∷ [])
+tid_is_taken : progress long (at 600 (Tick 8) ∷ at 0 (Reply 0 0) ∷ at 0 (Reply 0 0) ∷ tid_asked) 0 ≡ progresses.Answered (1 ∷ 0 ∷ 0 ∷ 2 ∷ 0 ∷ 1 ∷ [])
 unfolding request_of command_of response_of
 tid_is_taken = refl
 
@@ -226,11 +226,11 @@ reading_of_first = 1 ∷ 0 ∷ 2 ∷ 17 ∷ 0 ∷ 0 ∷ 0 ∷ 0 ∷ 1 ∷ 1 ∷ 
 abbrev reading_of_second : List ℕ
 reading_of_second = 1 ∷ 1 ∷ 2 ∷ 17 ∷ 0 ∷ 0 ∷ 0 ∷ 0 ∷ 1 ∷ 1 ∷ 1 ∷ 41 ∷ []
 
-first_reading : reply_owed gauge two_readings 0 0 ≡ Some (Answered 0)
+first_reading : reply_expected gauge two_readings 0 0 ≡ Some (Answered 0)
 unfolding request_of command_of response_of
 first_reading = refl
 
-second_reading : reply_owed gauge (at 20 (Reply 0 0) ∷ two_readings) 1 0 ≡ Some (Answered 1)
+second_reading : reply_expected gauge (at 20 (Reply 0 0) ∷ two_readings) 1 0 ≡ Some (Answered 1)
 unfolding request_of command_of response_of
 second_reading = refl
 
@@ -238,11 +238,11 @@ first_reply : reply_of gauge (world gauge two_readings) 0 ≡ reading_of_first
 unfolding request_of command_of response_of
 first_reply = refl
 
-first_stands : standing gauge (at 20 (Reply 0 1) ∷ at 20 (Reply 0 0) ∷ two_readings) 0 ≡ standings.Answered reading_of_first
+first_stands : progress gauge (at 20 (Reply 0 1) ∷ at 20 (Reply 0 0) ∷ two_readings) 0 ≡ progresses.Answered reading_of_first
 unfolding request_of command_of response_of
 first_stands = refl
 
-second_stands : standing gauge (at 20 (Reply 0 1) ∷ at 20 (Reply 0 0) ∷ two_readings) 1 ≡ standings.Answered reading_of_second
+second_stands : progress gauge (at 20 (Reply 0 1) ∷ at 20 (Reply 0 0) ∷ two_readings) 1 ≡ progresses.Answered reading_of_second
 unfolding request_of command_of response_of
 second_stands = refl
 
@@ -254,19 +254,19 @@ abbrev served_later : List Step
 served_later =
     at 1000 (Request 0) ∷ at 999 (Request 0) ∷ at 500 (Request 0) ∷ at 500 (Busy 0) ∷ opened_busy
 
-nothing_given_yet : busy_owed light opened_busy 0 ≡ None
+nothing_given_yet : busy_expected light opened_busy 0 ≡ None
 unfolding request_of command_of response_of
 nothing_given_yet = refl
 
-busy_is_no_reply : reply_owed light (drop 1 served_later) 0 0 ≡ None
+busy_is_no_reply : reply_expected light (drop 1 served_later) 0 0 ≡ None
 unfolding request_of command_of response_of
 busy_is_no_reply = refl
 
-served_at_last : reply_owed light served_later 0 0 ≡ Some (Answered 0)
+served_at_last : reply_expected light served_later 0 0 ≡ Some (Answered 0)
 unfolding request_of command_of response_of
 served_at_last = refl
 
--- ---- the requesters give what is owed
+-- ---- the requesters give what is expected
 fourth_is_given : got_of_reply long (world long in_turn) 0 3 ≡ Some (Answered 0)
 unfolding request_of command_of response_of
 fourth_is_given = refl

@@ -14,10 +14,10 @@ use Rattle.pldm_responder.specs.Performing.{performed}
 use Rattle.pldm_responder.specs.declared.outcome.Outcome.TheVariants.{Answered}
 use Rattle.mctp_schedule.specs.Entries.{entries, requests_after}
 use Rattle.mctp_schedule.specs.FirstArrivals.{firsts, order}
-use Rattle.mctp_schedule.specs.Headline.{entries_owed, state_once}
+use Rattle.mctp_schedule.specs.Headline.{entries_expected, state_once}
 use Rattle.mctp_schedule.specs.Logs.{told}
 use Rattle.mctp_schedule.specs.Requests.{Request as EndedRequest}
-use Rattle.mctp_schedule.specs.Taken.{reply_of, reply_owed, taken}
+use Rattle.mctp_schedule.specs.Taken.{reply_of, reply_expected, taken}
 use Rattle.mctp_schedule.specs.Worlds.{Setting, is_timely, world}
 use Rattle.mctp_schedule.specs.declared.entry.Entry.{Entry}
 use Rattle.mctp_schedule.specs.declared.entry.Entry.TheVariants.{Nothing, Opened, Due, Delivered, Received, Sensed, Restarted}
@@ -52,7 +52,7 @@ a_retry = at 210 (Reply 0 0) ∷ at 200 (Request 0) ∷ at 200 (Tick 8) ∷ at 0
 abbrev done : List ℕ
 done = 0x01 ∷ 0x08 ∷ 0x09 ∷ 0xc0 ∷ 0x01 ∷ 0x00 ∷ 0x02 ∷ 0x31 ∷ 0x00 ∷ []
 
-retry_entries : entries_owed setting a_retry ≡ Opened 0 ∷ fresh true done ∷ again (0 ∷ []) ∷ copy done ∷ Received (got.Answered 0) ∷ []
+retry_entries : entries_expected setting a_retry ≡ Opened 0 ∷ fresh true done ∷ again (0 ∷ []) ∷ copy done ∷ Received (got.Answered 0) ∷ []
 unfolding request_of command_of response_of
 retry_entries = refl
 
@@ -81,7 +81,7 @@ reading_message id value =
 abbrev reading_packet : ℕ → ℕ → List ℕ
 reading_packet id value = 0x01 ∷ 0x08 ∷ 0x09 ∷ (0xc0 + id) ∷ reading_message id value
 
-reading_entries : entries_owed setting a_reading ≡ Opened 0 ∷ fresh false (reading_packet 0 0x28) ∷ Sensed (Ok tt)
+reading_entries : entries_expected setting a_reading ≡ Opened 0 ∷ fresh false (reading_packet 0 0x28) ∷ Sensed (Ok tt)
     ∷ copy (reading_packet 0 0x28) ∷ Opened 1 ∷ fresh false (reading_packet 1 0x29) ∷ Received (got.Answered 0)
     ∷ Received (got.Answered 1) ∷ []
 unfolding request_of command_of response_of
@@ -108,7 +108,7 @@ two_of_them =
 abbrev done_to : ℕ → List ℕ
 done_to e = 0x01 ∷ e ∷ 0x09 ∷ 0xc0 ∷ 0x01 ∷ 0x00 ∷ 0x02 ∷ 0x31 ∷ 0x00 ∷ []
 
-two_entries : entries_owed setting two_of_them
+two_entries : entries_expected setting two_of_them
     ≡ Opened 0 ∷ Opened 1 ∷ fresh true (done_to 10) ∷ fresh true (done_to 8) ∷ copy (done_to 10) ∷ Nothing ∷ []
 unfolding request_of command_of response_of
 two_entries = refl
@@ -125,7 +125,7 @@ two_state = refl
 abbrev twice_answered : List Step
 twice_answered = at 600 (Tick 8) ∷ at 0 (Reply 0 0) ∷ at 0 (Reply 0 0) ∷ at 0 (Request 0) ∷ at 0 (Open 8 GetTid) ∷ []
 
-twice_entries : entries_owed setting twice_answered
+twice_entries : entries_expected setting twice_answered
     ≡ Opened 0 ∷ fresh false (0x01 ∷ 0x08 ∷ 0x09 ∷ 0xc0 ∷ 0x01 ∷ 0x00 ∷ 0x00 ∷ 0x02 ∷ 0x00 ∷ 0x01 ∷ []) ∷ Received (got.Answered 0)
     ∷ Received (got.Dropped BadTag) ∷ again [] ∷ []
 unfolding request_of command_of response_of
@@ -140,7 +140,7 @@ a_restart =
 abbrev not_ready : List ℕ
 not_ready = 0x01 ∷ 0x08 ∷ 0x09 ∷ 0xc0 ∷ 0x01 ∷ 0x00 ∷ 0x02 ∷ 0x31 ∷ 0x04 ∷ []
 
-restart_entries : entries_owed (with_tries 5 3) a_restart
+restart_entries : entries_expected (with_tries 5 3) a_restart
     ≡ Opened 0 ∷ fresh true done ∷ Restarted ∷ again (0 ∷ []) ∷ busy not_ready ∷ Received (got.Dropped NotReady)
     ∷ Received (got.Answered 0) ∷ []
 unfolding request_of command_of response_of
@@ -164,20 +164,20 @@ four_reply : reply_of setting (world setting of_four) 0
 unfolding request_of command_of response_of
 four_reply = refl
 
-four_early : reply_owed setting of_four 0 1 ≡ Some (got.Dropped UnexpectedMiddleOrEnd)
+four_early : reply_expected setting of_four 0 1 ≡ Some (got.Dropped UnexpectedMiddleOrEnd)
 unfolding request_of command_of response_of
 four_early = refl
 
-four_parts : (reply_owed setting (replies_after (1 ∷ [])) 0 0 ≡ Some got.Partial)
-    × (reply_owed setting (replies_after (0 ∷ 1 ∷ [])) 0 0 ≡ Some got.Partial)
-    × (reply_owed setting (replies_after (0 ∷ 0 ∷ 1 ∷ [])) 0 1 ≡ Some got.Partial)
-    × (reply_owed setting (replies_after (1 ∷ 0 ∷ 0 ∷ 1 ∷ [])) 0 2 ≡ Some got.Partial)
+four_parts : (reply_expected setting (replies_after (1 ∷ [])) 0 0 ≡ Some got.Partial)
+    × (reply_expected setting (replies_after (0 ∷ 1 ∷ [])) 0 0 ≡ Some got.Partial)
+    × (reply_expected setting (replies_after (0 ∷ 0 ∷ 1 ∷ [])) 0 1 ≡ Some got.Partial)
+    × (reply_expected setting (replies_after (1 ∷ 0 ∷ 0 ∷ 1 ∷ [])) 0 2 ≡ Some got.Partial)
 unfolding request_of command_of response_of
 four_parts = (refl, refl, refl, refl)
 
-four_answered : (reply_owed setting (replies_after (2 ∷ 1 ∷ 0 ∷ 0 ∷ 1 ∷ [])) 0 3 ≡ Some (got.Answered 0))
-    × (reply_owed setting (replies_after (3 ∷ 2 ∷ 1 ∷ 0 ∷ 0 ∷ 1 ∷ [])) 0 3 ≡ Some (got.Dropped BadTag))
-    × (reply_owed setting (replies_after (3 ∷ 3 ∷ 2 ∷ 1 ∷ 0 ∷ 0 ∷ 1 ∷ [])) 0 4 ≡ None)
+four_answered : (reply_expected setting (replies_after (2 ∷ 1 ∷ 0 ∷ 0 ∷ 1 ∷ [])) 0 3 ≡ Some (got.Answered 0))
+    × (reply_expected setting (replies_after (3 ∷ 2 ∷ 1 ∷ 0 ∷ 0 ∷ 1 ∷ [])) 0 3 ≡ Some (got.Dropped BadTag))
+    × (reply_expected setting (replies_after (3 ∷ 3 ∷ 2 ∷ 1 ∷ 0 ∷ 0 ∷ 1 ∷ [])) 0 4 ≡ None)
 unfolding request_of command_of response_of
 four_answered = (refl, refl, refl)
 
@@ -208,7 +208,7 @@ record_packets id =
     ∷ (0x01 ∷ 0x08 ∷ 0x09 ∷ 0x40 ∷ replicate 60 0)
     ∷ []
 
-tag_used_again_entries : entries_owed setting tag_used_again
+tag_used_again_entries : entries_expected setting tag_used_again
     ≡ Opened 0 ∷ Delivered false (Answered true false (record_packets 0)) ∷ Received got.Partial ∷ gave_up (0 ∷ []) ∷ Opened 1
     ∷ Opened 2 ∷ Opened 3 ∷ Opened 4 ∷ Opened 5 ∷ Opened 6 ∷ Opened 7 ∷ Opened 8
     ∷ Delivered false (Answered true false (record_packets 8)) ∷ Received (got.Dropped UnexpectedMiddleOrEnd)
@@ -233,7 +233,7 @@ untimely_entries : entries setting untimely ≡ Opened 0 ∷ fresh true done ∷
 unfolding request_of command_of response_of
 untimely_entries = refl
 
-untimely_requests : map (λ (r : EndedRequest). r.standing) (requests_after setting (world setting untimely)) ≡ Waiting ∷ []
+untimely_requests : map (λ (r : EndedRequest). r.progress) (requests_after setting (world setting untimely)) ≡ Waiting ∷ []
 unfolding request_of command_of response_of
 untimely_requests = refl
 

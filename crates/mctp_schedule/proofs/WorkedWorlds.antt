@@ -10,7 +10,7 @@ use Rattle.pldm_wire.specs.declared.command.Command.{Command}
 use Rattle.pldm_wire.specs.declared.command.Command.TheVariants.{GetTid, GetPdr, SetNumericEffecterValue}
 use Rattle.pldm_responder.proofs.WorkedLight.{light_answer, light_after, light_sensed}
 use Rattle.pldm_responder.specs.Performing.{rules_of}
-use Rattle.pldm_requester.specs.Courses.{Standing, Waiting, Answered, GaveUp}
+use Rattle.pldm_requester.specs.Courses.{Progress, Waiting, Answered, GaveUp}
 use Rattle.mctp_schedule.specs.FirstArrivals.{order}
 use Rattle.mctp_schedule.specs.Logs.{count_of}
 use Rattle.mctp_schedule.specs.OncePerformed.{once}
@@ -35,8 +35,8 @@ setting = record {
 abbrev set_40 : Action
 set_40 = Open 8 (SetNumericEffecterValue 1 (sized Uint8 (pos 40)))
 
-abbrev standing : List Step → Standing
-standing steps = ((requests_of setting (world setting steps) 8).each 0).course.standing
+abbrev progress : List Step → Progress
+progress steps = ((requests_of setting (world setting steps) 8).each 0).course.progress
 
 abbrev performed_in : List Step → List ℕ
 performed_in steps = order ℤ 1000 (world setting steps).log
@@ -55,7 +55,7 @@ first_commands steps = commands_once ℤ 1000 (world setting steps).log
 abbrev a_retry : List Step
 a_retry = at 210 (Reply 0 0) ∷ at 200 (Request 0) ∷ at 200 (Tick 8) ∷ at 0 (Request 0) ∷ at 0 set_40 ∷ []
 
-retry_is_answered : standing a_retry ≡ Answered (1 ∷ 0 ∷ 2 ∷ 49 ∷ 0 ∷ [])
+retry_is_answered : progress a_retry ≡ Answered (1 ∷ 0 ∷ 2 ∷ 49 ∷ 0 ∷ [])
 unfolding request_of command_of response_of
 retry_is_answered = refl
 
@@ -77,11 +77,11 @@ abbrev after_restart : List Step
 after_restart =
     at 210 (Busy 0) ∷ at 200 (Request 0) ∷ at 200 (Tick 8) ∷ at 100 Restart ∷ at 0 (Request 0) ∷ at 0 set_40 ∷ []
 
-busy_answer_is_not_taken : standing after_restart ≡ Waiting
+busy_answer_is_not_taken : progress after_restart ≡ Waiting
 unfolding request_of command_of response_of
 busy_answer_is_not_taken = refl
 
-reply_after_it_is_taken : standing (at 220 (Reply 0 0) ∷ after_restart) ≡ Answered (1 ∷ 0 ∷ 2 ∷ 49 ∷ 0 ∷ [])
+reply_after_it_is_taken : progress (at 220 (Reply 0 0) ∷ after_restart) ≡ Answered (1 ∷ 0 ∷ 2 ∷ 49 ∷ 0 ∷ [])
 unfolding request_of command_of response_of
 reply_after_it_is_taken = refl
 
@@ -113,12 +113,12 @@ performed_later : performed_in (at 1010 (Reply 0 0) ∷ at 1000 (Request 0) ∷ 
 unfolding request_of command_of response_of
 performed_later = refl
 
-answered_later : standing (at 1010 (Reply 0 0) ∷ at 1000 (Request 0) ∷ busy_first) ≡ Answered (1 ∷ 0 ∷ 2 ∷ 49 ∷ 0 ∷ [])
+answered_later : progress (at 1010 (Reply 0 0) ∷ at 1000 (Request 0) ∷ busy_first) ≡ Answered (1 ∷ 0 ∷ 2 ∷ 49 ∷ 0 ∷ [])
 unfolding request_of command_of response_of
 answered_later = refl
 
 -- given up after five tries of 200 milliseconds
-given_up : standing (at 1000 (Tick 8) ∷ at 0 set_40 ∷ []) ≡ GaveUp
+given_up : progress (at 1000 (Tick 8) ∷ at 0 set_40 ∷ []) ≡ GaveUp
 given_up = refl
 
 -- an open that is refused opens nothing: no ninth request while the first is open
@@ -134,7 +134,7 @@ busy_deliveries_perform_none : commands_in busy_first ≡ []
 unfolding request_of command_of response_of
 busy_deliveries_perform_none = refl
 
--- a request that the light refuses and one that only reads are performed too, each once, the later one standing first
+-- a request that the light refuses and one that only reads are performed too, each once, the later one progress first
 abbrev refused_and_read : List Step
 refused_and_read =
     at 9 (Request 1) ∷ at 8 (Request 0) ∷ at 7 (Request 1) ∷ at 6 (Open 8 GetTid) ∷ at 5 (Request 0)

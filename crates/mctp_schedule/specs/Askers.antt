@@ -46,7 +46,7 @@ HasPacket held number =
 abbrev pub HasAnswer : Held → ℕ → Type 0
 HasAnswer held number =
     (message : List ℕ)
-    × (option_map (λ memo. memo.course.standing) (held.remembered number) ≡ Some (courses.Answered message))
+    × (option_map (λ memo. memo.course.progress) (held.remembered number) ≡ Some (courses.Answered message))
 
 -- the request that a packet answered is told by its number over all requests, with its answer
 abbrev pub ReportsReply : List ℕ → Arrival → Option AnsweredRequest → Type 0

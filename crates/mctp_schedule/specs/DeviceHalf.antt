@@ -2,12 +2,12 @@
 -- deliveries get its one reply.
 use Rattle.std.specs.Prelude.{◌≡◌, ◌≢◌, ℕ, ◌+◌, ◌*◌, ◌<◌, ◌≤◌, false, not, List, ◌∷◌, Some}
 use Rattle.pldm_wire.specs.Headers.{id_at}
-use Rattle.pldm_responder.specs.Calls.{answer_owed}
+use Rattle.pldm_responder.specs.Calls.{answer_expected}
 use Rattle.pldm_responder.specs.Events.{Place, is_busy, is_copy, is_fresh, origin}
 use Rattle.pldm_responder.specs.Performing.{Rules, performed}
 use Rattle.mctp_schedule.specs.Logs.{Asked, Happening, Delivered, IsTimelyLog, asked_at, message_at, told}
 use Rattle.mctp_schedule.specs.FirstArrivals.{IsOrderOfFirsts, first, is_first, order}
-use Rattle.mctp_schedule.specs.OncePerformed.{FitsPackets, RepliesFit, delivery_owed, given, given_once, once, the_reply}
+use Rattle.mctp_schedule.specs.OncePerformed.{FitsPackets, RepliesFit, delivery_expected, given, given_once, once, the_reply}
 
 -- a request's deliveries come before its instance ID is used again: at any of them the other requests of its source
 -- and instance ID were opened at least twice the keeping time before it
@@ -44,12 +44,12 @@ module _ {S : Type 0} (device : Rules S) where
       → performed device keep start (told log) ≡ once device keep start log
 
   -- what the responder gives at a delivery is what the definitions owe to it
-  abbrev pub DeliveryIsOwed : Type 0
-  DeliveryIsOwed =
+  abbrev pub DeliveryIsExpected : Type 0
+  DeliveryIsExpected =
       (own keep : ℕ) (start : S) (past : List Happening) (moment k : ℕ) (r : Asked)
       → IsTimelyLog keep (Delivered moment k ∷ past) → asked_at past k ≡ Some r
-      → answer_owed device own keep start (told past) (message_at moment r)
-      ≡ delivery_owed device keep start own past moment k r
+      → answer_expected device own keep start (told past) (message_at moment r)
+      ≡ delivery_expected device keep start own past moment k r
 
   -- a request that was performed is not performed again, whatever restarts came since
   abbrev pub NotPerformedAgain : Type 0

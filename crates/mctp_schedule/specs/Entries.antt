@@ -1,10 +1,10 @@
 -- What came of each step: what both ends answered to it.
 use Rattle.std.specs.Prelude.{ℕ, ℤ, List, [], ◌∷◌, ◌++◌, ◌==◌, map, slice_index, Option, Some, None, Result, Ok, Err, if◌then◌else◌}
 use Rattle.pldm_platform.specs.Changes.{made_of}
-use Rattle.pldm_responder.specs.Calls.{answer_owed}
+use Rattle.pldm_responder.specs.Calls.{answer_expected}
 use Rattle.pldm_responder.specs.Events.{is_busy}
 use Rattle.pldm_responder.specs.Performing.{performed}
-use Rattle.pldm_requester.specs.Calls.{again_owed, given_up_owed, open_owed}
+use Rattle.pldm_requester.specs.Calls.{again_expected, given_up_expected, open_expected}
 use Rattle.pldm_requester.specs.declared.results.Due.{Due as DueNumbers}
 use Rattle.pldm_requester.specs.declared.results.Got.{Got}
 use Rattle.pldm_requester.specs.declared.results.Opened.{Opened as OpenedAs}
@@ -47,8 +47,8 @@ module _ {S : Type 0} (setting : Setting S) where
       let calls = world.calls e in
       let timing = timing_of setting e in
       record {
-        again = record { items = numbered numbers (again_owed e setting.eid timing calls moment) };
-        given_up = record { items = numbered numbers (given_up_owed e setting.eid timing calls moment) };
+        again = record { items = numbered numbers (again_expected e setting.eid timing calls moment) };
+        given_up = record { items = numbered numbers (given_up_expected e setting.eid timing calls moment) };
       }
 
   -- what the responder answers to the packet of a request
@@ -56,7 +56,7 @@ module _ {S : Type 0} (setting : Setting S) where
   delivery_entry log moment None = Nothing
   delivery_entry log moment (Some r) =
       Delivered (is_busy setting.keep (told {S = S} log) moment)
-      (answer_owed setting.device setting.eid setting.keep setting.start (told log) (message_at moment r))
+      (answer_expected setting.device setting.eid setting.keep setting.start (told log) (message_at moment r))
 
   abbrev pub reading_entry : List Happening → ℕ → ℤ → Entry
   reading_entry log id value =
@@ -66,7 +66,7 @@ module _ {S : Type 0} (setting : Setting S) where
   -- what comes of an action in a world
   abbrev pub entry_of : World → ℕ → Action → Entry
   entry_of world moment (actions.Open e command) =
-      open_entry (count_of world.log) (open_owed e setting.eid (timing_of setting e) (world.calls e) moment)
+      open_entry (count_of world.log) (open_expected e setting.eid (timing_of setting e) (world.calls e) moment)
   entry_of world moment (actions.Tick e) = Due (due_at world moment e)
   entry_of world moment (actions.Request k) = delivery_entry world.log moment (asked_at world.log k)
   entry_of world moment (actions.Reply j k) = got_entry (got_of_reply setting world k j)
@@ -83,7 +83,7 @@ module _ {S : Type 0} (setting : Setting S) where
   abbrev pub as_it_stands : World → Asked → EndedRequest
   as_it_stands world r = record {
     asked = r;
-    standing = ((requests_of setting world r.source).each r.own).course.standing;
+    progress = ((requests_of setting world r.source).each r.own).course.progress;
   }
 
   -- the requests of this log, in the order of their openings, as they stand in a world

@@ -10,10 +10,10 @@ abbrev pub arrives : Option Asked → Bool → Bool
 arrives None busy = false
 arrives (Some r) busy = not busy
 
--- it is owed a busy answer where it was opened and the responder is busy
-abbrev pub is_owed_busy : Option Asked → Bool → Bool
-is_owed_busy None busy = false
-is_owed_busy (Some r) busy = busy
+-- it is expected a busy answer where it was opened and the responder is busy
+abbrev pub is_answered_busy : Option Asked → Bool → Bool
+is_answered_busy None busy = false
+is_answered_busy (Some r) busy = busy
 
 -- the earlier place, or else this one if the request arrives here
 abbrev pub earlier : Option (List Happening) → Bool → List Happening → Option (List Happening)
@@ -30,9 +30,9 @@ module _ (S : Type 0) where
   abbrev pub arrives_at : ℕ → List Happening → ℕ → ℕ → Bool
   arrives_at keep past moment k = arrives (asked_at past k) (is_busy keep (told {S = S} past) moment)
 
-  -- or it is owed a busy answer
-  abbrev pub is_owed_busy_at : ℕ → List Happening → ℕ → ℕ → Bool
-  is_owed_busy_at keep past moment k = is_owed_busy (asked_at past k) (is_busy keep (told {S = S} past) moment)
+  -- or it is expected a busy answer
+  abbrev pub is_answered_busy_at : ℕ → List Happening → ℕ → ℕ → Bool
+  is_answered_busy_at keep past moment k = is_answered_busy (asked_at past k) (is_busy keep (told {S = S} past) moment)
 
   -- what had happened before the first arrival of request k; `None` where it never arrived
   abbrev pub first : ℕ → List Happening → ℕ → Option (List Happening)

@@ -5,17 +5,17 @@
 -- arrival, a reading or refused one too, and no other. Steps have the newest first.
 use Rattle.std.specs.Prelude.{◌≡◌, ℕ, List, [], ◌∷◌, ◌++◌, Option, Some, None, slice_get}
 use Rattle.pldm_platform.specs.Changes.{made_of}
-use Rattle.pldm_requester.specs.Courses.{Standing, Answered}
+use Rattle.pldm_requester.specs.Courses.{Progress, Answered}
 use Rattle.pldm_wire.specs.declared.command.Command.{Command}
 use Rattle.pldm_responder.specs.Events.{is_busy}
 use Rattle.mctp_schedule.specs.Entries.{entry_of, got_entry}
 use Rattle.mctp_schedule.specs.FirstArrivals.{IsOrderOfFirsts}
 use Rattle.mctp_schedule.specs.Logs.{Asked, asked_at, told}
-use Rattle.mctp_schedule.specs.OncePerformed.{delivery_owed, once}
+use Rattle.mctp_schedule.specs.OncePerformed.{delivery_expected, once}
 use Rattle.mctp_schedule.specs.PerformedCommands.{commands_once}
 use Rattle.mctp_schedule.specs.Requests.{Request as EndedRequest}
-use Rattle.mctp_schedule.specs.RequesterHalf.{StandingIs, WasPerformedOnce}
-use Rattle.mctp_schedule.specs.Taken.{busy_owed, reply_owed}
+use Rattle.mctp_schedule.specs.RequesterHalf.{ProgressIs, WasPerformedOnce}
+use Rattle.mctp_schedule.specs.Taken.{busy_expected, reply_expected}
 use Rattle.mctp_schedule.specs.Worlds.{Setting, world}
 use Rattle.mctp_schedule.specs.declared.entry.Entry.{Entry}
 use Rattle.mctp_schedule.specs.declared.entry.Entry.TheVariants.{Nothing, Delivered, Sensed}
@@ -35,13 +35,13 @@ module _ {S : Type 0} (setting : Setting S) where
   delivery_owes past moment k (Some r) =
       let log = (world setting past).log in
       Delivered (is_busy setting.keep (told {S = S} log) moment)
-      (delivery_owed setting.device setting.keep setting.start setting.eid log moment k r)
+      (delivery_expected setting.device setting.keep setting.start setting.eid log moment k r)
 
   -- what the entry of an action owes after these steps; what an open and a tick owe is told by their requester's calls
   abbrev pub entry_owes : List Step → ℕ → Action → Entry
   entry_owes past moment (actions.Request k) = delivery_owes past moment k (asked_at (world setting past).log k)
-  entry_owes past moment (actions.Reply j k) = got_entry (reply_owed setting past k j)
-  entry_owes past moment (actions.Busy k) = got_entry (busy_owed setting past k)
+  entry_owes past moment (actions.Reply j k) = got_entry (reply_expected setting past k j)
+  entry_owes past moment (actions.Busy k) = got_entry (busy_expected setting past k)
   entry_owes past moment (actions.Sense id value) =
       Sensed (made_of (λ _. tt) (setting.device.sensed (state_once past) id value))
   entry_owes past moment (actions.Open e command) =
@@ -50,24 +50,24 @@ module _ {S : Type 0} (setting : Setting S) where
   entry_owes past moment actions.Restart = entry_of setting (world setting past) moment actions.Restart
 
   -- the entries of these steps, the oldest first
-  abbrev pub entries_owed : List Step → List Entry
-  entries_owed [] = []
-  entries_owed (step ∷ past) = entries_owed past ++ entry_owes past step.moment step.action ∷ []
+  abbrev pub entries_expected : List Step → List Entry
+  entries_expected [] = []
+  entries_expected (step ∷ past) = entries_expected past ++ entry_owes past step.moment step.action ∷ []
 
   -- request k, which is r, is told as it was opened, and as answered by its one reply exactly where it was taken; an
   -- answer is of a request that was performed exactly once
   pub record IsTold (steps : List Step) (k : ℕ) (r : Asked) (requests : List EndedRequest) : Type 0 where
-    pub standing : Standing
-    pub told : slice_get requests k ≡ Some (record { asked = r; standing = standing })
-    pub stands : StandingIs setting steps k standing
-    pub performed : (message : List ℕ) → standing ≡ Answered message → WasPerformedOnce setting steps k r message
+    pub progress : Progress
+    pub told : slice_get requests k ≡ Some (record { asked = r; progress = progress })
+    pub stands : ProgressIs setting steps k progress
+    pub performed : (message : List ℕ) → progress ≡ Answered message → WasPerformedOnce setting steps k r message
 
   -- what a run over these steps tells is this
   pub record Headline
       (steps : List Step) (entries : List Entry) (requests : List EndedRequest) (order : List ℕ) (state : S)
       (Performed : List Command → Type 0)
       : Type 0 where
-    pub each_step : entries ≡ entries_owed steps
+    pub each_step : entries ≡ entries_expected steps
     pub each_request : (k : ℕ) (r : Asked) → asked_at (world setting steps).log k ≡ Some r → IsTold steps k r requests
     pub performed_in_order : IsOrderOfFirsts S setting.keep (world setting steps).log order
     pub performed_once : state ≡ state_once steps

@@ -6,7 +6,7 @@ use Rattle.pldm_requester.specs.Courses as courses
 use Rattle.pldm_responder.specs.declared.outcome.Outcome.{Outcome}
 use Rattle.pldm_responder.specs.declared.outcome.Outcome.TheVariants as outcomes
 use Rattle.mctp_schedule.specs.Deliveries.{packets_of_outcome}
-use Rattle.mctp_schedule.specs.Requests.{Request, with_standing}
+use Rattle.mctp_schedule.specs.Requests.{Request, with_progress}
 use Rattle.mctp_schedule.specs.declared.askers.AnsweredRequest.{AnsweredRequest}
 use Rattle.mctp_schedule.specs.declared.entry.Entry.{Entry}
 use Rattle.mctp_schedule.specs.declared.entry.Entry.TheVariants.{Delivered}
@@ -68,12 +68,12 @@ fresh_numbers number outcomes.Partial = []
 fresh_numbers number (outcomes.Answered fresh changed packets) = if fresh then number ∷ [] else []
 
 -- how a request stands after those of these numbers were given up
-abbrev pub stands_after : List ℕ → ℕ → Request → Request
-stands_after given_up number request =
-    if list_any (λ n. n == number) given_up then with_standing courses.GaveUp request else request
+abbrev pub progress_after : List ℕ → ℕ → Request → Request
+progress_after given_up number request =
+    if list_any (λ n. n == number) given_up then with_progress courses.GaveUp request else request
 
 -- and how it stands after the one that was answered
 abbrev pub answered_as : Option AnsweredRequest → ℕ → Request → Request
 answered_as None number request = request
 answered_as (Some answered) number request =
-    if number == answered.number then with_standing (courses.Answered answered.message) request else request
+    if number == answered.number then with_progress (courses.Answered answered.message) request else request

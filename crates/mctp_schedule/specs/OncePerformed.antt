@@ -9,7 +9,7 @@ use Rattle.pldm_responder.specs.Arrivals.{packets_back}
 use Rattle.pldm_responder.specs.declared.outcome.Outcome.{Outcome}
 use Rattle.pldm_responder.specs.declared.outcome.Outcome.TheVariants.{Answered}
 use Rattle.mctp_schedule.specs.Logs.{Asked, Happening, Opened, Delivered, Sensed, asked_at, message_at, told}
-use Rattle.mctp_schedule.specs.FirstArrivals.{arrives_at, first, is_first, is_owed_busy_at}
+use Rattle.mctp_schedule.specs.FirstArrivals.{arrives_at, first, is_first, is_answered_busy_at}
 
 -- the bytes of a request's message
 abbrev pub bytes_of : Option Asked → List ℕ
@@ -77,8 +77,8 @@ module _ {S : Type 0} (device : Rules S) (keep : ℕ) (start : S) where
 
   -- what the responder at the endpoint `own` owes to a delivery of request k, which is r, at this moment: a busy
   -- answer of code 4 after a restart, else the one reply, told as fresh at its first arrival and as a copy later
-  abbrev pub delivery_owed : ℕ → List Happening → ℕ → ℕ → Asked → Outcome
-  delivery_owed own past moment k r =
+  abbrev pub delivery_expected : ℕ → List Happening → ℕ → ℕ → Asked → Outcome
+  delivery_expected own past moment k r =
       if is_busy keep (told {S = S} past) moment
       then Answered false false (packets_back own (message_at moment r) (busy_reply r.message))
       else if is_first S keep past moment k
@@ -88,9 +88,9 @@ module _ {S : Type 0} (device : Rules S) (keep : ℕ) (start : S) where
 
 -- over a device with states S
 module _ (S : Type 0) where
-  -- a busy answer was given to request k: one was owed to a delivery of it
+  -- a busy answer was given to request k: one was expected to a delivery of it
   abbrev pub was_busy : ℕ → List Happening → ℕ → Bool
   was_busy keep [] k = false
   was_busy keep (Delivered moment j ∷ past) k =
-      (j == k && is_owed_busy_at S keep past moment k) || was_busy keep past k
+      (j == k && is_answered_busy_at S keep past moment k) || was_busy keep past k
   was_busy keep (_ ∷ past) k = was_busy keep past k

@@ -5,13 +5,13 @@ use Rattle.mctp_packet.specs.Ids.{IsEid}
 use Rattle.mctp_assembly.specs.Histories as assembly
 use Rattle.pldm_responder.specs.Performing.{reply}
 use Rattle.pldm_requester.specs.Calls.{answer_key, assembled}
-use Rattle.pldm_requester.specs.Courses.{Standing, Waiting, Answered, GaveUp}
+use Rattle.pldm_requester.specs.Courses.{Progress, Waiting, Answered, GaveUp}
 use Rattle.pldm_requester.specs.Numbering.{tag_of}
 use Rattle.mctp_schedule.specs.Logs.{Asked, Happening, asked_at}
 use Rattle.mctp_schedule.specs.FirstArrivals.{first, order}
 use Rattle.mctp_schedule.specs.OncePerformed.{RepliesFit, once}
 use Rattle.mctp_schedule.specs.HandedPackets.{got_of_busy, got_of_reply}
-use Rattle.mctp_schedule.specs.Taken.{busy_owed, came, completes, is_waiting, reply_of, reply_owed, taken}
+use Rattle.mctp_schedule.specs.Taken.{busy_expected, came, completes, is_waiting, reply_of, reply_expected, taken}
 use Rattle.mctp_schedule.specs.Worlds.{IsTimely, IsTimelyAction, NeverWentBack, Setting, requests_of, timing_of, world}
 use Rattle.schedule_text.specs.declared.step.Action.TheVariants.{Reply, Busy}
 use Rattle.schedule_text.specs.declared.step.Step.{Step}
@@ -61,31 +61,31 @@ module _ {S : Type 0} (setting : Setting S) where
       ≡ came setting steps k r
 
   -- what the packet of a reply gives at its requester is what the definitions owe to it
-  abbrev pub ReplyIsOwed : Type 0
-  ReplyIsOwed =
+  abbrev pub ReplyIsExpected : Type 0
+  ReplyIsExpected =
       (past : List Step) (moment k j : ℕ)
       → IsTimelySchedule setting past → IsTimelyAction setting (world setting past) moment (Reply j k)
-      → got_of_reply setting (world setting past) k j ≡ reply_owed setting past k j
+      → got_of_reply setting (world setting past) k j ≡ reply_expected setting past k j
 
   -- and so is what that of a busy answer gives
-  abbrev pub BusyIsOwed : Type 0
-  BusyIsOwed =
+  abbrev pub BusyIsExpected : Type 0
+  BusyIsExpected =
       (past : List Step) (moment k : ℕ)
       → IsTimelySchedule setting past → IsTimelyAction setting (world setting past) moment (Busy k)
-      → got_of_busy setting (world setting past) k ≡ busy_owed setting past k
+      → got_of_busy setting (world setting past) k ≡ busy_expected setting past k
 
   -- a request that was taken is answered, by its one reply; one that was not is open or given up
-  abbrev pub StandingIs : List Step → ℕ → Standing → Type 0
-  StandingIs steps k Waiting = taken setting steps k ≡ false
-  StandingIs steps k (Answered message) =
+  abbrev pub ProgressIs : List Step → ℕ → Progress → Type 0
+  ProgressIs steps k Waiting = taken setting steps k ≡ false
+  ProgressIs steps k (Answered message) =
       (taken setting steps k ≡ true) × (message ≡ reply_of setting (world setting steps) k)
-  StandingIs steps k GaveUp = taken setting steps k ≡ false
+  ProgressIs steps k GaveUp = taken setting steps k ≡ false
 
   abbrev pub AnsweredWhereTaken : Type 0
   AnsweredWhereTaken =
       (steps : List Step) (k : ℕ) (r : Asked)
       → IsTimelySchedule setting steps → asked_at (world setting steps).log k ≡ Some r
-      → StandingIs steps k ((requests_of setting (world setting steps) r.source).each r.own).course.standing
+      → ProgressIs steps k ((requests_of setting (world setting steps) r.source).each r.own).course.progress
 
   -- it is taken once: no later packet completes it
   abbrev pub TakenOnce : Type 0
@@ -98,5 +98,5 @@ module _ {S : Type 0} (setting : Setting S) where
   AnsweredWasPerformed =
       (steps : List Step) (k : ℕ) (r : Asked) (message : List ℕ)
       → IsTimelySchedule setting steps → asked_at (world setting steps).log k ≡ Some r
-      → ((requests_of setting (world setting steps) r.source).each r.own).course.standing ≡ Answered message
+      → ((requests_of setting (world setting steps) r.source).each r.own).course.progress ≡ Answered message
       → WasPerformedOnce setting steps k r message

@@ -114,26 +114,26 @@ module _ {S : Type 0} (setting : Setting S) where
 
   -- what packet j of its reply owes to request k, which is r: the answer where it completes k; else what assembly
   -- gives while k is open, and a bad tag where it is not
-  abbrev pub part_owed : List Step → ℕ → ℕ → Asked → Got
-  part_owed past k j r =
+  abbrev pub part_expected : List Step → ℕ → ℕ → Asked → Got
+  part_expected past k j r =
       if completes past k j then got.Answered r.own else if_waiting past r (assembly_gives past k j r)
 
-  abbrev pub reply_owed_to : List Step → ℕ → ℕ → Option Asked → Option Got
-  reply_owed_to past k j None = None
-  reply_owed_to past k j (Some r) = if has_part (world setting past) k j then Some (part_owed past k j r) else None
+  abbrev pub reply_expected_to : List Step → ℕ → ℕ → Option Asked → Option Got
+  reply_expected_to past k j None = None
+  reply_expected_to past k j (Some r) = if has_part (world setting past) k j then Some (part_expected past k j r) else None
 
   -- what the delivery of packet j of request k's reply owes: nothing where k was not opened or its reply has no such
   -- packet
-  abbrev pub reply_owed : List Step → ℕ → ℕ → Option Got
-  reply_owed past k j = reply_owed_to past k j (asked_at (world setting past).log k)
+  abbrev pub reply_expected : List Step → ℕ → ℕ → Option Got
+  reply_expected past k j = reply_expected_to past k j (asked_at (world setting past).log k)
 
-  abbrev pub busy_owed_to : List Step → ℕ → Option Asked → Option Got
-  busy_owed_to past k None = None
-  busy_owed_to past k (Some r) =
+  abbrev pub busy_expected_to : List Step → ℕ → Option Asked → Option Got
+  busy_expected_to past k None = None
+  busy_expected_to past k (Some r) =
       if was_busy S setting.keep (world setting past).log k
       then Some (if_waiting past r (got.Dropped NotReady))
       else None
 
   -- what the delivery of a busy answer to request k owes
-  abbrev pub busy_owed : List Step → ℕ → Option Got
-  busy_owed past k = busy_owed_to past k (asked_at (world setting past).log k)
+  abbrev pub busy_expected : List Step → ℕ → Option Got
+  busy_expected past k = busy_expected_to past k (asked_at (world setting past).log k)

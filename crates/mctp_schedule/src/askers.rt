@@ -189,7 +189,7 @@ impl Asker {
         requires answer { HasAnswer (held_of self.now.station) own }
         requires one { own < length self.now.numbers }
         ensures number { IfOk result (λ answered. answered.number ≡ slice_index self.now.numbers own) }
-        ensures message { IfOk result (λ answered. option_map (λ memo. memo.course.standing)
+        ensures message { IfOk result (λ answered. option_map (λ memo. memo.course.progress)
             ((held_of self.now.station).remembered own) ≡ Some (courses.Answered answered.message)) }
     {
         let number = self.numbers[own as usize];

@@ -100,7 +100,7 @@ pub fn run<P: Platform>(
         reply: Body::new(),
     };
     for step in schedule.steps() {
-        ends.take(step)?;
+        ends.run_step(step)?;
     }
     let Ends {
         responder,
@@ -139,7 +139,7 @@ struct Ends<P: Platform> {
 
 impl<P: Platform> Ends<P> {
     /// Takes a step.
-    fn take(&mut self, step: &Step) -> Result<(), Memory>
+    fn run_step(&mut self, step: &Step) -> Result<(), Memory>
         requires { CanGoOn (rules_of P.answer P.after P.sensed) (held_by self.old) step.now }
         ensures { OnOk result (HasDone (rules_of P.answer P.after P.sensed) P.performed (held_by self.old)
             step.now (held_by self.new)) }

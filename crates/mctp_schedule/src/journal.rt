@@ -4,7 +4,7 @@ ghost use Rattle.std.specs.Prelude.{◌≡◌, ◌<◌, ◌++◌, ◌∷◌, [],
 ghost use Rattle.std.specs.List.{list_any};
 ghost use Rattle.pldm_responder.specs.Answering.{answering};
 ghost use Rattle.mctp_schedule.specs.Deliveries.{packets_of_outcome};
-ghost use Rattle.mctp_schedule.specs.Journals.{answered_as, answers_at, fresh_numbers, latest_packets, packet_at, packet_of_request, place_of, stands_after};
+ghost use Rattle.mctp_schedule.specs.Journals.{answered_as, answers_at, fresh_numbers, latest_packets, packet_at, packet_of_request, place_of, progress_after};
 ghost use Rattle.mctp_schedule.specs.Requests.{begun};
 
 use crate::askers::{AnsweredRequest, MAX_REQUEST_PACKET_BYTES, SentRequest};
@@ -196,7 +196,7 @@ impl Journal {
         ensures entries { OnOk result (self.new.entries.items ≡ self.old.entries.items ++ Entry.Due due ∷ []) }
         ensures all { OnOk result (length self.new.requests.items ≡ length self.old.requests.items) }
         ensures requests { OnOk result ((number : ℕ) → slice_get self.new.requests.items number ≡ option_map
-            (stands_after due.given_up.items number) (slice_get self.old.requests.items number)) }
+            (progress_after due.given_up.items number) (slice_get self.old.requests.items number)) }
         ensures traffic { OnOk result (self.new.traffic.items ≡ self.old.traffic.items) }
         ensures order { OnOk result (self.new.order.items ≡ self.old.order.items) }
         ensures timely { OnOk result (self.new.timely ≡ self.old.timely) }
@@ -212,7 +212,7 @@ impl Journal {
             self.old.requests.items }
         ensures all { length self.new.requests.items ≡ length self.old.requests.items }
         ensures requests { (number : ℕ) → slice_get self.new.requests.items number ≡ option_map
-            (stands_after numbers.now number) (slice_get self.old.requests.items number) }
+            (progress_after numbers.now number) (slice_get self.old.requests.items number) }
         ensures entries { self.new.entries ≡ self.old.entries }
         ensures traffic { self.new.traffic ≡ self.old.traffic }
         ensures order { self.new.order ≡ self.old.order }

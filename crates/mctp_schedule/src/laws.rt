@@ -3,8 +3,8 @@
 ghost use Rattle.pldm_responder.specs.Performing.{rules_of};
 ghost use Rattle.mctp_schedule.specs.Laws.{LogIsTimely, TimelyIsTested};
 ghost use Rattle.mctp_schedule.specs.Worlds.{Setting};
-ghost use Rattle.mctp_schedule.specs.RequesterHalf.{AnsweredWasPerformed, AnsweredWhereTaken, BusyIsOwed, OwnAssembly, OwnDeliveries, ReplyIsOwed, TakenOnce};
-ghost use Rattle.mctp_schedule.specs.DeviceHalf.{DeliveryIsOwed, FreshInOrderOfFirsts, FreshWhereFirst, GivenIsTheReply, NoneOpenedSince, NotPerformedAgain, StateIsOnce, TheReplyFits};
+ghost use Rattle.mctp_schedule.specs.RequesterHalf.{AnsweredWasPerformed, AnsweredWhereTaken, BusyIsExpected, OwnAssembly, OwnDeliveries, ReplyIsExpected, TakenOnce};
+ghost use Rattle.mctp_schedule.specs.DeviceHalf.{DeliveryIsExpected, FreshInOrderOfFirsts, FreshWhereFirst, GivenIsTheReply, NoneOpenedSince, NotPerformedAgain, StateIsOnce, TheReplyFits};
 
 use pldm_platform::Platform;
 pub use schedule_text::laws::lines_are_read_as_spelled;
@@ -22,7 +22,7 @@ pub fn fresh_deliveries_are_first<P: Platform>()
 pub fn performs_once<P: Platform>()
     ensures state { StateIsOnce (rules_of P.answer P.after P.sensed) }
     ensures not_again { NotPerformedAgain (rules_of P.answer P.after P.sensed) }
-    ensures delivery { DeliveryIsOwed (rules_of P.answer P.after P.sensed) }
+    ensures delivery { DeliveryIsExpected (rules_of P.answer P.after P.sensed) }
     ensures given { GivenIsTheReply (rules_of P.answer P.after P.sensed) }
     ensures fits { TheReplyFits (rules_of P.answer P.after P.sensed) }
 {}
@@ -38,13 +38,13 @@ pub fn logs_are_timely<P: Platform>()
 }
 
 /// Over a timely schedule an open request is fed the packets of its one reply and its busy answers alone,
-/// each packet of an answer gives what is owed to it, and a request is answered exactly where it was
+/// each packet of an answer gives what is expected to it, and a request is answered exactly where it was
 /// taken, by its one reply, which performing it exactly once gave.
 pub fn requesters_take_the_one_reply<P: Platform>()
     ensures deliveries { (setting : Setting P.State) → OwnDeliveries setting }
     ensures assembly { (setting : Setting P.State) → OwnAssembly setting }
-    ensures reply { (setting : Setting P.State) → ReplyIsOwed setting }
-    ensures busy { (setting : Setting P.State) → BusyIsOwed setting }
+    ensures reply { (setting : Setting P.State) → ReplyIsExpected setting }
+    ensures busy { (setting : Setting P.State) → BusyIsExpected setting }
     ensures answered { (setting : Setting P.State) → AnsweredWhereTaken setting }
     ensures once { (setting : Setting P.State) → TakenOnce setting }
     ensures performed { (setting : Setting P.State) → AnsweredWasPerformed setting }

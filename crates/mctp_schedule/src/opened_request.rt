@@ -3,8 +3,8 @@
 ghost use Rattle.std.specs.Prelude.{◌≡◌, ◌++◌, ◌%◌};
 ghost use Rattle.pldm_requester.specs.Courses.{GaveUp, Answered};
 ghost use Rattle.pldm_requester.specs.Numbering.{id_of, tag_of};
-ghost use Rattle.pldm_requester.specs.Standings.{standing_told};
-ghost use Rattle.mctp_schedule.specs.Requests.{begun, with_standing};
+ghost use Rattle.pldm_requester.specs.RequestProgress.{progress_in_status};
+ghost use Rattle.mctp_schedule.specs.Requests.{begun, with_progress};
 
 use crate::askers::MAX_REQUEST_PACKET_BYTES;
 use crate::stored_message::{MAX_SHORT, ShortMessage, StoredBytes, StoredMessage};
@@ -23,7 +23,7 @@ pub struct OpenedRequest {
     opening: Moment,
     requester: Eid,
     message: ShortMessage<MAX_REQUEST_BYTES>,
-    standing: Standing,
+    progress: Progress,
 }
 
 // A run holds one for each request: the requester and the message, with its count, lie in four words together.
@@ -31,7 +31,7 @@ const _: () = prove!(size_of::<OpenedRequest>() == 72);
 
 /// How it stands. How its answer is stored is told by the same mark.
 #[derive(Debug, Drop)]
-enum Standing {
+enum Progress {
     /// It is open.
     Waiting,
     /// It was answered, by this short message.
@@ -43,7 +43,7 @@ enum Standing {
 }
 
 impl Model for OpenedRequest {
-    ghost use Rattle.mctp_schedule.specs.Requests.{Request, coded_request, standing_of};
+    ghost use Rattle.mctp_schedule.specs.Requests.{Request, coded_request, progress_of};
 
     ghost Value = { Request };
 
@@ -51,7 +51,7 @@ impl Model for OpenedRequest {
 
     ghost view = { λ r. record {
       asked = record { source = r.requester; own = r.number; opening = r.opening; message = r.message };
-      standing = standing_of r.standing;
+      progress = progress_of r.progress;
     } };
 }
 
@@ -70,7 +70,7 @@ impl OpenedRequest {
             opening,
             requester,
             message,
-            standing: Standing::Waiting,
+            progress: Progress::Waiting,
         }
     }
 
@@ -128,30 +128,30 @@ impl OpenedRequest {
 
     /// How it stands.
     pub fn status(&self) -> Status<'_>
-        ensures { standing_told result ≡ self.now.standing }
+        ensures { progress_in_status result ≡ self.now.progress }
     {
-        match &self.standing {
-            Standing::Waiting => Status::Open,
-            Standing::AnsweredShort(message) => Status::Answered(message.bytes()),
-            Standing::AnsweredShared(message) => Status::Answered(message.as_slice()),
-            Standing::GaveUp => Status::GaveUp,
+        match &self.progress {
+            Progress::Waiting => Status::Open,
+            Progress::AnsweredShort(message) => Status::Answered(message.bytes()),
+            Progress::AnsweredShared(message) => Status::Answered(message.as_slice()),
+            Progress::GaveUp => Status::GaveUp,
         }
     }
 
     /// It is given up.
     pub(crate) fn give_up(&mut self)
-        ensures { self.new ≡ with_standing GaveUp self.old }
+        ensures { self.new ≡ with_progress GaveUp self.old }
     {
-        self.standing = Standing::GaveUp;
+        self.progress = Progress::GaveUp;
     }
 
     /// It is answered.
     pub(crate) fn answer(&mut self, message: StoredMessage)
-        ensures { self.new ≡ with_standing (Answered message) self.old }
+        ensures { self.new ≡ with_progress (Answered message) self.old }
     {
-        self.standing = match message.into_bytes() {
-            StoredBytes::Short(message) => Standing::AnsweredShort(message),
-            StoredBytes::Shared(message) => Standing::AnsweredShared(message),
+        self.progress = match message.into_bytes() {
+            StoredBytes::Short(message) => Progress::AnsweredShort(message),
+            StoredBytes::Shared(message) => Progress::AnsweredShared(message),
         };
     }
 }

@@ -5,7 +5,7 @@ use Rattle.std.proofs.lemmas.Bool.{eqb-true, eqb-false, cases_lt}
 use Rattle.std.proofs.lemmas.Nat.{pow_pos, pow-add, xor_comm, xor_lt, xor_shr, xor_mod}
 use Rattle.std.proofs.Math.Nat.{pow-suc}
 use Rattle.std.specs.Int.Bits.{xor_assoc, xor_self, xor_zero_r}
-use Rattle.mctp_serial.specs.CheckLaws.{AreBytes, SequenceIsRemainder, OneRemainder, ShortBurstsTold}
+use Rattle.mctp_serial.specs.CheckLaws.{AreBytes, SequenceIsRemainder, OneRemainder, ShortBurstsAreReported}
 use Rattle.mctp_serial.specs.CheckSequences.{bit_further, bits_further, byte_further}
 use Rattle.mctp_serial.specs.Remainders.{divisor, times_divisor, IsRemainder, number_of}
 use Rattle.mctp_serial.specs.declared.TheConstants.{POLYNOMIAL, START_REGISTER}
@@ -133,7 +133,7 @@ burst_stays n burst place h e =
       no_product zero b h g = refl
       no_product (suc a) b h g = absurd (omega (arith, g))
 
-pub bursts_told : ShortBurstsTold
+pub bursts_told : ShortBurstsAreReported
 bursts_told a b burst place are_a are_b same some short apart = λ equal.
     let m = 8 * length a in
     let turned_a = bit_xor START_REGISTER (number_of a) in

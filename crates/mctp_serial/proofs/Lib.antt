@@ -5,4 +5,4 @@ pub mod Numbers
 pub mod WorkedFrames
 pub mod Polynomials
 pub mod Divided
-pub mod FramesTold
+pub mod FramesReported

@@ -2,7 +2,7 @@
 use Rattle.std.proofs.Common.{◌≡◌, ℕ, List, [], ◌∷◌, ◌++◌, refl, take, drop}
 use Rattle.mctp_serial.specs.CheckSequences.{bit_further, bits_further, byte_further, check_sequence}
 use Rattle.mctp_serial.specs.Frames.{frame}
-use Rattle.mctp_serial.specs.Readings.{idle, packet_of, told_by}
+use Rattle.mctp_serial.specs.Readings.{idle, packet_of, events_in}
 use Rattle.mctp_serial.specs.declared.fault.FrameFault.TheVariants.{WrongRevision, Empty, TooLong, CutShort, BadEscape, WrongCheck, NoEnd}
 use Rattle.mctp_serial.specs.declared.reader.FrameEvent.TheVariants.{Dropped}
 
@@ -20,7 +20,7 @@ a_frame : frame a_packet ≡ its_frame
 unfolding byte_further bits_further bit_further
 a_frame = refl
 
-read_back : told_by idle its_frame ≡ packet_of a_packet ∷ []
+read_back : events_in idle its_frame ≡ packet_of a_packet ∷ []
 unfolding byte_further bits_further bit_further
 read_back = refl
 
@@ -28,37 +28,37 @@ read_back = refl
 escapes : take 7 (frame (0x7E ∷ 0x7D ∷ [])) ≡ 0x7E ∷ 0x01 ∷ 0x02 ∷ 0x7D ∷ 0x5E ∷ 0x7D ∷ 0x5D ∷ []
 escapes = refl
 
-noise_before_a_frame : told_by idle (0x55 ∷ 0x01 ∷ its_frame) ≡ packet_of a_packet ∷ []
+noise_before_a_frame : events_in idle (0x55 ∷ 0x01 ∷ its_frame) ≡ packet_of a_packet ∷ []
 unfolding byte_further bits_further bit_further
 noise_before_a_frame = refl
 
-a_flag_between_two : told_by idle (its_frame ++ drop 1 its_frame) ≡ packet_of a_packet ∷ packet_of a_packet ∷ []
+a_flag_between_two : events_in idle (its_frame ++ drop 1 its_frame) ≡ packet_of a_packet ∷ packet_of a_packet ∷ []
 unfolding byte_further bits_further bit_further
 a_flag_between_two = refl
 
-another_revision : told_by idle (0x7E ∷ 0x02 ∷ 0x08 ∷ []) ≡ Dropped WrongRevision ∷ []
+another_revision : events_in idle (0x7E ∷ 0x02 ∷ 0x08 ∷ []) ≡ Dropped WrongRevision ∷ []
 another_revision = refl
 
-no_bytes : told_by idle (0x7E ∷ 0x01 ∷ 0x00 ∷ []) ≡ Dropped Empty ∷ []
+no_bytes : events_in idle (0x7E ∷ 0x01 ∷ 0x00 ∷ []) ≡ Dropped Empty ∷ []
 no_bytes = refl
 
-too_many_bytes : told_by idle (0x7E ∷ 0x01 ∷ 0x45 ∷ []) ≡ Dropped TooLong ∷ []
+too_many_bytes : events_in idle (0x7E ∷ 0x01 ∷ 0x45 ∷ []) ≡ Dropped TooLong ∷ []
 too_many_bytes = refl
 
-a_flag_for_the_count : told_by idle (0x7E ∷ 0x01 ∷ its_frame) ≡ Dropped TooLong ∷ packet_of a_packet ∷ []
+a_flag_for_the_count : events_in idle (0x7E ∷ 0x01 ∷ its_frame) ≡ Dropped TooLong ∷ packet_of a_packet ∷ []
 unfolding byte_further bits_further bit_further
 a_flag_for_the_count = refl
 
-cut_short : told_by idle (take 9 its_frame ++ its_frame) ≡ Dropped CutShort ∷ packet_of a_packet ∷ []
+cut_short : events_in idle (take 9 its_frame ++ its_frame) ≡ Dropped CutShort ∷ packet_of a_packet ∷ []
 unfolding byte_further bits_further bit_further
 cut_short = refl
 
-a_bad_escape : told_by idle (0x7E ∷ 0x01 ∷ 0x02 ∷ 0x7D ∷ 0x5F ∷ []) ≡ Dropped BadEscape ∷ []
+a_bad_escape : events_in idle (0x7E ∷ 0x01 ∷ 0x02 ∷ 0x7D ∷ 0x5F ∷ []) ≡ Dropped BadEscape ∷ []
 a_bad_escape = refl
 
-a_wrong_sequence : told_by idle (take 12 its_frame ++ 0xA7 ∷ 0x7E ∷ its_frame) ≡ Dropped WrongCheck ∷ packet_of a_packet ∷ []
+a_wrong_sequence : events_in idle (take 12 its_frame ++ 0xA7 ∷ 0x7E ∷ its_frame) ≡ Dropped WrongCheck ∷ packet_of a_packet ∷ []
 unfolding byte_further bits_further bit_further
 a_wrong_sequence = refl
 
-no_flag_at_the_end : told_by idle (take 13 its_frame ++ 0x00 ∷ []) ≡ Dropped NoEnd ∷ []
+no_flag_at_the_end : events_in idle (take 13 its_frame ++ 0x00 ∷ []) ≡ Dropped NoEnd ∷ []
 no_flag_at_the_end = refl

@@ -19,8 +19,8 @@ OneRemainder =
     → IsRemainder powers number remainder → IsRemainder powers number other → remainder ≡ other
 
 -- bytes of one length whose bits differ only within sixteen in a row, from bit `place` on, differ in it
-abbrev pub ShortBurstsTold : Type 0
-ShortBurstsTold =
+abbrev pub ShortBurstsAreReported : Type 0
+ShortBurstsAreReported =
     (a b : List ℕ) (burst place : ℕ)
     → AreBytes a → AreBytes b → length a ≡ length b
     → burst ≢ 0 → burst < 2 ^ 16 → bit_xor (number_of a) (number_of b) ≡ burst * 2 ^ place

@@ -2,19 +2,19 @@
 use Rattle.std.specs.Prelude.{◌≡◌, ℕ, ◌<◌, List, [], ◌∷◌, ◌++◌, Bool, true, false}
 use Rattle.mctp_serial.specs.CheckLaws.{AreBytes}
 use Rattle.mctp_serial.specs.Frames.{HasFrame, frame}
-use Rattle.mctp_serial.specs.Readings.{Reading, idle, opened, high, low, packet_of, step, after, told_by}
+use Rattle.mctp_serial.specs.Readings.{Reading, idle, opened, high, low, packet_of, step, after, events_in}
 use Rattle.mctp_serial.specs.declared.TheConstants.{FLAG}
 
 -- what is written is read back, by a reader that waits for a frame
 abbrev pub ReadsBack : Type 0
 ReadsBack =
     (packet rest : List ℕ) → HasFrame packet
-    → (told_by idle (frame packet ++ rest) ≡ packet_of packet ∷ told_by opened rest)
-    × (told_by opened (frame packet ++ rest) ≡ packet_of packet ∷ told_by opened rest)
+    → (events_in idle (frame packet ++ rest) ≡ packet_of packet ∷ events_in opened rest)
+    × (events_in opened (frame packet ++ rest) ≡ packet_of packet ∷ events_in opened rest)
 
 -- a packet is told only where the bytes end with its frame
-abbrev pub OnlyFramesTold : Type 0
-OnlyFramesTold =
+abbrev pub OnlyFramesAreReported : Type 0
+OnlyFramesAreReported =
     (bytes packet : List ℕ) (byte : ℕ)
     → AreBytes bytes → byte < 256 → (step (after idle bytes) byte).told ≡ packet_of packet
     → HasFrame packet × ((before : List ℕ) × (bytes ++ byte ∷ [] ≡ before ++ frame packet))
@@ -23,7 +23,7 @@ OnlyFramesTold =
 abbrev pub PiecesJoin : Type 0
 PiecesJoin =
     (reading : Reading) (a b : List ℕ)
-    → (told_by reading (a ++ b) ≡ told_by reading a ++ told_by (after reading a) b)
+    → (events_in reading (a ++ b) ≡ events_in reading a ++ events_in (after reading a) b)
     × (after reading (a ++ b) ≡ after (after reading a) b)
 
 -- three flags open a frame wherever the reader stands

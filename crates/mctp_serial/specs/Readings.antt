@@ -82,11 +82,11 @@ after reading [] = reading
 after reading (byte ∷ bytes) = after (step reading byte).next bytes
 
 -- what was told, before what is told later
-abbrev pub then_told : FrameEvent → List FrameEvent → List FrameEvent
-then_told Nothing later = later
-then_told told later = told ∷ later
+abbrev pub then_event : FrameEvent → List FrameEvent → List FrameEvent
+then_event Nothing later = later
+then_event told later = told ∷ later
 
 -- what the bytes tell, in order
-abbrev pub told_by : Reading → List ℕ → List FrameEvent
-told_by reading [] = []
-told_by reading (byte ∷ bytes) = then_told (step reading byte).told (told_by (step reading byte).next bytes)
+abbrev pub events_in : Reading → List ℕ → List FrameEvent
+events_in reading [] = []
+events_in reading (byte ∷ bytes) = then_event (step reading byte).told (events_in (step reading byte).next bytes)

@@ -1,13 +1,13 @@
 //! Laws over the definitions alone: each is the contract of a function that does nothing.
 
-ghost use Rattle.mctp_serial.specs.CheckLaws.{SequenceIsRemainder, OneRemainder, ShortBurstsTold};
-ghost use Rattle.mctp_serial.specs.Laws.{ReadsBack, OnlyFramesTold, PiecesJoin, ThreeFlagsOpen, OneFlagOpens};
+ghost use Rattle.mctp_serial.specs.CheckLaws.{SequenceIsRemainder, OneRemainder, ShortBurstsAreReported};
+ghost use Rattle.mctp_serial.specs.Laws.{ReadsBack, OnlyFramesAreReported, PiecesJoin, ThreeFlagsOpen, OneFlagOpens};
 
 /// The frame of a packet is read back as the packet, whatever comes after it; and a packet is told only
 /// where its frame has come.
 pub fn frames_read_back()
     ensures back { ReadsBack }
-    ensures only { OnlyFramesTold }
+    ensures only { OnlyFramesAreReported }
 {}
 
 /// What bytes tell does not depend on the pieces in which they come.
@@ -27,5 +27,5 @@ pub fn flags_open()
 pub fn check_sequence_is_a_remainder()
     ensures remainder { SequenceIsRemainder }
     ensures one { OneRemainder }
-    ensures bursts { ShortBurstsTold }
+    ensures bursts { ShortBurstsAreReported }
 {}

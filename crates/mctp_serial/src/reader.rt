@@ -79,16 +79,16 @@ impl FrameReader {
     {
         let (place, told) = match self.place {
             Place::Idle => (after_end(byte), FrameEvent::Nothing),
-            Place::Opened => take_revision(byte),
-            Place::Counting => take_count(byte, &mut self.bytes),
-            Place::Inside(count) => take_inside(count, byte, &mut self.bytes),
-            Place::Escaped(count) => take_escaped(count, byte, &mut self.bytes),
+            Place::Opened => read_revision(byte),
+            Place::Counting => read_count(byte, &mut self.bytes),
+            Place::Inside(count) => read_inside(count, byte, &mut self.bytes),
+            Place::Escaped(count) => read_escaped(count, byte, &mut self.bytes),
             Place::High => (Place::Low(byte), FrameEvent::Nothing),
             Place::Low(high) => (
                 Place::Closing(u16::from_be_bytes([high, byte])),
                 FrameEvent::Nothing,
             ),
-            Place::Closing(sent) => take_end(sent, byte, &mut self.bytes),
+            Place::Closing(sent) => read_end(sent, byte, &mut self.bytes),
         };
         self.place = place;
         told
@@ -117,7 +117,7 @@ fn drop(fault: FrameFault, byte: u8) -> (Place, FrameEvent)
 }
 
 /// Takes the byte after a flag.
-fn take_revision(byte: u8) -> (Place, FrameEvent)
+fn read_revision(byte: u8) -> (Place, FrameEvent)
     ensures reading { (bytes : List ℕ)
         → step opened byte ≡ record { told = result.1; next = reading_of result.0 bytes } }
     ensures room { (bytes : List ℕ) → HasRoom result.0 bytes }
@@ -130,7 +130,7 @@ fn take_revision(byte: u8) -> (Place, FrameEvent)
 }
 
 /// Takes the count of a packet's bytes.
-fn take_count(byte: u8, bytes: &mut PacketBytes) -> (Place, FrameEvent)
+fn read_count(byte: u8, bytes: &mut PacketBytes) -> (Place, FrameEvent)
     ensures reading { step counting byte ≡ record { told = result.1; next = reading_of result.0 bytes.new.items } }
     ensures room { HasRoom result.0 bytes.new.items }
 {
@@ -145,7 +145,7 @@ fn take_count(byte: u8, bytes: &mut PacketBytes) -> (Place, FrameEvent)
 }
 
 /// Takes a byte in a packet of `count`.
-fn take_inside(count: u8, byte: u8, bytes: &mut PacketBytes) -> (Place, FrameEvent)
+fn read_inside(count: u8, byte: u8, bytes: &mut PacketBytes) -> (Place, FrameEvent)
     requires { HasRoom (Inside count) bytes.old.items }
     ensures reading { step (inside count bytes.old.items) byte
         ≡ record { told = result.1; next = reading_of result.0 bytes.new.items } }
@@ -159,7 +159,7 @@ fn take_inside(count: u8, byte: u8, bytes: &mut PacketBytes) -> (Place, FrameEve
 }
 
 /// Takes the byte after an escape.
-fn take_escaped(count: u8, byte: u8, bytes: &mut PacketBytes) -> (Place, FrameEvent)
+fn read_escaped(count: u8, byte: u8, bytes: &mut PacketBytes) -> (Place, FrameEvent)
     requires { HasRoom (Escaped count) bytes.old.items }
     ensures reading { step (escaped count bytes.old.items) byte
         ≡ record { told = result.1; next = reading_of result.0 bytes.new.items } }
@@ -188,7 +188,7 @@ fn add(count: u8, byte: u8, bytes: &mut PacketBytes) -> Place
 }
 
 /// Takes the byte after the check sequence that was sent.
-fn take_end(sent: u16, byte: u8, bytes: &mut PacketBytes) -> (Place, FrameEvent)
+fn read_end(sent: u16, byte: u8, bytes: &mut PacketBytes) -> (Place, FrameEvent)
     ensures reading { step (closing bytes.old.items sent) byte
         ≡ record { told = result.1; next = reading_of result.0 bytes.new.items } }
     ensures room { HasRoom result.0 bytes.new.items }

@@ -85,5 +85,5 @@ begun text = if nat_lt MAX_DESCRIPTION (length text) then Err faults.TooLarge el
 
 -- the result is the value or the fault that there is; memory may run out at any input
 abbrev pub IsReturned : {T : Type 0} → Result T EngineFault → Result T EngineFault → Type 0
-IsReturned owed (Ok value) = owed ≡ Ok value
-IsReturned owed (Err fault) = (fault ≡ no_memory) ⊎ ((fault ≢ no_memory) × (owed ≡ Err fault))
+IsReturned expected (Ok value) = expected ≡ Ok value
+IsReturned expected (Err fault) = (fault ≡ no_memory) ⊎ ((fault ≢ no_memory) × (expected ≡ Err fault))

@@ -3,11 +3,11 @@ use Rattle.std.proofs.Common.{Result, Ok, Err, OnOk, ◌≡◌, ℕ, List, [], �
 use Rattle.std.specs.Io.KnownBytes.{Appends, Consumes, Keeps, IsAtEnd}
 use Rattle.std.proofs.KnownBytes.{Appends-kept, Appends-trans, Appends-nil, Consumes-trans, Consumes-nil, Consumes-whole}
 use Rattle.mctp_control.specs.declared.endpoint.Endpoint.{Endpoint}
-use Rattle.mctp_serial.specs.Readings.{Reading, Step, step, after, told_by, then_told}
+use Rattle.mctp_serial.specs.Readings.{Reading, Step, step, after, events_in, then_event}
 use Rattle.mctp_serial.specs.declared.reader.FrameEvent.{FrameEvent}
 use Rattle.mctp_serial.specs.declared.reader.FrameEvent.TheVariants.{Nothing, Packet, Dropped}
 use Rattle.mctpctl_input.specs.CaptureLine.{TimedPacket}
-use Rattle.mctpctl_serve.specs.Serving.{packets_told, packets_in, moment_after, timed, Answerers, answerers, packet_frames, packet_after, packets_after, control_after, frames_of, answers, came, Hears, HearsFront}
+use Rattle.mctpctl_serve.specs.Serving.{packets_of, packets_in, moment_after, timed, Answerers, answerers, packet_frames, packet_after, packets_after, control_after, frames_of, answers, came, Hears, HearsFront}
 use Rattle.pldm_responder.specs.Held.{Held}
 use Rattle.pldm_responder.specs.Performing.{Rules}
 use Rattle.pldm_responder.specs.Steps.{received_held, received_outcome}
@@ -18,7 +18,7 @@ packet_of Nothing = []
 packet_of (Packet packet) = packet.items ∷ []
 packet_of (Dropped fault) = []
 
-packets-then : (t : FrameEvent) (told : List FrameEvent) → packets_told (then_told t told) ≡ packet_of t ++ packets_told told
+packets-then : (t : FrameEvent) (told : List FrameEvent) → packets_of (then_event t told) ≡ packet_of t ++ packets_of told
 unfolding packet_of
 packets-then Nothing told = refl
 packets-then (Packet packet) told = refl
@@ -29,10 +29,10 @@ packets-append r [] b = refl
 packets-append r (c ∷ a) b =
     let t = (step r c).told in
     let next = (step r c).next in
-    packets-then t (told_by next (a ++ b))
+    packets-then t (events_in next (a ++ b))
     ∙ ap (λ l. packet_of t ++ l) (packets-append next a b)
     ∙ sym (append_assoc (packet_of t) (packets_in next a) (packets_in (after next a) b))
-    ∙ ap (λ l. l ++ packets_in (after next a) b) (sym (packets-then t (told_by next a)))
+    ∙ ap (λ l. l ++ packets_in (after next a) b) (sym (packets-then t (events_in next a)))
 
 after-append : (r : Reading) (a b : List ℕ) → after r (a ++ b) ≡ after (after r a) b
 after-append r [] b = refl
@@ -104,11 +104,11 @@ module _ {S : Type 0} (device : Rules S) where
 
   -- a byte that tells no packet
   pub hears_silent : (a : Answerers S) (r : Reading) (byte : ℕ) (t : FrameEvent) (next : Reading) (clock old : Option (List ℕ))
-      → step r byte ≡ record { told = t; next = next } → packets_told (then_told t []) ≡ []
+      → step r byte ≡ record { told = t; next = next } → packets_of (then_event t []) ≡ []
       → Hears device a r (byte ∷ []) a next clock clock old old
   hears_silent a r byte t next clock old e silent = record {
     readings = [];
-    each = ap (λ (l : List (List ℕ)). length l) (sym (ap (λ (s : Step). packets_told (then_told s.told [])) e ∙ silent));
+    each = ap (λ (l : List (List ℕ)). length l) (sym (ap (λ (s : Step). packets_of (then_event s.told [])) e ∙ silent));
     ticked = Consumes-nil clock;
     reader = sym (ap (λ (s : Step). s.next) e);
     answer = refl;
@@ -125,7 +125,7 @@ module _ {S : Type 0} (device : Rules S) where
       → Hears device a r (byte ∷ []) (answerers held1 control1) next clock clock1 old new
   hears_packet a r byte packet next reading held1 control1 clock clock1 old new e ticked responder control wrote =
       let moment = moment_after a.held.last reading in
-      let one : packets_in r (byte ∷ []) ≡ packet ∷ [] = ap (λ (s : Step). packets_told (then_told s.told [])) e in
+      let one : packets_in r (byte ∷ []) ≡ packet ∷ [] = ap (λ (s : Step). packets_of (then_event s.told [])) e in
       let timed_one : came device a r (byte ∷ []) (reading ∷ []) ≡ record { moment = moment; bytes = packet } ∷ [] = ap (timed a.held.last (reading ∷ [])) one in
       let text = packet_frames device a moment packet in
       record {

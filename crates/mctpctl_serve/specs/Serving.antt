@@ -7,7 +7,7 @@ use Rattle.mctp_control.specs.Dropped.{control_left, control_reply}
 use Rattle.mctp_control.specs.declared.endpoint.Endpoint.{Endpoint}
 use Rattle.mctp_packet.specs.declared.TheConstants.{MAX_MOMENT}
 use Rattle.mctp_serial.specs.Frames.{frame}
-use Rattle.mctp_serial.specs.Readings.{Reading, after, told_by}
+use Rattle.mctp_serial.specs.Readings.{Reading, after, events_in}
 use Rattle.mctp_serial.specs.declared.reader.FrameEvent.{FrameEvent}
 use Rattle.mctp_serial.specs.declared.reader.FrameEvent.TheVariants.{Nothing, Packet, Dropped}
 use Rattle.mctpctl_input.specs.CaptureLine.{TimedPacket}
@@ -18,15 +18,15 @@ use Rattle.pldm_responder.specs.declared.outcome.Outcome.{Outcome}
 use Rattle.pldm_responder.specs.declared.outcome.Outcome.TheVariants as outcome
 
 -- the packets of what was told
-abbrev pub packets_told : List FrameEvent → List (List ℕ)
-packets_told [] = []
-packets_told (Nothing ∷ told) = packets_told told
-packets_told (Packet packet ∷ told) = packet.items ∷ packets_told told
-packets_told (Dropped fault ∷ told) = packets_told told
+abbrev pub packets_of : List FrameEvent → List (List ℕ)
+packets_of [] = []
+packets_of (Nothing ∷ told) = packets_of told
+packets_of (Packet packet ∷ told) = packet.items ∷ packets_of told
+packets_of (Dropped fault ∷ told) = packets_of told
 
 -- the packets whose frames end in the bytes
 abbrev pub packets_in : Reading → List ℕ → List (List ℕ)
-packets_in reading bytes = packets_told (told_by reading bytes)
+packets_in reading bytes = packets_of (events_in reading bytes)
 
 -- the latest of the readings so far, and no later than the greatest moment
 abbrev pub moment_after : ℕ → ℕ → ℕ

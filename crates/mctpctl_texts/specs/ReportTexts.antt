@@ -11,18 +11,18 @@ use Rattle.mctpctl_texts.specs.EntryTexts.{entries_text, numbers_text}
 use Rattle.mctpctl_texts.specs.ShownLines.{spaced_line}
 use Rattle.pldm_device.specs.Devices.{Device}
 use Rattle.pldm_device.specs.Getters.{reading_of, states_of, value_of}
-use Rattle.pldm_requester.specs.Courses.{Standing, Waiting, Answered, GaveUp}
+use Rattle.pldm_requester.specs.Courses.{Progress, Waiting, Answered, GaveUp}
 
 -- how a request stands; an answered one is told with its response message
-abbrev pub standing_text : Standing → List ℕ
-standing_text Waiting = codes "open"
-standing_text (Answered message) = codes "answered " ++ encode_lower message
-standing_text GaveUp = codes "gave up"
+abbrev pub progress_text : Progress → List ℕ
+progress_text Waiting = codes "open"
+progress_text (Answered message) = codes "answered " ++ encode_lower message
+progress_text GaveUp = codes "gave up"
 
 abbrev pub request_line : ℕ → Request → List ℕ
 request_line number request =
     spaced_line (codes "request" ∷ decimal number ∷ codes "from" ∷ decimal request.asked.source
-    ∷ standing_text request.standing ∷ [])
+    ∷ progress_text request.progress ∷ [])
 
 -- a line for each of these requests, the first of them with this number
 abbrev pub requests_text : ℕ → List Request → List ℕ

@@ -2,9 +2,9 @@
 
 ghost use Rattle.std.specs.Prelude.{◌≡◌};
 ghost use Rattle.mctpctl_texts.specs.EntryTexts.{entries_text};
-ghost use Rattle.mctpctl_texts.specs.ReportTexts.{device_text, order_line, report_text, request_line, requests_text, standing_text, timely_line};
+ghost use Rattle.mctpctl_texts.specs.ReportTexts.{device_text, order_line, report_text, request_line, requests_text, progress_text, timely_line};
 ghost use Rattle.mctpctl_texts.specs.Writers.{Wrote};
-ghost use Rattle.pldm_requester.specs.Standings.{standing_told};
+ghost use Rattle.pldm_requester.specs.RequestProgress.{progress_in_status};
 
 use crate::decimal::Decimal;
 use crate::device_lines::write_device;
@@ -79,7 +79,7 @@ fn write_request_line<O: TextWriter>(
 
 fn write_status<O: TextWriter>(out: &mut O, status: Status<'_>) -> Result<(), O::Refusal>
     ensures { Wrote O.contents O.failed O.refused out.old out.new
-        (standing_text (standing_told status.entry)) result }
+        (progress_text (progress_in_status status.entry)) result }
 {
     match status {
         Status::Open => write_text(out, "open"),

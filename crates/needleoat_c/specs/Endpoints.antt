@@ -14,7 +14,7 @@ use Rattle.pldm_wire.specs.declared.assigned.TheConstants.{INSTANCE_IDS}
 use Rattle.pldm_wire.specs.declared.command.Command.{Command}
 use Rattle.pldm_responder.specs.Answering.{answering}
 use Rattle.pldm_responder.specs.Asked.{gives}
-use Rattle.pldm_responder.specs.GivenAnswers.{given_held, kept_bytes, outcome_given}
+use Rattle.pldm_responder.specs.OutsideAnswers.{answered_held, kept_bytes, outcome_of_answer}
 use Rattle.pldm_responder.specs.Held.{Held, IsHeld}
 use Rattle.pldm_responder.specs.Rooms.{IsCommanded}
 use Rattle.pldm_responder.specs.Stations.{held_of}
@@ -247,7 +247,7 @@ abbrev pub ReportsGiven :
     {S : Type 0} → Result Answer ℕ → Asked → AskingFields → StepReport → List (List ℕ) → Held S → Type 0
 ReportsGiven (Ok given) a fields r rooms held =
     ReportsOutcome
-    (outcome_given held.own fields.source a.tag (kept_bytes (held.kept fields.source fields.instance_id)) given) r rooms
+    (outcome_of_answer held.own fields.source a.tag (kept_bytes (held.kept fields.source fields.instance_id)) given) r rooms
 ReportsGiven (Err number) a fields r rooms held = IsRefused number r
 
 abbrev pub ReportsAnswerTo :
@@ -274,7 +274,7 @@ IsReportedSo reply given asked fields inside =
 -- it is kept for that request, from its moment on
 
 abbrev pub left_by_given : {S : Type 0} → Result Answer ℕ → AskingFields → Held S → Held (Unit {0})
-left_by_given (Ok given) asked held = given_held (bare held) asked.source asked.instance_id given
+left_by_given (Ok given) asked held = answered_held (bare held) asked.source asked.instance_id given
 left_by_given (Err number) asked held = bare held
 
 abbrev pub left_by_answer : {S : Type 0} → Option Asked → AskingFields → AnswerFields → Held S → Held (Unit {0})

@@ -8,7 +8,7 @@ use Rattle.mctp_packet.specs.declared.reason.Reason.{Reason}
 use Rattle.pldm_wire.specs.CommandReading.{command_of}
 use Rattle.pldm_wire.specs.Requests.{Request, request_of}
 use Rattle.pldm_wire.specs.declared.command.Command.{Command}
-use Rattle.pldm_requester.specs.Courses.{Standing, Waiting, Answered, GaveUp}
+use Rattle.pldm_requester.specs.Courses.{Progress, Waiting, Answered, GaveUp}
 use Rattle.pldm_requester.specs.Slots.{held_of}
 use Rattle.pldm_requester.specs.Steps.{Held, IsHeld, Memo, again_at, given_up_at, got_at, held_at_first, opened_held, opening_answer}
 use Rattle.pldm_requester.specs.Steps.{received_held, ticked_held}
@@ -188,12 +188,12 @@ packet_of number held =
     (option_map (λ (memo : Memo). memo.packets) (memo_of number held)))
 
 -- how a request stands, and its answer in front of the room
-abbrev pub ReportsStanding : Option Standing → StatusReport → List ℕ → List ℕ → Type 0
-ReportsStanding None r old new = (r.kind ≡ 0) × (r.length ≡ 0) × (new ≡ old)
-ReportsStanding (Some Waiting) r old new = (r.kind ≡ 1) × (r.length ≡ 0) × (new ≡ old)
-ReportsStanding (Some (Answered message)) r old new =
+abbrev pub ReportsProgress : Option Progress → StatusReport → List ℕ → List ℕ → Type 0
+ReportsProgress None r old new = (r.kind ≡ 0) × (r.length ≡ 0) × (new ≡ old)
+ReportsProgress (Some Waiting) r old new = (r.kind ≡ 1) × (r.length ≡ 0) × (new ≡ old)
+ReportsProgress (Some (Answered message)) r old new =
     (r.kind ≡ 2) × IsWritten (fitting MAX_MESSAGE_BYTES message) r.length old new
-ReportsStanding (Some GaveUp) r old new = (r.kind ≡ 3) × (r.length ≡ 0) × (new ≡ old)
+ReportsProgress (Some GaveUp) r old new = (r.kind ≡ 3) × (r.length ≡ 0) × (new ≡ old)
 
-abbrev pub standing_of : ℕ → Option Held → Option Standing
-standing_of number held = option_map (λ (memo : Memo). memo.course.standing) (memo_of number held)
+abbrev pub progress_of : ℕ → Option Held → Option Progress
+progress_of number held = option_map (λ (memo : Memo). memo.course.progress) (memo_of number held)

@@ -3,10 +3,10 @@
 ghost use Rattle.std.specs.Prelude.{◌≡◌, ◌<◌, ◌≤◌, Some, IfSome, is_some, length, take, option_and_then, option_map};
 ghost use Rattle.std.specs.Option.{option_copied};
 ghost use Rattle.pldm_requester.specs.Slots.{held_of};
-ghost use Rattle.pldm_requester.specs.Standings.{standing_told};
+ghost use Rattle.pldm_requester.specs.RequestProgress.{progress_in_status};
 ghost use Rattle.pldm_requester.specs.Steps.{IsHeld};
 ghost use Rattle.needleoat_forms.specs.Written.{IsWritten};
-ghost use Rattle.needleoat_c.specs.Requesters.{ReportsDue, ReportsGot, ReportsOpening, ReportsPacketIn, ReportsStanding, command_in, fault_number, fitting, is_next, opened_by, opening_in, packet_of, received_by, refusal_at, standing_of, ticked_by};
+ghost use Rattle.needleoat_c.specs.Requesters.{ReportsDue, ReportsGot, ReportsOpening, ReportsPacketIn, ReportsProgress, command_in, fault_number, fitting, is_next, opened_by, opening_in, packet_of, received_by, refusal_at, progress_of, ticked_by};
 
 use crate::refusals::{BAD_MOMENT, ID_IN_USE, NO_COMMAND, NO_MEMORY, TAG_IN_USE};
 use crate::reports::{DueReport, OpeningReport, PacketReport, StatusReport};
@@ -167,14 +167,14 @@ pub(crate) fn status(
     number: u64,
     message: &mut [u8; MAX_MESSAGE_BYTES],
 ) -> StatusReport
-    ensures { ReportsStanding (standing_of number (Some (held_of requester.now))) result message.old message.new }
+    ensures { ReportsProgress (progress_of number (Some (held_of requester.now))) result message.old message.new }
 {
     status_report(requester.status(number), message)
 }
 
 /// Reports a status, and writes the message of an answer.
 fn status_report(status: Option<Status<'_>>, room: &mut [u8; MAX_MESSAGE_BYTES]) -> StatusReport
-    ensures { ReportsStanding (option_map standing_told status.entry) result room.old room.new }
+    ensures { ReportsProgress (option_map progress_in_status status.entry) result room.old room.new }
 {
     match status {
         None => StatusReport { kind: 0, length: 0 },

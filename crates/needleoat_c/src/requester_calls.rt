@@ -2,7 +2,7 @@
 
 ghost use Rattle.std.specs.Prelude.{◌≡◌, ◌≢◌, ◌⊎◌, false, true};
 ghost use Rattle.needleoat_forms.specs.Written.{IsWritten};
-ghost use Rattle.needleoat_c.specs.Requesters.{HoldsAfter, IsNew, IsSetup, IsUpheld, MayNeedRoom, ReportsDue, ReportsOpening, ReportsPacket, ReportsStanding, holding, opened_by, opening_at, packet_of, received_by, refusal_at, standing_of, ticked_by, timing, unchanged};
+ghost use Rattle.needleoat_c.specs.Requesters.{HoldsAfter, IsNew, IsSetup, IsUpheld, MayNeedRoom, ReportsDue, ReportsOpening, ReportsPacket, ReportsProgress, holding, opened_by, opening_at, packet_of, received_by, refusal_at, progress_of, ticked_by, timing, unchanged};
 
 use crate::refusals::{ALREADY_THERE, NO_MEMORY, NOTHING_THERE, OUT_OF_RANGE};
 use crate::reports::{DueReport, OpeningReport, PacketReport, StatusReport};
@@ -165,7 +165,7 @@ pub extern "C" fn needleoat_requester_status(
 ) -> StatusReport
     requires { IsUpheld requester.old }
     ensures upheld { IsUpheld requester.new }
-    ensures report { ReportsStanding (standing_of number (holding requester.old.handle.held)) result
+    ensures report { ReportsProgress (progress_of number (holding requester.old.handle.held)) result
         message.old message.new }
     ensures held { HoldsAfter unchanged requester.old.handle.held requester.new.handle.held }
 {

@@ -16,7 +16,7 @@ use Rattle.pldm_responder.specs.Arrivals.{Arrival, Drop, Part, Whole, packets_ba
 use Rattle.pldm_responder.specs.Asked.{IsAsGiven, gives, over}
 use Rattle.pldm_responder.specs.Calls.{Call, Received, Restart, outcome}
 use Rattle.pldm_responder.specs.Events.{Message, is_of}
-use Rattle.pldm_responder.specs.GivenAnswers.{entry_given, kept_bytes, message_in, outcome_given}
+use Rattle.pldm_responder.specs.OutsideAnswers.{entry_answered, kept_bytes, message_in, outcome_of_answer}
 use Rattle.pldm_responder.specs.Held.{Entry, Held}
 use Rattle.pldm_responder.specs.Laws.{IsLeftBy}
 use Rattle.pldm_responder.specs.Performing.{Rules, after_command, busy_reply, changes, commands_at, commands_in, commands_of, next_after, reply}
@@ -196,11 +196,11 @@ performed_outcome device held m done =
 -- ---- both steps at once
 module _ (held : Held (Unit {0})) (given : Answer) (m : Message) (done : performs held m ≡ true) where
   given_where : (source id : ℕ) (of p : Bool) → is_of m source id ≡ of → p ≡ true
-      → (if of then entry_given given (if is_of m m.source (id_at m.bytes) && p then Some (entry_of (gives unasked) held m) else held.kept m.source (id_at m.bytes))
+      → (if of then entry_answered given (if is_of m m.source (id_at m.bytes) && p then Some (entry_of (gives unasked) held m) else held.kept m.source (id_at m.bytes))
       else (if of && p then Some (entry_of (gives unasked) held m) else held.kept source id))
       ≡ (if of && p then Some (entry_of (gives given) held m) else held.kept source id)
   given_where source id true true is h =
-      ap (λ t. entry_given given (if t && true then Some (entry_of (gives unasked) held m) else held.kept m.source (id_at m.bytes)))
+      ap (λ t. entry_answered given (if t && true then Some (entry_of (gives unasked) held m) else held.kept m.source (id_at m.bytes)))
       (ap (λ t. t && (id_at m.bytes == id_at m.bytes)) (eq-eqb m.source m.source refl) ∙ eq-eqb (id_at m.bytes) (id_at m.bytes) refl)
   given_where source id false p is h = refl
   given_where source id of false is h = cc
@@ -216,16 +216,16 @@ two_steps_are_one held moment bytes m command given arrives asked =
     let a = received_arrival held moment bytes in
     let is : a ≡ Whole m = whole_is a m arrives in
     let done = performed_where (performs held m) (commands_of m.bytes) command (ap (arrival_commands held) (sym is) ∙ asked) in (
-      ap (λ kept. outcome_given (arrival_held (gives unasked) held a).own m.source m.tag kept given)
+      ap (λ kept. outcome_of_answer (arrival_held (gives unasked) held a).own m.source m.tag kept given)
           (ap (λ x. kept_bytes ((arrival_held (gives unasked) held x).kept m.source (id_at m.bytes))) is ∙ kept_of_it held given m done)
-          ∙ ap (λ own. outcome_given own m.source m.tag m.bytes given) (own_is (gives unasked) held a)
+          ∙ ap (λ own. outcome_of_answer own m.source m.tag m.bytes given) (own_is (gives unasked) held a)
           ∙ sym (performed_outcome (gives given) held m done) ∙ ap (arrival_outcome (gives given) held) (sym is),
       record {
         own = own_is (gives unasked) held a ∙ sym (own_is (gives given) held a);
         keep = keep_is (gives unasked) held a ∙ sym (keep_is (gives given) held a);
         open_messages = refl;
         kept = λ source id.
-            ap (λ x. if is_of m source id then entry_given given ((arrival_held (gives unasked) held x).kept m.source (id_at m.bytes)) else (arrival_held (gives unasked) held x).kept source id) is
+            ap (λ x. if is_of m source id then entry_answered given ((arrival_held (gives unasked) held x).kept m.source (id_at m.bytes)) else (arrival_held (gives unasked) held x).kept source id) is
             ∙ given_where held given m done source id (is_of m source id) (performs held m) refl done
             ∙ ap (λ x. (arrival_held (gives given) held x).kept source id) (sym is);
         state = refl;
@@ -303,7 +303,7 @@ module _ (own keep : ℕ) (answers : ℕ → Answer) (count : ℕ) (asks : Asks)
       sym (same_outcome answers count asks held (gives unasked) a free) ∙ sym (given_none none).outcome ∙ step.0
 
   pub asked_outcome : (m : Message) (command : Command) → request_in held moment bytes ≡ Some m → received_commands held moment bytes ≡ command ∷ []
-      → outcome_given held.own m.source m.tag m.bytes (answers count) ≡ outcome (in_turn answers) own keep 0 calls moment bytes
+      → outcome_of_answer held.own m.source m.tag m.bytes (answers count) ≡ outcome (in_turn answers) own keep 0 calls moment bytes
   asked_outcome m command arrives asked =
       let is = whole_is a m arrives in
       let done = performed_by answers count asks held (performs held m) (commands_of m.bytes) command (ap (arrival_commands held) (sym is) ∙ asked) in
@@ -336,17 +336,17 @@ numbered_is number (Some b) a h = by_number (b.number == number) refl h
 module _ (answers : ℕ → Answer) (asks : Asks) (held : Held (Unit {0})) (source id number : ℕ) (a : Asked)
     (is : map.get asks (asker source id) ≡ Some a) (number_is : a.number ≡ number) where
   kept_answered : (other i : ℕ) (t : Bool) → (source == other && id == i) ≡ t
-      → entry_to_be answers (map.get (map.remove asks (asker source id)) (asker other i)) (if t then entry_given (answers number) (held.kept source id) else held.kept other i)
+      → entry_to_be answers (map.get (map.remove asks (asker source id)) (asker other i)) (if t then entry_answered (answers number) (held.kept source id) else held.kept other i)
       ≡ entry_to_be answers (map.get asks (asker other i)) (held.kept other i)
   kept_answered other i true here =
       let both = and_parts (source == other) (id == i) here in
       let same = ap (λ s. asker s i) (sym (eqb-true source other both.0)) ∙ ap (λ n. asker source n) (sym (eqb-true id i both.1)) in
-      ap (λ o. entry_to_be answers o (entry_given (answers number) (held.kept source id)))
+      ap (λ o. entry_to_be answers o (entry_answered (answers number) (held.kept source id)))
       (map.get-remove askers_total asks (asker source id) (asker other i)
       ∙ ap (λ t. cond t None (map.get asks (asker other i))) (ap (λ k. eq_by_cmp asker_cmp k (asker source id)) same ∙ (eq_by_cmp_equiv askers_total).refl (asker source id)))
-      ∙ ap (λ n. entry_given (answers n) (held.kept source id)) (sym number_is)
+      ∙ ap (λ n. entry_answered (answers n) (held.kept source id)) (sym number_is)
       ∙ sym (ap (λ o. entry_to_be answers o (held.kept other i)) (ap (map.get asks) same ∙ is)
-      ∙ ap (λ (k : _). entry_given (answers a.number) (held.kept k.source k.id)) same)
+      ∙ ap (λ (k : _). entry_answered (answers a.number) (held.kept k.source k.id)) same)
   kept_answered other i false there =
       ap (λ o. entry_to_be answers o (held.kept other i))
       (map.get-remove askers_total asks (asker source id) (asker other i)

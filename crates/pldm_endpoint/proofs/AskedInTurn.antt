@@ -12,7 +12,7 @@ use Rattle.pldm_responder.specs.Asked.{gives, over}
 use Rattle.pldm_responder.specs.Askings.{askings}
 use Rattle.pldm_responder.specs.Calls.{events}
 use Rattle.pldm_responder.specs.Events.{Event, Came, Set, Restarted, Changed, Message, Place, is_busy, is_copy, is_copy_of, is_fresh}
-use Rattle.pldm_responder.specs.GivenAnswers.{entry_given, kept_bytes}
+use Rattle.pldm_responder.specs.OutsideAnswers.{entry_answered, kept_bytes}
 use Rattle.pldm_responder.specs.Held.{Entry}
 use Rattle.pldm_responder.specs.Laws.{entry_at}
 use Rattle.pldm_responder.specs.Performing.{answered_by, commands_at, performed, reply, reply_at, reply_to, answer_to}
@@ -58,7 +58,7 @@ abbrev answer_in : Option Entry → List ℕ
 answer_in None = []
 answer_in (Some e) = e.answer
 
-by_kept : (o : Option Entry) (given : Answer) (e : Entry) → entry_given given o ≡ Some e → (reply (gives given) tt (kept_bytes o) ≡ e.answer) × (kept_bytes o ≡ e.bytes)
+by_kept : (o : Option Entry) (given : Answer) (e : Entry) → entry_answered given o ≡ Some e → (reply (gives given) tt (kept_bytes o) ≡ e.answer) × (kept_bytes o ≡ e.bytes)
 by_kept None given e h = cc
 by_kept (Some k) given e h = (ap answer_in h, ap kept_bytes h)
 
@@ -83,10 +83,10 @@ given_at keep answers place unchanged =
     ap (λ count. reply (in_turn answers) count place.message.bytes) (counted keep answers place.before unchanged)
     ∙ by_request answers (length (askings keep place.before)) (request_of place.message.bytes)
 
-owed_by : (busy copy : Bool) (other fresh kept : Outcome) → busy ≡ false → copy ≡ true → (if busy then other else (if copy then kept else fresh)) ≡ kept
-owed_by false true other fresh kept serves is = refl
-owed_by true copy other fresh kept serves is = cc
-owed_by false false other fresh kept serves is = cc
+expected_by : (busy copy : Bool) (other fresh kept : Outcome) → busy ≡ false → copy ≡ true → (if busy then other else (if copy then kept else fresh)) ≡ kept
+expected_by false true other fresh kept serves is = refl
+expected_by true copy other fresh kept serves is = cc
+expected_by false false other fresh kept serves is = cc
 
 at_origin : (keep : ℕ) (answers : ℕ → Answer) (events : List (Event ℕ)) (m : Message) (place : Place ℕ) (t : Bool) → t ≡ true
     → (if t then reply_at (in_turn answers) keep 0 place else reply (in_turn answers) (performed (in_turn answers) keep 0 events) m.bytes) ≡ reply_at (in_turn answers) keep 0 place
@@ -95,7 +95,7 @@ at_origin keep answers events m place false is = cc
 
 pub copies_are_answered_again : CopiesAreAnsweredAgain
 copies_are_answered_again own keep answers events m place unchanged serves copy from =
-    owed_by (is_busy keep events m.moment) (is_copy keep events m) _ _ _ serves copy
+    expected_by (is_busy keep events m.moment) (is_copy keep events m) _ _ _ serves copy
     ∙ ap (λ bytes. Answered false false (packets_back own m bytes)) (
     ap (answered_by (in_turn answers) keep 0 events m) from
     ∙ at_origin keep answers events m place (is_copy_of keep m (Some place)) (ap (is_copy_of keep m) (sym from) ∙ copy)

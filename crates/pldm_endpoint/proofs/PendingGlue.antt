@@ -14,7 +14,7 @@ use Rattle.pldm_wire.specs.declared.command.Command.{Command}
 use Rattle.pldm_responder.specs.Arrivals.{Arrival, Drop, Part, Whole}
 use Rattle.pldm_responder.specs.Asked.{gives}
 use Rattle.pldm_responder.specs.Events.{Message, is_of}
-use Rattle.pldm_responder.specs.GivenAnswers.{IsKeptFor, given_held, has_bytes, message_in}
+use Rattle.pldm_responder.specs.OutsideAnswers.{IsKeptFor, answered_held, has_bytes, message_in}
 use Rattle.pldm_responder.specs.Held.{Entry, Held, IsHeld}
 use Rattle.pldm_responder.specs.Performing.{commands_of}
 use Rattle.pldm_responder.specs.Stations.{Station, held_of}
@@ -244,7 +244,7 @@ elsewhere_given source id by x y other = not_here (source == by.source && id == 
 
 module _ (station new : Outside) (asks : Asks) (count most source id : ℕ) (given : Answer)
     (pending : IsPending station asks count most)
-    (left : IsHeld (bare (held_of new)) (given_held (bare (held_of station)) source id given)) where
+    (left : IsHeld (bare (held_of new)) (answered_held (bare (held_of station)) source id given)) where
   each_left : (by : Asker) (t : Bool) → eq_by_cmp asker_cmp by (asker source id) ≡ t → IfSome (cond t None (map.get asks by)) (IsWithDevice new count by)
   each_left by true is = tt
   each_left by false is =

@@ -10,7 +10,7 @@ use Rattle.pldm_platform.specs.declared.platform.ReadingFault.TheVariants.{NoSuc
 use Rattle.pldm_responder.specs.Asked.{gives, over}
 use Rattle.pldm_responder.specs.Calls.{Call, Received, Restart, outcome}
 use Rattle.pldm_responder.specs.Events.{Message}
-use Rattle.pldm_responder.specs.GivenAnswers.{entry_given, given_held, kept_bytes, outcome_given}
+use Rattle.pldm_responder.specs.OutsideAnswers.{entry_answered, answered_held, kept_bytes, outcome_of_answer}
 use Rattle.pldm_responder.specs.Held.{Entry, Held, IsHeld, held_at_first}
 use Rattle.pldm_responder.specs.Laws.{IsLeftBy}
 use Rattle.pldm_responder.specs.Performing.{Rules}
@@ -31,7 +31,7 @@ in_turn answers = record {
 -- what is kept for a request that the device performs, once it has answered
 abbrev pub entry_to_be : (ℕ → Answer) → Option Asked → Option Entry → Option Entry
 entry_to_be answers None entry = entry
-entry_to_be answers (Some a) entry = entry_given (answers a.number) entry
+entry_to_be answers (Some a) entry = entry_answered (answers a.number) entry
 
 -- what is held, once the device has answered all that it performs
 abbrev pub to_be : (ℕ → Answer) → Asks → Held (Unit {0}) → Held (Unit {0})
@@ -74,7 +74,7 @@ AskedLooksBack =
     (calls : List (Call ℕ)) (moment : ℕ) (bytes : List ℕ) (m : Message) (command : Command)
     → IsLeftInTurn own keep answers count asks held calls → IsFree asks (request_in held moment bytes)
     → request_in held moment bytes ≡ Some m → received_commands held moment bytes ≡ command ∷ []
-    → outcome_given held.own m.source m.tag m.bytes (answers count)
+    → outcome_of_answer held.own m.source m.tag m.bytes (answers count)
     ≡ outcome (in_turn answers) own keep 0 calls moment bytes
 
 -- the two steps, one right after the other, are what a responder does whose platform gives this answer
@@ -83,9 +83,9 @@ TwoStepsAreOne =
     (held : Held (Unit {0})) (moment : ℕ) (bytes : List ℕ) (m : Message) (command : Command) (given : Answer)
     → request_in held moment bytes ≡ Some m → received_commands held moment bytes ≡ command ∷ []
     → let middle = received_held (gives unasked) held moment bytes in
-    (outcome_given middle.own m.source m.tag (kept_bytes (middle.kept m.source (id_at m.bytes))) given
+    (outcome_of_answer middle.own m.source m.tag (kept_bytes (middle.kept m.source (id_at m.bytes))) given
     ≡ received_outcome (gives given) held moment bytes)
-    × IsHeld (given_held middle m.source (id_at m.bytes) given) (received_held (gives given) held moment bytes)
+    × IsHeld (answered_held middle m.source (id_at m.bytes) given) (received_held (gives given) held moment bytes)
 
 -- an answer of the device leaves what the calls before leave: it changes no more than that it is there
 abbrev pub AnsweredInTurn : Type 0
@@ -94,7 +94,7 @@ AnsweredInTurn =
     (calls : List (Call ℕ)) (asking : Asking) (a : Asked)
     → IsLeftInTurn own keep answers count asks held calls → asked_at asks asking ≡ Some a
     → IsLeftInTurn own keep answers count (map.remove asks (asker asking.source asking.id))
-    (given_held held asking.source asking.id (answers asking.number)) calls
+    (answered_held held asking.source asking.id (answers asking.number)) calls
 
 -- a restart: the commands that are asked count as performed, with answers that nobody got
 abbrev pub RestartedInTurn : Type 0

@@ -3,7 +3,7 @@ use Rattle.std.specs.FinMap as map
 use Rattle.std.specs.Prelude.{ℕ, Bool, false, true, ◌&&◌, ◌||◌, ◌==◌, nat_le, List, [], ◌∷◌, Option, Some, None, if◌then◌else◌}
 use Rattle.pldm_wire.specs.declared.command.Command.{Command}
 use Rattle.pldm_responder.specs.Events.{Message}
-use Rattle.pldm_responder.specs.GivenAnswers.{has_bytes}
+use Rattle.pldm_responder.specs.OutsideAnswers.{has_bytes}
 use Rattle.pldm_responder.specs.Held.{Held}
 use Rattle.pldm_responder.specs.Stations.{held_of}
 use Rattle.pldm_responder.specs.Steps.{entry_for, received_commands}

@@ -6,9 +6,9 @@ use Rattle.pldm_wire.specs.declared.answer.Answer.{Answer}
 use Rattle.pldm_responder.specs.Arrivals.{packets_back}
 use Rattle.pldm_responder.specs.Asked.{gives}
 use Rattle.pldm_responder.specs.Askings.{asked_for, askings}
-use Rattle.pldm_responder.specs.Calls.{Call, answer_owed, arrived, events}
+use Rattle.pldm_responder.specs.Calls.{Call, answer_expected, arrived, events}
 use Rattle.pldm_responder.specs.Events.{Event, Came, Set, Restarted, Changed, Message, Place, is_busy, is_copy, origin}
-use Rattle.pldm_responder.specs.GivenAnswers.{kept_bytes}
+use Rattle.pldm_responder.specs.OutsideAnswers.{kept_bytes}
 use Rattle.pldm_responder.specs.Held.{Held}
 use Rattle.pldm_responder.specs.Performing.{reply, reply_at}
 use Rattle.pldm_responder.specs.Steps.{received_commands}
@@ -60,6 +60,6 @@ CopiesAreAnsweredAgain =
     → is_unchanged place.before ≡ true
     → is_busy keep events m.moment ≡ false → is_copy keep events m ≡ true
     → origin keep events m.source (id_at m.bytes) ≡ Some place
-    → answer_owed (in_turn answers) own keep 0 events m
+    → answer_expected (in_turn answers) own keep 0 events m
     ≡ Answered false false
     (packets_back own m (reply (gives (answers (length (askings keep place.before)))) tt place.message.bytes))

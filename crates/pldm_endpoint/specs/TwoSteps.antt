@@ -12,7 +12,7 @@ use Rattle.pldm_wire.specs.declared.assigned.TheConstants.{ERROR_NOT_READY, INST
 use Rattle.pldm_wire.specs.declared.command.Command.{Command}
 use Rattle.pldm_responder.specs.Asked.{gives, listed, over}
 use Rattle.pldm_responder.specs.Events.{Message}
-use Rattle.pldm_responder.specs.GivenAnswers.{IsKeptFor, given_held, kept_bytes, message_in, outcome_given}
+use Rattle.pldm_responder.specs.OutsideAnswers.{IsKeptFor, answered_held, kept_bytes, message_in, outcome_of_answer}
 use Rattle.pldm_responder.specs.Held as held
 use Rattle.pldm_responder.specs.Held.{Held, IsHeld}
 use Rattle.pldm_responder.specs.Stations.{Station, coded_station, held_of}
@@ -123,8 +123,8 @@ module _ {S : Type 0} (held : Held S) (asking : Asking) (given : Answer) where
   IsAnsweredBy None outcome = ⊥
   IsAnsweredBy (Some a) outcome =
       outcome
-      ≡ outcome_given held.own asking.source a.tag (kept_bytes (held.kept asking.source asking.id)) given
+      ≡ outcome_of_answer held.own asking.source a.tag (kept_bytes (held.kept asking.source asking.id)) given
 
   -- and is kept for that request, from its moment on
   abbrev pub IsLeftByAnswer : Held S → Type 0
-  IsLeftByAnswer new = IsHeld (bare new) (given_held (bare held) asking.source asking.id given)
+  IsLeftByAnswer new = IsHeld (bare new) (answered_held (bare held) asking.source asking.id given)

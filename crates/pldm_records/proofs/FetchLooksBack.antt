@@ -5,7 +5,7 @@ use Rattle.pldm_wire.specs.declared.answer.Answer.{Answer}
 use Rattle.pldm_wire.specs.declared.answer.Answer.TheVariants.{Refused, GetPdr}
 use Rattle.pldm_records.specs.Fetches.{Fetching, taken, part_taken, part_after, after_taking, next_request, request_for, fetched_record}
 use Rattle.pldm_records.specs.FetchLaws.{bytes_of_answers}
-use Rattle.pldm_records.specs.FetchHistories.{last_handle, judged, ending, ending_of_part, ended, earlier, owed_after, record_after, done_with, IsLeft, TakingLooksBack, AskingLooksBack}
+use Rattle.pldm_records.specs.FetchHistories.{last_handle, judged, ending, ending_of_part, ended, earlier, expected_after, record_after, done_with, IsLeft, TakingLooksBack, AskingLooksBack}
 use Rattle.pldm_records.specs.declared.fetch.FetchState.{FetchState}
 use Rattle.pldm_records.specs.declared.fetch.FetchState.TheVariants.{More, Done}
 use Rattle.pldm_records.specs.declared.fetch.Stage.{Stage}
@@ -16,10 +16,10 @@ use Rattle.pldm_records.specs.declared.fetch.FetchFault.{FetchFault}
 abbrev going : ℕ → List Answer → Fetching
 going asked answers = record { asked = asked; bytes = bytes_of_answers answers; offset = last_handle answers; stage = Going }
 
--- what is owed and left, by how the fetch had ended and what the answer gives
+-- what is expected and left, by how the fetch had ended and what the answer gives
 abbrev Follows : ℕ → List Answer → Answer → Fetching → Option (Result FetchState FetchFault) → Type 0
 Follows asked before answer f end =
-    (taken f answer ≡ owed_after end (judged asked before answer))
+    (taken f answer ≡ expected_after end (judged asked before answer))
     × IsLeft asked (answer ∷ before) (earlier end (ending answer (judged asked before answer))) (after_taking f answer)
 
 -- the record after one more answer, where nothing had ended the fetch

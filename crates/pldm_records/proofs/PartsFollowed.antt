@@ -7,7 +7,7 @@ use Rattle.pldm_wire.specs.Crc.{crc}
 use Rattle.pldm_wire.specs.RecordParts.{Part}
 use Rattle.pldm_wire.specs.declared.limits.TheConstants.{MAX_PART_BYTES}
 use Rattle.pldm_records.specs.Records.{checksum_with, flag_of_part, is_last_part, next_data_transfer_handle, offset_after, part_bytes, part_of}
-use Rattle.pldm_records.specs.Transfers.{Followed, IsPartFrom, TellPlaces, joined_parts, parts_asked}
+use Rattle.pldm_records.specs.Transfers.{Followed, IsPartFrom, StatePlaces, joined_parts, parts_asked}
 
 -- how many bytes a part has
 length-part_bytes : (pdr : List ℕ) (offset count : ℕ) → length (part_bytes pdr offset count) ≡ min (min count MAX_PART_BYTES) (length pdr - offset)
@@ -62,7 +62,7 @@ other_checksum : (pdr : List ℕ) (is_first : Bool) → checksum_with (flag_of_p
 other_checksum pdr true = refl
 other_checksum pdr false = refl
 
-places_from : (pdr : List ℕ) (offset : ℕ) (parts : List Part) → Followed pdr offset parts → TellPlaces pdr (offset == 0) parts
+places_from : (pdr : List ℕ) (offset : ℕ) (parts : List Part) → Followed pdr offset parts → StatePlaces pdr (offset == 0) parts
 places_from pdr offset [] followed = absurd followed
 places_from pdr offset (last ∷ []) followed =
     let is_last = last_from_none pdr offset followed.count followed.asks followed.next_is in
@@ -76,9 +76,9 @@ places_from pdr offset (part ∷ following ∷ rest) followed =
     let checksum : part.transfer_crc ≡ checksum_with (flag_of_part (offset == 0) false) pdr = ap (λ (p : Part). p.transfer_crc) from.part_is ∙ ap (λ (b : Bool). checksum_with (flag_of_part (offset == 0) b) pdr) is_last in
     let later : (followed.0 == 0) ≡ false = grind (arith, nat_tests, followed.1) in
     let others = places_from pdr followed.0 (following ∷ rest) followed.3 in
-    (flag, checksum ∙ other_checksum pdr (offset == 0), subst (λ (b : Bool). TellPlaces pdr b (following ∷ rest)) later others)
+    (flag, checksum ∙ other_checksum pdr (offset == 0), subst (λ (b : Bool). StatePlaces pdr b (following ∷ rest)) later others)
 
-pub parts_tell_places : (pdr : List ℕ) (parts : List Part) → Followed pdr 0 parts → TellPlaces pdr true parts
+pub parts_tell_places : (pdr : List ℕ) (parts : List Part) → Followed pdr 0 parts → StatePlaces pdr true parts
 parts_tell_places pdr parts followed = places_from pdr 0 parts followed
 
 one_more : (pdr : List ℕ) (offset next : ℕ) (part : Part) (rest : List Part) → 0 < next → IsPartFrom pdr offset next part → Followed pdr next rest → Followed pdr offset (part ∷ rest)

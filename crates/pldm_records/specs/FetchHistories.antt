@@ -51,14 +51,14 @@ ended asked [] = None
 ended asked (answer ∷ before) = earlier (ended asked before) (ending answer (judged asked before answer))
 
 -- what an answer gives, by how the fetch ended before it: after a fault that fault, after the record Unexpected
-abbrev pub owed_after :
+abbrev pub expected_after :
     Option (Result FetchState FetchFault) → Result FetchState FetchFault → Result FetchState FetchFault
-owed_after None given = given
-owed_after (Some (Ok state)) given = Err faults.Unexpected
-owed_after (Some (Err fault)) given = Err fault
+expected_after None given = given
+expected_after (Some (Ok state)) given = Err faults.Unexpected
+expected_after (Some (Err fault)) given = Err fault
 
-abbrev pub owed : ℕ → List Answer → Answer → Result FetchState FetchFault
-owed asked before answer = owed_after (ended asked before) (judged asked before answer)
+abbrev pub expected : ℕ → List Answer → Answer → Result FetchState FetchFault
+expected asked before answer = expected_after (ended asked before) (judged asked before answer)
 
 -- the request for the part after these: for the first part where none came, else for the one that the last part tells;
 -- and from the eighth byte on with the record's change number
@@ -100,7 +100,7 @@ IsLeftBy asked f answers = IsLeft asked answers (ended asked answers) f
 abbrev pub TakingLooksBack : Type 0
 TakingLooksBack =
     (asked : ℕ) (f : Fetching) (answers : List Answer) (answer : Answer) → IsLeftBy asked f answers
-    → (taken f answer ≡ owed asked answers answer) × IsLeftBy asked (after_taking f answer) (answer ∷ answers)
+    → (taken f answer ≡ expected asked answers answer) × IsLeftBy asked (after_taking f answer) (answer ∷ answers)
 
 -- a new fetch holds what the empty list leaves
 abbrev pub BegunLooksBack : Type 0

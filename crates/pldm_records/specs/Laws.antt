@@ -2,15 +2,15 @@
 use Rattle.std.specs.Prelude.{◌≡◌, ℕ, ◌<◌, true, List, length}
 use Rattle.std.specs.List.{All}
 use Rattle.pldm_wire.specs.RecordParts.{Part}
-use Rattle.pldm_records.specs.Transfers.{Followed, TellPlaces, joined_parts, parts_asked}
+use Rattle.pldm_records.specs.Transfers.{Followed, StatePlaces, joined_parts, parts_asked}
 
 -- parts that are followed from the first on join to the record
 abbrev pub PartsJoin : Type 0
 PartsJoin = (pdr : List ℕ) (parts : List Part) → Followed pdr 0 parts → joined_parts parts ≡ pdr
 
 -- and tell their places
-abbrev pub PartsTellPlaces : Type 0
-PartsTellPlaces = (pdr : List ℕ) (parts : List Part) → Followed pdr 0 parts → TellPlaces pdr true parts
+abbrev pub PartsStatePlaces : Type 0
+PartsStatePlaces = (pdr : List ℕ) (parts : List Part) → Followed pdr 0 parts → StatePlaces pdr true parts
 
 -- more requests than the record has bytes, of any numbers of bytes, get parts that are followed
 abbrev pub PartsEnd : Type 0

@@ -35,9 +35,9 @@ joined_parts parts = flat_map (λ part. part.bytes) parts
 
 -- the flags tell which part is the first and which the last, and the record's checksum comes with the
 -- last of several alone
-abbrev pub TellPlaces : List ℕ → Bool → List Part → Type 0
-TellPlaces pdr is_first [] = ⊥
-TellPlaces pdr is_first (last ∷ []) =
+abbrev pub StatePlaces : List ℕ → Bool → List Part → Type 0
+StatePlaces pdr is_first [] = ⊥
+StatePlaces pdr is_first (last ∷ []) =
     (last.flag ≡ flag_of_part is_first true) × (last.transfer_crc ≡ (if is_first then None else Some (crc pdr)))
-TellPlaces pdr is_first (part ∷ following ∷ rest) =
-    (part.flag ≡ flag_of_part is_first false) × (part.transfer_crc ≡ None) × TellPlaces pdr false (following ∷ rest)
+StatePlaces pdr is_first (part ∷ following ∷ rest) =
+    (part.flag ≡ flag_of_part is_first false) × (part.transfer_crc ≡ None) × StatePlaces pdr false (following ∷ rest)

@@ -2,13 +2,13 @@
 
 ghost use Rattle.pldm_records.specs.FetchLaws.{DoneIsTheRecord, PartsGiveTheRecord, RepositoryIsFetched};
 ghost use Rattle.pldm_records.specs.FetchHistories.{TakingLooksBack, BegunLooksBack, AskingLooksBack};
-ghost use Rattle.pldm_records.specs.Laws.{PartsEnd, PartsJoin, PartsTellPlaces};
+ghost use Rattle.pldm_records.specs.Laws.{PartsEnd, PartsJoin, PartsStatePlaces};
 
 /// A record that is transferred part by part, for whatever numbers of bytes, comes to an end. Its
 /// parts join to the record, and their flags and checksums tell their places.
 pub fn parts_join_to_the_record()
     ensures joined { PartsJoin }
-    ensures places { PartsTellPlaces }
+    ensures places { PartsStatePlaces }
     ensures end { PartsEnd }
 {}
 

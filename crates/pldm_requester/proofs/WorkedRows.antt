@@ -8,7 +8,7 @@ use Rattle.mctp_packet.specs.declared.reason.Reason.TheVariants.{BadTag, NotResp
 use Rattle.mctp_assembly.specs.Keys.{key_cmp}
 use Rattle.pldm_wire.specs.Responses.{response_of}
 use Rattle.pldm_wire.specs.declared.command.Command.TheVariants.{GetTid}
-use Rattle.pldm_requester.specs.Calls.{Call, Open, Tick, Receive, Requests, is_tag_in_use, is_id_in_use, is_open_at, open_answer, open_on, requests, open_owed, again_owed, given_up_owed, got_owed}
+use Rattle.pldm_requester.specs.Calls.{Call, Open, Tick, Receive, Requests, is_tag_in_use, is_id_in_use, is_open_at, open_answer, open_on, requests, open_expected, again_expected, given_up_expected, got_expected}
 use Rattle.pldm_requester.specs.Courses.{Answered}
 use Rattle.pldm_requester.specs.Laws.{IsLeftBy, IsInOrder}
 use Rattle.pldm_requester.specs.Numbering.{packets_of}
@@ -53,14 +53,14 @@ one = Open 0 GetTid ∷ []
 its_packet : packets_of 8 9 0 GetTid ≡ (1 ∷ 9 ∷ 8 ∷ 200 ∷ 1 ∷ 128 ∷ 0 ∷ 2 ∷ []) ∷ []
 its_packet = refl
 
-eight_open : open_owed 8 9 timing (Open 0 GetTid ∷ Open 0 GetTid ∷ Open 0 GetTid ∷ Open 0 GetTid ∷ Open 0 GetTid ∷ Open 0 GetTid ∷ Open 0 GetTid ∷ one) 0 ≡ Err TagInUse
+eight_open : open_expected 8 9 timing (Open 0 GetTid ∷ Open 0 GetTid ∷ Open 0 GetTid ∷ Open 0 GetTid ∷ Open 0 GetTid ∷ Open 0 GetTid ∷ Open 0 GetTid ∷ one) 0 ≡ Err TagInUse
 eight_open = refl
 
 -- 32 requests that were opened at 0, and answered
 abbrev all_answered : Requests
 all_answered = record {
   count = 32;
-  each = λ n. record { command = GetTid; course = record { opening = 0; last_sent = 0; standing = Answered [] }; fed = [] };
+  each = λ n. record { command = GetTid; course = record { opening = 0; last_sent = 0; progress = Answered [] }; fed = [] };
 }
 
 before_twice_the_keeping_time : open_answer (is_tag_in_use all_answered) (is_id_in_use 1000 all_answered 1999) 32 ≡ Err IdInUse
@@ -70,78 +70,78 @@ at_twice_the_keeping_time : open_answer (is_tag_in_use all_answered) (is_id_in_u
 at_twice_the_keeping_time = refl
 
 -- ---- ticks
-before_the_timeout : again_owed 8 9 timing one 199 ≡ []
+before_the_timeout : again_expected 8 9 timing one 199 ≡ []
 before_the_timeout = refl
 
-at_the_timeout : again_owed 8 9 timing one 200 ≡ 0 ∷ []
+at_the_timeout : again_expected 8 9 timing one 200 ≡ 0 ∷ []
 at_the_timeout = refl
 
-again_at_the_next_timeout : again_owed 8 9 timing (Tick 399 ∷ Tick 200 ∷ one) 400 ≡ 0 ∷ []
+again_at_the_next_timeout : again_expected 8 9 timing (Tick 399 ∷ Tick 200 ∷ one) 400 ≡ 0 ∷ []
 again_at_the_next_timeout = refl
 
-not_before_the_next_timeout : again_owed 8 9 timing (Tick 200 ∷ one) 399 ≡ []
+not_before_the_next_timeout : again_expected 8 9 timing (Tick 200 ∷ one) 399 ≡ []
 not_before_the_next_timeout = refl
 
-not_given_up_before_all_tries : given_up_owed 8 9 timing (Tick 400 ∷ Tick 200 ∷ one) 599 ≡ []
+not_given_up_before_all_tries : given_up_expected 8 9 timing (Tick 400 ∷ Tick 200 ∷ one) 599 ≡ []
 not_given_up_before_all_tries = refl
 
-given_up_after_all_tries : given_up_owed 8 9 timing (Tick 400 ∷ Tick 200 ∷ one) 600 ≡ 0 ∷ []
+given_up_after_all_tries : given_up_expected 8 9 timing (Tick 400 ∷ Tick 200 ∷ one) 600 ≡ 0 ∷ []
 given_up_after_all_tries = refl
 
-what_is_given_up_is_not_sent_again : again_owed 8 9 timing one 650 ≡ []
+what_is_given_up_is_not_sent_again : again_expected 8 9 timing one 650 ≡ []
 what_is_given_up_is_not_sent_again = refl
 
 -- ---- answers
 abbrev tid : List ℕ
 tid = 1 ∷ 8 ∷ 9 ∷ 192 ∷ 1 ∷ 0 ∷ 0 ∷ 2 ∷ 0 ∷ 1 ∷ []
 
-another_tag : got_owed 8 9 timing one (1 ∷ 8 ∷ 9 ∷ 193 ∷ 1 ∷ 0 ∷ 0 ∷ 2 ∷ 0 ∷ 1 ∷ []) ≡ got.Dropped BadTag
+another_tag : got_expected 8 9 timing one (1 ∷ 8 ∷ 9 ∷ 193 ∷ 1 ∷ 0 ∷ 0 ∷ 2 ∷ 0 ∷ 1 ∷ []) ≡ got.Dropped BadTag
 another_tag = refl
 
-with_the_tag_owner : got_owed 8 9 timing one (1 ∷ 8 ∷ 9 ∷ 200 ∷ 1 ∷ 0 ∷ 0 ∷ 2 ∷ 0 ∷ 1 ∷ []) ≡ got.Dropped BadTag
+with_the_tag_owner : got_expected 8 9 timing one (1 ∷ 8 ∷ 9 ∷ 200 ∷ 1 ∷ 0 ∷ 0 ∷ 2 ∷ 0 ∷ 1 ∷ []) ≡ got.Dropped BadTag
 with_the_tag_owner = refl
 
-from_another_endpoint : got_owed 8 9 timing one (1 ∷ 8 ∷ 10 ∷ 192 ∷ 1 ∷ 0 ∷ 0 ∷ 2 ∷ 0 ∷ 1 ∷ []) ≡ got.Dropped BadTag
+from_another_endpoint : got_expected 8 9 timing one (1 ∷ 8 ∷ 10 ∷ 192 ∷ 1 ∷ 0 ∷ 0 ∷ 2 ∷ 0 ∷ 1 ∷ []) ≡ got.Dropped BadTag
 from_another_endpoint = refl
 
-a_request : got_owed 8 9 timing one (1 ∷ 8 ∷ 9 ∷ 192 ∷ 1 ∷ 128 ∷ 0 ∷ 2 ∷ 0 ∷ 1 ∷ []) ≡ got.Dropped NotResponse
+a_request : got_expected 8 9 timing one (1 ∷ 8 ∷ 9 ∷ 192 ∷ 1 ∷ 128 ∷ 0 ∷ 2 ∷ 0 ∷ 1 ∷ []) ≡ got.Dropped NotResponse
 unfolding response_of
 a_request = refl
 
-another_instance_id : got_owed 8 9 timing one (1 ∷ 8 ∷ 9 ∷ 192 ∷ 1 ∷ 1 ∷ 0 ∷ 2 ∷ 0 ∷ 1 ∷ []) ≡ got.Dropped NotMine
+another_instance_id : got_expected 8 9 timing one (1 ∷ 8 ∷ 9 ∷ 192 ∷ 1 ∷ 1 ∷ 0 ∷ 2 ∷ 0 ∷ 1 ∷ []) ≡ got.Dropped NotMine
 unfolding response_of
 another_instance_id = refl
 
-another_type : got_owed 8 9 timing one (1 ∷ 8 ∷ 9 ∷ 192 ∷ 1 ∷ 0 ∷ 2 ∷ 2 ∷ 0 ∷ 1 ∷ []) ≡ got.Dropped NotMine
+another_type : got_expected 8 9 timing one (1 ∷ 8 ∷ 9 ∷ 192 ∷ 1 ∷ 0 ∷ 2 ∷ 2 ∷ 0 ∷ 1 ∷ []) ≡ got.Dropped NotMine
 unfolding response_of
 another_type = refl
 
-another_command : got_owed 8 9 timing one (1 ∷ 8 ∷ 9 ∷ 192 ∷ 1 ∷ 0 ∷ 0 ∷ 3 ∷ 0 ∷ 1 ∷ []) ≡ got.Dropped NotMine
+another_command : got_expected 8 9 timing one (1 ∷ 8 ∷ 9 ∷ 192 ∷ 1 ∷ 0 ∷ 0 ∷ 3 ∷ 0 ∷ 1 ∷ []) ≡ got.Dropped NotMine
 unfolding response_of
 another_command = refl
 
-not_mine_before_not_ready : got_owed 8 9 timing one (1 ∷ 8 ∷ 9 ∷ 192 ∷ 1 ∷ 1 ∷ 0 ∷ 2 ∷ 4 ∷ []) ≡ got.Dropped NotMine
+not_mine_before_not_ready : got_expected 8 9 timing one (1 ∷ 8 ∷ 9 ∷ 192 ∷ 1 ∷ 1 ∷ 0 ∷ 2 ∷ 4 ∷ []) ≡ got.Dropped NotMine
 unfolding response_of
 not_mine_before_not_ready = refl
 
-not_ready : got_owed 8 9 timing one (1 ∷ 8 ∷ 9 ∷ 192 ∷ 1 ∷ 0 ∷ 0 ∷ 2 ∷ 4 ∷ []) ≡ got.Dropped NotReady
+not_ready : got_expected 8 9 timing one (1 ∷ 8 ∷ 9 ∷ 192 ∷ 1 ∷ 0 ∷ 0 ∷ 2 ∷ 4 ∷ []) ≡ got.Dropped NotReady
 unfolding response_of
 not_ready = refl
 
-its_own : got_owed 8 9 timing one tid ≡ got.Answered 0
+its_own : got_expected 8 9 timing one tid ≡ got.Answered 0
 unfolding response_of
 its_own = refl
 
 -- a refused command answers too
-a_refusal : got_owed 8 9 timing one (1 ∷ 8 ∷ 9 ∷ 192 ∷ 1 ∷ 0 ∷ 0 ∷ 2 ∷ 5 ∷ []) ≡ got.Answered 0
+a_refusal : got_expected 8 9 timing one (1 ∷ 8 ∷ 9 ∷ 192 ∷ 1 ∷ 0 ∷ 0 ∷ 2 ∷ 5 ∷ []) ≡ got.Answered 0
 unfolding response_of
 a_refusal = refl
 
-only_once : got_owed 8 9 timing (Receive 0 tid ∷ one) tid ≡ got.Dropped BadTag
+only_once : got_expected 8 9 timing (Receive 0 tid ∷ one) tid ≡ got.Dropped BadTag
 unfolding response_of
 only_once = refl
 
-how_it_stands : ((requests 8 9 timing (Receive 0 tid ∷ one)).each 0).course.standing ≡ Answered (1 ∷ 0 ∷ 0 ∷ 2 ∷ 0 ∷ 1 ∷ [])
+how_it_stands : ((requests 8 9 timing (Receive 0 tid ∷ one)).each 0).course.progress ≡ Answered (1 ∷ 0 ∷ 0 ∷ 2 ∷ 0 ∷ 1 ∷ [])
 unfolding response_of
 how_it_stands = refl
 

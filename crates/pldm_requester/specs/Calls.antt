@@ -44,7 +44,7 @@ pub record Requests : Type 0 where
 -- what stands at a number that is not given yet
 abbrev pub no_request : Request
 no_request =
-    record { command = GetTid; course = record { opening = 0; last_sent = 0; standing = GaveUp }; fed = [] }
+    record { command = GetTid; course = record { opening = 0; last_sent = 0; progress = GaveUp }; fed = [] }
 
 abbrev pub none_yet : Requests
 none_yet = record { count = 0; each = λ n. no_request }
@@ -176,18 +176,18 @@ module _ (own device : ℕ) (timing : Timing) where
   assembled (Receive moment bytes ∷ calls) = with_packet (passed (requests calls) bytes) (assembled calls)
 
   -- what an open at a moment answers after these calls
-  abbrev pub open_owed : List Call → ℕ → Result Opened OpenFault
-  open_owed calls moment =
+  abbrev pub open_expected : List Call → ℕ → Result Opened OpenFault
+  open_expected calls moment =
       open_answer (is_tag_in_use (requests calls)) (is_id_in_use timing.keep (requests calls) moment)
       (requests calls).count
 
   -- which requests a tick at a moment sends again, and which it gives up
-  abbrev pub again_owed : List Call → ℕ → List ℕ
-  again_owed calls moment = numbers_of (is_sent_again timing moment) (requests calls)
+  abbrev pub again_expected : List Call → ℕ → List ℕ
+  again_expected calls moment = numbers_of (is_sent_again timing moment) (requests calls)
 
-  abbrev pub given_up_owed : List Call → ℕ → List ℕ
-  given_up_owed calls moment = numbers_of (is_given_up timing moment) (requests calls)
+  abbrev pub given_up_expected : List Call → ℕ → List ℕ
+  given_up_expected calls moment = numbers_of (is_given_up timing moment) (requests calls)
 
   -- what bytes that are received give after these calls
-  abbrev pub got_owed : List Call → List ℕ → Got
-  got_owed calls bytes = got_of (arrived (requests calls) bytes)
+  abbrev pub got_expected : List Call → List ℕ → Got
+  got_expected calls bytes = got_of (arrived (requests calls) bytes)

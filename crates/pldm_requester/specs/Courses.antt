@@ -4,26 +4,26 @@ use Rattle.std.specs.Prelude.{ℕ, ◌+◌, ◌*◌, List, Bool, true, false, �
 use Rattle.pldm_requester.specs.declared.timing.Timing.{Timing}
 
 -- open, answered by this message, or given up
-pub data Standing : Type 0 where
-  Waiting : Standing
-  Answered : List ℕ → Standing
-  GaveUp : Standing
+pub data Progress : Type 0 where
+  Waiting : Progress
+  Answered : List ℕ → Progress
+  GaveUp : Progress
 
 pub record Course : Type 0 where
   pub opening : ℕ
   pub last_sent : ℕ
-  pub standing : Standing
+  pub progress : Progress
 
-abbrev pub is_waiting : Standing → Bool
+abbrev pub is_waiting : Progress → Bool
 is_waiting Waiting = true
 is_waiting (Answered message) = false
 is_waiting GaveUp = false
 
 abbrev pub is_open : Course → Bool
-is_open course = is_waiting course.standing
+is_open course = is_waiting course.progress
 
 abbrev pub begun : ℕ → Course
-begun moment = record { opening = moment; last_sent = moment; standing = Waiting }
+begun moment = record { opening = moment; last_sent = moment; progress = Waiting }
 
 -- all tries have had their time
 abbrev pub is_over : Timing → ℕ → Course → Bool
@@ -39,14 +39,14 @@ is_sent_again timing moment course =
     is_open course && not (is_over timing moment course) && nat_le (course.last_sent + timing.timeout) moment
 
 abbrev pub given_up : Course → Course
-given_up course = record { opening = course.opening; last_sent = course.last_sent; standing = GaveUp }
+given_up course = record { opening = course.opening; last_sent = course.last_sent; progress = GaveUp }
 
 abbrev pub sent_again : ℕ → Course → Course
-sent_again moment course = record { opening = course.opening; last_sent = moment; standing = course.standing }
+sent_again moment course = record { opening = course.opening; last_sent = moment; progress = course.progress }
 
 abbrev pub answered : List ℕ → Course → Course
 answered message course =
-    record { opening = course.opening; last_sent = course.last_sent; standing = Answered message }
+    record { opening = course.opening; last_sent = course.last_sent; progress = Answered message }
 
 -- what a tick makes of it
 abbrev pub ticked : Timing → ℕ → Course → Course

@@ -5,7 +5,7 @@ use Rattle.pldm_wire.specs.Commands.{kind_of}
 use Rattle.pldm_wire.specs.declared.command.Command.{Command}
 use Rattle.pldm_requester.specs.Numbering.{id_of, tag_of, packets_of}
 use Rattle.pldm_requester.specs.Courses.{is_open}
-use Rattle.pldm_requester.specs.Calls.{Call, Open, Tick, Receive, Requests, accepts, answer_key, is_open_at, open_on, numbers_of, requests, last_moment, assembled, open_owed, again_owed, given_up_owed, got_owed}
+use Rattle.pldm_requester.specs.Calls.{Call, Open, Tick, Receive, Requests, accepts, answer_key, is_open_at, open_on, numbers_of, requests, last_moment, assembled, open_expected, again_expected, given_up_expected, got_expected}
 use Rattle.pldm_requester.specs.Steps as steps
 use Rattle.pldm_requester.specs.Steps.{Memo, Held, IsHeld, held_at_first, is_recent, opening_answer, opened_held, again_at, given_up_at, ticked_held, got_at, received_held}
 use Rattle.pldm_requester.specs.declared.timing.Timing.{Timing}
@@ -38,7 +38,7 @@ abbrev pub OpenLooksBack : Type 0
 OpenLooksBack =
     (own device : ℕ) (timing : Timing) (held : Held) (calls : List Call) (moment : ℕ) (command : Command)
     → IsLeftBy own device timing held calls
-    → (opening_answer held moment ≡ open_owed own device timing calls moment)
+    → (opening_answer held moment ≡ open_expected own device timing calls moment)
     × (steps.accepts held moment ≡ accepts timing.keep (requests own device timing calls) moment)
     × (steps.accepts held moment ≡ true
     → IsLeftBy own device timing (opened_held held moment command) (Open moment command ∷ calls))
@@ -49,8 +49,8 @@ abbrev pub TickLooksBack : Type 0
 TickLooksBack =
     (own device : ℕ) (timing : Timing) (held : Held) (calls : List Call) (moment : ℕ)
     → IsLeftBy own device timing held calls
-    → (again_at held moment ≡ again_owed own device timing calls moment)
-    × (given_up_at held moment ≡ given_up_owed own device timing calls moment)
+    → (again_at held moment ≡ again_expected own device timing calls moment)
+    × (given_up_at held moment ≡ given_up_expected own device timing calls moment)
     × IsLeftBy own device timing (ticked_held held moment) (Tick moment ∷ calls)
 
 -- and so do bytes that are received
@@ -58,7 +58,7 @@ abbrev pub ReceiveLooksBack : Type 0
 ReceiveLooksBack =
     (own device : ℕ) (timing : Timing) (held : Held) (calls : List Call) (moment : ℕ) (bytes : List ℕ)
     → IsLeftBy own device timing held calls
-    → (got_at held bytes ≡ got_owed own device timing calls bytes)
+    → (got_at held bytes ≡ got_expected own device timing calls bytes)
     × IsLeftBy own device timing (received_held held moment bytes) (Receive moment bytes ∷ calls)
 
 -- a new requester holds what the empty list leaves

@@ -2,7 +2,7 @@ pub mod Numbering
 pub mod Timings
 pub mod OpenFaults
 pub mod Courses
-pub mod Standings
+pub mod RequestProgress
 pub mod Arrivals
 pub mod Calls
 pub mod Steps

@@ -5,53 +5,53 @@ use Rattle.std.specs.Coded.{Coded, code_by, coded×, coded_ℕ, coded_list, code
 use Rattle.mctp_assembly.specs.Keys.{key_cmp, coded_key}
 use Rattle.mctp_assembly.specs.Opened.{Opened, coded_opened}
 use Rattle.pldm_wire.specs.Kinds.{of_type}
-use Rattle.pldm_requester.specs.Courses.{Standing, Waiting, Answered, GaveUp}
+use Rattle.pldm_requester.specs.Courses.{Progress, Waiting, Answered, GaveUp}
 use Rattle.pldm_requester.specs.Steps.{Memo, Held, is_recent}
 use Rattle.pldm_requester.specs.Timings.{coded_timing}
 use Rattle.pldm_requester.specs.declared.requester.TheConstants.{MAX_REMEMBERED}
 use Rattle.pldm_requester.specs.declared.timing.Timing.{Timing}
 
--- a standing is stored as the answer, if any, where the request is no longer open
-abbrev pub stored : Standing → Option (Option (List ℕ))
+-- a progress is stored as the answer, if any, where the request is no longer open
+abbrev pub stored : Progress → Option (Option (List ℕ))
 stored Waiting = None
 stored GaveUp = Some None
 stored (Answered message) = Some (Some message)
 
-abbrev pub standing_in : Option (Option (List ℕ)) → Standing
-standing_in None = Waiting
-standing_in (Some None) = GaveUp
-standing_in (Some (Some message)) = Answered message
+abbrev pub progress_in : Option (Option (List ℕ)) → Progress
+progress_in None = Waiting
+progress_in (Some None) = GaveUp
+progress_in (Some (Some message)) = Answered message
 
-abbrev pub stored_back : (standing : Standing) → standing_in (stored standing) ≡ standing
+abbrev pub stored_back : (progress : Progress) → progress_in (stored progress) ≡ progress
 stored_back Waiting = refl
 stored_back GaveUp = refl
 stored_back (Answered message) = refl
 
-abbrev pub coded_standing : Coded Standing
-coded_standing =
+abbrev pub coded_progress : Coded Progress
+coded_progress =
     code_by (Option (Option (List ℕ))) (coded_option (coded_option (coded_list coded_ℕ)))
-    stored standing_in stored_back
+    stored progress_in stored_back
 
 -- what is remembered of a request is stored as its parts
 abbrev pub coded_memo : Coded Memo
 coded_memo =
-    code_by (ℕ × (ℕ × (List (List ℕ) × (ℕ × (ℕ × Standing)))))
+    code_by (ℕ × (ℕ × (List (List ℕ) × (ℕ × (ℕ × Progress)))))
     (coded× coded_ℕ (coded× coded_ℕ (coded× (coded_list (coded_list coded_ℕ))
-    (coded× coded_ℕ (coded× coded_ℕ coded_standing)))))
+    (coded× coded_ℕ (coded× coded_ℕ coded_progress)))))
     (λ m. (
       m.kind.pldm_type,
       (
         m.kind.command,
         (
           m.packets,
-          (m.course.opening, (m.course.last_sent, m.course.standing)),
+          (m.course.opening, (m.course.last_sent, m.course.progress)),
         ),
       ),
     ))
     (λ c. record {
       kind = of_type c.0 c.1.0;
       packets = c.1.1.0;
-      course = record { opening = c.1.1.1.0; last_sent = c.1.1.1.1.0; standing = c.1.1.1.1.1 };
+      course = record { opening = c.1.1.1.0; last_sent = c.1.1.1.1.0; progress = c.1.1.1.1.1 };
     })
     (λ _. refl)
 

@@ -9,7 +9,7 @@ use std::marker::Model;
 
 /// How a request stands.
 #[derive(Clone, Copy, Debug)]
-enum Standing {
+enum Progress {
     /// It is open.
     Waiting,
     /// It was answered.
@@ -30,7 +30,7 @@ pub(crate) struct Remembered {
     /// When it was last sent: its opening, or the last tick that sent it again.
     last_sent: Moment,
     /// How it stands.
-    standing: Standing,
+    progress: Progress,
     /// The message that answered it, where one did.
     answer: Body,
 }
@@ -43,7 +43,7 @@ impl Model for Remembered {
 
     ghost coded = { coded_memo };
 
-    ghost use Rattle.pldm_requester.specs.Standings.{standing_of};
+    ghost use Rattle.pldm_requester.specs.RequestProgress.{progress_of};
 
     ghost view = { λ r. record {
       kind = r.kind;
@@ -52,7 +52,7 @@ impl Model for Remembered {
         opening = r.opening;
         last_sent
             = r.last_sent;
-        standing = standing_of r.standing r.answer.items;
+        progress = progress_of r.progress r.answer.items;
       };
     } };
 }
@@ -62,7 +62,7 @@ impl Remembered {
     ghost use Rattle.mctp_packet.specs.Pieces.{written_packets};
     ghost use Rattle.pldm_requester.specs.Courses.{answered, begun, is_open, is_over, is_given_up, is_sent_again, ticked};
     ghost use Rattle.pldm_requester.specs.Steps.{with_course};
-    ghost use Rattle.pldm_requester.specs.Standings.{standing_told};
+    ghost use Rattle.pldm_requester.specs.RequestProgress.{progress_in_status};
 
     /// A request that is opened now.
     pub(crate) fn new(kind: Kind, packets: Packets, now: Moment) -> Remembered
@@ -73,7 +73,7 @@ impl Remembered {
             packets,
             opening: now,
             last_sent: now,
-            standing: Standing::Waiting,
+            progress: Progress::Waiting,
             answer: Body::new(),
         }
     }
@@ -93,14 +93,14 @@ impl Remembered {
         split_into(route, message, &mut self.packets).unwrap();
         self.opening = now;
         self.last_sent = now;
-        self.standing = Standing::Waiting;
+        self.progress = Progress::Waiting;
     }
 
     /// Whether it is open.
     pub(crate) fn is_open(&self) -> bool
         ensures { result ≡ is_open self.now.course }
     {
-        matches!(self.standing, Standing::Waiting)
+        matches!(self.progress, Progress::Waiting)
     }
 
     /// Whether all tries have had their time.
@@ -131,7 +131,7 @@ impl Remembered {
         ensures { self.new ≡ with_course (ticked timing.now now) self.old }
     {
         if self.is_given_up(timing, now) {
-            self.standing = Standing::GaveUp;
+            self.progress = Progress::GaveUp;
         } else if self.is_sent_again(timing, now) {
             self.last_sent = now;
         }
@@ -144,17 +144,17 @@ impl Remembered {
     {
         self.answer.clear();
         self.answer.try_extend_from_slice(message).unwrap();
-        self.standing = Standing::Answered;
+        self.progress = Progress::Answered;
     }
 
     /// How it stands, as callers see it.
     pub(crate) fn status(&self) -> Status<'_>
-        ensures { standing_told result ≡ self.now.course.standing }
+        ensures { progress_in_status result ≡ self.now.course.progress }
     {
-        match &self.standing {
-            Standing::Waiting => Status::Open,
-            Standing::Answered => Status::Answered(&self.answer),
-            Standing::GaveUp => Status::GaveUp,
+        match &self.progress {
+            Progress::Waiting => Status::Open,
+            Progress::Answered => Status::Answered(&self.answer),
+            Progress::GaveUp => Status::GaveUp,
         }
     }
 }

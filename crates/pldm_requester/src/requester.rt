@@ -13,7 +13,7 @@ ghost use Rattle.pldm_requester.specs.Calls.{answer_key};
 ghost use Rattle.pldm_requester.specs.Courses.{begun, is_given_up, is_sent_again};
 ghost use Rattle.pldm_requester.specs.Numbering.{id_of, tag_of};
 ghost use Rattle.pldm_requester.specs.Slots.{held_of, most_opened, remembered_in, put_slot};
-ghost use Rattle.pldm_requester.specs.Standings.{standing_told};
+ghost use Rattle.pldm_requester.specs.RequestProgress.{progress_in_status};
 ghost use Rattle.pldm_requester.specs.Steps.{IsHeld, accepts, again_at, arrived_by, begins_message, expects, given_up_at, goes_to, got_at, held_at_first, held_by, is_id_in_use, is_mine, is_open_in, is_tag_in_use, opened_held, opening_answer, passed, passes, received_held, remembered_after, ticked_held};
 ghost use Rattle.pldm_requester.specs.Timings.{timing_fault};
 
@@ -141,7 +141,7 @@ impl Requester {
 
     /// How a request stands, where it is among the last [`MAX_REMEMBERED`].
     pub fn status(&self, number: u64) -> Option<Status<'_>>
-        ensures { option_map standing_told result ≡ option_map (λ memo. memo.course.standing)
+        ensures { option_map progress_in_status result ≡ option_map (λ memo. memo.course.progress)
             ((held_of self.now).remembered number) }
     {
         Some(self.remembered(number)?.status())
@@ -318,13 +318,13 @@ impl Requester {
         ensures at_start { OnErr result (begins_message (passed (held_of self.old) bytes.now) ≡ true) }
         ensures err { OnErr result (IsHeld (held_of self.new) (held_of self.old)) }
     {
-        let got = self.take(bytes)?;
+        let got = self.receive_bytes(bytes)?;
         self.last = now;
         Ok(got)
     }
 
     /// Takes the bytes of a packet, whatever the moment.
-    fn take(&mut self, bytes: &[u8]) -> Result<Got, Memory>
+    fn receive_bytes(&mut self, bytes: &[u8]) -> Result<Got, Memory>
         ensures got { IfOk result (λ got. got ≡ got_at (held_of self.old) bytes.now) }
         ensures held { OnOk result (IsHeld (held_of self.new) (held_by (held_of self.old) (passed (held_of self.old)
             bytes.now))) }
@@ -333,13 +333,13 @@ impl Requester {
         ensures err { OnErr result (IsHeld (held_of self.new) (held_of self.old)) }
     {
         match read_for(self.own, bytes) {
-            Ok(packet) => self.take_packet(&packet),
+            Ok(packet) => self.receive_packet(&packet),
             Err(reason) => Ok(Got::Dropped(reason)),
         }
     }
 
     /// Takes a packet that is addressed to the endpoint by another one.
-    fn take_packet(&mut self, packet: &PacketRef<'_>) -> Result<Got, Memory>
+    fn receive_packet(&mut self, packet: &PacketRef<'_>) -> Result<Got, Memory>
         ensures got { IfOk result (λ got. got ≡ got_of (arrived_by (held_of self.old) (where_expected
             (expects (held_of self.old)) (Ok packet.now)))) }
         ensures held { OnOk result (IsHeld (held_of self.new) (held_by (held_of self.old) (where_expected

@@ -77,11 +77,11 @@ module _ {S : Type 0} (device : Rules S) (own keep : ℕ) (start : S) where
   served_is open_messages last h m (Some place) =
       served_by (is_copy_of keep m (Some place)) open_messages last h m (reply_at device keep start place)
 
-  message_is : (open_messages : steps.Held) (last : ℕ) (h : List (Event S)) (m : Message) → message_outcome device (left_by open_messages last h) m ≡ calls.answer_owed device own keep start h m
+  message_is : (open_messages : steps.Held) (last : ℕ) (h : List (Event S)) (m : Message) → message_outcome device (left_by open_messages last h) m ≡ calls.answer_expected device own keep start h m
   message_is open_messages last h m =
       ap (λ o. if is_busy keep h m.moment then Answered false false (packets_back own m (busy_reply m.bytes)) else o) (served_is open_messages last h m (origin keep h m.source (id_at m.bytes)))
 
-  arrival_is : (open_messages : steps.Held) (last : ℕ) (h : List (Event S)) (a : Arrival) → arrival_outcome device (left_by open_messages last h) a ≡ calls.outcome_owed device own keep start h a
+  arrival_is : (open_messages : steps.Held) (last : ℕ) (h : List (Event S)) (a : Arrival) → arrival_outcome device (left_by open_messages last h) a ≡ calls.outcome_expected device own keep start h a
   arrival_is open_messages last h (Drop reason) = refl
   arrival_is open_messages last h Part = refl
   arrival_is open_messages last h (Whole m) = message_is open_messages last h m

@@ -20,7 +20,7 @@ use Rattle.pldm_responder.specs.Held.{Entry}
 use Rattle.pldm_responder.specs.Slots.{kept_in}
 use Rattle.pldm_responder.specs.Stations.{Station, held_of}
 use Rattle.pldm_responder.specs.Steps.{repeats, copied_packets, performs}
-use Rattle.pldm_responder.specs.Taking.{IsRefusedMemory}
+use Rattle.pldm_responder.specs.Receiving.{IsRefusedMemory}
 use Rattle.pldm_responder.specs.Needs.{KeepsNone, ArrivalNeeds}
 
 -- an error exit meets what holds in any case

@@ -63,9 +63,9 @@ last_moment (Restart moment ∷ calls) = moment
 last_moment (Updated state ∷ calls) = last_moment calls
 
 module _ {S : Type 0} (device : Rules S) (own keep : ℕ) (start : S) where
-  -- the outcome that is owed to a message after these events: busy, a copy, or fresh
-  abbrev pub answer_owed : List (Event S) → Message → Outcome
-  answer_owed events m =
+  -- the outcome that is expected to a message after these events: busy, a copy, or fresh
+  abbrev pub answer_expected : List (Event S) → Message → Outcome
+  answer_expected events m =
       if is_busy keep events m.moment then Answered false false (packets_back own m (busy_reply m.bytes))
       else (if is_copy keep events m
       then Answered false false (packets_back own m (answered device keep start events m))
@@ -73,11 +73,11 @@ module _ {S : Type 0} (device : Rules S) (own keep : ℕ) (start : S) where
       (packets_back own m (answered device keep start events m)))
 
   -- the same, of what a packet brings
-  abbrev pub outcome_owed : List (Event S) → Arrival → Outcome
-  outcome_owed events (Drop reason) = Dropped reason
-  outcome_owed events Part = Partial
-  outcome_owed events (Whole m) = answer_owed events m
+  abbrev pub outcome_expected : List (Event S) → Arrival → Outcome
+  outcome_expected events (Drop reason) = Dropped reason
+  outcome_expected events Part = Partial
+  outcome_expected events (Whole m) = answer_expected events m
 
   -- the outcome of bytes that are received at a moment after these calls
   abbrev pub outcome : List (Call S) → ℕ → List ℕ → Outcome
-  outcome calls moment bytes = outcome_owed (events own calls) (arrived own calls moment bytes)
+  outcome calls moment bytes = outcome_expected (events own calls) (arrived own calls moment bytes)

@@ -13,6 +13,6 @@ pub mod Stations
 pub mod Laws
 pub mod Asked
 pub mod Rooms
-pub mod Taking
+pub mod Receiving
 pub mod Askings
-pub mod GivenAnswers
+pub mod OutsideAnswers

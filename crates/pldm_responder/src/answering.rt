@@ -7,7 +7,7 @@ ghost use Rattle.pldm_wire.specs.Commands.{kind_of};
 ghost use Rattle.pldm_wire.specs.Headers.{id_at};
 ghost use Rattle.pldm_wire.specs.declared.assigned.TheConstants.{INSTANCE_IDS};
 ghost use Rattle.pldm_responder.specs.Asked.{gives};
-ghost use Rattle.pldm_responder.specs.GivenAnswers.{IsKeptFor, entry_given, kept_bytes};
+ghost use Rattle.pldm_responder.specs.OutsideAnswers.{IsKeptFor, entry_answered, kept_bytes};
 ghost use Rattle.pldm_responder.specs.Performing.{commands_of, reply as reply_of};
 ghost use Rattle.pldm_responder.specs.Slots.{kept_in, row_of, source_count};
 
@@ -64,7 +64,7 @@ pub(crate) fn answer_kept(
     ensures some { 0 < length reply.new.items }
     ensures kept { (other i : ℕ) → kept_in kept.new other i ≡
         (if source == other && id == i
-        then entry_given answer.now (kept_in kept.old source id)
+        then entry_answered answer.now (kept_in kept.old source id)
         else kept_in kept.old other i) }
     ensures sources { source_count kept.new ≡ source_count kept.old }
 {

@@ -16,7 +16,7 @@ ghost use Rattle.pldm_responder.specs.Asked.{listed};
 ghost use Rattle.pldm_responder.specs.Arrivals.{is_expected, message_arrival, message_of, packet_arrival, packets_back};
 ghost use Rattle.pldm_responder.specs.Counts.{CountsKept};
 ghost use Rattle.pldm_responder.specs.Fitting.{ArrivalFits, ReceivedFits};
-ghost use Rattle.pldm_responder.specs.GivenAnswers.{IsKeptFor, given_held, has_bytes, kept_bytes, message_in, outcome_given};
+ghost use Rattle.pldm_responder.specs.OutsideAnswers.{IsKeptFor, answered_held, has_bytes, kept_bytes, message_in, outcome_of_answer};
 ghost use Rattle.pldm_responder.specs.Held.{IsHeld, held_at_first};
 ghost use Rattle.pldm_responder.specs.Performing.{rules_of};
 ghost use Rattle.pldm_responder.specs.Rooms.{ArrivalLacksRow, HasRow, IsCommanded, LacksRow};
@@ -25,7 +25,7 @@ ghost use Rattle.pldm_responder.specs.Stations.{held_of, with_platform};
 ghost use Rattle.pldm_responder.specs.Steps.{arrival_commands, copied_packets, open_after, received_arrival, received_commands, received_held, received_outcome, repeats, restarted_held, sensed_held, updated_held};
 ghost use Rattle.pldm_responder.specs.contracts.responder.Responder.{the_row};
 ghost use Rattle.pldm_responder.specs.declared.outcome.MessageOutcome.TheVariants.{Answered};
-ghost use Rattle.pldm_responder.specs.Taking.{HasTaken, IsRefusedMemory};
+ghost use Rattle.pldm_responder.specs.Receiving.{HasReceived, IsRefusedMemory};
 ghost use Rattle.pldm_responder.specs.Needs.{NeedsMemory};
 
 use crate::answering::answer_kept;
@@ -328,9 +328,9 @@ impl<P: Platform> Responder<P> {
         requires asked { IsKeptFor command.now id ((held_of self.old).kept source id) }
         requires its { IsAnswerTo (kind_of command.now) answer.now }
         ensures outcome { answering reply.new.items result
-            ≡ outcome_given self.old.own source tag (kept_bytes ((held_of self.old).kept source id)) answer.now }
+            ≡ outcome_of_answer self.old.own source tag (kept_bytes ((held_of self.old).kept source id)) answer.now }
         ensures some { HasReply reply.new.items result }
-        ensures held { IsHeld (held_of self.new) (given_held (held_of self.old) source id answer.now) }
+        ensures held { IsHeld (held_of self.new) (answered_held (held_of self.old) source id answer.now) }
         ensures platform { self.new.platform ≡ self.old.platform }
         ensures bounds { self.new.bounds ≡ self.old.bounds }
     {
@@ -480,21 +480,21 @@ impl<P: Platform> Responder<P> {
                 return Ok(MessageOutcome::Dropped(reason));
             }
         };
-        let taken = self.take(now, &packet, reply)?;
+        let taken = self.receive_packet(now, &packet, reply)?;
         self.last = now;
         Ok(taken)
     }
 
     /// Takes a packet that is addressed to the endpoint by another one. The message that answers it is
     /// put into `reply`.
-    fn take(
+    fn receive_packet(
         &mut self,
         now: Moment,
         packet: &PacketRef<'_>,
         reply: &mut Body,
     ) -> Result<MessageOutcome, Memory>
         requires { packet.now.route.source ≢ self.old.own }
-        ensures ok { IfOk result (HasTaken P.performed self.old
+        ensures ok { IfOk result (HasReceived P.performed self.old
             (packet_arrival (answer self.old.open_messages) now packet.now) (rules_of P.answer P.after P.sensed)
             (open_after self.old.open_messages (passed is_expected (Ok packet.now))) self.new reply.new.items) }
         ensures err { OnErr result (IsRefusedMemory P.performed self.old
@@ -506,7 +506,7 @@ impl<P: Platform> Responder<P> {
             return Ok(MessageOutcome::Dropped(Reason::BadTag));
         }
         let Some(message) = self.alone(packet) else {
-            return self.take_piece(now, packet, reply);
+            return self.receive_piece(now, packet, reply);
         };
         let taken = self.serve(now, route.source, route.tag, message, reply)?;
         self.assembler.forget(Key::of(packet));
@@ -530,7 +530,7 @@ impl<P: Platform> Responder<P> {
     /// Takes a packet with TO 1, whatever its place in its message.
     // Not inlined: a message of one packet, the usual one, then needs none of its stack.
     #[inline(never)]
-    fn take_piece(
+    fn receive_piece(
         &mut self,
         now: Moment,
         packet: &PacketRef<'_>,
@@ -538,7 +538,7 @@ impl<P: Platform> Responder<P> {
     ) -> Result<MessageOutcome, Memory>
         requires owner { packet.now.route.owner ≡ true }
         requires other { packet.now.route.source ≢ self.old.own }
-        ensures ok { IfOk result (HasTaken P.performed self.old
+        ensures ok { IfOk result (HasReceived P.performed self.old
             (packet_arrival (answer self.old.open_messages) now packet.now) (rules_of P.answer P.after P.sensed)
             (open_after self.old.open_messages (passed is_expected (Ok packet.now))) self.new reply.new.items) }
         ensures err { OnErr result (IsRefusedMemory P.performed self.old
@@ -591,7 +591,7 @@ impl<P: Platform> Responder<P> {
     ) -> Result<MessageOutcome, Memory>
         requires other { source ≢ self.old.own }
         requires few { length message.now ≤ MAX_MESSAGE_BYTES }
-        ensures ok { IfOk result (HasTaken P.performed self.old (message_arrival source tag now message.now)
+        ensures ok { IfOk result (HasReceived P.performed self.old (message_arrival source tag now message.now)
             (rules_of P.answer P.after P.sensed) self.old.open_messages self.new reply.new.items) }
         ensures err { OnErr result ((start : Bool) → IsRefusedMemory P.performed self.old
             (message_arrival source tag now message.now) P.STEADY start self.new) }

@@ -39,8 +39,8 @@ loop-step-init g c =
       performed = subst (λ p. g.P.Platform.performed c.args.setup.device [] p) (sym c.new.ensures.platform) (g.met.P.Platform.none_performed c.args.setup.device);
     }
 
-pub take-requires : goal.take-requires
-take-requires g c =
+pub run_step-requires : goal.run_step-requires
+run_step-requires g c =
     let schedule = c.args.schedule.now in
     let terms : Terms g.row.P-State.Denot = record { start = g.P.Platform.state c.args.setup.device; eid = c.args.setup.eid; keep = c.args.setup.keep; requesters = schedule.requesters } in
     let i = c.loop-step.step-index in
@@ -63,17 +63,17 @@ loop-step-preserved g c =
     let at = c.step-item.is ∙ ap (λ (xs : List Step). slice_index_or xs i step) items in
     let here = get_or schedule.steps i step within ∙ ap Some (sym at) in
     let may = may_come schedule.requesters schedule.steps i step valid.in_order valid.known here in
-    let runs = c.in_ok-take.ensures.goes_on terms (reverse (take i schedule.steps)) c.loop-step.invariant.runs may in
+    let runs = c.in_ok-run_step.ensures.goes_on terms (reverse (take i schedule.steps)) c.loop-step.invariant.runs may in
     record {
       items = items;
       in_order = subst NeverWentBack (sym (taken_more schedule.steps i step within at)) (may.later, c.loop-step.invariant.in_order);
-      runs = subst (λ past. IsRunning setting past (held_by c.take.new.self)) (sym (taken_more schedule.steps i step within at)) runs;
-      performed = subst (λ past. g.P.Platform.performed c.args.setup.device (commands_performed g.row.P-State.Denot c.args.setup.keep (world setting past).log) c.take.new.self.responder.platform) (sym (taken_more schedule.steps i step within at))
-          (subst (λ (cs : List Command). g.P.Platform.performed c.args.setup.device cs c.take.new.self.responder.platform) (sym (commands_added setting (world setting (reverse (take i schedule.steps))) step.moment step.action))
-          (g.met.P.Platform.performed_in_turn c.args.setup.device c.loop-step.ends.responder.platform c.take.new.self.responder.platform
+      runs = subst (λ past. IsRunning setting past (held_by c.run_step.new.self)) (sym (taken_more schedule.steps i step within at)) runs;
+      performed = subst (λ past. g.P.Platform.performed c.args.setup.device (commands_performed g.row.P-State.Denot c.args.setup.keep (world setting past).log) c.run_step.new.self.responder.platform) (sym (taken_more schedule.steps i step within at))
+          (subst (λ (cs : List Command). g.P.Platform.performed c.args.setup.device cs c.run_step.new.self.responder.platform) (sym (commands_added setting (world setting (reverse (take i schedule.steps))) step.moment step.action))
+          (g.met.P.Platform.performed_in_turn c.args.setup.device c.loop-step.ends.responder.platform c.run_step.new.self.responder.platform
           (commands_performed g.row.P-State.Denot c.args.setup.keep (world setting (reverse (take i schedule.steps))).log)
           (commands_at_step g.row.P-State.Denot c.args.setup.keep (world setting (reverse (take i schedule.steps))).log step.moment step.action)
-          c.loop-step.invariant.performed (c.in_ok-take.ensures.performs terms (reverse (take i schedule.steps)) c.loop-step.invariant.runs may)));
+          c.loop-step.invariant.performed (c.in_ok-run_step.ensures.performs terms (reverse (take i schedule.steps)) c.loop-step.invariant.runs may)));
     }
 
 pub returns-clause-report : goal.returns-clause-report

@@ -1,5 +1,5 @@
--- The law is proved in DeliveriesOwed.
-use Rattle.mctp_schedule.proofs.DeliveriesOwed.{none_opened_since, fresh_where_first, fresh_in_order_of_firsts}
+-- The law is proved in DeliveriesExpected.
+use Rattle.mctp_schedule.proofs.DeliveriesExpected.{none_opened_since, fresh_where_first, fresh_in_order_of_firsts}
 use Rattle.mctp_schedule.proofs.laws.fresh_deliveries_are_first.Goals as goal
 
 pub returns : goal.returns

@@ -4,7 +4,7 @@ use Rattle.pldm_requester.specs.Slots.{held_of}
 use Rattle.std.specs.Prelude.{option_map}
 use Rattle.pldm_requester.specs.Steps.{IsHeld, Memo, arrived_by, got_at, passed, received_held}
 use Rattle.mctp_schedule.specs.Askers.{Side, ReportsReply}
-use Rattle.mctp_schedule.proofs.AskerCalls.{answer_of_got, none_told, one_told, same_answer, standing_after}
+use Rattle.mctp_schedule.proofs.AskerCalls.{answer_of_got, none_told, one_told, same_answer, progress_left}
 use Rattle.mctp_schedule.proofs.askers.Asker.receive.Goals as goal
 
 pub store_answer-requires-clause-answer : goal.store_answer-requires-clause-answer
@@ -12,7 +12,7 @@ store_answer-requires-clause-answer c =
     let held = held_of c.self.inside.requester in
     let got = sym c.in_ok-got.ensures.got ∙ c.in-Answered.is in
     let message = answer_of_got (arrived_by held (passed held c.args.bytes.now)) c.in-Answered.own got in
-    (message.0, standing_after held (held_of c.receive.new.self) c.args.now c.args.bytes.now c.in-Answered.own message.0 c.in_ok-got.ensures.held message.1)
+    (message.0, progress_left held (held_of c.receive.new.self) c.args.now c.args.bytes.now c.in-Answered.own message.0 c.in_ok-got.ensures.held message.1)
 
 pub returns-in_default : goal.returns-in_default
 returns-in_default c =
@@ -37,10 +37,10 @@ returns-clause-answered c =
     let held = held_of c.self.inside.requester in
     let own = c.in-Answered.own in
     let answered = c.in_ok-answered.answered in
-    let standing = option_map (λ (memo : Memo). memo.course.standing) ((held_of c.receive.new.self).remembered own) in
+    let progress = option_map (λ (memo : Memo). memo.course.progress) ((held_of c.receive.new.self).remembered own) in
     subst (λ (s : Side). ReportsReply s.numbers (arrived_by (held_of s.station) (passed (held_of s.station) c.args.bytes.now)) (Some answered)) c.self.view_is
     (one_told c.self.inside.numbers.items (arrived_by held (passed held c.args.bytes.now)) own answered (sym c.in_ok-got.ensures.got ∙ c.in-Answered.is) c.in_ok-answered.ensures.number
-    (λ m e. same_answer standing answered.message m c.in_ok-answered.ensures.message (standing_after held (held_of c.receive.new.self) c.args.now c.args.bytes.now own m c.in_ok-got.ensures.held e)))
+    (λ m e. same_answer progress answered.message m c.in_ok-answered.ensures.message (progress_left held (held_of c.receive.new.self) c.args.now c.args.bytes.now own m c.in_ok-got.ensures.held e)))
 
 pub returns-clause-held : goal.returns-clause-held
 returns-clause-held c =

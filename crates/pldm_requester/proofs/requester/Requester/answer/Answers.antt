@@ -4,7 +4,7 @@ use Rattle.pldm_wire.specs.Responses.{response_of}
 use Rattle.pldm_requester.specs.Arrivals.{response_arrival}
 use Rattle.pldm_requester.specs.Courses.{answered}
 use Rattle.pldm_requester.specs.Slots.{Station, held_of}
-use Rattle.pldm_requester.specs.Standings.{standing_of}
+use Rattle.pldm_requester.specs.RequestProgress.{progress_of}
 use Rattle.pldm_requester.specs.Steps.{Memo, IsHeld, is_mine, remembered_after, with_course}
 use Rattle.pldm_requester.proofs.SlotSteps.{answered_held}
 use Rattle.pldm_requester.proofs.requester.Requester.answer.Goals as goal

@@ -3,7 +3,7 @@ use Rattle.std.proofs.lemmas.Grind.{common_steps}
 use borrow.Author.Tests.{ltb-false}
 use Rattle.pldm_wire.specs.Requests.{request_of}
 use Rattle.pldm_responder.specs.Arrivals.{headed, message_of, packets_back}
-use Rattle.pldm_responder.specs.Taking.{IsRefusedMemory}
+use Rattle.pldm_responder.specs.Receiving.{IsRefusedMemory}
 use Rattle.pldm_responder.proofs.ServedMessages.{at_error, no_copy, needs_once_performed}
 use Rattle.pldm_responder.proofs.responder.Responder.serve.Goals as goal
 

@@ -33,20 +33,20 @@ IsKeptFor command id None = ⊥
 IsKeptFor command id (Some e) = (commands_of e.bytes ≡ command ∷ []) × (id_at e.bytes ≡ id)
 
 -- the same request with the answer that was given, from its own moment on
-abbrev pub entry_given : Answer → Option Entry → Option Entry
-entry_given given None = None
-entry_given given (Some e) =
+abbrev pub entry_answered : Answer → Option Entry → Option Entry
+entry_answered given None = None
+entry_answered given (Some e) =
     Some (record { moment = e.moment; bytes = e.bytes; answer = reply (gives given) tt e.bytes })
 
 -- what goes out of an endpoint for the request of these bytes, whose packets had this source and tag: it was performed
-abbrev pub outcome_given : ℕ → ℕ → ℕ → List ℕ → Answer → Outcome
-outcome_given own source tag bytes given =
+abbrev pub outcome_of_answer : ℕ → ℕ → ℕ → List ℕ → Answer → Outcome
+outcome_of_answer own source tag bytes given =
     Answered true (changes (gives given) tt bytes)
     (packets_back own (message_of source tag 0 bytes) (reply (gives given) tt bytes))
 
 -- what is held once the answer was given to the request that is kept for a source and an instance ID
-abbrev pub given_held : {S : Type 0} → Held S → ℕ → ℕ → Answer → Held S
-given_held held source id given = record held {
+abbrev pub answered_held : {S : Type 0} → Held S → ℕ → ℕ → Answer → Held S
+answered_held held source id given = record held {
   kept = λ other i.
-      if source == other && id == i then entry_given given (held.kept source id) else held.kept other i;
+      if source == other && id == i then entry_answered given (held.kept source id) else held.kept other i;
 }

@@ -5,7 +5,7 @@ use Rattle.mctp_packet.specs.declared.TheConstants.{MAX_PACKET_BYTES}
 use Rattle.mctp_serial.specs.CheckLaws.{AreBytes}
 use Rattle.mctp_serial.specs.CheckSequences.{check_sequence}
 use Rattle.mctp_serial.specs.Frames.{HasFrame, spelled, spelled_all, ending, frame}
-use Rattle.mctp_serial.specs.Laws.{OnlyFramesTold}
+use Rattle.mctp_serial.specs.Laws.{OnlyFramesAreReported}
 use Rattle.mctp_serial.specs.Readings.{Reading, idle, opened, counting, inside, escaped, high, low, closing, Step, nothing_yet, drops, adds, after_end, inside_or_past, checks, packet_of, step, after}
 use Rattle.mctp_serial.specs.declared.TheConstants.{FLAG, ESCAPE, ESCAPED_FLAG, ESCAPED_ESCAPE, REVISION}
 use Rattle.mctp_serial.specs.declared.fault.FrameFault.TheVariants.{WrongRevision, Empty, TooLong, CutShort, BadEscape, WrongCheck, NoEnd}
@@ -42,8 +42,8 @@ end_by : (byte : ℕ) (bytes : List ℕ) (x : Bool) → (byte == FLAG) ≡ x →
 end_by byte bytes true p = simp p (bytes, ap (λ b. bytes ++ b ∷ []) (eqb-true byte FLAG p))
 end_by byte bytes false p = simp p tt
 
-stands_after_end : (byte : ℕ) (bytes : List ℕ) → Stands (after_end byte) (bytes ++ byte ∷ [])
-stands_after_end byte bytes = end_by byte bytes (byte == FLAG) refl
+progress_after_end : (byte : ℕ) (bytes : List ℕ) → Stands (after_end byte) (bytes ++ byte ∷ [])
+progress_after_end byte bytes = end_by byte bytes (byte == FLAG) refl
 
 opened_by : (byte : ℕ) (bytes : List ℕ) (x y : Bool) → (byte == FLAG) ≡ x → (byte == REVISION) ≡ y → Stands opened bytes → Stands (step opened byte).next (bytes ++ byte ∷ [])
 opened_by byte bytes true y p q s = simp p (bytes, ap (λ b. bytes ++ b ∷ []) (eqb-true byte FLAG p))
@@ -52,12 +52,12 @@ opened_by byte bytes false true p q s =
 opened_by byte bytes false false p q s = simp (p, q) tt
 
 counting_by : (byte : ℕ) (bytes : List ℕ) (x y : Bool) → (byte == 0) ≡ x → nat_le byte MAX_PACKET_BYTES ≡ y → Stands counting bytes → Stands (step counting byte).next (bytes ++ byte ∷ [])
-counting_by byte bytes true y p q s = simp p (stands_after_end byte bytes)
+counting_by byte bytes true y p q s = simp p (progress_after_end byte bytes)
 counting_by byte bytes false true p q s =
     let some = eqb-false byte 0 p in
     let few = leb-true byte MAX_PACKET_BYTES q in
     simp (p, q) (further bytes (FLAG ∷ REVISION ∷ []) byte s, omega (arith, some), few)
-counting_by byte bytes false false p q s = simp (p, q) (stands_after_end byte bytes)
+counting_by byte bytes false false p q s = simp (p, q) (progress_after_end byte bytes)
 
 one_more : (done : List ℕ) (byte : ℕ) → spelled_all done ++ spelled byte ≡ spelled_all (done ++ byte ∷ [])
 one_more done byte = sym (spelled_all-append done (byte ∷ []) ∙ ap (λ l. spelled_all done ++ l) (append-nil (spelled byte)))
@@ -100,7 +100,7 @@ escaped_by count done byte bytes false true p q s =
     let grown = same_end (bytes ++ byte ∷ []) _ _ (ap (begun count) (append_assoc (spelled_all done) (ESCAPE ∷ []) (byte ∷ []) ∙ ap (λ b. spelled_all done ++ ESCAPE ∷ b ∷ []) (eqb-true byte ESCAPED_ESCAPE q))) (further bytes (begun count (spelled_all done ++ ESCAPE ∷ [])) byte s.0) in
     let next = stands_added count done ESCAPE (bytes ++ byte ∷ []) grown s.1 s.2 in
     simp (p, q) next
-escaped_by count done byte bytes false false p q s = simp (p, q) (stands_after_end byte bytes)
+escaped_by count done byte bytes false false p q s = simp (p, q) (progress_after_end byte bytes)
 
 closing_by : (done : List ℕ) (sent byte : ℕ) (bytes : List ℕ) (x : Bool) → (byte == FLAG) ≡ x → Stands (step (closing done sent) byte).next (bytes ++ byte ∷ [])
 closing_by done sent byte bytes true p = simp p (bytes, ap (λ b. bytes ++ b ∷ []) (eqb-true byte FLAG p))
@@ -113,7 +113,7 @@ two_bytes first byte small =
     ap (λ n. n ∷ byte ∷ []) a ∙ ap (λ n. (first * 256 + byte) / 256 ∷ n ∷ []) b
 
 stands_further : (r : Reading) (byte : ℕ) (bytes : List ℕ) → byte < 256 → Stands r bytes → Stands (step r byte).next (bytes ++ byte ∷ [])
-stands_further idle byte bytes small s = stands_after_end byte bytes
+stands_further idle byte bytes small s = progress_after_end byte bytes
 stands_further opened byte bytes small s = opened_by byte bytes (byte == FLAG) (byte == REVISION) refl refl s
 stands_further counting byte bytes small s = counting_by byte bytes (byte == 0) (nat_le byte MAX_PACKET_BYTES) refl refl s
 stands_further (inside count done) byte bytes small s = inside_by count done byte bytes (byte == FLAG) (byte == ESCAPE) refl refl s
@@ -124,10 +124,10 @@ stands_further (low done first) byte bytes small s =
 stands_further (closing done sent) byte bytes small s = closing_by done sent byte bytes (byte == FLAG) refl
 
 -- after all bytes
-stands_after : (r : Reading) (came bytes : List ℕ) → AreBytes bytes → Stands r came → Stands (after r bytes) (came ++ bytes)
-stands_after r came [] are s = rw (append-nil came) s
-stands_after r came (b ∷ bytes) are s =
-    rw (← append_assoc came (b ∷ []) bytes) (stands_after (step r b).next (came ++ b ∷ []) bytes (λ i. are (suc i)) (stands_further r b came (are 0) s))
+progress_after : (r : Reading) (came bytes : List ℕ) → AreBytes bytes → Stands r came → Stands (after r bytes) (came ++ bytes)
+progress_after r came [] are s = rw (append-nil came) s
+progress_after r came (b ∷ bytes) are s =
+    rw (← append_assoc came (b ∷ []) bytes) (progress_after (step r b).next (came ++ b ∷ []) bytes (λ i. are (suc i)) (stands_further r b came (are 0) s))
 
 -- the packet that is told, if one is
 abbrev told_packet : FrameEvent → Option (List ℕ)
@@ -201,5 +201,5 @@ told_frame (high done) byte bytes packet s e = absurd (none_told packet Nothing 
 told_frame (low done first) byte bytes packet s e = absurd (none_told packet Nothing refl e)
 told_frame (closing done sent) byte bytes packet s e = closed_by done sent byte bytes packet (byte == FLAG) refl s e
 
-pub only_frames : OnlyFramesTold
-only_frames bytes packet byte are small e = told_frame (after idle bytes) byte bytes packet (stands_after idle [] bytes are tt) e
+pub only_frames : OnlyFramesAreReported
+only_frames bytes packet byte are small e = told_frame (after idle bytes) byte bytes packet (progress_after idle [] bytes are tt) e

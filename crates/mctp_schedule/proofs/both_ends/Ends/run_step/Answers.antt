@@ -5,7 +5,7 @@ use Rattle.pldm_responder.specs.Performing.{rules_of}
 use Rattle.mctp_schedule.specs.HeldRuns.{held_by}
 use Rattle.mctp_schedule.specs.Running.{CanGoOn, HasDone, at}
 use Rattle.schedule_text.specs.declared.step.Action.TheVariants as actions
-use Rattle.mctp_schedule.proofs.both_ends.Ends.take.Goals as goal
+use Rattle.mctp_schedule.proofs.both_ends.Ends.run_step.Goals as goal
 
 pub open-requires : goal.open-requires
 open-requires g c =

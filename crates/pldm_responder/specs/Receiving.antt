@@ -16,7 +16,7 @@ use Rattle.pldm_responder.specs.declared.outcome.MessageOutcome.{MessageOutcome}
 
 module _ {P S : Type 0} (performing : P → List Command → P → Type 0) (old : Station P S) (arrival : Arrival) where
   -- the step took it, over a platform of these rules; `taken` and `reply` are what it gave
-  pub record HasTaken
+  pub record HasReceived
       (device : Rules S) (open_messages : assembly.Held) (new : Station P S) (reply : List ℕ) (taken : MessageOutcome)
       : Type 0 where
     pub outcome : answering reply taken ≡ arrival_outcome device (held_of old) arrival

@@ -8,7 +8,7 @@ use Rattle.pldm_responder.specs.Stations.{Station, IsAsked}
 use Rattle.pldm_responder.proofs.AskedKeys.{asked_without, asked_after}
 use Rattle.pldm_responder.proofs.OpenBounds.{len_after, len_without}
 use Rattle.pldm_responder.proofs.ServedMessages.{at_error, needed_when_whole}
-use Rattle.pldm_responder.proofs.responder.Responder.take_piece.Goals as goal
+use Rattle.pldm_responder.proofs.responder.Responder.receive_piece.Goals as goal
 
 pub invariant_of-self : goal.invariant_of-self
 invariant_of-self g c =

@@ -2,7 +2,7 @@ use Rattle.std.proofs.Common.{◌≡◌, Bool, true, false, not, refl}
 use Rattle.pldm_responder.proofs.AskedKeys.{asked_without}
 use Rattle.pldm_responder.proofs.OpenBounds.{len_without}
 use Rattle.pldm_responder.proofs.ServedMessages.{at_error, needed_when_whole}
-use Rattle.pldm_responder.proofs.responder.Responder.take.Goals as goal
+use Rattle.pldm_responder.proofs.responder.Responder.receive_packet.Goals as goal
 
 true_by : (b : Bool) → not b ≡ false → b ≡ true
 true_by true h = refl

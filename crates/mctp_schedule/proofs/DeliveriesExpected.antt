@@ -5,15 +5,15 @@ use Rattle.std.proofs.lemmas.Bool.{and_left, and_parts, not_from_true, ltb-true,
 use Rattle.std.proofs.lemmas.Slice.Eq.{bytes_eq-Decides}
 use Rattle.pldm_wire.specs.Headers.{id_at}
 use Rattle.pldm_responder.specs.Arrivals.{packets_back}
-use Rattle.pldm_responder.specs.Calls.{answer_owed}
+use Rattle.pldm_responder.specs.Calls.{answer_expected}
 use Rattle.pldm_responder.specs.Events.{Message, is_busy, is_copy}
 use Rattle.pldm_responder.specs.Performing.{Rules, changes, performed}
 use Rattle.pldm_responder.specs.declared.outcome.Outcome.{Outcome}
 use Rattle.pldm_responder.specs.declared.outcome.Outcome.TheVariants.{Answered}
 use Rattle.mctp_schedule.specs.Logs.{Asked, Delivered, asked_at, message_at, told_of, told}
 use Rattle.mctp_schedule.specs.FirstArrivals.{first, is_first}
-use Rattle.mctp_schedule.specs.OncePerformed.{once, the_reply, delivery_owed}
-use Rattle.mctp_schedule.specs.DeviceHalf.{NoneOpenedSince, FreshInOrderOfFirsts, FreshWhereFirst, StateIsOnce, DeliveryIsOwed, NotPerformedAgain, GivenIsTheReply, TheReplyFits}
+use Rattle.mctp_schedule.specs.OncePerformed.{once, the_reply, delivery_expected}
+use Rattle.mctp_schedule.specs.DeviceHalf.{NoneOpenedSince, FreshInOrderOfFirsts, FreshWhereFirst, StateIsOnce, DeliveryIsExpected, NotPerformedAgain, GivenIsTheReply, TheReplyFits}
 use Rattle.mctp_schedule.proofs.SameOverAnyState.{same_busy, same_first, same_fresh, same_is_first, same_origin}
 use Rattle.mctp_schedule.proofs.LatestFreshMessages.{performed_stays}
 use Rattle.mctp_schedule.proofs.FirstPerformed.{is_first_of, apart, opened_before, copies, holds, entry}
@@ -89,10 +89,10 @@ module _ {S : Type 0} (device : Rules S) where
   turned true x y = refl
   turned false x y = refl
 
-  pub delivery_is_owed : DeliveryIsOwed device
-  delivery_is_owed own keep start past moment k r timely e = go (is_busy keep (told {S = S} past) moment) refl
+  pub delivery_is_expected : DeliveryIsExpected device
+  delivery_is_expected own keep start past moment k r timely e = go (is_busy keep (told {S = S} past) moment) refl
     where
-      go : (b : Bool) → is_busy keep (told {S = S} past) moment ≡ b → answer_owed device own keep start (told past) (message_at moment r) ≡ delivery_owed device keep start own past moment k r
+      go : (b : Bool) → is_busy keep (told {S = S} past) moment ≡ b → answer_expected device own keep start (told past) (message_at moment r) ≡ delivery_expected device keep start own past moment k r
       go true busy = cond-true (is_busy keep (told {S = S} past) moment) _ _ busy ∙ sym (cond-true (is_busy keep (told {S = S} past) moment) _ _ busy)
       go false idle =
           let x = entry device keep start past moment k r timely.order timely.apart timely.in_time e idle in
