@@ -1,8 +1,8 @@
 -- A run of which nothing has come gives the text of its input.
 use Rattle.std.proofs.Common.{◌≡◌, ℕ, Bool, List, [], sym, ap, ◌∙◌}
 use Rattle.mctpctl_engines.specs.AnswerText.{run_of}
-use Rattle.mctpctl_engines.specs.DescribedPieces.{IsFirst, described_gives}
-use Rattle.mctpctl_engines.specs.DescriptionPieces.{RunPast, description_gives}
+use Rattle.mctpctl_engines.specs.DescribedRuns.{IsFirst, described_gives}
+use Rattle.mctpctl_engines.specs.DescribedPieces.{RunPast, description_gives}
 use Rattle.mctpctl_engines.specs.declared.described_run.DescribedRun.{DescribedRun}
 use Rattle.mctpctl_engines.specs.declared.described_run.DescribedRun.TheVariants.{Before, Past}
 use Rattle.mctpctl_engines.proofs.DescribedGlue.{run_of_all}

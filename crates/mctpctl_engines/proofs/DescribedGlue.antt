@@ -6,7 +6,7 @@ use Rattle.std.proofs.lemmas.Bool.Decides.{nat_tests}
 use Rattle.std.proofs.lemmas.Slice.Eq.{bytes_eq-Decides}
 use Rattle.line_words.specs.TextLines.{HasNoFeed, lines_of}
 use Rattle.mctpctl_engines.specs.AnswerText.{described_run, divided_run, run_of}
-use Rattle.mctpctl_engines.specs.DescriptionPieces.{DividesAt, EndsAt, EndsDescription, RunPast, run_described, description_gives, begun, begun_gives, device_begun}
+use Rattle.mctpctl_engines.specs.DescribedPieces.{DividesAt, EndsAt, EndsDescription, RunPast, run_described, description_gives, begun, begun_gives, device_begun}
 use Rattle.mctpctl_engines.specs.LinePieces.{glued}
 use Rattle.mctpctl_input.specs.LineRuns.{Written, no_memory, stops_at}
 use Rattle.mctpctl_input.specs.Pieces.{FinishesErr, Gives, GoesOn, StopsWith, Takes}

@@ -1,7 +1,7 @@
 pub mod AnswerPieces
 pub mod AnswerText
+pub mod DescribedRuns
 pub mod DescribedPieces
-pub mod DescriptionPieces
 pub mod HeldRuns
 pub mod LongLines
 pub mod ObservedRuns

@@ -1,7 +1,7 @@
 //! The description of a device in front of the line that divides.
 
 ghost use Rattle.std.specs.Prelude.{◌≢◌, Err};
-ghost use Rattle.mctpctl_engines.specs.DescriptionPieces.{IsReturned, begun};
+ghost use Rattle.mctpctl_engines.specs.DescribedPieces.{IsReturned, begun};
 
 use mctpctl_input::{DescriptionFault, EngineFault, MAX_DESCRIPTION};
 use pldm_device::Description;

@@ -2,7 +2,7 @@
 
 ghost use Rattle.std.specs.Prelude.{◌≡◌, ℕ, Bool, true, List, [], ◌∷◌};
 ghost use Rattle.line_words.specs.TextLines.{lines_of};
-ghost use Rattle.mctpctl_engines.specs.DescribedPieces.{IsFirst, described_count, described_gives, nothing_where_cut};
+ghost use Rattle.mctpctl_engines.specs.DescribedRuns.{IsFirst, described_count, described_gives, nothing_where_cut};
 ghost use Rattle.mctpctl_input.specs.LineRuns.{Written};
 ghost use Rattle.pldm_device.specs.declared.description.Description.{Description};
 

@@ -2,7 +2,7 @@
 
 ghost use Rattle.std.specs.Prelude.{◌≡◌, ◌≢◌, ◌≤◌, ◌+◌, ◌++◌, ◌∷◌, [], Err, IfOk, IfSome, IfNone, OnOk, length};
 ghost use Rattle.line_words.specs.TextLines.{HasNoFeed};
-ghost use Rattle.mctpctl_engines.specs.DescriptionPieces.{RunPast, Describes, DividesAt, EndsDescription, KeepsFront, lines_give};
+ghost use Rattle.mctpctl_engines.specs.DescribedPieces.{RunPast, Describes, DividesAt, EndsDescription, KeepsFront, lines_give};
 
 use crate::described::read_description;
 use line_words::split_line;

@@ -1,7 +1,7 @@
 -- The run is that over all that the reader gives.
 use Rattle.std.proofs.Common.{◌≡◌}
 use Rattle.mctpctl_engines.specs.AnswerText.{run_of, called_run}
-use Rattle.mctpctl_engines.specs.DescribedPieces.{described_gives}
+use Rattle.mctpctl_engines.specs.DescribedRuns.{described_gives}
 use Rattle.mctpctl_engines.specs.HeldRuns.{held_run, held_step}
 use Rattle.mctpctl_engines.specs.LinePieces.{run_gives}
 use Rattle.mctpctl_input.specs.Pieces.{Gives}

@@ -1,7 +1,7 @@
 -- The run is that over all that the reader gives, and before its end nothing is written.
 use Rattle.std.proofs.Common.{◌≡◌, refl}
 use Rattle.mctpctl_engines.specs.AnswerText.{run_of}
-use Rattle.mctpctl_engines.specs.DescribedPieces.{described_gives}
+use Rattle.mctpctl_engines.specs.DescribedRuns.{described_gives}
 use Rattle.mctpctl_engines.specs.RunText.{scheduled_run}
 use Rattle.mctpctl_engines.specs.SchedulePieces.{schedule_gives}
 use Rattle.mctpctl_engines.proofs.AnswersOfRuns.{first_gives}

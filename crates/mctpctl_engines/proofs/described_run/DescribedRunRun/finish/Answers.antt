@@ -1,7 +1,7 @@
 -- The end of the input in the line that divides begins the run past it, and ends it.
 use Rattle.std.proofs.Common.{ap}
-use Rattle.mctpctl_engines.specs.DescribedPieces.{described_gives}
-use Rattle.mctpctl_engines.specs.DescriptionPieces.{lines_give}
+use Rattle.mctpctl_engines.specs.DescribedRuns.{described_gives}
+use Rattle.mctpctl_engines.specs.DescribedPieces.{lines_give}
 use Rattle.mctpctl_engines.proofs.DescribedGlue.{end_stops}
 use Rattle.mctpctl_engines.proofs.described_run.DescribedRunRun.finish.Goals as goal
 

@@ -1,7 +1,7 @@
 -- A piece extends the description, or begins the run past it over the rest.
 use Rattle.std.proofs.Common.{Ok, ap, ◌∙◌}
-use Rattle.mctpctl_engines.specs.DescribedPieces.{described_gives, description_where_cut}
-use Rattle.mctpctl_engines.specs.DescriptionPieces.{lines_give}
+use Rattle.mctpctl_engines.specs.DescribedRuns.{described_gives, description_where_cut}
+use Rattle.mctpctl_engines.specs.DescribedPieces.{lines_give}
 use Rattle.mctpctl_engines.proofs.DescribedGlue.{piece_described, piece_divided, piece_stops}
 use Rattle.mctpctl_engines.proofs.described_run.DescribedRunRun.take.Goals as goal
 

@@ -1,6 +1,6 @@
 -- Each line of the description extends it, up to the line that divides.
 use Rattle.std.proofs.Common.{◌++◌, ◌∷◌, [], Ok, ap, sym, subst, ◌∙◌, append_assoc, append-nil, arith}
-use Rattle.mctpctl_engines.specs.DescriptionPieces.{Describes, begun_gives, lines_give}
+use Rattle.mctpctl_engines.specs.DescribedPieces.{Describes, begun_gives, lines_give}
 use Rattle.mctpctl_input.specs.Pieces.{GoesOn}
 use Rattle.mctpctl_input.proofs.PieceRuns.{goes_after}
 use Rattle.mctpctl_engines.proofs.DescribedGlue.{ends_after}

@@ -1,6 +1,6 @@
 -- The bytes before `rest` were lines of the description.
 use Rattle.std.proofs.Common.{◌≡◌, ◌≤◌, ◌++◌, List, ℕ, [], length}
-use Rattle.mctpctl_engines.specs.DescriptionPieces.{RunPast, lines_give}
+use Rattle.mctpctl_engines.specs.DescribedPieces.{RunPast, lines_give}
 use Rattle.mctpctl_input.specs.Pieces.{GoesOn}
 use Rattle.mctpctl_engines.proofs.description_lines.DescriptionLines.read.Given as goal
 
