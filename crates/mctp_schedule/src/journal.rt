@@ -26,6 +26,7 @@ pub(crate) struct Traffic {
     busy: Option<usize>,
 }
 
+// A run has one for each request: of the packet it holds four bytes, since the request holds the others.
 const _: () = prove!(size_of::<Traffic>() == 40);
 
 impl Model for Traffic {
