@@ -34,7 +34,8 @@ pub record IsSent (held : Held) (moment : ℕ) (command : Command) (sent : SentR
   pub opened : opening_answer held moment ≡ Ok (opened_as held.count)
   pub own : sent.own ≡ held.count
   pub message : sent.message ≡ message_of held.count command
-  pub packet : sent.header ++ sent.message ≡ packet_bytes held.own held.device held.count (message_of held.count command)
+  pub packet : sent.header ++ sent.message
+      ≡ packet_bytes held.own held.device held.count (message_of held.count command)
   pub readable : IsCommand command
 
 -- a request is remembered, and has one packet
