@@ -9,7 +9,7 @@ use Rattle.mctpctl_engines.specs.AnswerText.{described_run, divided_run, run_of}
 use Rattle.mctpctl_engines.specs.DescribedPieces.{DividesAt, EndsAt, EndsDescription, RunPast, run_described, description_gives, begun, begun_gives, device_begun}
 use Rattle.mctpctl_engines.specs.LinePieces.{glued}
 use Rattle.mctpctl_input.specs.LineRuns.{Written, no_memory, stops_at}
-use Rattle.mctpctl_input.specs.Pieces.{FinishesErr, Gives, GoesOn, StopsWith, Takes}
+use Rattle.mctpctl_input.specs.Pieces.{FinishesTo, Gives, GoesOn, StopsWith, Takes}
 use Rattle.std.specs.Io.KnownBytes.{Appends}
 use Rattle.std.proofs.KnownBytes.{Appends-nil}
 use Rattle.mctpctl_engines.specs.declared.description_lines.Divided.{Divided}
@@ -248,10 +248,10 @@ piece_stops run whole f h k piece out fault found same is nothing meets =
 
 -- the end of the input before a line has divided
 pub end_stops : (run : RunPast) (whole f : Gives) (is_cut : Bool) (fault : EngineFault) (found : Result Description EngineFault) (out : Option (List ℕ))
-    → whole ≡ f → found ≡ Err fault → EndsDescription run f found → FinishesErr (whole is_cut []) out out fault
+    → whole ≡ f → found ≡ Err fault → EndsDescription run f found → FinishesTo (whole is_cut []) out out (Err fault)
 end_stops run whole f is_cut fault found out same is meets =
-    subst (λ w. FinishesErr (w is_cut []) out out fault) (sym same) (stops (subst (EndsDescription run f) is meets)) where
-      stops : EndsDescription run f (Err fault) → FinishesErr (f is_cut []) out out fault
+    subst (λ w. FinishesTo (w is_cut []) out out (Err fault)) (sym same) (stops (subst (EndsDescription run f) is meets)) where
+      stops : EndsDescription run f (Err fault) → FinishesTo (f is_cut []) out out (Err fault)
       stops (inl memory) = inr (inl (memory, Appends-nil out))
       stops (inr (apart, ends)) =
           inr (inr (apart, ap (λ (w : Written). w.fault) (ends is_cut), subst (λ t. Appends out out t) (sym (ap (λ (w : Written). w.text) (ends is_cut))) (Appends-nil out)))
