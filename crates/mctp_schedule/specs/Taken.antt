@@ -120,7 +120,8 @@ module _ {S : Type 0} (setting : Setting S) where
 
   abbrev pub reply_expected_to : List Step → ℕ → ℕ → Option Asked → Option Got
   reply_expected_to past k j None = None
-  reply_expected_to past k j (Some r) = if has_part (world setting past) k j then Some (part_expected past k j r) else None
+  reply_expected_to past k j (Some r) =
+      if has_part (world setting past) k j then Some (part_expected past k j r) else None
 
   -- what the delivery of packet j of request k's reply owes: nothing where k was not opened or its reply has no such
   -- packet

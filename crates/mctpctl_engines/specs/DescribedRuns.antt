@@ -31,20 +31,23 @@ IsFirst (Past run) = ⊥
 
 -- a run whose input is cut off at once writes nothing more
 
-module _ (written : RunPast) (nothing_after : (description : Description) → (written description true []).text ≡ []) where
-  device_writes_nothing : (said : Result Description FileFault) (long : Bool)
-      → (if long then stops_at faults.TooLarge else described_run written true [] said).text ≡ []
-  device_writes_nothing said true = refl
-  device_writes_nothing (Ok description) false = nothing_after description
-  device_writes_nothing (Err fault) false = refl
+module _
+    (written : RunPast)
+    (nothing_after : (description : Description) → (written description true []).text ≡ [])
+  where
+    device_writes_nothing : (said : Result Description FileFault) (long : Bool)
+        → (if long then stops_at faults.TooLarge else described_run written true [] said).text ≡ []
+    device_writes_nothing said true = refl
+    device_writes_nothing (Ok description) false = nothing_after description
+    device_writes_nothing (Err fault) false = refl
 
-  pub description_where_cut : (text kept : List ℕ) → (description_gives written text kept true []).text ≡ []
-  description_where_cut text kept = by_line (is_divider (kept ++ [])) where
-    by_line : (here : Bool)
-        → (run_described written true (text ++ (if here then [] else kept ++ [])) (if here then Some [] else None)).text
-        ≡ []
-    by_line true = device_writes_nothing (stated (text ++ [])) (nat_lt MAX_DESCRIPTION (length (text ++ [])))
-    by_line false = refl
+    pub description_where_cut : (text kept : List ℕ) → (description_gives written text kept true []).text ≡ []
+    description_where_cut text kept = by_line (is_divider (kept ++ [])) where
+      by_line : (here : Bool)
+          → (run_described written true (text ++ (if here then [] else kept ++ [])) (if here then Some [] else None)).text
+          ≡ []
+      by_line true = device_writes_nothing (stated (text ++ [])) (nat_lt MAX_DESCRIPTION (length (text ++ [])))
+      by_line false = refl
 
 pub nothing_where_cut : {T : Type 0} (written : RunPast) (past : T → Gives)
     → ((description : Description) → (written description true []).text ≡ [])

@@ -2,11 +2,10 @@
 
 ghost use Rattle.std.specs.Prelude.{◌≡◌, ◌≢◌, ◌≤◌, ◌+◌, ◌++◌, ◌∷◌, [], Err, IfOk, IfSome, IfNone, OnOk, length};
 ghost use Rattle.line_words.specs.TextLines.{HasNoFeed};
-ghost use Rattle.mctpctl_engines.specs.DescribedPieces.{RunPast, Describes, DividesAt, EndsDescription, KeepsFront, lines_give};
+ghost use Rattle.mctpctl_engines.specs.DescribedPieces.{RunPast, Describes, DividesAt, EndsDescription, IsReturned, KeepsFront, begun, lines_give};
 
-use crate::described::read_description;
 use line_words::split_line;
-use mctpctl_input::{EngineFault, MAX_DESCRIPTION, MAX_DIVIDER, is_divider};
+use mctpctl_input::{DescriptionFault, EngineFault, MAX_DESCRIPTION, MAX_DIVIDER, is_divider};
 use pldm_device::Description;
 use std::alloc::Global;
 
@@ -132,5 +131,20 @@ impl DescriptionLines {
         } else {
             EngineFault::NoDivider
         })
+    }
+}
+
+/// The device that the text before the divider describes.
+pub fn read_description(alloc: Global, text: &[u8]) -> Result<Description, EngineFault>
+    ensures meets { IsReturned (begun text.now) result }
+    ensures read { result ≢ Err EngineFault.Read }
+    ensures write { result ≢ Err EngineFault.Write }
+{
+    if text.len() > MAX_DESCRIPTION {
+        return Err(EngineFault::TooLarge);
+    }
+    match Description::read(alloc, text) {
+        Ok(description) => Ok(description),
+        Err(fault) => Err(EngineFault::Device(DescriptionFault::new(fault)?)),
     }
 }

@@ -2,7 +2,6 @@
 #![tactic(auto)]
 
 mod answer_run;
-mod described;
 mod described_run;
 mod description_lines;
 mod line_run;
@@ -14,7 +13,7 @@ mod schedule_run;
 mod show;
 
 pub use answer_run::answer_all;
-pub use described::read_description;
+pub use description_lines::read_description;
 pub use mctpctl_input::{
     DescriptionFault, EngineFault, LineKind, MAX_CAPTURE_LINE, MAX_DESCRIPTION, MAX_DIVIDER,
     MAX_INPUT, Port, fault_line, status_of,

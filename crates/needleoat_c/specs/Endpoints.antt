@@ -247,7 +247,8 @@ abbrev pub ReportsGiven :
     {S : Type 0} → Result Answer ℕ → Asked → AskingFields → StepReport → List (List ℕ) → Held S → Type 0
 ReportsGiven (Ok given) a fields r rooms held =
     ReportsOutcome
-    (outcome_of_answer held.own fields.source a.tag (kept_bytes (held.kept fields.source fields.instance_id)) given) r rooms
+    (outcome_of_answer held.own fields.source a.tag (kept_bytes (held.kept fields.source fields.instance_id)) given)
+    r rooms
 ReportsGiven (Err number) a fields r rooms held = IsRefused number r
 
 abbrev pub ReportsAnswerTo :
