@@ -20,7 +20,7 @@ use Rattle.pldm_device.specs.declared.description_fault.FileFault.{FileFault}
 abbrev pub RunPast : Type 0
 RunPast = Description → Bool → List (List ℕ) → Written
 
--- want of memory, or whatever comes after the piece the run stops at the fault
+-- out of memory, or whatever comes after the piece the run stops at the fault
 abbrev pub EndsAt : Gives → List ℕ → EngineFault → Type 0
 EndsAt before piece fault = (fault ≡ no_memory) ⊎ ((fault ≢ no_memory) × StopsWith before piece [] fault)
 
