@@ -49,8 +49,8 @@ impl LineTask for Responder<SimDevice> {
             Err(CaptureFault::Memory(memory)) => return Err(memory.into()),
         };
         let now = Moment::new(moment).unwrap();
-        let taken = self.receive_message(now, &room.packet, &mut room.reply)?;
-        Ok(push_outcome(out, &taken, &room.reply)?)
+        let taken = self.receive_message(now, &room.packet, &mut room.message)?;
+        Ok(push_outcome(out, &taken, &room.message)?)
     }
 
     ghost refuses_long = { held_refuses };

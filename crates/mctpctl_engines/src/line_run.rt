@@ -17,8 +17,8 @@ use std::io::Write;
 pub struct LineRoom {
     /// For the bytes of its packet.
     pub packet: Vec<u8>,
-    /// For the message that answers it.
-    pub reply: Body,
+    /// For a message that this packet completes, or that answers it.
+    pub message: Body,
     /// For its text.
     pub text: Vec<u8>,
 }
@@ -27,12 +27,12 @@ impl LineRoom {
     /// Room that holds nothing.
     pub fn new(alloc: Global) -> LineRoom
         ensures packet { result.packet.items ≡ [] }
-        ensures reply { result.reply.items ≡ [] }
+        ensures message { result.message.items ≡ [] }
         ensures text { result.text.items ≡ [] }
     {
         LineRoom {
             packet: Vec::new(alloc),
-            reply: Body::new(),
+            message: Body::new(),
             text: Vec::new(alloc),
         }
     }

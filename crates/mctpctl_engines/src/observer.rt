@@ -4,13 +4,14 @@ ghost use Rattle.std.specs.Prelude.{◌≡◌, ◌++◌, Err, IfOk, OnOk};
 ghost use Rattle.mctpctl_engines.specs.LinePieces.{AddsLine};
 ghost use Rattle.mctpctl_engines.specs.LongLines.{observed_refuses};
 ghost use Rattle.mctpctl_engines.specs.ObservedRuns.{Observed, given_at, none_observed, observed_of, observed_step, open_after, open_in, open_with};
+ghost use Rattle.mctp_assembly.specs.Fed.{fed_with};
 ghost use Rattle.mctpctl_texts.specs.ShownLines.{completed_text, shown_text};
 ghost use Rattle.mctp_packet.specs.Reading.{reading};
 
 use crate::line_run::{LineRoom, LineTask};
 use crate::message_form::MessageForm;
-use mctp_assembly::{Assembler, Fed};
-use mctp_packet::{Eid, Memory, PacketRef, read};
+use mctp_assembly::{Assembler, FedInto};
+use mctp_packet::{Body, Eid, Memory, PacketRef, read};
 use mctpctl_input::{CaptureFault, CaptureLine, EngineFault, read_capture_line};
 use mctpctl_texts::{write_no_packet_line, write_packet_line};
 use std::alloc::Global;
@@ -39,12 +40,13 @@ impl<F: MessageForm> Observer<F> {
         }
     }
 
-    /// Adds what is written of bytes that came at a moment.
+    /// Adds what is written of bytes that came at a moment. A message that they complete is put into `message`.
     fn show(
         &mut self,
         alloc: Global,
         moment: u64,
         bytes: &[u8],
+        message: &mut Body,
         text: &mut Vec<u8>,
     ) -> Result<(), Memory>
         ensures text { OnOk result (text.new.items ≡ text.old.items
@@ -57,41 +59,49 @@ impl<F: MessageForm> Observer<F> {
             Ok(packet) => packet,
             Err(reason) => return write_no_packet_line(text, moment, reason),
         };
-        let fed = feed(alloc, &mut self.assemblers, &packet)?;
-        write_packet_line(text, moment, &packet, &fed)?;
-        self.push_completed(text, &fed)
+        let given = feed(alloc, &mut self.assemblers, &packet, message)?;
+        write_packet_line(text, moment, &packet, given)?;
+        self.push_completed(text, given, message)
     }
 
     /// Adds the line of the message that a packet completes, or nothing.
-    fn push_completed(&self, out: &mut Vec<u8>, fed: &Fed) -> Result<(), Memory>
-        ensures { OnOk result (out.new.items ≡ out.old.items ++ completed_text F.line fed.now) }
+    fn push_completed(
+        &self,
+        out: &mut Vec<u8>,
+        given: FedInto,
+        message: &[u8],
+    ) -> Result<(), Memory>
+        ensures { OnOk result (out.new.items ≡ out.old.items
+            ++ completed_text F.line (fed_with message.now given)) }
     {
-        match fed {
-            Fed::Whole(message) => self.form.push_line(out, message),
-            Fed::Partial | Fed::Dropped(_) => Ok(()),
+        match given {
+            FedInto::Whole => self.form.push_line(out, message),
+            FedInto::Partial | FedInto::Dropped(_) => Ok(()),
         }
     }
 }
 
-/// What a packet gives at its destination.
+/// What a packet gives at its destination, with a message that it completes in `message`.
 fn feed(
     alloc: Global,
     assemblers: &mut BTreeMap<Eid, Assembler>,
     packet: &PacketRef<'_>,
-) -> Result<Fed, Memory>
-    ensures fed { IfOk result (λ fed. fed ≡ given_at (open_in assemblers.old.entries) packet.now) }
+    message: &mut Body,
+) -> Result<FedInto, Memory>
+    ensures fed { IfOk result (λ given. fed_with message.new.items given
+        ≡ given_at (open_in assemblers.old.entries) packet.now) }
     ensures open { OnOk result (open_in assemblers.new.entries
         ≡ open_after (open_in assemblers.old.entries) packet.now) }
 {
     let destination = packet.route().destination;
     match assemblers.get_mut(&destination) {
-        Some(assembler) => return assembler.feed(packet),
+        Some(assembler) => return assembler.feed_into(packet, message),
         None => {}
     }
     let mut assembler = Assembler::new(alloc);
-    let fed = assembler.feed(packet)?;
+    let given = assembler.feed_into(packet, message)?;
     assemblers.insert(destination, assembler)?;
-    Ok(fed)
+    Ok(given)
 }
 
 impl<F: MessageForm> LineTask for Observer<F> {
@@ -120,7 +130,12 @@ impl<F: MessageForm> LineTask for Observer<F> {
             Err(CaptureFault::Memory(memory)) => return Err(memory.into()),
         };
         room.text.clear();
-        self.show(alloc, moment, &room.packet, &mut room.text)?;
+        let LineRoom {
+            packet,
+            message,
+            text,
+        } = room;
+        self.show(alloc, moment, packet, message, text)?;
         self.last = moment;
         Ok(out.extend_from_slice(&room.text)?)
     }

@@ -1,3 +1,4 @@
+pub mod BitTexts
 pub mod ItemTexts
 pub mod PlacesTold
 pub mod WrittenParts

@@ -89,6 +89,12 @@ route_words route =
 abbrev pub route_text : Route → List ℕ
 route_text route = decimal route.source ++ 62 ∷ spaced (route_words route)
 
+-- the three bits of a packet with the names around them, as they stand in its line
+abbrev pub bits_text : Bool → Bool → Bool → List ℕ
+bits_text owner start end =
+    codes " to " ++ (decimal (bit owner) ++ (codes " som " ++ (decimal (bit start)
+    ++ (codes " eom " ++ (decimal (bit end) ++ codes " seq ")))))
+
 -- a packet's place in its message, and how much of it it carries
 abbrev pub place_words : Packet → List (List ℕ)
 place_words p =

@@ -1,0 +1,37 @@
+-- A tag is one digit.
+use Rattle.std.proofs.Common.{◌++◌, codes, sym, ap, arith, ◌∙◌}
+use Rattle.std.specs.Fmt.{decimal}
+use Rattle.std.proofs.lemmas.Fmt.{decimal_digit}
+use Rattle.mctpctl_texts.proofs.packet_line.tag_text.Goals as goal
+
+pub returns-in-0 : goal.returns-in-0
+returns-in-0 c =
+    ap (λ d. codes " tag " ++ d) (sym (ap decimal (sym c.get.ensures.value ∙ c.in-0.is) ∙ decimal_digit 0 (omega arith)))
+
+pub returns-in-1 : goal.returns-in-1
+returns-in-1 c =
+    ap (λ d. codes " tag " ++ d) (sym (ap decimal (sym c.get.ensures.value ∙ c.in-1.is) ∙ decimal_digit 1 (omega arith)))
+
+pub returns-in-2 : goal.returns-in-2
+returns-in-2 c =
+    ap (λ d. codes " tag " ++ d) (sym (ap decimal (sym c.get.ensures.value ∙ c.in-2.is) ∙ decimal_digit 2 (omega arith)))
+
+pub returns-in-3 : goal.returns-in-3
+returns-in-3 c =
+    ap (λ d. codes " tag " ++ d) (sym (ap decimal (sym c.get.ensures.value ∙ c.in-3.is) ∙ decimal_digit 3 (omega arith)))
+
+pub returns-in-4 : goal.returns-in-4
+returns-in-4 c =
+    ap (λ d. codes " tag " ++ d) (sym (ap decimal (sym c.get.ensures.value ∙ c.in-4.is) ∙ decimal_digit 4 (omega arith)))
+
+pub returns-in-5 : goal.returns-in-5
+returns-in-5 c =
+    ap (λ d. codes " tag " ++ d) (sym (ap decimal (sym c.get.ensures.value ∙ c.in-5.is) ∙ decimal_digit 5 (omega arith)))
+
+pub returns-in-6 : goal.returns-in-6
+returns-in-6 c =
+    ap (λ d. codes " tag " ++ d) (sym (ap decimal (sym c.get.ensures.value ∙ c.in-6.is) ∙ decimal_digit 6 (omega arith)))
+
+pub returns-in-7 : goal.returns-in-7
+returns-in-7 c =
+    ap (λ d. codes " tag " ++ d) (sym (ap decimal (sym c.get.ensures.value ∙ c.in-7.is) ∙ decimal_digit 7 (omega arith)))
