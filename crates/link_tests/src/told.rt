@@ -1,6 +1,6 @@
 //! What a run tells, in words: a line for each step, then the requests, the order and whether it was timely.
 
-use mctp_schedule::{DueRequests, Entry, OpenedRequest, Report, Step};
+use mctp_schedule::{DueRequests, EntryRef, OpenedRequest, Report, Step};
 use pldm_platform::Platform;
 use pldm_requester::{Got, Status};
 use pldm_responder::MessageOutcome;
@@ -36,30 +36,30 @@ pub fn told<P: Platform>(
 }
 
 /// What came of a step.
-fn entry_words(alloc: Global, entry: &Entry) -> Result<String, AllocError> {
+fn entry_words(alloc: Global, entry: EntryRef<'_>) -> Result<String, AllocError> {
     match entry {
-        Entry::Nothing => String::from_str(alloc, "nothing"),
-        Entry::Opened(number) => format!(in alloc; "opened {number}"),
-        Entry::NotOpened(fault) => {
+        EntryRef::Nothing => String::from_str(alloc, "nothing"),
+        EntryRef::Opened(number) => format!(in alloc; "opened {number}"),
+        EntryRef::NotOpened(fault) => {
             let number = fault.number();
             format!(in alloc; "not opened, fault {number}")
         }
-        Entry::Due(due) => due_words(alloc, due),
-        Entry::Delivered { busy, delivery } => {
-            String::from_str(alloc, delivered_words(*busy, delivery.taken()))
+        EntryRef::Due(due) => due_words(alloc, due),
+        EntryRef::Delivered { busy, delivery } => {
+            String::from_str(alloc, delivered_words(busy, delivery.taken()))
         }
-        Entry::Received(Got::Dropped(reason)) => {
+        EntryRef::Received(Got::Dropped(reason)) => {
             let name = reason.name();
             format!(in alloc; "drop {name}")
         }
-        Entry::Received(Got::Partial) => String::from_str(alloc, "partial"),
-        Entry::Received(Got::Answered(own)) => format!(in alloc; "answered {own}"),
-        Entry::Sensed(Ok(())) => String::from_str(alloc, "set"),
-        Entry::Sensed(Err(fault)) => {
+        EntryRef::Received(Got::Partial) => String::from_str(alloc, "partial"),
+        EntryRef::Received(Got::Answered(own)) => format!(in alloc; "answered {own}"),
+        EntryRef::Sensed(Ok(())) => String::from_str(alloc, "set"),
+        EntryRef::Sensed(Err(fault)) => {
             let number = fault.number();
             format!(in alloc; "not set, fault {number}")
         }
-        Entry::Restarted => String::from_str(alloc, "restarted"),
+        EntryRef::Restarted => String::from_str(alloc, "restarted"),
     }
 }
 

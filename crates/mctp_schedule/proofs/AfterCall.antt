@@ -39,7 +39,7 @@ with_side run e new journal = record { keep = run.keep; responder = run.responde
 
 -- what is written down besides the requests stays, but for one more entry
 pub record Writes (old new : Journal) (x : Entry) : Type 0 where
-  pub entries : new.entries.items ≡ old.entries.items ++ x ∷ []
+  pub entries : new.entries ≡ old.entries ++ x ∷ []
   pub traffic : new.traffic.items ≡ old.traffic.items
   pub order : new.order.items ≡ old.order.items
 
@@ -67,8 +67,8 @@ module _ {P S : Type 0} (setting : Setting S) (past : List Step) (run : HeldRun 
             let t = running.traffic k r (ap (λ v. asked_at v.log k) back ∙ is) in (
               t.0,
               ap (λ ts. slice_get ts k) enters.traffic ∙ t.1,
-              subst (λ v. IsCarried setting v journal.entries.items k r t.0) back
-                  (subst (λ es. IsCarried setting w es k r t.0) (sym enters.entries) (still_carried setting w w run.journal.entries.items (entry_of setting w moment a) k r t.0 refl refl t.2)),
+              subst (λ v. IsCarried setting v journal.entries k r t.0) back
+                  (subst (λ es. IsCarried setting w es k r t.0) (sym enters.entries) (still_carried setting w w run.journal.entries (entry_of setting w moment a) k r t.0 refl refl t.2)),
             );
         carried = ap (λ (ts : List Carried). length ts) enters.traffic ∙ running.carried ∙ ap (λ (v : World). count_of v.log) back;
         entries = enters.entries ∙ ap (λ es. es ++ entry_of setting w moment a ∷ []) running.entries;
@@ -154,8 +154,8 @@ module _ {P S : Type 0} (setting : Setting S) (past : List Step) (run : HeldRun 
               let t = running.traffic k r (ap (λ (u : World). asked_at u.log k) back ∙ is) in (
                 t.0,
                 ap (λ ts. slice_get ts k) c.writes.traffic ∙ t.1,
-                subst (λ u. IsCarried setting u journal.entries.items k r t.0) back
-                    (subst (λ es. IsCarried setting v es k r t.0) (sym c.writes.entries) (still_carried setting w v run.journal.entries.items x k r t.0 refl refl t.2)),
+                subst (λ u. IsCarried setting u journal.entries k r t.0) back
+                    (subst (λ es. IsCarried setting v es k r t.0) (sym c.writes.entries) (still_carried setting w v run.journal.entries x k r t.0 refl refl t.2)),
               );
           carried = ap (λ (ts : List Carried). length ts) c.writes.traffic ∙ running.carried ∙ ap (λ (u : World). count_of u.log) back;
           entries = c.writes.entries ∙ ap (λ es. es ++ x ∷ []) running.entries ∙ ap (λ y. entries setting past ++ y ∷ []) c.is_entry;

@@ -24,8 +24,9 @@ use Rattle.mctp_schedule.specs.Askers.{packet_bytes}
 use Rattle.mctp_schedule.specs.Entries.{as_it_stands, delivery_entry, entries}
 use Rattle.mctp_schedule.specs.FirstArrivals.{fresh_of, order}
 use Rattle.mctp_schedule.specs.Deliveries.{packets_of_outcome}
+use Rattle.mctp_schedule.specs.EntryColumns.{outcomes_in, outcomes_in_entry}
 use Rattle.mctp_schedule.specs.HeldRuns.{HeldRun}
-use Rattle.mctp_schedule.specs.Journals.{Carried, answers_at, fresh_numbers, packet_of_request, packets_in, packets_of_entry}
+use Rattle.mctp_schedule.specs.Journals.{Carried, answers_at, fresh_numbers, packet_of_request, packets_in}
 use Rattle.mctp_schedule.specs.Logs.{Asked, asked_at, message_at, told, told_of}
 use Rattle.mctp_schedule.specs.OncePerformed.{FitsPackets}
 use Rattle.mctp_schedule.specs.Requests.{Request}
@@ -39,6 +40,7 @@ use Rattle.schedule_text.specs.declared.step.Step.{Step}
 use Rattle.mctp_schedule.proofs.DeliveryChanges.{brings_message, packet_for, busy_here, busy_none, busy_other, busy_served, given_busy, given_here, given_none, given_other, held_whole, looked_whole}
 use Rattle.mctp_schedule.proofs.ListPlaces.{get_last, length_pushed}
 use Rattle.mctp_schedule.proofs.AfterReadingOrRestart.{Enters, with_responder}
+use Rattle.mctp_schedule.proofs.EntriesSpelled.{column_more}
 use Rattle.mctp_schedule.proofs.KeptByAStep.{before_more, packets_stay, still_carried, still_opened, still_side}
 
 -- ---- what is expected to a message, by its packets and whether it is fresh
@@ -126,7 +128,7 @@ module _ {P S : Type 0} (setting : Setting S) (past : List Step) (run : HeldRun 
           t.0,
           ap (λ ts. slice_get ts k) enters.traffic ∙ t.1,
           subst (λ es. IsCarried setting v es k r t.0) (sym enters.entries)
-              (still_carried setting w v run.journal.entries.items entry.Nothing k r t.0 (given_none setting.device setting.keep setting.start w.log moment n none k) (busy_none setting.device setting.keep setting.start w.log moment n none k) t.2),
+              (still_carried setting w v run.journal.entries entry.Nothing k r t.0 (given_none setting.device setting.keep setting.start w.log moment n none k) (busy_none setting.device setting.keep setting.start w.log moment n none k) t.2),
         );
     carried = ap (λ (ts : List Carried). length ts) enters.traffic ∙ running.carried;
     entries = enters.entries ∙ ap (λ es. es ++ entry.Nothing ∷ []) running.entries ∙ ap (λ o. entries setting past ++ delivery_entry setting w.log moment o ∷ []) (sym none);
@@ -151,10 +153,10 @@ module _ {P S : Type 0} (setting : Setting S) (past : List Step) (run : HeldRun 
       pub given_fits : ReceivedFits setting.device (held_of run.responder) moment bytes
       pub given_busy : busy ≡ nat_lt moment (held_of run.responder).serves_from
       pub given_in_time : in_time ≡ nat_lt moment (r.opening + setting.keep)
-      pub new_entries : journal.entries.items ≡ run.journal.entries.items ++ entry.Delivered busy outcome ∷ []
+      pub new_entries : journal.entries ≡ run.journal.entries ++ entry.Delivered busy outcome ∷ []
       pub new_requests : journal.requests.items ≡ run.journal.requests.items
       pub same_count : length journal.traffic.items ≡ length run.journal.traffic.items
-      pub new_traffic : (k : ℕ) → slice_get journal.traffic.items k ≡ option_map (λ t. if k == n then answers_at (length run.journal.entries.items) busy t else t) (slice_get run.journal.traffic.items k)
+      pub new_traffic : (k : ℕ) → slice_get journal.traffic.items k ≡ option_map (λ t. if k == n then answers_at (length (outcomes_in run.journal.entries)) busy t else t) (slice_get run.journal.traffic.items k)
       pub new_order : journal.order.items ≡ run.journal.order.items ++ fresh_numbers n outcome
       pub new_timely : journal.timely ≡ (in_time && run.journal.timely)
 
@@ -191,26 +193,29 @@ module _ {P S : Type 0} (setting : Setting S) (past : List Step) (run : HeldRun 
       abbrev x : Entry
       x = entry.Delivered busy outcome
 
-      at_place : packets_in (run.journal.entries.items ++ x ∷ []) (Some (length run.journal.entries.items)) ≡ packets_of_outcome outcome
-      at_place = ap (option_and_then packets_of_entry) (get_last run.journal.entries.items x)
+      one_more : outcomes_in (run.journal.entries ++ x ∷ []) ≡ outcomes_in run.journal.entries ++ outcome ∷ []
+      one_more = column_more outcomes_in_entry run.journal.entries x
 
-      below : length run.journal.entries.items < length (run.journal.entries.items ++ x ∷ [])
-      below = let l = length_pushed run.journal.entries.items x in omega (arith, l)
+      at_place : packets_in (run.journal.entries ++ x ∷ []) (Some (length (outcomes_in run.journal.entries))) ≡ packets_of_outcome outcome
+      at_place = ap (option_and_then packets_of_outcome) (ap (λ os. slice_get os (length (outcomes_in run.journal.entries))) one_more ∙ get_last (outcomes_in run.journal.entries) outcome)
 
-      carried_here : (c : Carried) → IsCarried setting w run.journal.entries.items n r c → IsCarried setting v (run.journal.entries.items ++ x ∷ []) n r (answers_at (length run.journal.entries.items) busy c)
+      below : length (outcomes_in run.journal.entries) < length (outcomes_in (run.journal.entries ++ x ∷ []))
+      below = let l = ap (λ (os : List Outcome). length os) one_more ∙ length_pushed (outcomes_in run.journal.entries) outcome in omega (arith, l)
+
+      carried_here : (c : Carried) → IsCarried setting w run.journal.entries n r c → IsCarried setting v (run.journal.entries ++ x ∷ []) n r (answers_at (length (outcomes_in run.journal.entries)) busy c)
       carried_here c t = go busy refl
         where
           es : List Entry
-          es = run.journal.entries.items ++ x ∷ []
+          es = run.journal.entries ++ x ∷ []
 
-          go : (b : Bool) → busy ≡ b → IsCarried setting v es n r (answers_at (length run.journal.entries.items) b c)
+          go : (b : Bool) → busy ≡ b → IsCarried setting v es n r (answers_at (length (outcomes_in run.journal.entries)) b c)
           go true on =
               let up = sym busy_is ∙ on in
               record {
                 packet = t.packet;
-                reply = packets_stay run.journal.entries.items x c.reply t.reply_place ∙ t.reply ∙ ap (option_map (answer_packets setting.eid r)) (sym (given_busy setting.device setting.keep setting.start w.log moment n r is up));
+                reply = packets_stay run.journal.entries x c.reply t.reply_place ∙ t.reply ∙ ap (option_map (answer_packets setting.eid r)) (sym (given_busy setting.device setting.keep setting.start w.log moment n r is up));
                 busy = at_place ∙ ap packets_of_outcome outcome_is ∙ expected_busy setting.device setting.eid setting.keep setting.start (told {S = S} w.log) m up ∙ ap (busy_packets setting.eid r) (sym (busy_here setting.device setting.keep setting.start w.log moment n r is up));
-                reply_place = before_more run.journal.entries.items x c.reply t.reply_place;
+                reply_place = before_more run.journal.entries x c.reply t.reply_place;
                 busy_place = below;
               }
           go false off =
@@ -218,36 +223,36 @@ module _ {P S : Type 0} (setting : Setting S) (past : List Step) (run : HeldRun 
               record {
                 packet = t.packet;
                 reply = at_place ∙ ap packets_of_outcome outcome_is ∙ expected_served setting.device setting.eid setting.keep setting.start (told {S = S} w.log) m up ∙ ap (option_map (answer_packets setting.eid r)) (sym (given_here setting.device setting.keep setting.start w.log moment n r is up));
-                busy = packets_stay run.journal.entries.items x c.busy t.busy_place ∙ t.busy ∙ ap (busy_packets setting.eid r) (sym (busy_served setting.device setting.keep setting.start w.log moment n r is up));
+                busy = packets_stay run.journal.entries x c.busy t.busy_place ∙ t.busy ∙ ap (busy_packets setting.eid r) (sym (busy_served setting.device setting.keep setting.start w.log moment n r is up));
                 reply_place = below;
-                busy_place = before_more run.journal.entries.items x c.busy t.busy_place;
+                busy_place = before_more run.journal.entries x c.busy t.busy_place;
               }
 
-      carried_at : (k : ℕ) (q : Asked) → asked_at w.log k ≡ Some q → (c : Carried) × (slice_get journal.traffic.items k ≡ Some c) × IsCarried setting v journal.entries.items k q c
+      carried_at : (k : ℕ) (q : Asked) → asked_at w.log k ≡ Some q → (c : Carried) × (slice_get journal.traffic.items k ≡ Some c) × IsCarried setting v journal.entries k q c
       carried_at k q asked = go (cases_eq k n)
         where
-          t : (c : Carried) × (slice_get run.journal.traffic.items k ≡ Some c) × IsCarried setting w run.journal.entries.items k q c
+          t : (c : Carried) × (slice_get run.journal.traffic.items k ≡ Some c) × IsCarried setting w run.journal.entries k q c
           t = running.traffic k q asked
 
-          moved : slice_get journal.traffic.items k ≡ Some (if k == n then answers_at (length run.journal.entries.items) busy t.0 else t.0)
-          moved = d.new_traffic k ∙ ap (option_map (λ c. if k == n then answers_at (length run.journal.entries.items) busy c else c)) t.1
+          moved : slice_get journal.traffic.items k ≡ Some (if k == n then answers_at (length (outcomes_in run.journal.entries)) busy t.0 else t.0)
+          moved = d.new_traffic k ∙ ap (option_map (λ c. if k == n then answers_at (length (outcomes_in run.journal.entries)) busy c else c)) t.1
 
-          go : (k ≡ n) ⊎ (k ≡ n → ⊥) → (c : Carried) × (slice_get journal.traffic.items k ≡ Some c) × IsCarried setting v journal.entries.items k q c
+          go : (k ≡ n) ⊎ (k ≡ n → ⊥) → (c : Carried) × (slice_get journal.traffic.items k ≡ Some c) × IsCarried setting v journal.entries k q c
           go (inl e) =
               let same_request : q ≡ r = let both : Some q ≡ Some r = sym asked ∙ ap (asked_at w.log) e ∙ is in cc in
-              let was : IsCarried setting w run.journal.entries.items n r t.0 = subst (λ j. IsCarried setting w run.journal.entries.items j r t.0) e (subst (λ a. IsCarried setting w run.journal.entries.items k a t.0) same_request t.2) in
+              let was : IsCarried setting w run.journal.entries n r t.0 = subst (λ j. IsCarried setting w run.journal.entries j r t.0) e (subst (λ a. IsCarried setting w run.journal.entries k a t.0) same_request t.2) in
               let here = carried_here t.0 was in (
-                answers_at (length run.journal.entries.items) busy t.0,
+                answers_at (length (outcomes_in run.journal.entries)) busy t.0,
                 moved ∙ ap Some (cond-true (k == n) _ _ (eq-eqb k n e)),
-                subst (λ es. IsCarried setting v es k q (answers_at (length run.journal.entries.items) busy t.0)) (sym d.new_entries)
-                    (subst (λ j. IsCarried setting v (run.journal.entries.items ++ x ∷ []) j q (answers_at (length run.journal.entries.items) busy t.0)) (sym e)
-                    (subst (λ a. IsCarried setting v (run.journal.entries.items ++ x ∷ []) n a (answers_at (length run.journal.entries.items) busy t.0)) (sym same_request) here)),
+                subst (λ es. IsCarried setting v es k q (answers_at (length (outcomes_in run.journal.entries)) busy t.0)) (sym d.new_entries)
+                    (subst (λ j. IsCarried setting v (run.journal.entries ++ x ∷ []) j q (answers_at (length (outcomes_in run.journal.entries)) busy t.0)) (sym e)
+                    (subst (λ a. IsCarried setting v (run.journal.entries ++ x ∷ []) n a (answers_at (length (outcomes_in run.journal.entries)) busy t.0)) (sym same_request) here)),
               )
           go (inr other) = (
             t.0,
             moved ∙ ap Some (cond-false (k == n) _ _ (ne_eqb k n other)),
             subst (λ es. IsCarried setting v es k q t.0) (sym d.new_entries)
-                (still_carried setting w v run.journal.entries.items x k q t.0 (given_other setting.device setting.keep setting.start w.log moment n k (λ e. other (sym e))) (busy_other setting.device setting.keep setting.start w.log moment n k (λ e. other (sym e))) t.2),
+                (still_carried setting w v run.journal.entries x k q t.0 (given_other setting.device setting.keep setting.start w.log moment n k (λ e. other (sym e))) (busy_other setting.device setting.keep setting.start w.log moment n k (λ e. other (sym e))) t.2),
           )
 
       fits_here : (q : Asked) → asked_at w.log n ≡ Some q → is_fresh setting.keep (told {S = S} w.log) (message_at moment q) ≡ true → FitsPackets (reply setting.device (performed setting.device setting.keep setting.start (told w.log)) q.message)

@@ -142,7 +142,7 @@ module _ {P S : Type 0} (setting : Setting S) (past : List Step) (run : HeldRun 
     pub is_sent : IsSent (held_of (running.sides e has).0.station) moment command sent
     pub new_held : IsHeld (held_of new.station) (opened_held (held_of (running.sides e has).0.station) moment command)
     pub more_numbers : new.numbers ≡ (running.sides e has).0.numbers ++ length run.journal.requests.items ∷ []
-    pub new_entries : journal.entries.items ≡ run.journal.entries.items ++ entry.Opened (length run.journal.requests.items) ∷ []
+    pub new_entries : journal.entries ≡ run.journal.entries ++ entry.Opened (length run.journal.requests.items) ∷ []
     pub new_requests : journal.requests.items ≡ run.journal.requests.items ++ begun e sent.own moment sent.message ∷ []
     pub new_traffic : journal.traffic.items ≡ run.journal.traffic.items ++ (record { header = sent.header; reply = None; busy = None }) ∷ []
     pub new_order : journal.order.items ≡ run.journal.order.items
@@ -296,7 +296,7 @@ module _ {P S : Type 0} (setting : Setting S) (past : List Step) (run : HeldRun 
         go (inr other) =
             past_end other ∙ running.requests k ∙ older (asked_at w.log k) refl ∙ sym (ap (option_map (as_it_stands setting v)) (cond-false (k == count) (Some q) (asked_at w.log k) (ne_eqb k count other)))
 
-    carried_is : IsCarried setting v journal.entries.items count q carried_new
+    carried_is : IsCarried setting v journal.entries count q carried_new
     carried_is = record {
       packet = ap (λ m. sent.header ++ m) (sym message_is) ∙ x.is_sent.packet ∙ ap (λ own. packet_bytes own (held_of side.station).device (held_of side.station).count (message_of (held_of side.station).count command)) s.left.endpoint
           ∙ ap (λ peer. packet_bytes e peer (held_of side.station).count (message_of (held_of side.station).count command)) s.left.peer
@@ -307,14 +307,14 @@ module _ {P S : Type 0} (setting : Setting S) (past : List Step) (run : HeldRun 
       busy_place = tt;
     }
 
-    traffic_now : (k : ℕ) (r : Asked) → asked_at v.log k ≡ Some r → (c : Carried) × (slice_get journal.traffic.items k ≡ Some c) × IsCarried setting v journal.entries.items k r c
+    traffic_now : (k : ℕ) (r : Asked) → asked_at v.log k ≡ Some r → (c : Carried) × (slice_get journal.traffic.items k ≡ Some c) × IsCarried setting v journal.entries k r c
     traffic_now k r is = go (asked_cases k r is)
       where
-        go : ((k ≡ count) × (r ≡ q)) ⊎ (asked_at w.log k ≡ Some r) → (c : Carried) × (slice_get journal.traffic.items k ≡ Some c) × IsCarried setting v journal.entries.items k r c
+        go : ((k ≡ count) × (r ≡ q)) ⊎ (asked_at w.log k ≡ Some r) → (c : Carried) × (slice_get journal.traffic.items k ≡ Some c) × IsCarried setting v journal.entries k r c
         go (inl at) = (
           carried_new,
           ap (slice_get journal.traffic.items) (at.0 ∙ sym running.carried) ∙ ap (λ ts. slice_get ts (length run.journal.traffic.items)) x.new_traffic ∙ get_last run.journal.traffic.items carried_new,
-          subst (λ j. IsCarried setting v journal.entries.items j r carried_new) (sym at.0) (subst (λ a. IsCarried setting v journal.entries.items count a carried_new) (sym at.1) carried_is),
+          subst (λ j. IsCarried setting v journal.entries j r carried_new) (sym at.0) (subst (λ a. IsCarried setting v journal.entries count a carried_new) (sym at.1) carried_is),
         )
         go (inr older) =
             let t = running.traffic k r older in
@@ -322,7 +322,7 @@ module _ {P S : Type 0} (setting : Setting S) (past : List Step) (run : HeldRun 
             let all = running.carried in (
               t.0,
               ap (λ ts. slice_get ts k) x.new_traffic ∙ get_front run.journal.traffic.items carried_new k (omega (arith, low, all)) ∙ t.1,
-              subst (λ es. IsCarried setting v es k r t.0) (sym x.new_entries) (still_carried setting w v run.journal.entries.items (entry.Opened (length run.journal.requests.items)) k r t.0 refl refl t.2),
+              subst (λ es. IsCarried setting v es k r t.0) (sym x.new_entries) (still_carried setting w v run.journal.entries (entry.Opened (length run.journal.requests.items)) k r t.0 refl refl t.2),
             )
 
     side_in : (d : ℕ) → has_requester setting.requesters d ≡ true → (y : Side) × (side_at (slice_set run.places e (Some new)) d ≡ Some y) × IsSide setting v moment d y
@@ -359,7 +359,7 @@ module _ {P S : Type 0} (setting : Setting S) (past : List Step) (run : HeldRun 
           counted = ap (λ (rs : List Request). length rs) x.new_requests ∙ length_pushed run.journal.requests.items (begun e sent.own moment sent.message) ∙ ap suc running.counted ∙ ap (λ (u : World). count_of u.log) back;
           traffic = λ k r is.
               let t = traffic_now k r (ap (λ (u : World). asked_at u.log k) back ∙ is) in
-              (t.0, t.1, subst (λ u. IsCarried setting u journal.entries.items k r t.0) back t.2);
+              (t.0, t.1, subst (λ u. IsCarried setting u journal.entries k r t.0) back t.2);
           carried = ap (λ (ts : List Carried). length ts) x.new_traffic ∙ length_pushed run.journal.traffic.items carried_new ∙ ap suc running.carried ∙ ap (λ (u : World). count_of u.log) back;
           entries = x.new_entries ∙ ap (λ es. es ++ entry.Opened (length run.journal.requests.items) ∷ []) running.entries ∙ ap (λ y. entries setting past ++ y ∷ []) entry_now;
           order = x.new_order ∙ running.order ∙ ap (λ (u : World). order S setting.keep u.log) back;

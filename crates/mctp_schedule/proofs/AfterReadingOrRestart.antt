@@ -24,7 +24,7 @@ with_responder run new journal = record { keep = run.keep; responder = new; plac
 
 -- one more entry, and nothing else
 pub record Enters (old new : Journal) (entry : Entry) : Type 0 where
-  pub entries : new.entries.items ≡ old.entries.items ++ entry ∷ []
+  pub entries : new.entries ≡ old.entries ++ entry ∷ []
   pub requests : new.requests.items ≡ old.requests.items
   pub traffic : new.traffic.items ≡ old.traffic.items
   pub order : new.order.items ≡ old.order.items
@@ -53,7 +53,7 @@ module _ {P S : Type 0} (setting : Setting S) (past : List Step) (run : HeldRun 
         counted = ap (λ (rs : List Request). length rs) enters.requests ∙ running.counted;
         traffic = λ k r is.
             let t = running.traffic k r is in
-            (t.0, ap (λ ts. slice_get ts k) enters.traffic ∙ t.1, subst (λ es. IsCarried setting v es k r t.0) (sym enters.entries) (still_carried setting w v run.journal.entries.items (entry_of setting w moment (actions.Sense id value)) k r t.0 refl refl t.2));
+            (t.0, ap (λ ts. slice_get ts k) enters.traffic ∙ t.1, subst (λ es. IsCarried setting v es k r t.0) (sym enters.entries) (still_carried setting w v run.journal.entries (entry_of setting w moment (actions.Sense id value)) k r t.0 refl refl t.2));
         carried = ap (λ (ts : List Carried). length ts) enters.traffic ∙ running.carried;
         entries = enters.entries ∙ ap (λ es. es ++ entry_of setting w moment (actions.Sense id value) ∷ []) running.entries;
         order = enters.order ∙ running.order;
@@ -81,7 +81,7 @@ module _ {P S : Type 0} (setting : Setting S) (past : List Step) (run : HeldRun 
         counted = ap (λ (rs : List Request). length rs) enters.requests ∙ running.counted;
         traffic = λ k r is.
             let t = running.traffic k r is in
-            (t.0, ap (λ ts. slice_get ts k) enters.traffic ∙ t.1, subst (λ es. IsCarried setting v es k r t.0) (sym enters.entries) (still_carried setting w v run.journal.entries.items (entry_of setting w moment actions.Restart) k r t.0 refl refl t.2));
+            (t.0, ap (λ ts. slice_get ts k) enters.traffic ∙ t.1, subst (λ es. IsCarried setting v es k r t.0) (sym enters.entries) (still_carried setting w v run.journal.entries (entry_of setting w moment actions.Restart) k r t.0 refl refl t.2));
         carried = ap (λ (ts : List Carried). length ts) enters.traffic ∙ running.carried;
         entries = enters.entries ∙ ap (λ es. es ++ entry_of setting w moment actions.Restart ∷ []) running.entries;
         order = enters.order ∙ running.order;

@@ -23,7 +23,7 @@ pub record Found {S : Type 0} (setting : Setting S) (w : World) (busy : Bool) (k
   pub at : place ≡ q.source
 
 module _ {P S : Type 0} (setting : Setting S) (past : List Step) (run : HeldRun P S) (running : IsRunning setting past run) (busy : Bool) (k packet : ℕ) (bytes : List ℕ) (request : Request) (place : ℕ) where
-  abbrev pub finds : (busy ≡ true → packet ≡ 0) → Some bytes ≡ packet_at run.journal.entries.items packet busy (slice_get run.journal.traffic.items k)
+  abbrev pub finds : (busy ≡ true → packet ≡ 0) → Some bytes ≡ packet_at run.journal.entries packet busy (slice_get run.journal.traffic.items k)
       → request ≡ slice_index_or run.journal.requests.items k request → place ≡ request.asked.source
       → Found setting (world setting past) busy k packet bytes request place
   finds first sent read at =

@@ -45,32 +45,32 @@ busy_in setting r true = refl
 busy_in setting r false = refl
 
 module _ {P S : Type 0} (setting : Setting S) (past : List Step) (run : HeldRun P S) (running : IsRunning setting past run) where
-  pub written : (busy : Bool) (k packet : ℕ) → (busy ≡ true → packet ≡ 0) → packet_at run.journal.entries.items packet busy (slice_get run.journal.traffic.items k) ≡ delivered setting (world setting past) busy k packet
+  pub written : (busy : Bool) (k packet : ℕ) → (busy ≡ true → packet ≡ 0) → packet_at run.journal.entries packet busy (slice_get run.journal.traffic.items k) ≡ delivered setting (world setting past) busy k packet
   written busy k packet first = go (asked_at (world setting past).log k) refl
     where
       log_count : asked_at (world setting past).log k ≡ None → count_of (world setting past).log ≤ k
       log_count none = none_above (world setting past).log k none
 
-      some : (r : Asked) → asked_at (world setting past).log k ≡ Some r → (b : Bool) → (b ≡ true → packet ≡ 0) → packet_at run.journal.entries.items packet b (slice_get run.journal.traffic.items k) ≡ delivered setting (world setting past) b k packet
+      some : (r : Asked) → asked_at (world setting past).log k ≡ Some r → (b : Bool) → (b ≡ true → packet ≡ 0) → packet_at run.journal.entries packet b (slice_get run.journal.traffic.items k) ≡ delivered setting (world setting past) b k packet
       some r is true zero =
           let t = running.traffic k r is in
-          ap (packet_at run.journal.entries.items packet true) t.1
+          ap (packet_at run.journal.entries packet true) t.1
           ∙ ap (option_and_then (λ packets. slice_get packets packet)) t.2.busy
           ∙ ap (λ j. option_and_then (λ packets. slice_get packets j) (busy_packets setting.eid r (was_busy S setting.keep (world setting past).log k))) (zero refl)
           ∙ busy_in setting r (was_busy S setting.keep (world setting past).log k)
           ∙ ap (λ o. busy_from setting o (was_busy S setting.keep (world setting past).log k)) (sym is)
       some r is false zero =
           let t = running.traffic k r is in
-          ap (packet_at run.journal.entries.items packet false) t.1
+          ap (packet_at run.journal.entries packet false) t.1
           ∙ ap (option_and_then (λ packets. slice_get packets packet)) t.2.reply
           ∙ reply_in setting r (given setting.device setting.keep setting.start (world setting past).log k) packet
           ∙ ap (λ o. packet_of setting o (given setting.device setting.keep setting.start (world setting past).log k) packet) (sym is)
 
-      go : (o : Option Asked) → asked_at (world setting past).log k ≡ o → packet_at run.journal.entries.items packet busy (slice_get run.journal.traffic.items k) ≡ delivered setting (world setting past) busy k packet
+      go : (o : Option Asked) → asked_at (world setting past).log k ≡ o → packet_at run.journal.entries packet busy (slice_get run.journal.traffic.items k) ≡ delivered setting (world setting past) busy k packet
       go None none =
           let above = log_count none in
           let count = running.carried in
-          ap (packet_at run.journal.entries.items packet busy) (get_past run.journal.traffic.items k (omega (arith, above, count))) ∙ sym (none_delivered setting (world setting past) busy k packet none)
+          ap (packet_at run.journal.entries packet busy) (get_past run.journal.traffic.items k (omega (arith, above, count))) ∙ sym (none_delivered setting (world setting past) busy k packet none)
       go (Some r) is = some r is busy first
 
 pub asked_of : {S : Type 0} (setting : Setting S) (w : World) (busy : Bool) (k packet : ℕ) (bytes : List ℕ) → delivered setting w busy k packet ≡ Some bytes → (q : Asked) × (asked_at w.log k ≡ Some q)

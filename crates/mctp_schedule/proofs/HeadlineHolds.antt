@@ -94,11 +94,11 @@ module _ {P S : Type 0} (setting : Setting S) (past : List Step) (run : HeldRun 
   }
 
   pub run_is_headline : Halves setting → (Performed : List Command → Type 0) → Performed (commands_performed S setting.keep (world setting past).log) → NeverWentBack past → run.journal.timely ≡ true
-      → Headline setting past run.journal.entries.items run.journal.requests.items run.journal.order.items (responder_stations.held_of run.responder).state Performed
+      → Headline setting past run.journal.entries run.journal.requests.items run.journal.order.items (responder_stations.held_of run.responder).state Performed
   run_is_headline laws Performed given in_order timely =
       let schedule : IsTimelySchedule setting past = record { order = in_order; timely = (laws.tested past).0 (sym running.timely ∙ timely); sound = is_sound } in
       let state = running.device.left.state ∙ ap (performed setting.device setting.keep setting.start) running.device.events in
-      subst (λ s. Headline setting past run.journal.entries.items run.journal.requests.items run.journal.order.items s Performed) (sym state)
-      (subst (λ os. Headline setting past run.journal.entries.items run.journal.requests.items os (performed setting.device setting.keep setting.start (told (world setting past).log)) Performed) (sym running.order)
+      subst (λ s. Headline setting past run.journal.entries run.journal.requests.items run.journal.order.items s Performed) (sym state)
+      (subst (λ os. Headline setting past run.journal.entries run.journal.requests.items os (performed setting.device setting.keep setting.start (told (world setting past).log)) Performed) (sym running.order)
       (subst (λ es. Headline setting past es run.journal.requests.items (order S setting.keep (world setting past).log) (performed setting.device setting.keep setting.start (told (world setting past).log)) Performed) (sym running.entries)
       (headline_holds setting laws Performed past run.journal.requests.items given schedule running.requests)))

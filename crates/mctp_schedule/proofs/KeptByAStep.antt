@@ -1,21 +1,25 @@
 -- What a step leaves of what a run holds.
-use Rattle.std.proofs.Common.{◌≡◌, ℕ, ◌≤◌, List, [], ◌∷◌, ◌++◌, length, Option, Some, None, refl, sym, ap, subst, ◌∙◌, arith, eq-eqb}
+use Rattle.std.proofs.Common.{◌≡◌, ℕ, ◌≤◌, List, [], ◌∷◌, ◌++◌, length, Option, Some, None, refl, sym, ap, subst, ◌∙◌, arith, eq-eqb, length-append}
 use Rattle.std.specs.Prelude.{◌==◌, option_and_then, option_map, slice_get}
 use Rattle.std.proofs.lemmas.Bool.{cond-true, cond-false, ne_eqb}
 use Rattle.pldm_responder.specs.Stations as responder_stations
+use Rattle.pldm_responder.specs.declared.outcome.Outcome.{Outcome}
 use Rattle.pldm_requester.specs.Calls as requester
 use Rattle.pldm_requester.specs.Calls.{requests}
 use Rattle.pldm_requester.specs.Laws.{IsLeftBy}
 use Rattle.pldm_requester.specs.Slots.{held_of}
 use Rattle.mctp_schedule.specs.Askers.{Side}
 use Rattle.mctp_schedule.specs.Entries.{numbers_of}
-use Rattle.mctp_schedule.specs.Journals.{Carried, packets_in, packets_of_entry}
+use Rattle.mctp_schedule.specs.Deliveries.{packets_of_outcome}
+use Rattle.mctp_schedule.specs.EntryColumns.{outcomes_in, outcomes_in_entry}
+use Rattle.mctp_schedule.specs.Journals.{Carried, packets_in}
 use Rattle.mctp_schedule.specs.Logs.{Asked, asked_at}
 use Rattle.mctp_schedule.specs.OncePerformed.{given, was_busy}
 use Rattle.mctp_schedule.specs.Running.{IsBefore, IsCarried, IsDevice, IsOpened, IsSide, busy_packets}
 use Rattle.mctp_schedule.specs.Worlds.{Setting, World, answer_packets, requests_of, timing_of, with_call}
 use Rattle.mctp_schedule.specs.declared.entry.Entry.{Entry}
-use Rattle.mctp_schedule.proofs.ListPlaces.{get_front, length_pushed}
+use Rattle.mctp_schedule.proofs.EntriesSpelled.{column_more}
+use Rattle.mctp_schedule.proofs.ListPlaces.{get_before}
 
 -- ---- one more call of a requester
 pub call_here : (calls : ℕ → List requester.Call) (e : ℕ) (call : requester.Call) → with_call calls e call e ≡ call ∷ calls e
@@ -24,14 +28,17 @@ call_here calls e call = cond-true (e == e) (call ∷ calls e) (calls e) (eq-eqb
 pub call_other : (calls : ℕ → List requester.Call) (e : ℕ) (call : requester.Call) (d : ℕ) → (d ≡ e → ⊥) → with_call calls e call d ≡ calls d
 call_other calls e call d other = cond-false (d == e) (call ∷ calls d) (calls d) (ne_eqb d e other)
 
--- ---- entries that stand are not moved by one more
-pub packets_stay : (entries : List Entry) (x : Entry) (place : Option ℕ) → IsBefore (length entries) place → packets_in (entries ++ x ∷ []) place ≡ packets_in entries place
+-- ---- deliveries that stand are not moved by one more entry
+pub packets_stay : (entries : List Entry) (x : Entry) (place : Option ℕ) → IsBefore (length (outcomes_in entries)) place → packets_in (entries ++ x ∷ []) place ≡ packets_in entries place
 packets_stay entries x None within = refl
-packets_stay entries x (Some i) within = ap (option_and_then packets_of_entry) (get_front entries x i within)
+packets_stay entries x (Some i) within =
+    ap (option_and_then packets_of_outcome) (ap (λ os. slice_get os i) (column_more outcomes_in_entry entries x) ∙ get_before (outcomes_in entries) (outcomes_in_entry x) i within)
 
-pub before_more : (entries : List Entry) (x : Entry) (place : Option ℕ) → IsBefore (length entries) place → IsBefore (length (entries ++ x ∷ [])) place
+pub before_more : (entries : List Entry) (x : Entry) (place : Option ℕ) → IsBefore (length (outcomes_in entries)) place → IsBefore (length (outcomes_in (entries ++ x ∷ []))) place
 before_more entries x None within = tt
-before_more entries x (Some i) within = let l = length_pushed entries x in omega (arith, within, l)
+before_more entries x (Some i) within =
+    let l = ap (λ (os : List Outcome). length os) (column_more outcomes_in_entry entries x) ∙ length-append (outcomes_in entries) (outcomes_in_entry x) in
+    omega (arith, within, l)
 
 module _ {S : Type 0} (setting : Setting S) where
   pub still_opened : (w v : World) (k : ℕ) (r : Asked) → (requests_of setting w r.source).count ≤ (requests_of setting v r.source).count

@@ -12,6 +12,7 @@ pub mod BegunRequesters
 pub mod CommandsPerformed
 pub mod DeliveriesExpected
 pub mod DeliveryChanges
+pub mod EntriesSpelled
 pub mod ExampleDevice
 pub mod ExampleRun
 pub mod FirstPerformed

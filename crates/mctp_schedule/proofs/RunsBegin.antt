@@ -21,7 +21,7 @@ use Rattle.schedule_text.specs.declared.step.Step.{Step}
 
 -- a journal of no step
 pub record IsEmpty (journal : Journal) : Type 0 where
-  pub entries : journal.entries.items ≡ []
+  pub entries : journal.entries ≡ []
   pub requests : journal.requests.items ≡ []
   pub traffic : journal.traffic.items ≡ []
   pub order : journal.order.items ≡ []

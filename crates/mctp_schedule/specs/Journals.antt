@@ -6,13 +6,13 @@ use Rattle.pldm_requester.specs.Courses as courses
 use Rattle.pldm_responder.specs.declared.outcome.Outcome.{Outcome}
 use Rattle.pldm_responder.specs.declared.outcome.Outcome.TheVariants as outcomes
 use Rattle.mctp_schedule.specs.Deliveries.{packets_of_outcome}
+use Rattle.mctp_schedule.specs.EntryColumns.{outcomes_in}
 use Rattle.mctp_schedule.specs.Requests.{Request, with_progress}
 use Rattle.mctp_schedule.specs.declared.askers.AnsweredRequest.{AnsweredRequest}
 use Rattle.mctp_schedule.specs.declared.entry.Entry.{Entry}
-use Rattle.mctp_schedule.specs.declared.entry.Entry.TheVariants.{Delivered}
 
 -- the header of the packet of a request, and the places of the latest reply and of the latest busy answer among the
--- entries
+-- deliveries
 pub record Carried : Type 0 where
   pub header : List ℕ
   pub reply : Option ℕ
@@ -37,14 +37,10 @@ abbrev pub packet_of_request : Option Carried → Option Request → Option (Lis
 packet_of_request (Some carried) (Some request) = Some (carried.header ++ request.asked.message)
 packet_of_request carried request = None
 
-abbrev pub packets_of_entry : Entry → Option (List (List ℕ))
-packets_of_entry (Delivered busy outcome) = packets_of_outcome outcome
-packets_of_entry _ = None
-
--- the packets of the answer at this place among the entries
+-- the packets of the answer at this place among the deliveries of these entries
 abbrev pub packets_in : List Entry → Option ℕ → Option (List (List ℕ))
 packets_in entries None = None
-packets_in entries (Some place) = option_and_then packets_of_entry (slice_get entries place)
+packets_in entries (Some place) = option_and_then packets_of_outcome (slice_get (outcomes_in entries) place)
 
 -- the place of the latest answer, a busy one or not
 abbrev pub place_of : Bool → Carried → Option ℕ

@@ -1,8 +1,10 @@
 pub mod Askers
 pub mod Deliveries
+pub mod DeliveryPlaces
 pub mod DeviceHalf
 pub mod DueNumbers
 pub mod Entries
+pub mod EntryColumns
 pub mod FirstArrivals
 pub mod HandedPackets
 pub mod Headline

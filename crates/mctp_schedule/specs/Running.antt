@@ -11,6 +11,7 @@ use Rattle.pldm_requester.specs.Laws as requester_laws
 use Rattle.pldm_requester.specs.Slots.{held_of}
 use Rattle.mctp_schedule.specs.Askers.{Side, packet_bytes}
 use Rattle.mctp_schedule.specs.Entries.{as_it_stands, entries, numbers_of}
+use Rattle.mctp_schedule.specs.EntryColumns.{outcomes_in}
 use Rattle.mctp_schedule.specs.FirstArrivals.{order}
 use Rattle.mctp_schedule.specs.HeldRuns.{HeldRun}
 use Rattle.mctp_schedule.specs.Journals.{Carried, packets_in}
@@ -85,8 +86,8 @@ pub record IsCarried {S : Type 0}
   pub reply : packets_in entries carried.reply
       ≡ option_map (answer_packets setting.eid r) (given setting.device setting.keep setting.start w.log k)
   pub busy : packets_in entries carried.busy ≡ busy_packets setting.eid r (was_busy S setting.keep w.log k)
-  pub reply_place : IsBefore (length entries) carried.reply
-  pub busy_place : IsBefore (length entries) carried.busy
+  pub reply_place : IsBefore (length (outcomes_in entries)) carried.reply
+  pub busy_place : IsBefore (length (outcomes_in entries)) carried.busy
 
 -- this is what a run holds after these steps
 pub record IsRunning {P S : Type 0} (setting : Setting S) (past : List Step) (run : HeldRun P S) : Type 0 where
@@ -101,9 +102,9 @@ pub record IsRunning {P S : Type 0} (setting : Setting S) (past : List Step) (ru
   pub counted : length run.journal.requests.items ≡ count_of (world setting past).log
   pub traffic : (k : ℕ) (r : Asked) → asked_at (world setting past).log k ≡ Some r
       → (carried : Carried) × (slice_get run.journal.traffic.items k ≡ Some carried)
-      × IsCarried setting (world setting past) run.journal.entries.items k r carried
+      × IsCarried setting (world setting past) run.journal.entries k r carried
   pub carried : length run.journal.traffic.items ≡ count_of (world setting past).log
-  pub entries : run.journal.entries.items ≡ entries setting past
+  pub entries : run.journal.entries ≡ entries setting past
   pub order : run.journal.order.items ≡ order S setting.keep (world setting past).log
   pub timely : run.journal.timely ≡ is_timely setting past
   pub sent : AreRequests (world setting past).log

@@ -15,7 +15,7 @@ use crate::laws::{
     fresh_deliveries_are_first, logs_are_timely, performs_once, requesters_take_the_one_reply,
 };
 use crate::places::{Places, begin_requesters};
-use crate::{Action, Entry, OpenedRequest, RunFault, Schedule, Step};
+use crate::{Action, Entries, Entry, OpenedRequest, RunFault, Schedule, Step};
 use mctp_packet::{Body, Eid, Keep, MAX_PACKET_BYTES, Memory, Moment, TAGS};
 use pldm_platform::Platform;
 use pldm_responder::Responder;
@@ -37,7 +37,7 @@ pub struct Setup<P: Platform> {
 #[derive(Drop)]
 pub struct Report<P: Platform> {
     /// What came of each step.
-    pub entries: Vec<Entry>,
+    pub entries: Entries,
     /// Each request that was opened, by its number, and how it stands at the end.
     pub requests: Vec<OpenedRequest>,
     /// The numbers of the requests that the device performed, in that order.
@@ -75,7 +75,7 @@ pub fn run<P: Platform>(
         (setting_of_run (rules_of P.answer P.after P.sensed) (P.state setup.device) setup.eid setup.keep schedule.now)
         (newest_first schedule.now) (λ commands. P.performed setup.device commands report.device)
         (record {
-          entries = report.entries.items;
+          entries = report.entries;
           requests = report.requests.items;
           order = report.order.items;
           device = P.state report.device;

@@ -20,6 +20,9 @@ pub struct Delivery {
     kept: KeptDelivery,
 }
 
+// A run keeps one for each delivery, with a short answer in place.
+const _: () = prove!(size_of::<Delivery>() == 24);
+
 /// What is kept of a delivery. How its answer is stored is told by the same mark as the delivery, so that
 /// what became of the packet lies beside that mark and takes no place of its own.
 #[derive(Debug, Drop)]

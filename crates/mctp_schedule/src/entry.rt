@@ -30,6 +30,30 @@ pub enum Entry {
     Restarted,
 }
 
-// A run holds an entry for each step, and a schedule may have a million: each is four words long. A delivery's
-// answer lies in it, in place or shared, and what became of the packet lies beside the mark that tells which.
-const _: () = prove!(size_of::<Entry>() == 32);
+/// What came of a step, as it stands among the entries of a run.
+#[derive(Clone, Copy, Debug)]
+pub enum EntryRef<'a> {
+    /// Nothing: no such request was opened, or no such packet was sent.
+    Nothing,
+    /// A request was opened, with this number, counted from 0 over the opened requests of all
+    /// requesters.
+    Opened(u64),
+    /// No request was opened. The fault is never `Memory`.
+    NotOpened(OpenFault),
+    /// What a tick found due. The numbers count the opened requests of all requesters.
+    Due(&'a DueRequests),
+    /// The packet of a request came to the device.
+    Delivered {
+        /// Whether the device's end was busy after a restart, so that the outcome is a busy answer.
+        busy: bool,
+        /// What became of the packet.
+        delivery: &'a Delivery,
+    },
+    /// A packet of an answer came to its requester. The number of an answered request counts the
+    /// opened requests of that requester alone.
+    Received(Got),
+    /// A sensor was to get a reading.
+    Sensed(Result<(), ReadingFault>),
+    /// The device's end restarted.
+    Restarted,
+}

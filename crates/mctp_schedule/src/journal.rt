@@ -1,14 +1,16 @@
 //! What a run writes down as it goes.
 
-ghost use Rattle.std.specs.Prelude.{◌≡◌, ◌<◌, ◌++◌, ◌∷◌, [], ◌&&◌, ◌==◌, true, ℕ, None, Some, OnOk, IfSome, length, option_and_then, option_map, slice_get, if◌then◌else◌};
+ghost use Rattle.std.specs.Prelude.{◌≡◌, ◌+◌, ◌<◌, ◌^◌, ◌++◌, ◌∷◌, [], ◌&&◌, ◌==◌, true, ℕ, None, Some, OnOk, IfSome, length, option_and_then, option_map, slice_get, if◌then◌else◌};
 ghost use Rattle.std.specs.List.{list_any};
 ghost use Rattle.pldm_responder.specs.Answering.{answering};
 ghost use Rattle.mctp_schedule.specs.Deliveries.{packets_of_outcome};
+ghost use Rattle.mctp_schedule.specs.EntryColumns.{outcomes_in};
 ghost use Rattle.mctp_schedule.specs.Journals.{answered_as, answers_at, fresh_numbers, latest_packets, packet_at, packet_of_request, place_of, progress_after};
 ghost use Rattle.mctp_schedule.specs.Requests.{begun};
 
 use crate::askers::{AnsweredRequest, MAX_REQUEST_PACKET_BYTES, SentRequest};
-use crate::{Delivery, DueRequests, Entry, OpenedRequest};
+use crate::delivery_place::DeliveryPlace;
+use crate::{Delivery, DueRequests, Entries, Entry, OpenedRequest};
 use arrayvec::ArrayVec;
 use mctp_packet::{Eid, HEADER, MAX_PACKET_BYTES, Memory, Moment};
 use pldm_requester::{Due, Got};
@@ -16,18 +18,18 @@ use pldm_responder::MessageOutcome;
 use std::alloc::Global;
 use std::marker::Model;
 
-/// The header of a request's packet, and where the latest answers to it stand among the entries. A requester
+/// The header of a request's packet, and where the latest answers to it stand among the deliveries. A requester
 /// remembers its last requests alone, and a schedule may deliver any. The rest of the packet is the request's
 /// message, which is stored once.
 #[derive(Debug, Drop)]
 pub(crate) struct Traffic {
     header: [u8; HEADER],
-    reply: Option<usize>,
-    busy: Option<usize>,
+    reply: DeliveryPlace,
+    busy: DeliveryPlace,
 }
 
 // A run has one for each request: of the packet it holds four bytes, since the request holds the others.
-const _: () = prove!(size_of::<Traffic>() == 40);
+const _: () = prove!(size_of::<Traffic>() == 24);
 
 impl Model for Traffic {
     ghost use Rattle.mctp_schedule.specs.Journals.{Carried, coded_carried};
@@ -46,8 +48,8 @@ impl Traffic {
     {
         Traffic {
             header,
-            reply: None,
-            busy: None,
+            reply: DeliveryPlace::none(),
+            busy: DeliveryPlace::none(),
         }
     }
 
@@ -58,21 +60,26 @@ impl Traffic {
         &self.header
     }
 
-    /// The place among the entries of the latest answer, a busy one or not.
+    /// The place among the deliveries of the latest answer, a busy one or not.
     fn latest_place(&self, busy: bool) -> Option<usize>
         ensures { result ≡ place_of busy self.now }
     {
-        if busy { self.busy } else { self.reply }
+        if busy {
+            self.busy.get()
+        } else {
+            self.reply.get()
+        }
     }
 
-    /// The latest answer stands at this place among the entries.
+    /// The latest answer stands at this place among the deliveries.
     fn set_latest_place(&mut self, place: usize, busy: bool)
+        requires { place + 1 < 2 ^ 64 }
         ensures { self.new ≡ answers_at place busy self.old }
     {
         if busy {
-            self.busy = Some(place);
+            self.busy = DeliveryPlace::at(place);
         } else {
-            self.reply = Some(place);
+            self.reply = DeliveryPlace::at(place);
         }
     }
 }
@@ -81,7 +88,7 @@ impl Traffic {
 #[derive(Debug, Drop)]
 pub(crate) struct Journal {
     alloc: Global,
-    pub(crate) entries: Vec<Entry>,
+    pub(crate) entries: Entries,
     pub(crate) requests: Vec<OpenedRequest>,
     pub(crate) traffic: Vec<Traffic>,
     /// The requests that were performed, in that order.
@@ -93,7 +100,7 @@ pub(crate) struct Journal {
 impl Journal {
     /// A journal of no step.
     pub(crate) fn new(alloc: Global) -> Journal
-        ensures entries { result.entries.items ≡ [] }
+        ensures entries { result.entries ≡ [] }
         ensures requests { result.requests.items ≡ [] }
         ensures traffic { result.traffic.items ≡ [] }
         ensures order { result.order.items ≡ [] }
@@ -101,7 +108,7 @@ impl Journal {
     {
         Journal {
             alloc,
-            entries: Vec::new(alloc),
+            entries: Entries::new(alloc),
             requests: Vec::new(alloc),
             traffic: Vec::new(alloc),
             order: Vec::new(alloc),
@@ -129,7 +136,7 @@ impl Journal {
         busy: bool,
         room: &'a mut [u8; MAX_PACKET_BYTES],
     ) -> Option<&'a [u8]>
-        ensures { option_map (λ bytes. bytes.now) result ≡ packet_at self.now.entries.items packet busy
+        ensures { option_map (λ bytes. bytes.now) result ≡ packet_at self.now.entries packet busy
             (slice_get self.now.traffic.items number) }
     {
         match self.latest_delivery(number, busy) {
@@ -141,25 +148,21 @@ impl Journal {
     /// The delivery that brought the latest answer to a request, a busy one or not.
     pub(crate) fn latest_delivery(&self, number: u64, busy: bool) -> Option<&Delivery>
         ensures { option_and_then (λ delivery. packets_of_outcome delivery.now) result ≡ latest_packets
-            self.now.entries.items busy (slice_get self.now.traffic.items number) }
+            self.now.entries busy (slice_get self.now.traffic.items number) }
     {
         let traffic = self.traffic.get(number as usize)?;
-        match self.entries.get(traffic.latest_place(busy)?)? {
-            Entry::Delivered { delivery, .. } => Some(delivery),
-            _ => None,
-        }
+        self.entries.delivery(traffic.latest_place(busy)?)
     }
 
     /// Writes down what came of a step that told nothing of a request.
     pub(crate) fn enter(&mut self, entry: Entry) -> Result<(), Memory>
-        ensures entries { OnOk result (self.new.entries.items ≡ self.old.entries.items ++ entry ∷ []) }
+        ensures entries { OnOk result (self.new.entries ≡ self.old.entries ++ entry ∷ []) }
         ensures requests { OnOk result (self.new.requests.items ≡ self.old.requests.items) }
         ensures traffic { OnOk result (self.new.traffic.items ≡ self.old.traffic.items) }
         ensures order { OnOk result (self.new.order.items ≡ self.old.order.items) }
         ensures timely { OnOk result (self.new.timely ≡ self.old.timely) }
     {
-        self.entries.push(entry)?;
-        Ok(())
+        self.entries.push(entry)
     }
 
     /// Writes down that a request was opened.
@@ -169,7 +172,7 @@ impl Journal {
         opening: Moment,
         sent: SentRequest,
     ) -> Result<(), Memory>
-        ensures entries { OnOk result (self.new.entries.items ≡ self.old.entries.items ++ Entry.Opened
+        ensures entries { OnOk result (self.new.entries ≡ self.old.entries ++ Entry.Opened
             (length self.old.requests.items) ∷ []) }
         ensures requests { OnOk result (self.new.requests.items ≡ self.old.requests.items ++ begun requester sent.own
             opening sent.message ∷ []) }
@@ -194,7 +197,7 @@ impl Journal {
     pub(crate) fn enter_due(&mut self, due: Due) -> Result<(), Memory>
         requires { (number : ℕ) → list_any (λ n. n == number) due.given_up.items ≡ true → number < length
             self.old.requests.items }
-        ensures entries { OnOk result (self.new.entries.items ≡ self.old.entries.items ++ Entry.Due due ∷ []) }
+        ensures entries { OnOk result (self.new.entries ≡ self.old.entries ++ Entry.Due due ∷ []) }
         ensures all { OnOk result (length self.new.requests.items ≡ length self.old.requests.items) }
         ensures requests { OnOk result ((number : ℕ) → slice_get self.new.requests.items number ≡ option_map
             (progress_after due.given_up.items number) (slice_get self.old.requests.items number)) }
@@ -234,12 +237,12 @@ impl Journal {
         reply: &[u8],
     ) -> Result<(), Memory>
         requires { number < length self.old.traffic.items }
-        ensures entries { OnOk result (self.new.entries.items ≡ self.old.entries.items ++ Entry.Delivered busy
+        ensures entries { OnOk result (self.new.entries ≡ self.old.entries ++ Entry.Delivered busy
             (answering reply.now taken) ∷ []) }
         ensures requests { OnOk result (self.new.requests.items ≡ self.old.requests.items) }
         ensures all { OnOk result (length self.new.traffic.items ≡ length self.old.traffic.items) }
         ensures traffic { OnOk result ((k : ℕ) → slice_get self.new.traffic.items k ≡ option_map (λ t. if k == number
-            then answers_at (length self.old.entries.items) busy t else t) (slice_get self.old.traffic.items k)) }
+            then answers_at (length (outcomes_in self.old.entries)) busy t else t) (slice_get self.old.traffic.items k)) }
         ensures order { OnOk result (self.new.order.items ≡ self.old.order.items ++ fresh_numbers number
             (answering reply.now taken)) }
         ensures timely { OnOk result (self.new.timely ≡ (in_time && self.old.timely)) }
@@ -251,22 +254,22 @@ impl Journal {
         // Looked up before this answer is the latest: a copy's answer is mostly the one before it, and is shared.
         let last = self.latest_delivery(number, busy);
         let delivery = Delivery::new(self.alloc, taken, reply, last)?;
-        self.point_to_next_entry(number, busy);
+        self.point_to_next_delivery(number, busy);
         self.enter(Entry::Delivered { busy, delivery })
     }
 
-    /// The latest answer to a request, a busy one or not, will stand in the next entry.
-    fn point_to_next_entry(&mut self, number: u64, busy: bool)
+    /// The latest answer to a request, a busy one or not, will be the next delivery.
+    fn point_to_next_delivery(&mut self, number: u64, busy: bool)
         requires { number < length self.old.traffic.items }
         ensures all { length self.new.traffic.items ≡ length self.old.traffic.items }
         ensures traffic { (k : ℕ) → slice_get self.new.traffic.items k ≡ option_map (λ t. if k == number then
-            answers_at (length self.old.entries.items) busy t else t) (slice_get self.old.traffic.items k) }
+            answers_at (length (outcomes_in self.old.entries)) busy t else t) (slice_get self.old.traffic.items k) }
         ensures entries { self.new.entries ≡ self.old.entries }
         ensures requests { self.new.requests ≡ self.old.requests }
         ensures order { self.new.order ≡ self.old.order }
         ensures timely { self.new.timely ≡ self.old.timely }
     {
-        let place = self.entries.len();
+        let place = self.entries.delivery_count();
         self.traffic[number as usize].set_latest_place(place, busy);
     }
 
@@ -278,7 +281,7 @@ impl Journal {
         answered: Option<AnsweredRequest>,
     ) -> Result<(), Memory>
         requires { IfSome answered (λ a. a.number < length self.old.requests.items) }
-        ensures entries { OnOk result (self.new.entries.items ≡ self.old.entries.items ++ Entry.Received got ∷ []) }
+        ensures entries { OnOk result (self.new.entries ≡ self.old.entries ++ Entry.Received got ∷ []) }
         ensures all { OnOk result (length self.new.requests.items ≡ length self.old.requests.items) }
         ensures requests { OnOk result ((k : ℕ) → slice_get self.new.requests.items k ≡ option_map
             (answered_as answered k) (slice_get self.old.requests.items k)) }

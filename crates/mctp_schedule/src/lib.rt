@@ -4,7 +4,9 @@
 mod askers;
 mod both_ends;
 mod delivery;
+mod delivery_place;
 mod due_requests;
+mod entries;
 mod entry;
 mod journal;
 pub mod laws;
@@ -16,7 +18,8 @@ mod stored_message;
 pub use both_ends::{Report, Setup, run};
 pub use delivery::Delivery;
 pub use due_requests::DueRequests;
-pub use entry::Entry;
+pub use entries::{Entries, EntriesIter};
+pub use entry::{Entry, EntryRef};
 pub use opened_request::OpenedRequest;
 pub use run_fault::RunFault;
 pub use schedule_text::{

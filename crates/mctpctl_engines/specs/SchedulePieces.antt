@@ -58,7 +58,7 @@ ReportsText bytes written (Err fault) = (fault ≡ no_memory) ⊎ ((fault ≢ no
 -- the text of a schedule and what came of it
 abbrev pub text_of_ran : Ran → List ℕ
 text_of_ran ran =
-    report_text ran.schedule.steps ran.report.entries.items ran.report.requests.items ran.report.order.items
+    report_text ran.schedule.steps ran.report.entries ran.report.requests.items ran.report.order.items
     (device_text ran.report.device) ran.report.timely
 
 -- a line with no bytes adds nothing to a schedule

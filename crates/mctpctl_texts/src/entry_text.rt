@@ -2,13 +2,14 @@
 
 ghost use Rattle.std.specs.Prelude.{◌≡◌, ◌++◌, ◌∷◌, [], codes};
 ghost use Rattle.std.specs.Fmt.{decimal};
+ghost use Rattle.mctp_schedule.specs.EntryColumns.{borrowed_entry};
 ghost use Rattle.mctpctl_texts.specs.EntryTexts.{again_text, answered_text, delivered_text, due_text, entry_line, entry_text, gave_up_text, not_opened_text, received_text, sensed_text};
 ghost use Rattle.mctpctl_texts.specs.Writers.{Wrote};
 
 use crate::decimal::Decimal;
 use crate::parts::{write_drop_line, write_number, write_numbers, write_text};
 use crate::text_writer::TextWriter;
-use mctp_schedule::{Delivery, Entry};
+use mctp_schedule::{Delivery, EntryRef};
 use pldm_platform::ReadingFault;
 use pldm_requester::{Got, OpenFault};
 use pldm_responder::MessageOutcome;
@@ -17,9 +18,10 @@ use pldm_responder::MessageOutcome;
 pub(crate) fn write_entry_line<O: TextWriter>(
     out: &mut O,
     moment: &Decimal,
-    entry: &Entry,
+    entry: EntryRef<'_>,
 ) -> Result<(), O::Refusal>
-    ensures { Wrote O.contents O.failed O.refused out.old out.new (entry_line moment.now entry.now) result }
+    ensures { Wrote O.contents O.failed O.refused out.old out.new
+        (entry_line moment.now (borrowed_entry entry.entry)) result }
 {
     out.write_bytes(moment.spaced())?;
     write_entry(out, entry)
@@ -27,18 +29,19 @@ pub(crate) fn write_entry_line<O: TextWriter>(
 
 /// Writes what came of a step, and the end of its line. Where that is a few words, they are written with
 /// the end of the line at once.
-fn write_entry<O: TextWriter>(out: &mut O, entry: &Entry) -> Result<(), O::Refusal>
-    ensures { Wrote O.contents O.failed O.refused out.old out.new (entry_text entry.now ++ 10 ∷ []) result }
+fn write_entry<O: TextWriter>(out: &mut O, entry: EntryRef<'_>) -> Result<(), O::Refusal>
+    ensures { Wrote O.contents O.failed O.refused out.old out.new
+        (entry_text (borrowed_entry entry.entry) ++ 10 ∷ []) result }
 {
     match entry {
-        Entry::Nothing => write_text(out, "nothing\n"),
-        Entry::Opened(number) => write_opened(out, *number),
-        Entry::NotOpened(fault) => write_text(out, not_opened_text(*fault)),
-        Entry::Due(due) => write_due(out, due.again(), due.given_up()),
-        Entry::Delivered { busy, delivery } => write_delivered(out, *busy, delivery),
-        Entry::Received(got) => write_received(out, *got),
-        Entry::Sensed(sensed) => write_text(out, sensed_text(sensed)),
-        Entry::Restarted => write_text(out, "restarted\n"),
+        EntryRef::Nothing => write_text(out, "nothing\n"),
+        EntryRef::Opened(number) => write_opened(out, number),
+        EntryRef::NotOpened(fault) => write_text(out, not_opened_text(fault)),
+        EntryRef::Due(due) => write_due(out, due.again(), due.given_up()),
+        EntryRef::Delivered { busy, delivery } => write_delivered(out, busy, delivery),
+        EntryRef::Received(got) => write_received(out, got),
+        EntryRef::Sensed(sensed) => write_text(out, sensed_text(&sensed)),
+        EntryRef::Restarted => write_text(out, "restarted\n"),
     }
 }
 

@@ -11,7 +11,7 @@ use crate::device_lines::write_device;
 use crate::entry_text::write_entry_line;
 use crate::parts::{write_number, write_numbers, write_text};
 use crate::text_writer::TextWriter;
-use mctp_schedule::{Entry, OpenedRequest, Report, Step};
+use mctp_schedule::{Entries, OpenedRequest, Report, Step};
 use pldm_device::SimDevice;
 use pldm_requester::Status;
 
@@ -23,7 +23,7 @@ pub fn write_report<O: TextWriter>(
     report: &Report<SimDevice>,
 ) -> Result<(), O::Refusal>
     ensures { Wrote O.contents O.failed O.refused out.old out.new
-        (report_text steps.now report.now.entries.items report.now.requests.items report.now.order.items
+        (report_text steps.now report.now.entries report.now.requests.items report.now.order.items
         (device_text report.now.device) report.now.timely) result }
 {
     write_entries(out, steps, &report.entries)?;
@@ -37,16 +37,19 @@ pub fn write_report<O: TextWriter>(
 fn write_entries<O: TextWriter>(
     out: &mut O,
     steps: &[Step],
-    entries: &[Entry],
+    entries: &Entries,
 ) -> Result<(), O::Refusal>
     ensures { Wrote O.contents O.failed O.refused out.old out.new
         (entries_text steps.now entries.now) result }
 {
-    let count = steps.len().min(entries.len());
+    let mut rest = entries.iter();
     let mut moment = Decimal::new(0);
-    for i in 0..count {
-        moment.set(steps[i].moment.get());
-        write_entry_line(out, &moment, &entries[i])?;
+    for step in steps {
+        let Some(entry) = rest.next() else {
+            return Ok(());
+        };
+        moment.set(step.moment.get());
+        write_entry_line(out, &moment, entry)?;
     }
     Ok(())
 }

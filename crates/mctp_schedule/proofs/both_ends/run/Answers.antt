@@ -111,7 +111,7 @@ returns-clause-report g c =
       commands = subst (λ steps. has_performed (commands_performed g.row.P-State.Denot c.args.setup.keep (world setting steps).log)) all given;
       tested = runs.timely ∙ ap (λ steps. is_timely setting steps) all;
       headline = λ timely.
-          subst (λ s. Headline setting (newest_first schedule) journal.entries.items journal.requests.items journal.order.items s has_performed) (sym c.into_platform-device.ensures.state)
-          (subst (λ steps. Headline setting steps journal.entries.items journal.requests.items journal.order.items (held_of c.loop-step.ends.responder).state has_performed) all
+          subst (λ s. Headline setting (newest_first schedule) journal.entries journal.requests.items journal.order.items s has_performed) (sym c.into_platform-device.ensures.state)
+          (subst (λ steps. Headline setting steps journal.entries journal.requests.items journal.order.items (held_of c.loop-step.ends.responder).state has_performed) all
           (run_is_headline setting past (held_by c.loop-step.ends) runs halves has_performed given c.loop-step.invariant.in_order timely));
     }

@@ -1,36 +1,43 @@
 -- A step further, its line is written.
-use Rattle.std.proofs.Common.{◌++◌, refl, sym, subst, ap, ◌∙◌, append-nil, arith}
+use Rattle.std.proofs.Common.{◌++◌, drop, refl, subst, ap, ◌∙◌}
 use Rattle.std.specs.Io.KnownBytes.{Appends}
 use Rattle.std.proofs.KnownBytes.{Appends-trans}
-use Rattle.mctpctl_texts.specs.EntryTexts.{entry_line}
-use Rattle.mctpctl_texts.proofs.ItemTexts.{entries_done, entries_step}
+use Rattle.mctp_schedule.specs.EntryColumns.{borrowed_entry}
+use Rattle.mctpctl_texts.specs.EntryTexts.{entries_text, entry_line}
+use Rattle.mctpctl_texts.proofs.ItemTexts.{entries_step, no_entries, no_steps, none_left}
 use Rattle.mctpctl_texts.proofs.report_text.write_entries.Goals as goal
 
-pub loop-i-preserved : goal.loop-i-preserved
-loop-i-preserved g c =
-    let i = c.loop-i.invariant in
-    let line = entry_line c.set.new.self c.index-entries-i.result in
+pub loop-step-preserved : goal.loop-step-preserved
+loop-step-preserved g c =
+    let i = c.loop-step.invariant in
+    let entry = borrowed_entry c.in-Some.entry in
+    let line = entry_line c.set.new.self entry in
     record {
       text = i.text ++ line;
       written = Appends-trans _ _ _ _ _ i.written c.in_ok-write_entry_line.ensures.text;
       works = c.in_ok-write_entry_line.ensures.ok ∙ i.works;
-      whole = entries_step i.text (i.text ++ line) c.args.steps.now c.args.entries.now c.loop-i.i c.index-steps-i.result c.index-entries-i.result c.set.new.self
-          (omega (arith, c.loop-i-test.true, i.end)) (omega (arith, c.loop-i-test.true, i.end))
-          c.index-steps-i.is c.index-entries-i.is (c.set.ensures ∙ c.get.ensures.value ∙ ap (λ s. s.moment) (sym c.index-steps-i.is))
-          refl
+      whole = entries_step i.text (i.text ++ line) c.args.steps.now c.loop-step.rest c.next.new.self c.loop-step.step-index c.step-item.result entry c.set.new.self
+          c.loop-step-test.true c.step-item.is c.in-Some.ensures.steps (c.set.ensures ∙ c.get.ensures.value) refl
           ∙ i.whole;
-      end = i.end;
+    }
+
+pub returns-in_default : goal.returns-in_default
+returns-in_default g c =
+    let i = c.loop-step.invariant in
+    let left = drop c.loop-step.step-index c.args.steps.now in
+    let none = ap (entries_text left) c.in_default.ensures.steps.0 ∙ no_entries left in
+    record {
+      text = subst (Appends _ _) (none_left i.text _ _ none i.whole) i.written;
+      ok = i.works;
+      err = tt;
     }
 
 pub returns : goal.returns
 returns g c =
-    let i = c.loop-i.invariant in
-    let all =
-    sym (append-nil i.text)
-    ∙ ap (λ t. i.text ++ t) (sym (entries_done c.args.steps.now c.args.entries.now c.loop-i.i (omega (arith, c.loop-i-test.false, i.end))))
-    ∙ i.whole in
+    let i = c.loop-step.invariant in
+    let none = no_steps c.args.steps.now c.loop-step.rest c.loop-step.step-index c.loop-step-test.false in
     record {
-      text = subst (Appends _ _) all i.written;
+      text = subst (Appends _ _) (none_left i.text _ _ none i.whole) i.written;
       ok = i.works;
       err = tt;
     }

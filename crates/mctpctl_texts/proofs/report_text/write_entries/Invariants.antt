@@ -1,14 +1,13 @@
 -- The text so far, and then that of the steps to come, is that of all steps.
-use Rattle.std.proofs.Common.{◌≡◌, ℕ, List, ◌++◌, drop, length, min}
+use Rattle.std.proofs.Common.{◌≡◌, ℕ, List, ◌++◌, drop}
 use Rattle.std.specs.Io.KnownBytes.{Appends}
 use Rattle.mctpctl_texts.specs.EntryTexts.{entries_text}
 use Rattle.mctpctl_texts.proofs.report_text.write_entries.Given as goal
 
-abbrev pub invariant-loop-i : goal.invariant-loop-i
-invariant-loop-i g l = record {
+abbrev pub invariant-loop-step : goal.invariant-loop-step
+invariant-loop-step g l = record {
   text : List ℕ;
   written : Appends (g.O.TextWriter.contents l.initial.out) (g.O.TextWriter.contents l.out) text;
   works : g.O.TextWriter.failed l.out ≡ g.O.TextWriter.failed l.initial.out;
-  whole : text ++ entries_text (drop l.i l.steps) (drop l.i l.entries) ≡ entries_text l.steps l.entries;
-  end : l.count ≡ min (length l.steps) (length l.entries);
+  whole : text ++ entries_text (drop l.step-index l.steps) l.rest ≡ entries_text l.steps l.entries;
 }

@@ -35,7 +35,7 @@ returns-in_default g c = record {
       nothing_runs setting past (held_by c.args.self.now) c.enter.new.self running c.args.now may.later (answer_action c.args.busy k c.args.packet)
       (done_is setting w c.args.busy c.args.now k c.args.packet ∙ ap (handed setting w c.args.now (source_of (asked_at w.log k))) brings)
       (record {
-        entries = entered.entries ∙ ap (λ x. journal.entries.items ++ x ∷ []) (sym (entry_is setting w c.args.busy c.args.now k c.args.packet ∙ ap (λ o. got_entry (got_from setting w (source_of (asked_at w.log k)) o)) brings));
+        entries = entered.entries ∙ ap (λ x. journal.entries ++ x ∷ []) (sym (entry_is setting w c.args.busy c.args.now k c.args.packet ∙ ap (λ o. got_entry (got_from setting w (source_of (asked_at w.log k)) o)) brings));
         requests = entered.requests;
         traffic = entered.traffic;
         order = entered.order;

@@ -23,7 +23,7 @@ returns g c = record {
       sensed_runs setting past (held_by c.args.self.now) c.set_reading-result.new.self c.enter.new.self running c.args.now may.later c.args.sensor c.args.value
       c.looks_back.ensures.sensed c.looks_back.ensures.same (subst (λ z. IsHeld (held_of c.set_reading-result.new.self) (sensed_held device (held_of c.args.self.now.responder) c.args.sensor z)) same c.set_reading-result.ensures.held)
       (record {
-        entries = entered.entries ∙ ap (λ r. c.args.self.now.journal.entries.items ++ Sensed r ∷ []) (c.set_reading-result.ensures.answer ∙ ap (λ z. made_of (λ _. tt) (device.sensed (held_of c.args.self.now.responder).state c.args.sensor z)) same ∙ ap (λ s. made_of (λ _. tt) (device.sensed s c.args.sensor c.args.value)) state);
+        entries = entered.entries ∙ ap (λ r. c.args.self.now.journal.entries ++ Sensed r ∷ []) (c.set_reading-result.ensures.answer ∙ ap (λ z. made_of (λ _. tt) (device.sensed (held_of c.args.self.now.responder).state c.args.sensor z)) same ∙ ap (λ s. made_of (λ _. tt) (device.sensed s c.args.sensor c.args.value)) state);
         requests = entered.requests;
         traffic = entered.traffic;
         order = entered.order;
