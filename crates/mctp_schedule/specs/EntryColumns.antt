@@ -1,4 +1,4 @@
--- How the entries of a run are stored: a mark for each step, and a column for each kind of thing that a mark leaves out.
+-- How the entries of a run are stored: a mark for each step, and a column for each kind of thing that marks leave out.
 use Rattle.std.specs.Prelude.{◌≡◌, ℕ, List, [], ◌∷◌, map, Ok, Err}
 use Rattle.std.specs.List.{flat_map}
 use Rattle.pldm_responder.specs.declared.outcome.Outcome.{Outcome}

@@ -242,7 +242,8 @@ impl Journal {
         ensures requests { OnOk result (self.new.requests.items ≡ self.old.requests.items) }
         ensures all { OnOk result (length self.new.traffic.items ≡ length self.old.traffic.items) }
         ensures traffic { OnOk result ((k : ℕ) → slice_get self.new.traffic.items k ≡ option_map (λ t. if k == number
-            then answers_at (length (outcomes_in self.old.entries)) busy t else t) (slice_get self.old.traffic.items k)) }
+            then answers_at (length (outcomes_in self.old.entries)) busy t else t)
+            (slice_get self.old.traffic.items k)) }
         ensures order { OnOk result (self.new.order.items ≡ self.old.order.items ++ fresh_numbers number
             (answering reply.now taken)) }
         ensures timely { OnOk result (self.new.timely ≡ (in_time && self.old.timely)) }
