@@ -1,4 +1,4 @@
--- What is held, by the open messages in their list, and what a packet leaves that gave Partial.
+-- What is held, by the open messages in their list, and what a packet leaves held.
 use Rattle.std.specs.FinMap as map
 use Rattle.std.proofs.Common.{suc, ℕ, ◌*◌, ◌≤◌, ◌==◌, [], ◌∷◌, length, IfSome, subst, arith, ◌≡◌, Bool, true, false, cond, Option, Some, None, refl, sym, ap, ◌∙◌}
 use Rattle.std.specs.List.{All}
@@ -10,34 +10,39 @@ use Rattle.mctp_assembly.specs.Keys.{IsKey, key_of}
 use Rattle.mctp_assembly.specs.NumberLists.{Changes, at}
 use Rattle.mctp_assembly.specs.Numbered.{Numbered, IsEntry, held_in, number_of}
 use Rattle.mctp_assembly.specs.Opened.{Opened, IsOpened}
-use Rattle.mctp_assembly.specs.Steps.{Held, answer_alone, begun_by, carried_on, stays_open, answer, after}
+use Rattle.mctp_assembly.specs.Steps.{Held, answer_to, carried_on, stays_open, left_by, unless_whole, after_piece}
 use Rattle.mctp_assembly.specs.declared.key.Key.{Key}
-use Rattle.mctp_assembly.specs.declared.fed.Fed.TheVariants.{Partial}
-use Rattle.mctp_assembly.proofs.KeyNumbers.{get_held, got, inserted_held, is_key}
+use Rattle.mctp_assembly.specs.declared.fed.Fed.{Fed}
+use Rattle.mctp_assembly.specs.declared.fed.Fed.TheVariants.{Whole, Partial, Dropped}
+use Rattle.mctp_assembly.proofs.KeyNumbers.{get_held, got, inserted_held, removed_held, unchanged_held, is_key}
 
 -- what stands under a key's number is what is held at the packet's key
 pub held_at : (l : Numbered) (held : Held) (k q : Key) (n : ℕ) → held_in l ≡ held → IsKey k → n ≡ number_of k → k ≡ q → at l n ≡ map.get held q
 held_at l held k q n made valid number same =
     ap (at l) number ∙ sym (get_held l k valid) ∙ ap (λ m. map.get m k) made ∙ ap (map.get held) same
 
-pub carried_from_start : (o : Option Opened) (p : Packet) → p.start ≡ true → carried_on o p ≡ begun_by p
-carried_from_start None p h = refl
-carried_from_start (Some o) p h = rw h refl
+-- what is held after a packet that gave this, where a whole message is left
+abbrev held_after : Held → Packet → Fed → Held
+held_after held p fed =
+    unless_whole fed held (cond (stays_open fed) (map.insert held (key_of p) (carried_on (map.get held (key_of p)) p)) (map.remove held (key_of p)))
 
-pub after_kept : (held : Held) (p : Packet) → answer held p ≡ Partial → after held p ≡ map.insert held (key_of p) (carried_on (map.get held (key_of p)) p)
-after_kept held p h =
-    ap (λ fed. cond (stays_open fed) (map.insert held (key_of p) (carried_on (map.get held (key_of p)) p)) (map.remove held (key_of p))) h
+left_at : (l new : Numbered) (k : Key) (p : Packet) (fed : Fed) → IsKey k → Changes l new (number_of k) (left_by fed (at l (number_of k)) p)
+    → at l (number_of k) ≡ map.get (held_in l) k → k ≡ key_of p → held_in new ≡ held_after (held_in l) p fed
+left_at l new k p (Whole body) valid change here same = unchanged_held l new (number_of k) change
+left_at l new k p Partial valid change here same =
+    inserted_held l new k (carried_on (at l (number_of k)) p) valid change ∙ ap (λ o. map.insert (held_in l) k (carried_on o p)) here
+    ∙ ap (λ q. map.insert (held_in l) q (carried_on (map.get (held_in l) q) p)) same
+left_at l new k p (Dropped reason) valid change here same = removed_held l new k valid change ∙ ap (map.remove (held_in l)) same
 
--- a list that has, under the number of the packet's key, what a packet that gave Partial leaves there, and else what it had
-pub kept_in : (l new : Numbered) (held : Held) (k : Key) (n : ℕ) (p : Packet) (v : Opened) → held_in l ≡ held → IsKey k → n ≡ number_of k → k ≡ key_of p
-    → Changes l new n (Some v) → v ≡ carried_on (map.get held (key_of p)) p → answer held p ≡ Partial → held_in new ≡ after held p
-kept_in l new held k n p v made valid number same change value partial =
-    inserted_held l new k v valid (subst (λ n. Changes l new n (Some v)) number change) ∙ ap (λ m. map.insert m k v) made ∙ ap (λ q. map.insert held q v) same
-    ∙ ap (map.insert held (key_of p)) value ∙ sym (after_kept held p partial)
-
--- a packet other than a start packet gives Partial only where something is open
-pub not_alone : (p : Packet) → p.start ≡ false → answer_alone p ≡ Partial → ⊥
-not_alone p s h = cc (rw s at h)
+-- a list that has, under the number of the packet's key, what the packet leaves there
+pub left_in : (l new : Numbered) (held : Held) (k : Key) (n : ℕ) (p : Packet) → held_in l ≡ held → IsKey k → n ≡ number_of k → k ≡ key_of p
+    → Changes l new n (left_by (answer_to MAX_PACKETS (at l n) p) (at l n) p) → held_in new ≡ after_piece held p
+left_in l new held k n p made valid number same change =
+    let under : Changes l new (number_of k) (left_by (answer_to MAX_PACKETS (at l (number_of k)) p) (at l (number_of k)) p)
+    = subst (λ n. Changes l new n (left_by (answer_to MAX_PACKETS (at l n) p) (at l n) p)) number change in
+    let gives = ap (λ o. answer_to MAX_PACKETS o p) (held_at l held k (key_of p) (number_of k) made valid refl same) in
+    left_at l new k p (answer_to MAX_PACKETS (at l (number_of k)) p) valid under (sym (get_held l k valid)) same
+    ∙ ap (λ held. held_after held p (answer_to MAX_PACKETS (at l (number_of k)) p)) made ∙ ap (held_after held p) gives
 
 fits : (o : Opened) → IsOpened o → length o.bytes ≤ MAX_MESSAGE_BYTES
 fits o h =

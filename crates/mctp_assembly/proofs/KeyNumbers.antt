@@ -52,5 +52,8 @@ inserted_held l new k v h = maps.inserted_in key_cmp keys_total keys_exact none_
 pub removed_held : (l new : Numbered) (k : Key) → IsKey k → Changes l new (number_of k) None → held_in new ≡ map.remove (held_in l) k
 removed_held l new k h = maps.removed_in key_cmp keys_total keys_exact none_open key_at number_of number_of_key l new k (key_of_number k h)
 
+pub unchanged_held : (l new : Numbered) (n : ℕ) → Changes l new n (at l n) → held_in new ≡ held_in l
+unchanged_held = maps.unchanged_in key_cmp keys_total keys_exact none_open key_at number_of number_of_key
+
 pub len_held : (l : Numbered) → Rises none_open l → map.len (held_in l) ≡ length l
 len_held = maps.len_in key_cmp keys_total keys_exact none_open key_at number_of number_of_key

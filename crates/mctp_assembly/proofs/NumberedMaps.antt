@@ -82,6 +82,15 @@ module _
   removed_in l new k h change =
       map.same_map total exact _ _ (λ q. changed l new k None h change q ∙ sym (map.get-remove total (map_in R key_at l) k q))
 
+  own_value : (l : NumberList X) (n q : ℕ) (b : Bool) → (n == q) ≡ b → cond b (at l n) (at l q) ≡ at l q
+  own_value l n q true h = ap (at l) (eqb-true n q h)
+  own_value l n q false h = refl
+
+  -- to put what stands under a number there is to change nothing
+  pub unchanged_in : (l new : NumberList X) (n : ℕ) → Changes l new n (at l n) → map_in R key_at new ≡ map_in R key_at l
+  unchanged_in l new n change =
+      map.same_map total exact _ _ (λ q. got new q ∙ ap (λ x. cond (is_key q) x None) (change (number_of q) ∙ own_value l n (number_of q) (n == number_of q) refl) ∙ sym (got l q))
+
   -- ---- how many
   tail : (x : ℕ × X) (l : NumberList X) → Rises past (x ∷ l) → Rises past l
   tail x l rises i j lt in_range = rises (suc i) (suc j) (omega arith) (omega arith)

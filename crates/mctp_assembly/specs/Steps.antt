@@ -51,6 +51,12 @@ stays_open (Whole body) = false
 stays_open Partial = true
 stays_open (Dropped reason) = false
 
+-- what is open on a key after a packet, by what it gives; a whole message is left to be ended
+abbrev pub left_by : Fed → Option Opened → Packet → Option Opened
+left_by (Whole body) o p = o
+left_by Partial o p = Some (carried_on o p)
+left_by (Dropped reason) o p = None
+
 -- what a packet gives, where a message has at most this many
 abbrev pub answer_within : ℕ → Held → Packet → Fed
 answer_within limit held p = answer_to limit (map.get held (key_of p)) p
@@ -67,3 +73,13 @@ answer held p = answer_within MAX_PACKETS held p
 
 abbrev pub after : Held → Packet → Held
 after held p = after_within MAX_PACKETS held p
+
+-- the old, where a message is whole, else the new
+abbrev pub unless_whole : Fed → Held → Held → Held
+unless_whole (Whole body) old new = old
+unless_whole Partial old new = new
+unless_whole (Dropped reason) old new = new
+
+-- what is held after a packet, where a whole message is left to be ended
+abbrev pub after_piece : Held → Packet → Held
+after_piece held p = unless_whole (answer held p) held (after held p)

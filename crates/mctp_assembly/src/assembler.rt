@@ -1,11 +1,11 @@
 ghost use Rattle.std.specs.FinMap as map;
 ghost use Rattle.std.specs.Prelude.{◌≡◌, ◌≤◌, true, length, IfOk, OnOk, OnErr, IfSome};
 ghost use Rattle.mctp_assembly.specs.Fed.{fed_with};
-ghost use Rattle.mctp_assembly.specs.Steps.{answer, after};
+ghost use Rattle.mctp_assembly.specs.Steps.{answer, after, after_piece};
 ghost use Rattle.mctp_assembly.specs.declared.key.Key.{Key};
 ghost use Rattle.mctp_assembly.specs.declared.fed.Fed.TheVariants.{Partial};
 
-use crate::buffer::{Buffer, look_alone};
+use crate::buffer::look_alone;
 use crate::messages::Messages;
 use crate::{Fed, FedInto, Key};
 use mctp_packet::{Body, MAX_EID, MAX_MESSAGE_BYTES, MIN_EID, Memory, PacketRef, TAGS};
@@ -85,13 +85,33 @@ impl Assembler {
         ensures at_start { OnErr result (packet.now.start ≡ true) }
         ensures err { OnErr result (self.new ≡ self.old) }
     {
-        let given = self.look_into(packet, message);
-        if let FedInto::Partial = given {
-            self.keep(packet)?;
-        } else {
+        let given = self.feed_piece(packet, message)?;
+        if let FedInto::Whole = given {
             self.forget(Key::of(packet));
         }
         Ok(given)
+    }
+
+    /// As [`Assembler::feed_into`], but that a packet which completes a message leaves the assembler as it was: the
+    /// caller ends its assembly by [`Assembler::forget`] once it has done with the message (DSP0236, "Message
+    /// assembly").
+    ///
+    /// # Errors
+    ///
+    /// As [`Assembler::feed`].
+    pub fn feed_piece(
+        &mut self,
+        packet: &PacketRef<'_>,
+        message: &mut Body,
+    ) -> Result<FedInto, Memory>
+        ensures fed { IfOk result (λ given. fed_with message.new.items given ≡ answer self.old packet.now) }
+        ensures ok { OnOk result (self.new ≡ after_piece self.old packet.now) }
+        ensures memory { OnErr result (answer self.old packet.now ≡ Partial) }
+        ensures at_start { OnErr result (packet.now.start ≡ true) }
+        ensures err { OnErr result (self.new ≡ self.old) }
+    {
+        self.messages
+            .take(Key::of(packet).number(), packet, message)
     }
 
     /// What [`Assembler::feed`] would give for this packet; nothing is changed.
@@ -103,35 +123,14 @@ impl Assembler {
         given.with(message)
     }
 
-    /// What a packet gives, with a message that it completes in `message`.
-    fn look_into(&self, packet: &PacketRef<'_>, message: &mut Body) -> FedInto
+    /// As [`Assembler::look`], with a message that the packet completes in `message`, which else holds nothing of use.
+    pub fn look_into(&self, packet: &PacketRef<'_>, message: &mut Body) -> FedInto
         ensures { fed_with message.new.items result ≡ answer self.now packet.now }
     {
         match self.messages.get(Key::of(packet).number()) {
             Some(buffer) => buffer.look_into(packet, message),
             None => look_alone(packet, message),
         }
-    }
-
-    /// Takes a packet for which [`Assembler::look`] gives `Partial`, as [`Assembler::feed`] does, and does not
-    /// work out again what it gives.
-    ///
-    /// # Errors
-    ///
-    /// As [`Assembler::feed`].
-    pub fn keep(&mut self, packet: &PacketRef<'_>) -> Result<(), Memory>
-        requires { answer self.old packet.now ≡ Partial }
-        ensures ok { OnOk result (self.new ≡ after self.old packet.now) }
-        ensures at_start { OnErr result (packet.now.start ≡ true) }
-        ensures err { OnErr result (self.new ≡ self.old) }
-    {
-        let number = Key::of(packet).number();
-        if packet.start() {
-            self.messages.put(number, Buffer::new(packet))?;
-            return Ok(());
-        }
-        self.messages.append(number, packet);
-        Ok(())
     }
 
     /// Ends the assembly of this key, if there is one.

@@ -1,8 +1,9 @@
-ghost use Rattle.std.specs.Prelude.{◌≡◌, ◌+◌, ◌≤◌, ◌++◌, length, Some, false};
+ghost use Rattle.std.specs.Prelude.{◌≡◌, ◌≢◌, ◌+◌, ◌≤◌, ◌++◌, length, Some, false};
 ghost use Rattle.mctp_assembly.specs.Opened.{IsOpened};
 ghost use Rattle.mctp_assembly.specs.Fed.{fed_with};
 ghost use Rattle.mctp_assembly.specs.Steps.{answer_alone, answer_to, begun_by, carried_on};
 ghost use Rattle.mctp_assembly.specs.declared.fed.Fed.TheVariants.{Partial};
+ghost use Rattle.mctp_assembly.specs.declared.fed.FedInto.TheVariants as FedInto;
 
 use crate::FedInto;
 use mctp_packet::{Body, MAX_MESSAGE_BYTES, MAX_PACKETS, PacketRef, Reason, SEQUENCE_NUMBERS, Seq};
@@ -56,6 +57,26 @@ impl Buffer {
         }
     }
 
+    /// Takes a packet, and gives what it gives, with a message that it completes in `message`. One that gives
+    /// `Partial` begins the buffer anew, or is added; any other changes nothing.
+    pub(crate) fn take(&mut self, packet: &PacketRef<'_>, message: &mut Body) -> FedInto
+        ensures fed { fed_with message.new.items result ≡ answer_to MAX_PACKETS (Some self.old) packet.now }
+        ensures partial { result ≡ FedInto.Partial → self.new ≡ carried_on (Some self.old) packet.now }
+        ensures other { result ≢ FedInto.Partial → self.new ≡ self.old }
+        ensures range { IsOpened self.new }
+    {
+        let _range = self.count; // for the proof: a message that has begun
+        let given = self.look_into(packet, message);
+        if let FedInto::Partial = given {
+            if packet.start() {
+                self.begin(packet);
+            } else {
+                self.append(packet);
+            }
+        }
+        given
+    }
+
     /// What a packet gives after the packets here, with a message that it completes in `message`.
     pub(crate) fn look_into(&self, packet: &PacketRef<'_>, message: &mut Body) -> FedInto
         ensures { fed_with message.new.items result ≡ answer_to MAX_PACKETS (Some self.now) packet.now }
@@ -83,8 +104,21 @@ impl Buffer {
         FedInto::Partial
     }
 
+    /// Begins anew, with a start packet.
+    fn begin(&mut self, packet: &PacketRef<'_>)
+        ensures value { self.new ≡ begun_by packet.now }
+        ensures range { IsOpened self.new }
+    {
+        let payload = packet.payload();
+        self.unit = payload.len();
+        self.last = packet.seq();
+        self.count = 1;
+        self.bytes.clear();
+        self.bytes.try_extend_from_slice(payload).unwrap();
+    }
+
     /// Adds a middle packet of the message.
-    pub(crate) fn append(&mut self, packet: &PacketRef<'_>)
+    fn append(&mut self, packet: &PacketRef<'_>)
         requires partial { answer_to MAX_PACKETS (Some self.old) packet.now ≡ Partial }
         requires middle { packet.now.start ≡ false }
         ensures value { self.new ≡ carried_on (Some self.old) packet.now }

@@ -1,16 +1,19 @@
-ghost use Rattle.std.specs.Prelude.{◌≡◌, ◌≤◌, [], Some, None, IfOk, IfErr, OnOk, OnErr, false, length};
+ghost use Rattle.std.specs.Prelude.{◌≡◌, ◌≢◌, ◌≤◌, [], Some, None, IfOk, IfErr, OnOk, OnErr, true, length};
 ghost use Rattle.std.specs.Option.{option_copied};
 ghost use Rattle.std.specs.List.{All};
 ghost use Rattle.mctp_packet.specs.declared.TheConstants.{MAX_PACKETS};
+ghost use Rattle.mctp_assembly.specs.Fed.{fed_with};
 ghost use Rattle.mctp_assembly.specs.NumberLists.{Changes, IsAt, IsGapFor, Rises, at};
 ghost use Rattle.mctp_assembly.specs.Numbered.{IsEntry, IsNumber, none_open};
 ghost use Rattle.mctp_assembly.specs.Opened.{IsOpened};
-ghost use Rattle.mctp_assembly.specs.Steps.{answer_to, carried_on};
+ghost use Rattle.mctp_assembly.specs.Steps.{answer_to, begun_by, carried_on, left_by};
 ghost use Rattle.mctp_assembly.specs.declared.assembler.TheConstants.{MAX_ASSEMBLIES};
 ghost use Rattle.mctp_assembly.specs.declared.fed.Fed.TheVariants.{Partial};
+ghost use Rattle.mctp_assembly.specs.declared.fed.FedInto.TheVariants as FedInto;
 
-use crate::buffer::Buffer;
-use mctp_packet::{Memory, PacketRef};
+use crate::FedInto;
+use crate::buffer::{Buffer, look_alone};
+use mctp_packet::{Body, Memory, PacketRef};
 use std::alloc::{AllocError, Global};
 use std::marker::Model;
 
@@ -32,30 +35,26 @@ impl Model for Message {
 }
 
 impl Message {
-    /// A message of its own for this buffer.
-    fn new(alloc: Global, buffer: Buffer) -> Result<Message, AllocError>
-        ensures { IfOk result (λ message. message ≡ buffer) }
+    /// The message that a start packet begins.
+    // Not inlined: its bytes are then on the stack for this call alone.
+    #[inline(never)]
+    fn new(alloc: Global, packet: &PacketRef<'_>) -> Result<Message, AllocError>
+        ensures value { IfOk result (λ message. message ≡ begun_by packet.now) }
+        ensures range { IfOk result IsOpened }
     {
         Ok(Message {
-            buffer: Box::new(alloc, buffer)?,
+            buffer: Box::new(alloc, Buffer::new(packet))?,
         })
     }
 
-    /// Puts a buffer in the place of this one.
-    fn replace(&mut self, buffer: Buffer)
-        ensures { self.new ≡ buffer }
-    {
-        *self.buffer = buffer;
-    }
-
-    /// Adds a middle packet.
-    fn append(&mut self, packet: &PacketRef<'_>)
-        requires partial { answer_to MAX_PACKETS (Some self.old) packet.now ≡ Partial }
-        requires middle { packet.now.start ≡ false }
-        ensures value { self.new ≡ carried_on (Some self.old) packet.now }
+    /// Takes a packet as [`Buffer::take`] does.
+    fn take(&mut self, packet: &PacketRef<'_>, message: &mut Body) -> FedInto
+        ensures fed { fed_with message.new.items result ≡ answer_to MAX_PACKETS (Some self.old) packet.now }
+        ensures partial { result ≡ FedInto.Partial → self.new ≡ carried_on (Some self.old) packet.now }
+        ensures other { result ≢ FedInto.Partial → self.new ≡ self.old }
         ensures range { IsOpened self.new }
     {
-        self.buffer.append(packet);
+        self.buffer.take(packet, message)
     }
 
     /// What is open.
@@ -124,32 +123,39 @@ impl Messages {
         self.list.len()
     }
 
-    /// Puts a message that begins under its number, in the place of one that is open there.
-    pub(crate) fn put(&mut self, number: u16, buffer: Buffer) -> Result<(), Memory>
-        requires number { IsNumber number }
-        requires opened { IsOpened buffer }
-        ensures ok { OnOk result (Changes self.old self.new number (Some buffer)) }
+    /// Takes a packet under this number, and gives what it gives, with a message that it completes in `message`:
+    /// what is open there is then left as it is. The list is searched once.
+    pub(crate) fn take(
+        &mut self,
+        number: u16,
+        packet: &PacketRef<'_>,
+        message: &mut Body,
+    ) -> Result<FedInto, Memory>
+        requires { IsNumber number }
+        ensures fed { IfOk result (λ given. fed_with message.new.items given
+            ≡ answer_to MAX_PACKETS (at self.old number) packet.now) }
+        ensures ok { OnOk result (Changes self.old self.new number (left_by
+            (answer_to MAX_PACKETS (at self.old number) packet.now) (at self.old number) packet.now)) }
+        ensures memory { OnErr result (answer_to MAX_PACKETS (at self.old number) packet.now ≡ Partial) }
+        ensures at_start { OnErr result (packet.now.start ≡ true) }
         ensures err { OnErr result (self.new ≡ self.old) }
     {
         match self.search(number) {
-            Ok(place) => self.list[place].1.replace(buffer),
-            Err(place) => {
-                let message = Message::new(self.alloc, buffer)?;
-                self.list.insert(place, (number, message))?;
+            Ok(place) => {
+                let given = self.list[place].1.take(packet, message);
+                if let FedInto::Dropped(_) = given {
+                    self.list.remove(place);
+                }
+                Ok(given)
             }
-        }
-        Ok(())
-    }
-
-    /// Adds a packet that goes on with the message under this number.
-    pub(crate) fn append(&mut self, number: u16, packet: &PacketRef<'_>)
-        requires partial { answer_to MAX_PACKETS (at self.old number) packet.now ≡ Partial }
-        requires middle { packet.now.start ≡ false }
-        ensures { Changes self.old self.new number (Some (carried_on (at self.old number) packet.now)) }
-    {
-        match self.search(number) {
-            Ok(place) => self.list[place].1.append(packet),
-            Err(_) => unreachable!(),
+            Err(place) => {
+                let given = look_alone(packet, message);
+                if let FedInto::Partial = given {
+                    let begun = Message::new(self.alloc, packet)?;
+                    self.list.insert(place, (number, begun))?;
+                }
+                Ok(given)
+            }
         }
     }
 

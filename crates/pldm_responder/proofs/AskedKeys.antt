@@ -16,7 +16,9 @@ use Rattle.mctp_packet.specs.Packets.{Packet}
 use Rattle.mctp_packet.specs.declared.TheConstants.{TAGS}
 use Rattle.mctp_assembly.specs.Keys.{key_cmp, key_of}
 use Rattle.mctp_assembly.specs.Opened.{Opened}
-use Rattle.mctp_assembly.specs.Steps.{Held, answer, after, stays_open, carried_on}
+use Rattle.mctp_assembly.specs.Steps.{Held, answer, after, stays_open, carried_on, unless_whole, after_piece}
+use Rattle.mctp_assembly.specs.declared.fed.Fed.{Fed}
+use Rattle.mctp_assembly.specs.declared.fed.Fed.TheVariants.{Whole, Partial, Dropped}
 use Rattle.mctp_assembly.specs.declared.key.Key.{Key}
 use Rattle.pldm_responder.specs.Stations.{IsAsked, AreAsked}
 use Rattle.pldm_responder.specs.declared.responder.TheConstants.{MAX_PENDING}
@@ -53,9 +55,15 @@ after_by : (own : ℕ) (t : Bool) (held : Held) (k : Key) (o : Opened) → IsAsk
 after_by own true held k o new asked = asked_with own held k o new asked
 after_by own false held k o new asked = asked_without own held k asked
 
-pub asked_after : (own : ℕ) (held : Held) (p : Packet) → IsAsked own (key_of p) → AreAsked own held → AreAsked own (after held p)
-asked_after own held p new asked =
-    after_by own (stays_open (answer held p)) held (key_of p) (carried_on (finite.get held (key_of p)) p) new asked
+unless_by : (own : ℕ) (fed : Fed) (old new : Held) → AreAsked own old → AreAsked own new → AreAsked own (unless_whole fed old new)
+unless_by own (Whole body) old new before after = before
+unless_by own Partial old new before after = after
+unless_by own (Dropped reason) old new before after = after
+
+pub asked_after_piece : (own : ℕ) (held : Held) (p : Packet) → IsAsked own (key_of p) → AreAsked own held → AreAsked own (after_piece held p)
+asked_after_piece own held p new asked =
+    unless_by own (answer held p) held (after held p) asked
+    (after_by own (stays_open (answer held p)) held (key_of p) (carried_on (finite.get held (key_of p)) p) new asked)
 
 -- ---- they are few
 both : (a b : Bool) → T (a && b) → T a × T b

@@ -6,9 +6,13 @@ use Rattle.mctp_packet.specs.Packets.{Packet}
 use Rattle.mctp_packet.specs.declared.packet.Route.{Route}
 use Rattle.mctp_packet.specs.declared.reason.Reason.{Reason}
 use Rattle.mctp_packet.specs.declared.reason.Reason.TheVariants.{BadTag}
+use Rattle.mctp_assembly.specs.Fed.{fed_with}
+use Rattle.mctp_assembly.specs.Steps as assembly
 use Rattle.mctp_assembly.specs.Steps.{answer}
 use Rattle.mctp_assembly.specs.declared.fed.Fed.{Fed}
 use Rattle.mctp_assembly.specs.declared.fed.Fed.TheVariants.{Whole}
+use Rattle.mctp_assembly.specs.declared.fed.FedInto.{FedInto}
+use Rattle.mctp_assembly.specs.declared.fed.FedInto.TheVariants as into
 use Rattle.pldm_wire.specs.declared.command.Command.{Command}
 use Rattle.pldm_wire.specs.Headers.{id_at}
 use Rattle.mctp_packet.specs.Reading.{unless}
@@ -85,6 +89,18 @@ pub needed_when_whole : {P S : Type 0} (performing : P → List Command → P �
 needed_when_whole performing old new steady moment p route items same owner whole wanted =
     subst (λ a. IsRefusedMemory performing old a steady p.start new)
     (whole_arrival (answer old.open_messages) moment p route items same owner whole) (wanted p.start)
+
+-- a packet that completes a message leaves what is open
+pub left_when_whole : (held new : assembly.Held) (p : Packet) (items : List ℕ) (given : FedInto) → given ≡ into.Whole
+    → fed_with items given ≡ answer held p → new ≡ assembly.after_piece held p → new ≡ held
+left_when_whole held new p items given whole gives left =
+    left ∙ ap (λ fed. assembly.unless_whole fed held (assembly.after held p)) (sym gives)
+    ∙ ap (λ g. assembly.unless_whole (fed_with items g) held (assembly.after held p)) whole
+
+-- so it leaves the responder
+pub same_station : {P S : Type 0} (before old : Station P S) (open_messages : assembly.Held) → before ≡ old → open_messages ≡ before.open_messages
+    → record before { open_messages = open_messages } ≡ old
+same_station before old open_messages view same = ap (λ held. record before { open_messages = held }) same ∙ view
 
 module _ {P S : Type 0} (station : Station P S) (m : Message) (request : Request) (read : request_of m.bytes ≡ Ok request)
     (serves : station.serves_from ≤ m.moment) (fresh : None ≡ copied_packets station.own station.keep m (kept_in station.rows m.source request.id)) where

@@ -2,8 +2,9 @@ ghost use Rattle.std.specs.Borrow.{Lends, sem};
 ghost use Rattle.std.specs.FinMap as map;
 ghost use Rattle.std.specs.Prelude.{◌≡◌, ◌≢◌, ℕ, false, ◌*◌, ◌≤◌, ◌<◌, ◌&&◌, true, Bool, [], length, nat_lt, Ok, IfOk, IfSome, IsSome, is_some, option_map, OnOk, OnErr};
 ghost use Rattle.mctp_packet.specs.Passing.{passed};
+ghost use Rattle.mctp_assembly.specs.Keys.{key_of};
 ghost use Rattle.mctp_assembly.specs.Steps.{answer};
-ghost use Rattle.mctp_assembly.specs.declared.fed.Fed.TheVariants.{Whole};
+ghost use Rattle.mctp_assembly.specs.declared.fed.Fed.TheVariants.{Whole, Partial};
 ghost use Rattle.mctp_assembly.specs.declared.key.Key.{Key as KeyValue};
 ghost use Rattle.pldm_platform.specs.Changes.{made_of};
 ghost use Rattle.pldm_wire.specs.Answers.{IsAnswerTo};
@@ -34,7 +35,7 @@ use crate::kept_answers::KeptAnswers;
 use crate::outcome::{Completed, MessageOutcome, Outcome};
 use crate::performing::{perform, refuse, succeeded};
 use crate::routes::{not_performed, performed, way_back};
-use mctp_assembly::{Assembler, Fed, Key};
+use mctp_assembly::{Assembler, FedInto, Key};
 use mctp_packet::{
     Body, Eid, Keep, MAX_EID, MAX_MESSAGE_BYTES, MAX_PACKET_BYTES, MIN_EID, Memory, Moment,
     PacketRef, Reason, Route, TAGS, Tag, read_for,
@@ -268,8 +269,6 @@ impl<P: Platform> Responder<P> {
     }
 
     /// The request that a packet completes. It is addressed to the endpoint by another one.
-    // Not inlined: a message that is put together is then on the stack for this call alone.
-    #[inline(never)]
     fn packet_completes(
         &self,
         now: Moment,
@@ -285,14 +284,12 @@ impl<P: Platform> Responder<P> {
         if !route.owner {
             return None;
         }
-        let Fed::Whole(whole) = &self.assembler.look(packet) else {
+        let FedInto::Whole = self.assembler.look_into(packet, message) else {
             return None;
         };
-        let Ok(request) = read_request(whole) else {
+        let Ok(request) = read_request(message) else {
             return None;
         };
-        message.clear();
-        message.try_extend_from_slice(whole).unwrap();
         Some(Completed {
             source: route.source,
             tag: route.tag,
@@ -351,8 +348,9 @@ impl<P: Platform> Responder<P> {
         if !route.owner {
             return None;
         }
-        match &self.assembler.look(packet) {
-            Fed::Whole(message) => self.message_command(now, route.source, route.tag, message),
+        let mut message = Body::new();
+        match self.assembler.look_into(packet, &mut message) {
+            FedInto::Whole => self.message_command(now, route.source, route.tag, &message),
             _ => None,
         }
     }
@@ -547,34 +545,37 @@ impl<P: Platform> Responder<P> {
     {
         let route = packet.route();
         let key = Key::of(packet);
-        match &self.assembler.look(packet) {
-            Fed::Whole(message) => {
-                let taken = self.serve(now, route.source, route.tag, message, reply)?;
+        if !self.has_room(packet) {
+            let open = self.assembler.pending();
+            return Err(Memory::at_limit(open, self.bounds.open_messages));
+        }
+        let mut message = Body::new();
+        match self.assembler.feed_piece(packet, &mut message)? {
+            FedInto::Whole => {
+                let taken = self.serve(now, route.source, route.tag, &message, reply)?;
                 self.assembler.forget(key);
                 Ok(taken)
             }
-            Fed::Partial => {
-                if !self.has_room(key) {
-                    let open = self.assembler.pending();
-                    return Err(Memory::at_limit(open, self.bounds.open_messages));
-                }
-                self.assembler.keep(packet)?;
-                Ok(MessageOutcome::Partial)
-            }
-            Fed::Dropped(reason) => {
-                self.assembler.forget(key);
-                Ok(MessageOutcome::Dropped(*reason))
-            }
+            FedInto::Partial => Ok(MessageOutcome::Partial),
+            FedInto::Dropped(reason) => Ok(MessageOutcome::Dropped(reason)),
         }
     }
 
-    /// Whether a message may be open on this key: it is, or the bounds allow one more.
-    fn has_room(&self, key: Key) -> bool
-        ensures yes { result ≡ true → map.contains_key self.now.open_messages key ≡ false
+    /// Whether there is room for what a packet leaves open: it begins no message of several packets, or its key is
+    /// open, or the bounds allow one more.
+    fn has_room(&self, packet: &PacketRef<'_>) -> bool
+        ensures yes { result ≡ true → answer self.now.open_messages packet.now ≡ Partial
+            → map.contains_key self.now.open_messages (key_of packet.now) ≡ false
             → map.len self.now.open_messages < self.now.bounds.open_messages }
-        ensures no { result ≡ false → map.contains_key self.now.open_messages key ≡ false }
+        ensures no { result ≡ false → map.contains_key self.now.open_messages (key_of packet.now) ≡ false }
+        ensures partial { result ≡ false → answer self.now.open_messages packet.now ≡ Partial }
+        ensures start { result ≡ false → packet.now.start ≡ true }
         ensures full { result ≡ false → self.now.bounds.open_messages ≤ map.len self.now.open_messages }
     {
+        if !packet.start() || packet.end() {
+            return true;
+        }
+        let key = Key::of(packet);
         let open = self.assembler.pending();
         open < self.bounds.open_messages || self.assembler.is_open(key)
     }

@@ -1,0 +1,89 @@
+-- What a packet that was taken at a place leaves among the open messages.
+use Rattle.std.proofs.Common.{◌≡◌, ◌≢◌, ℕ, Some, None, refl, sym, ◌∙◌, ap, subst}
+use Rattle.std.specs.Prelude.{slice_set, slice_index_or, List}
+use Rattle.std.specs.List.{All, insert, remove}
+use Rattle.std.proofs.lemmas.List.{set-get_or}
+use Rattle.mctp_packet.specs.Packets.{Packet}
+use Rattle.mctp_packet.specs.declared.TheConstants.{MAX_PACKETS}
+use Rattle.mctp_packet.specs.declared.reason.Reason.{Reason}
+use Rattle.mctp_assembly.specs.Fed.{fed_with}
+use Rattle.mctp_assembly.specs.NumberLists.{Changes, IsAt, IsGapFor, Rises, at}
+use Rattle.mctp_assembly.specs.Numbered.{Numbered, AreOpen, IsEntry, none_open}
+use Rattle.mctp_assembly.specs.Opened.{Opened, IsOpened}
+use Rattle.mctp_assembly.specs.Steps.{answer_alone, answer_to, begun_by, carried_on, left_by}
+use Rattle.mctp_assembly.specs.declared.fed.FedInto.{FedInto}
+use Rattle.mctp_assembly.specs.declared.fed.FedInto.TheVariants.{Whole, Partial, Dropped}
+use Rattle.mctp_assembly.proofs.NumberPlaces.{read_at, written_at, removed_at, inserted_at, none_in_gap, change_of, unchanged}
+use Rattle.mctp_assembly.proofs.OpenPlaces.{open_written, open_removed}
+
+-- what a packet leaves under a number, by what it gives where this is open there
+abbrev Leaves : Numbered → Numbered → ℕ → Packet → Type 0
+Leaves old new k p = Changes old new k (left_by (answer_to MAX_PACKETS (at old k) p) (at old k) p)
+
+kept : (given : FedInto) (body : List ℕ) (o v : Opened) (p : Packet) → (given ≡ Partial → v ≡ carried_on (Some o) p) → (given ≢ Partial → v ≡ o)
+    → ((reason : Reason) → given ≡ Dropped reason → ⊥) → Some v ≡ left_by (fed_with body given) (Some o) p
+kept Whole body o v p partial other stays = ap Some (other (λ same. cc))
+kept Partial body o v p partial other stays = ap Some (partial refl)
+kept (Dropped reason) body o v p partial other stays = absurd (stays reason refl)
+
+not_begun : (given : FedInto) (body : List ℕ) (p : Packet) → (given ≡ Partial → ⊥) → None ≡ left_by (fed_with body given) None p
+not_begun Whole body p other = refl
+not_begun Partial body p other = absurd (other refl)
+not_begun (Dropped reason) body p other = refl
+
+-- ---- at the place of the number
+module _ (l m : Numbered) (same : l ≡ m) (rises : Rises none_open l) (k place : ℕ) (found : IsAt none_open m k place)
+    (d : ℕ × Opened) (read : d ≡ slice_index_or l place d) (v : Opened) where
+  is : IsAt none_open l k place
+  is = subst (λ (list : Numbered). IsAt none_open list k place) (sym same) found
+
+  here : Some d.1 ≡ at m k
+  here = sym (read_at none_open l rises k place is d read) ∙ ap (λ (list : Numbered). at list k) same
+
+  pub open_taken : All IsEntry l → IsOpened v → AreOpen (slice_set l place (d.0, v))
+  open_taken each opened = open_written l rises k place is d v read each opened
+
+  -- a value that is as it was leaves the list as it was
+  as_it_was : v ≡ d.1 → slice_set l place (d.0, v) ≡ l
+  as_it_was value = ap (λ o. slice_set l place (d.0, o)) value ∙ subst (λ (e : ℕ × Opened). slice_set l place e ≡ l) (sym read) (set-get_or l place d)
+
+  pub open_dropped : (new : Numbered) → new ≡ remove (slice_set l place (d.0, v)) place → v ≡ d.1 → All IsEntry l → AreOpen new
+  open_dropped new removed value each =
+      subst AreOpen (sym (removed ∙ ap (λ (list : Numbered). remove list place) (as_it_was value))) (open_removed l rises k place is each)
+
+  module _ (p : Packet) (given : FedInto) (body : List ℕ) (fed : fed_with body given ≡ answer_to MAX_PACKETS (Some d.1) p) where
+    pub fed_here : fed_with body given ≡ answer_to MAX_PACKETS (at m k) p
+    fed_here = fed ∙ ap (λ o. answer_to MAX_PACKETS o p) here
+
+    left_here : left_by (fed_with body given) (Some d.1) p ≡ left_by (answer_to MAX_PACKETS (at m k) p) (at m k) p
+    left_here = ap (λ f. left_by f (Some d.1) p) fed_here ∙ ap (λ o. left_by (answer_to MAX_PACKETS (at m k) p) o p) here
+
+    pub taken_here : (given ≡ Partial → v ≡ carried_on (Some d.1) p) → (given ≢ Partial → v ≡ d.1) → ((reason : Reason) → given ≡ Dropped reason → ⊥)
+        → Leaves m (slice_set l place (d.0, v)) k p
+    taken_here partial other stays =
+        change_of none_open l m _ k (Some v) _ same (kept given body d.1 v p partial other stays ∙ left_here) (written_at none_open l rises k place is d v read)
+
+    pub dropped_here : (new : Numbered) (reason : Reason) → new ≡ remove (slice_set l place (d.0, v)) place → v ≡ d.1 → given ≡ Dropped reason → Leaves m new k p
+    dropped_here new reason removed value dropped =
+        change_of none_open l m new k None _ same (ap (λ g. left_by (fed_with body g) (Some d.1) p) (sym dropped) ∙ left_here)
+        (subst (λ (new : Numbered). Changes l new k None) (sym (removed ∙ ap (λ (list : Numbered). remove list place) (as_it_was value))) (removed_at none_open l rises k place is))
+
+-- ---- at the gap for the number
+module _ (m : Numbered) (k place : ℕ) (gap : IsGapFor none_open m k place) (p : Packet) (given : FedInto) (body : List ℕ) (fed : fed_with body given ≡ answer_alone p) where
+  none : None ≡ at m k
+  none = sym (none_in_gap none_open m k place gap)
+
+  pub fed_alone : fed_with body given ≡ answer_to MAX_PACKETS (at m k) p
+  fed_alone = fed ∙ ap (λ o. answer_to MAX_PACKETS o p) none
+
+  left_alone : left_by (fed_with body given) None p ≡ left_by (answer_to MAX_PACKETS (at m k) p) (at m k) p
+  left_alone = ap (λ f. left_by f None p) fed_alone ∙ ap (λ o. left_by (answer_to MAX_PACKETS (at m k) p) o p) none
+
+  pub begun_here : (l new : Numbered) (v : Opened) → l ≡ m → new ≡ insert l place (k, v) → v ≡ begun_by p → given ≡ Partial → Leaves m new k p
+  begun_here l new v same inserted value partial =
+      let begun = ap Some value ∙ ap (λ g. left_by (fed_with body g) None p) (sym partial) ∙ left_alone in
+      change_of none_open m m new k (Some v) _ refl begun
+      (subst (λ (new : Numbered). Changes m new k (Some v)) (sym (inserted ∙ ap (λ (list : Numbered). insert list place (k, v)) same)) (inserted_at none_open m k place gap v))
+
+  pub unchanged_here : (given ≡ Partial → ⊥) → Leaves m m k p
+  unchanged_here other = change_of none_open m m m k None _ refl (not_begun given body p other ∙ left_alone) (unchanged none_open m k (sym none))
