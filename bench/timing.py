@@ -14,6 +14,7 @@ DEVICE = (ROOT / "examples" / "device.toml").read_bytes()
 DESCRIBED = DEVICE + b"%%\n"
 MOST_INPUT = 16 * 1024 * 1024
 RUNS = 9
+MOST_RUNS = 60
 
 
 def begin(program, task, given, taken):
@@ -60,13 +61,14 @@ def build_peer(folder, room):
 
 def measure(programs, task, text, room):
     """The least seconds of each program, the peak memory of each, and whether all wrote the same. What else the
-    machine does can only lengthen a run, so the least of several says most."""
+    machine does can only lengthen a run, so the least of several says most; of a short input there are more."""
     outputs = [Path(room) / f"output{place}" for place in range(len(programs))]
     with tempfile.TemporaryFile() as given:
         given.write(text)
         given.flush()
         rounds = [
-            [run(program, task, given, output) for program, output in zip(programs, outputs)] for _ in range(RUNS)
+            [run(program, task, given, output) for program, output in zip(programs, outputs)]
+            for _ in range(max(RUNS, min(RUNS * MOST_INPUT // len(text), MOST_RUNS)))
         ]
         peaks = [peak_memory(program, task, given) for program in programs]
     seconds = [min(times[place] for times in rounds) for place in range(len(programs))]
