@@ -1,6 +1,7 @@
 pub mod Numbers
 pub mod SlotLists
 pub mod SlotSteps
+pub mod TickedSlots
 pub mod KeyOrder
 pub mod WorkedRows
 pub mod OpenRequests

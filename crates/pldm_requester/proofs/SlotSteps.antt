@@ -1,9 +1,9 @@
 -- What a requester holds once a slot was written: a request was answered, or one more was opened.
 use Rattle.std.specs.FinMap as map
-use Rattle.std.proofs.Common.{◌≡◌, ℕ, ◌+◌, ◌-◌, ◌%◌, ◌<◌, ◌≤◌, Bool, true, false, cond, not, List, [], ◌∷◌, ◌++◌, length, Option, Some, None, Result, Ok, refl, sym, ap, ◌∙◌, subst, arith, eqb-true}
-use Rattle.std.specs.Prelude.{◌==◌, filter, option_map, slice_get, slice_set, slice_index_or}
+use Rattle.std.proofs.Common.{◌≡◌, ℕ, ◌+◌, ◌-◌, ◌%◌, ◌<◌, ◌≤◌, Bool, true, false, cond, not, List, [], ◌∷◌, ◌++◌, length, Option, Some, None, Result, Ok, refl, sym, ap, ◌∙◌, subst, ⊎_elim, arith, eqb-true}
+use Rattle.std.specs.Prelude.{◌==◌, nat_le, filter, option_map, slice_get, slice_set, slice_index_or}
 use Rattle.std.specs.List.{range_with_len}
-use Rattle.std.proofs.lemmas.Bool.{cond-false, ne_eqb}
+use Rattle.std.proofs.lemmas.Bool.{and_cases, cases_eq, cond-false, leb-false, ne_eqb}
 use Rattle.std.proofs.lemmas.List.{map-id}
 use Rattle.std.proofs.lemmas.List.FromFn.{filter_of_map_range_with_len_more}
 use Rattle.std.proofs.lemmas.Option.{slice_get_within, get_or_from_slice_get}
@@ -17,9 +17,9 @@ use Rattle.pldm_wire.specs.Responses.{Response, response_of}
 use Rattle.pldm_wire.specs.declared.command.Command.{Command}
 use Rattle.pldm_requester.specs.Arrivals.{Drop, Answer, response_arrival}
 use Rattle.pldm_requester.specs.Calls.{answer_key}
-use Rattle.pldm_requester.specs.Courses.{begun, answered}
+use Rattle.pldm_requester.specs.Courses.{begun, is_open, answered}
 use Rattle.pldm_requester.specs.Numbering.{id_of, tag_of}
-use Rattle.pldm_requester.specs.Steps.{Memo, IsHeld, is_recent, is_mine, is_mine_by, with_course, remembered_after, opened_held, new_memo}
+use Rattle.pldm_requester.specs.Steps.{Memo, IsHeld, is_recent, passes, is_open_in, is_tag_in_use, is_mine, is_mine_by, with_course, remembered_after, opened_held, new_memo}
 use Rattle.pldm_requester.specs.Slots.{Station, held_of, remembered_in, put_slot, AreSlots, IsPaced, IsStation, most_opened}
 use Rattle.pldm_requester.proofs.SlotLists.{remembered_parts, remembered_in-set, remembered_in-put, AreSlots-put}
 
@@ -76,13 +76,34 @@ paced_by true r count n now memo o same at few paced = let here = same refl in o
 paced_by false true count n now memo o same at few paced = paced
 paced_by false false count n now memo o same at few paced = tt
 
-pub opened_station : (station : Station) (now : ℕ) (memo : Memo) (open_messages : assembly.Held) → IsStation station → memo.course.opening ≡ now → station.count < most_opened now
+-- the one with the new one's tag is shut, and so are older ones
+tag_free : (station : Station) (n : ℕ) → is_tag_in_use (held_of station) ≡ false → n + 8 ≡ station.count → passes is_open (remembered_in station.count station.slots n) ≡ false
+tag_free station n free e =
+    ⊎_elim
+    (λ (x : nat_le 8 station.count ≡ false). let i = leb-false 8 station.count x in absurd (omega arith))
+    (λ (x : is_open_in (held_of station) (station.count - 8) ≡ false). let i : station.count - 8 ≡ n = omega arith in subst (λ (k : ℕ). is_open_in (held_of station) k ≡ false) i x)
+    (and_cases (nat_le 8 station.count) _ free)
+
+shut_by : (b r : Bool) (memo : Memo) (o : Option Memo) → b ≡ false → passes is_open o ≡ false → passes is_open (cond b (Some memo) (cond r o None)) ≡ false
+shut_by true r memo o other shut = cc
+shut_by false true memo o other shut = shut
+shut_by false false memo o other shut = refl
+
+shut_opened : (station : Station) (n : ℕ) (memo : Memo) → IsStation station → is_tag_in_use (held_of station) ≡ false → n + 8 < station.count + 1
+    → passes is_open (remembered_in (station.count + 1) (put_slot station.count station.slots memo) n) ≡ false
+shut_opened station n memo is free old =
+    ap (passes is_open) (remembered_in-put station.count n station.slots memo is.slots)
+    ∙ shut_by (n == station.count) (is_recent (station.count + 1) n) memo (remembered_in station.count station.slots n) (ne_eqb n station.count (λ e. omega arith))
+    (⊎_elim (λ (e : n + 8 ≡ station.count). tag_free station n free e) (λ (e : n + 8 ≡ station.count → ⊥). is.shut n (omega arith)) (cases_eq (n + 8) station.count))
+
+pub opened_station : (station : Station) (now : ℕ) (memo : Memo) (open_messages : assembly.Held) → IsStation station → memo.course.opening ≡ now → station.count < most_opened now → is_tag_in_use (held_of station) ≡ false
     → IsStation (record station { count = station.count + 1; slots = put_slot station.count station.slots memo; open_messages = open_messages; last = now })
-opened_station station now memo open_messages is at few = record {
+opened_station station now memo open_messages is at few free = record {
   slots = AreSlots-put station.count station.slots memo is.slots;
   few = omega arith;
   paced = λ n. subst (IsPaced n) (sym (remembered_in-put station.count n station.slots memo is.slots))
       (paced_by (n == station.count) (is_recent (station.count + 1) n) station.count n now memo (remembered_in station.count station.slots n) (eqb-true n station.count) at few (is.paced n));
+  shut = λ n old. shut_opened station n memo is free old;
 }
 
 pub opened_is_held : (station : Station) (now : ℕ) (command : Command) (slots : List Memo) (open_messages : assembly.Held) → AreSlots station.count station.slots

@@ -1,14 +1,14 @@
 -- How a requester keeps the last requests: each in the slot of its instance ID; and what contracts see of a requester.
 use Rattle.std.specs.FinMap as map
-use Rattle.std.specs.Prelude.{◌≡◌, ℕ, ◌+◌, ◌*◌, ◌%◌, ◌<◌, ◌≤◌, List, [], ◌∷◌, ◌++◌, length, nat_lt, slice_set, if◌then◌else◌, Option, Some, None, slice_get, IfSome, refl}
+use Rattle.std.specs.Prelude.{◌≡◌, ℕ, ◌+◌, ◌*◌, ◌%◌, ◌<◌, ◌≤◌, false, List, [], ◌∷◌, ◌++◌, length, nat_lt, slice_set, if◌then◌else◌, Option, Some, None, slice_get, IfSome, refl}
 use Rattle.std.specs.Coded.{Coded, code_by, coded×, coded_ℕ, coded_list, coded_option}
 use Rattle.mctp_assembly.specs.Keys.{key_cmp, coded_key}
 use Rattle.mctp_assembly.specs.Opened.{Opened, coded_opened}
 use Rattle.pldm_wire.specs.Kinds.{of_type}
-use Rattle.pldm_requester.specs.Courses.{Progress, Waiting, Answered, GaveUp}
-use Rattle.pldm_requester.specs.Steps.{Memo, Held, is_recent}
+use Rattle.pldm_requester.specs.Courses.{Progress, Waiting, Answered, GaveUp, is_open}
+use Rattle.pldm_requester.specs.Steps.{Memo, Held, is_recent, passes}
 use Rattle.pldm_requester.specs.Timings.{coded_timing}
-use Rattle.pldm_requester.specs.declared.requester.TheConstants.{MAX_REMEMBERED}
+use Rattle.pldm_requester.specs.declared.requester.TheConstants.{MAX_OPEN, MAX_REMEMBERED}
 use Rattle.pldm_requester.specs.declared.timing.Timing.{Timing}
 
 -- a progress is stored as the answer, if any, where the request is no longer open
@@ -118,8 +118,14 @@ most_opened moment = 16 * moment + 32
 abbrev pub IsPaced : ℕ → Option Memo → Type 0
 IsPaced number memo = IfSome memo (λ memo. number < most_opened memo.course.opening)
 
--- the requests are so far apart
+-- none is open but the last ones
+abbrev pub OlderAreShut : ℕ → List Memo → Type 0
+OlderAreShut count slots =
+    (number : ℕ) → number + MAX_OPEN < count → passes is_open (remembered_in count slots number) ≡ false
+
+-- the requests are so far apart, and only the last ones can be open
 pub record IsStation (station : Station) : Type 0 where
   pub slots : AreSlots station.count station.slots
   pub few : station.count ≤ most_opened station.last
   pub paced : (number : ℕ) → IsPaced number (remembered_in station.count station.slots number)
+  pub shut : OlderAreShut station.count station.slots

@@ -1,8 +1,4 @@
-ghost use Rattle.std.specs.Prelude.{◌≡◌, map};
-ghost use Rattle.pldm_requester.specs.Courses.{ticked};
-ghost use Rattle.pldm_requester.specs.Steps.{with_course};
-
-use crate::{Status, Timing};
+use crate::{Due, MAX_OPEN, Status, Timing};
 use mctp_packet::{Body, MAX_MESSAGE_BYTES, Moment, Packets, Route, split_into};
 use pldm_wire::Kind;
 use std::marker::Model;
@@ -58,7 +54,8 @@ impl Model for Remembered {
 }
 
 impl Remembered {
-    ghost use Rattle.std.specs.Prelude.{◌≡◌, ◌<◌, ◌≤◌, length};
+    ghost use Rattle.std.specs.Prelude.{◌≡◌, ◌<◌, ◌≤◌, [], ◌∷◌, ◌++◌, length, if◌then◌else◌};
+    ghost use Rattle.arrayvec.specs.ArrayVec.{array_vec_len};
     ghost use Rattle.mctp_packet.specs.Pieces.{written_packets};
     ghost use Rattle.pldm_requester.specs.Courses.{answered, begun, is_open, is_over, is_given_up, is_sent_again, ticked};
     ghost use Rattle.pldm_requester.specs.Steps.{with_course};
@@ -111,14 +108,14 @@ impl Remembered {
     }
 
     /// Whether a tick gives it up.
-    pub(crate) fn is_given_up(&self, timing: &Timing, now: Moment) -> bool
+    fn is_given_up(&self, timing: &Timing, now: Moment) -> bool
         ensures { result ≡ is_given_up timing.now now self.now.course }
     {
         self.is_open() && self.is_over(timing, now)
     }
 
     /// Whether a tick sends it again.
-    pub(crate) fn is_sent_again(&self, timing: &Timing, now: Moment) -> bool
+    fn is_sent_again(&self, timing: &Timing, now: Moment) -> bool
         ensures { result ≡ is_sent_again timing.now now self.now.course }
     {
         self.is_open()
@@ -126,14 +123,22 @@ impl Remembered {
             && self.last_sent.get() + u64::from(timing.timeout) <= now.get()
     }
 
-    /// What a tick makes of it.
-    pub(crate) fn tick(&mut self, timing: &Timing, now: Moment)
-        ensures { self.new ≡ with_course (ticked timing.now now) self.old }
+    /// What a tick makes of it. Where it is due, its number is listed.
+    pub(crate) fn tick(&mut self, number: u64, timing: &Timing, now: Moment, due: &mut Due)
+        requires again { array_vec_len due.old.again < MAX_OPEN }
+        requires given_up { array_vec_len due.old.given_up < MAX_OPEN }
+        ensures value { self.new ≡ with_course (ticked timing.now now) self.old }
+        ensures again { due.new.again.items ≡ due.old.again.items
+            ++ (if is_sent_again timing.now now self.old.course then number ∷ [] else []) }
+        ensures given_up { due.new.given_up.items ≡ due.old.given_up.items
+            ++ (if is_given_up timing.now now self.old.course then number ∷ [] else []) }
     {
         if self.is_given_up(timing, now) {
             self.progress = Progress::GaveUp;
+            due.given_up.push(number);
         } else if self.is_sent_again(timing, now) {
             self.last_sent = now;
+            due.again.push(number);
         }
     }
 
@@ -156,14 +161,5 @@ impl Remembered {
             Progress::Answered => Status::Answered(&self.answer),
             Progress::GaveUp => Status::GaveUp,
         }
-    }
-}
-
-/// What a tick makes of all requests.
-pub(crate) fn tick_all(slots: &mut [Remembered], timing: &Timing, now: Moment)
-    ensures { slots.new ≡ map (with_course (ticked timing.now now)) slots.old }
-{
-    for slot in slots.iter_mut() {
-        slot.tick(timing, now);
     }
 }

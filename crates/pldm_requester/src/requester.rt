@@ -1,7 +1,6 @@
-ghost use Rattle.std.specs.Prelude.{◌≡◌, ◌⊎◌, ◌+◌, ◌%◌, ◌^◌, ◌<◌, ◌≤◌, true, [], ◌∷◌, ◌++◌, length, if◌then◌else◌, None, Some, Ok, Err, option_map, vec_len, vec_capacity, IfOk, IfErr, IsErrOf, OnOk, OnErr};
+ghost use Rattle.std.specs.Prelude.{◌≡◌, ◌⊎◌, ℕ, ◌+◌, ◌%◌, ◌^◌, ◌<◌, ◌≤◌, true, [], ◌∷◌, ◌++◌, length, filter, if◌then◌else◌, None, Some, Ok, Err, option_map, vec_len, vec_capacity, IfOk, IfErr, IsErrOf, OnOk, OnErr};
 ghost use Rattle.std.specs.Bool.{OnFalse};
 ghost use Rattle.std.specs.Option.{option_copied};
-ghost use Rattle.arrayvec.specs.ArrayVec.{array_vec_len};
 ghost use Rattle.mctp_packet.specs.Ids.{IsTag};
 ghost use Rattle.mctp_packet.specs.Memories.{out_of_memory};
 ghost use Rattle.mctp_packet.specs.Passing.{passed as where_expected};
@@ -10,14 +9,14 @@ ghost use Rattle.pldm_wire.specs.Commands.{IsCommand};
 ghost use Rattle.pldm_wire.specs.Responses.{response_of};
 ghost use Rattle.pldm_requester.specs.Arrivals.{got_of, is_response_to, response_arrival};
 ghost use Rattle.pldm_requester.specs.Calls.{answer_key};
-ghost use Rattle.pldm_requester.specs.Courses.{begun, is_given_up, is_sent_again};
+ghost use Rattle.pldm_requester.specs.Courses.{begun, is_given_up, is_sent_again, ticked};
 ghost use Rattle.pldm_requester.specs.Numbering.{id_of, tag_of};
-ghost use Rattle.pldm_requester.specs.Slots.{held_of, most_opened, remembered_in, put_slot};
+ghost use Rattle.pldm_requester.specs.Slots.{AreSlots, OlderAreShut, held_of, most_opened, remembered_in, put_slot};
 ghost use Rattle.pldm_requester.specs.RequestProgress.{progress_in_status};
-ghost use Rattle.pldm_requester.specs.Steps.{IsHeld, accepts, again_at, arrived_by, begins_message, expects, given_up_at, goes_to, got_at, held_at_first, held_by, is_id_in_use, is_mine, is_open_in, is_tag_in_use, opened_held, opening_answer, passed, passes, received_held, remembered_after, ticked_held};
+ghost use Rattle.pldm_requester.specs.Steps.{IsHeld, accepts, again_at, arrived_by, begins_message, expects, given_up_at, goes_to, got_at, held_at_first, held_by, is_id_in_use, is_mine, is_open_in, is_tag_in_use, opened_held, opening_answer, passed, passes, received_held, recent_numbers, remembered_after, ticked_held, with_course};
 ghost use Rattle.pldm_requester.specs.Timings.{timing_fault};
 
-use crate::remembered::{Remembered, tick_all};
+use crate::remembered::Remembered;
 use crate::{Due, Got, OpenFault, Opened, Status, Timing, TimingFault};
 use arrayvec::ArrayVec;
 use mctp_assembly::{Assembler, FedInto, Key};
@@ -258,44 +257,9 @@ impl Requester {
         ensures given_up { result.given_up.items ≡ given_up_at (held_of self.old) now }
         ensures held { IsHeld (held_of self.new) (ticked_held (held_of self.old) now) }
     {
-        let due = self.due(now);
-        tick_all(&mut self.slots, &self.timing, now);
+        let due = tick_last(&mut self.slots, self.count, &self.timing, now);
         self.last = now;
         due
-    }
-
-    /// The requests that are due.
-    fn due(&self, now: Moment) -> Due
-        ensures again { result.again.items ≡ again_at (held_of self.now) now }
-        ensures given_up { result.given_up.items ≡ given_up_at (held_of self.now) now }
-    {
-        let mut again = ArrayVec::new();
-        let mut given_up = ArrayVec::new();
-        for number in self.count.saturating_sub(MAX_OPEN as u64)..self.count {
-            list(&mut given_up, number, self.gives_up(number, now));
-            list(&mut again, number, self.sends_again(number, now));
-        }
-        Due { again, given_up }
-    }
-
-    /// Whether a tick gives up a request.
-    fn gives_up(&self, number: u64, now: Moment) -> bool
-        ensures { result ≡ passes (is_given_up self.now.timing now) ((held_of self.now).remembered number) }
-    {
-        match self.remembered(number) {
-            Some(request) => request.is_given_up(&self.timing, now),
-            None => false,
-        }
-    }
-
-    /// Whether a tick sends a request again.
-    fn sends_again(&self, number: u64, now: Moment) -> bool
-        ensures { result ≡ passes (is_sent_again self.now.timing now) ((held_of self.now).remembered number) }
-    {
-        match self.remembered(number) {
-            Some(request) => request.is_sent_again(&self.timing, now),
-            None => false,
-        }
     }
 
     /// Takes the bytes of a packet that came at the moment `now`, which must not be before
@@ -455,15 +419,28 @@ fn make_room(slots: &mut Vec<Remembered>) -> Result<(), Memory>
     Ok(())
 }
 
-/// Adds a number to a list, where it is due.
-fn list(numbers: &mut ArrayVec<u64, MAX_OPEN>, number: u64, is_due: bool)
-    requires { array_vec_len numbers.old < MAX_OPEN }
-    ensures items { numbers.new.items ≡ numbers.old.items ++ (if is_due then number ∷ [] else []) }
-    ensures few { array_vec_len numbers.new ≤ array_vec_len numbers.old + 1 }
+/// What a tick makes of the last requests, and which are due. No older one is open, so a tick leaves those.
+fn tick_last(slots: &mut [Remembered], count: u64, timing: &Timing, now: Moment) -> Due
+    requires slots { AreSlots count slots.old }
+    requires shut { OlderAreShut count slots.old }
+    ensures again { result.again.items ≡ filter
+        (λ number. passes (is_sent_again timing.now now) (remembered_in count slots.old number))
+        (recent_numbers count) }
+    ensures given_up { result.given_up.items ≡ filter
+        (λ number. passes (is_given_up timing.now now) (remembered_in count slots.old number))
+        (recent_numbers count) }
+    ensures slots { (number : ℕ) → remembered_in count slots.new number
+        ≡ option_map (with_course (ticked timing.now now)) (remembered_in count slots.old number) }
 {
-    if is_due {
-        numbers.push(number);
+    let mut due = Due {
+        again: ArrayVec::new(),
+        given_up: ArrayVec::new(),
+    };
+    for number in count.saturating_sub(MAX_OPEN as u64)..count {
+        let slot = &mut slots[(number % MAX_REMEMBERED as u64) as usize];
+        slot.tick(number, timing, now, &mut due);
     }
+    due
 }
 
 /// Puts a request that is opened now in the slot of its number, or at the end, where there has to be

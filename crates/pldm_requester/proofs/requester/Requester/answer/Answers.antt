@@ -1,10 +1,9 @@
-use Rattle.std.proofs.Common.{◌≡◌, true, ◌∙◌, ◌%◌, refl, ap, sym, subst}
+use Rattle.std.proofs.Common.{◌≡◌, true, ◌∙◌, ◌%◌, refl, sym, subst}
 use Rattle.std.specs.Prelude.{slice_set}
 use Rattle.pldm_wire.specs.Responses.{response_of}
 use Rattle.pldm_requester.specs.Arrivals.{response_arrival}
 use Rattle.pldm_requester.specs.Courses.{answered}
 use Rattle.pldm_requester.specs.Slots.{Station, held_of}
-use Rattle.pldm_requester.specs.RequestProgress.{progress_of}
 use Rattle.pldm_requester.specs.Steps.{Memo, IsHeld, is_mine, remembered_after, with_course}
 use Rattle.pldm_requester.proofs.SlotSteps.{answered_held}
 use Rattle.pldm_requester.proofs.requester.Requester.answer.Goals as goal

@@ -1,11 +1,11 @@
 use Rattle.std.specs.FinMap as map
-use Rattle.std.proofs.Common.{◌∙◌, ◌+◌, ◌<◌, true, ap, subst, refl, arith}
+use Rattle.std.proofs.Common.{◌≡◌, ◌∙◌, ◌+◌, ◌<◌, true, false, ap, sym, subst, refl, arith}
 use Rattle.mctp_packet.specs.Pieces.{written_packets}
 use Rattle.mctp_packet.specs.declared.packet.Route.{Route}
 use Rattle.pldm_requester.specs.Courses.{begun}
 use Rattle.pldm_requester.specs.Calls.{answer_key}
 use Rattle.pldm_requester.specs.Slots.{Station, held_of, put_slot, most_opened}
-use Rattle.pldm_requester.specs.Steps.{Memo, IsHeld, opened_held}
+use Rattle.pldm_requester.specs.Steps.{Memo, IsHeld, is_tag_in_use, opened_held}
 use Rattle.pldm_requester.proofs.SlotSteps.{opened_station, opened_is_held, memo_is}
 use Rattle.pldm_requester.proofs.requester.Requester.open.Goals as goal
 
@@ -17,7 +17,8 @@ invariant_of-self-2 c =
     let count = ap (λ (s : Station). s.count) c.self.view_is in
     let paced = c.if-is_id_in_use.ensures.paced in
     let few : station.count < most_opened c.args.now = omega (arith, paced, count) in
-    rw (c.put.ensures, c.make_room.ensures.items) (opened_station station c.args.now memo c.forget.new.self c.self.invariant refl few)
+    let free = subst (λ (s : Station). is_tag_in_use (held_of s) ≡ false) (sym c.self.view_is) (sym c.if-is_tag_in_use.ensures) in
+    rw (c.put.ensures, c.make_room.ensures.items) (opened_station station c.args.now memo c.forget.new.self c.self.invariant refl few free)
 
 pub returns-clause-held : goal.returns-clause-held
 returns-clause-held c =
