@@ -1,10 +1,12 @@
-ghost use Rattle.std.specs.Prelude.{◌≡◌, ◌⊎◌, ℕ, ◌+◌, ◌%◌, ◌^◌, ◌<◌, ◌≤◌, true, [], ◌∷◌, ◌++◌, length, filter, if◌then◌else◌, None, Some, Ok, Err, option_map, vec_len, vec_capacity, IfOk, IfErr, IsErrOf, OnOk, OnErr};
+ghost use Rattle.std.specs.Prelude.{◌≡◌, ◌⊎◌, ℕ, ◌+◌, ◌%◌, ◌^◌, ◌<◌, ◌≤◌, true, [], ◌∷◌, ◌++◌, length, filter, if◌then◌else◌, None, Some, Ok, Err, option_map, vec_len, vec_capacity, IfOk, IfErr, IfSome, IsErrOf, OnOk, OnErr};
 ghost use Rattle.std.specs.Bool.{OnFalse};
 ghost use Rattle.std.specs.Option.{option_copied};
 ghost use Rattle.mctp_packet.specs.Ids.{IsTag};
 ghost use Rattle.mctp_packet.specs.Memories.{out_of_memory};
 ghost use Rattle.mctp_packet.specs.Passing.{passed as where_expected};
 ghost use Rattle.mctp_packet.specs.Pieces.{written_packets};
+ghost use Rattle.mctp_assembly.specs.Steps.{answer as assembled};
+ghost use Rattle.mctp_assembly.specs.declared.fed.Fed.TheVariants.{Whole};
 ghost use Rattle.pldm_wire.specs.Commands.{IsCommand};
 ghost use Rattle.pldm_wire.specs.Responses.{response_of};
 ghost use Rattle.pldm_requester.specs.Arrivals.{got_of, is_response_to, response_arrival};
@@ -317,6 +319,41 @@ impl Requester {
         let Some(number) = self.goes_to(packet) else {
             return Ok(Got::Dropped(Reason::BadTag));
         };
+        let Some(message) = self.alone(packet) else {
+            return self.receive_piece(number, packet);
+        };
+        self.assembler.forget(Key::of(packet));
+        Ok(self.answer(number, message))
+    }
+
+    /// The message of a packet that is both a start and an end packet: its payload, whatever is open.
+    fn alone<'a>(&self, packet: &PacketRef<'a>) -> Option<&'a [u8]>
+        ensures whole { IfSome result (λ message. Whole (record { items = message.now })
+            ≡ assembled (held_of self.now).open_messages packet.now) }
+        ensures few { IfSome result (λ message. length message.now ≤ MAX_MESSAGE_BYTES) }
+    {
+        if packet.start() && packet.end() {
+            Some(packet.payload())
+        } else {
+            None
+        }
+    }
+
+    /// Takes a packet that comes to the request with this number, whatever its place in its message.
+    // Not inlined: a message of one packet, the usual one, then needs none of its stack.
+    #[inline(never)]
+    fn receive_piece(&mut self, number: u64, packet: &PacketRef<'_>) -> Result<Got, Memory>
+        requires { goes_to (held_of self.old) packet.now ≡ Some number }
+        ensures got { IfOk result (λ got. got ≡ got_of (arrived_by (held_of self.old) (where_expected
+            (expects (held_of self.old)) (Ok packet.now)))) }
+        ensures held { OnOk result (IsHeld (held_of self.new) (held_by (held_of self.old) (where_expected
+            (expects (held_of self.old)) (Ok packet.now)))) }
+        ensures memory { OnErr result (got_of (arrived_by (held_of self.old) (where_expected
+            (expects (held_of self.old)) (Ok packet.now))) ≡ Got.Partial) }
+        ensures at_start { OnErr result (begins_message (where_expected (expects (held_of self.old)) (Ok packet.now))
+            ≡ true) }
+        ensures err { OnErr result (IsHeld (held_of self.new) (held_of self.old)) }
+    {
         let mut message = Body::new();
         match self.assembler.feed_into(packet, &mut message)? {
             FedInto::Whole => Ok(self.answer(number, &message)),
