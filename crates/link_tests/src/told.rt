@@ -1,6 +1,6 @@
 //! What a run tells, in words: a line for each step, then the requests, the order and whether it was timely.
 
-use mctp_schedule::{DueRequests, EntryRef, OpenedRequest, Report, Step};
+use mctp_schedule::{EntryRef, OpenedRequest, Report, Step};
 use pldm_platform::Platform;
 use pldm_requester::{Got, Status};
 use pldm_responder::MessageOutcome;
@@ -44,7 +44,7 @@ fn entry_words(alloc: Global, entry: EntryRef<'_>) -> Result<String, AllocError>
             let number = fault.number();
             format!(in alloc; "not opened, fault {number}")
         }
-        EntryRef::Due(due) => due_words(alloc, due),
+        EntryRef::Due { again, given_up } => due_words(alloc, again, given_up),
         EntryRef::Delivered { busy, delivery } => {
             String::from_str(alloc, delivered_words(busy, delivery.taken()))
         }
@@ -64,11 +64,11 @@ fn entry_words(alloc: Global, entry: EntryRef<'_>) -> Result<String, AllocError>
 }
 
 /// What a tick found due.
-fn due_words(alloc: Global, due: &DueRequests) -> Result<String, AllocError> {
+fn due_words(alloc: Global, again: &[u64], given_up: &[u64]) -> Result<String, AllocError> {
     let mut text = String::from_str(alloc, "again")?;
-    push_numbers(alloc, &mut text, due.again())?;
+    push_numbers(alloc, &mut text, again)?;
     text.push_str(", gave up")?;
-    push_numbers(alloc, &mut text, due.given_up())?;
+    push_numbers(alloc, &mut text, given_up)?;
     Ok(text)
 }
 

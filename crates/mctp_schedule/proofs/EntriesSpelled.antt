@@ -16,12 +16,22 @@ use Rattle.mctp_schedule.specs.declared.entry.Entry.TheVariants.{Nothing, Opened
 abbrev columns_spell : List Entry → List Entry
 columns_spell es = spelled (map mark_of es) (flat_map numbers_in_entry es) (flat_map dues_in_entry es) (outcomes_in es)
 
+-- what a tick found, whether it is nothing or not
+abbrev found : List ℕ → List ℕ → Entry
+found again given_up = Due (record { again = record { items = again }; given_up = record { items = given_up } })
+
+due_spells : (again given_up : List ℕ) (es : List Entry) → columns_spell es ≡ es
+    → columns_spell (found again given_up ∷ es) ≡ found again given_up ∷ es
+due_spells [] [] es rest = ap (λ r. found [] [] ∷ r) rest
+due_spells [] (number ∷ numbers) es rest = ap (λ r. found [] (number ∷ numbers) ∷ r) rest
+due_spells (number ∷ numbers) given_up es rest = ap (λ r. found (number ∷ numbers) given_up ∷ r) rest
+
 spells : (es : List Entry) → columns_spell es ≡ es
 spells [] = refl
 spells (Nothing ∷ es) = ap (λ r. Nothing ∷ r) (spells es)
 spells (Opened number ∷ es) = ap (λ r. Opened number ∷ r) (spells es)
 spells (NotOpened fault ∷ es) = ap (λ r. NotOpened fault ∷ r) (spells es)
-spells (Due due ∷ es) = ap (λ r. Due due ∷ r) (spells es)
+spells (Due due ∷ es) = due_spells due.again.items due.given_up.items es (spells es)
 spells (Delivered busy outcome ∷ es) = ap (λ r. Delivered busy outcome ∷ r) (spells es)
 spells (Received (gots.Dropped reason) ∷ es) = ap (λ r. Received (gots.Dropped reason) ∷ r) (spells es)
 spells (Received gots.Partial ∷ es) = ap (λ r. Received gots.Partial ∷ r) (spells es)

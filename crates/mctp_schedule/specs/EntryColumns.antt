@@ -1,9 +1,10 @@
 -- How the entries of a run are stored: a mark for each step, and a column for each kind of thing that marks leave out.
-use Rattle.std.specs.Prelude.{◌≡◌, ℕ, List, [], ◌∷◌, map, Ok, Err}
+use Rattle.std.specs.Prelude.{◌≡◌, ℕ, List, [], ◌∷◌, map, Ok, Err, if◌then◌else◌}
 use Rattle.std.specs.List.{flat_map}
 use Rattle.pldm_responder.specs.declared.outcome.Outcome.{Outcome}
 use Rattle.pldm_requester.specs.declared.results.Due.{Due as DueNumbers}
 use Rattle.pldm_requester.specs.declared.results.Got.TheVariants as gots
+use Rattle.mctp_schedule.specs.DueNumbers.{found_nothing, nothing_due}
 use Rattle.mctp_schedule.specs.declared.entries.Mark.{Mark}
 use Rattle.mctp_schedule.specs.declared.entries.Mark.TheVariants as marks
 use Rattle.mctp_schedule.specs.declared.entry.Entry.{Entry}
@@ -16,18 +17,20 @@ abbrev pub borrowed_entry : EntryRef → Entry
 borrowed_entry refs.Nothing = Nothing
 borrowed_entry (refs.Opened number) = Opened number
 borrowed_entry (refs.NotOpened fault) = NotOpened fault
-borrowed_entry (refs.Due due) = Due due.now
+borrowed_entry (refs.Due again given_up) =
+    Due (record { again = record { items = again.now }; given_up = record { items = given_up.now } })
 borrowed_entry (refs.Delivered busy delivery) = Delivered busy delivery.now
 borrowed_entry (refs.Received got) = Received got
 borrowed_entry (refs.Sensed result) = Sensed result
 borrowed_entry refs.Restarted = Restarted
 
--- the mark of an entry, and what of it stands in a column
+-- the mark of an entry, and what of it stands in a column. A tick that found nothing has a mark of its own, and stands in
+-- none
 abbrev pub mark_of : Entry → Mark
 mark_of Nothing = marks.Nothing
 mark_of (Opened number) = marks.Opened
 mark_of (NotOpened fault) = marks.NotOpened fault
-mark_of (Due due) = marks.Due
+mark_of (Due due) = if found_nothing due then marks.NothingDue else marks.Due
 mark_of (Delivered busy outcome) = marks.Delivered busy
 mark_of (Received (gots.Dropped reason)) = marks.Dropped reason
 mark_of (Received gots.Partial) = marks.Partial
@@ -42,7 +45,7 @@ numbers_in_entry (Received (gots.Answered number)) = number ∷ []
 numbers_in_entry _ = []
 
 abbrev pub dues_in_entry : Entry → List DueNumbers
-dues_in_entry (Due due) = due ∷ []
+dues_in_entry (Due due) = if found_nothing due then [] else due ∷ []
 dues_in_entry _ = []
 
 abbrev pub outcomes_in_entry : Entry → List Outcome
@@ -59,6 +62,7 @@ abbrev pub spelled : List Mark → List ℕ → List DueNumbers → List Outcome
 spelled (marks.Nothing ∷ rest) numbers dues outcomes = Nothing ∷ spelled rest numbers dues outcomes
 spelled (marks.Opened ∷ rest) (number ∷ numbers) dues outcomes = Opened number ∷ spelled rest numbers dues outcomes
 spelled (marks.NotOpened fault ∷ rest) numbers dues outcomes = NotOpened fault ∷ spelled rest numbers dues outcomes
+spelled (marks.NothingDue ∷ rest) numbers dues outcomes = Due nothing_due ∷ spelled rest numbers dues outcomes
 spelled (marks.Due ∷ rest) numbers (due ∷ dues) outcomes = Due due ∷ spelled rest numbers dues outcomes
 spelled (marks.Delivered busy ∷ rest) numbers dues (outcome ∷ outcomes) =
     Delivered busy outcome ∷ spelled rest numbers dues outcomes

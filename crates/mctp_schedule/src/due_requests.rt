@@ -1,6 +1,7 @@
 //! What a tick found due.
 
 ghost use Rattle.std.specs.Prelude.{◌≡◌, IfOk};
+ghost use Rattle.mctp_schedule.specs.DueNumbers.{found_nothing};
 
 use mctp_packet::Memory;
 use pldm_requester::Due;
@@ -34,6 +35,13 @@ impl DueRequests {
         }
         let due = Some(Box::new(alloc, due)?);
         Ok(DueRequests { due })
+    }
+
+    /// Whether nothing was due.
+    pub fn is_empty(&self) -> bool
+        ensures { result ≡ found_nothing self.now }
+    {
+        self.again().is_empty() && self.given_up().is_empty()
     }
 
     /// Those whose packets are sent again.

@@ -19,7 +19,7 @@ pub struct Entries {
     marks: Vec<Mark>,
     /// The numbers of requests that were opened or answered.
     numbers: Vec<u64>,
-    /// What ticks found due.
+    /// What the ticks found due that found anything.
     dues: Vec<DueRequests>,
     /// What became of the packets of requests.
     deliveries: Vec<Delivery>,
@@ -31,6 +31,7 @@ enum Mark {
     Nothing,
     Opened,
     NotOpened(OpenFault),
+    NothingDue,
     Due,
     Delivered { busy: bool },
     Dropped(Reason),
@@ -150,6 +151,9 @@ fn push_parts(
         }
         Entry::NotOpened(fault) => Ok(Mark::NotOpened(fault)),
         Entry::Due(due) => {
+            if due.is_empty() {
+                return Ok(Mark::NothingDue);
+            }
             dues.push(due)?;
             Ok(Mark::Due)
         }
@@ -204,7 +208,17 @@ impl<'a> Iterator for EntriesIter<'a> {
             Mark::Nothing => EntryRef::Nothing,
             Mark::Opened => EntryRef::Opened(*take_first(&mut self.numbers)),
             Mark::NotOpened(fault) => EntryRef::NotOpened(fault),
-            Mark::Due => EntryRef::Due(take_first(&mut self.dues)),
+            Mark::NothingDue => EntryRef::Due {
+                again: &[],
+                given_up: &[],
+            },
+            Mark::Due => {
+                let due = take_first(&mut self.dues);
+                EntryRef::Due {
+                    again: due.again(),
+                    given_up: due.given_up(),
+                }
+            }
             Mark::Delivered { busy } => EntryRef::Delivered {
                 busy,
                 delivery: take_first(&mut self.deliveries),

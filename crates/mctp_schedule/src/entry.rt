@@ -41,7 +41,12 @@ pub enum EntryRef<'a> {
     /// No request was opened. The fault is never `Memory`.
     NotOpened(OpenFault),
     /// What a tick found due. The numbers count the opened requests of all requesters.
-    Due(&'a DueRequests),
+    Due {
+        /// The requests whose packets are sent again.
+        again: &'a [u64],
+        /// The requests that are given up.
+        given_up: &'a [u64],
+    },
     /// The packet of a request came to the device.
     Delivered {
         /// Whether the device's end was busy after a restart, so that the outcome is a busy answer.

@@ -37,7 +37,7 @@ fn write_entry<O: TextWriter>(out: &mut O, entry: EntryRef<'_>) -> Result<(), O:
         EntryRef::Nothing => write_text(out, "nothing\n"),
         EntryRef::Opened(number) => write_opened(out, number),
         EntryRef::NotOpened(fault) => write_text(out, not_opened_text(fault)),
-        EntryRef::Due(due) => write_due(out, due.again(), due.given_up()),
+        EntryRef::Due { again, given_up } => write_due(out, again, given_up),
         EntryRef::Delivered { busy, delivery } => write_delivered(out, busy, delivery),
         EntryRef::Received(got) => write_received(out, got),
         EntryRef::Sensed(sensed) => write_text(out, sensed_text(&sensed)),
