@@ -1,5 +1,6 @@
 pub mod CaptureRows
 pub mod DividerRows
+pub mod DigitTables
 pub mod KnownInputs
 pub mod PieceRuns
 pub mod PlainWords

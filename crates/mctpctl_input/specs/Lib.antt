@@ -3,6 +3,7 @@ pub mod CaptureLine
 pub mod CaptureRuns
 pub mod FaultNumbers
 pub mod FaultTexts
+pub mod HexDigits
 pub mod LineRuns
 pub mod Pieces
 pub mod Ports

@@ -7,6 +7,7 @@ ghost use Rattle.mctpctl_input.specs.CaptureLine.{IsInTime, ReadsLine, capture_o
 ghost use Rattle.hex.specs.Hex.{decode_of};
 
 use crate::faults::LineKind;
+use crate::hex_digits::HexDigits;
 use crate::limits::MAX_CAPTURE_LINE;
 use line_words::{first_word, read_number, split_word};
 use mctp_packet::{MAX_MOMENT, Memory};
@@ -52,6 +53,7 @@ impl From<AllocError> for CaptureFault {
 /// too long is refused even where it says nothing.
 #[tactic(auto, unfolding(crate::specs::CaptureLine::capture_of))]
 pub fn read_capture_line(
+    digits: &HexDigits,
     line: &[u8],
     last: u64,
     packet: &mut Vec<u8>,
@@ -66,11 +68,12 @@ pub fn read_capture_line(
     let Some((first, rest)) = first_word(line) else {
         return Ok(CaptureLine::Skipped);
     };
-    read_packet(first, rest, last, packet)
+    read_packet(digits, first, rest, last, packet)
 }
 
 /// The packet of a line whose first word is `moment`, before `rest`.
 fn read_packet(
+    digits: &HexDigits,
     moment: &[u8],
     rest: &[u8],
     last: u64,
@@ -79,7 +82,7 @@ fn read_packet(
     ensures { ReadsLine (timed_packet (packet_word (words_of rest.now)) (moment_of moment.now last)) last
         packet.new.items result }
 {
-    if !is_plain(rest, packet) {
+    if !is_plain(digits, rest, packet) {
         return read_words(moment, rest, last, packet);
     }
     match read_moment(moment, last) {
@@ -107,18 +110,18 @@ fn read_words(
 /// Whether the text is a space and then hex digits alone, as it nearly always is. Their bytes are then
 /// put into `packet`, and no end of a word was looked for.
 #[tactic(auto, using(crate::proofs::PlainWords::plain_text))]
-fn is_plain(text: &[u8], packet: &mut Vec<u8>) -> bool
+fn is_plain(digits: &HexDigits, text: &[u8], packet: &mut Vec<u8>) -> bool
     ensures word { result ≡ true → packet_word (words_of text.now) ≡ Ok (drop 1 text.now) }
     ensures bytes { result ≡ true → decode_of (drop 1 text.now) ≡ Ok packet.new.items }
 {
     if text.first() != Some(&b' ') {
         return false;
     }
-    let (_, digits) = text.split_at(1);
-    match read_hex(digits, packet) {
-        Ok(()) => true,
-        Err(_) => false,
+    let (_, word) = text.split_at(1);
+    if packet.resize(word.len() / 2, 0).is_err() {
+        return false;
     }
+    digits.read(word, packet.as_mut_slice())
 }
 
 /// The one word of a text, or no bytes where it has no word.

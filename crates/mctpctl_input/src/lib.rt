@@ -3,6 +3,7 @@
 
 mod capture;
 mod faults;
+mod hex_digits;
 mod limits;
 mod lines;
 mod port;
@@ -10,6 +11,7 @@ mod stream;
 
 pub use capture::{CaptureFault, CaptureLine, read_capture_line};
 pub use faults::{DescriptionFault, EngineFault, LineKind, fault_line, status_of};
+pub use hex_digits::HexDigits;
 pub use limits::{MAX_CAPTURE_LINE, MAX_DESCRIPTION, MAX_DIVIDER, MAX_INPUT};
 pub use lines::is_divider;
 pub use port::Port;

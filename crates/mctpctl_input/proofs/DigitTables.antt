@@ -1,0 +1,176 @@
+-- A text that is looked up in a table of digits is read as `hex` reads it.
+use Rattle.std.proofs.Common.{◌≡◌, ◌<◌, ◌≤◌, ◌+◌, ◌*◌, ◌/◌, ◌%◌, ◌⊎◌, inl, inr, ℕ, Bool, true, false, List, [], ◌∷◌, length, take, drop, slice_index, slice_set, Option, None, Some, Result, Ok, Err, MatchResult, refl, sym, ap, ◌∙◌, zero-add, arith}
+use Rattle.std.proofs.lemmas.Bool.{cases_lt}
+use Rattle.std.proofs.lemmas.List.{get_or-set_same, get_or-set_other}
+use Rattle.hex.specs.Hex.{decode_pairs, decode_sized, digit_or_error, hex_digit_value, pair_value, ◌>>=◌}
+use Rattle.hex.specs.declared.error.FromHexError.{FromHexError}
+use Rattle.hex.specs.declared.error.FromHexError.TheVariants.{InvalidHexCharacter}
+use Rattle.hex.proofs.OnLiterals.{hex_on_literals}
+use Rattle.hex.proofs.Pairs.{prepend, decode_step, decode_err, decode_done, decode_sized-pairs}
+use Rattle.mctpctl_input.specs.declared.hex_digits.TheConstants.{MAX_DIGIT, NO_DIGIT}
+use Rattle.mctpctl_input.specs.HexDigits.{TellsDigits, value_or_none}
+
+-- ---- what `hex` says of one byte, after a `0`
+
+-- one digit's byte, or the fault at its place
+abbrev digit_byte : ℕ → Option ℕ → Result (List ℕ) FromHexError
+digit_byte byte (Some value) = Ok (value ∷ [])
+digit_byte byte None = Err (InvalidHexCharacter byte 1)
+
+one_byte : (byte : ℕ) (digit : Option ℕ)
+    → ((digit_or_error byte 1 digit >>= (λ low. Ok (0 * 16 + low))) >>= (λ read. Ok (read ∷ [])))
+    ≡ digit_byte byte digit
+one_byte byte (Some value) = ap (λ n. Ok (n ∷ [])) (zero-add value)
+one_byte byte None = refl
+
+after_zero : (byte : ℕ) → decode_sized (48 ∷ byte ∷ []) 1 ≡ digit_byte byte (hex_digit_value byte)
+unfolding hex_on_literals
+after_zero byte = one_byte byte (hex_digit_value byte)
+
+-- what was answered and written is what was read
+abbrev Answers : Result (List ℕ) FromHexError → Result Unit FromHexError → List ℕ → Type 0
+Answers read result out = MatchResult read (λ bytes. (result ≡ Ok tt) × (out ≡ bytes)) (λ fault. result ≡ Err fault)
+
+read_digit : (byte : ℕ) (digit : Option ℕ) (out : List ℕ) → Answers (digit_byte byte digit) (Ok tt) out
+    → slice_index out 0 ≡ value_or_none digit
+read_digit byte (Some value) out h = rw h.1 refl
+read_digit byte None out h = cc h
+
+no_digit : (byte : ℕ) (digit : Option ℕ) (fault : FromHexError) (out : List ℕ)
+    → Answers (digit_byte byte digit) (Err fault) out → NO_DIGIT ≡ value_or_none digit
+no_digit byte (Some value) fault out h = cc h.0
+no_digit byte None fault out h = refl
+
+pub digit_read : (byte : ℕ) (out : List ℕ) → Answers (decode_sized (48 ∷ byte ∷ []) 1) (Ok tt) out
+    → slice_index out 0 ≡ value_or_none (hex_digit_value byte)
+digit_read byte out h = read_digit byte (hex_digit_value byte) out (rw (after_zero byte) at h)
+
+pub digit_refused : (byte : ℕ) (fault : FromHexError) (out : List ℕ)
+    → Answers (decode_sized (48 ∷ byte ∷ []) 1) (Err fault) out → NO_DIGIT ≡ value_or_none (hex_digit_value byte)
+digit_refused byte fault out h = no_digit byte (hex_digit_value byte) fault out (rw (after_zero byte) at h)
+
+-- ---- one place of a table
+
+some_digit : (digit : Option ℕ) (value : ℕ) → value ≡ value_or_none digit → value ≤ MAX_DIGIT → digit ≡ Some value
+some_digit (Some known) value e small = ap Some (sym e)
+some_digit None value e small = absurd (omega arith)
+
+digit_small : (byte value : ℕ) → hex_digit_value byte ≡ Some value → value < 16
+digit_small byte value is = grind (arith)
+
+none_digit : (byte : ℕ) (digit : Option ℕ) (value : ℕ) → hex_digit_value byte ≡ digit → value ≡ value_or_none digit
+    → MAX_DIGIT < value → digit ≡ None
+none_digit byte (Some known) value is e large = absurd (omega (arith, digit_small byte known is))
+none_digit byte None value is e large = refl
+
+-- ---- two places of a table, for a pair of digits
+
+-- the first or the second is no digit
+abbrev IsNone : List ℕ → ℕ → ℕ → Type 0
+IsNone values first second =
+    (MAX_DIGIT < slice_index values first)
+    ⊎ ((slice_index values first ≤ MAX_DIGIT) × (MAX_DIGIT < slice_index values second))
+
+pair_read : (values : List ℕ) (first second i : ℕ) → TellsDigits values → first < 256 → second < 256
+    → slice_index values first ≤ MAX_DIGIT → slice_index values second ≤ MAX_DIGIT
+    → pair_value first second i ≡ Ok (slice_index values first * 16 + slice_index values second)
+unfolding TellsDigits
+pair_read values first second i told f s sh sl =
+    let h = some_digit (hex_digit_value first) (slice_index values first) (told first f) sh in
+    let l = some_digit (hex_digit_value second) (slice_index values second) (told second s) sl in
+    rw (h, l) refl
+
+low_refused : (first second i : ℕ) (digit : Option ℕ) → hex_digit_value first ≡ digit → hex_digit_value second ≡ None
+    → (fault : FromHexError) × (pair_value first second i ≡ Err fault)
+low_refused first second i None is none = (InvalidHexCharacter first i, rw is refl)
+low_refused first second i (Some value) is none = (InvalidHexCharacter second (i + 1), rw (is, none) refl)
+
+pair_refused : (values : List ℕ) (first second i : ℕ) → TellsDigits values → first < 256 → second < 256
+    → IsNone values first second → (fault : FromHexError) × (pair_value first second i ≡ Err fault)
+unfolding TellsDigits
+pair_refused values first second i told f s (inl high) =
+    let none = none_digit first (hex_digit_value first) (slice_index values first) refl (told first f) high in
+    (InvalidHexCharacter first i, rw none refl)
+pair_refused values first second i told f s (inr low) =
+    let none = none_digit second (hex_digit_value second) (slice_index values second) refl (told second s) low.1 in
+    low_refused first second i (hex_digit_value first) refl none
+
+-- ---- a text of which the bytes before a place have been read
+
+-- what `hex` reads of the text is these bytes and what it reads of the rest
+abbrev pub HasRead : List ℕ → List ℕ → ℕ → Type 0
+HasRead digits bytes place =
+    decode_pairs 0 digits ≡ prepend (take place bytes) (decode_pairs (2 * place) (drop (2 * place) digits))
+
+-- the pair at a place, where each digit is a byte
+pub record PairAt (digits : List ℕ) (place first second : ℕ) : Type 0 where
+  pub within : 2 * place + 1 < length digits
+  pub first_is : first ≡ slice_index digits (2 * place)
+  pub second_is : second ≡ slice_index digits (2 * place + 1)
+  pub first_byte : first < 256
+  pub second_byte : second < 256
+
+pair_value_at : (digits : List ℕ) (place first second : ℕ) → PairAt digits place first second
+    → pair_value (slice_index digits (2 * place)) (slice_index digits (2 * place + 1)) (2 * place)
+    ≡ pair_value first second (2 * place)
+pair_value_at digits place first second pair =
+    ap (λ a. pair_value a (slice_index digits (2 * place + 1)) (2 * place)) (sym pair.first_is)
+    ∙ ap (λ b. pair_value first b (2 * place)) (sym pair.second_is)
+
+pub pair_added : (values digits bytes : List ℕ) (place first second : ℕ) → TellsDigits values
+    → PairAt digits place first second → place < length bytes
+    → slice_index values first ≤ MAX_DIGIT → slice_index values second ≤ MAX_DIGIT → HasRead digits bytes place
+    → HasRead digits (slice_set bytes place (slice_index values first * 16 + slice_index values second)) (place + 1)
+pair_added values digits bytes place first second told pair room high low so_far =
+    let read = pair_read values first second (2 * place) told pair.first_byte pair.second_byte high low in
+    decode_step digits bytes place _ pair.within room (pair_value_at digits place first second pair ∙ read) so_far
+
+pub pair_stops : (values digits bytes : List ℕ) (place first second : ℕ) → TellsDigits values
+    → PairAt digits place first second → IsNone values first second → HasRead digits bytes place
+    → (fault : FromHexError) × (decode_pairs 0 digits ≡ Err fault)
+pair_stops values digits bytes place first second told pair none so_far =
+    let refused = pair_refused values first second (2 * place) told pair.first_byte pair.second_byte none in
+    let bad = pair_value_at digits place first second pair ∙ refused.1 in
+    (refused.0, decode_err digits bytes place refused.0 pair.within bad so_far)
+
+-- ---- what is answered of a text
+
+-- whether the text was read, and the bytes
+abbrev pub AnswersRead : Result (List ℕ) FromHexError → Bool → List ℕ → Type 0
+AnswersRead read result bytes =
+    MatchResult read (λ decoded. (result ≡ true) × (bytes ≡ decoded)) (λ fault. result ≡ false)
+
+pub not_read : (read : Result (List ℕ) FromHexError) (bytes : List ℕ) → (fault : FromHexError) × (read ≡ Err fault)
+    → AnswersRead read false bytes
+not_read read bytes refused = rw refused.1 refl
+
+pub all_read : (digits bytes : List ℕ) (room place : ℕ) → length bytes ≤ place → room ≤ place → length digits % 2 ≡ 0
+    → length digits / 2 ≡ room → HasRead digits bytes place → AnswersRead (decode_sized digits room) true bytes
+all_read digits bytes room place full all even half so_far =
+    let read = decode_sized-pairs digits room even half ∙ decode_done digits bytes place full (omega arith) so_far in
+    rw read (refl, refl)
+
+-- ---- a table that is being filled
+
+-- the first bytes of a table have been asked for
+unfoldable pub TellsFront : List ℕ → ℕ → Type 0
+TellsFront values n = (byte : ℕ) → byte < n → slice_index values byte ≡ value_or_none (hex_digit_value byte)
+
+pub none_told : (values : List ℕ) → TellsFront values 0
+unfolding TellsFront
+none_told values byte below = absurd (omega arith)
+
+pub one_more_told : (values : List ℕ) (n value : ℕ) → n < length values → TellsFront values n
+    → value ≡ value_or_none (hex_digit_value n) → TellsFront (slice_set values n value) (n + 1)
+unfolding TellsFront
+one_more_told values n value room told is byte below =
+    elim (cases_lt byte n) [
+      | inl before ↦ get_or-set_other values n byte value 0 (λ same. absurd (omega arith)) ∙ told byte before
+      | inr last ↦
+          let same : byte ≡ n = omega arith in
+          rw same (get_or-set_same values n value 0 room ∙ is)
+    ]
+
+pub all_told : (values : List ℕ) (n : ℕ) → 256 ≤ n → TellsFront values n → TellsDigits values
+unfolding TellsFront TellsDigits
+all_told values n all told byte below = told byte (omega arith)
