@@ -42,7 +42,7 @@ impl LineTask for Responder<SimDevice> {
             out.new.items result }
     {
         let last = self.last_moment();
-        let moment = match read_capture_line(line, last.get(), &mut room.packet) {
+        let moment = match read_capture_line(&room.digits, line, last.get(), &mut room.packet) {
             Ok(CaptureLine::Packet { moment }) => moment,
             Ok(CaptureLine::Skipped) => return Ok(()),
             Err(CaptureFault::Line(kind)) => return Err(EngineFault::Line(number, kind)),

@@ -8,13 +8,15 @@ ghost use Rattle.mctpctl_input.specs.Pieces.{Takes, Finishes};
 
 use line_words::split_line;
 use mctp_packet::Body;
-use mctpctl_input::{EngineFault, LineKind, MAX_CAPTURE_LINE, MAX_INPUT, Port, Run};
+use mctpctl_input::{EngineFault, HexDigits, LineKind, MAX_CAPTURE_LINE, MAX_INPUT, Port, Run};
 use std::alloc::Global;
 use std::io::Write;
 
-/// Room for what comes of one line, which is used again for the next.
+/// Room for what comes of one line, which is used again for the next, and what reads its digits.
 #[derive(Drop)]
 pub struct LineRoom {
+    /// What reads the digits of its packet.
+    pub digits: HexDigits,
     /// For the bytes of its packet.
     pub packet: Vec<u8>,
     /// For a message that this packet completes, or that answers it.
@@ -24,13 +26,14 @@ pub struct LineRoom {
 }
 
 impl LineRoom {
-    /// Room that holds nothing.
+    /// Room that holds nothing yet.
     pub fn new(alloc: Global) -> LineRoom
         ensures packet { result.packet.items ≡ [] }
         ensures message { result.message.items ≡ [] }
         ensures text { result.text.items ≡ [] }
     {
         LineRoom {
+            digits: HexDigits::new(),
             packet: Vec::new(alloc),
             message: Body::new(),
             text: Vec::new(alloc),

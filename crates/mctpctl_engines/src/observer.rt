@@ -123,7 +123,7 @@ impl<F: MessageForm> LineTask for Observer<F> {
         ensures meets { AddsLine number (observed_step F.line (observed_of self.old) line.now) (observed_of self.new)
             out.old.items out.new.items result }
     {
-        let moment = match read_capture_line(line, self.last, &mut room.packet) {
+        let moment = match read_capture_line(&room.digits, line, self.last, &mut room.packet) {
             Ok(CaptureLine::Packet { moment }) => moment,
             Ok(CaptureLine::Skipped) => return Ok(()),
             Err(CaptureFault::Line(kind)) => return Err(EngineFault::Line(number, kind)),
@@ -131,6 +131,7 @@ impl<F: MessageForm> LineTask for Observer<F> {
         };
         room.text.clear();
         let LineRoom {
+            digits: _,
             packet,
             message,
             text,
