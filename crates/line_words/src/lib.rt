@@ -6,4 +6,4 @@ mod numbers;
 mod words;
 
 pub use numbers::{MAX_DIGITS, read_decimal, read_number, read_value};
-pub use words::{first_word, split_line, split_word, without_cr};
+pub use words::{first_number, first_word, split_line, split_number, split_word, without_cr};

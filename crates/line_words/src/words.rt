@@ -1,9 +1,11 @@
 //! The lines of a text, and the words of a line.
 
-ghost use Rattle.std.specs.Prelude.{◌≡◌, ◌+◌, ◌++◌, ◌∷◌, [], ◌==◌, IfSome, IfNone, length, position, ◌≢◌, slice_get, Some};
+ghost use Rattle.std.specs.Prelude.{◌≡◌, ◌+◌, ◌++◌, ◌∷◌, [], ◌==◌, IfSome, IfNone, length, position, ◌≢◌, slice_get, Some, take, unwrap_or};
 ghost use Rattle.line_words.specs.TextLines.{HasNoFeed, lines_of};
 ghost use Rattle.line_words.specs.Lines.{said_words, without_cr, words_of};
+ghost use Rattle.line_words.specs.Numbers.{decimal_of};
 
+use crate::numbers::{leading_digits, read_decimal};
 use memchr::memchr;
 
 /// The first line, and what follows its LF; `None` where there is no LF, and all is one line.
@@ -50,6 +52,20 @@ pub fn first_word(line: &[u8]) -> Option<(&[u8], &[u8])>
     Some((word, rest))
 }
 
+/// The first word of a line as [`first_word`] has it, with the number that it spells, as [`split_number`] reads it,
+/// and what follows the word.
+pub fn first_number(line: &[u8]) -> Option<(&[u8], Option<u64>, &[u8])>
+    ensures some { IfSome result (λ p. said_words line.now ≡ p.0.now ∷ words_of p.2.now) }
+    ensures number { IfSome result (λ p. p.1 ≡ decimal_of p.0.now) }
+    ensures none { IfNone result (said_words line.now ≡ []) }
+{
+    let (word, number, rest) = split_number(without_cr(line))?;
+    if word.first() == Some(&b'#') {
+        return None;
+    }
+    Some((word, number, rest))
+}
+
 /// The first word of a text, and what follows it; `None` where there are spaces alone. A tab is part of
 /// a word.
 pub fn split_word(text: &[u8]) -> Option<(&[u8], &[u8])>
@@ -62,6 +78,38 @@ pub fn split_word(text: &[u8]) -> Option<(&[u8], &[u8])>
     }
     let end = first_space(text).unwrap_or(text.len());
     Some((&text[..end], &text[end..]))
+}
+
+/// The first word of a text, the number that it spells as [`read_decimal`] reads it, and what follows the word;
+/// `None` where there are spaces alone. Each digit is looked at once.
+pub fn split_number(text: &[u8]) -> Option<(&[u8], Option<u64>, &[u8])>
+    ensures some { IfSome result (λ p. words_of text.now ≡ p.0.now ∷ words_of p.2.now) }
+    ensures number { IfSome result (λ p. p.1 ≡ decimal_of p.0.now) }
+    ensures none { IfNone result (words_of text.now ≡ []) }
+{
+    let text = trim_spaces(text);
+    if text.is_empty() {
+        return None;
+    }
+    if let Some((number, end)) = leading_number(text) {
+        return Some((&text[..end], Some(number), &text[end..]));
+    }
+    let end = first_space(text).unwrap_or(text.len());
+    let word = &text[..end];
+    Some((word, read_decimal(word), &text[end..]))
+}
+
+/// The number that a text begins with, and where it ends, if it ends there where the text does or a space is.
+fn leading_number(text: &[u8]) -> Option<(u64, usize)>
+    ensures number { IfSome result (λ p. Some p.0 ≡ decimal_of (take p.1 text.now)) }
+    ensures end { IfSome result (λ p. p.1 ≡ unwrap_or (position (λ b. b == 32) text.now) (length text.now)) }
+{
+    let (number, end) = leading_digits(text);
+    let ends = match text.get(end) {
+        Some(byte) => *byte == b' ',
+        None => true,
+    };
+    if end > 0 && ends { Some((number, end)) } else { None }
 }
 
 /// The text without the spaces that it begins with.

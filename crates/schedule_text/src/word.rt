@@ -1,11 +1,12 @@
 //! A word of a line, and the numbers that it may spell.
 
 ghost use Rattle.std.specs.Prelude.{◌≡◌, ◌≤◌, IfOk};
+ghost use Rattle.line_words.specs.Numbers.{decimal_of};
 ghost use Rattle.schedule_text.specs.CommandWords.{is};
 ghost use Rattle.schedule_text.specs.WordValues.{any_number, any_value, eid_in, moment_in, number_up_to};
 
 use crate::LineFaultKind;
-use line_words::{read_decimal, read_number, read_value};
+use line_words::read_value;
 use mctp_packet::{Eid, MAX_EID, MAX_MOMENT, Moment};
 use std::marker::Model;
 
@@ -24,32 +25,40 @@ pub const MAX_TIMEOUT: u64 = 60_000;
 /// The most words of a command that is well formed: `setstate ID` and eight states.
 pub const MAX_COMMAND_WORDS: usize = 10;
 
-/// A word of a line.
+/// A word of a line, with the number that it spells, which is read as the word's end is looked for.
 #[derive(Drop)]
 pub(crate) struct Word<'a> {
     bytes: &'a [u8],
+    number: Option<u64>,
 }
 
 impl<'a> Model for Word<'a> {
-    ghost use Rattle.std.specs.Prelude.{List, ℕ};
+    ghost use Rattle.std.specs.Prelude.{◌≡◌, List, ℕ};
+    ghost use Rattle.line_words.specs.Numbers.{decimal_of};
 
     ghost Value = { List ℕ };
 
     ghost view = { λ word. word.bytes.now };
+
+    ghost invariant = { λ word. word.number ≡ decimal_of word.bytes.now };
 }
 
 impl Default for Word<'_> {
     fn default() -> Self {
-        Word { bytes: b"" }
+        Word {
+            bytes: b"",
+            number: None,
+        }
     }
 }
 
 impl<'a> Word<'a> {
-    /// The word of these bytes.
-    pub(crate) fn new(bytes: &'a [u8]) -> Word<'a>
+    /// The word of these bytes, which spell this number.
+    pub(crate) fn new(bytes: &'a [u8], number: Option<u64>) -> Word<'a>
+        requires { number ≡ decimal_of bytes.now }
         ensures { result ≡ bytes.now }
     {
-        Word { bytes }
+        Word { bytes, number }
     }
 
     /// Its bytes.
@@ -71,14 +80,17 @@ impl<'a> Word<'a> {
         ensures value { result ≡ number_up_to most self.now }
         ensures range { IfOk result (λ number. number ≤ most) }
     {
-        read_number(self.bytes, most).ok_or(LineFaultKind::Number)
+        match self.number {
+            Some(number) if number <= most => Ok(number),
+            _ => Err(LineFaultKind::Number),
+        }
     }
 
     /// The number of at most 16 digits that it spells.
     pub(crate) fn any_number(&self) -> Result<u64, LineFaultKind>
         ensures { result ≡ any_number self.now }
     {
-        read_decimal(self.bytes).ok_or(LineFaultKind::Number)
+        self.number.ok_or(LineFaultKind::Number)
     }
 
     /// The value of at most 16 digits that it spells, with a sign or without.

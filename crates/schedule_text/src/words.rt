@@ -8,7 +8,7 @@ ghost use Rattle.schedule_text.specs.declared.line_fault.LineFaultKind.TheVarian
 use crate::word::Word;
 use crate::{LineFaultKind, MAX_COMMAND_WORDS};
 use arrayvec::ArrayVec;
-use line_words::{first_word, split_word};
+use line_words::{first_number, split_number, split_word};
 use std::marker::Model;
 
 /// The words of a line that are not read yet.
@@ -32,8 +32,8 @@ pub(crate) fn words_in(line: &[u8]) -> Option<(Word<'_>, Words<'_>)>
     ensures some { IfSome result (λ p. said_words line.now ≡ p.0 ∷ p.1) }
     ensures none { IfNone result (said_words line.now ≡ []) }
 {
-    let (first, text) = first_word(line)?;
-    Some((Word::new(first), Words { text }))
+    let (first, number, text) = first_number(line)?;
+    Some((Word::new(first, number), Words { text }))
 }
 
 impl<'a> Words<'a> {
@@ -44,11 +44,11 @@ impl<'a> Words<'a> {
         ensures same { OnErr result (self.new ≡ self.old) }
         ensures err { IfErr result (λ kind. kind ≡ kinds.Words) }
     {
-        let Some((word, text)) = split_word(self.text) else {
+        let Some((word, number, text)) = split_number(self.text) else {
             return Err(LineFaultKind::Words);
         };
         self.text = text;
-        Ok(Word::new(word))
+        Ok(Word::new(word, number))
     }
 
     /// The one word that there has to be.
