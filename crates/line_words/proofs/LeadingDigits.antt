@@ -1,5 +1,5 @@
 -- The digits that a text begins with: their value, digit by digit, and where they end.
-use Rattle.std.proofs.Common.{◌≡◌, ℕ, ◌+◌, ◌-◌, ◌*◌, ◌^◌, ◌<◌, ◌≤◌, ◌==◌, ◌&&◌, Bool, true, false, cond, nat_lt, nat_le, List, [], ◌∷◌, ◌++◌, length, take, drop, get_or, None, Some, position, unwrap_or, refl, sym, ap, ◌∙◌, add-one, length-append, length-take, get_or-take, take-suc, arith, rules}
+use Rattle.std.proofs.Common.{◌≡◌, ℕ, ◌+◌, ◌-◌, ◌*◌, ◌^◌, ◌<◌, ◌≤◌, ◌==◌, ◌&&◌, Bool, true, false, cond, nat_lt, nat_le, List, [], ◌∷◌, ◌++◌, length, take, get_or, None, Some, position, unwrap_or, refl, sym, ap, ◌∙◌, add-one, length-append, length-take, get_or-take, take-suc, arith, rules}
 use Rattle.std.specs.List.{list_all, position_or_len}
 use Rattle.std.proofs.Math.Nat.{pow-suc}
 use Rattle.std.proofs.lemmas.List.Folds.{list_all_more}
@@ -8,7 +8,6 @@ use Rattle.std.proofs.lemmas.Bool.Decides.{nat_tests}
 use Rattle.std.proofs.lemmas.List.{get_or_default}
 use Rattle.line_words.specs.declared.numbers.TheConstants.{MAX_DIGITS}
 use Rattle.line_words.specs.Numbers.{decimal_of, decimal_value, is_digit}
-use Rattle.line_words.proofs.DecimalPlaces.{next_fits}
 
 one_more : (digit place rest last : ℕ) → digit * (place * 10) + (rest * 10 + last) ≡ (digit * place + rest) * 10 + last
 one_more digit place rest last = omega arith
@@ -71,9 +70,9 @@ pub ends_at : (text : List ℕ) (count : ℕ) → list_all is_digit (take count 
     → count ≡ unwrap_or (position (λ b. b == 32) text) (length text)
 ends_at text count digits within space =
     let first : position_or_len (λ b. b == 32) text ≡ count =
-        position_or_len_is (λ b. b == 32) text count 0 within
-        (λ k before. no_space_before text count k digits before within)
-        (λ inside. rw (space inside) refl) in
+    position_or_len_is (λ b. b == 32) text count 0 within
+    (λ k before. no_space_before text count k digits before within)
+    (λ inside. rw (space inside) refl) in
     rw first (or_end count (length text) (nat_lt count (length text)) refl within)
 
 pub spells : (text : List ℕ) (count value : ℕ) → 0 < count → count ≤ MAX_DIGITS → count ≤ length text

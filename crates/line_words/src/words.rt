@@ -45,10 +45,7 @@ pub fn first_word(line: &[u8]) -> Option<(&[u8], &[u8])>
     ensures some { IfSome result (λ p. said_words line.now ≡ p.0.now ∷ words_of p.1.now) }
     ensures none { IfNone result (said_words line.now ≡ []) }
 {
-    let (word, rest) = split_word(without_cr(line))?;
-    if word.first() == Some(&b'#') {
-        return None;
-    }
+    let (word, _, rest) = first_number(line)?;
     Some((word, rest))
 }
 
@@ -72,12 +69,8 @@ pub fn split_word(text: &[u8]) -> Option<(&[u8], &[u8])>
     ensures some { IfSome result (λ p. words_of text.now ≡ p.0.now ∷ words_of p.1.now) }
     ensures none { IfNone result (words_of text.now ≡ []) }
 {
-    let text = trim_spaces(text);
-    if text.is_empty() {
-        return None;
-    }
-    let end = first_space(text).unwrap_or(text.len());
-    Some((&text[..end], &text[end..]))
+    let (word, _, rest) = split_number(text)?;
+    Some((word, rest))
 }
 
 /// The first word of a text, the number that it spells as [`read_decimal`] reads it, and what follows the word;
@@ -109,7 +102,11 @@ fn leading_number(text: &[u8]) -> Option<(u64, usize)>
         Some(byte) => *byte == b' ',
         None => true,
     };
-    if end > 0 && ends { Some((number, end)) } else { None }
+    if end > 0 && ends {
+        Some((number, end))
+    } else {
+        None
+    }
 }
 
 /// The text without the spaces that it begins with.

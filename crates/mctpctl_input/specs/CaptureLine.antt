@@ -4,7 +4,7 @@ use Rattle.std.specs.Prelude.{Option, None, Some, IfSome, Result, Ok, Err, IfOk,
 use Rattle.hex.specs.Hex.{decode_of}
 use Rattle.hex.specs.declared.error.FromHexError.{FromHexError}
 use Rattle.line_words.specs.Lines.{said_words}
-use Rattle.line_words.specs.Numbers.{number_of}
+use Rattle.line_words.specs.Numbers.{decimal_of, up_to}
 use Rattle.mctpctl_input.specs.declared.limits.TheConstants.{MAX_CAPTURE_LINE}
 use Rattle.mctp_packet.specs.declared.TheConstants.{MAX_MOMENT}
 use Rattle.mctpctl_input.specs.declared.faults.LineKind.{LineKind}
@@ -24,9 +24,12 @@ abbrev pub moment_from : Option ℕ → ℕ → Result ℕ LineKind
 moment_from None last = Err Number
 moment_from (Some moment) last = if nat_lt moment last then Err BackInTime else Ok moment
 
--- the moment that a word spells, in its range and not before the last one
+-- the moment of the number that a word spells, in its range and not before the last one
+abbrev pub moment_spelled : Option ℕ → ℕ → Result ℕ LineKind
+moment_spelled number last = moment_from (up_to MAX_MOMENT number) last
+
 abbrev pub moment_of : List ℕ → ℕ → Result ℕ LineKind
-moment_of word last = moment_from (number_of MAX_MOMENT word) last
+moment_of word last = moment_spelled (decimal_of word) last
 
 abbrev pub packet_at : ℕ → Result (List ℕ) FromHexError → Result (Option TimedPacket) LineKind
 packet_at moment (Ok bytes) = Ok (Some (record { moment = moment; bytes = bytes }))

@@ -3,13 +3,13 @@
 ghost use Rattle.std.specs.Prelude.{◌≡◌, ◌≤◌, ℕ, MatchResult, drop, Ok, Err, IfOk, IfErr, OnOk, true};
 ghost use Rattle.line_words.specs.Lines.{words_of};
 ghost use Rattle.mctp_packet.specs.Memories.{out_of_memory};
-ghost use Rattle.mctpctl_input.specs.CaptureLine.{IsInTime, ReadsLine, capture_of, packet_in, packet_at, packet_word, timed_packet, moment_of, ReportsFault};
+ghost use Rattle.mctpctl_input.specs.CaptureLine.{IsInTime, ReadsLine, capture_of, packet_in, packet_at, packet_word, timed_packet, moment_spelled, ReportsFault};
 ghost use Rattle.hex.specs.Hex.{decode_of};
 
 use crate::faults::LineKind;
 use crate::hex_digits::HexDigits;
 use crate::limits::MAX_CAPTURE_LINE;
-use line_words::{first_word, read_number, split_word};
+use line_words::{first_number, split_word};
 use mctp_packet::{MAX_MOMENT, Memory};
 use std::alloc::AllocError;
 use thiserror::Error;
@@ -65,21 +65,21 @@ pub fn read_capture_line(
     if line.len() > MAX_CAPTURE_LINE {
         return Err(CaptureFault::Line(LineKind::LongLine));
     }
-    let Some((first, rest)) = first_word(line) else {
+    let Some((_, moment, rest)) = first_number(line) else {
         return Ok(CaptureLine::Skipped);
     };
-    read_packet(digits, first, rest, last, packet)
+    read_packet(digits, moment, rest, last, packet)
 }
 
-/// The packet of a line whose first word is `moment`, before `rest`.
+/// The packet of a line whose first word, before `rest`, spells the number `moment`, if it spells one.
 fn read_packet(
     digits: &HexDigits,
-    moment: &[u8],
+    moment: Option<u64>,
     rest: &[u8],
     last: u64,
     packet: &mut Vec<u8>,
 ) -> Result<CaptureLine, CaptureFault>
-    ensures { ReadsLine (timed_packet (packet_word (words_of rest.now)) (moment_of moment.now last)) last
+    ensures { ReadsLine (timed_packet (packet_word (words_of rest.now)) (moment_spelled moment last)) last
         packet.new.items result }
 {
     if !is_plain(digits, rest, packet) {
@@ -93,12 +93,12 @@ fn read_packet(
 
 /// As `read_packet`, word by word.
 fn read_words(
-    moment: &[u8],
+    moment: Option<u64>,
     rest: &[u8],
     last: u64,
     packet: &mut Vec<u8>,
 ) -> Result<CaptureLine, CaptureFault>
-    ensures { ReadsLine (timed_packet (packet_word (words_of rest.now)) (moment_of moment.now last)) last
+    ensures { ReadsLine (timed_packet (packet_word (words_of rest.now)) (moment_spelled moment last)) last
         packet.new.items result }
 {
     let digits = read_packet_word(rest).map_err(CaptureFault::Line)?;
@@ -150,16 +150,15 @@ fn read_hex(digits: &[u8], packet: &mut Vec<u8>) -> Result<(), CaptureFault>
     }
 }
 
-/// The moment that a word spells, where it is in its range and not before the last one.
-fn read_moment(word: &[u8], last: u64) -> Result<u64, LineKind>
-    ensures value { result ≡ moment_of word.now last }
+/// The moment of the number that a word spells, where it is in its range and not before the last one.
+fn read_moment(number: Option<u64>, last: u64) -> Result<u64, LineKind>
+    ensures value { result ≡ moment_spelled number last }
     ensures range { IfOk result (λ moment. (last ≤ moment) × (moment ≤ MAX_MOMENT)) }
 {
-    let Some(moment) = read_number(word, MAX_MOMENT) else {
-        return Err(LineKind::Number);
-    };
-    if moment < last {
-        return Err(LineKind::BackInTime);
+    match number {
+        Some(moment) if moment > MAX_MOMENT => Err(LineKind::Number),
+        Some(moment) if moment < last => Err(LineKind::BackInTime),
+        Some(moment) => Ok(moment),
+        None => Err(LineKind::Number),
     }
-    Ok(moment)
 }

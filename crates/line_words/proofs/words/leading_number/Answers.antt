@@ -8,7 +8,7 @@ pub returns-then-ends-clause-number : goal.returns-then-ends-clause-number
 returns-then-ends-clause-number c =
     let led = c.leading_digits-number.ensures in
     spells c.args.text.now c.leading_digits-number.result.1 c.leading_digits-number.result.0 c.if-end-gt0.true led.few
-        led.within led.digits led.value
+    led.within led.digits led.value
 
 pub returns-then-ends-clause-end : goal.returns-then-ends-clause-end
 returns-then-ends-clause-end c =

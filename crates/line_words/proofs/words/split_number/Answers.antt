@@ -1,5 +1,5 @@
 -- The first space past the spaces in front ends the first word, and so do the digits before it.
-use Rattle.std.proofs.Common.{◌≡◌, ◌<◌, ◌∷◌, ℕ, List, unwrap_or, length, take, drop, position, ◌==◌, ◌≢◌, Some, slice_get, sym, ap, ◌∙◌, arith}
+use Rattle.std.proofs.Common.{◌<◌, ◌∷◌, unwrap_or, length, take, sym, ap, ◌∙◌, arith}
 use Rattle.std.proofs.lemmas.List.{take_rest}
 use Rattle.std.proofs.lemmas.Grind.{common_steps}
 use Rattle.line_words.proofs.WordSplits.{first_word}
