@@ -8,5 +8,6 @@ pub mod SpelledCommands
 pub mod SpelledLines
 pub mod SpelledWords
 pub mod StateWords
+pub mod StepsSpelled
 pub mod ScheduleKept
 pub mod Numbers

@@ -1,6 +1,6 @@
 -- What every schedule keeps, through one more requester or step.
-use Rattle.std.proofs.Common.{◌≡◌, ℕ, suc, ◌-◌, Some, arith, ◌≤◌, Bool, true, false, List, [], ◌∷◌, ◌++◌, refl, sym, ap, ◌∙◌, length}
-use Rattle.std.specs.Prelude.{◌==◌, ◌||◌, slice_get}
+use Rattle.std.proofs.Common.{◌≡◌, ℕ, ◌≤◌, Bool, true, false, List, [], ◌∷◌, ◌++◌, refl, sym, ap, ◌∙◌}
+use Rattle.std.specs.Prelude.{◌==◌, ◌||◌}
 use Rattle.std.proofs.lemmas.Bool.{ne_eqb, eqb-false, false≢true}
 use Rattle.schedule_text.specs.Schedules.{Spelled, IsSchedule, NeverGoBack, AreDistinct, AreKnown, has_requester, is_known, last_from}
 use Rattle.schedule_text.specs.declared.step.RequesterLine.{RequesterLine}
@@ -72,11 +72,3 @@ with_requester_kept before line kept none = record {
   distinct = requester_distinct before.requesters line kept.distinct none;
   known = all_stay_known before.requesters line before.steps kept.known;
 }
-
--- the last step's moment
-pub last_is : (moment : ℕ) (steps : List Step) (step : Step) → Some step ≡ slice_get steps (length steps - 1) → last_from moment steps ≡ step.moment
-last_is moment [] step e = cc
-last_is moment (first ∷ []) step e = let same : Some step ≡ Some first = e in ap (λ (s : Step). s.moment) (let found : first ≡ step = cc in found)
-last_is moment (first ∷ next ∷ steps) step e =
-    let at : length (first ∷ next ∷ steps) - 1 ≡ suc (length (next ∷ steps) - 1) = omega arith in
-    last_is first.moment (next ∷ steps) step (e ∙ ap (slice_get (first ∷ next ∷ steps)) at)

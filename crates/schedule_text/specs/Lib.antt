@@ -4,5 +4,6 @@ pub mod LineFaults
 pub mod LineSpelling
 pub mod LineWords
 pub mod Schedules
+pub mod StepColumns
 pub mod WordValues
 pub mod Laws

@@ -2,17 +2,17 @@
 #![tactic(auto)]
 
 mod command_words;
-mod kept_command;
 pub mod laws;
 mod line;
 mod line_fault;
 mod schedule;
 mod step;
+mod steps;
 mod word;
 mod words;
 
-pub use kept_command::KeptCommand;
 pub use line_fault::{LineFault, LineFaultKind};
 pub use schedule::Schedule;
-pub use step::{Action, RequesterLine, Step};
+pub use step::{Action, ActionRef, RequesterLine, Step, StepRef};
+pub use steps::{Steps, StepsIter};
 pub use word::{MAX_BYTE, MAX_COMMAND_WORDS, MAX_HANDLE, MAX_ID, MAX_TIMEOUT};

@@ -1,16 +1,14 @@
 //! One line of a schedule.
 
-ghost use Rattle.std.specs.Prelude.{◌≡◌, Ok, IfOk, IfErr};
+ghost use Rattle.std.specs.Prelude.{◌≡◌};
 ghost use Rattle.line_words.specs.Lines.{said_words};
 ghost use Rattle.schedule_text.specs.LineWords.{action_named, line_of, only_eid, only_number, open_of, reply_of, requester_of, restart_of, sense_of, step_of};
-ghost use Rattle.schedule_text.specs.Schedules.{ReportsKind};
 
 use crate::command_words::read_command;
 use crate::word::Word;
 use crate::words::{Words, words_in};
-use crate::{Action, KeptCommand, LineFaultKind, RequesterLine, Step};
+use crate::{Action, LineFaultKind, RequesterLine, Step};
 use mctp_packet::Eid;
-use std::alloc::Global;
 
 /// What a line says.
 #[derive(Debug, Drop)]
@@ -24,9 +22,8 @@ pub(crate) enum Line {
 }
 
 /// What a line says, given without its LF.
-pub(crate) fn read_line(alloc: Global, line: &[u8]) -> Result<Line, LineFaultKind>
-    ensures ok { IfOk result (λ read. line_of (said_words line.now) ≡ Ok read) }
-    ensures err { IfErr result (λ kind. ReportsKind (line_of (said_words line.now)) kind) }
+pub(crate) fn read_line(line: &[u8]) -> Result<Line, LineFaultKind>
+    ensures { result ≡ line_of (said_words line.now) }
 {
     let Some((keyword, mut words)) = words_in(line) else {
         return Ok(Line::Nothing);
@@ -34,7 +31,7 @@ pub(crate) fn read_line(alloc: Global, line: &[u8]) -> Result<Line, LineFaultKin
     if keyword.is(b"requester") {
         read_requester(&mut words)
     } else if keyword.is(b"at") {
-        read_step(alloc, &mut words)
+        read_step(&mut words)
     } else {
         Err(LineFaultKind::Words)
     }
@@ -63,28 +60,22 @@ fn read_requester(words: &mut Words<'_>) -> Result<Line, LineFaultKind>
 }
 
 /// `at MS` and an action, by the words after the first.
-fn read_step(alloc: Global, words: &mut Words<'_>) -> Result<Line, LineFaultKind>
-    ensures ok { IfOk result (λ line. step_of words.old ≡ Ok line) }
-    ensures err { IfErr result (λ kind. ReportsKind (step_of words.old) kind) }
+fn read_step(words: &mut Words<'_>) -> Result<Line, LineFaultKind>
+    ensures { result ≡ step_of words.old }
 {
     let moment = words.next()?;
     let name = words.next()?;
-    let action = read_action(alloc, &name, words)?;
+    let action = read_action(&name, words)?;
     let moment = moment.moment()?;
     Ok(Line::Step(Step { moment, action }))
 }
 
 /// The action of this name, with the words after it.
-fn read_action(
-    alloc: Global,
-    name: &Word<'_>,
-    words: &mut Words<'_>,
-) -> Result<Action, LineFaultKind>
-    ensures ok { IfOk result (λ action. action_named name.now words.old ≡ Ok action) }
-    ensures err { IfErr result (λ kind. ReportsKind (action_named name.now words.old) kind) }
+fn read_action(name: &Word<'_>, words: &mut Words<'_>) -> Result<Action, LineFaultKind>
+    ensures { result ≡ action_named name.now words.old }
 {
     if name.is(b"open") {
-        read_open(alloc, words)
+        read_open(words)
     } else if name.is(b"tick") {
         let requester = only_eid(words)?;
         Ok(Action::Tick { requester })
@@ -121,14 +112,12 @@ fn only_number(words: &mut Words<'_>) -> Result<u64, LineFaultKind>
 
 /// `EID COMMAND`.
 #[tactic(auto, using(crate::proofs::LongLines::command_long))]
-fn read_open(alloc: Global, words: &mut Words<'_>) -> Result<Action, LineFaultKind>
-    ensures ok { IfOk result (λ action. open_of words.old ≡ Ok action) }
-    ensures err { IfErr result (λ kind. ReportsKind (open_of words.old) kind) }
+fn read_open(words: &mut Words<'_>) -> Result<Action, LineFaultKind>
+    ensures { result ≡ open_of words.old }
 {
     let eid = words.next()?;
     let command = read_command(&words.rest()?)?;
     let requester = eid.eid()?;
-    let command = KeptCommand::new(alloc, command)?;
     Ok(Action::Open { requester, command })
 }
 

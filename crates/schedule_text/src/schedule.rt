@@ -2,10 +2,10 @@
 
 ghost use Rattle.std.specs.Prelude.{◌≡◌, Ok, IfOk, IfErr, OnOk, OnErr};
 ghost use Rattle.line_words.specs.TextLines.{lines_of};
-ghost use Rattle.schedule_text.specs.Schedules.{IsReached, IsSchedule, ReportsFault, ReportsKind, after_line, has_requester, is_known, last_moment, none_spelled, schedule_of, with_line, with_requester, with_step};
+ghost use Rattle.schedule_text.specs.Schedules.{IsReached, IsSchedule, ReportsFault, ReportsKind, after_line, has_requester, is_known, none_spelled, schedule_of, with_line, with_requester, with_step};
 
 use crate::line::{Line, read_line};
-use crate::{Action, LineFault, LineFaultKind, RequesterLine, Step};
+use crate::{Action, LineFault, LineFaultKind, RequesterLine, Step, Steps};
 use line_words::split_line;
 use mctp_packet::Eid;
 use std::alloc::Global;
@@ -16,7 +16,7 @@ use std::marker::Model;
 #[derive(Debug, Drop)]
 pub struct Schedule {
     requesters: Vec<RequesterLine>,
-    steps: Vec<Step>,
+    steps: Steps,
 }
 
 impl Model for Schedule {
@@ -24,9 +24,9 @@ impl Model for Schedule {
 
     ghost Value = { Spelled };
 
-    ghost view = { λ s. record { requesters = s.requesters.items; steps = s.steps.items } };
+    ghost view = { λ s. record { requesters = s.requesters.items; steps = s.steps } };
 
-    ghost invariant = { λ s. IsSchedule (record { requesters = s.requesters.items; steps = s.steps.items }) };
+    ghost invariant = { λ s. IsSchedule (record { requesters = s.requesters.items; steps = s.steps }) };
 }
 
 impl Schedule {
@@ -36,7 +36,7 @@ impl Schedule {
     {
         Schedule {
             requesters: Vec::new(alloc),
-            steps: Vec::new(alloc),
+            steps: Steps::new(alloc),
         }
     }
 
@@ -46,13 +46,13 @@ impl Schedule {
     /// # Errors
     ///
     /// The line's first fault, or `Memory`, which may come at any line. The schedule is then unchanged.
-    pub fn add_line(&mut self, alloc: Global, number: u64, line: &[u8]) -> Result<(), LineFault>
+    pub fn add_line(&mut self, number: u64, line: &[u8]) -> Result<(), LineFault>
         ensures ok { OnOk result (after_line self.old line.now ≡ Ok self.new) }
         ensures err { IfErr result (λ fault. (fault.line ≡ number) × ReportsKind (after_line self.old line.now)
             fault.kind) }
         ensures unchanged { OnErr result (self.new ≡ self.old) }
     {
-        match self.add_unnumbered(alloc, line) {
+        match self.add_unnumbered(line) {
             Ok(()) => Ok(()),
             Err(kind) => Err(LineFault { line: number, kind }),
         }
@@ -74,11 +74,11 @@ impl Schedule {
         let mut number = 1;
         let mut rest = text;
         while let Some((line, after)) = split_line(rest) {
-            schedule.add_line(alloc, number, line)?;
+            schedule.add_line(number, line)?;
             number += 1;
             rest = after;
         }
-        schedule.add_line(alloc, number, rest)?;
+        schedule.add_line(number, rest)?;
         Ok(schedule)
     }
 
@@ -91,7 +91,7 @@ impl Schedule {
     }
 
     /// The steps, in the order of their lines.
-    pub fn steps(&self) -> &[Step]
+    pub fn steps(&self) -> &Steps
         ensures value { result.now ≡ self.now.steps }
         ensures valid { IsSchedule self.now }
     {
@@ -99,12 +99,12 @@ impl Schedule {
     }
 
     /// Adds what a line says, without its number.
-    fn add_unnumbered(&mut self, alloc: Global, line: &[u8]) -> Result<(), LineFaultKind>
+    fn add_unnumbered(&mut self, line: &[u8]) -> Result<(), LineFaultKind>
         ensures ok { OnOk result (after_line self.old line.now ≡ Ok self.new) }
         ensures err { IfErr result (λ kind. ReportsKind (after_line self.old line.now) kind) }
         ensures unchanged { OnErr result (self.new ≡ self.old) }
     {
-        match read_line(alloc, line)? {
+        match read_line(line)? {
             Line::Nothing => Ok(()),
             Line::Requester(line) => self.add_requester(line),
             Line::Step(step) => self.add_step(step),
@@ -130,7 +130,7 @@ impl Schedule {
         ensures err { IfErr result (λ kind. ReportsKind (with_step self.old step) kind) }
         ensures unchanged { OnErr result (self.new ≡ self.old) }
     {
-        if step.moment.get() < last_moment(&self.steps) {
+        if step.moment.get() < self.steps.last_moment() {
             return Err(LineFaultKind::BackInTime);
         }
         if !is_known(&self.requesters, &step.action) {
@@ -157,15 +157,5 @@ fn is_known(requesters: &[RequesterLine], action: &Action) -> bool
             has_requester(requesters, *requester)
         }
         _ => true,
-    }
-}
-
-/// The moment of the last step, 0 where there is none.
-fn last_moment(steps: &[Step]) -> u64
-    ensures { result ≡ last_moment steps.now }
-{
-    match steps.last() {
-        Some(step) => step.moment.get(),
-        None => 0,
     }
 }

@@ -8,4 +8,4 @@ pub invariant_of-self-2 : goal.invariant_of-self-2
 invariant_of-self-2 c =
     let lines = c.self.inside.requesters.items in
     let none : has_requester lines c.args.line.eid ≡ false = ap (λ l. has_requester l c.args.line.eid) (sym c.deref.ensures.value) ∙ sym c.has_requester.ensures ∙ c.if-has_requester.false in
-    rw c.in_ok-push.ensures.items (with_requester_kept (record { requesters = lines; steps = c.self.inside.steps.items }) c.args.line c.self.invariant none)
+    rw c.in_ok-push.ensures.items (with_requester_kept (record { requesters = lines; steps = c.self.inside.steps }) c.args.line c.self.invariant none)

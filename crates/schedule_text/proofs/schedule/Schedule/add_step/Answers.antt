@@ -7,9 +7,9 @@ use Rattle.schedule_text.proofs.schedule.Schedule.add_step.Goals as goal
 pub invariant_of-self-2 : goal.invariant_of-self-2
 invariant_of-self-2 c =
     let lines = c.self.inside.requesters.items in
-    let steps = c.self.inside.steps.items in
-    let last : c.last_moment.result ≡ last_from 0 steps = c.last_moment.ensures ∙ ap (last_from 0) c.deref.ensures.value in
+    let steps = c.self.inside.steps in
+    let last : c.last_moment.result ≡ last_from 0 steps = c.last_moment.ensures in
     let moment = c.get.ensures.value in
     let later : last_from 0 steps ≤ c.args.step.moment = omega arith in
-    let known : is_known lines c.args.step.action ≡ true = ap (λ l. is_known l c.args.step.action) (sym c.deref-2.ensures.value) ∙ sym c.is_known.ensures ∙ c.if-not-is_known.false in
-    rw c.in_ok-push.ensures.items (with_step_kept (record { requesters = lines; steps = steps }) c.args.step c.self.invariant later known)
+    let known : is_known lines c.args.step.action ≡ true = ap (λ l. is_known l c.args.step.action) (sym c.deref.ensures.value) ∙ sym c.is_known.ensures ∙ c.if-not-is_known.false in
+    rw c.in_ok-push.ensures.ok (with_step_kept (record { requesters = lines; steps = steps }) c.args.step c.self.invariant later known)
