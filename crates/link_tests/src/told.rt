@@ -1,6 +1,6 @@
 //! What a run tells, in words: a line for each step, then the requests, the order and whether it was timely.
 
-use mctp_schedule::{EntryRef, OpenedRequest, Report, Step};
+use mctp_schedule::{EntryRef, OpenedRequest, Report, Steps};
 use pldm_platform::Platform;
 use pldm_requester::{Got, Status};
 use pldm_responder::MessageOutcome;
@@ -12,7 +12,7 @@ const MAX_WRITTEN: usize = 32;
 /// What a report tells, but for the device at the end.
 pub fn told<P: Platform>(
     alloc: Global,
-    steps: &[Step],
+    steps: &Steps,
     report: &Report<P>,
 ) -> Result<String, AllocError> {
     let mut text = String::new(alloc);

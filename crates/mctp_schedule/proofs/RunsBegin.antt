@@ -1,7 +1,7 @@
 -- What a run holds before its first step, and that each step may come after those before it.
-use Rattle.std.proofs.Common.{◌≡◌, ℕ, zero, suc, ◌+◌, ◌<◌, ◌≤◌, true, List, [], ◌∷◌, ◌++◌, length, take, Some, refl, sym, ap, ◌∙◌, arith}
-use Rattle.std.specs.Prelude.{reverse, slice_get, slice_index_or}
-use Rattle.std.proofs.lemmas.List.{reverse-append, take_more}
+use Rattle.std.proofs.Common.{◌≡◌, ℕ, ◌≤◌, true, List, [], ◌∷◌, ◌++◌, length, refl, ap, subst, ◌∙◌, arith}
+use Rattle.std.specs.Prelude.{reverse, slice_get}
+use Rattle.std.proofs.lemmas.List.{reverse-append}
 use Rattle.mctp_packet.specs.Ids.{IsEid}
 use Rattle.pldm_responder.specs.Held as device_held
 use Rattle.pldm_responder.specs.Laws as device_laws
@@ -63,9 +63,8 @@ begins setting run times eid device_new device_same new same held each empty = r
     }
 
 -- ---- the steps so far, and one more
-pub taken_more : (steps : List Step) (i : ℕ) (step : Step) → i < length steps → step ≡ slice_index_or steps i step → reverse (take (i + 1) steps) ≡ step ∷ reverse (take i steps)
-taken_more steps i step within at =
-    ap reverse (take_more steps i step within ∙ ap (λ s. take i steps ++ s ∷ []) (sym at)) ∙ reverse-append (take i steps) (step ∷ [])
+pub done_more : (done : List Step) (step : Step) → reverse (done ++ step ∷ []) ≡ step ∷ reverse done
+done_more done step = reverse-append done (step ∷ [])
 
 abbrev time_or : ℕ → List Step → ℕ
 time_or moment [] = moment
@@ -75,16 +74,14 @@ abbrev last_of : ℕ → List Step → ℕ
 last_of moment [] = moment
 last_of moment (step ∷ steps) = last_of step.moment steps
 
--- the moment of the last of the first so many steps
-in_order_at : (moment : ℕ) (steps : List Step) (i : ℕ) (step : Step) → NeverGoBack moment steps → slice_get steps i ≡ Some step → last_of moment (take i steps) ≤ step.moment
-in_order_at moment [] i step order is = absurd (cc)
-in_order_at moment (first ∷ steps) zero step order is = let same : first ≡ step = cc in let m = ap (λ (s : Step). s.moment) same in let o = order.0 in omega (arith, m, o)
-in_order_at moment (first ∷ steps) (suc i) step order is = in_order_at first.moment steps i step order.1 is
+-- a step that comes after these
+in_order_after : (moment : ℕ) (done rest : List Step) (step : Step) → NeverGoBack moment (done ++ step ∷ rest) → last_of moment done ≤ step.moment
+in_order_after moment [] rest step order = order.0
+in_order_after moment (first ∷ done) rest step order = in_order_after first.moment done rest step order.1
 
-known_at : (requesters : List RequesterLine) (steps : List Step) (i : ℕ) (step : Step) → AreKnown requesters steps → slice_get steps i ≡ Some step → is_known requesters step.action ≡ true
-known_at requesters [] i step known is = absurd (cc)
-known_at requesters (first ∷ steps) zero step known is = let same : first ≡ step = cc in ap (λ (s : Step). is_known requesters s.action) (sym same) ∙ known.0
-known_at requesters (first ∷ steps) (suc i) step known is = known_at requesters steps i step known.1 is
+known_after : (requesters : List RequesterLine) (done rest : List Step) (step : Step) → AreKnown requesters (done ++ step ∷ rest) → is_known requesters step.action ≡ true
+known_after requesters [] rest step known = known.0
+known_after requesters (first ∷ done) rest step known = known_after requesters done rest step known.1
 
 time_last : (moment : ℕ) (steps : List Step) (step : Step) → time_or moment (steps ++ step ∷ []) ≡ time_or step.moment steps
 time_last moment [] step = refl
@@ -98,8 +95,11 @@ time_is : (steps : List Step) → time_now steps ≡ time_or 0 steps
 time_is [] = refl
 time_is (step ∷ steps) = refl
 
-pub may_come : (requesters : List RequesterLine) (steps : List Step) (i : ℕ) (step : Step) → NeverGoBack 0 steps → AreKnown requesters steps → slice_get steps i ≡ Some step → MayCome requesters (reverse (take i steps)) step
-may_come requesters steps i step order known is = record {
-  later = let t = time_is (reverse (take i steps)) ∙ time_reversed 0 (take i steps) in let l = in_order_at 0 steps i step order is in omega (arith, t, l);
-  known = known_at requesters steps i step known is;
+pub may_come : (requesters : List RequesterLine) (steps done rest : List Step) (step : Step) → steps ≡ done ++ step ∷ rest → NeverGoBack 0 steps → AreKnown requesters steps → MayCome requesters (reverse done) step
+may_come requesters steps done rest step all order known = record {
+  later =
+      let t = time_is (reverse done) ∙ time_reversed 0 done in
+      let l = in_order_after 0 done rest step (subst (NeverGoBack 0) all order) in
+      omega (arith, t, l);
+  known = known_after requesters done rest step (subst (AreKnown requesters) all known);
 }

@@ -8,6 +8,7 @@ ghost use Rattle.mctp_schedule.specs.RunFaults.{refusal};
 ghost use Rattle.mctp_schedule.specs.HeldRuns.{held_by};
 ghost use Rattle.mctp_schedule.specs.Running.{CanGoOn, HasDone, answer_action, at};
 ghost use Rattle.mctp_schedule.specs.Runs.{newest_first, setting_of_run};
+ghost use Rattle.schedule_text.specs.StepColumns.{borrowed_step};
 ghost use Rattle.schedule_text.specs.declared.step.Action.TheVariants as actions;
 
 use crate::journal::Journal;
@@ -15,7 +16,7 @@ use crate::laws::{
     fresh_deliveries_are_first, logs_are_timely, performs_once, requesters_take_the_one_reply,
 };
 use crate::places::{Places, begin_requesters};
-use crate::{Action, Entries, Entry, OpenedRequest, RunFault, Schedule, Step};
+use crate::{ActionRef, Entries, Entry, OpenedRequest, RunFault, Schedule, StepRef};
 use mctp_packet::{Body, Eid, Keep, MAX_PACKET_BYTES, Memory, Moment, TAGS};
 use pldm_platform::Platform;
 use pldm_responder::Responder;
@@ -99,8 +100,8 @@ pub fn run<P: Platform>(
         journal: Journal::new(alloc),
         reply: Body::new(),
     };
-    for step in schedule.steps() {
-        ends.run_step(step)?;
+    for step in schedule.steps().iter() {
+        ends.run_step(&step)?;
     }
     let Ends {
         responder,
@@ -139,20 +140,20 @@ struct Ends<P: Platform> {
 
 impl<P: Platform> Ends<P> {
     /// Takes a step.
-    fn run_step(&mut self, step: &Step) -> Result<(), Memory>
-        requires { CanGoOn (rules_of P.answer P.after P.sensed) (held_by self.old) step.now }
+    fn run_step(&mut self, step: &StepRef<'_>) -> Result<(), Memory>
+        requires { CanGoOn (rules_of P.answer P.after P.sensed) (held_by self.old) (borrowed_step step.now) }
         ensures { OnOk result (HasDone (rules_of P.answer P.after P.sensed) P.performed (held_by self.old)
-            step.now (held_by self.new)) }
+            (borrowed_step step.now) (held_by self.new)) }
     {
         let now = step.moment;
         match &step.action {
-            Action::Open { requester, command } => self.open(now, *requester, command.get()),
-            Action::Tick { requester } => self.tick(now, *requester),
-            Action::Request { number } => self.deliver(now, *number),
-            Action::Reply { number, packet } => self.hand(now, *number, *packet, false),
-            Action::Sense { sensor, value } => self.sense(now, *sensor, *value),
-            Action::Restart => self.restart(now),
-            Action::Busy { number } => self.hand(now, *number, 0, true),
+            ActionRef::Open { requester, command } => self.open(now, *requester, command),
+            ActionRef::Tick { requester } => self.tick(now, *requester),
+            ActionRef::Request { number } => self.deliver(now, *number),
+            ActionRef::Reply { packet, number } => self.hand(now, *number, *packet, false),
+            ActionRef::Sense { sensor, value } => self.sense(now, *sensor, *value),
+            ActionRef::Restart => self.restart(now),
+            ActionRef::Busy { number } => self.hand(now, *number, 0, true),
         }
     }
 

@@ -23,5 +23,6 @@ pub use entry::{Entry, EntryRef};
 pub use opened_request::OpenedRequest;
 pub use run_fault::RunFault;
 pub use schedule_text::{
-    Action, KeptCommand, LineFault, LineFaultKind, RequesterLine, Schedule, Step,
+    Action, ActionRef, LineFault, LineFaultKind, RequesterLine, Schedule, Step, StepRef, Steps,
+    StepsIter,
 };

@@ -46,7 +46,7 @@ pub struct GoodLines {
 
 impl GoodLines {
     /// Reads the line that this LF ends.
-    fn end_line(&mut self, alloc: Global, line: &[u8]) -> Result<(), LineFault>
+    fn end_line(&mut self, line: &[u8]) -> Result<(), LineFault>
         requires feed { HasNoFeed line.now }
         requires counted { self.old.ended < MAX_INPUT }
         ensures ok { OnOk result (GoesOn (good_gives self.old) (line.now ++ 10 ∷ []) [] (good_gives self.new)) }
@@ -57,13 +57,13 @@ impl GoodLines {
         let number = self.ended + 1;
         self.ended = number;
         if self.kept.is_empty() {
-            return self.schedule.add_line(alloc, number, line);
+            return self.schedule.add_line(number, line);
         }
         if let Err(refused) = self.kept.extend_from_slice(line) {
             let kind = LineFaultKind::Memory(refused.into());
             return Err(LineFault { line: number, kind });
         }
-        let result = self.schedule.add_line(alloc, number, &self.kept);
+        let result = self.schedule.add_line(number, &self.kept);
         self.kept.clear();
         result
     }
@@ -86,7 +86,7 @@ impl GoodLines {
     }
 
     /// Reads the lines that end in a piece, up to one that is refused.
-    fn read(&mut self, alloc: Global, piece: &[u8]) -> Result<(), LineFault>
+    fn read(&mut self, piece: &[u8]) -> Result<(), LineFault>
         requires { self.old.ended + length piece.now ≤ MAX_INPUT }
         ensures ok { OnOk result (GoesOn (good_gives self.old) piece.now [] (good_gives self.new)) }
         ensures err { IfErr result (λ fault. (fault.kind ≡ LineFaultKind.Memory out_of_memory)
@@ -95,7 +95,7 @@ impl GoodLines {
     {
         let mut rest = piece;
         while let Some((line, after)) = split_line(rest) {
-            match self.end_line(alloc, line) {
+            match self.end_line(line) {
                 Ok(()) => {}
                 Err(fault) => return Err(fault),
             }
@@ -117,7 +117,7 @@ impl GoodLines {
             ended,
             kept,
         } = self;
-        match schedule.add_line(alloc, ended + 1, &kept) {
+        match schedule.add_line(ended + 1, &kept) {
             Ok(()) => run_schedule(alloc, description, schedule),
             Err(fault) => Err(stop_of_line(fault)),
         }
@@ -141,9 +141,9 @@ impl Run for ScheduleLines {
     ghost counted = { lines_ended };
 
     /// Reads the lines that end in a piece.
-    fn take(&mut self, alloc: Global, piece: &[u8], out: &mut Vec<u8>) -> Result<(), EngineFault> {
+    fn take(&mut self, _alloc: Global, piece: &[u8], out: &mut Vec<u8>) -> Result<(), EngineFault> {
         let result = match self {
-            ScheduleLines::Good(lines) => lines.read(alloc, piece),
+            ScheduleLines::Good(lines) => lines.read(piece),
             ScheduleLines::Refused(_) | ScheduleLines::Ended => return Ok(()),
         };
         match result {

@@ -1,5 +1,5 @@
 -- The text of items, one further: of steps with their entries, and of requests.
-use Rattle.std.proofs.Common.{◌≡◌, ℕ, zero, suc, ◌+◌, ◌<◌, ◌≤◌, List, [], ◌∷◌, ◌++◌, drop, get_or, length, refl, sym, ap, ◌∙◌, append_assoc, append-nil, arith, drop-cons}
+use Rattle.std.proofs.Common.{◌≡◌, ℕ, suc, ◌+◌, ◌<◌, ◌≤◌, List, [], ◌∷◌, ◌++◌, drop, get_or, length, refl, sym, ap, ◌∙◌, append_assoc, append-nil, arith, drop-cons}
 use Rattle.mctp_schedule.specs.Requests.{Request}
 use Rattle.mctp_schedule.specs.declared.entry.Entry.{Entry}
 use Rattle.schedule_text.specs.declared.step.Step.{Step}
@@ -12,25 +12,18 @@ next_dropped things i thing within is =
     let one : suc i ≡ i + 1 = omega arith in
     drop-cons things i thing within ∙ ap (λ t. t ∷ drop (suc i) things) (sym is) ∙ ap (λ n. thing ∷ drop n things) one
 
-pub entries_step : (before after : List ℕ) (steps : List Step) (entries rest : List Entry) (i : ℕ) (step : Step) (entry : Entry) (moment : ℕ)
-    → i < length steps → step ≡ get_or steps i step → entries ≡ entry ∷ rest → moment ≡ step.moment
-    → after ≡ before ++ entry_line moment entry
-    → after ++ entries_text (drop (i + 1) steps) rest ≡ before ++ entries_text (drop i steps) entries
-entries_step before after steps entries rest i step entry moment within step_is entry_is at added =
-    ap (λ (t : List ℕ). t ++ entries_text (drop (i + 1) steps) rest) (added ∙ ap (λ m. before ++ entry_line m entry) at)
-    ∙ append_assoc before (entry_line step.moment entry) (entries_text (drop (i + 1) steps) rest)
-    ∙ ap (λ (s : List Entry). before ++ entries_text (step ∷ drop (i + 1) steps) s) (sym entry_is)
-    ∙ ap (λ (s : List Step). before ++ entries_text s entries) (sym (next_dropped steps i step within step_is))
+pub entries_step : (before after : List ℕ) (steps others : List Step) (entries rest : List Entry) (step : Step) (entry : Entry) (moment : ℕ)
+    → steps ≡ step ∷ others → entries ≡ entry ∷ rest → moment ≡ step.moment → after ≡ before ++ entry_line moment entry
+    → after ++ entries_text others rest ≡ before ++ entries_text steps entries
+entries_step before after steps others entries rest step entry moment step_is entry_is at added =
+    ap (λ (t : List ℕ). t ++ entries_text others rest) (added ∙ ap (λ m. before ++ entry_line m entry) at)
+    ∙ append_assoc before (entry_line step.moment entry) (entries_text others rest)
+    ∙ ap (λ (s : List Entry). before ++ entries_text (step ∷ others) s) (sym entry_is)
+    ∙ ap (λ (s : List Step). before ++ entries_text s entries) (sym step_is)
 
 pub no_entries : (steps : List Step) → entries_text steps [] ≡ []
 no_entries [] = refl
 no_entries (step ∷ steps) = refl
-
-pub no_steps : (steps : List Step) (entries : List Entry) (i : ℕ) → length steps ≤ i → entries_text (drop i steps) entries ≡ []
-no_steps [] entries zero past = refl
-no_steps [] entries (suc i) past = refl
-no_steps (step ∷ steps) entries zero past = absurd (omega (arith, past))
-no_steps (step ∷ steps) entries (suc i) past = no_steps steps entries i (omega (arith, past))
 
 -- where none is to come, the text so far is all
 pub none_left : (text left all : List ℕ) → left ≡ [] → text ++ left ≡ all → text ≡ all

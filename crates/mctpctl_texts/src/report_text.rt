@@ -11,7 +11,7 @@ use crate::device_lines::write_device;
 use crate::entry_text::write_entry_line;
 use crate::parts::{write_number, write_numbers, write_text};
 use crate::text_writer::TextWriter;
-use mctp_schedule::{Entries, OpenedRequest, Report, Step};
+use mctp_schedule::{Entries, OpenedRequest, Report, Steps};
 use pldm_device::SimDevice;
 use pldm_requester::Status;
 
@@ -19,7 +19,7 @@ use pldm_requester::Status;
 /// which requests were performed, how the device stands, and whether the schedule was timely.
 pub fn write_report<O: TextWriter>(
     out: &mut O,
-    steps: &[Step],
+    steps: &Steps,
     report: &Report<SimDevice>,
 ) -> Result<(), O::Refusal>
     ensures { Wrote O.contents O.failed O.refused out.old out.new
@@ -36,7 +36,7 @@ pub fn write_report<O: TextWriter>(
 /// Writes a line for each of these steps, by what came of it.
 fn write_entries<O: TextWriter>(
     out: &mut O,
-    steps: &[Step],
+    steps: &Steps,
     entries: &Entries,
 ) -> Result<(), O::Refusal>
     ensures { Wrote O.contents O.failed O.refused out.old out.new
@@ -44,7 +44,7 @@ fn write_entries<O: TextWriter>(
 {
     let mut rest = entries.iter();
     let mut moment = Decimal::new(0);
-    for step in steps {
+    for step in steps.iter() {
         let Some(entry) = rest.next() else {
             return Ok(());
         };

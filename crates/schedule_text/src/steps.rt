@@ -58,7 +58,8 @@ impl Model for Steps {
 
     ghost view = { λ s. spelled s.moments.items s.marks.items s.numbers.items s.readings.items s.commands.items };
 
-    ghost invariant = { λ s. IsSpelled s.moments.items s.marks.items s.numbers.items s.readings.items s.commands.items };
+    ghost invariant = { λ s. IsSpelled s.moments.items s.marks.items s.numbers.items s.readings.items
+        s.commands.items };
 }
 
 impl Steps {

@@ -1,6 +1,6 @@
 -- Step by step, until there is none.
-use Rattle.std.proofs.Common.{◌<◌, List, [], length, take, Some, refl, sym, ap, subst, ◌∙◌, arith}
-use Rattle.std.specs.Prelude.{reverse, slice_get, slice_index_or}
+use Rattle.std.proofs.Common.{List, [], ◌∷◌, ◌++◌, refl, sym, ap, subst, ◌∙◌, append_assoc, append-nil}
+use Rattle.std.specs.Prelude.{reverse}
 use Rattle.pldm_responder.specs.Performing.{rules_of}
 use Rattle.mctp_schedule.specs.Entries.{entries, requests_after}
 use Rattle.mctp_schedule.specs.FirstArrivals.{order}
@@ -14,13 +14,12 @@ use Rattle.mctp_schedule.specs.Running.{IsRunning, Terms}
 use Rattle.mctp_schedule.specs.PerformedCommands.{commands_at_step, commands_performed}
 use Rattle.mctp_schedule.specs.Runs.{newest_first, setting_of_run}
 use Rattle.mctp_schedule.specs.Worlds.{NeverWentBack, is_timely, world}
-use Rattle.schedule_text.specs.declared.step.Step.{Step}
+use Rattle.schedule_text.specs.StepColumns.{borrowed_step}
 use Rattle.pldm_wire.specs.declared.command.Command.{Command}
 use Rattle.mctp_schedule.proofs.CommandsPerformed.{commands_added}
 use Rattle.mctp_schedule.proofs.HeadlineHolds.{Halves, run_is_headline}
-use Rattle.mctp_schedule.proofs.ListPlaces.{get_or, take_all}
 use Rattle.mctp_schedule.proofs.ReportedRequests.{requests_are}
-use Rattle.mctp_schedule.proofs.RunsBegin.{begins, may_come, taken_more}
+use Rattle.mctp_schedule.proofs.RunsBegin.{begins, done_more, may_come}
 use Rattle.mctp_schedule.proofs.both_ends.run.Goals as goal
 
 pub loop-step-init : goal.loop-step-init
@@ -29,7 +28,8 @@ loop-step-init g c =
     let empty = c.new-2.ensures in
     let begun = c.in_ok-begin_requesters.ensures.begin in
     record {
-      items = c.steps-step-items.ensures.value;
+      done = [];
+      all = sym (c.into_iter-step-iterator.ensures.into_iter_gives ∙ c.iter-step-items.ensures ∙ c.steps.ensures.value);
       in_order = tt;
       runs = begins setting
           (record { keep = c.args.setup.keep; responder = c.new.result; places = c.in_ok-begin_requesters.field-0.items; journal = c.new-2.result })
@@ -43,48 +43,44 @@ pub run_step-requires : goal.run_step-requires
 run_step-requires g c =
     let schedule = c.args.schedule.now in
     let terms : Terms g.row.P-State.Denot = record { start = g.P.Platform.state c.args.setup.device; eid = c.args.setup.eid; keep = c.args.setup.keep; requesters = schedule.requesters } in
-    let i = c.loop-step.step-index in
-    let step = c.step-item.result in
-    let items = c.steps-step-items.ensures.value in
-    let valid = c.steps-step-items.ensures.valid in
-    let here = ap (λ (xs : List Step). slice_get xs i) (sym items) ∙ get_or c.steps-step-items.result.now i step c.loop-step-test.true ∙ ap Some (sym c.step-item.is) in
-    (terms, reverse (take i schedule.steps), c.loop-step.invariant.runs, may_come schedule.requesters schedule.steps i step valid.in_order valid.known here)
+    let i = c.loop-step.invariant in
+    let step = borrowed_step c.in-Some.step in
+    let valid = c.steps.ensures.valid in
+    let all = i.all ∙ ap (λ rest. i.done ++ rest) c.in-Some.ensures.steps in
+    (terms, reverse i.done, i.runs, may_come schedule.requesters schedule.steps i.done c.next.new.self step all valid.in_order valid.known)
 
 pub loop-step-preserved : goal.loop-step-preserved
 loop-step-preserved g c =
     let schedule = c.args.schedule.now in
     let setting = setting_of_run (rules_of g.P.Platform.answer g.P.Platform.after g.P.Platform.sensed) (g.P.Platform.state c.args.setup.device) c.args.setup.eid c.args.setup.keep schedule in
     let terms : Terms g.row.P-State.Denot = record { start = g.P.Platform.state c.args.setup.device; eid = c.args.setup.eid; keep = c.args.setup.keep; requesters = schedule.requesters } in
-    let i = c.loop-step.step-index in
-    let step = c.step-item.result in
-    let items = c.steps-step-items.ensures.value in
-    let valid = c.steps-step-items.ensures.valid in
-    let within : i < length schedule.steps = (let t = c.loop-step-test.true in let l = ap (λ (xs : List Step). length xs) items in omega (arith, t, l)) in
-    let at = c.step-item.is ∙ ap (λ (xs : List Step). slice_index_or xs i step) items in
-    let here = get_or schedule.steps i step within ∙ ap Some (sym at) in
-    let may = may_come schedule.requesters schedule.steps i step valid.in_order valid.known here in
-    let runs = c.in_ok-run_step.ensures.goes_on terms (reverse (take i schedule.steps)) c.loop-step.invariant.runs may in
+    let i = c.loop-step.invariant in
+    let step = borrowed_step c.in-Some.step in
+    let valid = c.steps.ensures.valid in
+    let all = i.all ∙ ap (λ rest. i.done ++ rest) c.in-Some.ensures.steps in
+    let may = may_come schedule.requesters schedule.steps i.done c.next.new.self step all valid.in_order valid.known in
+    let runs = c.in_ok-run_step.ensures.goes_on terms (reverse i.done) i.runs may in
+    let more = sym (done_more i.done step) in
     record {
-      items = items;
-      in_order = subst NeverWentBack (sym (taken_more schedule.steps i step within at)) (may.later, c.loop-step.invariant.in_order);
-      runs = subst (λ past. IsRunning setting past (held_by c.run_step.new.self)) (sym (taken_more schedule.steps i step within at)) runs;
-      performed = subst (λ past. g.P.Platform.performed c.args.setup.device (commands_performed g.row.P-State.Denot c.args.setup.keep (world setting past).log) c.run_step.new.self.responder.platform) (sym (taken_more schedule.steps i step within at))
-          (subst (λ (cs : List Command). g.P.Platform.performed c.args.setup.device cs c.run_step.new.self.responder.platform) (sym (commands_added setting (world setting (reverse (take i schedule.steps))) step.moment step.action))
+      done = i.done ++ step ∷ [];
+      all = all ∙ sym (append_assoc i.done (step ∷ []) c.next.new.self);
+      in_order = subst NeverWentBack more (may.later, i.in_order);
+      runs = subst (λ past. IsRunning setting past (held_by c.run_step.new.self)) more runs;
+      performed = subst (λ past. g.P.Platform.performed c.args.setup.device (commands_performed g.row.P-State.Denot c.args.setup.keep (world setting past).log) c.run_step.new.self.responder.platform) more
+          (subst (λ (cs : List Command). g.P.Platform.performed c.args.setup.device cs c.run_step.new.self.responder.platform) (sym (commands_added setting (world setting (reverse i.done)) step.moment step.action))
           (g.met.P.Platform.performed_in_turn c.args.setup.device c.loop-step.ends.responder.platform c.run_step.new.self.responder.platform
-          (commands_performed g.row.P-State.Denot c.args.setup.keep (world setting (reverse (take i schedule.steps))).log)
-          (commands_at_step g.row.P-State.Denot c.args.setup.keep (world setting (reverse (take i schedule.steps))).log step.moment step.action)
-          c.loop-step.invariant.performed (c.in_ok-run_step.ensures.performs terms (reverse (take i schedule.steps)) c.loop-step.invariant.runs may)));
+          (commands_performed g.row.P-State.Denot c.args.setup.keep (world setting (reverse i.done)).log)
+          (commands_at_step g.row.P-State.Denot c.args.setup.keep (world setting (reverse i.done)).log step.moment step.action)
+          i.performed (c.in_ok-run_step.ensures.performs terms (reverse i.done) i.runs may)));
     }
 
 pub returns-clause-report : goal.returns-clause-report
 returns-clause-report g c =
     let schedule = c.args.schedule.now in
     let setting = setting_of_run (rules_of g.P.Platform.answer g.P.Platform.after g.P.Platform.sensed) (g.P.Platform.state c.args.setup.device) c.args.setup.eid c.args.setup.keep schedule in
-    let i = c.loop-step.step-index in
-    let done = c.loop-step-test.false in
-    let l = ap (λ (xs : List Step). length xs) c.steps-step-items.ensures.value in
-    let all = ap reverse (take_all i schedule.steps (omega (arith, done, l))) in
-    let past = reverse (take i schedule.steps) in
+    let i = c.loop-step.invariant in
+    let all = ap reverse (sym (i.all ∙ ap (λ rest. i.done ++ rest) c.in-None.ensures.steps.0 ∙ append-nil i.done)) in
+    let past = reverse i.done in
     let runs = c.loop-step.invariant.runs in
     let journal = c.loop-step.ends.journal in
     let both = c.requesters_take_the_one_reply.ensures in

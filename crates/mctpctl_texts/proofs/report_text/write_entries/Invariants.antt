@@ -1,5 +1,5 @@
 -- The text so far, and then that of the steps to come, is that of all steps.
-use Rattle.std.proofs.Common.{◌≡◌, ℕ, List, ◌++◌, drop}
+use Rattle.std.proofs.Common.{◌≡◌, ℕ, List, ◌++◌}
 use Rattle.std.specs.Io.KnownBytes.{Appends}
 use Rattle.mctpctl_texts.specs.EntryTexts.{entries_text}
 use Rattle.mctpctl_texts.proofs.report_text.write_entries.Given as goal
@@ -9,5 +9,5 @@ invariant-loop-step g l = record {
   text : List ℕ;
   written : Appends (g.O.TextWriter.contents l.initial.out) (g.O.TextWriter.contents l.out) text;
   works : g.O.TextWriter.failed l.out ≡ g.O.TextWriter.failed l.initial.out;
-  whole : text ++ entries_text (drop l.step-index l.steps) l.rest ≡ entries_text l.steps l.entries;
+  whole : text ++ entries_text l.step-iterator l.rest ≡ entries_text l.steps l.entries;
 }
