@@ -50,7 +50,7 @@ impl LineTask for Responder<SimDevice> {
         };
         let now = Moment::new(moment).unwrap();
         let taken = self.receive_message(now, &room.packet, &mut room.message)?;
-        Ok(push_outcome(out, &taken, &room.message)?)
+        Ok(push_outcome(out, &room.pairs, &taken, &room.message)?)
     }
 
     ghost refuses_long = { held_refuses };

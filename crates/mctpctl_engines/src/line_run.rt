@@ -9,14 +9,17 @@ ghost use Rattle.mctpctl_input.specs.Pieces.{Takes, Finishes};
 use line_words::split_line;
 use mctp_packet::Body;
 use mctpctl_input::{EngineFault, HexDigits, LineKind, MAX_CAPTURE_LINE, MAX_INPUT, Port, Run};
+use mctpctl_texts::HexPairs;
 use std::alloc::Global;
 use std::io::Write;
 
-/// Room for what comes of one line, which is used again for the next, and what reads its digits.
+/// Room for what comes of one line, which is used again for the next, and what reads and writes hex.
 #[derive(Drop)]
 pub struct LineRoom {
     /// What reads the digits of its packet.
     pub digits: HexDigits,
+    /// What writes the digits of an answer.
+    pub pairs: HexPairs,
     /// For the bytes of its packet.
     pub packet: Vec<u8>,
     /// For a message that this packet completes, or that answers it.
@@ -34,6 +37,7 @@ impl LineRoom {
     {
         LineRoom {
             digits: HexDigits::new(),
+            pairs: HexPairs::new(),
             packet: Vec::new(alloc),
             message: Body::new(),
             text: Vec::new(alloc),

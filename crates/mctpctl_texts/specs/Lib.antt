@@ -1,4 +1,5 @@
 pub mod EntryTexts
+pub mod HexPairs
 pub mod OutcomeTexts
 pub mod ReportTexts
 pub mod ShownLines

@@ -5,6 +5,7 @@
 mod decimal;
 mod device_lines;
 mod entry_text;
+mod hex_pairs;
 mod message_line;
 mod outcome;
 mod packet_line;
@@ -12,6 +13,7 @@ mod parts;
 mod report_text;
 mod text_writer;
 
+pub use hex_pairs::HexPairs;
 pub use message_line::{is_shown_as_response, write_command, write_data, write_message_line};
 pub use outcome::push_outcome;
 pub use packet_line::{write_no_packet_line, write_packet_line};

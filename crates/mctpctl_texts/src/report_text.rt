@@ -9,6 +9,7 @@ ghost use Rattle.pldm_requester.specs.RequestProgress.{progress_in_status};
 use crate::decimal::Decimal;
 use crate::device_lines::write_device;
 use crate::entry_text::write_entry_line;
+use crate::hex_pairs::HexPairs;
 use crate::parts::{write_number, write_numbers, write_text};
 use crate::text_writer::TextWriter;
 use mctp_schedule::{Entries, OpenedRequest, Report, Steps};
@@ -27,7 +28,7 @@ pub fn write_report<O: TextWriter>(
         (device_text report.now.device) report.now.timely) result }
 {
     write_entries(out, steps, &report.entries)?;
-    write_requests(out, &report.requests)?;
+    write_requests(out, &HexPairs::new(), &report.requests)?;
     write_order(out, &report.order)?;
     write_device(out, &report.device)?;
     write_text(out, timely_line(report.timely))
@@ -55,17 +56,22 @@ fn write_entries<O: TextWriter>(
 }
 
 /// Writes a line for each of these requests, which have the numbers from 0 on.
-fn write_requests<O: TextWriter>(out: &mut O, requests: &[OpenedRequest]) -> Result<(), O::Refusal>
+fn write_requests<O: TextWriter>(
+    out: &mut O,
+    pairs: &HexPairs,
+    requests: &[OpenedRequest],
+) -> Result<(), O::Refusal>
     ensures { Wrote O.contents O.failed O.refused out.old out.new (requests_text 0 requests.now) result }
 {
     for i in 0..requests.len() {
-        write_request_line(out, i as u64, &requests[i])?;
+        write_request_line(out, pairs, i as u64, &requests[i])?;
     }
     Ok(())
 }
 
 fn write_request_line<O: TextWriter>(
     out: &mut O,
+    pairs: &HexPairs,
     number: u64,
     request: &OpenedRequest,
 ) -> Result<(), O::Refusal>
@@ -76,11 +82,15 @@ fn write_request_line<O: TextWriter>(
     write_text(out, " from ")?;
     write_number(out, request.requester().get().into())?;
     write_text(out, " ")?;
-    write_status(out, request.status())?;
+    write_status(out, pairs, request.status())?;
     write_text(out, "\n")
 }
 
-fn write_status<O: TextWriter>(out: &mut O, status: Status<'_>) -> Result<(), O::Refusal>
+fn write_status<O: TextWriter>(
+    out: &mut O,
+    pairs: &HexPairs,
+    status: Status<'_>,
+) -> Result<(), O::Refusal>
     ensures { Wrote O.contents O.failed O.refused out.old out.new
         (progress_text (progress_in_status status.entry)) result }
 {
@@ -88,7 +98,7 @@ fn write_status<O: TextWriter>(out: &mut O, status: Status<'_>) -> Result<(), O:
         Status::Open => write_text(out, "open"),
         Status::Answered(message) => {
             write_text(out, "answered ")?;
-            out.write_hex(message)
+            pairs.write(out, message)
         }
         Status::GaveUp => write_text(out, "gave up"),
     }

@@ -75,7 +75,7 @@ impl TextWriter for Vec<u8> {
 pub struct NotWritten;
 
 /// How many bytes are spelled in hex at once: all of most messages, in a room small enough to be cleared each time.
-const HEX_PIECE: usize = 64;
+pub(crate) const HEX_PIECE: usize = 64;
 
 /// Refuses a part where a write fails; the port has failed then.
 impl<W: Write> TextWriter for Port<W> {

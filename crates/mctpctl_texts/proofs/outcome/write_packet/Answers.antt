@@ -13,7 +13,7 @@ returns-clause-written g c =
     ap (take c.write-count.result) c.write-count.ensures.bytes
     ∙ take_at (written c.args.packet.now) _ c.write-count.result (omega (arith, c.write-count.ensures.count)) in
     record {
-      text = and_last _ _ _ _ _ _ (subst (λ b. Appends (g.O.TextWriter.contents c.args.out.now) (g.O.TextWriter.contents c.write_hex.new.self) (encode_lower b)) bytes c.in_ok-write_hex.ensures.written.text) c.write_text.ensures.written.text;
+      text = and_last _ _ _ _ _ _ (subst (λ b. Appends (g.O.TextWriter.contents c.args.out.now) (g.O.TextWriter.contents c.write.new.out) (encode_lower b)) bytes c.in_ok-write.ensures.written.text) c.write_text.ensures.written.text;
       ok = search rules;
       err = search rules;
     }

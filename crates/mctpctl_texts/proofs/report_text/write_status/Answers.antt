@@ -10,7 +10,7 @@ pub returns-in_ok-write_text-in-Answered : goal.returns-in_ok-write_text-in-Answ
 returns-in_ok-write_text-in-Answered g c =
     let same : codes "answered " ++ encode_lower c.in-Answered.message.now ≡ progress_text (progress_in_status c.args.status) = search rules in
     record {
-      text = told_as _ _ _ _ _ same (and_last _ _ _ _ _ _ c.in_ok-write_text-in-Answered.ensures.written.text c.write_hex.ensures.written.text);
+      text = told_as _ _ _ _ _ same (and_last _ _ _ _ _ _ c.in_ok-write_text-in-Answered.ensures.written.text c.write.ensures.written.text);
       ok = search rules;
       err = search rules;
     }

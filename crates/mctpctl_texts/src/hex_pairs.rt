@@ -1,0 +1,84 @@
+//! The two hex digits of each byte, in a table that the crate `hex` fills.
+
+ghost use Rattle.std.specs.Prelude.{◌≡◌, ◌≤◌, ◌*◌, ◌∷◌, [], length, take};
+ghost use Rattle.hex.specs.Hex.{encode_lower};
+ghost use Rattle.mctpctl_texts.specs.HexPairs.{TellsPairs};
+ghost use Rattle.mctpctl_texts.specs.Writers.{KeepsFront, Wrote};
+
+use crate::text_writer::{HEX_PIECE, TextWriter};
+use std::marker::Model;
+
+/// How many bytes there are.
+const BYTES: usize = 256;
+
+/// What the crate `hex` writes of each byte. A text of many bytes is written by looking up two digits at once, where
+/// `hex` looks up one after the other.
+#[derive(Drop)]
+pub struct HexPairs {
+    /// At the place of each byte its two digits, lower-case.
+    pairs: [[u8; 2]; BYTES],
+}
+
+impl Model for HexPairs {
+    ghost use Rattle.std.specs.Prelude.{List, ℕ};
+    ghost use Rattle.mctpctl_texts.specs.HexPairs.{TellsPairs};
+
+    ghost Value = { List (List ℕ) };
+
+    ghost view = { λ p. p.pairs };
+
+    ghost invariant = { λ p. TellsPairs p.pairs };
+}
+
+impl HexPairs {
+    /// Asks `hex` for each byte.
+    pub fn new() -> HexPairs
+        ensures { TellsPairs result }
+    {
+        let mut pairs = [[0; 2]; BYTES];
+        for byte in 0..BYTES {
+            pairs[byte] = pair_of(byte as u8);
+        }
+        HexPairs { pairs }
+    }
+
+    /// Writes bytes in lower-case hex, piece by piece, so that no memory is taken for the digits.
+    pub fn write<O: TextWriter>(&self, out: &mut O, bytes: &[u8]) -> Result<(), O::Refusal>
+        ensures written { Wrote O.contents O.failed O.refused out.old out.new (encode_lower bytes.now) result }
+        ensures front { KeepsFront O.begins out.old out.new }
+    {
+        let mut room = [0; 2 * HEX_PIECE];
+        let mut rest = bytes;
+        while !rest.is_empty() {
+            let count = rest.len().min(HEX_PIECE);
+            self.spell(&rest[..count], &mut room);
+            out.write_bytes(&room[..2 * count])?;
+            rest = &rest[count..];
+        }
+        Ok(())
+    }
+
+    /// Puts bytes in lower-case hex in front of `room`, as `hex::encode_to_slice` does.
+    fn spell(&self, bytes: &[u8], room: &mut [u8])
+        requires { 2 * length bytes.now ≤ length room.old }
+        ensures digits { take (2 * length bytes.now) room.new ≡ encode_lower bytes.now }
+        ensures length { length room.new ≡ length room.old }
+    {
+        for place in 0..bytes.len() {
+            let [high, low] = self.pairs[usize::from(bytes[place])];
+            room[2 * place] = high;
+            room[2 * place + 1] = low;
+        }
+    }
+}
+
+/// The two digits that `hex` writes of a byte.
+fn pair_of(byte: u8) -> [u8; 2]
+    ensures { result ≡ encode_lower (byte ∷ []) }
+{
+    let mut pair = [0; 2];
+    match hex::encode_to_slice([byte], &mut pair) {
+        Ok(()) => pair,
+        Err(_) => unreachable!(),
+    }
+}
