@@ -12,14 +12,14 @@ pub loop-step-preserved : goal.loop-step-preserved
 loop-step-preserved g c =
     let i = c.loop-step.invariant in
     let step = borrowed_step c.in-Some.step in
-    let entry = borrowed_entry c.in-Some-2.entry in
+    let entry = borrowed_entry c.in-Some-next.entry in
     let line = entry_line c.set.new.self entry in
     record {
       text = i.text ++ line;
       written = Appends-trans _ _ _ _ _ i.written c.in_ok-write_entry_line.ensures.text;
       works = c.in_ok-write_entry_line.ensures.ok ∙ i.works;
-      whole = entries_step i.text (i.text ++ line) c.loop-step.step-iterator c.next.new.self c.loop-step.rest c.next-2.new.self step entry c.set.new.self
-          c.in-Some.ensures.steps c.in-Some-2.ensures.steps (c.set.ensures ∙ c.get.ensures.value) refl
+      whole = entries_step i.text (i.text ++ line) c.loop-step.step-iterator c.next.new.self c.loop-step.rest c.next-in-loop-step.new.self step entry c.set.new.self
+          c.in-Some.ensures.steps c.in-Some-next.ensures.steps (c.set.ensures ∙ c.get.ensures.value) refl
           ∙ i.whole;
     }
 
