@@ -131,10 +131,10 @@ impl<F: MessageForm> LineTask for Observer<F> {
         };
         room.text.clear();
         let LineRoom {
-            digits: _,
             packet,
             message,
             text,
+            ..
         } = room;
         self.show(alloc, moment, packet, message, text)?;
         self.last = moment;
