@@ -1,5 +1,5 @@
 -- A text whose digits are looked up in a table of pairs is written as `hex` writes it.
-use Rattle.std.proofs.Common.{◌≡◌, ◌<◌, ◌≤◌, ◌+◌, ◌*◌, ◌/◌, ◌%◌, ◌⊎◌, inl, inr, ℕ, List, [], ◌∷◌, ◌++◌, length, take, get_or, slice_get, slice_index, slice_set, Some, refl, sym, ap, ◌∙◌, add-one, append_assoc, take-suc, length-set, arith}
+use Rattle.std.proofs.Common.{◌≡◌, ◌<◌, ◌≤◌, ◌+◌, ◌*◌, ◌/◌, ◌%◌, inl, inr, ℕ, List, [], ◌∷◌, ◌++◌, length, take, get_or, slice_get, slice_index, slice_set, Some, refl, sym, ap, ◌∙◌, add-one, append_assoc, take-suc, length-set, arith}
 use Rattle.std.proofs.lemmas.Bool.{cases_lt}
 use Rattle.std.proofs.lemmas.List.{get_or-set_same, get_or-set_other, take_more_set}
 use Rattle.std.proofs.lemmas.Option.{get_or_from_slice_get, slice_get-get_or}

@@ -10,4 +10,4 @@ pub loop-place-preserved : goal.loop-place-preserved
 loop-place-preserved c =
     let small : c.from.result < 256 = omega (arith, c.from.ensures, c.type_inv.bytes c.loop-place.place) in
     pair_added c.self.inside.pairs c.loop-place.room c.args.bytes.now c.loop-place.place c.from.result c.self.invariant
-        small c.from.ensures c.loop-place-test.true (omega (arith, c.requires, c.loop-place.auto.room, c.loop-place-test.true)) c.loop-place.invariant
+    small c.from.ensures c.loop-place-test.true (omega (arith, c.requires, c.loop-place.auto.room, c.loop-place-test.true)) c.loop-place.invariant

@@ -24,7 +24,7 @@ loop-rest-preserved g c =
     let n = c.min-count.result in
     let piece : length (take n rest) ≡ n = omega (arith, length-take n rest, c.min-count.ensures) in
     let digits : take (2 * n) c.spell.new.room ≡ encode_lower (take n rest) =
-        ap (λ count. take (2 * count) c.spell.new.room) (sym piece) ∙ c.spell.ensures.digits in
+    ap (λ count. take (2 * count) c.spell.new.room) (sym piece) ∙ c.spell.ensures.digits in
     record {
       done = so_far.done ++ take n rest;
       split = moves_front _ so_far.done rest n so_far.split;
