@@ -1,7 +1,9 @@
 -- The text of items, one further: of steps with their entries, and of requests.
-use Rattle.std.proofs.Common.{◌≡◌, ℕ, suc, ◌+◌, ◌<◌, List, [], ◌∷◌, ◌++◌, drop, get_or, length, refl, sym, ap, ◌∙◌, append_assoc, append-nil, arith, drop-cons}
+use Rattle.std.proofs.Math.ListN.{drop_of_length-le}
+use Rattle.std.proofs.Common.{◌≡◌, ℕ, suc, map, ◌≤◌, ◌+◌, ◌<◌, List, [], ◌∷◌, ◌++◌, drop, get_or, length, refl, sym, ap, ◌∙◌, append_assoc, append-nil, arith, drop-cons}
 use Rattle.mctp_schedule.specs.Requests.{Request}
 use Rattle.mctp_schedule.specs.declared.entry.Entry.{Entry}
+use Rattle.schedule_text.specs.StepColumns.{moment_of_step}
 use Rattle.schedule_text.specs.declared.step.Step.{Step}
 use Rattle.mctpctl_texts.specs.EntryTexts.{entries_text, entry_line}
 use Rattle.mctpctl_texts.specs.ReportTexts.{requests_text, request_line}
@@ -12,18 +14,33 @@ next_dropped things i thing within is =
     let one : suc i ≡ i + 1 = omega arith in
     drop-cons things i thing within ∙ ap (λ t. t ∷ drop (suc i) things) (sym is) ∙ ap (λ n. thing ∷ drop n things) one
 
-pub entries_step : (before after : List ℕ) (steps others : List Step) (entries rest : List Entry) (step : Step) (entry : Entry) (moment : ℕ)
-    → steps ≡ step ∷ others → entries ≡ entry ∷ rest → moment ≡ step.moment → after ≡ before ++ entry_line moment entry
-    → after ++ entries_text others rest ≡ before ++ entries_text steps entries
-entries_step before after steps others entries rest step entry moment step_is entry_is at added =
-    ap (λ (t : List ℕ). t ++ entries_text others rest) (added ∙ ap (λ m. before ++ entry_line m entry) at)
-    ∙ append_assoc before (entry_line step.moment entry) (entries_text others rest)
-    ∙ ap (λ (s : List Entry). before ++ entries_text (step ∷ others) s) (sym entry_is)
-    ∙ ap (λ (s : List Step). before ++ entries_text s entries) (sym step_is)
+-- the lines of steps, by their moments alone
+abbrev pub entries_at : List ℕ → List Entry → List ℕ
+entries_at [] entries = []
+entries_at (moment ∷ moments) [] = []
+entries_at (moment ∷ moments) (entry ∷ entries) = entry_line moment entry ++ entries_at moments entries
 
-pub no_entries : (steps : List Step) → entries_text steps [] ≡ []
+pub by_moments : (steps : List Step) (entries : List Entry) → entries_at (map moment_of_step steps) entries ≡ entries_text steps entries
+by_moments [] entries = refl
+by_moments (step ∷ steps) [] = refl
+by_moments (step ∷ steps) (entry ∷ entries) = ap (λ t. entry_line step.moment entry ++ t) (by_moments steps entries)
+
+pub entries_step : (before after : List ℕ) (moments : List ℕ) (i : ℕ) (entries rest : List Entry) (moment : ℕ) (entry : Entry)
+    → i < length moments → moment ≡ get_or moments i moment → entries ≡ entry ∷ rest → after ≡ before ++ entry_line moment entry
+    → after ++ entries_at (drop (i + 1) moments) rest ≡ before ++ entries_at (drop i moments) entries
+entries_step before after moments i entries rest moment entry within moment_is entry_is added =
+    let others = drop (i + 1) moments in
+    ap (λ (t : List ℕ). t ++ entries_at others rest) added
+    ∙ append_assoc before (entry_line moment entry) (entries_at others rest)
+    ∙ ap (λ (s : List Entry). before ++ entries_at (moment ∷ others) s) (sym entry_is)
+    ∙ ap (λ (s : List ℕ). before ++ entries_at s entries) (sym (next_dropped moments i moment within moment_is))
+
+pub no_entries : (moments : List ℕ) → entries_at moments [] ≡ []
 no_entries [] = refl
-no_entries (step ∷ steps) = refl
+no_entries (moment ∷ moments) = refl
+
+pub past_moments : (moments : List ℕ) (i : ℕ) (entries : List Entry) → length moments ≤ i → entries_at (drop i moments) entries ≡ []
+past_moments moments i entries past = ap (λ left. entries_at left entries) (drop_of_length-le moments past)
 
 -- where none is to come, the text so far is all
 pub none_left : (text left all : List ℕ) → left ≡ [] → text ++ left ≡ all → text ≡ all

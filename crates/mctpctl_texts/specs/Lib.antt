@@ -1,6 +1,7 @@
 pub mod EntryTexts
 pub mod HexPairs
 pub mod OutcomeTexts
+pub mod Phrases
 pub mod ReportTexts
 pub mod ShownLines
 pub mod Writers

@@ -6,10 +6,12 @@ mod decimal;
 mod device_lines;
 mod entry_text;
 mod hex_pairs;
+mod line;
 mod message_line;
 mod outcome;
 mod packet_line;
 mod parts;
+mod phrases;
 mod report_text;
 mod text_writer;
 

@@ -2,15 +2,17 @@
 
 ghost use Rattle.std.specs.Prelude.{◌≡◌};
 ghost use Rattle.mctpctl_texts.specs.EntryTexts.{entries_text};
-ghost use Rattle.mctpctl_texts.specs.ReportTexts.{device_text, order_line, report_text, request_line, requests_text, progress_text, timely_line};
+ghost use Rattle.mctpctl_texts.specs.ReportTexts.{device_text, order_line, report_text, request_line, requests_text, timely_line};
+ghost use Rattle.mctpctl_texts.specs.Phrases.{phrases as all_phrases};
 ghost use Rattle.mctpctl_texts.specs.Writers.{Wrote};
-ghost use Rattle.pldm_requester.specs.RequestProgress.{progress_in_status};
 
 use crate::decimal::Decimal;
 use crate::device_lines::write_device;
 use crate::entry_text::write_entry_line;
 use crate::hex_pairs::HexPairs;
-use crate::parts::{write_number, write_numbers, write_text};
+use crate::line::{Line, Part};
+use crate::parts::{write_numbers, write_text};
+use crate::phrases::Phrases;
 use crate::text_writer::TextWriter;
 use mctp_schedule::{Entries, OpenedRequest, Report, Steps};
 use pldm_device::SimDevice;
@@ -27,8 +29,9 @@ pub fn write_report<O: TextWriter>(
         (report_text steps.now report.now.entries report.now.requests.items report.now.order.items
         (device_text report.now.device) report.now.timely) result }
 {
-    write_entries(out, steps, &report.entries)?;
-    write_requests(out, &HexPairs::new(), &report.requests)?;
+    let phrases = Phrases::new();
+    write_entries(out, &phrases, steps, &report.entries)?;
+    write_requests(out, &phrases, &report.requests)?;
     write_order(out, &report.order)?;
     write_device(out, &report.device)?;
     write_text(out, timely_line(report.timely))
@@ -37,20 +40,23 @@ pub fn write_report<O: TextWriter>(
 /// Writes a line for each of these steps, by what came of it.
 fn write_entries<O: TextWriter>(
     out: &mut O,
+    phrases: &Phrases,
     steps: &Steps,
     entries: &Entries,
 ) -> Result<(), O::Refusal>
+    requires { phrases.now ≡ all_phrases }
     ensures { Wrote O.contents O.failed O.refused out.old out.new
         (entries_text steps.now entries.now) result }
 {
     let mut rest = entries.iter();
-    let mut moment = Decimal::new(0);
-    for step in steps.iter() {
+    let mut digits = Decimal::new(0);
+    let mut line = Line::new();
+    for moment in steps.moments() {
         let Some(entry) = rest.next() else {
             return Ok(());
         };
-        moment.set(step.moment.get());
-        write_entry_line(out, &moment, entry)?;
+        digits.set(moment.get());
+        write_entry_line(out, &mut line, phrases, &digits, entry)?;
     }
     Ok(())
 }
@@ -58,50 +64,47 @@ fn write_entries<O: TextWriter>(
 /// Writes a line for each of these requests, which have the numbers from 0 on.
 fn write_requests<O: TextWriter>(
     out: &mut O,
-    pairs: &HexPairs,
+    phrases: &Phrases,
     requests: &[OpenedRequest],
 ) -> Result<(), O::Refusal>
+    requires { phrases.now ≡ all_phrases }
     ensures { Wrote O.contents O.failed O.refused out.old out.new (requests_text 0 requests.now) result }
 {
+    let pairs = HexPairs::new();
+    let mut line = Line::new();
     for i in 0..requests.len() {
-        write_request_line(out, pairs, i as u64, &requests[i])?;
+        write_request_line(out, &mut line, phrases, &pairs, i as u64, &requests[i])?;
     }
     Ok(())
 }
 
+/// Writes the line of a request: its number, who asked, and how it stands.
 fn write_request_line<O: TextWriter>(
     out: &mut O,
+    line: &mut Line,
+    phrases: &Phrases,
     pairs: &HexPairs,
     number: u64,
     request: &OpenedRequest,
 ) -> Result<(), O::Refusal>
+    requires { phrases.now ≡ all_phrases }
     ensures { Wrote O.contents O.failed O.refused out.old out.new (request_line number request.now) result }
 {
-    write_text(out, "request ")?;
-    write_number(out, number)?;
-    write_text(out, " from ")?;
-    write_number(out, request.requester().get().into())?;
-    write_text(out, " ")?;
-    write_status(out, pairs, request.status())?;
-    write_text(out, "\n")
-}
-
-fn write_status<O: TextWriter>(
-    out: &mut O,
-    pairs: &HexPairs,
-    status: Status<'_>,
-) -> Result<(), O::Refusal>
-    ensures { Wrote O.contents O.failed O.refused out.old out.new
-        (progress_text (progress_in_status status.entry)) result }
-{
-    match status {
-        Status::Open => write_text(out, "open"),
+    line.begin(&phrases.request);
+    line.add(&Part::of_number(number, b' '));
+    line.add(&phrases.from);
+    line.add(&Part::of_number(request.requester().get().into(), b' '));
+    match request.status() {
+        Status::Open => line.add(&phrases.still_open),
         Status::Answered(message) => {
-            write_text(out, "answered ")?;
-            pairs.write(out, message)
+            line.add(&phrases.answered_by);
+            out.write_bytes(line.bytes())?;
+            pairs.write(out, message)?;
+            return write_text(out, "\n");
         }
-        Status::GaveUp => write_text(out, "gave up"),
+        Status::GaveUp => line.add(&phrases.gave_up),
     }
+    out.write_bytes(line.bytes())
 }
 
 /// Writes the numbers of the requests that were performed, in that order, or `-` where there are none.

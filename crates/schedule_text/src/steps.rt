@@ -1,10 +1,10 @@
 //! The steps of a schedule, in columns.
 
-ghost use Rattle.std.specs.Prelude.{◌≡◌, ◌++◌, ◌∷◌, [], ◌<◌, ◌==◌, length, IfOk, OnOk, OnErr};
+ghost use Rattle.std.specs.Prelude.{◌≡◌, ◌++◌, ◌∷◌, [], ◌<◌, ◌==◌, length, map, IfOk, OnOk, OnErr};
 ghost use Rattle.std.specs.Iterator.{YieldsFirstBy, item_count};
 ghost use Rattle.std.specs.List.{IsFirstAndRest};
 ghost use Rattle.schedule_text.specs.Schedules.{last_moment};
-ghost use Rattle.schedule_text.specs.StepColumns.{borrowed_step, commands_in_action, mark_of, numbers_in_action, readings_in_action};
+ghost use Rattle.schedule_text.specs.StepColumns.{borrowed_step, commands_in_action, mark_of, moment_of_step, numbers_in_action, readings_in_action};
 
 use crate::{Action, ActionRef, Step, StepRef};
 use mctp_packet::{Eid, Memory, Moment};
@@ -88,6 +88,13 @@ impl Steps {
         ensures { result ≡ (length self.now == 0) }
     {
         self.moments.is_empty()
+    }
+
+    /// Their moments, which a report tells with what came of them.
+    pub fn moments(&self) -> &[Moment]
+        ensures { result.now ≡ map moment_of_step self.now }
+    {
+        &self.moments
     }
 
     /// Goes over them in the order of their lines.

@@ -1,13 +1,14 @@
 -- The text so far, and then that of the steps to come, is that of all steps.
-use Rattle.std.proofs.Common.{◌≡◌, ℕ, List, ◌++◌}
+use Rattle.std.proofs.Common.{◌≡◌, ℕ, List, ◌++◌, drop}
 use Rattle.std.specs.Io.KnownBytes.{Appends}
 use Rattle.mctpctl_texts.specs.EntryTexts.{entries_text}
+use Rattle.mctpctl_texts.proofs.ItemTexts.{entries_at}
 use Rattle.mctpctl_texts.proofs.report_text.write_entries.Given as goal
 
-abbrev pub invariant-loop-step : goal.invariant-loop-step
-invariant-loop-step g l = record {
+abbrev pub invariant-loop-moment : goal.invariant-loop-moment
+invariant-loop-moment g l = record {
   text : List ℕ;
   written : Appends (g.O.TextWriter.contents l.initial.out) (g.O.TextWriter.contents l.out) text;
   works : g.O.TextWriter.failed l.out ≡ g.O.TextWriter.failed l.initial.out;
-  whole : text ++ entries_text l.step-iterator l.rest ≡ entries_text l.steps l.entries;
+  whole : text ++ entries_at (drop l.moment-index l.moment-items) l.rest ≡ entries_text l.steps l.entries;
 }
