@@ -1,4 +1,5 @@
 pub mod BitTexts
+pub mod GatheredParts
 pub mod ItemTexts
 pub mod PairTables
 pub mod PlacesTold

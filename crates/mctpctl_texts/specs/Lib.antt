@@ -1,4 +1,5 @@
 pub mod EntryTexts
+pub mod Gathering
 pub mod HexPairs
 pub mod OutcomeTexts
 pub mod Phrases

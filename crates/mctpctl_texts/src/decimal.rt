@@ -3,7 +3,7 @@
 ghost use Rattle.std.specs.Fmt.{decimal};
 ghost use Rattle.std.specs.Prelude.{◌≡◌, ◌++◌, ◌∷◌, []};
 
-use crate::line::Part;
+use crate::page::Part;
 use std::marker::Model;
 
 /// A number, its decimal digits and a space, which are made once for lines that begin with the same

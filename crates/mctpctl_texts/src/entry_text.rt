@@ -1,15 +1,17 @@
 //! The text of what came of a step.
 
-ghost use Rattle.std.specs.Prelude.{◌≡◌, ◌≤◌, ◌<◌, ◌+◌, ◌++◌, ◌∷◌, [], codes, length};
+ghost use Rattle.std.specs.Prelude.{◌≡◌, ◌≤◌, ◌<◌, ◌+◌, ◌*◌, ◌++◌, ◌∷◌, [], codes, length};
 ghost use Rattle.std.specs.Fmt.{decimal};
 ghost use Rattle.mctp_schedule.specs.EntryColumns.{borrowed_entry};
 ghost use Rattle.mctpctl_texts.specs.EntryTexts.{again_text, delivered_text, due_text, entry_line, entry_text, gave_up_text, received_text};
+ghost use Rattle.mctpctl_texts.specs.Gathering.{Gathered};
 ghost use Rattle.mctpctl_texts.specs.Phrases.{phrases as all_phrases};
 ghost use Rattle.mctpctl_texts.specs.ShownLines.{drop_text};
 ghost use Rattle.mctpctl_texts.specs.Writers.{Wrote};
 
 use crate::decimal::Decimal;
-use crate::line::{Line, MAX_PART, Part};
+use crate::gathering::{flush, make_room};
+use crate::page::{MAX_PART, PAGE, Page, Part};
 use crate::parts::{write_numbers, write_text};
 use crate::phrases::Phrases;
 use crate::text_writer::TextWriter;
@@ -18,86 +20,89 @@ use mctp_schedule::{Delivery, EntryRef};
 use pldm_requester::Got;
 use pldm_responder::MessageOutcome;
 
-/// Writes the line of a step at this moment: the moment, and what came of the step. It is put together in `line` first,
-/// but for the numbers that a tick tells.
-pub(crate) fn write_entry_line<O: TextWriter>(
+/// The most bytes of an entry's line, but for the numbers that a tick tells: its moment, and up to three parts.
+const MAX_ENTRY: usize = 4 * MAX_PART;
+
+/// Gathers the line of a step at this moment: the moment, and what came of the step.
+pub(crate) fn gather_entry_line<O: TextWriter>(
     out: &mut O,
-    line: &mut Line,
+    page: &mut Page,
     phrases: &Phrases,
     moment: &Decimal,
     entry: EntryRef<'_>,
 ) -> Result<(), O::Refusal>
     requires { phrases.now ≡ all_phrases }
-    ensures { Wrote O.contents O.failed O.refused out.old out.new
+    ensures { Gathered O.contents O.failed O.refused out.old out.new page.old page.new
         (entry_line moment.now (borrowed_entry entry.entry)) result }
 {
-    line.begin(moment.spaced());
+    make_room(out, page, MAX_ENTRY)?;
+    page.add(moment.spaced());
     match entry {
-        EntryRef::Nothing => line.add(&phrases.nothing),
-        EntryRef::Opened(number) => add_opened(line, phrases, number),
-        EntryRef::NotOpened(fault) => line.add(phrases.not_opened(fault)),
+        EntryRef::Nothing => page.add(&phrases.nothing),
+        EntryRef::Opened(number) => add_opened(page, phrases, number),
+        EntryRef::NotOpened(fault) => page.add(phrases.not_opened(fault)),
         EntryRef::Due { again, given_up } => {
             if !again.is_empty() || !given_up.is_empty() {
-                out.write_bytes(line.bytes())?;
+                flush(out, page)?;
                 return write_due(out, again, given_up);
             }
-            line.add(&phrases.nothing_due);
+            page.add(&phrases.nothing_due);
         }
-        EntryRef::Delivered { busy, delivery } => add_delivered(line, phrases, busy, delivery),
-        EntryRef::Received(got) => add_received(line, phrases, got),
-        EntryRef::Sensed(sensed) => line.add(phrases.sensed(&sensed)),
-        EntryRef::Restarted => line.add(&phrases.restarted),
+        EntryRef::Delivered { busy, delivery } => add_delivered(page, phrases, busy, delivery),
+        EntryRef::Received(got) => add_received(page, phrases, got),
+        EntryRef::Sensed(sensed) => page.add(phrases.sensed(&sensed)),
+        EntryRef::Restarted => page.add(&phrases.restarted),
     }
-    out.write_bytes(line.bytes())
+    Ok(())
 }
 
 /// Adds the number of a request that was opened.
-fn add_opened(line: &mut Line, phrases: &Phrases, number: u64)
-    requires few { length line.old ≤ MAX_PART }
+fn add_opened(page: &mut Page, phrases: &Phrases, number: u64)
+    requires room { length page.old + 3 * MAX_PART ≤ PAGE }
     requires phrases { phrases.now ≡ all_phrases }
-    ensures { line.new ≡ line.old ++ (codes "opened " ++ (decimal number ++ 10 ∷ [])) }
+    ensures { page.new ≡ page.old ++ (codes "opened " ++ (decimal number ++ 10 ∷ [])) }
 {
-    line.add(&phrases.opened);
-    line.add(&Part::of_number(number, b'\n'));
+    page.add(&phrases.opened);
+    page.add(&Part::of_number(number, b'\n'));
 }
 
 /// Adds what became of the packet of a request.
-fn add_delivered(line: &mut Line, phrases: &Phrases, busy: bool, delivery: &Delivery)
-    requires few { length line.old ≤ MAX_PART }
+fn add_delivered(page: &mut Page, phrases: &Phrases, busy: bool, delivery: &Delivery)
+    requires room { length page.old + 3 * MAX_PART ≤ PAGE }
     requires phrases { phrases.now ≡ all_phrases }
-    ensures { line.new ≡ line.old ++ (delivered_text busy delivery.now ++ 10 ∷ []) }
+    ensures { page.new ≡ page.old ++ (delivered_text busy delivery.now ++ 10 ∷ []) }
 {
     match delivery.taken() {
-        MessageOutcome::Dropped(reason) => add_drop(line, phrases, *reason),
-        MessageOutcome::Partial => line.add(&phrases.partial),
+        MessageOutcome::Dropped(reason) => add_drop(page, phrases, *reason),
+        MessageOutcome::Partial => page.add(&phrases.partial),
         MessageOutcome::Answered { fresh, changed, .. } => {
-            line.add(phrases.answered_as(busy, *fresh, *changed));
+            page.add(phrases.answered_as(busy, *fresh, *changed));
         }
     }
 }
 
 /// Adds what became of a packet of an answer.
-fn add_received(line: &mut Line, phrases: &Phrases, got: Got)
-    requires few { length line.old ≤ MAX_PART }
+fn add_received(page: &mut Page, phrases: &Phrases, got: Got)
+    requires room { length page.old + 3 * MAX_PART ≤ PAGE }
     requires phrases { phrases.now ≡ all_phrases }
-    ensures { line.new ≡ line.old ++ (received_text got ++ 10 ∷ []) }
+    ensures { page.new ≡ page.old ++ (received_text got ++ 10 ∷ []) }
 {
     match got {
-        Got::Dropped(reason) => add_drop(line, phrases, reason),
-        Got::Partial => line.add(&phrases.partial),
-        Got::Answered(_) => line.add(&phrases.answered),
+        Got::Dropped(reason) => add_drop(page, phrases, reason),
+        Got::Partial => page.add(&phrases.partial),
+        Got::Answered(_) => page.add(&phrases.answered),
     }
 }
 
 /// Adds that bytes were dropped, and why.
-fn add_drop(line: &mut Line, phrases: &Phrases, reason: Reason)
-    requires few { length line.old ≤ MAX_PART }
+fn add_drop(page: &mut Page, phrases: &Phrases, reason: Reason)
+    requires room { length page.old + 3 * MAX_PART ≤ PAGE }
     requires phrases { phrases.now ≡ all_phrases }
-    ensures { line.new ≡ line.old ++ (drop_text reason ++ 10 ∷ []) }
+    ensures { page.new ≡ page.old ++ (drop_text reason ++ 10 ∷ []) }
 {
-    line.add(&phrases.drop);
-    line.add(&Part::new(reason.name()));
-    line.add(&phrases.end);
+    page.add(&phrases.drop);
+    page.add(&Part::new(reason.name()));
+    page.add(&phrases.end);
 }
 
 /// Writes what was due, of which there is something, and the end of its line.

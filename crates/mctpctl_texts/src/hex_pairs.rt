@@ -59,7 +59,7 @@ impl HexPairs {
     }
 
     /// Puts bytes in lower-case hex in front of `room`, as `hex::encode_to_slice` does.
-    fn spell(&self, bytes: &[u8], room: &mut [u8])
+    pub(crate) fn spell(&self, bytes: &[u8], room: &mut [u8])
         requires { 2 * length bytes.now ≤ length room.old }
         ensures digits { take (2 * length bytes.now) room.new ≡ encode_lower bytes.now }
         ensures length { length room.new ≡ length room.old }

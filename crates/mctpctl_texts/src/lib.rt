@@ -5,11 +5,12 @@
 mod decimal;
 mod device_lines;
 mod entry_text;
+mod gathering;
 mod hex_pairs;
-mod line;
 mod message_line;
 mod outcome;
 mod packet_line;
+mod page;
 mod parts;
 mod phrases;
 mod report_text;

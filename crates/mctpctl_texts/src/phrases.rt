@@ -4,7 +4,7 @@ ghost use Rattle.std.specs.Prelude.{◌≡◌, ◌++◌, ◌∷◌, []};
 ghost use Rattle.mctpctl_texts.specs.EntryTexts.{answered_text, not_opened_text, sensed_text};
 ghost use Rattle.mctpctl_texts.specs.Phrases.{phrases};
 
-use crate::line::Part;
+use crate::page::Part;
 use pldm_platform::ReadingFault;
 use pldm_requester::OpenFault;
 

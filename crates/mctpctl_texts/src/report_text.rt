@@ -1,19 +1,25 @@
 //! The text of a run's report.
 
-ghost use Rattle.std.specs.Prelude.{◌≡◌};
+ghost use Rattle.std.specs.Fmt.{decimal};
+ghost use Rattle.std.specs.Prelude.{◌≡◌, ◌≤◌, ◌+◌, ◌*◌, ◌++◌, ◌∷◌, [], codes, length};
+ghost use Rattle.hex.specs.Hex.{encode_lower};
 ghost use Rattle.mctpctl_texts.specs.EntryTexts.{entries_text};
-ghost use Rattle.mctpctl_texts.specs.ReportTexts.{device_text, order_line, report_text, request_line, requests_text, timely_line};
+ghost use Rattle.mctpctl_texts.specs.ReportTexts.{device_text, order_line, progress_text, report_text, request_line, requests_text, timely_line};
+ghost use Rattle.mctpctl_texts.specs.Gathering.{Gathered};
 ghost use Rattle.mctpctl_texts.specs.Phrases.{phrases as all_phrases};
 ghost use Rattle.mctpctl_texts.specs.Writers.{Wrote};
+ghost use Rattle.pldm_requester.specs.RequestProgress.{progress_in_status};
 
 use crate::decimal::Decimal;
 use crate::device_lines::write_device;
-use crate::entry_text::write_entry_line;
+use crate::entry_text::gather_entry_line;
+use crate::gathering::{flush, gather_hex, make_room};
 use crate::hex_pairs::HexPairs;
-use crate::line::{Line, Part};
+use crate::page::{MAX_PART, PAGE, Page, Part};
 use crate::parts::{write_numbers, write_text};
 use crate::phrases::Phrases;
 use crate::text_writer::TextWriter;
+use mctp_packet::Eid;
 use mctp_schedule::{Entries, OpenedRequest, Report, Steps};
 use pldm_device::SimDevice;
 use pldm_requester::Status;
@@ -29,82 +35,144 @@ pub fn write_report<O: TextWriter>(
         (report_text steps.now report.now.entries report.now.requests.items report.now.order.items
         (device_text report.now.device) report.now.timely) result }
 {
-    let phrases = Phrases::new();
-    write_entries(out, &phrases, steps, &report.entries)?;
-    write_requests(out, &phrases, &report.requests)?;
+    write_items(out, steps, report)?;
     write_order(out, &report.order)?;
     write_device(out, &report.device)?;
     write_text(out, timely_line(report.timely))
 }
 
-/// Writes a line for each of these steps, by what came of it.
-fn write_entries<O: TextWriter>(
+/// Writes the lines of the steps and those of the requests, many at a time.
+fn write_items<O: TextWriter>(
     out: &mut O,
+    steps: &Steps,
+    report: &Report<SimDevice>,
+) -> Result<(), O::Refusal>
+    ensures { Wrote O.contents O.failed O.refused out.old out.new
+        (entries_text steps.now report.now.entries ++ requests_text 0 report.now.requests.items) result }
+{
+    let phrases = Phrases::new();
+    let mut page = Page::new();
+    gather_entries(out, &mut page, &phrases, steps, &report.entries)?;
+    gather_requests(out, &mut page, &phrases, &report.requests)?;
+    flush(out, &mut page)
+}
+
+/// Gathers a line for each of these steps, by what came of it.
+fn gather_entries<O: TextWriter>(
+    out: &mut O,
+    page: &mut Page,
     phrases: &Phrases,
     steps: &Steps,
     entries: &Entries,
 ) -> Result<(), O::Refusal>
     requires { phrases.now ≡ all_phrases }
-    ensures { Wrote O.contents O.failed O.refused out.old out.new
+    ensures { Gathered O.contents O.failed O.refused out.old out.new page.old page.new
         (entries_text steps.now entries.now) result }
 {
     let mut rest = entries.iter();
     let mut digits = Decimal::new(0);
-    let mut line = Line::new();
     for moment in steps.moments() {
         let Some(entry) = rest.next() else {
             return Ok(());
         };
         digits.set(moment.get());
-        write_entry_line(out, &mut line, phrases, &digits, entry)?;
+        gather_entry_line(out, page, phrases, &digits, entry)?;
     }
     Ok(())
 }
 
-/// Writes a line for each of these requests, which have the numbers from 0 on.
-fn write_requests<O: TextWriter>(
+/// Gathers a line for each of these requests, which have the numbers from 0 on.
+fn gather_requests<O: TextWriter>(
     out: &mut O,
+    page: &mut Page,
     phrases: &Phrases,
     requests: &[OpenedRequest],
 ) -> Result<(), O::Refusal>
     requires { phrases.now ≡ all_phrases }
-    ensures { Wrote O.contents O.failed O.refused out.old out.new (requests_text 0 requests.now) result }
+    ensures { Gathered O.contents O.failed O.refused out.old out.new page.old page.new
+        (requests_text 0 requests.now) result }
 {
     let pairs = HexPairs::new();
-    let mut line = Line::new();
     for i in 0..requests.len() {
-        write_request_line(out, &mut line, phrases, &pairs, i as u64, &requests[i])?;
+        gather_request_line(out, page, phrases, &pairs, i as u64, &requests[i])?;
     }
     Ok(())
 }
 
-/// Writes the line of a request: its number, who asked, and how it stands.
-fn write_request_line<O: TextWriter>(
+/// The most bytes of a request's line, but for its answer: four parts, and then how it stands.
+const MAX_REQUEST: usize = 5 * MAX_PART;
+
+/// Gathers the line of a request: its number, who asked, and how it stands.
+fn gather_request_line<O: TextWriter>(
     out: &mut O,
-    line: &mut Line,
+    page: &mut Page,
     phrases: &Phrases,
     pairs: &HexPairs,
     number: u64,
     request: &OpenedRequest,
 ) -> Result<(), O::Refusal>
     requires { phrases.now ≡ all_phrases }
-    ensures { Wrote O.contents O.failed O.refused out.old out.new (request_line number request.now) result }
+    ensures { Gathered O.contents O.failed O.refused out.old out.new page.old page.new
+        (request_line number request.now) result }
 {
-    line.begin(&phrases.request);
-    line.add(&Part::of_number(number, b' '));
-    line.add(&phrases.from);
-    line.add(&Part::of_number(request.requester().get().into(), b' '));
-    match request.status() {
-        Status::Open => line.add(&phrases.still_open),
-        Status::Answered(message) => {
-            line.add(&phrases.answered_by);
-            out.write_bytes(line.bytes())?;
-            pairs.write(out, message)?;
-            return write_text(out, "\n");
-        }
-        Status::GaveUp => line.add(&phrases.gave_up),
+    make_room(out, page, MAX_REQUEST)?;
+    add_request(page, phrases, number, request.requester());
+    gather_status(out, page, phrases, pairs, request.status())
+}
+
+/// Adds the number of a request and who asked.
+fn add_request(page: &mut Page, phrases: &Phrases, number: u64, requester: Eid)
+    requires room { length page.old + 4 * MAX_PART ≤ PAGE }
+    requires phrases { phrases.now ≡ all_phrases }
+    ensures text { page.new ≡ page.old ++ (codes "request " ++ (decimal number ++ 32 ∷ (codes "from "
+        ++ (decimal requester ++ 32 ∷ [])))) }
+    ensures few { length page.new ≤ length page.old + 4 * MAX_PART }
+{
+    page.add(&phrases.request);
+    page.add(&Part::of_number(number, b' '));
+    page.add(&phrases.from);
+    page.add(&Part::of_number(requester.get().into(), b' '));
+}
+
+/// Gathers how a request stands, and the end of its line.
+fn gather_status<O: TextWriter>(
+    out: &mut O,
+    page: &mut Page,
+    phrases: &Phrases,
+    pairs: &HexPairs,
+    status: Status<'_>,
+) -> Result<(), O::Refusal>
+    requires room { length page.old + MAX_PART ≤ PAGE }
+    requires phrases { phrases.now ≡ all_phrases }
+    ensures { Gathered O.contents O.failed O.refused out.old out.new page.old page.new
+        (progress_text (progress_in_status status.entry) ++ 10 ∷ []) result }
+{
+    match status {
+        Status::Open => page.add(&phrases.still_open),
+        Status::Answered(message) => return gather_answer(out, page, phrases, pairs, message),
+        Status::GaveUp => page.add(&phrases.gave_up),
     }
-    out.write_bytes(line.bytes())
+    Ok(())
+}
+
+/// Gathers the message that answered a request, and the end of its line.
+fn gather_answer<O: TextWriter>(
+    out: &mut O,
+    page: &mut Page,
+    phrases: &Phrases,
+    pairs: &HexPairs,
+    message: &[u8],
+) -> Result<(), O::Refusal>
+    requires room { length page.old + MAX_PART ≤ PAGE }
+    requires phrases { phrases.now ≡ all_phrases }
+    ensures { Gathered O.contents O.failed O.refused out.old out.new page.old page.new
+        (codes "answered " ++ (encode_lower message.now ++ 10 ∷ [])) result }
+{
+    page.add(&phrases.answered_by);
+    gather_hex(out, page, pairs, message)?;
+    make_room(out, page, MAX_PART)?;
+    page.add(&phrases.end);
+    Ok(())
 }
 
 /// Writes the numbers of the requests that were performed, in that order, or `-` where there are none.

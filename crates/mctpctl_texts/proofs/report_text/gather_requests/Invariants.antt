@@ -1,13 +1,14 @@
 -- The text so far, and then that of the requests to come, is that of all requests.
 use Rattle.std.proofs.Common.{◌≡◌, ℕ, List, ◌++◌, drop, length}
 use Rattle.std.specs.Io.KnownBytes.{Appends}
+use Rattle.mctpctl_texts.specs.Gathering.{told}
 use Rattle.mctpctl_texts.specs.ReportTexts.{requests_text}
-use Rattle.mctpctl_texts.proofs.report_text.write_requests.Given as goal
+use Rattle.mctpctl_texts.proofs.report_text.gather_requests.Given as goal
 
 abbrev pub invariant-loop-i : goal.invariant-loop-i
 invariant-loop-i g l = record {
   text : List ℕ;
-  written : Appends (g.O.TextWriter.contents l.initial.out) (g.O.TextWriter.contents l.out) text;
+  written : Appends (told g.O.TextWriter.contents l.initial.out l.initial.page) (told g.O.TextWriter.contents l.out l.page) text;
   works : g.O.TextWriter.failed l.out ≡ g.O.TextWriter.failed l.initial.out;
   whole : text ++ requests_text l.i (drop l.i l.requests) ≡ requests_text 0 l.requests;
   end : l.i-end ≡ length l.requests;

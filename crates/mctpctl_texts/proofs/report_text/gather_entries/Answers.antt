@@ -1,11 +1,11 @@
--- A step further, its line is written.
+-- A step further, its line is gathered.
 use Rattle.std.proofs.Common.{◌++◌, [], drop, arith, rules, refl, subst, ap, ◌∙◌}
 use Rattle.std.specs.Io.KnownBytes.{Appends}
 use Rattle.std.proofs.KnownBytes.{Appends-trans}
 use Rattle.mctp_schedule.specs.EntryColumns.{borrowed_entry}
 use Rattle.mctpctl_texts.specs.EntryTexts.{entry_line}
 use Rattle.mctpctl_texts.proofs.ItemTexts.{by_moments, entries_at, entries_step, no_entries, none_left, past_moments}
-use Rattle.mctpctl_texts.proofs.report_text.write_entries.Goals as goal
+use Rattle.mctpctl_texts.proofs.report_text.gather_entries.Goals as goal
 
 pub loop-moment-init : goal.loop-moment-init
 loop-moment-init g c = record {
@@ -22,8 +22,8 @@ loop-moment-preserved g c =
     let line = entry_line c.set.new.self entry in
     record {
       text = i.text ++ line;
-      written = Appends-trans _ _ _ _ _ i.written c.in_ok-write_entry_line.ensures.text;
-      works = c.in_ok-write_entry_line.ensures.ok ∙ i.works;
+      written = Appends-trans _ _ _ _ _ i.written c.in_ok-gather_entry_line.ensures.text;
+      works = c.in_ok-gather_entry_line.ensures.ok ∙ i.works;
       whole = entries_step i.text (i.text ++ line) c.moments-moment-items.result.now c.loop-moment.moment-index c.loop-moment.rest c.next.new.self c.moment-item.result entry
           c.loop-moment-test.true c.moment-item.is c.in-Some.ensures.steps (ap (λ m. i.text ++ entry_line m entry) (c.set.ensures ∙ c.get.ensures.value))
           ∙ i.whole;

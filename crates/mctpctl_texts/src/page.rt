@@ -1,21 +1,20 @@
-//! A line of few bytes, which is put together here and then written at once.
+//! Text that is gathered before it is written, so that most parts of a few bytes are copied without a call.
 
 ghost use Rattle.std.specs.Fmt.{decimal};
-ghost use Rattle.std.specs.Prelude.{◌≡◌, ◌≤◌, ◌+◌, ◌++◌, ◌∷◌, [], length};
+ghost use Rattle.std.specs.Prelude.{◌≡◌, ◌≤◌, ◌+◌, ◌*◌, ◌++◌, ◌∷◌, [], length, IsTrue};
+ghost use Rattle.hex.specs.Hex.{encode_lower};
 
+use crate::hex_pairs::HexPairs;
 use itoa::Buffer;
 use std::marker::Model;
 
 /// The most bytes of a part: a drop with the longest name of a reason has 27, a number of 64 bits with a space 21.
 pub(crate) const MAX_PART: usize = 32;
 
-/// The most parts of a line.
-const MAX_PARTS: usize = 5;
+/// How many bytes a page has: lines are written many at a time.
+pub(crate) const PAGE: usize = 4_096;
 
-/// The most bytes of a line.
-pub(crate) const MAX_LINE: usize = MAX_PARTS * MAX_PART;
-
-/// A part of a line, in a room of one size: all of that is copied, which costs less than to ask how much of it there is.
+/// A part of a text, in a room of one size: all of that is copied, which costs less than to ask how much of it there is.
 #[derive(Drop)]
 pub(crate) struct Part {
     room: [u8; MAX_PART],
@@ -24,7 +23,7 @@ pub(crate) struct Part {
 
 impl Model for Part {
     ghost use Rattle.std.specs.Prelude.{ℕ, ◌≤◌, List, take};
-    ghost use Rattle.mctpctl_texts.specs.declared.line.TheConstants.{MAX_PART};
+    ghost use Rattle.mctpctl_texts.specs.declared.page.TheConstants.{MAX_PART};
 
     ghost Value = { List ℕ };
 
@@ -70,47 +69,60 @@ impl Part {
     }
 }
 
-/// A line, part by part.
+/// Text that is gathered, part by part, before it is written.
 #[derive(Drop)]
-pub(crate) struct Line {
-    room: [u8; MAX_LINE],
+pub(crate) struct Page {
+    room: [u8; PAGE],
     count: usize,
 }
 
-impl Model for Line {
+impl Model for Page {
     ghost use Rattle.std.specs.Prelude.{ℕ, ◌≤◌, List, take};
-    ghost use Rattle.mctpctl_texts.specs.declared.line.TheConstants.{MAX_LINE};
+    ghost use Rattle.mctpctl_texts.specs.declared.page.TheConstants.{PAGE};
 
     ghost Value = { List ℕ };
 
-    ghost view = { λ l. take l.count l.room };
+    ghost view = { λ p. take p.count p.room };
 
-    ghost invariant = { λ l. l.count ≤ MAX_LINE };
+    ghost invariant = { λ p. p.count ≤ PAGE };
 }
 
-impl Line {
-    /// A line with nothing on it.
-    pub(crate) fn new() -> Line
+impl Page {
+    /// A page with nothing on it.
+    pub(crate) fn new() -> Page
         ensures { result ≡ [] }
     {
-        Line {
-            room: [0; MAX_LINE],
+        Page {
+            room: [0; PAGE],
             count: 0,
         }
     }
 
-    /// Begins anew, with this part.
-    pub(crate) fn begin(&mut self, part: &Part)
-        ensures value { self.new ≡ part.now }
-        ensures few { length self.new ≤ MAX_PART }
+    /// Its text.
+    pub(crate) fn bytes(&self) -> &[u8]
+        ensures { result.now ≡ self.now }
+    {
+        &self.room[..self.count]
+    }
+
+    /// Takes all text away.
+    pub(crate) fn clear(&mut self)
+        ensures { self.new ≡ [] }
     {
         self.count = 0;
-        self.add(part);
+    }
+
+    /// Whether so many bytes more have room.
+    pub(crate) fn has_room(&self, more: usize) -> bool
+        requires { more ≤ PAGE }
+        ensures { IsTrue result → length self.now + more ≤ PAGE }
+    {
+        self.count <= PAGE - more
     }
 
     /// Adds a part, for which there has to be room.
     pub(crate) fn add(&mut self, part: &Part)
-        requires { length self.old + MAX_PART ≤ MAX_LINE }
+        requires { length self.old + MAX_PART ≤ PAGE }
         ensures value { self.new ≡ self.old ++ part.now }
         ensures few { length self.new ≤ length self.old + MAX_PART }
     {
@@ -118,10 +130,12 @@ impl Line {
         self.count += usize::from(part.count);
     }
 
-    /// Its bytes.
-    pub(crate) fn bytes(&self) -> &[u8]
-        ensures { result.now ≡ self.now }
+    /// Adds bytes in lower-case hex by `pairs`. There has to be room for their digits.
+    pub(crate) fn add_hex(&mut self, pairs: &HexPairs, bytes: &[u8])
+        requires { length self.old + 2 * length bytes.now ≤ PAGE }
+        ensures { self.new ≡ self.old ++ encode_lower bytes.now }
     {
-        &self.room[..self.count]
+        pairs.spell(bytes, &mut self.room[self.count..]);
+        self.count += 2 * bytes.len();
     }
 }

@@ -1,0 +1,35 @@
+-- A text that is gathered part by part.
+use Rattle.std.proofs.Common.{◌≡◌, ℕ, List, [], ◌∷◌, ◌++◌, Option, None, Some, Result, Ok, Err, OnOk, refl, sym, ap, subst, ◌∙◌, append_assoc, append-nil}
+use Rattle.std.specs.Io.KnownBytes.{Appends, append_known}
+use Rattle.std.proofs.KnownBytes.{Appends-trans}
+
+-- a page that grows tells more
+pub grown : (known : Option (List ℕ)) (gathered more : List ℕ) → Appends (append_known known gathered) (append_known known (gathered ++ more)) more
+grown None gathered more = tt
+grown (Some taken) gathered more = sym (append_assoc taken gathered more)
+
+pub grown_to : (known : Option (List ℕ)) (gathered more new : List ℕ) → new ≡ gathered ++ more → Appends (append_known known gathered) (append_known known new) more
+grown_to known gathered more new is = subst (λ n. Appends (append_known known gathered) (append_known known n) more) (sym is) (grown known gathered more)
+
+-- room that was made tells nothing more
+pub after_room : (a b c : Option (List ℕ)) (more : List ℕ) → Appends a b [] → Appends b c more → Appends a c more
+after_room a b c more room added = Appends-trans a b c [] more room added
+
+-- an empty page tells what the writer has taken
+pub nothing_gathered : (known : Option (List ℕ)) → append_known known [] ≡ known
+nothing_gathered None = refl
+nothing_gathered (Some taken) = ap Some (append-nil taken)
+
+-- digits and a space, and then a text
+pub after_digits : (page digits text new : List ℕ) → new ≡ (page ++ (digits ++ 32 ∷ [])) ++ text → new ≡ page ++ (digits ++ 32 ∷ text)
+after_digits page digits text new is = is ∙ append_assoc page (digits ++ 32 ∷ []) text ∙ ap (λ t. page ++ t) (append_assoc digits (32 ∷ []) text)
+
+-- what a page tells at its end is written
+pub and_flushed : {E : Type 0} (result : Result Unit E) (a b c : Option (List ℕ)) (first gathered text : List ℕ)
+    → first ≡ [] → Appends (append_known a first) (append_known b gathered) text → OnOk result (Appends b c gathered) → OnOk result (Appends a c text)
+and_flushed (Err fault) a b c first gathered text none told written = tt
+and_flushed (Ok done) None b c first gathered text none told written = tt
+and_flushed (Ok done) (Some x) None c first gathered text none told written = absurd told
+and_flushed (Ok done) (Some x) (Some y) None first gathered text none told written = absurd written
+and_flushed (Ok done) (Some x) (Some y) (Some z) first gathered text none told written =
+    written ∙ told ∙ ap (λ f. (x ++ f) ++ text) none ∙ ap (λ f. f ++ text) (append-nil x)
