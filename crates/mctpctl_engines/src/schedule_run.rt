@@ -24,8 +24,8 @@ use std::io::{Read, Write};
 /// failed writer took is not known.
 ///
 /// It holds the description, what the lines of the schedule spell, the front of a line that has not ended,
-/// one piece of input, and then what came of each step. The text is written part by part, and much of it in
-/// parts of a few bytes: give it a writer that gathers them, as `BufWriter` does.
+/// one piece of input, and then what came of each step. The text is written some thousand bytes at a time, and
+/// part of it a few bytes at a time: give it a writer that gathers them, as `BufWriter` does.
 pub fn run_all<R: Read, W: Write>(
     alloc: Global,
     reader: &mut Port<R>,

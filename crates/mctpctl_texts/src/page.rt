@@ -121,6 +121,7 @@ impl Page {
     }
 
     /// Adds a part, for which there has to be room.
+    #[inline]
     pub(crate) fn add(&mut self, part: &Part)
         requires { length self.old + MAX_PART ≤ PAGE }
         ensures value { self.new ≡ self.old ++ part.now }
