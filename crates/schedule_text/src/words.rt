@@ -8,7 +8,7 @@ ghost use Rattle.schedule_text.specs.declared.line_fault.LineFaultKind.TheVarian
 use crate::word::Word;
 use crate::{LineFaultKind, MAX_COMMAND_WORDS};
 use arrayvec::ArrayVec;
-use line_words::{first_number, split_number, split_word};
+use line_words::{first_number, split_number, split_word, without_cr};
 use std::marker::Model;
 
 /// The words of a line that are not read yet.
@@ -27,13 +27,18 @@ impl<'a> Model for Words<'a> {
 }
 
 /// The first word that a line says, given without its LF, and the words after it; `None` where it says
-/// none.
+/// none. Nearly all lines begin with `at `, which is not looked at byte by byte.
 pub(crate) fn words_in(line: &[u8]) -> Option<(Word<'_>, Words<'_>)>
     ensures some { IfSome result (λ p. said_words line.now ≡ p.0 ∷ p.1) }
     ensures none { IfNone result (said_words line.now ≡ []) }
 {
-    let (first, number, text) = first_number(line)?;
-    Some((Word::new(first, number), Words { text }))
+    match without_cr(line) {
+        [b'a', b't', b' ', text @ ..] => Some((Word::new(b"at", None), Words { text })),
+        _ => {
+            let (first, number, text) = first_number(line)?;
+            Some((Word::new(first, number), Words { text }))
+        }
+    }
 }
 
 impl<'a> Words<'a> {
