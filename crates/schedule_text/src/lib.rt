@@ -15,4 +15,4 @@ pub use line_fault::{LineFault, LineFaultKind};
 pub use schedule::Schedule;
 pub use step::{Action, ActionRef, RequesterLine, Step, StepRef};
 pub use steps::{Steps, StepsIter};
-pub use word::{MAX_BYTE, MAX_COMMAND_WORDS, MAX_HANDLE, MAX_ID, MAX_TIMEOUT};
+pub use word::{MAX_BYTE, MAX_HANDLE, MAX_ID, MAX_TIMEOUT};

@@ -38,14 +38,14 @@ pub(crate) fn read_line(line: &[u8]) -> Result<Line, LineFaultKind>
 }
 
 /// `requester EID timeout MS tries N`, by the words after the first.
-#[tactic(auto, using(crate::proofs::LongLines::requester_long))]
 fn read_requester(words: &mut Words<'_>) -> Result<Line, LineFaultKind>
     ensures { result ≡ requester_of words.old }
 {
-    let words = words.rest()?;
-    let [eid, timeout, limit, tries, count] = words.as_slice() else {
-        return Err(LineFaultKind::Words);
-    };
+    let eid = words.next()?;
+    let timeout = words.next()?;
+    let limit = words.next()?;
+    let tries = words.next()?;
+    let count = words.only()?;
     if !timeout.is(b"timeout") || !tries.is(b"tries") {
         return Err(LineFaultKind::Words);
     }
@@ -111,12 +111,11 @@ fn only_number(words: &mut Words<'_>) -> Result<u64, LineFaultKind>
 }
 
 /// `EID COMMAND`.
-#[tactic(auto, using(crate::proofs::LongLines::command_long))]
 fn read_open(words: &mut Words<'_>) -> Result<Action, LineFaultKind>
     ensures { result ≡ open_of words.old }
 {
     let eid = words.next()?;
-    let command = read_command(&words.rest()?)?;
+    let command = read_command(words)?;
     let requester = eid.eid()?;
     Ok(Action::Open { requester, command })
 }

@@ -5,10 +5,11 @@ ghost use Rattle.line_words.specs.Lines.{said_words};
 ghost use Rattle.schedule_text.specs.CommandWords.{only_word};
 ghost use Rattle.schedule_text.specs.declared.line_fault.LineFaultKind.TheVariants as kinds;
 
+use crate::LineFaultKind;
 use crate::word::Word;
-use crate::{LineFaultKind, MAX_COMMAND_WORDS};
 use arrayvec::ArrayVec;
 use line_words::{first_number, split_number, split_word, without_cr};
+use pldm_wire::MAX_STATES;
 use std::marker::Model;
 
 /// The words of a line that are not read yet.
@@ -58,7 +59,8 @@ impl<'a> Words<'a> {
 
     /// The one word that there has to be.
     pub(crate) fn only(&mut self) -> Result<Word<'a>, LineFaultKind>
-        ensures { result ≡ only_word self.old }
+        ensures value { result ≡ only_word self.old }
+        ensures ok { IfOk result (λ word. self.old ≡ word ∷ []) }
     {
         let word = self.next()?;
         self.end()?;
@@ -77,10 +79,10 @@ impl<'a> Words<'a> {
         }
     }
 
-    /// All of them, of which there have to be at most [`MAX_COMMAND_WORDS`].
-    pub(crate) fn rest(&mut self) -> Result<ArrayVec<Word<'a>, MAX_COMMAND_WORDS>, LineFaultKind>
+    /// All of them, of which there have to be at most [`MAX_STATES`].
+    pub(crate) fn rest(&mut self) -> Result<ArrayVec<Word<'a>, MAX_STATES>, LineFaultKind>
         ensures ok { IfOk result (λ words. words.items ≡ self.old) }
-        ensures many { OnErr result (MAX_COMMAND_WORDS < length self.old) }
+        ensures many { OnErr result (MAX_STATES < length self.old) }
         ensures err { IfErr result (λ kind. kind ≡ kinds.Words) }
     {
         let mut words = ArrayVec::new();
