@@ -5,6 +5,7 @@ mod command_words;
 pub mod laws;
 mod line;
 mod line_fault;
+mod requesters;
 mod schedule;
 mod step;
 mod steps;
