@@ -8,6 +8,8 @@ use Rattle.schedule_text.specs.declared.line.Line.TheVariants as lines
 use Rattle.schedule_text.specs.declared.line_fault.LineFaultKind.{LineFaultKind}
 use Rattle.schedule_text.specs.declared.line_fault.LineFaultKind.TheVariants.{Words}
 use Rattle.schedule_text.specs.declared.step.Action.{Action}
+use Rattle.schedule_text.specs.declared.words.UsualName.{UsualName}
+use Rattle.schedule_text.specs.declared.words.UsualName.TheVariants as names
 use Rattle.schedule_text.specs.declared.step.Action.TheVariants.{Open, Tick, Request, Reply, Sense, Restart, Busy}
 
 -- `requester EID timeout MS tries N`, by the words after the first
@@ -27,6 +29,12 @@ only_eid words = only_word words >>= eid_in
 
 abbrev pub only_number : List (List ℕ) → Result ℕ LineFaultKind
 only_number words = only_word words >>= any_number
+
+abbrev pub tick_of : List (List ℕ) → Result Action LineFaultKind
+tick_of words = only_eid words >>= λ eid. Ok (Tick eid)
+
+abbrev pub request_of : List (List ℕ) → Result Action LineFaultKind
+request_of words = only_number words >>= λ number. Ok (Request number)
 
 abbrev pub open_of : List (List ℕ) → Result Action LineFaultKind
 open_of [] = Err Words
@@ -49,13 +57,24 @@ restart_of _ = Err Words
 abbrev pub action_named : List ℕ → List (List ℕ) → Result Action LineFaultKind
 action_named name words =
     if is name (codes "open") then open_of words
-    else if is name (codes "tick") then (only_eid words >>= λ eid. Ok (Tick eid))
-    else if is name (codes "req") then (only_number words >>= λ number. Ok (Request number))
+    else if is name (codes "tick") then tick_of words
+    else if is name (codes "req") then request_of words
     else if is name (codes "rep") then reply_of words
     else if is name (codes "sense") then sense_of words
     else if is name (codes "restart") then restart_of words
     else if is name (codes "busy") then (only_number words >>= λ number. Ok (Busy number))
     else Err Words
+
+abbrev pub action_of : List (List ℕ) → Result Action LineFaultKind
+action_of [] = Err Words
+action_of (name ∷ words) = action_named name words
+
+-- the names that nearly all steps have one of
+abbrev pub usual_spelling : UsualName → List ℕ
+usual_spelling names.Reply = codes "rep"
+usual_spelling names.Request = codes "req"
+usual_spelling names.Tick = codes "tick"
+usual_spelling names.Open = codes "open"
 
 -- `at MS` and an action, by the words after the first
 abbrev pub step_of : List (List ℕ) → Result Line LineFaultKind

@@ -3,6 +3,7 @@
 ghost use Rattle.std.specs.Prelude.{◌≡◌, ◌≢◌, ◌<◌, ◌∷◌, [], IfOk, IfErr, IfSome, IfNone, OnOk, OnErr, length};
 ghost use Rattle.line_words.specs.Lines.{said_words};
 ghost use Rattle.schedule_text.specs.CommandWords.{only_word};
+ghost use Rattle.schedule_text.specs.LineWords.{usual_spelling};
 ghost use Rattle.schedule_text.specs.declared.line_fault.LineFaultKind.TheVariants as kinds;
 
 use crate::LineFaultKind;
@@ -11,6 +12,15 @@ use arrayvec::ArrayVec;
 use line_words::{first_number, split_number, split_word, without_cr};
 use pldm_wire::MAX_STATES;
 use std::marker::Model;
+
+/// A name that nearly all steps have one of.
+#[derive(Clone, Copy)]
+pub(crate) enum UsualName {
+    Reply,
+    Request,
+    Tick,
+    Open,
+}
 
 /// The words of a line that are not read yet.
 #[derive(Drop)]
@@ -55,6 +65,23 @@ impl<'a> Words<'a> {
         };
         self.text = text;
         Ok(Word::new(word, number))
+    }
+
+    /// The next word, where it is one of the usual names and stands as nearly all do: it is then not looked for
+    /// byte by byte.
+    pub(crate) fn usual_name(&mut self) -> Option<UsualName>
+        ensures some { IfSome result (λ name. self.old ≡ usual_spelling name ∷ self.new) }
+        ensures none { IfNone result (self.new ≡ self.old) }
+    {
+        let (name, text) = match self.text {
+            [b' ', b'r', b'e', b'p', b' ', text @ ..] => (UsualName::Reply, text),
+            [b' ', b'r', b'e', b'q', b' ', text @ ..] => (UsualName::Request, text),
+            [b' ', b't', b'i', b'c', b'k', b' ', text @ ..] => (UsualName::Tick, text),
+            [b' ', b'o', b'p', b'e', b'n', b' ', text @ ..] => (UsualName::Open, text),
+            _ => return None,
+        };
+        self.text = text;
+        Some(name)
     }
 
     /// The one word that there has to be.
