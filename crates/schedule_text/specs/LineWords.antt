@@ -8,8 +8,6 @@ use Rattle.schedule_text.specs.declared.line.Line.TheVariants as lines
 use Rattle.schedule_text.specs.declared.line_fault.LineFaultKind.{LineFaultKind}
 use Rattle.schedule_text.specs.declared.line_fault.LineFaultKind.TheVariants.{Words}
 use Rattle.schedule_text.specs.declared.step.Action.{Action}
-use Rattle.schedule_text.specs.declared.words.UsualName.{UsualName}
-use Rattle.schedule_text.specs.declared.words.UsualName.TheVariants as names
 use Rattle.schedule_text.specs.declared.step.Action.TheVariants.{Open, Tick, Request, Reply, Sense, Restart, Busy}
 
 -- `requester EID timeout MS tries N`, by the words after the first
@@ -68,13 +66,6 @@ action_named name words =
 abbrev pub action_of : List (List ℕ) → Result Action LineFaultKind
 action_of [] = Err Words
 action_of (name ∷ words) = action_named name words
-
--- the names that nearly all steps have one of
-abbrev pub usual_spelling : UsualName → List ℕ
-usual_spelling names.Reply = codes "rep"
-usual_spelling names.Request = codes "req"
-usual_spelling names.Tick = codes "tick"
-usual_spelling names.Open = codes "open"
 
 -- `at MS` and an action, by the words after the first
 abbrev pub step_of : List (List ℕ) → Result Line LineFaultKind

@@ -1,12 +1,13 @@
 //! The command that words say.
 
 ghost use Rattle.std.specs.Prelude.{◌≡◌};
-ghost use Rattle.schedule_text.specs.CommandWords.{bare, byte_command_named, byte_of, command_of, field_command_named, getpdr_of, id_command_named, id_of, part_in, setnum_of, setstate_of, size_in, sized_in, state_in, states_in};
+ghost use Rattle.schedule_text.specs.CommandWords.{bare, byte_command_named, byte_of, command_named, command_of, field_command_named, getpdr_of, id_command_named, id_of, part_in, setnum_of, setstate_of, size_in, sized_in, state_in, states_in, with_id};
 ghost use Rattle.pldm_wire.specs.States.{IsComposite};
+ghost use Rattle.pldm_wire.specs.declared.command.Command.TheVariants.{GetSensorReading};
 
 use crate::LineFaultKind;
 use crate::word::Word;
-use crate::words::Words;
+use crate::words::{UsualCommand, Words};
 use arrayvec::ArrayVec;
 use pldm_wire::{
     Command, GET_FIRST_PART, GET_NEXT_PART, MAX_STATES, Number, SetStateField, Size, StateFields,
@@ -18,7 +19,22 @@ use pldm_wire::{
 pub(crate) fn read_command(words: &mut Words<'_>) -> Result<Command, LineFaultKind>
     ensures { result ≡ command_of words.old }
 {
-    let name = words.next()?;
+    match words.usual_command() {
+        Some(UsualCommand::SetNumber) => read_setnum(words),
+        Some(UsualCommand::SetStates) => read_setstate(words),
+        Some(UsualCommand::Sensor) => read_sensor(words),
+        Some(UsualCommand::Record) => read_getpdr(words),
+        None => {
+            let name = words.next()?;
+            read_named_command(&name, words)
+        }
+    }
+}
+
+/// A command, by its name and the words after it.
+fn read_named_command(name: &Word<'_>, words: &mut Words<'_>) -> Result<Command, LineFaultKind>
+    ensures { result ≡ command_named name.now words.old }
+{
     if name.is(b"gettid") {
         bare(Command::GetTid, words)
     } else if name.is(b"gettypes") {
@@ -26,7 +42,7 @@ pub(crate) fn read_command(words: &mut Words<'_>) -> Result<Command, LineFaultKi
     } else if name.is(b"pdrinfo") {
         bare(Command::GetPdrRepositoryInfo, words)
     } else {
-        read_byte_command(&name, words)
+        read_byte_command(name, words)
     }
 }
 
@@ -60,8 +76,7 @@ fn read_id_command(name: &Word<'_>, words: &mut Words<'_>) -> Result<Command, Li
     ensures { result ≡ id_command_named name.now words.old }
 {
     if name.is(b"sensor") {
-        let sensor = id_of(words)?;
-        Ok(Command::GetSensorReading { sensor, rearm: 0 })
+        read_sensor(words)
     } else if name.is(b"statesensors") {
         let sensor = id_of(words)?;
         Ok(Command::GetStateSensorReadings { sensor, rearm: 0 })
@@ -111,6 +126,14 @@ fn id_of(words: &mut Words<'_>) -> Result<u16, LineFaultKind>
     ensures { result ≡ id_of words.old }
 {
     words.only()?.id()
+}
+
+/// `ID`, of a sensor that is read.
+fn read_sensor(words: &mut Words<'_>) -> Result<Command, LineFaultKind>
+    ensures { result ≡ with_id (λ id. GetSensorReading id 0) words.old }
+{
+    let sensor = id_of(words)?;
+    Ok(Command::GetSensorReading { sensor, rearm: 0 })
 }
 
 /// `ID SIZE VALUE`.

@@ -3,7 +3,7 @@
 ghost use Rattle.std.specs.Prelude.{◌≡◌, ◌≢◌, ◌<◌, ◌∷◌, [], IfOk, IfErr, IfSome, IfNone, OnOk, OnErr, length};
 ghost use Rattle.line_words.specs.Lines.{said_words};
 ghost use Rattle.schedule_text.specs.CommandWords.{only_word};
-ghost use Rattle.schedule_text.specs.LineWords.{usual_spelling};
+ghost use Rattle.schedule_text.specs.UsualNames.{usual_command, usual_name};
 ghost use Rattle.schedule_text.specs.declared.line_fault.LineFaultKind.TheVariants as kinds;
 
 use crate::LineFaultKind;
@@ -13,13 +13,22 @@ use line_words::{first_number, split_number, split_word, without_cr};
 use pldm_wire::MAX_STATES;
 use std::marker::Model;
 
-/// A name that nearly all steps have one of.
+/// The name of a step that nearly all steps have one of.
 #[derive(Clone, Copy)]
 pub(crate) enum UsualName {
     Reply,
     Request,
     Tick,
     Open,
+}
+
+/// The name of a command that nearly all commands have one of.
+#[derive(Clone, Copy)]
+pub(crate) enum UsualCommand {
+    SetNumber,
+    SetStates,
+    Sensor,
+    Record,
 }
 
 /// The words of a line that are not read yet.
@@ -70,7 +79,7 @@ impl<'a> Words<'a> {
     /// The next word, where it is one of the usual names and stands as nearly all do: it is then not looked for
     /// byte by byte.
     pub(crate) fn usual_name(&mut self) -> Option<UsualName>
-        ensures some { IfSome result (λ name. self.old ≡ usual_spelling name ∷ self.new) }
+        ensures some { IfSome result (λ name. self.old ≡ usual_name name ∷ self.new) }
         ensures none { IfNone result (self.new ≡ self.old) }
     {
         let (name, text) = match self.text {
@@ -78,6 +87,43 @@ impl<'a> Words<'a> {
             [b' ', b'r', b'e', b'q', b' ', text @ ..] => (UsualName::Request, text),
             [b' ', b't', b'i', b'c', b'k', b' ', text @ ..] => (UsualName::Tick, text),
             [b' ', b'o', b'p', b'e', b'n', b' ', text @ ..] => (UsualName::Open, text),
+            _ => return None,
+        };
+        self.text = text;
+        Some(name)
+    }
+
+    /// The next word, where it is one of the usual commands and stands as nearly all do.
+    pub(crate) fn usual_command(&mut self) -> Option<UsualCommand>
+        ensures some { IfSome result (λ name. self.old ≡ usual_command name ∷ self.new) }
+        ensures none { IfNone result (self.new ≡ self.old) }
+    {
+        let (name, text) = match self.text {
+            [b' ', b's', b'e', b't', b'n', b'u', b'm', b' ', text @ ..] => (
+                UsualCommand::SetNumber,
+                text,
+            ),
+            [
+                b' ',
+                b's',
+                b'e',
+                b't',
+                b's',
+                b't',
+                b'a',
+                b't',
+                b'e',
+                b' ',
+                text @ ..,
+            ] => { (UsualCommand::SetStates, text) }
+            [b' ', b's', b'e', b'n', b's', b'o', b'r', b' ', text @ ..] => (
+                UsualCommand::Sensor,
+                text,
+            ),
+            [b' ', b'g', b'e', b't', b'p', b'd', b'r', b' ', text @ ..] => (
+                UsualCommand::Record,
+                text,
+            ),
             _ => return None,
         };
         self.text = text;
