@@ -1,6 +1,5 @@
 pub mod FoundCommands
 pub mod LinesReached
-pub mod LongLines
 pub mod ReadLines
 pub mod ScheduleRows
 pub mod SizeWords

@@ -1,7 +1,6 @@
 -- Every constant of the source, written a second time.
 use Rattle.std.proofs.Common.{◌≡◌, refl}
-use Rattle.schedule_text.specs.declared.word.TheConstants.{MAX_BYTE, MAX_ID, MAX_HANDLE}
-use Rattle.schedule_text.specs.declared.word.TheConstants.{MAX_TIMEOUT, MAX_COMMAND_WORDS}
+use Rattle.schedule_text.specs.declared.word.TheConstants.{MAX_BYTE, MAX_ID, MAX_HANDLE, MAX_TIMEOUT}
 
 greatest_byte : MAX_BYTE ≡ 255
 greatest_byte = refl
@@ -14,6 +13,3 @@ greatest_handle = refl
 
 longest_timeout_in_milliseconds : MAX_TIMEOUT ≡ 60000
 longest_timeout_in_milliseconds = refl
-
-words_of_a_command : MAX_COMMAND_WORDS ≡ 10
-words_of_a_command = refl

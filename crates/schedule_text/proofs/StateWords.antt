@@ -1,10 +1,17 @@
 -- The states of `setstate`, word by word.
-use Rattle.std.proofs.Common.{◌≡◌, ℕ, ◌+◌, ◌<◌, List, [], ◌∷◌, ◌++◌, length, get_or, drop, Result, Ok, Err, refl, sym, ap, ◌∙◌, append_assoc}
+use Rattle.std.proofs.Common.{◌≡◌, ℕ, ◌+◌, ◌<◌, false, List, [], ◌∷◌, ◌++◌, length, get_or, drop, Result, Ok, Err, refl, sym, ap, ◌∙◌, append_assoc, arith}
+use Rattle.std.proofs.lemmas.Bool.Decides.{nat_tests}
 use Rattle.std.proofs.lemmas.List.{at_drop_more}
+use Rattle.pldm_wire.specs.States.{is_composite}
+use Rattle.pldm_wire.specs.declared.limits.TheConstants.{MAX_STATES}
 use Rattle.pldm_wire.specs.declared.state_fields.SetStateField.{SetStateField}
 use Rattle.schedule_text.specs.declared.line_fault.LineFaultKind.{LineFaultKind}
 use Rattle.schedule_text.specs.CommandWords.{state_in, states_in}
 use Rattle.schedule_text.specs.WordValues.{◌>>=◌}
+
+-- there may not be more states than a command has room for
+pub many_states : (states : List (List ℕ)) → MAX_STATES < length states → is_composite states ≡ false
+many_states states many = grind (arith, nat_tests)
 
 -- what is read after these fields
 abbrev pub onto : List SetStateField → Result (List SetStateField) LineFaultKind → Result (List SetStateField) LineFaultKind

@@ -5,5 +5,6 @@ pub mod LineSpelling
 pub mod LineWords
 pub mod Schedules
 pub mod StepColumns
+pub mod UsualNames
 pub mod WordValues
 pub mod Laws

@@ -28,6 +28,12 @@ only_eid words = only_word words >>= eid_in
 abbrev pub only_number : List (List ℕ) → Result ℕ LineFaultKind
 only_number words = only_word words >>= any_number
 
+abbrev pub tick_of : List (List ℕ) → Result Action LineFaultKind
+tick_of words = only_eid words >>= λ eid. Ok (Tick eid)
+
+abbrev pub request_of : List (List ℕ) → Result Action LineFaultKind
+request_of words = only_number words >>= λ number. Ok (Request number)
+
 abbrev pub open_of : List (List ℕ) → Result Action LineFaultKind
 open_of [] = Err Words
 open_of (eid ∷ words) = command_of words >>= λ command. eid_in eid >>= λ eid. Ok (Open eid command)
@@ -49,13 +55,17 @@ restart_of _ = Err Words
 abbrev pub action_named : List ℕ → List (List ℕ) → Result Action LineFaultKind
 action_named name words =
     if is name (codes "open") then open_of words
-    else if is name (codes "tick") then (only_eid words >>= λ eid. Ok (Tick eid))
-    else if is name (codes "req") then (only_number words >>= λ number. Ok (Request number))
+    else if is name (codes "tick") then tick_of words
+    else if is name (codes "req") then request_of words
     else if is name (codes "rep") then reply_of words
     else if is name (codes "sense") then sense_of words
     else if is name (codes "restart") then restart_of words
     else if is name (codes "busy") then (only_number words >>= λ number. Ok (Busy number))
     else Err Words
+
+abbrev pub action_of : List (List ℕ) → Result Action LineFaultKind
+action_of [] = Err Words
+action_of (name ∷ words) = action_named name words
 
 -- `at MS` and an action, by the words after the first
 abbrev pub step_of : List (List ℕ) → Result Line LineFaultKind

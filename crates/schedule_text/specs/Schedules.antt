@@ -1,5 +1,5 @@
 -- The schedule that a text spells, or its first faulty line.
-use Rattle.std.specs.Prelude.{◌≡◌, ℕ, ◌+◌, ◌-◌, ◌≤◌, ◌==◌, nat_lt, Bool, true, false, List, [], ◌∷◌, ◌++◌, length, take, Result, Ok, Err, ◌⊎◌, if◌then◌else◌}
+use Rattle.std.specs.Prelude.{◌≡◌, ℕ, ◌+◌, ◌-◌, ◌≤◌, ◌==◌, nat_lt, Bool, true, false, List, [], ◌∷◌, ◌++◌, length, get_or, take, Result, Ok, Err, ◌⊎◌, if◌then◌else◌}
 use Rattle.std.specs.List.{list_any}
 use Rattle.line_words.specs.Lines.{said_words}
 use Rattle.line_words.specs.TextLines.{lines_of}
@@ -9,6 +9,7 @@ use Rattle.schedule_text.specs.declared.line.Line.{Line}
 use Rattle.schedule_text.specs.declared.line.Line.TheVariants as lines
 use Rattle.schedule_text.specs.declared.line_fault.LineFault.{LineFault}
 use Rattle.schedule_text.specs.declared.line_fault.LineFaultKind.{LineFaultKind}
+use Rattle.mctp_packet.specs.declared.TheConstants.{MAX_EID}
 use Rattle.mctp_packet.specs.Memories.{out_of_memory}
 use Rattle.schedule_text.specs.declared.line_fault.LineFaultKind.TheVariants.{BackInTime, NoSuchRequester, SameRequester, Memory}
 use Rattle.schedule_text.specs.declared.step.RequesterLine.{RequesterLine}
@@ -27,6 +28,10 @@ is_requester eid line = line.eid == eid
 -- one of these lines is of the requester at this endpoint
 abbrev pub has_requester : List RequesterLine → ℕ → Bool
 has_requester lines eid = list_any (is_requester eid) lines
+
+-- a table of endpoint IDs says of each whether one of these lines is of its requester
+abbrev pub IsTable : List Bool → List RequesterLine → Type 0
+IsTable known lines = (eid : ℕ) → eid ≤ MAX_EID → get_or known eid false ≡ has_requester lines eid
 
 -- the moment of the last of these steps, or this one where there is none
 abbrev pub last_from : ℕ → List Step → ℕ

@@ -1,11 +1,13 @@
 //! The command that words say.
 
 ghost use Rattle.std.specs.Prelude.{◌≡◌};
-ghost use Rattle.schedule_text.specs.CommandWords.{bare, byte_command_named, byte_of, command_of, field_command_named, getpdr_of, id_command_named, id_of, part_in, setnum_of, setstate_of, size_in, sized_in, state_in, states_in};
+ghost use Rattle.schedule_text.specs.CommandWords.{bare, byte_command_named, byte_of, command_named, command_of, field_command_named, getpdr_of, id_command_named, id_of, part_in, setnum_of, setstate_of, size_in, sized_in, state_in, states_in, with_id};
 ghost use Rattle.pldm_wire.specs.States.{IsComposite};
+ghost use Rattle.pldm_wire.specs.declared.command.Command.TheVariants.{GetSensorReading};
 
 use crate::LineFaultKind;
 use crate::word::Word;
+use crate::words::{UsualCommand, Words};
 use arrayvec::ArrayVec;
 use pldm_wire::{
     Command, GET_FIRST_PART, GET_NEXT_PART, MAX_STATES, Number, SetStateField, Size, StateFields,
@@ -14,12 +16,25 @@ use pldm_wire::{
 
 /// The command of these words: its name, and the words after it. A wrong word or count of words is
 /// told before a wrong number.
-pub(crate) fn read_command(words: &[Word<'_>]) -> Result<Command, LineFaultKind>
-    ensures { result ≡ command_of words.now }
+pub(crate) fn read_command(words: &mut Words<'_>) -> Result<Command, LineFaultKind>
+    ensures { result ≡ command_of words.old }
 {
-    let [name, words @ ..] = words else {
-        return Err(LineFaultKind::Words);
-    };
+    match words.usual_command() {
+        Some(UsualCommand::SetNumber) => read_setnum(words),
+        Some(UsualCommand::SetStates) => read_setstate(words),
+        Some(UsualCommand::Sensor) => read_sensor(words),
+        Some(UsualCommand::Record) => read_getpdr(words),
+        None => {
+            let name = words.next()?;
+            read_named_command(&name, words)
+        }
+    }
+}
+
+/// A command, by its name and the words after it.
+fn read_named_command(name: &Word<'_>, words: &mut Words<'_>) -> Result<Command, LineFaultKind>
+    ensures { result ≡ command_named name.now words.old }
+{
     if name.is(b"gettid") {
         bare(Command::GetTid, words)
     } else if name.is(b"gettypes") {
@@ -32,8 +47,8 @@ pub(crate) fn read_command(words: &[Word<'_>]) -> Result<Command, LineFaultKind>
 }
 
 /// A command of one byte or more, by its name and the words after it.
-fn read_byte_command(name: &Word<'_>, words: &[Word<'_>]) -> Result<Command, LineFaultKind>
-    ensures { result ≡ byte_command_named name.now words.now }
+fn read_byte_command(name: &Word<'_>, words: &mut Words<'_>) -> Result<Command, LineFaultKind>
+    ensures { result ≡ byte_command_named name.now words.old }
 {
     if name.is(b"settid") {
         let tid = byte_of(words)?;
@@ -57,12 +72,11 @@ fn read_byte_command(name: &Word<'_>, words: &[Word<'_>]) -> Result<Command, Lin
 }
 
 /// A command of one ID or more, by its name and the words after it.
-fn read_id_command(name: &Word<'_>, words: &[Word<'_>]) -> Result<Command, LineFaultKind>
-    ensures { result ≡ id_command_named name.now words.now }
+fn read_id_command(name: &Word<'_>, words: &mut Words<'_>) -> Result<Command, LineFaultKind>
+    ensures { result ≡ id_command_named name.now words.old }
 {
     if name.is(b"sensor") {
-        let sensor = id_of(words)?;
-        Ok(Command::GetSensorReading { sensor, rearm: 0 })
+        read_sensor(words)
     } else if name.is(b"statesensors") {
         let sensor = id_of(words)?;
         Ok(Command::GetStateSensorReadings { sensor, rearm: 0 })
@@ -78,8 +92,8 @@ fn read_id_command(name: &Word<'_>, words: &[Word<'_>]) -> Result<Command, LineF
 }
 
 /// A command of several fields, by its name and the words after it.
-fn read_field_command(name: &Word<'_>, words: &[Word<'_>]) -> Result<Command, LineFaultKind>
-    ensures { result ≡ field_command_named name.now words.now }
+fn read_field_command(name: &Word<'_>, words: &mut Words<'_>) -> Result<Command, LineFaultKind>
+    ensures { result ≡ field_command_named name.now words.old }
 {
     if name.is(b"setnum") {
         read_setnum(words)
@@ -93,44 +107,43 @@ fn read_field_command(name: &Word<'_>, words: &[Word<'_>]) -> Result<Command, Li
 }
 
 /// A command with no words after its name.
-fn bare(command: Command, words: &[Word<'_>]) -> Result<Command, LineFaultKind>
+fn bare(command: Command, words: &Words<'_>) -> Result<Command, LineFaultKind>
     ensures { result ≡ bare command words.now }
 {
-    if words.is_empty() {
-        Ok(command)
-    } else {
-        Err(LineFaultKind::Words)
-    }
+    words.end()?;
+    Ok(command)
 }
 
 /// The one number of a byte that there has to be.
-fn byte_of(words: &[Word<'_>]) -> Result<u8, LineFaultKind>
-    ensures { result ≡ byte_of words.now }
+fn byte_of(words: &mut Words<'_>) -> Result<u8, LineFaultKind>
+    ensures { result ≡ byte_of words.old }
 {
-    let [word] = words else {
-        return Err(LineFaultKind::Words);
-    };
-    word.byte()
+    words.only()?.byte()
 }
 
 /// The one ID that there has to be.
-fn id_of(words: &[Word<'_>]) -> Result<u16, LineFaultKind>
-    ensures { result ≡ id_of words.now }
+fn id_of(words: &mut Words<'_>) -> Result<u16, LineFaultKind>
+    ensures { result ≡ id_of words.old }
 {
-    let [word] = words else {
-        return Err(LineFaultKind::Words);
-    };
-    word.id()
+    words.only()?.id()
+}
+
+/// `ID`, of a sensor that is read.
+fn read_sensor(words: &mut Words<'_>) -> Result<Command, LineFaultKind>
+    ensures { result ≡ with_id (λ id. GetSensorReading id 0) words.old }
+{
+    let sensor = id_of(words)?;
+    Ok(Command::GetSensorReading { sensor, rearm: 0 })
 }
 
 /// `ID SIZE VALUE`.
-fn read_setnum(words: &[Word<'_>]) -> Result<Command, LineFaultKind>
-    ensures { result ≡ setnum_of words.now }
+fn read_setnum(words: &mut Words<'_>) -> Result<Command, LineFaultKind>
+    ensures { result ≡ setnum_of words.old }
 {
-    let [id, size, value] = words else {
-        return Err(LineFaultKind::Words);
-    };
-    let size = size_of_word(size)?;
+    let id = words.next()?;
+    let size = words.next()?;
+    let value = words.only()?;
+    let size = size_of_word(&size)?;
     let effecter = id.id()?;
     let value = value.any_value()?;
     let value = sized(size, value)?;
@@ -155,17 +168,17 @@ fn sized(size: Size, value: i64) -> Result<Number, LineFaultKind>
 }
 
 /// `ID S ..`.
-fn read_setstate(words: &[Word<'_>]) -> Result<Command, LineFaultKind>
-    ensures { result ≡ setstate_of words.now }
+#[tactic(auto, using(crate::proofs::StateWords::many_states))]
+fn read_setstate(words: &mut Words<'_>) -> Result<Command, LineFaultKind>
+    ensures { result ≡ setstate_of words.old }
 {
-    let [id, states @ ..] = words else {
-        return Err(LineFaultKind::Words);
-    };
-    if states.is_empty() || states.len() > MAX_STATES {
+    let id = words.next()?;
+    let states = words.rest()?;
+    if states.is_empty() {
         return Err(LineFaultKind::Words);
     }
     let effecter = id.id()?;
-    let fields = read_states(states)?;
+    let fields = read_states(&states)?;
     Ok(Command::SetStateEffecterStates { effecter, fields })
 }
 
@@ -199,13 +212,14 @@ fn read_state(word: &Word<'_>) -> Result<SetStateField, LineFaultKind>
 }
 
 /// `RECORD TRANSFER OP COUNT`.
-fn read_getpdr(words: &[Word<'_>]) -> Result<Command, LineFaultKind>
-    ensures { result ≡ getpdr_of words.now }
+fn read_getpdr(words: &mut Words<'_>) -> Result<Command, LineFaultKind>
+    ensures { result ≡ getpdr_of words.old }
 {
-    let [handle, transfer, part, count] = words else {
-        return Err(LineFaultKind::Words);
-    };
-    let transfer_operation_flag = read_part(part)?;
+    let handle = words.next()?;
+    let transfer = words.next()?;
+    let part = words.next()?;
+    let count = words.only()?;
+    let transfer_operation_flag = read_part(&part)?;
     let record_handle = handle.handle()?;
     let data_transfer_handle = transfer.handle()?;
     let request_count = count.id()?;

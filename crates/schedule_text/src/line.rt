@@ -2,11 +2,11 @@
 
 ghost use Rattle.std.specs.Prelude.{◌≡◌};
 ghost use Rattle.line_words.specs.Lines.{said_words};
-ghost use Rattle.schedule_text.specs.LineWords.{action_named, line_of, only_eid, only_number, open_of, reply_of, requester_of, restart_of, sense_of, step_of};
+ghost use Rattle.schedule_text.specs.LineWords.{action_named, action_of, line_of, only_eid, only_number, open_of, reply_of, request_of, requester_of, restart_of, sense_of, step_of, tick_of};
 
 use crate::command_words::read_command;
 use crate::word::Word;
-use crate::words::{Words, words_in};
+use crate::words::{UsualName, Words, words_in};
 use crate::{Action, LineFaultKind, RequesterLine, Step};
 use mctp_packet::Eid;
 
@@ -38,14 +38,14 @@ pub(crate) fn read_line(line: &[u8]) -> Result<Line, LineFaultKind>
 }
 
 /// `requester EID timeout MS tries N`, by the words after the first.
-#[tactic(auto, using(crate::proofs::LongLines::requester_long))]
 fn read_requester(words: &mut Words<'_>) -> Result<Line, LineFaultKind>
     ensures { result ≡ requester_of words.old }
 {
-    let words = words.rest()?;
-    let [eid, timeout, limit, tries, count] = words.as_slice() else {
-        return Err(LineFaultKind::Words);
-    };
+    let eid = words.next()?;
+    let timeout = words.next()?;
+    let limit = words.next()?;
+    let tries = words.next()?;
+    let count = words.only()?;
     if !timeout.is(b"timeout") || !tries.is(b"tries") {
         return Err(LineFaultKind::Words);
     }
@@ -64,24 +64,37 @@ fn read_step(words: &mut Words<'_>) -> Result<Line, LineFaultKind>
     ensures { result ≡ step_of words.old }
 {
     let moment = words.next()?;
-    let name = words.next()?;
-    let action = read_action(&name, words)?;
+    let action = read_action(words)?;
     let moment = moment.moment()?;
     Ok(Line::Step(Step { moment, action }))
 }
 
+/// An action: its name, and the words after it.
+fn read_action(words: &mut Words<'_>) -> Result<Action, LineFaultKind>
+    ensures { result ≡ action_of words.old }
+{
+    match words.usual_name() {
+        Some(UsualName::Reply) => read_reply(words),
+        Some(UsualName::Request) => read_request(words),
+        Some(UsualName::Tick) => read_tick(words),
+        Some(UsualName::Open) => read_open(words),
+        None => {
+            let name = words.next()?;
+            read_action_named(&name, words)
+        }
+    }
+}
+
 /// The action of this name, with the words after it.
-fn read_action(name: &Word<'_>, words: &mut Words<'_>) -> Result<Action, LineFaultKind>
+fn read_action_named(name: &Word<'_>, words: &mut Words<'_>) -> Result<Action, LineFaultKind>
     ensures { result ≡ action_named name.now words.old }
 {
     if name.is(b"open") {
         read_open(words)
     } else if name.is(b"tick") {
-        let requester = only_eid(words)?;
-        Ok(Action::Tick { requester })
+        read_tick(words)
     } else if name.is(b"req") {
-        let number = only_number(words)?;
-        Ok(Action::Request { number })
+        read_request(words)
     } else if name.is(b"rep") {
         read_reply(words)
     } else if name.is(b"sense") {
@@ -110,13 +123,28 @@ fn only_number(words: &mut Words<'_>) -> Result<u64, LineFaultKind>
     words.only()?.any_number()
 }
 
+/// `EID`.
+fn read_tick(words: &mut Words<'_>) -> Result<Action, LineFaultKind>
+    ensures { result ≡ tick_of words.old }
+{
+    let requester = only_eid(words)?;
+    Ok(Action::Tick { requester })
+}
+
+/// `K`.
+fn read_request(words: &mut Words<'_>) -> Result<Action, LineFaultKind>
+    ensures { result ≡ request_of words.old }
+{
+    let number = only_number(words)?;
+    Ok(Action::Request { number })
+}
+
 /// `EID COMMAND`.
-#[tactic(auto, using(crate::proofs::LongLines::command_long))]
 fn read_open(words: &mut Words<'_>) -> Result<Action, LineFaultKind>
     ensures { result ≡ open_of words.old }
 {
     let eid = words.next()?;
-    let command = read_command(&words.rest()?)?;
+    let command = read_command(words)?;
     let requester = eid.eid()?;
     Ok(Action::Open { requester, command })
 }

@@ -2,12 +2,12 @@
 
 ghost use Rattle.std.specs.Prelude.{◌≡◌, Ok, IfOk, IfErr, OnOk, OnErr};
 ghost use Rattle.line_words.specs.TextLines.{lines_of};
-ghost use Rattle.schedule_text.specs.Schedules.{IsReached, IsSchedule, ReportsFault, ReportsKind, after_line, has_requester, is_known, none_spelled, schedule_of, with_line, with_requester, with_step};
+ghost use Rattle.schedule_text.specs.Schedules.{IsReached, IsSchedule, ReportsFault, ReportsKind, after_line, is_known, none_spelled, schedule_of, with_line, with_requester, with_step};
 
 use crate::line::{Line, read_line};
+use crate::requesters::Requesters;
 use crate::{Action, LineFault, LineFaultKind, RequesterLine, Step, Steps};
 use line_words::split_line;
-use mctp_packet::Eid;
 use std::alloc::Global;
 use std::marker::Model;
 
@@ -15,7 +15,7 @@ use std::marker::Model;
 /// requesters have one endpoint ID, and each step names a requester of the schedule.
 #[derive(Debug, Drop)]
 pub struct Schedule {
-    requesters: Vec<RequesterLine>,
+    requesters: Requesters,
     steps: Steps,
 }
 
@@ -24,9 +24,9 @@ impl Model for Schedule {
 
     ghost Value = { Spelled };
 
-    ghost view = { λ s. record { requesters = s.requesters.items; steps = s.steps } };
+    ghost view = { λ s. record { requesters = s.requesters; steps = s.steps } };
 
-    ghost invariant = { λ s. IsSchedule (record { requesters = s.requesters.items; steps = s.steps }) };
+    ghost invariant = { λ s. IsSchedule (record { requesters = s.requesters; steps = s.steps }) };
 }
 
 impl Schedule {
@@ -35,7 +35,7 @@ impl Schedule {
         ensures { result ≡ none_spelled }
     {
         Schedule {
-            requesters: Vec::new(alloc),
+            requesters: Requesters::new(alloc),
             steps: Steps::new(alloc),
         }
     }
@@ -87,7 +87,7 @@ impl Schedule {
         ensures value { result.now ≡ self.now.requesters }
         ensures valid { IsSchedule self.now }
     {
-        &self.requesters
+        self.requesters.lines()
     }
 
     /// The steps, in the order of their lines.
@@ -117,7 +117,7 @@ impl Schedule {
         ensures err { IfErr result (λ kind. ReportsKind (with_requester self.old line) kind) }
         ensures unchanged { OnErr result (self.new ≡ self.old) }
     {
-        if has_requester(&self.requesters, line.eid) {
+        if self.requesters.has(line.eid) {
             return Err(LineFaultKind::SameRequester);
         }
         self.requesters.push(line)?;
@@ -141,21 +141,12 @@ impl Schedule {
     }
 }
 
-/// Whether one of these lines is of the requester at this endpoint: there are at most 247.
-fn has_requester(lines: &[RequesterLine], eid: Eid) -> bool
-    ensures { result ≡ has_requester lines.now eid }
-{
-    lines.iter().any(|line| line.eid == eid)
-}
-
 /// Whether the requester of an action has a line.
-fn is_known(requesters: &[RequesterLine], action: &Action) -> bool
+fn is_known(requesters: &Requesters, action: &Action) -> bool
     ensures { result ≡ is_known requesters.now action.now }
 {
     match action {
-        Action::Open { requester, .. } | Action::Tick { requester } => {
-            has_requester(requesters, *requester)
-        }
+        Action::Open { requester, .. } | Action::Tick { requester } => requesters.has(*requester),
         _ => true,
     }
 }

@@ -22,9 +22,6 @@ pub const MAX_HANDLE: u64 = 4_294_967_295;
 /// The longest timeout of a requester, in milliseconds.
 pub const MAX_TIMEOUT: u64 = 60_000;
 
-/// The most words of a command that is well formed: `setstate ID` and eight states.
-pub const MAX_COMMAND_WORDS: usize = 10;
-
 /// A word of a line, with the number that it spells, which is read as the word's end is looked for.
 #[derive(Drop)]
 pub(crate) struct Word<'a> {

@@ -3,13 +3,33 @@
 ghost use Rattle.std.specs.Prelude.{◌≡◌, ◌≢◌, ◌<◌, ◌∷◌, [], IfOk, IfErr, IfSome, IfNone, OnOk, OnErr, length};
 ghost use Rattle.line_words.specs.Lines.{said_words};
 ghost use Rattle.schedule_text.specs.CommandWords.{only_word};
+ghost use Rattle.schedule_text.specs.UsualNames.{usual_command, usual_name};
 ghost use Rattle.schedule_text.specs.declared.line_fault.LineFaultKind.TheVariants as kinds;
 
+use crate::LineFaultKind;
 use crate::word::Word;
-use crate::{LineFaultKind, MAX_COMMAND_WORDS};
 use arrayvec::ArrayVec;
-use line_words::{first_number, split_number, split_word};
+use line_words::{first_number, split_number, split_word, without_cr};
+use pldm_wire::MAX_STATES;
 use std::marker::Model;
+
+/// The name of a step that nearly all steps have one of.
+#[derive(Clone, Copy)]
+pub(crate) enum UsualName {
+    Reply,
+    Request,
+    Tick,
+    Open,
+}
+
+/// The name of a command that nearly all commands have one of.
+#[derive(Clone, Copy)]
+pub(crate) enum UsualCommand {
+    SetNumber,
+    SetStates,
+    Sensor,
+    Record,
+}
 
 /// The words of a line that are not read yet.
 #[derive(Drop)]
@@ -27,13 +47,18 @@ impl<'a> Model for Words<'a> {
 }
 
 /// The first word that a line says, given without its LF, and the words after it; `None` where it says
-/// none.
+/// none. Nearly all lines begin with `at `, which is not looked at byte by byte.
 pub(crate) fn words_in(line: &[u8]) -> Option<(Word<'_>, Words<'_>)>
     ensures some { IfSome result (λ p. said_words line.now ≡ p.0 ∷ p.1) }
     ensures none { IfNone result (said_words line.now ≡ []) }
 {
-    let (first, number, text) = first_number(line)?;
-    Some((Word::new(first, number), Words { text }))
+    match without_cr(line) {
+        [b'a', b't', b' ', text @ ..] => Some((Word::new(b"at", None), Words { text })),
+        _ => {
+            let (first, number, text) = first_number(line)?;
+            Some((Word::new(first, number), Words { text }))
+        }
+    }
 }
 
 impl<'a> Words<'a> {
@@ -51,9 +76,64 @@ impl<'a> Words<'a> {
         Ok(Word::new(word, number))
     }
 
+    /// The next word, where it is one of the usual names and stands as nearly all do: it is then not looked for
+    /// byte by byte.
+    pub(crate) fn usual_name(&mut self) -> Option<UsualName>
+        ensures some { IfSome result (λ name. self.old ≡ usual_name name ∷ self.new) }
+        ensures none { IfNone result (self.new ≡ self.old) }
+    {
+        let (name, text) = match self.text {
+            [b' ', b'r', b'e', b'p', b' ', text @ ..] => (UsualName::Reply, text),
+            [b' ', b'r', b'e', b'q', b' ', text @ ..] => (UsualName::Request, text),
+            [b' ', b't', b'i', b'c', b'k', b' ', text @ ..] => (UsualName::Tick, text),
+            [b' ', b'o', b'p', b'e', b'n', b' ', text @ ..] => (UsualName::Open, text),
+            _ => return None,
+        };
+        self.text = text;
+        Some(name)
+    }
+
+    /// The next word, where it is one of the usual commands and stands as nearly all do.
+    pub(crate) fn usual_command(&mut self) -> Option<UsualCommand>
+        ensures some { IfSome result (λ name. self.old ≡ usual_command name ∷ self.new) }
+        ensures none { IfNone result (self.new ≡ self.old) }
+    {
+        let (name, text) = match self.text {
+            [b' ', b's', b'e', b't', b'n', b'u', b'm', b' ', text @ ..] => (
+                UsualCommand::SetNumber,
+                text,
+            ),
+            [
+                b' ',
+                b's',
+                b'e',
+                b't',
+                b's',
+                b't',
+                b'a',
+                b't',
+                b'e',
+                b' ',
+                text @ ..,
+            ] => { (UsualCommand::SetStates, text) }
+            [b' ', b's', b'e', b'n', b's', b'o', b'r', b' ', text @ ..] => (
+                UsualCommand::Sensor,
+                text,
+            ),
+            [b' ', b'g', b'e', b't', b'p', b'd', b'r', b' ', text @ ..] => (
+                UsualCommand::Record,
+                text,
+            ),
+            _ => return None,
+        };
+        self.text = text;
+        Some(name)
+    }
+
     /// The one word that there has to be.
     pub(crate) fn only(&mut self) -> Result<Word<'a>, LineFaultKind>
-        ensures { result ≡ only_word self.old }
+        ensures value { result ≡ only_word self.old }
+        ensures ok { IfOk result (λ word. self.old ≡ word ∷ []) }
     {
         let word = self.next()?;
         self.end()?;
@@ -72,10 +152,10 @@ impl<'a> Words<'a> {
         }
     }
 
-    /// All of them, of which there have to be at most [`MAX_COMMAND_WORDS`].
-    pub(crate) fn rest(&mut self) -> Result<ArrayVec<Word<'a>, MAX_COMMAND_WORDS>, LineFaultKind>
+    /// All of them, of which there have to be at most [`MAX_STATES`].
+    pub(crate) fn rest(&mut self) -> Result<ArrayVec<Word<'a>, MAX_STATES>, LineFaultKind>
         ensures ok { IfOk result (λ words. words.items ≡ self.old) }
-        ensures many { OnErr result (MAX_COMMAND_WORDS < length self.old) }
+        ensures many { OnErr result (MAX_STATES < length self.old) }
         ensures err { IfErr result (λ kind. kind ≡ kinds.Words) }
     {
         let mut words = ArrayVec::new();

@@ -1,11 +1,11 @@
 -- A requester that none of the others is.
-use Rattle.std.proofs.Common.{◌≡◌, false, sym, ap, ◌∙◌}
+use Rattle.std.proofs.Common.{◌≡◌, false, sym, ◌∙◌}
 use Rattle.schedule_text.specs.Schedules.{has_requester}
 use Rattle.schedule_text.proofs.ScheduleKept.{with_requester_kept}
 use Rattle.schedule_text.proofs.schedule.Schedule.add_requester.Goals as goal
 
 pub invariant_of-self-2 : goal.invariant_of-self-2
 invariant_of-self-2 c =
-    let lines = c.self.inside.requesters.items in
-    let none : has_requester lines c.args.line.eid ≡ false = ap (λ l. has_requester l c.args.line.eid) (sym c.deref.ensures.value) ∙ sym c.has_requester.ensures ∙ c.if-has_requester.false in
-    rw c.in_ok-push.ensures.items (with_requester_kept (record { requesters = lines; steps = c.self.inside.steps }) c.args.line c.self.invariant none)
+    let lines = c.self.inside.requesters in
+    let none : has_requester lines c.args.line.eid ≡ false = sym c.has.ensures ∙ c.if-has.false in
+    rw c.in_ok-push.ensures.ok (with_requester_kept (record { requesters = lines; steps = c.self.inside.steps }) c.args.line c.self.invariant none)
