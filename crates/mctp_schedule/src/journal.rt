@@ -153,6 +153,8 @@ impl Journal {
     }
 
     /// Writes down what came of a step that told nothing of a request.
+    // Inlined: it is then known which entry it is.
+    #[inline(always)]
     pub(crate) fn enter(&mut self, entry: Entry) -> Result<(), Memory>
         ensures entries { OnOk result (self.new.entries ≡ self.old.entries ++ entry ∷ []) }
         ensures requests { OnOk result (self.new.requests.items ≡ self.old.requests.items) }
