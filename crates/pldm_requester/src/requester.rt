@@ -235,13 +235,12 @@ impl Requester {
             owner: true,
             tag,
         };
-        let message = write_command(id, command);
         put(
             &mut self.slots,
             number,
             command.kind(),
             &route,
-            &message,
+            &write_command(id, command),
             now,
         );
         self.assembler.forget(answer_key(self.device, tag));
