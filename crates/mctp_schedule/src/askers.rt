@@ -2,6 +2,7 @@
 
 ghost use Rattle.std.specs.Prelude.{◌≡◌, ◌≤◌, ◌<◌, ◌∷◌, ◌++◌, [], Ok, Err, Some, IfOk, IfErr, OnOk, drop, take, slice_index, length, option_map};
 ghost use Rattle.std.specs.List.{AllByRecursion};
+ghost use Rattle.mctp_packet.specs.Packets.{written};
 ghost use Rattle.pldm_requester.specs.Steps.{IsHeld, again_at, arrived_by, given_up_at, got_at, opened_held, opening_answer, passed, received_held, ticked_held};
 ghost use Rattle.pldm_requester.specs.Slots.{held_of};
 ghost use Rattle.mctp_schedule.specs.Askers.{HasAnswer, HasPacket, IsSent, ReportsReply};
@@ -11,7 +12,7 @@ ghost use Rattle.pldm_requester.specs.Courses as courses;
 use crate::Delivery;
 use crate::stored_message::{ShortMessage, StoredMessage};
 use arrayvec::ArrayVec;
-use mctp_packet::{HEADER, Memory, Moment};
+use mctp_packet::{HEADER, Memory, Moment, PacketRef};
 use pldm_requester::{Due, Got, MAX_OPEN, OpenFault, Requester, Status};
 use pldm_wire::{Command, MAX_REQUEST_BYTES};
 use std::alloc::Global;
@@ -146,25 +147,25 @@ impl Asker {
         self.requester.count()
     }
 
-    /// Takes the bytes of a packet. Those of an answer that it completes lie where the answer of `sent` does,
-    /// if both are the same.
+    /// Takes a packet. The bytes of an answer that it completes lie where the answer of `sent` does, if both are
+    /// the same.
     pub(crate) fn receive(
         &mut self,
         alloc: Global,
         now: Moment,
-        bytes: &[u8],
-        sent: Option<&Delivery>,
+        packet: &PacketRef<'_>,
+        sent: &Delivery,
     ) -> Result<ReceivedPacket, Memory>
         requires moment { (held_of self.old.station).last ≤ now }
         requires all { length self.old.numbers ≡ (held_of self.old.station).count }
-        ensures got { IfOk result (λ received. received.got ≡ got_at (held_of self.old.station) bytes.now) }
+        ensures got { IfOk result (λ received. received.got ≡ got_at (held_of self.old.station) (written packet.now)) }
         ensures answered { IfOk result (λ received. ReportsReply self.old.numbers (arrived_by (held_of self.old.station)
-            (passed (held_of self.old.station) bytes.now)) received.answered) }
+            (passed (held_of self.old.station) (written packet.now))) received.answered) }
         ensures held { OnOk result (IsHeld (held_of self.new.station) (received_held (held_of self.old.station) now
-            bytes.now)) }
+            (written packet.now))) }
         ensures numbers { OnOk result (self.new.numbers ≡ self.old.numbers) }
     {
-        let got = self.requester.receive(now, bytes)?;
+        let got = self.requester.receive_read(now, packet)?;
         let Got::Answered(own) = got else {
             return Ok(ReceivedPacket {
                 got,
@@ -184,7 +185,7 @@ impl Asker {
         &self,
         alloc: Global,
         own: u64,
-        sent: Option<&Delivery>,
+        sent: &Delivery,
     ) -> Result<AnsweredRequest, Memory>
         requires answer { HasAnswer (held_of self.now.station) own }
         requires one { own < length self.now.numbers }
@@ -195,7 +196,7 @@ impl Asker {
         let number = self.numbers[own as usize];
         match self.requester.status(own) {
             Some(Status::Answered(message)) => {
-                let message = StoredMessage::new(alloc, message, sent)?;
+                let message = StoredMessage::new(alloc, message, Some(sent))?;
                 Ok(AnsweredRequest { number, message })
             }
             _ => unreachable!(),

@@ -17,7 +17,7 @@ use crate::laws::{
 };
 use crate::places::{Places, begin_requesters};
 use crate::{ActionRef, Entries, Entry, OpenedRequest, RunFault, Schedule, StepRef};
-use mctp_packet::{Body, Eid, Keep, MAX_PACKET_BYTES, Memory, Moment, TAGS};
+use mctp_packet::{Body, Eid, Keep, Memory, Moment, TAGS};
 use pldm_platform::Platform;
 use pldm_responder::Responder;
 use pldm_wire::Command;
@@ -230,21 +230,18 @@ impl<P: Platform> Ends<P> {
             (at now (answer_action busy number packet)) (held_by self.new)) }
     {
         pldm_requester::laws::looks_back();
-        // The packet is made here: an entry keeps its answer as one message, which takes less room.
-        let mut room = [0; MAX_PACKET_BYTES];
         let journal = &self.journal;
-        let Some(bytes) = journal.latest_answer_packet(number, packet, busy, &mut room) else {
+        let Some((handed, sent)) = journal.latest_answer_packet(number, packet, busy) else {
             self.journal.enter(Entry::Nothing)?;
             return Ok(());
         };
-        let sent = journal.latest_delivery(number, busy);
         let request = &journal.requests[number as usize];
         let own = request.number();
         let (in_time, received) = match &mut self.places[usize::from(request.requester().get())] {
             Some(asker) => {
                 // The request's tag is its own until the requester has opened TAGS requests more.
                 let in_time = asker.count().saturating_sub(u64::from(TAGS)) <= own;
-                (in_time, asker.receive(self.alloc, now, bytes, sent)?)
+                (in_time, asker.receive(self.alloc, now, &handed, sent)?)
             }
             None => unreachable!(),
         };

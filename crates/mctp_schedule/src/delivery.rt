@@ -105,12 +105,19 @@ impl Delivery {
     pub fn packet<'a>(&self, index: usize, room: &'a mut [u8; MAX_PACKET_BYTES]) -> Option<&'a [u8]>
         ensures { option_map (λ bytes. bytes.now) result ≡ packet_of_outcome self.now index }
     {
+        let packet = self.answer_packet(index)?;
+        Some(bytes_of(&packet, room))
+    }
+
+    /// As [`Delivery::packet`], with the packet as it would be read from those bytes. Nothing is written for it.
+    pub fn answer_packet(&self, index: usize) -> Option<PacketRef<'_>>
+        ensures { option_map (λ packet. written packet) result ≡ packet_of_outcome self.now index }
+    {
         let (taken, reply) = self.parts();
         let MessageOutcome::Answered { route, .. } = taken else {
             return None;
         };
-        let packet = packet_at(route, reply, index)?;
-        Some(bytes_of(&packet, room))
+        packet_at(route, reply, index)
     }
 }
 

@@ -112,6 +112,8 @@ impl Entries {
     }
 
     /// Adds what came of the next step.
+    // Inlined: it is then known which entry it is, and only its own column is looked at.
+    #[inline(always)]
     pub(crate) fn push(&mut self, entry: Entry) -> Result<(), Memory>
         ensures ok { OnOk result (self.new ≡ self.old ++ entry ∷ []) }
         ensures err { OnErr result (self.new ≡ self.old) }
@@ -130,6 +132,8 @@ impl Entries {
 }
 
 /// Adds to the columns what of an entry stands there, and returns its mark.
+// Inlined: it is then known which entry it is.
+#[inline(always)]
 fn push_parts(
     entry: Entry,
     numbers: &mut Vec<u64>,

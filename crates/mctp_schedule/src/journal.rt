@@ -2,6 +2,7 @@
 
 ghost use Rattle.std.specs.Prelude.{◌≡◌, ◌+◌, ◌<◌, ◌^◌, ◌++◌, ◌∷◌, [], ◌&&◌, ◌==◌, true, ℕ, None, Some, OnOk, IfSome, length, option_and_then, option_map, slice_get, if◌then◌else◌};
 ghost use Rattle.std.specs.List.{list_any};
+ghost use Rattle.mctp_packet.specs.Packets.{written};
 ghost use Rattle.pldm_responder.specs.Answering.{answering};
 ghost use Rattle.mctp_schedule.specs.Deliveries.{packets_of_outcome};
 ghost use Rattle.mctp_schedule.specs.EntryColumns.{outcomes_in};
@@ -12,7 +13,7 @@ use crate::askers::{AnsweredRequest, MAX_REQUEST_PACKET_BYTES, SentRequest};
 use crate::delivery_place::DeliveryPlace;
 use crate::{Delivery, DueRequests, Entries, Entry, OpenedRequest};
 use arrayvec::ArrayVec;
-use mctp_packet::{Eid, HEADER, MAX_PACKET_BYTES, Memory, Moment};
+use mctp_packet::{Eid, HEADER, Memory, Moment, PacketRef};
 use pldm_requester::{Due, Got};
 use pldm_responder::MessageOutcome;
 use std::alloc::Global;
@@ -127,22 +128,19 @@ impl Journal {
         self.requests[number as usize].packet(header)
     }
 
-    /// The bytes of a packet of the latest answer to a request, a busy one or not, which are written in
-    /// front of `room`.
-    pub(crate) fn latest_answer_packet<'a>(
+    /// A packet of the latest answer to a request, a busy one or not, and the delivery that brought that answer.
+    pub(crate) fn latest_answer_packet(
         &self,
         number: u64,
         packet: u8,
         busy: bool,
-        room: &'a mut [u8; MAX_PACKET_BYTES],
-    ) -> Option<&'a [u8]>
-        ensures { option_map (λ bytes. bytes.now) result ≡ packet_at self.now.entries packet busy
+    ) -> Option<(PacketRef<'_>, &Delivery)>
+        ensures { option_map (λ found. written found.0) result ≡ packet_at self.now.entries packet busy
             (slice_get self.now.traffic.items number) }
     {
-        match self.latest_delivery(number, busy) {
-            Some(delivery) => delivery.packet(usize::from(packet), room),
-            None => None,
-        }
+        let delivery = self.latest_delivery(number, busy)?;
+        let packet = delivery.answer_packet(usize::from(packet))?;
+        Some((packet, delivery))
     }
 
     /// The delivery that brought the latest answer to a request, a busy one or not.
@@ -155,6 +153,8 @@ impl Journal {
     }
 
     /// Writes down what came of a step that told nothing of a request.
+    // Inlined: it is then known which entry it is.
+    #[inline(always)]
     pub(crate) fn enter(&mut self, entry: Entry) -> Result<(), Memory>
         ensures entries { OnOk result (self.new.entries ≡ self.old.entries ++ entry ∷ []) }
         ensures requests { OnOk result (self.new.requests.items ≡ self.old.requests.items) }

@@ -3,8 +3,10 @@ ghost use Rattle.std.specs.Bool.{OnFalse};
 ghost use Rattle.std.specs.Option.{option_copied};
 ghost use Rattle.mctp_packet.specs.Ids.{IsTag};
 ghost use Rattle.mctp_packet.specs.Memories.{out_of_memory};
+ghost use Rattle.mctp_packet.specs.Packets.{written};
 ghost use Rattle.mctp_packet.specs.Passing.{passed as where_expected};
 ghost use Rattle.mctp_packet.specs.Pieces.{written_packets};
+ghost use Rattle.mctp_packet.specs.Reading.{reading, unless};
 ghost use Rattle.mctp_assembly.specs.Steps.{answer as assembled};
 ghost use Rattle.mctp_assembly.specs.declared.fed.Fed.TheVariants.{Whole};
 ghost use Rattle.pldm_wire.specs.Commands.{IsCommand};
@@ -233,13 +235,12 @@ impl Requester {
             owner: true,
             tag,
         };
-        let message = write_command(id, command);
         put(
             &mut self.slots,
             number,
             command.kind(),
             &route,
-            &message,
+            &write_command(id, command),
             now,
         );
         self.assembler.forget(answer_key(self.device, tag));
@@ -301,6 +302,41 @@ impl Requester {
         match read_for(self.own, bytes) {
             Ok(packet) => self.receive_packet(&packet),
             Err(reason) => Ok(Got::Dropped(reason)),
+        }
+    }
+
+    /// As [`Requester::receive`], for a packet that is read already: it takes what [`mctp_packet::write`]
+    /// writes of it. Nothing is written for it.
+    ///
+    /// # Errors
+    ///
+    /// As from [`Requester::receive`].
+    pub fn receive_read(&mut self, now: Moment, packet: &PacketRef<'_>) -> Result<Got, Memory>
+        requires { (held_of self.old).last ≤ now }
+        ensures got { IfOk result (λ got. got ≡ got_at (held_of self.old) (written packet.now)) }
+        ensures held { OnOk result (IsHeld (held_of self.new) (received_held (held_of self.old) now
+            (written packet.now))) }
+        ensures memory { OnErr result (got_at (held_of self.old) (written packet.now) ≡ Got.Partial) }
+        ensures at_start { OnErr result (begins_message (passed (held_of self.old) (written packet.now)) ≡ true) }
+        ensures err { OnErr result (IsHeld (held_of self.new) (held_of self.old)) }
+    {
+        let got = self.receive_any(packet)?;
+        self.last = now;
+        Ok(got)
+    }
+
+    /// Takes a packet that is read already, wherever it goes and whatever the moment.
+    fn receive_any(&mut self, packet: &PacketRef<'_>) -> Result<Got, Memory>
+        ensures got { IfOk result (λ got. got ≡ got_at (held_of self.old) (written packet.now)) }
+        ensures held { OnOk result (IsHeld (held_of self.new) (held_by (held_of self.old) (passed (held_of self.old)
+            (written packet.now)))) }
+        ensures memory { OnErr result (got_at (held_of self.old) (written packet.now) ≡ Got.Partial) }
+        ensures at_start { OnErr result (begins_message (passed (held_of self.old) (written packet.now)) ≡ true) }
+        ensures err { OnErr result (IsHeld (held_of self.new) (held_of self.old)) }
+    {
+        match refusal_at(self.own, packet) {
+            None => self.receive_packet(packet),
+            Some(reason) => Ok(Got::Dropped(reason)),
         }
     }
 
@@ -416,6 +452,27 @@ impl Requester {
             None => false,
         }
     }
+}
+
+/// Why [`read_for`] refuses what is written of a packet at the endpoint `own`: it is not addressed to it, or not
+/// by another one. The rest of a packet is always in its range.
+fn refusal_at(own: Eid, packet: &PacketRef<'_>) -> Option<Reason>
+    ensures { unless result packet.now ≡ reading (Some own) (written packet.now) }
+{
+    mctp_packet::laws::bytes_spell_one_packet();
+    mctp_packet::laws::reading_is_spelling();
+    let route = packet.route();
+    if route.destination != own {
+        return Some(Reason::UnknownDestination);
+    }
+    if route.source == own {
+        return Some(Reason::BadSource);
+    }
+    // For the proof: what is written of a packet is read back, since each part of it is in its range.
+    let _ranges = (own.get(), route.source.get(), route.tag.get());
+    let _seq = packet.seq().get();
+    let _size = packet.payload();
+    None
 }
 
 /// Whether a response has the instance ID, the PLDM type and the command of a request.

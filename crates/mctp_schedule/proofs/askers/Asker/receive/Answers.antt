@@ -1,5 +1,6 @@
 -- An answer is that of the request that it answered.
 use Rattle.std.proofs.Common.{◌≡◌, None, Some, refl, subst, sym, ◌∙◌}
+use Rattle.mctp_packet.specs.Packets.{written}
 use Rattle.pldm_requester.specs.Slots.{held_of}
 use Rattle.std.specs.Prelude.{option_map}
 use Rattle.pldm_requester.specs.Steps.{IsHeld, Memo, arrived_by, got_at, passed, received_held}
@@ -11,18 +12,18 @@ pub store_answer-requires-clause-answer : goal.store_answer-requires-clause-answ
 store_answer-requires-clause-answer c =
     let held = held_of c.self.inside.requester in
     let got = sym c.in_ok-got.ensures.got ∙ c.in-Answered.is in
-    let message = answer_of_got (arrived_by held (passed held c.args.bytes.now)) c.in-Answered.own got in
-    (message.0, progress_left held (held_of c.receive.new.self) c.args.now c.args.bytes.now c.in-Answered.own message.0 c.in_ok-got.ensures.held message.1)
+    let message = answer_of_got (arrived_by held (passed held (written c.args.packet.now))) c.in-Answered.own got in
+    (message.0, progress_left held (held_of c.receive_read.new.self) c.args.now (written c.args.packet.now) c.in-Answered.own message.0 c.in_ok-got.ensures.held message.1)
 
 pub returns-in_default : goal.returns-in_default
 returns-in_default c =
     let held = held_of c.self.inside.requester in
-    let arrival = arrived_by held (passed held c.args.bytes.now) in
+    let arrival = arrived_by held (passed held (written c.args.packet.now)) in
     let got = c.in_ok-got.ensures.got in
     subst (λ (s : Side). record {
-      got : c.in_ok-got.got ≡ got_at (held_of s.station) c.args.bytes.now;
-      answered : ReportsReply s.numbers (arrived_by (held_of s.station) (passed (held_of s.station) c.args.bytes.now)) None;
-      held : IsHeld (held_of c.receive.new.self) (received_held (held_of s.station) c.args.now c.args.bytes.now);
+      got : c.in_ok-got.got ≡ got_at (held_of s.station) (written c.args.packet.now);
+      answered : ReportsReply s.numbers (arrived_by (held_of s.station) (passed (held_of s.station) (written c.args.packet.now))) None;
+      held : IsHeld (held_of c.receive_read.new.self) (received_held (held_of s.station) c.args.now (written c.args.packet.now));
       numbers : c.self.inside.numbers.items ≡ s.numbers;
     }) c.self.view_is
     (record {
@@ -37,11 +38,11 @@ returns-clause-answered c =
     let held = held_of c.self.inside.requester in
     let own = c.in-Answered.own in
     let answered = c.in_ok-answered.answered in
-    let progress = option_map (λ (memo : Memo). memo.course.progress) ((held_of c.receive.new.self).remembered own) in
-    subst (λ (s : Side). ReportsReply s.numbers (arrived_by (held_of s.station) (passed (held_of s.station) c.args.bytes.now)) (Some answered)) c.self.view_is
-    (one_told c.self.inside.numbers.items (arrived_by held (passed held c.args.bytes.now)) own answered (sym c.in_ok-got.ensures.got ∙ c.in-Answered.is) c.in_ok-answered.ensures.number
-    (λ m e. same_answer progress answered.message m c.in_ok-answered.ensures.message (progress_left held (held_of c.receive.new.self) c.args.now c.args.bytes.now own m c.in_ok-got.ensures.held e)))
+    let progress = option_map (λ (memo : Memo). memo.course.progress) ((held_of c.receive_read.new.self).remembered own) in
+    subst (λ (s : Side). ReportsReply s.numbers (arrived_by (held_of s.station) (passed (held_of s.station) (written c.args.packet.now))) (Some answered)) c.self.view_is
+    (one_told c.self.inside.numbers.items (arrived_by held (passed held (written c.args.packet.now))) own answered (sym c.in_ok-got.ensures.got ∙ c.in-Answered.is) c.in_ok-answered.ensures.number
+    (λ m e. same_answer progress answered.message m c.in_ok-answered.ensures.message (progress_left held (held_of c.receive_read.new.self) c.args.now (written c.args.packet.now) own m c.in_ok-got.ensures.held e)))
 
 pub returns-clause-held : goal.returns-clause-held
 returns-clause-held c =
-    subst (λ (s : Side). IsHeld (held_of c.receive.new.self) (received_held (held_of s.station) c.args.now c.args.bytes.now)) c.self.view_is c.in_ok-got.ensures.held
+    subst (λ (s : Side). IsHeld (held_of c.receive_read.new.self) (received_held (held_of s.station) c.args.now (written c.args.packet.now))) c.self.view_is c.in_ok-got.ensures.held

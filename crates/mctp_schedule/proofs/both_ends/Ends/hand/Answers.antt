@@ -1,6 +1,7 @@
 -- A packet of an answer is one more call of its requester; where there is none, nothing comes of the step.
 use Rattle.std.proofs.Common.{◌≡◌, ◌+◌, ◌-◌, ◌∷◌, ◌++◌, [], List, ℕ, length, Option, None, Some, sym, ap, subst, ◌∙◌, arith}
 use Rattle.std.specs.Prelude.{◌||◌, ◌&&◌, not, is_some, nat_le, option_map, slice_index_or}
+use Rattle.mctp_packet.specs.Packets.{written}
 use Rattle.pldm_responder.specs.Performing.{rules_of}
 use Rattle.pldm_wire.specs.declared.command.Command.{Command}
 use Rattle.pldm_requester.specs.Slots.{held_of}
@@ -17,7 +18,7 @@ use Rattle.mctp_schedule.proofs.LoggedRequests.{asked_below}
 use Rattle.mctp_schedule.proofs.AfterCall.{with_side, nothing_runs, or_within, place_holds}
 use Rattle.mctp_schedule.proofs.CommandsPerformed.{answers_perform_none}
 use Rattle.mctp_schedule.proofs.FoundRequester.{finds, its_side}
-use Rattle.mctp_schedule.proofs.HandedAnswerPackets.{asked_of, done_is, entry_is, not_some, timely_is, written}
+use Rattle.mctp_schedule.proofs.HandedAnswerPackets.{asked_of, done_is, entry_is, not_some, timely_is, written as brought}
 use Rattle.mctp_schedule.proofs.ListPlaces.{get_or, or_get}
 use Rattle.mctp_schedule.proofs.AfterAnswerPacket.{hand_runs, tag_kept, told_below}
 use Rattle.mctp_schedule.proofs.both_ends.Ends.hand.Goals as goal
@@ -30,7 +31,7 @@ returns-in_default g c = record {
       let k = c.args.number in
       let journal = c.args.self.now.journal in
       let nothing = not_some c.latest_answer_packet.result c.in_default.not-Some in
-      let brings = sym (written setting past (held_by c.args.self.now) running c.args.busy k c.args.packet c.requires.first) ∙ sym c.latest_answer_packet.ensures ∙ ap (option_map (λ bytes. bytes.now)) nothing in
+      let brings = sym (brought setting past (held_by c.args.self.now) running c.args.busy k c.args.packet c.requires.first) ∙ sym c.latest_answer_packet.ensures ∙ ap (option_map (λ found. written found.0)) nothing in
       let entered = c.in_ok-enter.ensures in
       nothing_runs setting past (held_by c.args.self.now) c.enter.new.self running c.args.now may.later (answer_action c.args.busy k c.args.packet)
       (done_is setting w c.args.busy c.args.now k c.args.packet ∙ ap (handed setting w c.args.now (source_of (asked_at w.log k))) brings)
@@ -58,8 +59,8 @@ index-request-requires g c =
     let w = world setting past in
     let k = c.args.number in
     let journal = c.args.self.now.journal in
-    let brings = sym (written setting past (held_by c.args.self.now) running c.args.busy k c.args.packet c.requires.first) ∙ sym c.in-Some.ensures in
-    let asked = asked_of setting w c.args.busy k c.args.packet c.in-Some.bytes.now brings in
+    let brings = sym (brought setting past (held_by c.args.self.now) running c.args.busy k c.args.packet c.requires.first) ∙ sym c.in-Some.ensures in
+    let asked = asked_of setting w c.args.busy k c.args.packet (written c.in-Some.handed) brings in
     let q = asked.0 in
     let below = asked_below w.log k q asked.1 in
     let count = running.counted in
@@ -71,8 +72,8 @@ index_mut-requires g c =
     let past = c.requires.steps.1 in
     let running = c.requires.steps.2 in
     let setting = setting_of (rules_of g.P.Platform.answer g.P.Platform.after g.P.Platform.sensed) terms in
-    let f = finds setting past (held_by c.args.self.now) running c.args.busy c.args.number c.args.packet c.in-Some.bytes.now c.index-request.result.now c.from.result c.requires.first c.in-Some.ensures c.index-request.ensures (c.from.ensures ∙ c.get.ensures.value ∙ c.requester.ensures) in
-    let s = its_side setting past (held_by c.args.self.now) running c.args.busy c.args.number c.args.packet c.in-Some.bytes.now c.index-request.result.now c.from.result f in
+    let f = finds setting past (held_by c.args.self.now) running c.args.busy c.args.number c.args.packet (written c.in-Some.handed) c.index-request.result.now c.from.result c.requires.first c.in-Some.ensures c.index-request.ensures (c.from.ensures ∙ c.get.ensures.value ∙ c.requester.ensures) in
+    let s = its_side setting past (held_by c.args.self.now) running c.args.busy c.args.number c.args.packet (written c.in-Some.handed) c.index-request.result.now c.from.result f in
     let below = or_within c.args.self.now.places.items f.q.source s.0 s.1 in
     (let at = f.at in omega (arith, below, at))
 
@@ -82,8 +83,8 @@ receive-requires-clause-moment g c =
     let past = c.requires.steps.1 in
     let running = c.requires.steps.2 in
     let setting = setting_of (rules_of g.P.Platform.answer g.P.Platform.after g.P.Platform.sensed) terms in
-    let f = finds setting past (held_by c.args.self.now) running c.args.busy c.args.number c.args.packet c.in-Some.bytes.now c.index-request.result.now c.from.result c.requires.first c.in-Some.ensures c.index-request.ensures (c.from.ensures ∙ c.get.ensures.value ∙ c.requester.ensures) in
-    let s = its_side setting past (held_by c.args.self.now) running c.args.busy c.args.number c.args.packet c.in-Some.bytes.now c.index-request.result.now c.from.result f in
+    let f = finds setting past (held_by c.args.self.now) running c.args.busy c.args.number c.args.packet (written c.in-Some.handed) c.index-request.result.now c.from.result c.requires.first c.in-Some.ensures c.index-request.ensures (c.from.ensures ∙ c.get.ensures.value ∙ c.requester.ensures) in
+    let s = its_side setting past (held_by c.args.self.now) running c.args.busy c.args.number c.args.packet (written c.in-Some.handed) c.index-request.result.now c.from.result f in
     let found = c.index_mut.result.now in
     let asker = c.in-Some-index_mut.asker in
     let same = place_holds c.args.self.now.places.items f.q.source c.from.result found s.0 asker f.at c.index_mut.ensures.value s.1 c.in-Some-index_mut.is in
@@ -98,8 +99,8 @@ receive-requires-clause-all g c =
     let past = c.requires.steps.1 in
     let running = c.requires.steps.2 in
     let setting = setting_of (rules_of g.P.Platform.answer g.P.Platform.after g.P.Platform.sensed) terms in
-    let f = finds setting past (held_by c.args.self.now) running c.args.busy c.args.number c.args.packet c.in-Some.bytes.now c.index-request.result.now c.from.result c.requires.first c.in-Some.ensures c.index-request.ensures (c.from.ensures ∙ c.get.ensures.value ∙ c.requester.ensures) in
-    let s = its_side setting past (held_by c.args.self.now) running c.args.busy c.args.number c.args.packet c.in-Some.bytes.now c.index-request.result.now c.from.result f in
+    let f = finds setting past (held_by c.args.self.now) running c.args.busy c.args.number c.args.packet (written c.in-Some.handed) c.index-request.result.now c.from.result c.requires.first c.in-Some.ensures c.index-request.ensures (c.from.ensures ∙ c.get.ensures.value ∙ c.requester.ensures) in
+    let s = its_side setting past (held_by c.args.self.now) running c.args.busy c.args.number c.args.packet (written c.in-Some.handed) c.index-request.result.now c.from.result f in
     let found = c.index_mut.result.now in
     let asker = c.in-Some-index_mut.asker in
     let same = place_holds c.args.self.now.places.items f.q.source c.from.result found s.0 asker f.at c.index_mut.ensures.value s.1 c.in-Some-index_mut.is in
@@ -111,8 +112,8 @@ unreachable-requires g c =
     let past = c.requires.steps.1 in
     let running = c.requires.steps.2 in
     let setting = setting_of (rules_of g.P.Platform.answer g.P.Platform.after g.P.Platform.sensed) terms in
-    let f = finds setting past (held_by c.args.self.now) running c.args.busy c.args.number c.args.packet c.in-Some.bytes.now c.index-request.result.now c.from.result c.requires.first c.in-Some.ensures c.index-request.ensures (c.from.ensures ∙ c.get.ensures.value ∙ c.requester.ensures) in
-    let s = its_side setting past (held_by c.args.self.now) running c.args.busy c.args.number c.args.packet c.in-Some.bytes.now c.index-request.result.now c.from.result f in
+    let f = finds setting past (held_by c.args.self.now) running c.args.busy c.args.number c.args.packet (written c.in-Some.handed) c.index-request.result.now c.from.result c.requires.first c.in-Some.ensures c.index-request.ensures (c.from.ensures ∙ c.get.ensures.value ∙ c.requester.ensures) in
+    let s = its_side setting past (held_by c.args.self.now) running c.args.busy c.args.number c.args.packet (written c.in-Some.handed) c.index-request.result.now c.from.result f in
     let found = c.index_mut.result.now in
     let there = get_or c.args.self.now.places.items f.q.source None (or_within c.args.self.now.places.items f.q.source s.0 s.1) ∙ ap Some s.1 in
     let read : found ≡ Some s.0 = c.index_mut.ensures.value ∙ ap (λ i. slice_index_or c.args.self.now.places.items i found) f.at ∙ or_get c.args.self.now.places.items f.q.source found (Some s.0) there in
@@ -125,22 +126,22 @@ enter_received-requires g c =
     let past = c.requires.steps.1 in
     let running = c.requires.steps.2 in
     let setting = setting_of (rules_of g.P.Platform.answer g.P.Platform.after g.P.Platform.sensed) terms in
-    let f = finds setting past (held_by c.args.self.now) running c.args.busy c.args.number c.args.packet c.in-Some.bytes.now c.index-request.result.now c.from.result c.requires.first c.in-Some.ensures c.index-request.ensures (c.from.ensures ∙ c.get.ensures.value ∙ c.requester.ensures) in
-    let s = its_side setting past (held_by c.args.self.now) running c.args.busy c.args.number c.args.packet c.in-Some.bytes.now c.index-request.result.now c.from.result f in
+    let f = finds setting past (held_by c.args.self.now) running c.args.busy c.args.number c.args.packet (written c.in-Some.handed) c.index-request.result.now c.from.result c.requires.first c.in-Some.ensures c.index-request.ensures (c.from.ensures ∙ c.get.ensures.value ∙ c.requester.ensures) in
+    let s = its_side setting past (held_by c.args.self.now) running c.args.busy c.args.number c.args.packet (written c.in-Some.handed) c.index-request.result.now c.from.result f in
     let found = c.index_mut.result.now in
     let asker = c.in-Some-index_mut.asker in
     let same = place_holds c.args.self.now.places.items f.q.source c.from.result found s.0 asker f.at c.index_mut.ensures.value s.1 c.in-Some-index_mut.is in
     let received = c.in_ok-receive-in-Some-index_mut.ensures in
     let taken = c.in_ok-receive-in-Some-index_mut.field-0 in
-    told_below setting (world setting past) (time_now past) f.q.source s.0 s.2 c.in-Some.bytes.now taken.answered (length c.args.self.now.journal.requests.items) (sym running.counted)
-    (subst (λ (x : Side). ReportsReply x.numbers (arrived_by (held_of x.station) (passed (held_of x.station) c.in-Some.bytes.now)) taken.answered) same received.answered)
+    told_below setting (world setting past) (time_now past) f.q.source s.0 s.2 (written c.in-Some.handed) taken.answered (length c.args.self.now.journal.requests.items) (sym running.counted)
+    (subst (λ (x : Side). ReportsReply x.numbers (arrived_by (held_of x.station) (passed (held_of x.station) (written c.in-Some.handed))) taken.answered) same received.answered)
 
 pub returns : goal.returns
 returns g c = record {
   goes_on = λ terms past running may.
       let setting = setting_of (rules_of g.P.Platform.answer g.P.Platform.after g.P.Platform.sensed) terms in
-      let f = finds setting past (held_by c.args.self.now) running c.args.busy c.args.number c.args.packet c.in-Some.bytes.now c.index-request.result.now c.from.result c.requires.first c.in-Some.ensures c.index-request.ensures (c.from.ensures ∙ c.get.ensures.value ∙ c.requester.ensures) in
-      let s = its_side setting past (held_by c.args.self.now) running c.args.busy c.args.number c.args.packet c.in-Some.bytes.now c.index-request.result.now c.from.result f in
+      let f = finds setting past (held_by c.args.self.now) running c.args.busy c.args.number c.args.packet (written c.in-Some.handed) c.index-request.result.now c.from.result c.requires.first c.in-Some.ensures c.index-request.ensures (c.from.ensures ∙ c.get.ensures.value ∙ c.requester.ensures) in
+      let s = its_side setting past (held_by c.args.self.now) running c.args.busy c.args.number c.args.packet (written c.in-Some.handed) c.index-request.result.now c.from.result f in
       let found = c.index_mut.result.now in
       let asker = c.in-Some-index_mut.asker in
       let same = place_holds c.args.self.now.places.items f.q.source c.from.result found s.0 asker f.at c.index_mut.ensures.value s.1 c.in-Some-index_mut.is in
@@ -152,13 +153,13 @@ returns g c = record {
       let before : c.saturating_sub.result ≡ c.count.result - 8 = (let sub = c.saturating_sub.ensures in let eight = c.from-in-Some-index_mut.ensures in omega (arith, sub, eight)) in
       subst (λ i. IsRunning setting (record { moment = c.args.now; action = answer_action c.args.busy c.args.number c.args.packet } ∷ past) (with_side (held_by c.args.self.now) i c.receive.new.self c.enter_received.new.self)) (sym f.at)
       (hand_runs setting past (held_by c.args.self.now) c.enter_received.new.self running c.args.now may.later
-      c.args.busy c.args.number c.args.packet c.in-Some.bytes.now f.q f.is f.brings c.receive.new.self taken.got taken.answered (nat_le c.saturating_sub.result c.number-own.result)
+      c.args.busy c.args.number c.args.packet (written c.in-Some.handed) f.q f.is f.brings c.receive.new.self taken.got taken.answered (nat_le c.saturating_sub.result c.number-own.result)
       c.looks_back.ensures.receive c.looks_back.ensures.same
       (record {
         same_numbers = received.numbers ∙ ap (λ (x : Side). x.numbers) same;
-        new_held = subst (λ (x : Side). IsHeld (held_of c.receive.new.self.station) (received_held (held_of x.station) c.args.now c.in-Some.bytes.now)) same received.held;
-        got_is = received.got ∙ ap (λ (x : Side). got_at (held_of x.station) c.in-Some.bytes.now) same;
-        tells = subst (λ (x : Side). ReportsReply x.numbers (arrived_by (held_of x.station) (passed (held_of x.station) c.in-Some.bytes.now)) taken.answered) same received.answered;
+        new_held = subst (λ (x : Side). IsHeld (held_of c.receive.new.self.station) (received_held (held_of x.station) c.args.now (written c.in-Some.handed))) same received.held;
+        got_is = received.got ∙ ap (λ (x : Side). got_at (held_of x.station) (written c.in-Some.handed)) same;
+        tells = subst (λ (x : Side). ReportsReply x.numbers (arrived_by (held_of x.station) (passed (held_of x.station) (written c.in-Some.handed))) taken.answered) same received.answered;
         time_is = ap (λ n. nat_le n c.number-own.result) before ∙ ap (nat_le (c.count.result - 8)) own ∙ tag_kept c.count.result f.q.own ∙ ap (λ n. nat_le n (f.q.own + 8)) count;
         requests = entered.requests;
         counted = entered.all;
