@@ -1,5 +1,5 @@
 -- What a packet that was taken at a place leaves among the open messages.
-use Rattle.std.proofs.Common.{◌≡◌, ◌≢◌, ℕ, Some, None, refl, sym, ◌∙◌, ap, subst}
+use Rattle.std.proofs.Common.{◌≡◌, ◌≢◌, ℕ, Bool, true, false, cond, ◌==◌, eqb-true, Some, None, Option, refl, sym, ◌∙◌, ap, subst}
 use Rattle.std.specs.Prelude.{slice_set, slice_index_or, List}
 use Rattle.std.specs.List.{All, insert, remove}
 use Rattle.std.proofs.lemmas.List.{set-get_or}
@@ -13,6 +13,7 @@ use Rattle.mctp_assembly.specs.Opened.{Opened, IsOpened}
 use Rattle.mctp_assembly.specs.Steps.{answer_alone, answer_to, begun_by, carried_on, left_by}
 use Rattle.mctp_assembly.specs.declared.fed.FedInto.{FedInto}
 use Rattle.mctp_assembly.specs.declared.fed.FedInto.TheVariants.{Whole, Partial, Dropped}
+use Rattle.mctp_assembly.proofs.PacketEnds.{none_partial}
 use Rattle.mctp_assembly.proofs.NumberPlaces.{read_at, written_at, removed_at, inserted_at, none_in_gap, change_of, unchanged}
 use Rattle.mctp_assembly.proofs.OpenPlaces.{open_written, open_removed}
 
@@ -30,6 +31,16 @@ not_begun : (given : FedInto) (body : List ℕ) (p : Packet) → (given ≡ Part
 not_begun Whole body p other = refl
 not_begun Partial body p other = absurd (other refl)
 not_begun (Dropped reason) body p other = refl
+
+left_kept : (given : FedInto) (body : List ℕ) (o : Option Opened) (p : Packet) → p.end ≡ true → fed_with body given ≡ answer_to MAX_PACKETS o p
+    → ((reason : Reason) → given ≡ Dropped reason → ⊥) → o ≡ left_by (answer_to MAX_PACKETS o p) o p
+left_kept Whole body o p ended fed stays = ap (λ f. left_by f o p) fed
+left_kept Partial body o p ended fed stays = absurd (none_partial o p ended fed)
+left_kept (Dropped reason) body o p ended fed stays = absurd (stays reason refl)
+
+same_at : {X : Type 0} (b : Bool) (here there : X) → (b ≡ true → there ≡ here) → there ≡ cond b here there
+same_at true here there same = same refl
+same_at false here there same = refl
 
 -- ---- at the place of the number
 module _ (l m : Numbered) (same : l ≡ m) (rises : Rises none_open l) (k place : ℕ) (found : IsAt none_open m k place)
@@ -63,10 +74,17 @@ module _ (l m : Numbered) (same : l ≡ m) (rises : Rises none_open l) (k place 
     taken_here partial other stays =
         change_of none_open l m _ k (Some v) _ same (kept given body d.1 v p partial other stays ∙ left_here) (written_at none_open l rises k place is d v read)
 
+    pub kept_here : p.end ≡ true → ((reason : Reason) → given ≡ Dropped reason → ⊥) → Leaves m m k p
+    kept_here ended stays = subst (λ o. Changes m m k o) (left_kept given body (at m k) p ended fed_here stays) (λ q. same_at (k == q) (at m k) (at m q) (λ same. ap (at m) (sym (eqb-true k q same))))
+
+    pub ended_here : (new : Numbered) (reason : Reason) → new ≡ remove l place → given ≡ Dropped reason → Leaves m new k p
+    ended_here new reason removed dropped =
+        change_of none_open l m new k None _ same (ap (λ g. left_by (fed_with body g) (Some d.1) p) (sym dropped) ∙ left_here)
+        (subst (λ (new : Numbered). Changes l new k None) (sym removed) (removed_at none_open l rises k place is))
+
     pub dropped_here : (new : Numbered) (reason : Reason) → new ≡ remove (slice_set l place (d.0, v)) place → v ≡ d.1 → given ≡ Dropped reason → Leaves m new k p
     dropped_here new reason removed value dropped =
-        change_of none_open l m new k None _ same (ap (λ g. left_by (fed_with body g) (Some d.1) p) (sym dropped) ∙ left_here)
-        (subst (λ (new : Numbered). Changes l new k None) (sym (removed ∙ ap (λ (list : Numbered). remove list place) (as_it_was value))) (removed_at none_open l rises k place is))
+        ended_here new reason (removed ∙ ap (λ (list : Numbered). remove list place) (as_it_was value)) dropped
 
 -- ---- at the gap for the number
 module _ (m : Numbered) (k place : ℕ) (gap : IsGapFor none_open m k place) (p : Packet) (given : FedInto) (body : List ℕ) (fed : fed_with body given ≡ answer_alone p) where
@@ -84,6 +102,9 @@ module _ (m : Numbered) (k place : ℕ) (gap : IsGapFor none_open m k place) (p 
       let begun = ap Some value ∙ ap (λ g. left_by (fed_with body g) None p) (sym partial) ∙ left_alone in
       change_of none_open m m new k (Some v) _ refl begun
       (subst (λ (new : Numbered). Changes m new k (Some v)) (sym (inserted ∙ ap (λ (list : Numbered). insert list place (k, v)) same)) (inserted_at none_open m k place gap v))
+
+  pub unchanged_at_end : p.end ≡ true → Leaves m m k p
+  unchanged_at_end ended = change_of none_open m m m k None _ refl (not_begun given body p (λ partial. none_partial None p ended (ap (fed_with body) (sym partial) ∙ fed)) ∙ left_alone) (unchanged none_open m k (sym none))
 
   pub unchanged_here : (given ≡ Partial → ⊥) → Leaves m m k p
   unchanged_here other = change_of none_open m m m k None _ refl (not_begun given body p other ∙ left_alone) (unchanged none_open m k (sym none))

@@ -57,16 +57,17 @@ impl Buffer {
         }
     }
 
-    /// Takes a packet, and gives what it gives, with a message that it completes in `message`. One that gives
-    /// `Partial` begins the buffer anew, or is added; any other changes nothing.
-    pub(crate) fn take(&mut self, packet: &PacketRef<'_>, message: &mut Body) -> FedInto
-        ensures fed { fed_with message.new.items result ≡ answer_to MAX_PACKETS (Some self.old) packet.now }
+    /// Takes a packet, and gives what it gives. One that gives `Partial` begins the buffer anew, or is added; any
+    /// other changes nothing.
+    pub(crate) fn take(&mut self, packet: &PacketRef<'_>) -> FedInto
+        ensures given { fed_with (carried_on (Some self.old) packet.now).bytes result
+            ≡ answer_to MAX_PACKETS (Some self.old) packet.now }
         ensures partial { result ≡ FedInto.Partial → self.new ≡ carried_on (Some self.old) packet.now }
         ensures other { result ≢ FedInto.Partial → self.new ≡ self.old }
         ensures range { IsOpened self.new }
     {
         let _range = self.count; // for the proof: a message that has begun
-        let given = self.look_into(packet, message);
+        let given = self.judge(packet);
         if let FedInto::Partial = given {
             if packet.start() {
                 self.begin(packet);
@@ -81,8 +82,23 @@ impl Buffer {
     pub(crate) fn look_into(&self, packet: &PacketRef<'_>, message: &mut Body) -> FedInto
         ensures { fed_with message.new.items result ≡ answer_to MAX_PACKETS (Some self.now) packet.now }
     {
+        let given = self.judge(packet);
+        if let FedInto::Whole = given {
+            join(message, self.before(packet), packet.payload());
+        }
+        given
+    }
+
+    /// What a packet gives after the packets here.
+    fn judge(&self, packet: &PacketRef<'_>) -> FedInto
+        ensures given { fed_with (carried_on (Some self.now) packet.now).bytes result
+            ≡ answer_to MAX_PACKETS (Some self.now) packet.now }
+        ensures fits { result ≡ FedInto.Whole
+            → length (carried_on (Some self.now) packet.now).bytes ≤ MAX_MESSAGE_BYTES }
+    {
+        let payload = packet.payload();
         if packet.start() {
-            return look_alone(packet, message);
+            return judge_alone(packet);
         }
         if packet.seq().get() != (self.last.get() + 1) % SEQUENCE_NUMBERS {
             return FedInto::Dropped(Reason::OutOfSequence);
@@ -90,18 +106,23 @@ impl Buffer {
         if self.count == MAX_PACKETS {
             return FedInto::Dropped(Reason::TooLong);
         }
-        let payload = packet.payload();
         if packet.end() {
             if payload.len() > self.unit {
                 return FedInto::Dropped(Reason::WrongUnit);
             }
-            join(message, &self.bytes, payload);
             return FedInto::Whole;
         }
         if payload.len() != self.unit {
             return FedInto::Dropped(Reason::WrongUnit);
         }
         FedInto::Partial
+    }
+
+    /// The bytes that a message has before the payload of this packet.
+    fn before(&self, packet: &PacketRef<'_>) -> &[u8]
+        ensures { result.now ++ packet.now.payload ≡ (carried_on (Some self.now) packet.now).bytes }
+    {
+        if packet.start() { &[] } else { &self.bytes }
     }
 
     /// Begins anew, with a start packet.
@@ -135,11 +156,21 @@ impl Buffer {
 pub(crate) fn look_alone(packet: &PacketRef<'_>, message: &mut Body) -> FedInto
     ensures { fed_with message.new.items result ≡ answer_alone packet.now }
 {
+    let given = judge_alone(packet);
+    if let FedInto::Whole = given {
+        join(message, &[], packet.payload());
+    }
+    given
+}
+
+/// What a packet gives where nothing is open on its key, and what a start packet gives in any case.
+pub(crate) fn judge_alone(packet: &PacketRef<'_>) -> FedInto
+    ensures { fed_with packet.now.payload result ≡ answer_alone packet.now }
+{
     if !packet.start() {
         return FedInto::Dropped(Reason::UnexpectedMiddleOrEnd);
     }
     if packet.end() {
-        join(message, &[], packet.payload());
         return FedInto::Whole;
     }
     FedInto::Partial

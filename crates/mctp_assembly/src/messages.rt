@@ -1,4 +1,4 @@
-ghost use Rattle.std.specs.Prelude.{◌≡◌, ◌≢◌, ◌≤◌, [], Some, None, IfOk, IfErr, OnOk, OnErr, true, length};
+ghost use Rattle.std.specs.Prelude.{◌≡◌, ◌≢◌, ◌≤◌, ℕ, List, [], Some, None, IfOk, IfErr, OnOk, OnErr, true, false, length};
 ghost use Rattle.std.specs.Option.{option_copied};
 ghost use Rattle.std.specs.List.{All};
 ghost use Rattle.mctp_packet.specs.declared.TheConstants.{MAX_PACKETS};
@@ -12,7 +12,7 @@ ghost use Rattle.mctp_assembly.specs.declared.fed.Fed.TheVariants.{Partial};
 ghost use Rattle.mctp_assembly.specs.declared.fed.FedInto.TheVariants as FedInto;
 
 use crate::FedInto;
-use crate::buffer::{Buffer, look_alone};
+use crate::buffer::{Buffer, judge_alone, look_alone};
 use mctp_packet::{Body, Memory, PacketRef};
 use std::alloc::{AllocError, Global};
 use std::marker::Model;
@@ -48,13 +48,14 @@ impl Message {
     }
 
     /// Takes a packet as [`Buffer::take`] does.
-    fn take(&mut self, packet: &PacketRef<'_>, message: &mut Body) -> FedInto
-        ensures fed { fed_with message.new.items result ≡ answer_to MAX_PACKETS (Some self.old) packet.now }
+    fn take(&mut self, packet: &PacketRef<'_>) -> FedInto
+        ensures given { fed_with (carried_on (Some self.old) packet.now).bytes result
+            ≡ answer_to MAX_PACKETS (Some self.old) packet.now }
         ensures partial { result ≡ FedInto.Partial → self.new ≡ carried_on (Some self.old) packet.now }
         ensures other { result ≢ FedInto.Partial → self.new ≡ self.old }
         ensures range { IsOpened self.new }
     {
-        self.buffer.take(packet, message)
+        self.buffer.take(packet)
     }
 
     /// What is open.
@@ -140,22 +141,64 @@ impl Messages {
         ensures at_start { OnErr result (packet.now.start ≡ true) }
         ensures err { OnErr result (self.new ≡ self.old) }
     {
+        if packet.end() {
+            Ok(self.take_end(number, packet, message))
+        } else {
+            self.take_open(number, packet)
+        }
+    }
+
+    /// Takes a packet that is not an end packet, as [`Messages::take`] does.
+    pub(crate) fn take_open(
+        &mut self,
+        number: u16,
+        packet: &PacketRef<'_>,
+    ) -> Result<FedInto, Memory>
+        requires number { IsNumber number }
+        requires unended { packet.now.end ≡ false }
+        ensures fed { (bytes : List ℕ) → IfOk result (λ given. fed_with bytes given
+            ≡ answer_to MAX_PACKETS (at self.old number) packet.now) }
+        ensures ok { OnOk result (Changes self.old self.new number (left_by
+            (answer_to MAX_PACKETS (at self.old number) packet.now) (at self.old number) packet.now)) }
+        ensures memory { OnErr result (answer_to MAX_PACKETS (at self.old number) packet.now ≡ Partial) }
+        ensures at_start { OnErr result (packet.now.start ≡ true) }
+        ensures err { OnErr result (self.new ≡ self.old) }
+    {
         match self.search(number) {
             Ok(place) => {
-                let given = self.list[place].1.take(packet, message);
+                let given = self.list[place].1.take(packet);
                 if let FedInto::Dropped(_) = given {
                     self.list.remove(place);
                 }
                 Ok(given)
             }
             Err(place) => {
-                let given = look_alone(packet, message);
+                let given = judge_alone(packet);
                 if let FedInto::Partial = given {
                     let begun = Message::new(self.alloc, packet)?;
                     self.list.insert(place, (number, begun))?;
                 }
                 Ok(given)
             }
+        }
+    }
+
+    /// Takes an end packet, as [`Messages::take`] does.
+    fn take_end(&mut self, number: u16, packet: &PacketRef<'_>, message: &mut Body) -> FedInto
+        requires { packet.now.end ≡ true }
+        ensures fed { fed_with message.new.items result ≡ answer_to MAX_PACKETS (at self.old number) packet.now }
+        ensures left { Changes self.old self.new number (left_by
+            (answer_to MAX_PACKETS (at self.old number) packet.now) (at self.old number) packet.now) }
+    {
+        match self.search(number) {
+            Ok(place) => {
+                let given = self.list[place].1.buffer().look_into(packet, message);
+                if let FedInto::Dropped(_) = given {
+                    self.list.remove(place);
+                }
+                given
+            }
+            Err(_) => look_alone(packet, message),
         }
     }
 
