@@ -1,8 +1,6 @@
-use Rattle.std.proofs.Common.{Some, sym, subst, ap, ◌∙◌}
-use Rattle.mctp_packet.specs.declared.TheConstants.{MAX_PACKETS}
+use Rattle.std.proofs.Common.{refl, sym, subst}
 use Rattle.mctp_assembly.specs.NumberLists.{IsAt}
 use Rattle.mctp_assembly.specs.Numbered.{none_open, AreOpen, Numbered}
-use Rattle.mctp_assembly.specs.Steps.{answer_to}
 use Rattle.mctp_assembly.proofs.OpenPlaces.{open_removed}
 use Rattle.mctp_assembly.proofs.TakenPackets.{fed_here, kept_here, ended_here, fed_alone, unchanged_at_end}
 use Rattle.mctp_assembly.proofs.messages.Messages.take_end.Goals as goal
@@ -16,20 +14,20 @@ invariant_of-self c =
 pub returns-in-Dropped-clause-fed : goal.returns-in-Dropped-clause-fed
 returns-in-Dropped-clause-fed c =
     fed_here c.self.inside.list.items c.args.self.now c.self.view_is c.self.invariant.rises c.args.number c.in-Ok.place c.in-Ok.ensures.found
-    c.index.result.now c.index.ensures c.index.result.now.1 c.args.packet.now c.look_into-given.result c.look_into-given.new.message.items (c.look_into-given.ensures ∙ ap (λ o. answer_to MAX_PACKETS (Some o) c.args.packet.now) c.buffer.ensures)
+    c.index.result.now c.index.ensures c.index.result.now refl c.args.packet.now c.look_into-given.result c.look_into-given.new.message.items c.look_into-given.ensures
 
 pub returns-in-Dropped-clause-left : goal.returns-in-Dropped-clause-left
 returns-in-Dropped-clause-left c =
     ended_here c.self.inside.list.items c.args.self.now c.self.view_is c.self.invariant.rises c.args.number c.in-Ok.place c.in-Ok.ensures.found
-    c.index.result.now c.index.ensures c.index.result.now.1 c.args.packet.now c.look_into-given.result c.look_into-given.new.message.items (c.look_into-given.ensures ∙ ap (λ o. answer_to MAX_PACKETS (Some o) c.args.packet.now) c.buffer.ensures)
+    c.index.result.now c.index.ensures c.index.result.now refl c.args.packet.now c.look_into-given.result c.look_into-given.new.message.items c.look_into-given.ensures
     c.remove.new.self.items c.in-Dropped.field-0 c.remove.ensures.items c.in-Dropped.is
 
 pub returns-in_default : goal.returns-in_default
 returns-in_default c = record {
   fed = fed_here c.self.inside.list.items c.args.self.now c.self.view_is c.self.invariant.rises c.args.number c.in-Ok.place c.in-Ok.ensures.found
-      c.index.result.now c.index.ensures c.index.result.now.1 c.args.packet.now c.look_into-given.result c.look_into-given.new.message.items (c.look_into-given.ensures ∙ ap (λ o. answer_to MAX_PACKETS (Some o) c.args.packet.now) c.buffer.ensures);
+      c.index.result.now c.index.ensures c.index.result.now refl c.args.packet.now c.look_into-given.result c.look_into-given.new.message.items c.look_into-given.ensures;
   left = kept_here c.self.inside.list.items c.args.self.now c.self.view_is c.self.invariant.rises c.args.number c.in-Ok.place c.in-Ok.ensures.found
-      c.index.result.now c.index.ensures c.index.result.now.1 c.args.packet.now c.look_into-given.result c.look_into-given.new.message.items (c.look_into-given.ensures ∙ ap (λ o. answer_to MAX_PACKETS (Some o) c.args.packet.now) c.buffer.ensures)
+      c.index.result.now c.index.ensures c.index.result.now refl c.args.packet.now c.look_into-given.result c.look_into-given.new.message.items c.look_into-given.ensures
       c.requires c.in_default.not-Dropped;
 }
 
