@@ -1,6 +1,6 @@
 -- What is held, by the open messages in their list, and what a packet leaves held.
 use Rattle.std.specs.FinMap as map
-use Rattle.std.proofs.Common.{suc, ℕ, ◌*◌, ◌≤◌, ◌==◌, [], ◌∷◌, length, IfSome, subst, arith, ◌≡◌, Bool, true, false, cond, Option, Some, None, refl, sym, ap, ◌∙◌}
+use Rattle.std.proofs.Common.{suc, ℕ, ◌*◌, ◌≤◌, ◌==◌, [], ◌∷◌, length, IfSome, subst, arith, ◌≡◌, Bool, true, false, cond, Option, Some, None, Result, Ok, Err, IfOk, OnOk, refl, sym, ap, ◌∙◌}
 use Rattle.std.specs.List.{All}
 use Rattle.std.proofs.Math.Nat.{mul-le-mul}
 use Rattle.std.proofs.lemmas.Option.{IfSome_then}
@@ -69,3 +69,12 @@ small_held l held made each key =
     IfSome_then (map.get held key)
     (subst (λ o. IfSome o IsOpened) (sym (got l key) ∙ ap (λ m. map.get m key) made) (if_key (is_key key) (at l (number_of key)) (opened_at l each (number_of key))))
     fits
+
+-- what holds of a result where one fact does, holds where an equal one does
+pub gives_by : {T E A : Type 0} (r : Result T E) (f : T → A) (a b : A) → IfOk r (λ x. f x ≡ a) → a ≡ b → IfOk r (λ x. f x ≡ b)
+gives_by (Ok x) f a b h same = h ∙ same
+gives_by (Err e) f a b h same = tt
+
+pub ok_by : {T E P Q : Type 0} (r : Result T E) → OnOk r P → (P → Q) → OnOk r Q
+ok_by (Ok x) h then = then h
+ok_by (Err e) h then = tt

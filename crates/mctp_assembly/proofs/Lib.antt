@@ -9,6 +9,7 @@ pub mod CopiesJoin
 pub mod NumberLookups
 pub mod NumberPlaces
 pub mod OpenPlaces
+pub mod PacketEnds
 pub mod TakenPackets
 pub mod NumberedMaps
 pub mod KeyNumbers

@@ -1,5 +1,5 @@
 -- What a change of the open messages at a place leaves, and how many there can be.
-use Rattle.std.proofs.Common.{◌≡◌, ℕ, zero, suc, ◌+◌, ◌*◌, ◌<◌, ◌≤◌, ◌∷◌, length, take, drop, refl, sym, subst, arith}
+use Rattle.std.proofs.Common.{◌≡◌, ℕ, zero, suc, ◌+◌, ◌*◌, ◌<◌, ◌≤◌, ◌∷◌, length, take, drop, refl, sym, subst, arith, ◌∙◌}
 use Rattle.std.specs.Prelude.{slice_set, slice_index_or}
 use Rattle.std.specs.List.{All, insert, remove}
 use Rattle.std.proofs.lemmas.List.Elements.{All-set, All-cons, All-append, All-take, All-drop}
@@ -17,8 +17,9 @@ module _ (l : Numbered) (rises : Rises none_open l) (k place : ℕ) (is : IsAt n
     each = All-set IsEntry l place (k, v) (record { number = subst IsNumber is.has (each place (0, none_open) is.in_range).number; opened = opened }) each;
   }
 
-  pub open_written : (d : ℕ × Opened) (v : Opened) → d ≡ slice_index_or l place d → All IsEntry l → IsOpened v → AreOpen (slice_set l place (d.0, v))
-  open_written d v read each opened = subst (λ n. AreOpen (slice_set l place (n, v))) (sym (here none_open l rises k place is d read)) (open_changed v each opened)
+  pub open_written : (d w : ℕ × Opened) → d ≡ slice_index_or l place d → w.0 ≡ d.0 → All IsEntry l → IsOpened w.1 → AreOpen (slice_set l place w)
+  open_written d w read number each opened =
+      subst (λ n. AreOpen (slice_set l place (n, w.1))) (sym (number ∙ here none_open l rises k place is d read)) (open_changed w.1 each opened)
 
   pub open_removed : All IsEntry l → AreOpen (remove l place)
   open_removed each = record {
@@ -27,12 +28,12 @@ module _ (l : Numbered) (rises : Rises none_open l) (k place : ℕ) (is : IsAt n
   }
 
 module _ (l : Numbered) (k place : ℕ) (gap : IsGapFor none_open l k place) where
-  pub open_inserted : (v : Opened) → AreOpen l → IsNumber k → IsOpened v → AreOpen (insert l place (k, v))
-  open_inserted v are number opened = record {
-    rises = rises_inserted none_open l k place gap v are.rises;
-    each = All-append IsEntry (take place l) ((k, v) ∷ drop place l) (All-take IsEntry place l are.each)
-        (All-cons IsEntry (k, v) (drop place l) (record { number = number; opened = opened }) (All-drop IsEntry place l are.each));
-  }
+  pub open_inserted : (entry : ℕ × Opened) → AreOpen l → entry.0 ≡ k → IsNumber k → IsOpened entry.1 → AreOpen (insert l place entry)
+  open_inserted entry are under number opened = subst (λ n. AreOpen (insert l place (n, entry.1))) (sym under) (record {
+    rises = rises_inserted none_open l k place gap entry.1 are.rises;
+    each = All-append IsEntry (take place l) ((k, entry.1) ∷ drop place l) (All-take IsEntry place l are.each)
+        (All-cons IsEntry (k, entry.1) (drop place l) (record { number = number; opened = opened }) (All-drop IsEntry place l are.each));
+  })
 
 -- ---- how many there can be
 module _ (l : Numbered) (are : AreOpen l) where

@@ -1,5 +1,5 @@
 -- What a packet that was taken at a place leaves among the open messages.
-use Rattle.std.proofs.Common.{◌≡◌, ◌≢◌, ℕ, Some, None, refl, sym, ◌∙◌, ap, subst}
+use Rattle.std.proofs.Common.{◌≡◌, ◌≢◌, ℕ, Bool, true, false, cond, ◌==◌, eqb-true, Some, None, Option, refl, sym, ◌∙◌, ap, subst}
 use Rattle.std.specs.Prelude.{slice_set, slice_index_or, List}
 use Rattle.std.specs.List.{All, insert, remove}
 use Rattle.std.proofs.lemmas.List.{set-get_or}
@@ -13,6 +13,7 @@ use Rattle.mctp_assembly.specs.Opened.{Opened, IsOpened}
 use Rattle.mctp_assembly.specs.Steps.{answer_alone, answer_to, begun_by, carried_on, left_by}
 use Rattle.mctp_assembly.specs.declared.fed.FedInto.{FedInto}
 use Rattle.mctp_assembly.specs.declared.fed.FedInto.TheVariants.{Whole, Partial, Dropped}
+use Rattle.mctp_assembly.proofs.PacketEnds.{none_partial}
 use Rattle.mctp_assembly.proofs.NumberPlaces.{read_at, written_at, removed_at, inserted_at, none_in_gap, change_of, unchanged}
 use Rattle.mctp_assembly.proofs.OpenPlaces.{open_written, open_removed}
 
@@ -31,25 +32,35 @@ not_begun Whole body p other = refl
 not_begun Partial body p other = absurd (other refl)
 not_begun (Dropped reason) body p other = refl
 
+left_kept : (given : FedInto) (body : List ℕ) (o : Option Opened) (p : Packet) → p.end ≡ true → fed_with body given ≡ answer_to MAX_PACKETS o p
+    → ((reason : Reason) → given ≡ Dropped reason → ⊥) → o ≡ left_by (answer_to MAX_PACKETS o p) o p
+left_kept Whole body o p ended fed stays = ap (λ f. left_by f o p) fed
+left_kept Partial body o p ended fed stays = absurd (none_partial o p ended fed)
+left_kept (Dropped reason) body o p ended fed stays = absurd (stays reason refl)
+
+same_at : {X : Type 0} (b : Bool) (here there : X) → (b ≡ true → there ≡ here) → there ≡ cond b here there
+same_at true here there same = same refl
+same_at false here there same = refl
+
 -- ---- at the place of the number
 module _ (l m : Numbered) (same : l ≡ m) (rises : Rises none_open l) (k place : ℕ) (found : IsAt none_open m k place)
-    (d : ℕ × Opened) (read : d ≡ slice_index_or l place d) (v : Opened) where
+    (d : ℕ × Opened) (read : d ≡ slice_index_or l place d) (w : ℕ × Opened) (number : w.0 ≡ d.0) where
   is : IsAt none_open l k place
   is = subst (λ (list : Numbered). IsAt none_open list k place) (sym same) found
 
   here : Some d.1 ≡ at m k
   here = sym (read_at none_open l rises k place is d read) ∙ ap (λ (list : Numbered). at list k) same
 
-  pub open_taken : All IsEntry l → IsOpened v → AreOpen (slice_set l place (d.0, v))
-  open_taken each opened = open_written l rises k place is d v read each opened
+  pub open_taken : All IsEntry l → IsOpened w.1 → AreOpen (slice_set l place w)
+  open_taken each opened = open_written l rises k place is d w read number each opened
 
-  -- a value that is as it was leaves the list as it was
-  as_it_was : v ≡ d.1 → slice_set l place (d.0, v) ≡ l
-  as_it_was value = ap (λ o. slice_set l place (d.0, o)) value ∙ subst (λ (e : ℕ × Opened). slice_set l place e ≡ l) (sym read) (set-get_or l place d)
+  -- an entry that is as it was leaves the list as it was
+  as_it_was : w ≡ d → slice_set l place w ≡ l
+  as_it_was entry = ap (slice_set l place) entry ∙ subst (λ (e : ℕ × Opened). slice_set l place e ≡ l) (sym read) (set-get_or l place d)
 
-  pub open_dropped : (new : Numbered) → new ≡ remove (slice_set l place (d.0, v)) place → v ≡ d.1 → All IsEntry l → AreOpen new
-  open_dropped new removed value each =
-      subst AreOpen (sym (removed ∙ ap (λ (list : Numbered). remove list place) (as_it_was value))) (open_removed l rises k place is each)
+  pub open_dropped : (new : Numbered) → new ≡ remove (slice_set l place w) place → w ≡ d → All IsEntry l → AreOpen new
+  open_dropped new removed entry each =
+      subst AreOpen (sym (removed ∙ ap (λ (list : Numbered). remove list place) (as_it_was entry))) (open_removed l rises k place is each)
 
   module _ (p : Packet) (given : FedInto) (body : List ℕ) (fed : fed_with body given ≡ answer_to MAX_PACKETS (Some d.1) p) where
     pub fed_here : fed_with body given ≡ answer_to MAX_PACKETS (at m k) p
@@ -58,15 +69,23 @@ module _ (l m : Numbered) (same : l ≡ m) (rises : Rises none_open l) (k place 
     left_here : left_by (fed_with body given) (Some d.1) p ≡ left_by (answer_to MAX_PACKETS (at m k) p) (at m k) p
     left_here = ap (λ f. left_by f (Some d.1) p) fed_here ∙ ap (λ o. left_by (answer_to MAX_PACKETS (at m k) p) o p) here
 
-    pub taken_here : (given ≡ Partial → v ≡ carried_on (Some d.1) p) → (given ≢ Partial → v ≡ d.1) → ((reason : Reason) → given ≡ Dropped reason → ⊥)
-        → Leaves m (slice_set l place (d.0, v)) k p
+    pub taken_here : (given ≡ Partial → w.1 ≡ carried_on (Some d.1) p) → (given ≢ Partial → w ≡ d) → ((reason : Reason) → given ≡ Dropped reason → ⊥)
+        → Leaves m (slice_set l place w) k p
     taken_here partial other stays =
-        change_of none_open l m _ k (Some v) _ same (kept given body d.1 v p partial other stays ∙ left_here) (written_at none_open l rises k place is d v read)
+        let opened = kept given body d.1 w.1 p partial (λ is. ap (λ (e : ℕ × Opened). e.1) (other is)) stays in
+        change_of none_open l m _ k (Some w.1) _ same (opened ∙ left_here) (written_at none_open l rises k place is d w read number)
 
-    pub dropped_here : (new : Numbered) (reason : Reason) → new ≡ remove (slice_set l place (d.0, v)) place → v ≡ d.1 → given ≡ Dropped reason → Leaves m new k p
-    dropped_here new reason removed value dropped =
+    pub kept_here : p.end ≡ true → ((reason : Reason) → given ≡ Dropped reason → ⊥) → Leaves m m k p
+    kept_here ended stays = subst (λ o. Changes m m k o) (left_kept given body (at m k) p ended fed_here stays) (λ q. same_at (k == q) (at m k) (at m q) (λ same. ap (at m) (sym (eqb-true k q same))))
+
+    pub ended_here : (new : Numbered) (reason : Reason) → new ≡ remove l place → given ≡ Dropped reason → Leaves m new k p
+    ended_here new reason removed dropped =
         change_of none_open l m new k None _ same (ap (λ g. left_by (fed_with body g) (Some d.1) p) (sym dropped) ∙ left_here)
-        (subst (λ (new : Numbered). Changes l new k None) (sym (removed ∙ ap (λ (list : Numbered). remove list place) (as_it_was value))) (removed_at none_open l rises k place is))
+        (subst (λ (new : Numbered). Changes l new k None) (sym removed) (removed_at none_open l rises k place is))
+
+    pub dropped_here : (new : Numbered) (reason : Reason) → new ≡ remove (slice_set l place w) place → w ≡ d → given ≡ Dropped reason → Leaves m new k p
+    dropped_here new reason removed entry dropped =
+        ended_here new reason (removed ∙ ap (λ (list : Numbered). remove list place) (as_it_was entry)) dropped
 
 -- ---- at the gap for the number
 module _ (m : Numbered) (k place : ℕ) (gap : IsGapFor none_open m k place) (p : Packet) (given : FedInto) (body : List ℕ) (fed : fed_with body given ≡ answer_alone p) where
@@ -79,11 +98,15 @@ module _ (m : Numbered) (k place : ℕ) (gap : IsGapFor none_open m k place) (p 
   left_alone : left_by (fed_with body given) None p ≡ left_by (answer_to MAX_PACKETS (at m k) p) (at m k) p
   left_alone = ap (λ f. left_by f None p) fed_alone ∙ ap (λ o. left_by (answer_to MAX_PACKETS (at m k) p) o p) none
 
-  pub begun_here : (l new : Numbered) (v : Opened) → l ≡ m → new ≡ insert l place (k, v) → v ≡ begun_by p → given ≡ Partial → Leaves m new k p
-  begun_here l new v same inserted value partial =
-      let begun = ap Some value ∙ ap (λ g. left_by (fed_with body g) None p) (sym partial) ∙ left_alone in
-      change_of none_open m m new k (Some v) _ refl begun
-      (subst (λ (new : Numbered). Changes m new k (Some v)) (sym (inserted ∙ ap (λ (list : Numbered). insert list place (k, v)) same)) (inserted_at none_open m k place gap v))
+  pub begun_here : (l new : Numbered) (begun : ℕ × Opened) → l ≡ m → new ≡ insert l place begun → begun ≡ (k, begun_by p) → given ≡ Partial → Leaves m new k p
+  begun_here l new begun same inserted entry partial =
+      let opened = ap (λ g. left_by (fed_with body g) None p) (sym partial) ∙ left_alone in
+      let made : new ≡ insert m place (k, begun_by p) = inserted ∙ ap (insert l place) entry ∙ ap (λ (list : Numbered). insert list place (k, begun_by p)) same in
+      change_of none_open m m new k (Some (begun_by p)) _ refl opened
+      (subst (λ (new : Numbered). Changes m new k (Some (begun_by p))) (sym made) (inserted_at none_open m k place gap (begun_by p)))
+
+  pub unchanged_at_end : p.end ≡ true → Leaves m m k p
+  unchanged_at_end ended = change_of none_open m m m k None _ refl (not_begun given body p (λ partial. none_partial None p ended (ap (fed_with body) (sym partial) ∙ fed)) ∙ left_alone) (unchanged none_open m k (sym none))
 
   pub unchanged_here : (given ≡ Partial → ⊥) → Leaves m m k p
   unchanged_here other = change_of none_open m m m k None _ refl (not_begun given body p other ∙ left_alone) (unchanged none_open m k (sym none))

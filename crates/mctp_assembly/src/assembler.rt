@@ -1,5 +1,5 @@
 ghost use Rattle.std.specs.FinMap as map;
-ghost use Rattle.std.specs.Prelude.{◌≡◌, ◌≤◌, true, length, IfOk, OnOk, OnErr, IfSome};
+ghost use Rattle.std.specs.Prelude.{◌≡◌, ◌≤◌, true, false, [], length, IfOk, OnOk, OnErr, IfSome};
 ghost use Rattle.mctp_assembly.specs.Fed.{fed_with};
 ghost use Rattle.mctp_assembly.specs.Steps.{answer, after, after_piece};
 ghost use Rattle.mctp_assembly.specs.declared.key.Key.{Key};
@@ -112,6 +112,22 @@ impl Assembler {
     {
         self.messages
             .take(Key::of(packet).number(), packet, message)
+    }
+
+    /// As [`Assembler::feed`], for a packet that is not an end packet, and so completes no message.
+    ///
+    /// # Errors
+    ///
+    /// As [`Assembler::feed`].
+    pub fn feed_open(&mut self, packet: &PacketRef<'_>) -> Result<FedInto, Memory>
+        requires { packet.now.end ≡ false }
+        ensures fed { IfOk result (λ given. fed_with [] given ≡ answer self.old packet.now) }
+        ensures ok { OnOk result (self.new ≡ after self.old packet.now) }
+        ensures memory { OnErr result (answer self.old packet.now ≡ Partial) }
+        ensures at_start { OnErr result (packet.now.start ≡ true) }
+        ensures err { OnErr result (self.new ≡ self.old) }
+    {
+        self.messages.take_open(Key::of(packet).number(), packet)
     }
 
     /// What [`Assembler::feed`] would give for this packet; nothing is changed.

@@ -1,4 +1,4 @@
-ghost use Rattle.std.specs.Prelude.{◌≡◌, ◌≢◌, ◌+◌, ◌≤◌, ◌++◌, length, Some, false};
+ghost use Rattle.std.specs.Prelude.{◌≡◌, ◌≢◌, ◌+◌, ◌≤◌, ◌++◌, length, Some, IfOk, false};
 ghost use Rattle.mctp_assembly.specs.Opened.{IsOpened};
 ghost use Rattle.mctp_assembly.specs.Fed.{fed_with};
 ghost use Rattle.mctp_assembly.specs.Steps.{answer_alone, answer_to, begun_by, carried_on};
@@ -7,66 +7,99 @@ ghost use Rattle.mctp_assembly.specs.declared.fed.FedInto.TheVariants as FedInto
 
 use crate::FedInto;
 use mctp_packet::{Body, MAX_MESSAGE_BYTES, MAX_PACKETS, PacketRef, Reason, SEQUENCE_NUMBERS, Seq};
+use std::alloc::{AllocError, Global};
 use std::marker::Model;
 
-/// The packets of a message that has begun and not ended.
+/// The packets of a message that has begun and not ended, under the number of its key.
 #[derive(Debug, Drop)]
 pub(crate) struct Buffer {
+    /// The number of its key.
+    number: u16,
     /// The payload length of the start packet.
-    unit: usize,
+    unit: u8,
     /// The sequence number of the last packet.
     last: Seq,
     /// How many packets there are.
-    count: usize,
-    /// Their payloads, joined. There is room for a whole message from the start packet on.
-    bytes: Body,
+    count: u8,
+    /// Their payloads, joined, in a place of their own. There is room for a whole message from the start packet on.
+    bytes: Box<Body>,
 }
 
+// The list of all that is open is then short and moves fast, and most packets are judged by it alone.
+const _: () = prove!(size_of::<Buffer>() == 16);
+
 impl Model for Buffer {
+    ghost use Rattle.std.specs.Prelude.{ℕ, box_value};
+    ghost use Rattle.std.specs.Coded.{coded×, coded_ℕ};
     ghost use Rattle.mctp_assembly.specs.Opened.{Opened, IsOpened, coded_opened};
 
-    ghost Value = { Opened };
+    ghost Value = { ℕ × Opened };
 
-    ghost coded = { coded_opened };
+    ghost coded = { coded× coded_ℕ coded_opened };
 
-    ghost view = { λ b. record { unit = b.unit; last = b.last; count = b.count; bytes = b.bytes.items } };
+    ghost view = { λ b. (
+      b.number,
+      record {
+        unit = b.unit;
+        last = b.last;
+        count = b.count;
+        bytes =
+            (box_value b.bytes).items;
+      },
+    ) };
 
     ghost invariant = { λ b. IsOpened (record {
       unit = b.unit;
       last = b.last;
       count = b.count;
       bytes =
-          b.bytes.items;
+          (box_value b.bytes).items;
     }) };
 }
 
 impl Buffer {
-    /// The buffer that a start packet opens.
-    pub(crate) fn new(packet: &PacketRef<'_>) -> Buffer
-        ensures value { result ≡ begun_by packet.now }
-        ensures range { IsOpened result }
+    /// The buffer that a start packet opens, under this number.
+    // Not inlined: what it needs of the stack is then needed for this call alone.
+    #[inline(never)]
+    pub(crate) fn new(
+        alloc: Global,
+        number: u16,
+        packet: &PacketRef<'_>,
+    ) -> Result<Buffer, AllocError>
+        ensures value { IfOk result (λ buffer. buffer ≡ (number, begun_by packet.now)) }
+        ensures range { IfOk result (λ buffer. IsOpened buffer.1) }
     {
         let payload = packet.payload();
-        let mut bytes = Body::new();
+        let mut bytes = Box::new(alloc, Body::new())?;
         bytes.try_extend_from_slice(payload).unwrap();
-        Buffer {
-            unit: payload.len(),
+        Ok(Buffer {
+            number,
+            unit: payload.len() as u8,
             last: packet.seq(),
             count: 1,
             bytes,
-        }
+        })
     }
 
-    /// Takes a packet, and gives what it gives, with a message that it completes in `message`. One that gives
-    /// `Partial` begins the buffer anew, or is added; any other changes nothing.
-    pub(crate) fn take(&mut self, packet: &PacketRef<'_>, message: &mut Body) -> FedInto
-        ensures fed { fed_with message.new.items result ≡ answer_to MAX_PACKETS (Some self.old) packet.now }
-        ensures partial { result ≡ FedInto.Partial → self.new ≡ carried_on (Some self.old) packet.now }
+    /// The number of its key.
+    pub(crate) fn number(&self) -> u16
+        ensures { result ≡ self.now.0 }
+    {
+        self.number
+    }
+
+    /// Takes a packet, and gives what it gives. One that gives `Partial` begins the buffer anew, or is added; any
+    /// other changes nothing.
+    pub(crate) fn take(&mut self, packet: &PacketRef<'_>) -> FedInto
+        ensures given { fed_with (carried_on (Some self.old.1) packet.now).bytes result
+            ≡ answer_to MAX_PACKETS (Some self.old.1) packet.now }
+        ensures number { self.new.0 ≡ self.old.0 }
+        ensures partial { result ≡ FedInto.Partial → self.new.1 ≡ carried_on (Some self.old.1) packet.now }
         ensures other { result ≢ FedInto.Partial → self.new ≡ self.old }
-        ensures range { IsOpened self.new }
+        ensures range { IsOpened self.new.1 }
     {
         let _range = self.count; // for the proof: a message that has begun
-        let given = self.look_into(packet, message);
+        let given = self.judge(packet);
         if let FedInto::Partial = given {
             if packet.start() {
                 self.begin(packet);
@@ -79,38 +112,59 @@ impl Buffer {
 
     /// What a packet gives after the packets here, with a message that it completes in `message`.
     pub(crate) fn look_into(&self, packet: &PacketRef<'_>, message: &mut Body) -> FedInto
-        ensures { fed_with message.new.items result ≡ answer_to MAX_PACKETS (Some self.now) packet.now }
+        ensures { fed_with message.new.items result ≡ answer_to MAX_PACKETS (Some self.now.1) packet.now }
     {
+        let given = self.judge(packet);
+        if let FedInto::Whole = given {
+            join(message, self.before(packet), packet.payload());
+        }
+        given
+    }
+
+    /// What a packet gives after the packets here.
+    fn judge(&self, packet: &PacketRef<'_>) -> FedInto
+        ensures given { fed_with (carried_on (Some self.now.1) packet.now).bytes result
+            ≡ answer_to MAX_PACKETS (Some self.now.1) packet.now }
+        ensures fits { result ≡ FedInto.Whole
+            → length (carried_on (Some self.now.1) packet.now).bytes ≤ MAX_MESSAGE_BYTES }
+    {
+        let payload = packet.payload();
         if packet.start() {
-            return look_alone(packet, message);
+            return judge_alone(packet);
         }
         if packet.seq().get() != (self.last.get() + 1) % SEQUENCE_NUMBERS {
             return FedInto::Dropped(Reason::OutOfSequence);
         }
-        if self.count == MAX_PACKETS {
+        if usize::from(self.count) == MAX_PACKETS {
             return FedInto::Dropped(Reason::TooLong);
         }
-        let payload = packet.payload();
         if packet.end() {
-            if payload.len() > self.unit {
+            if payload.len() > usize::from(self.unit) {
                 return FedInto::Dropped(Reason::WrongUnit);
             }
-            join(message, &self.bytes, payload);
             return FedInto::Whole;
         }
-        if payload.len() != self.unit {
+        if payload.len() != usize::from(self.unit) {
             return FedInto::Dropped(Reason::WrongUnit);
         }
         FedInto::Partial
     }
 
+    /// The bytes that a message has before the payload of this packet.
+    fn before(&self, packet: &PacketRef<'_>) -> &[u8]
+        ensures { result.now ++ packet.now.payload ≡ (carried_on (Some self.now.1) packet.now).bytes }
+    {
+        if packet.start() { &[] } else { &self.bytes }
+    }
+
     /// Begins anew, with a start packet.
     fn begin(&mut self, packet: &PacketRef<'_>)
-        ensures value { self.new ≡ begun_by packet.now }
-        ensures range { IsOpened self.new }
+        ensures number { self.new.0 ≡ self.old.0 }
+        ensures value { self.new.1 ≡ begun_by packet.now }
+        ensures range { IsOpened self.new.1 }
     {
         let payload = packet.payload();
-        self.unit = payload.len();
+        self.unit = payload.len() as u8;
         self.last = packet.seq();
         self.count = 1;
         self.bytes.clear();
@@ -119,10 +173,11 @@ impl Buffer {
 
     /// Adds a middle packet of the message.
     fn append(&mut self, packet: &PacketRef<'_>)
-        requires partial { answer_to MAX_PACKETS (Some self.old) packet.now ≡ Partial }
+        requires partial { answer_to MAX_PACKETS (Some self.old.1) packet.now ≡ Partial }
         requires middle { packet.now.start ≡ false }
-        ensures value { self.new ≡ carried_on (Some self.old) packet.now }
-        ensures range { IsOpened self.new }
+        ensures number { self.new.0 ≡ self.old.0 }
+        ensures value { self.new.1 ≡ carried_on (Some self.old.1) packet.now }
+        ensures range { IsOpened self.new.1 }
     {
         self.bytes.try_extend_from_slice(packet.payload()).unwrap();
         self.last = packet.seq();
@@ -135,11 +190,21 @@ impl Buffer {
 pub(crate) fn look_alone(packet: &PacketRef<'_>, message: &mut Body) -> FedInto
     ensures { fed_with message.new.items result ≡ answer_alone packet.now }
 {
+    let given = judge_alone(packet);
+    if let FedInto::Whole = given {
+        join(message, &[], packet.payload());
+    }
+    given
+}
+
+/// What a packet gives where nothing is open on its key, and what a start packet gives in any case.
+pub(crate) fn judge_alone(packet: &PacketRef<'_>) -> FedInto
+    ensures { fed_with packet.now.payload result ≡ answer_alone packet.now }
+{
     if !packet.start() {
         return FedInto::Dropped(Reason::UnexpectedMiddleOrEnd);
     }
     if packet.end() {
-        join(message, &[], packet.payload());
         return FedInto::Whole;
     }
     FedInto::Partial

@@ -390,6 +390,12 @@ impl Requester {
             ≡ true) }
         ensures err { OnErr result (IsHeld (held_of self.new) (held_of self.old)) }
     {
+        if !packet.end() {
+            return Ok(match self.assembler.feed_open(packet)? {
+                FedInto::Whole | FedInto::Partial => Got::Partial,
+                FedInto::Dropped(reason) => Got::Dropped(reason),
+            });
+        }
         let mut message = Body::new();
         match self.assembler.feed_into(packet, &mut message)? {
             FedInto::Whole => Ok(self.answer(number, &message)),

@@ -549,6 +549,12 @@ impl<P: Platform> Responder<P> {
             let open = self.assembler.pending();
             return Err(Memory::at_limit(open, self.bounds.open_messages));
         }
+        if !packet.end() {
+            return Ok(match self.assembler.feed_open(packet)? {
+                FedInto::Whole | FedInto::Partial => MessageOutcome::Partial,
+                FedInto::Dropped(reason) => MessageOutcome::Dropped(reason),
+            });
+        }
         let mut message = Body::new();
         match self.assembler.feed_piece(packet, &mut message)? {
             FedInto::Whole => {

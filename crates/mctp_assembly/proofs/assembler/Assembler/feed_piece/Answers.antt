@@ -1,17 +1,8 @@
-use Rattle.std.proofs.Common.{◌≡◌, Result, Ok, Err, IfOk, OnOk, ap, ◌∙◌}
+use Rattle.std.proofs.Common.{ap}
 use Rattle.mctp_packet.specs.declared.TheConstants.{MAX_PACKETS}
 use Rattle.mctp_assembly.specs.Steps.{answer_to}
-use Rattle.mctp_assembly.proofs.HeldEntries.{held_at, left_in}
+use Rattle.mctp_assembly.proofs.HeldEntries.{held_at, left_in, gives_by, ok_by}
 use Rattle.mctp_assembly.proofs.assembler.Assembler.feed_piece.Goals as goal
-
--- what holds of a result where one fact does, holds where an equal one does
-gives_by : {T E A : Type 0} (r : Result T E) (f : T → A) (a b : A) → IfOk r (λ x. f x ≡ a) → a ≡ b → IfOk r (λ x. f x ≡ b)
-gives_by (Ok x) f a b h same = h ∙ same
-gives_by (Err e) f a b h same = tt
-
-ok_by : {T E P Q : Type 0} (r : Result T E) → OnOk r P → (P → Q) → OnOk r Q
-ok_by (Ok x) h then = then h
-ok_by (Err e) h then = tt
 
 pub returns-clause-fed : goal.returns-clause-fed
 returns-clause-fed c =

@@ -1,0 +1,41 @@
+use Rattle.std.proofs.Common.{refl, sym, subst}
+use Rattle.mctp_assembly.specs.NumberLists.{IsAt}
+use Rattle.mctp_assembly.specs.Numbered.{none_open, AreOpen, Numbered}
+use Rattle.mctp_assembly.proofs.OpenPlaces.{open_removed}
+use Rattle.mctp_assembly.proofs.TakenPackets.{fed_here, kept_here, ended_here, fed_alone, unchanged_at_end}
+use Rattle.mctp_assembly.proofs.messages.Messages.take_end.Goals as goal
+
+pub invariant_of-self : goal.invariant_of-self
+invariant_of-self c =
+    let list = c.self.inside.list.items in
+    let is = subst (λ (l : Numbered). IsAt none_open l c.args.number c.in-Ok.place) (sym c.self.view_is) c.in-Ok.ensures.found in
+    subst AreOpen (sym c.remove.ensures.items) (open_removed list c.self.invariant.rises c.args.number c.in-Ok.place is c.self.invariant.each)
+
+pub returns-in-Dropped-clause-fed : goal.returns-in-Dropped-clause-fed
+returns-in-Dropped-clause-fed c =
+    fed_here c.self.inside.list.items c.args.self.now c.self.view_is c.self.invariant.rises c.args.number c.in-Ok.place c.in-Ok.ensures.found
+    c.index.result.now c.index.ensures c.index.result.now refl c.args.packet.now c.look_into-given.result c.look_into-given.new.message.items c.look_into-given.ensures
+
+pub returns-in-Dropped-clause-left : goal.returns-in-Dropped-clause-left
+returns-in-Dropped-clause-left c =
+    ended_here c.self.inside.list.items c.args.self.now c.self.view_is c.self.invariant.rises c.args.number c.in-Ok.place c.in-Ok.ensures.found
+    c.index.result.now c.index.ensures c.index.result.now refl c.args.packet.now c.look_into-given.result c.look_into-given.new.message.items c.look_into-given.ensures
+    c.remove.new.self.items c.in-Dropped.field-0 c.remove.ensures.items c.in-Dropped.is
+
+pub returns-in_default : goal.returns-in_default
+returns-in_default c = record {
+  fed = fed_here c.self.inside.list.items c.args.self.now c.self.view_is c.self.invariant.rises c.args.number c.in-Ok.place c.in-Ok.ensures.found
+      c.index.result.now c.index.ensures c.index.result.now refl c.args.packet.now c.look_into-given.result c.look_into-given.new.message.items c.look_into-given.ensures;
+  left = kept_here c.self.inside.list.items c.args.self.now c.self.view_is c.self.invariant.rises c.args.number c.in-Ok.place c.in-Ok.ensures.found
+      c.index.result.now c.index.ensures c.index.result.now refl c.args.packet.now c.look_into-given.result c.look_into-given.new.message.items c.look_into-given.ensures
+      c.requires c.in_default.not-Dropped;
+}
+
+pub returns-in-Err-clause-fed : goal.returns-in-Err-clause-fed
+returns-in-Err-clause-fed c =
+    fed_alone c.args.self.now c.args.number c.in-Err.field-0 c.in-Err.ensures.absent c.args.packet.now c.look_alone.result c.look_alone.new.message.items c.look_alone.ensures
+
+pub returns-in-Err-clause-left : goal.returns-in-Err-clause-left
+returns-in-Err-clause-left c =
+    unchanged_at_end c.args.self.now c.args.number c.in-Err.field-0 c.in-Err.ensures.absent c.args.packet.now c.look_alone.result c.look_alone.new.message.items c.look_alone.ensures
+    c.requires
