@@ -11,9 +11,8 @@ ghost use Rattle.pldm_requester.specs.Courses as courses;
 
 use crate::Delivery;
 use crate::stored_message::{ShortMessage, StoredMessage};
-use arrayvec::ArrayVec;
 use mctp_packet::{HEADER, Memory, Moment, PacketRef};
-use pldm_requester::{Due, Got, MAX_OPEN, OpenFault, Requester, Status};
+use pldm_requester::{Due, Got, OpenFault, Requester, Status};
 use pldm_wire::{Command, MAX_REQUEST_BYTES};
 use std::alloc::Global;
 use std::marker::Model;
@@ -133,11 +132,10 @@ impl Asker {
         ensures held { IsHeld (held_of self.new.station) (ticked_held (held_of self.old.station) now) }
         ensures numbers { self.new.numbers ≡ self.old.numbers }
     {
-        let due = self.requester.tick(now);
-        Due {
-            again: numbered(&self.numbers, &due.again),
-            given_up: numbered(&self.numbers, &due.given_up),
-        }
+        let mut due = self.requester.tick(now);
+        number_over_all(&mut due.again, &self.numbers);
+        number_over_all(&mut due.given_up, &self.numbers);
+        due
     }
 
     /// How many requests it opened.
@@ -222,15 +220,12 @@ fn payload_of(packet: &[u8]) -> &[u8]
     &packet[HEADER..]
 }
 
-/// Own numbers as numbers over all requests.
-fn numbered(numbers: &[u64], owns: &[u64]) -> ArrayVec<u64, MAX_OPEN>
-    requires some { AllByRecursion (λ own. own < length numbers.now) owns.now }
-    requires few { length owns.now ≤ MAX_OPEN }
-    ensures { result.items ≡ numbered numbers.now owns.now }
+/// Puts numbers over all requests in the place of own ones.
+fn number_over_all(owns: &mut [u64], numbers: &[u64])
+    requires { AllByRecursion (λ own. own < length numbers.now) owns.old }
+    ensures { owns.new ≡ numbered numbers.now owns.old }
 {
-    let mut all = ArrayVec::new();
-    for own in owns {
-        all.push(numbers[*own as usize]);
+    for own in owns.iter_mut() {
+        *own = numbers[*own as usize];
     }
-    all
 }

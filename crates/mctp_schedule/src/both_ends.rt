@@ -186,11 +186,10 @@ impl<P: Platform> Ends<P> {
             (at now (actions.Tick eid)) (held_by self.new)) }
     {
         pldm_requester::laws::looks_back();
-        let due = match &mut self.places[usize::from(eid.get())] {
-            Some(asker) => asker.tick(now),
+        match &mut self.places[usize::from(eid.get())] {
+            Some(asker) => self.journal.enter_due(asker.tick(now))?,
             None => unreachable!(),
-        };
-        self.journal.enter_due(due)?;
+        }
         Ok(())
     }
 

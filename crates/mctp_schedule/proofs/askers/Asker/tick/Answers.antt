@@ -8,16 +8,16 @@ use Rattle.mctp_schedule.proofs.AskerCalls.{recent_below}
 use Rattle.mctp_schedule.specs.Askers.{Side}
 use Rattle.mctp_schedule.proofs.askers.Asker.tick.Goals as goal
 
-pub numbered-requires-clause-some : goal.numbered-requires-clause-some
-numbered-requires-clause-some c =
+pub number_over_all-requires : goal.number_over_all-requires
+number_over_all-requires c =
     let held = held_of c.self.inside.requester in
     let count : length c.self.inside.numbers.items ≡ held.count = subst (λ (s : Side). length s.numbers ≡ (held_of s.station).count) (sym c.self.view_is) c.requires.all in
-    subst (λ n. AllByRecursion (λ own. own < n) c.deref-2.result.now) (sym (ap (λ xs. length xs) c.deref.ensures.value ∙ count))
-    (subst (AllByRecursion (λ own. own < held.count)) (sym (c.deref-2.ensures.0 ∙ c.tick-due.ensures.again)) (recent_below held.count (λ n. passes (is_sent_again held.timing c.args.now) (held.remembered n))))
+    subst (λ n. AllByRecursion (λ own. own < n) c.deref_mut.result.now) (sym (ap (λ xs. length xs) c.deref.ensures.value ∙ count))
+    (subst (AllByRecursion (λ own. own < held.count)) (sym (c.deref_mut.ensures.value ∙ c.tick-due.ensures.again)) (recent_below held.count (λ n. passes (is_sent_again held.timing c.args.now) (held.remembered n))))
 
-pub numbered-requires-2-clause-some : goal.numbered-requires-2-clause-some
-numbered-requires-2-clause-some c =
+pub number_over_all-requires-2 : goal.number_over_all-requires-2
+number_over_all-requires-2 c =
     let held = held_of c.self.inside.requester in
     let count : length c.self.inside.numbers.items ≡ held.count = subst (λ (s : Side). length s.numbers ≡ (held_of s.station).count) (sym c.self.view_is) c.requires.all in
-    subst (λ n. AllByRecursion (λ own. own < n) c.deref-4.result.now) (sym (ap (λ xs. length xs) c.deref-3.ensures.value ∙ count))
-    (subst (AllByRecursion (λ own. own < held.count)) (sym (c.deref-4.ensures.0 ∙ c.tick-due.ensures.given_up)) (recent_below held.count (λ n. passes (is_given_up held.timing c.args.now) (held.remembered n))))
+    subst (λ n. AllByRecursion (λ own. own < n) c.deref_mut-2.result.now) (sym (ap (λ xs. length xs) c.deref-2.ensures.value ∙ count))
+    (subst (AllByRecursion (λ own. own < held.count)) (sym (c.deref_mut-2.ensures.value ∙ c.tick-due.ensures.given_up)) (recent_below held.count (λ n. passes (is_given_up held.timing c.args.now) (held.remembered n))))

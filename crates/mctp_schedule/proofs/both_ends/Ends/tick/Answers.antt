@@ -32,7 +32,7 @@ enter_due-requires g c = λ number listed.
     let same = place_holds c.args.self.now.places.items e c.from.result c.index_mut.result.now s.0 asker (c.from.ensures ∙ c.get.ensures.value) c.index_mut.ensures.value s.1 c.in-Some.is in
     let held = held_of asker.station in
     let all = recent_below held.count (λ n. passes (is_given_up held.timing c.args.now) (held.remembered n)) in
-    let own = listed_own (slice_index asker.numbers) number held.count (given_up_at held c.args.now) all (subst (λ xs. list_any (λ n. n == number) xs ≡ true) c.tick-due.ensures.given_up listed) in
+    let own = listed_own (slice_index asker.numbers) number held.count (given_up_at held c.args.now) all (subst (λ xs. list_any (λ n. n == number) xs ≡ true) c.tick.ensures.given_up listed) in
     let numbers = ap (λ (a : Side). a.numbers) same ∙ s.2.numbers in
     let counted = s.2.counted in
     let left = s.2.left.count in
@@ -54,13 +54,13 @@ returns g c = record {
       let asker = c.in-Some.asker in
       let at = c.from.ensures ∙ c.get.ensures.value in
       let same = place_holds c.args.self.now.places.items e c.from.result c.index_mut.result.now s.0 asker at c.index_mut.ensures.value s.1 c.in-Some.is in
-      let due = c.tick-due.ensures in
-      let entered = c.in_ok-enter_due.ensures in
-      subst (λ i. IsRunning setting (record { moment = c.args.now; action = actions.Tick e } ∷ past) (with_side (held_by c.args.self.now) i c.tick-due.new.self c.enter_due.new.self)) (sym at)
-      (tick_runs setting past (held_by c.args.self.now) c.enter_due.new.self running c.args.now may.later e may.known c.tick-due.new.self c.tick-due.result
+      let due = c.tick.ensures in
+      let entered = c.in_ok-enter_due-in-Some.ensures in
+      subst (λ i. IsRunning setting (record { moment = c.args.now; action = actions.Tick e } ∷ past) (with_side (held_by c.args.self.now) i c.tick.new.self c.enter_due.new.self)) (sym at)
+      (tick_runs setting past (held_by c.args.self.now) c.enter_due.new.self running c.args.now may.later e may.known c.tick.new.self c.tick.result
       c.looks_back.ensures.tick c.looks_back.ensures.same
       (record {
-        held = subst (λ (a : Side). IsHeld (held_of c.tick-due.new.self.station) (ticked_held (held_of a.station) c.args.now)) same due.held;
+        held = subst (λ (a : Side). IsHeld (held_of c.tick.new.self.station) (ticked_held (held_of a.station) c.args.now)) same due.held;
         same_numbers = due.numbers ∙ ap (λ (a : Side). a.numbers) same;
         again = due.again ∙ ap (λ (a : Side). numbered a.numbers (again_at (held_of a.station) c.args.now)) same;
         given_up = due.given_up ∙ ap (λ (a : Side). numbered a.numbers (given_up_at (held_of a.station) c.args.now)) same;
