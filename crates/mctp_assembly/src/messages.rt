@@ -1,7 +1,7 @@
-ghost use Rattle.std.specs.Prelude.{◌≡◌, ◌≢◌, ◌≤◌, true, false, ℕ, List, [], length};
+ghost use Rattle.std.specs.Prelude.{◌≡◌, ◌≢◌, ◌≤◌, true, false, ℕ, nat_lt, List, [], length};
 ghost use Rattle.std.specs.Prelude.{Some, None, IfOk, IfErr, OnOk, OnErr};
 ghost use Rattle.std.specs.Option.{option_copied, option_map};
-ghost use Rattle.std.specs.List.{All};
+ghost use Rattle.std.specs.List.{All, count_by};
 ghost use Rattle.mctp_packet.specs.declared.TheConstants.{MAX_PACKETS};
 ghost use Rattle.mctp_assembly.specs.Fed.{fed_with};
 ghost use Rattle.mctp_assembly.specs.NumberLists.{Changes, IsAt, IsGapFor, Rises, at};
@@ -18,7 +18,11 @@ use mctp_packet::{Body, Memory, PacketRef};
 use std::alloc::Global;
 use std::marker::Model;
 
-/// The open messages by the numbers of their keys, which rise: a look-up is a binary search.
+/// In a list of at most so many, to count the smaller numbers takes less time than to halve the list: no jump depends on
+/// a number.
+const FEW: usize = 32;
+
+/// The open messages by the numbers of their keys, which rise.
 #[derive(Debug, Drop)]
 pub(crate) struct Messages {
     alloc: Global,
@@ -53,8 +57,28 @@ impl Messages {
         ensures found { IfOk result (IsAt none_open self.now number) }
         ensures absent { IfErr result (IsGapFor none_open self.now number) }
     {
-        self.list
-            .binary_search_by_key(&number, |buffer| buffer.number())
+        if self.len() > FEW {
+            return self
+                .list
+                .binary_search_by_key(&number, |buffer| buffer.number());
+        }
+        let place = self.smaller(number);
+        if place < self.len() && self.list[place].number() == number {
+            Ok(place)
+        } else {
+            Err(place)
+        }
+    }
+
+    /// How many of the numbers are smaller.
+    fn smaller(&self, number: u16) -> usize
+        ensures { result ≡ count_by (λ entry. nat_lt entry.0 number) self.now }
+    {
+        let mut smaller = 0;
+        for buffer in &self.list {
+            smaller += usize::from(buffer.number() < number);
+        }
+        smaller
     }
 
     /// What is open under this number.
