@@ -111,6 +111,7 @@ impl<'a> Words<'a> {
     }
 
     /// The one word that there has to be.
+    // Inlined: it stands at the end of nearly all steps.
     #[inline(always)]
     pub(crate) fn only(&mut self) -> Result<Word<'a>, LineFaultKind>
         ensures value { result ≡ only_word self.old }
