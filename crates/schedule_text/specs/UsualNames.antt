@@ -12,7 +12,6 @@ usual_name names.Tick = codes "tick"
 usual_name names.Open = codes "open"
 
 abbrev pub usual_command : UsualCommand → List ℕ
-usual_command commands.SetNumber = codes "setnum"
-usual_command commands.SetStates = codes "setstate"
+usual_command commands.SetNum = codes "setnum"
 usual_command commands.Sensor = codes "sensor"
-usual_command commands.Record = codes "getpdr"
+usual_command commands.GetPdr = codes "getpdr"

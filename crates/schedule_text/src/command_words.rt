@@ -20,10 +20,9 @@ pub(crate) fn read_command(words: &mut Words<'_>) -> Result<Command, LineFaultKi
     ensures { result ≡ command_of words.old }
 {
     match words.usual_command() {
-        Some(UsualCommand::SetNumber) => read_setnum(words),
-        Some(UsualCommand::SetStates) => read_setstate(words),
+        Some(UsualCommand::SetNum) => read_setnum(words),
         Some(UsualCommand::Sensor) => read_sensor(words),
-        Some(UsualCommand::Record) => read_getpdr(words),
+        Some(UsualCommand::GetPdr) => read_getpdr(words),
         None => {
             let name = words.next()?;
             read_named_command(&name, words)

@@ -25,10 +25,9 @@ pub(crate) enum UsualName {
 /// The name of a command that nearly all commands have one of.
 #[derive(Clone, Copy)]
 pub(crate) enum UsualCommand {
-    SetNumber,
-    SetStates,
+    SetNum,
     Sensor,
-    Record,
+    GetPdr,
 }
 
 /// The words of a line that are not read yet.
@@ -98,32 +97,13 @@ impl<'a> Words<'a> {
         ensures some { IfSome result (λ name. self.old ≡ usual_command name ∷ self.new) }
         ensures none { IfNone result (self.new ≡ self.old) }
     {
-        let (name, text) = match self.text {
-            [b' ', b's', b'e', b't', b'n', b'u', b'm', b' ', text @ ..] => (
-                UsualCommand::SetNumber,
-                text,
-            ),
-            [
-                b' ',
-                b's',
-                b'e',
-                b't',
-                b's',
-                b't',
-                b'a',
-                b't',
-                b'e',
-                b' ',
-                text @ ..,
-            ] => { (UsualCommand::SetStates, text) }
-            [b' ', b's', b'e', b'n', b's', b'o', b'r', b' ', text @ ..] => (
-                UsualCommand::Sensor,
-                text,
-            ),
-            [b' ', b'g', b'e', b't', b'p', b'd', b'r', b' ', text @ ..] => (
-                UsualCommand::Record,
-                text,
-            ),
+        let [b' ', text @ ..] = self.text else {
+            return None;
+        };
+        let (name, text) = match text {
+            [b's', b'e', b't', b'n', b'u', b'm', b' ', text @ ..] => (UsualCommand::SetNum, text),
+            [b's', b'e', b'n', b's', b'o', b'r', b' ', text @ ..] => (UsualCommand::Sensor, text),
+            [b'g', b'e', b't', b'p', b'd', b'r', b' ', text @ ..] => (UsualCommand::GetPdr, text),
             _ => return None,
         };
         self.text = text;
@@ -131,6 +111,8 @@ impl<'a> Words<'a> {
     }
 
     /// The one word that there has to be.
+    // Inlined: it stands at the end of nearly all steps.
+    #[inline(always)]
     pub(crate) fn only(&mut self) -> Result<Word<'a>, LineFaultKind>
         ensures value { result ≡ only_word self.old }
         ensures ok { IfOk result (λ word. self.old ≡ word ∷ []) }
