@@ -38,6 +38,8 @@ pub(crate) fn read_line(line: &[u8]) -> Result<Line, LineFaultKind>
 }
 
 /// `requester EID timeout MS tries N`, by the words after the first.
+// Not inlined: few lines are of requesters, and those of steps then pass fewer values on.
+#[inline(never)]
 fn read_requester(words: &mut Words<'_>) -> Result<Line, LineFaultKind>
     ensures { result ≡ requester_of words.old }
 {
@@ -86,6 +88,8 @@ fn read_action(words: &mut Words<'_>) -> Result<Action, LineFaultKind>
 }
 
 /// The action of this name, with the words after it.
+// Not inlined: nearly all steps have a usual name, and then pass fewer values on.
+#[inline(never)]
 fn read_action_named(name: &Word<'_>, words: &mut Words<'_>) -> Result<Action, LineFaultKind>
     ensures { result ≡ action_named name.now words.old }
 {
