@@ -18,8 +18,8 @@ use mctp_packet::{Body, Memory, PacketRef};
 use std::alloc::Global;
 use std::marker::Model;
 
-/// In a list of at most so many, to count the smaller numbers takes less time than to halve the list: no jump depends on
-/// a number.
+/// In a list of at most so many, to count the smaller numbers takes less time than to halve the list: no jump
+/// depends on a number.
 const FEW: usize = 32;
 
 /// The open messages by the numbers of their keys, which rise.
