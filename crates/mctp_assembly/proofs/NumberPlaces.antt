@@ -75,8 +75,8 @@ module _ {X : Type 0} (past : X) where
     read_at d read = open_at d ∙ ap (λ (e : ℕ × X). Some e.1) (sym read)
 
     -- and what is written there with its number
-    pub written_at : (d w : ℕ × X) → d ≡ slice_index_or l place d → w.0 ≡ d.0 → Changes l (slice_set l place w) k (Some w.1)
-    written_at d w read number = subst (λ n. Changes l (slice_set l place (n, w.1)) k (Some w.1)) (sym (number ∙ here d read)) (changed_at w.1)
+    pub written_at : (d : ℕ × X) (v : X) → d ≡ slice_index_or l place d → Changes l (slice_set l place (d.0, v)) k (Some v)
+    written_at d v read = subst (λ n. Changes l (slice_set l place (n, v)) k (Some v)) (sym (here d read)) (changed_at v)
 
   module _ (l : NumberList X) (k place : ℕ) (gap : IsGapFor past l k place) where
     pub none_in_gap : at l k ≡ None

@@ -73,7 +73,8 @@ module _ (l m : Numbered) (same : l ≡ m) (rises : Rises none_open l) (k place 
         → Leaves m (slice_set l place w) k p
     taken_here partial other stays =
         let opened = kept given body d.1 w.1 p partial (λ is. ap (λ (e : ℕ × Opened). e.1) (other is)) stays in
-        change_of none_open l m _ k (Some w.1) _ same (opened ∙ left_here) (written_at none_open l rises k place is d w read number)
+        change_of none_open l m _ k (Some w.1) _ same (opened ∙ left_here)
+        (subst (λ n. Changes l (slice_set l place (n, w.1)) k (Some w.1)) (sym number) (written_at none_open l rises k place is d w.1 read))
 
     pub kept_here : p.end ≡ true → ((reason : Reason) → given ≡ Dropped reason → ⊥) → Leaves m m k p
     kept_here ended stays = subst (λ o. Changes m m k o) (left_kept given body (at m k) p ended fed_here stays) (λ q. same_at (k == q) (at m k) (at m q) (λ same. ap (at m) (sym (eqb-true k q same))))
