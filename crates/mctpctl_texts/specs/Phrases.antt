@@ -27,4 +27,6 @@ phrases = record {
   still_open = codes "open\n";
   answered_by = codes "answered ";
   gave_up = codes "gave up\n";
+  order = codes "order";
+  no_order = codes "order -\n";
 }

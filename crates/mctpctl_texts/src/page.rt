@@ -14,7 +14,8 @@ pub(crate) const MAX_PART: usize = 32;
 /// How many bytes a page has: lines are written many at a time.
 pub(crate) const PAGE: usize = 4_096;
 
-/// A part of a text, in a room of one size: all of that is copied, which costs less than to ask how much of it there is.
+/// A part of a text, in a room of one size: all of that is copied, which costs less than to ask how much of it there
+/// is.
 #[derive(Drop)]
 pub(crate) struct Part {
     room: [u8; MAX_PART],
@@ -61,11 +62,18 @@ impl Part {
         }
     }
 
-    /// Its bytes.
-    pub(crate) fn bytes(&self) -> &[u8]
-        ensures { result.now ≡ self.now }
+    /// A space and a number in decimal.
+    pub(crate) fn after_space(number: u64) -> Part
+        ensures { result ≡ 32 ∷ decimal number }
     {
-        &self.room[..usize::from(self.count)]
+        let mut buffer = Buffer::new();
+        let digits = buffer.format(number).as_bytes();
+        let mut room = [b' '; MAX_PART];
+        room[1..digits.len() + 1].copy_from_slice(digits);
+        Part {
+            room,
+            count: digits.len() as u8 + 1,
+        }
     }
 }
 
@@ -121,7 +129,8 @@ impl Page {
     }
 
     /// Adds a part, for which there has to be room.
-    #[inline]
+    // Inlined: to call it takes as long as to do it.
+    #[inline(always)]
     pub(crate) fn add(&mut self, part: &Part)
         requires { length self.old + MAX_PART ≤ PAGE }
         ensures value { self.new ≡ self.old ++ part.now }

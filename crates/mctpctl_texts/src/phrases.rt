@@ -35,6 +35,8 @@ pub(crate) struct Phrases {
     pub(crate) still_open: Part,
     pub(crate) answered_by: Part,
     pub(crate) gave_up: Part,
+    pub(crate) order: Part,
+    pub(crate) no_order: Part,
 }
 
 impl Phrases {
@@ -66,6 +68,8 @@ impl Phrases {
             still_open: Part::new("open\n"),
             answered_by: Part::new("answered "),
             gave_up: Part::new("gave up\n"),
+            order: Part::new("order"),
+            no_order: Part::new("order -\n"),
         }
     }
 

@@ -3,7 +3,7 @@
 ghost use Rattle.std.specs.Fmt.{decimal};
 ghost use Rattle.std.specs.Prelude.{◌≡◌, ◌≤◌, ◌+◌, ◌*◌, ◌++◌, ◌∷◌, [], codes, length};
 ghost use Rattle.hex.specs.Hex.{encode_lower};
-ghost use Rattle.mctpctl_texts.specs.EntryTexts.{entries_text};
+ghost use Rattle.mctpctl_texts.specs.EntryTexts.{entries_text, numbers_text};
 ghost use Rattle.mctpctl_texts.specs.ReportTexts.{device_text, order_line, progress_text, report_text, request_line, requests_text, timely_line};
 ghost use Rattle.mctpctl_texts.specs.Gathering.{Gathered};
 ghost use Rattle.mctpctl_texts.specs.Phrases.{phrases as all_phrases};
@@ -16,7 +16,7 @@ use crate::entry_text::gather_entry_line;
 use crate::gathering::{flush, gather_hex, make_room};
 use crate::hex_pairs::HexPairs;
 use crate::page::{MAX_PART, PAGE, Page, Part};
-use crate::parts::{write_numbers, write_text};
+use crate::parts::write_text;
 use crate::phrases::Phrases;
 use crate::text_writer::TextWriter;
 use mctp_packet::Eid;
@@ -36,24 +36,25 @@ pub fn write_report<O: TextWriter>(
         (device_text report.now.device) report.now.timely) result }
 {
     write_items(out, steps, report)?;
-    write_order(out, &report.order)?;
     write_device(out, &report.device)?;
     write_text(out, timely_line(report.timely))
 }
 
-/// Writes the lines of the steps and those of the requests, many at a time.
+/// Writes the lines of the steps, those of the requests and that of the order, many bytes at a time.
 fn write_items<O: TextWriter>(
     out: &mut O,
     steps: &Steps,
     report: &Report<SimDevice>,
 ) -> Result<(), O::Refusal>
     ensures { Wrote O.contents O.failed O.refused out.old out.new
-        (entries_text steps.now report.now.entries ++ requests_text 0 report.now.requests.items) result }
+        (entries_text steps.now report.now.entries ++ (requests_text 0 report.now.requests.items
+        ++ order_line report.now.order.items)) result }
 {
     let phrases = Phrases::new();
     let mut page = Page::new();
     gather_entries(out, &mut page, &phrases, steps, &report.entries)?;
     gather_requests(out, &mut page, &phrases, &report.requests)?;
+    gather_order(out, &mut page, &phrases, &report.order)?;
     flush(out, &mut page)
 }
 
@@ -175,16 +176,42 @@ fn gather_answer<O: TextWriter>(
     Ok(())
 }
 
-/// Writes the numbers of the requests that were performed, in that order, or `-` where there are none.
-fn write_order<O: TextWriter>(out: &mut O, order: &[u64]) -> Result<(), O::Refusal>
-    ensures { Wrote O.contents O.failed O.refused out.old out.new (order_line order.now) result }
+/// Gathers the numbers of the requests that were performed, in that order, or `-` where there are none.
+fn gather_order<O: TextWriter>(
+    out: &mut O,
+    page: &mut Page,
+    phrases: &Phrases,
+    order: &[u64],
+) -> Result<(), O::Refusal>
+    requires { phrases.now ≡ all_phrases }
+    ensures { Gathered O.contents O.failed O.refused out.old out.new page.old page.new (order_line order.now) result }
 {
+    make_room(out, page, MAX_PART)?;
     if order.is_empty() {
-        return write_text(out, "order -\n");
+        page.add(&phrases.no_order);
+        return Ok(());
     }
-    write_text(out, "order")?;
-    write_numbers(out, order)?;
-    write_text(out, "\n")
+    page.add(&phrases.order);
+    gather_numbers(out, page, order)?;
+    make_room(out, page, MAX_PART)?;
+    page.add(&phrases.end);
+    Ok(())
+}
+
+/// Gathers numbers in decimal, a space before each.
+fn gather_numbers<O: TextWriter>(
+    out: &mut O,
+    page: &mut Page,
+    numbers: &[u64],
+) -> Result<(), O::Refusal>
+    ensures { Gathered O.contents O.failed O.refused out.old out.new page.old page.new
+        (numbers_text numbers.now) result }
+{
+    for i in 0..numbers.len() {
+        make_room(out, page, MAX_PART)?;
+        page.add(&Part::after_space(numbers[i]));
+    }
+    Ok(())
 }
 
 fn timely_line(timely: bool) -> &'static str
