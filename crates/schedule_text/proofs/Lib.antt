@@ -1,5 +1,6 @@
 pub mod FoundCommands
 pub mod LinesReached
+pub mod MomentRuns
 pub mod ReadLines
 pub mod ScheduleRows
 pub mod SizeWords

@@ -76,11 +76,3 @@ module _ (s : Step) (moments : List ℕ) (marks : List Mark) (numbers : List ℕ
 
   pub is_spelled_more : IsSpelled new_moments new_marks new_numbers new_readings new_commands
   is_spelled_more = subst (λ ss. AreOf ss new_moments new_marks new_numbers new_readings new_commands) (sym spelled_more) are_of_more
-
--- ---- the last step's moment is the last of the moments
-pub last_is : (before : ℕ) (ss : List Step) (moment : ℕ) → Some moment ≡ slice_get (map moment_of_step ss) (length (map moment_of_step ss) - 1) → last_from before ss ≡ moment
-last_is before [] moment e = cc
-last_is before (first ∷ []) moment e = let same : Some moment ≡ Some first.moment = e in cc
-last_is before (first ∷ next ∷ ss) moment e =
-    let at : length (map moment_of_step (first ∷ next ∷ ss)) - 1 ≡ suc (length (map moment_of_step (next ∷ ss)) - 1) = omega arith in
-    last_is first.moment (next ∷ ss) moment (e ∙ ap (slice_get (map moment_of_step (first ∷ next ∷ ss))) at)

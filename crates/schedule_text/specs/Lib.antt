@@ -3,6 +3,7 @@ pub mod CommandWords
 pub mod LineFaults
 pub mod LineSpelling
 pub mod LineWords
+pub mod MomentRuns
 pub mod Schedules
 pub mod StepColumns
 pub mod UsualNames

@@ -5,6 +5,7 @@ mod command_words;
 pub mod laws;
 mod line;
 mod line_fault;
+mod moments;
 mod requesters;
 mod schedule;
 mod step;
@@ -13,6 +14,7 @@ mod word;
 mod words;
 
 pub use line_fault::{LineFault, LineFaultKind};
+pub use moments::MomentsIter;
 pub use schedule::Schedule;
 pub use step::{Action, ActionRef, RequesterLine, Step, StepRef};
 pub use steps::{Steps, StepsIter};

@@ -6,8 +6,9 @@ ghost use Rattle.std.specs.List.{IsFirstAndRest};
 ghost use Rattle.schedule_text.specs.Schedules.{last_moment};
 ghost use Rattle.schedule_text.specs.StepColumns.{borrowed_step, commands_in_action, mark_of, moment_of_step, numbers_in_action, readings_in_action};
 
+use crate::moments::{MomentRun, MomentsIter, push_moment};
 use crate::{Action, ActionRef, Step, StepRef};
-use mctp_packet::{Eid, Memory, Moment};
+use mctp_packet::{Eid, Memory};
 use pldm_wire::Command;
 use std::alloc::Global;
 use std::marker::Model;
@@ -17,7 +18,8 @@ use std::marker::Model;
 #[derive(Debug, Drop)]
 pub struct Steps {
     marks: Vec<Mark>,
-    moments: Vec<Moment>,
+    /// Their moments, in runs.
+    moments: Vec<MomentRun>,
     /// The numbers of the requests that steps name.
     numbers: Vec<u64>,
     /// What sensors get.
@@ -51,15 +53,17 @@ struct Reading {
 
 impl Model for Steps {
     ghost use Rattle.std.specs.Prelude.{List};
+    ghost use Rattle.schedule_text.specs.MomentRuns.{HaveSteps, moments_in};
     ghost use Rattle.schedule_text.specs.StepColumns.{IsSpelled, spelled};
     ghost use Rattle.schedule_text.specs.declared.step.Step.{Step};
 
     ghost Value = { List Step };
 
-    ghost view = { λ s. spelled s.moments.items s.marks.items s.numbers.items s.readings.items s.commands.items };
-
-    ghost invariant = { λ s. IsSpelled s.moments.items s.marks.items s.numbers.items s.readings.items
+    ghost view = { λ s. spelled (moments_in s.moments.items) s.marks.items s.numbers.items s.readings.items
         s.commands.items };
+
+    ghost invariant = { λ s. HaveSteps s.moments.items × IsSpelled (moments_in s.moments.items) s.marks.items
+        s.numbers.items s.readings.items s.commands.items };
 }
 
 impl Steps {
@@ -80,21 +84,21 @@ impl Steps {
     pub fn len(&self) -> usize
         ensures { result ≡ length self.now }
     {
-        self.moments.len()
+        self.marks.len()
     }
 
     /// Whether there is none.
     pub fn is_empty(&self) -> bool
         ensures { result ≡ (length self.now == 0) }
     {
-        self.moments.is_empty()
+        self.marks.is_empty()
     }
 
     /// Their moments, which a report tells with what came of them.
-    pub fn moments(&self) -> &[Moment]
-        ensures { result.now ≡ map moment_of_step self.now }
+    pub fn moments(&self) -> MomentsIter<'_>
+        ensures { result ≡ map moment_of_step self.now }
     {
-        &self.moments
+        MomentsIter::new(&self.moments)
     }
 
     /// Goes over them in the order of their lines.
@@ -103,7 +107,7 @@ impl Steps {
     {
         StepsIter {
             marks: &self.marks,
-            moments: &self.moments,
+            moments: self.moments(),
             numbers: &self.numbers,
             readings: &self.readings,
             commands: &self.commands,
@@ -115,7 +119,7 @@ impl Steps {
         ensures { result ≡ last_moment self.now }
     {
         match self.moments.last() {
-            Some(moment) => moment.get(),
+            Some(run) => run.moment().get(),
             None => 0,
         }
     }
@@ -136,7 +140,7 @@ impl Steps {
             &mut self.commands,
         )?;
         self.marks.push(mark)?;
-        self.moments.push(moment)?;
+        push_moment(&mut self.moments, moment);
         Ok(())
     }
 }
@@ -185,7 +189,7 @@ fn push_parts(
 #[derive(Debug, Drop)]
 pub struct StepsIter<'a> {
     marks: &'a [Mark],
-    moments: &'a [Moment],
+    moments: MomentsIter<'a>,
     numbers: &'a [u64],
     readings: &'a [Reading],
     commands: &'a [Command],
@@ -198,9 +202,9 @@ impl<'a> Model for StepsIter<'a> {
 
     ghost Value = { List Step };
 
-    ghost view = { λ i. spelled i.moments.now i.marks.now i.numbers.now i.readings.now i.commands.now };
+    ghost view = { λ i. spelled i.moments i.marks.now i.numbers.now i.readings.now i.commands.now };
 
-    ghost invariant = { λ i. IsSpelled i.moments.now i.marks.now i.numbers.now i.readings.now i.commands.now };
+    ghost invariant = { λ i. IsSpelled i.moments i.marks.now i.numbers.now i.readings.now i.commands.now };
 }
 
 impl<'a> Iterator for StepsIter<'a> {
@@ -211,8 +215,7 @@ impl<'a> Iterator for StepsIter<'a> {
     ghost remaining = { item_count (λ steps. steps) };
 
     fn next(&mut self) -> Option<StepRef<'a>> {
-        let (moment, moments) = self.moments.split_first()?;
-        self.moments = moments;
+        let moment = self.moments.next()?;
         let action = match *take_first(&mut self.marks) {
             Mark::Open { requester } => ActionRef::Open {
                 requester,
@@ -238,10 +241,7 @@ impl<'a> Iterator for StepsIter<'a> {
                 number: *take_first(&mut self.numbers),
             },
         };
-        Some(StepRef {
-            moment: *moment,
-            action,
-        })
+        Some(StepRef { moment, action })
     }
 }
 
