@@ -1,4 +1,5 @@
 pub mod FoundCommands
+pub mod KnownWords
 pub mod LinesReached
 pub mod MomentRuns
 pub mod ReadLines

@@ -2,6 +2,7 @@
 #![tactic(auto)]
 
 mod command_words;
+mod last_number;
 pub mod laws;
 mod line;
 mod line_fault;

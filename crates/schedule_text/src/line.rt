@@ -5,6 +5,7 @@ ghost use Rattle.line_words.specs.Lines.{said_words};
 ghost use Rattle.schedule_text.specs.LineWords.{action_named, action_of, line_of, only_eid, only_number, open_of, reply_of, request_of, requester_of, restart_of, sense_of, step_of, tick_of};
 
 use crate::command_words::read_command;
+use crate::last_number::LastNumber;
 use crate::word::Word;
 use crate::words::{UsualName, Words, words_in};
 use crate::{Action, LineFaultKind, RequesterLine, Step};
@@ -21,8 +22,8 @@ pub(crate) enum Line {
     Step(Step),
 }
 
-/// What a line says, given without its LF.
-pub(crate) fn read_line(line: &[u8]) -> Result<Line, LineFaultKind>
+/// What a line says, given without its LF. `last` is the moment of the step before.
+pub(crate) fn read_line(line: &[u8], last: &mut LastNumber) -> Result<Line, LineFaultKind>
     ensures { result ≡ line_of (said_words line.now) }
 {
     let Some((keyword, mut words)) = words_in(line) else {
@@ -31,7 +32,7 @@ pub(crate) fn read_line(line: &[u8]) -> Result<Line, LineFaultKind>
     if keyword.is(b"requester") {
         read_requester(&mut words)
     } else if keyword.is(b"at") {
-        read_step(&mut words)
+        read_step(&mut words, last)
     } else {
         Err(LineFaultKind::Words)
     }
@@ -62,10 +63,10 @@ fn read_requester(words: &mut Words<'_>) -> Result<Line, LineFaultKind>
 }
 
 /// `at MS` and an action, by the words after the first.
-fn read_step(words: &mut Words<'_>) -> Result<Line, LineFaultKind>
+fn read_step(words: &mut Words<'_>, last: &mut LastNumber) -> Result<Line, LineFaultKind>
     ensures { result ≡ step_of words.old }
 {
-    let moment = words.next()?;
+    let moment = words.next_like(last)?;
     let action = read_action(words)?;
     let moment = moment.moment()?;
     Ok(Line::Step(Step { moment, action }))

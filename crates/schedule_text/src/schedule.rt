@@ -4,6 +4,7 @@ ghost use Rattle.std.specs.Prelude.{◌≡◌, Ok, IfOk, IfErr, OnOk, OnErr};
 ghost use Rattle.line_words.specs.TextLines.{lines_of};
 ghost use Rattle.schedule_text.specs.Schedules.{IsReached, IsSchedule, ReportsFault, ReportsKind, after_line, is_known, none_spelled, schedule_of, with_line, with_requester, with_step};
 
+use crate::last_number::LastNumber;
 use crate::line::{Line, read_line};
 use crate::requesters::Requesters;
 use crate::{Action, LineFault, LineFaultKind, RequesterLine, Step, Steps};
@@ -17,6 +18,8 @@ use std::marker::Model;
 pub struct Schedule {
     requesters: Requesters,
     steps: Steps,
+    /// The moment of the last step that was read.
+    moment: LastNumber,
 }
 
 impl Model for Schedule {
@@ -37,6 +40,7 @@ impl Schedule {
         Schedule {
             requesters: Requesters::new(alloc),
             steps: Steps::new(alloc),
+            moment: LastNumber::none(),
         }
     }
 
@@ -46,6 +50,8 @@ impl Schedule {
     /// # Errors
     ///
     /// The line's first fault, or `Memory`, which may come at any line. The schedule is then unchanged.
+    // Inlined: it only puts the number to a fault, and few lines have one.
+    #[inline(always)]
     pub fn add_line(&mut self, number: u64, line: &[u8]) -> Result<(), LineFault>
         ensures ok { OnOk result (after_line self.old line.now ≡ Ok self.new) }
         ensures err { IfErr result (λ fault. (fault.line ≡ number) × ReportsKind (after_line self.old line.now)
@@ -99,12 +105,14 @@ impl Schedule {
     }
 
     /// Adds what a line says, without its number.
+    // Not inlined: its result is two bytes, which pass in a register.
+    #[inline(never)]
     fn add_unnumbered(&mut self, line: &[u8]) -> Result<(), LineFaultKind>
         ensures ok { OnOk result (after_line self.old line.now ≡ Ok self.new) }
         ensures err { IfErr result (λ kind. ReportsKind (after_line self.old line.now) kind) }
         ensures unchanged { OnErr result (self.new ≡ self.old) }
     {
-        match read_line(line)? {
+        match read_line(line, &mut self.moment)? {
             Line::Nothing => Ok(()),
             Line::Requester(line) => self.add_requester(line),
             Line::Step(step) => self.add_step(step),

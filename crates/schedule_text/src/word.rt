@@ -65,6 +65,13 @@ impl<'a> Word<'a> {
         self.bytes
     }
 
+    /// The number that it spells, of at most 16 digits.
+    pub(crate) fn number(&self) -> Option<u64>
+        ensures { result ≡ decimal_of self.now }
+    {
+        self.number
+    }
+
     /// Whether it is this fixed word.
     pub(crate) fn is(&self, spelling: &[u8]) -> bool
         ensures { result ≡ is self.now spelling.now }

@@ -7,6 +7,7 @@ ghost use Rattle.schedule_text.specs.UsualNames.{usual_command, usual_name};
 ghost use Rattle.schedule_text.specs.declared.line_fault.LineFaultKind.TheVariants as kinds;
 
 use crate::LineFaultKind;
+use crate::last_number::LastNumber;
 use crate::word::Word;
 use arrayvec::ArrayVec;
 use line_words::{first_number, split_number, split_word, without_cr};
@@ -73,6 +74,24 @@ impl<'a> Words<'a> {
         };
         self.text = text;
         Ok(Word::new(word, number))
+    }
+
+    /// The next word, as [`Words::next`] reads it. Where it is that number once more, no digit is read.
+    // Inlined: it stands at the begin of nearly all steps.
+    #[inline(always)]
+    pub(crate) fn next_like(&mut self, last: &mut LastNumber) -> Result<Word<'a>, LineFaultKind>
+        ensures ok { IfOk result (λ word. self.old ≡ word ∷ self.new) }
+        ensures none { OnErr result (self.old ≡ []) }
+        ensures same { OnErr result (self.new ≡ self.old) }
+        ensures err { IfErr result (λ kind. kind ≡ kinds.Words) }
+    {
+        if let Some((word, text)) = last.split(self.text) {
+            self.text = text;
+            return Ok(word);
+        }
+        let word = self.next()?;
+        last.set(&word);
+        Ok(word)
     }
 
     /// The next word, where it is one of the usual names and stands as nearly all do: it is then not looked for

@@ -1,0 +1,73 @@
+//! The number that was read last.
+
+ghost use Rattle.std.specs.Prelude.{◌≡◌, ◌∷◌, IfSome};
+ghost use Rattle.line_words.specs.Lines.{words_of};
+
+use crate::word::Word;
+use line_words::MAX_DIGITS;
+use std::marker::Model;
+
+/// The number that was read last, with its digits. Many lines in a row have the same one, whose digits are then
+/// compared and not read again.
+#[derive(Debug, Drop)]
+pub(crate) struct LastNumber {
+    number: u64,
+    room: [u8; MAX_DIGITS],
+    /// How many digits it has.
+    count: usize,
+}
+
+impl Model for LastNumber {
+    ghost use Rattle.std.specs.Prelude.{◌≡◌, ◌≤◌, List, ℕ, Some, take};
+    ghost use Rattle.line_words.specs.declared.numbers.TheConstants.{MAX_DIGITS};
+    ghost use Rattle.line_words.specs.Numbers.{decimal_of};
+
+    ghost Value = { List ℕ };
+
+    ghost view = { λ n. take n.count n.room };
+
+    ghost invariant = { λ n. (n.count ≤ MAX_DIGITS) × (decimal_of (take n.count n.room) ≡ Some n.number) };
+}
+
+impl LastNumber {
+    /// Where none was read yet: zero.
+    pub(crate) fn none() -> LastNumber {
+        LastNumber {
+            number: 0,
+            room: [b'0'; MAX_DIGITS],
+            count: 1,
+        }
+    }
+
+    /// Its digits.
+    fn digits(&self) -> &[u8]
+        ensures { result.now ≡ self.now }
+    {
+        &self.room[..self.count]
+    }
+
+    /// The first word of a text and what follows it, where that word has these digits and a space after them.
+    // Inlined: it stands at the begin of nearly all steps.
+    #[inline(always)]
+    pub(crate) fn split<'a>(&self, text: &'a [u8]) -> Option<(Word<'a>, &'a [u8])>
+        ensures { IfSome result (λ p. words_of text.now ≡ p.0 ∷ words_of p.1.now) }
+    {
+        let (digits, rest) = text.split_at_checked(self.count)?;
+        match rest {
+            [b' ', ..] if digits == self.digits() => {
+                Some((Word::new(digits, Some(self.number)), rest))
+            }
+            _ => None,
+        }
+    }
+
+    /// Becomes the number that a word spells, if it spells one.
+    pub(crate) fn set(&mut self, word: &Word<'_>) {
+        if let Some(number) = word.number() {
+            let digits = word.bytes();
+            self.number = number;
+            self.room[..digits.len()].copy_from_slice(digits);
+            self.count = digits.len();
+        }
+    }
+}
