@@ -75,6 +75,8 @@ pub fn split_word(text: &[u8]) -> Option<(&[u8], &[u8])>
 
 /// The first word of a text, the number that it spells as [`read_decimal`] reads it, and what follows the word;
 /// `None` where there are spaces alone.
+// Inlined: its result is then passed on in parts.
+#[inline(always)]
 pub fn split_number(text: &[u8]) -> Option<(&[u8], Option<u64>, &[u8])>
     ensures some { IfSome result (λ p. words_of text.now ≡ p.0.now ∷ words_of p.2.now) }
     ensures number { IfSome result (λ p. p.1 ≡ decimal_of p.0.now) }

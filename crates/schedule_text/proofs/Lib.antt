@@ -2,6 +2,7 @@ pub mod FoundCommands
 pub mod KnownWords
 pub mod LinesReached
 pub mod MomentRuns
+pub mod NamedSteps
 pub mod ReadLines
 pub mod ScheduleRows
 pub mod SizeWords

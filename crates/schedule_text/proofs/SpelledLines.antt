@@ -11,8 +11,8 @@ use Rattle.schedule_text.specs.LineSpelling.{SpellsAny, SpellsAction, SpellsLine
 use Rattle.schedule_text.specs.LineWords.{action_named, line_of, only_eid, only_number, open_of, reply_of, requester_of, restart_of, sense_of, step_of}
 use Rattle.schedule_text.specs.WordValues.{◌>>=◌, any_number, any_value, eid_in, moment_in, number_up_to, or_number}
 use Rattle.schedule_text.specs.declared.word.TheConstants.{MAX_BYTE, MAX_ID, MAX_TIMEOUT}
-use Rattle.schedule_text.specs.declared.line.Line.{Line}
-use Rattle.schedule_text.specs.declared.line.Line.TheVariants as lines
+use Rattle.schedule_text.specs.SaidLines.{Line}
+use Rattle.schedule_text.specs.SaidLines as lines
 use Rattle.schedule_text.specs.declared.line_fault.LineFaultKind.{LineFaultKind}
 use Rattle.schedule_text.specs.declared.line_fault.LineFaultKind.TheVariants.{Words}
 use Rattle.schedule_text.specs.declared.step.Step.{Step}

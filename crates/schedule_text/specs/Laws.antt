@@ -2,7 +2,7 @@
 use Rattle.std.specs.Prelude.{◌≡◌, ◌↔◌, ℕ, List, Ok}
 use Rattle.schedule_text.specs.LineSpelling.{SpellsLine}
 use Rattle.schedule_text.specs.LineWords.{line_of}
-use Rattle.schedule_text.specs.declared.line.Line.{Line}
+use Rattle.schedule_text.specs.SaidLines.{Line}
 
 -- a line is read as something exactly where its words spell that
 abbrev pub ReadAsSpelled : Type 0

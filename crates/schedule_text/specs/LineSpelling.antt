@@ -4,8 +4,8 @@ use Rattle.line_words.specs.Numbers.{decimal_of, value_of}
 use Rattle.mctp_packet.specs.declared.TheConstants.{MIN_EID, MAX_EID, MAX_MOMENT}
 use Rattle.schedule_text.specs.CommandSpelling.{Word, SpellsNumber, SpellsByte, SpellsId, SpellsCommand}
 use Rattle.schedule_text.specs.declared.word.TheConstants.{MAX_TIMEOUT}
-use Rattle.schedule_text.specs.declared.line.Line.{Line}
-use Rattle.schedule_text.specs.declared.line.Line.TheVariants as lines
+use Rattle.schedule_text.specs.SaidLines.{Line}
+use Rattle.schedule_text.specs.SaidLines as lines
 use Rattle.schedule_text.specs.declared.step.Action.{Action}
 use Rattle.schedule_text.specs.declared.step.Action.TheVariants.{Open, Tick, Request, Reply, Sense, Restart, Busy}
 

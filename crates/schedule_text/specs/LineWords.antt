@@ -3,10 +3,11 @@ use Rattle.std.specs.Prelude.{ℕ, codes, ◌&&◌, List, [], ◌∷◌, Result,
 use Rattle.schedule_text.specs.CommandWords.{is, only_word, command_of}
 use Rattle.schedule_text.specs.WordValues.{◌>>=◌, any_number, number_up_to, any_value, eid_in, moment_in}
 use Rattle.schedule_text.specs.declared.word.TheConstants.{MAX_BYTE, MAX_ID, MAX_TIMEOUT}
-use Rattle.schedule_text.specs.declared.line.Line.{Line}
-use Rattle.schedule_text.specs.declared.line.Line.TheVariants as lines
+use Rattle.schedule_text.specs.SaidLines.{Line}
+use Rattle.schedule_text.specs.SaidLines as lines
 use Rattle.schedule_text.specs.declared.line_fault.LineFaultKind.{LineFaultKind}
 use Rattle.schedule_text.specs.declared.line_fault.LineFaultKind.TheVariants.{Words}
+use Rattle.schedule_text.specs.declared.step.RequesterLine.{RequesterLine}
 use Rattle.schedule_text.specs.declared.step.Action.{Action}
 use Rattle.schedule_text.specs.declared.step.Action.TheVariants.{Open, Tick, Request, Reply, Sense, Restart, Busy}
 
@@ -19,6 +20,10 @@ requester_of (eid ∷ timeout ∷ limit ∷ tries ∷ count ∷ []) =
     Ok (lines.Requester (record { eid = eid; timeout = limit; tries = count })))
     else Err Words
 requester_of _ = Err Words
+
+-- the line of a requester, as what a line says
+abbrev pub said_requester : Result RequesterLine LineFaultKind → Result Line LineFaultKind
+said_requester read = read >>= λ line. Ok (lines.Requester line)
 
 -- one endpoint ID, or one number of a request
 

@@ -3,10 +3,10 @@ use Rattle.std.specs.Prelude.{◌≡◌, ℕ, ◌+◌, ◌-◌, ◌≤◌, ◌==
 use Rattle.std.specs.List.{list_any}
 use Rattle.line_words.specs.Lines.{said_words}
 use Rattle.line_words.specs.TextLines.{lines_of}
-use Rattle.schedule_text.specs.LineWords.{line_of}
-use Rattle.schedule_text.specs.WordValues.{◌>>=◌}
-use Rattle.schedule_text.specs.declared.line.Line.{Line}
-use Rattle.schedule_text.specs.declared.line.Line.TheVariants as lines
+use Rattle.schedule_text.specs.LineWords.{action_named, line_of, open_of, step_of, tick_of}
+use Rattle.schedule_text.specs.WordValues.{◌>>=◌, moment_in}
+use Rattle.schedule_text.specs.SaidLines.{Line}
+use Rattle.schedule_text.specs.SaidLines as lines
 use Rattle.schedule_text.specs.declared.line_fault.LineFault.{LineFault}
 use Rattle.schedule_text.specs.declared.line_fault.LineFaultKind.{LineFaultKind}
 use Rattle.mctp_packet.specs.declared.TheConstants.{MAX_EID}
@@ -65,6 +65,23 @@ abbrev pub with_line : Spelled → Line → Result Spelled LineFaultKind
 with_line before lines.Nothing = Ok before
 with_line before (lines.Requester line) = with_requester before line
 with_line before (lines.Step step) = with_step before step
+
+-- the same by the words of a line: those after `at`, or the moment's with the action that is read
+abbrev pub with_step_in : Spelled → List (List ℕ) → Result Spelled LineFaultKind
+with_step_in before words = step_of words >>= with_line before
+
+abbrev pub with_action : Spelled → List ℕ → Action → Result Spelled LineFaultKind
+with_action before moment action =
+    moment_in moment >>= λ moment. with_step before (record { moment = moment; action = action })
+
+abbrev pub with_tick : Spelled → List ℕ → List (List ℕ) → Result Spelled LineFaultKind
+with_tick before moment words = tick_of words >>= with_action before moment
+
+abbrev pub with_open : Spelled → List ℕ → List (List ℕ) → Result Spelled LineFaultKind
+with_open before moment words = open_of words >>= with_action before moment
+
+abbrev pub with_named : Spelled → List ℕ → List ℕ → List (List ℕ) → Result Spelled LineFaultKind
+with_named before moment name words = action_named name words >>= with_action before moment
 
 -- what is spelled by the lines before and this one
 abbrev pub after_line : Spelled → List ℕ → Result Spelled LineFaultKind

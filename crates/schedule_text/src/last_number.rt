@@ -29,6 +29,15 @@ impl Model for LastNumber {
     ghost invariant = { λ n. (n.count ≤ MAX_DIGITS) × (decimal_of (take n.count n.room) ≡ Some n.number) };
 }
 
+/// What the lines before had.
+#[derive(Debug, Drop)]
+pub(crate) struct LastNumbers {
+    /// The moment of the last step.
+    pub(crate) moment: LastNumber,
+    /// The number of the request in the last step that had one.
+    pub(crate) number: LastNumber,
+}
+
 impl LastNumber {
     /// Where none was read yet: zero.
     pub(crate) fn none() -> LastNumber {

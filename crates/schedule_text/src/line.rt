@@ -1,48 +1,20 @@
-//! One line of a schedule.
+//! The words of one line of a schedule.
 
 ghost use Rattle.std.specs.Prelude.{◌≡◌};
-ghost use Rattle.line_words.specs.Lines.{said_words};
-ghost use Rattle.schedule_text.specs.LineWords.{action_named, action_of, line_of, only_eid, only_number, open_of, reply_of, request_of, requester_of, restart_of, sense_of, step_of, tick_of};
+ghost use Rattle.schedule_text.specs.LineWords.{action_named, only_eid, only_number, open_of, reply_of, request_of, requester_of, restart_of, said_requester, sense_of, tick_of};
 
 use crate::command_words::read_command;
 use crate::last_number::LastNumber;
 use crate::word::Word;
-use crate::words::{UsualName, Words, words_in};
-use crate::{Action, LineFaultKind, RequesterLine, Step};
+use crate::words::Words;
+use crate::{Action, LineFaultKind, RequesterLine};
 use mctp_packet::Eid;
 
-/// What a line says.
-#[derive(Debug, Drop)]
-pub(crate) enum Line {
-    /// Nothing: the line is blank, or a comment.
-    Nothing,
-    /// That there is a requester.
-    Requester(RequesterLine),
-    /// That a step is to be done.
-    Step(Step),
-}
-
-/// What a line says, given without its LF. `last` is the moment of the step before.
-pub(crate) fn read_line(line: &[u8], last: &mut LastNumber) -> Result<Line, LineFaultKind>
-    ensures { result ≡ line_of (said_words line.now) }
-{
-    let Some((keyword, mut words)) = words_in(line) else {
-        return Ok(Line::Nothing);
-    };
-    if keyword.is(b"requester") {
-        read_requester(&mut words)
-    } else if keyword.is(b"at") {
-        read_step(&mut words, last)
-    } else {
-        Err(LineFaultKind::Words)
-    }
-}
-
 /// `requester EID timeout MS tries N`, by the words after the first.
-// Not inlined: few lines are of requesters, and those of steps then pass fewer values on.
+// Not inlined: few lines are of requesters.
 #[inline(never)]
-fn read_requester(words: &mut Words<'_>) -> Result<Line, LineFaultKind>
-    ensures { result ≡ requester_of words.old }
+pub(crate) fn read_requester(words: &mut Words<'_>) -> Result<RequesterLine, LineFaultKind>
+    ensures { said_requester result ≡ requester_of words.old }
 {
     let eid = words.next()?;
     let timeout = words.next()?;
@@ -55,43 +27,17 @@ fn read_requester(words: &mut Words<'_>) -> Result<Line, LineFaultKind>
     let eid = eid.eid()?;
     let timeout = limit.timeout()?;
     let tries = count.byte()?;
-    Ok(Line::Requester(RequesterLine {
+    Ok(RequesterLine {
         eid,
         timeout,
         tries,
-    }))
-}
-
-/// `at MS` and an action, by the words after the first.
-fn read_step(words: &mut Words<'_>, last: &mut LastNumber) -> Result<Line, LineFaultKind>
-    ensures { result ≡ step_of words.old }
-{
-    let moment = words.next_like(last)?;
-    let action = read_action(words)?;
-    let moment = moment.moment()?;
-    Ok(Line::Step(Step { moment, action }))
-}
-
-/// An action: its name, and the words after it.
-fn read_action(words: &mut Words<'_>) -> Result<Action, LineFaultKind>
-    ensures { result ≡ action_of words.old }
-{
-    match words.usual_name() {
-        Some(UsualName::Reply) => read_reply(words),
-        Some(UsualName::Request) => read_request(words),
-        Some(UsualName::Tick) => read_tick(words),
-        Some(UsualName::Open) => read_open(words),
-        None => {
-            let name = words.next()?;
-            read_action_named(&name, words)
-        }
-    }
+    })
 }
 
 /// The action of this name, with the words after it.
-// Not inlined: nearly all steps have a usual name, and then pass fewer values on.
+// Not inlined: nearly all steps have a usual name.
 #[inline(never)]
-fn read_action_named(name: &Word<'_>, words: &mut Words<'_>) -> Result<Action, LineFaultKind>
+pub(crate) fn read_action(name: &Word<'_>, words: &mut Words<'_>) -> Result<Action, LineFaultKind>
     ensures { result ≡ action_named name.now words.old }
 {
     if name.is(b"open") {
@@ -99,9 +45,9 @@ fn read_action_named(name: &Word<'_>, words: &mut Words<'_>) -> Result<Action, L
     } else if name.is(b"tick") {
         read_tick(words)
     } else if name.is(b"req") {
-        read_request(words)
+        read_request(words, &mut LastNumber::none())
     } else if name.is(b"rep") {
-        read_reply(words)
+        read_reply(words, &mut LastNumber::none())
     } else if name.is(b"sense") {
         read_sense(words)
     } else if name.is(b"restart") {
@@ -122,8 +68,6 @@ fn only_eid(words: &mut Words<'_>) -> Result<Eid, LineFaultKind>
 }
 
 /// The one number that there has to be.
-// Inlined: it stands at the end of most steps.
-#[inline(always)]
 fn only_number(words: &mut Words<'_>) -> Result<u64, LineFaultKind>
     ensures { result ≡ only_number words.old }
 {
@@ -131,23 +75,30 @@ fn only_number(words: &mut Words<'_>) -> Result<u64, LineFaultKind>
 }
 
 /// `EID`.
-fn read_tick(words: &mut Words<'_>) -> Result<Action, LineFaultKind>
+pub(crate) fn read_tick(words: &mut Words<'_>) -> Result<Action, LineFaultKind>
     ensures { result ≡ tick_of words.old }
 {
     let requester = only_eid(words)?;
     Ok(Action::Tick { requester })
 }
 
-/// `K`.
-fn read_request(words: &mut Words<'_>) -> Result<Action, LineFaultKind>
+/// `K`. `last` is the number of the step before that had one.
+// Inlined, as the reading of a reply: it is then known which action it is.
+#[inline(always)]
+pub(crate) fn read_request(
+    words: &mut Words<'_>,
+    last: &mut LastNumber,
+) -> Result<Action, LineFaultKind>
     ensures { result ≡ request_of words.old }
 {
-    let number = only_number(words)?;
+    let number = words.next_like(last)?;
+    words.end()?;
+    let number = number.any_number()?;
     Ok(Action::Request { number })
 }
 
 /// `EID COMMAND`.
-fn read_open(words: &mut Words<'_>) -> Result<Action, LineFaultKind>
+pub(crate) fn read_open(words: &mut Words<'_>) -> Result<Action, LineFaultKind>
     ensures { result ≡ open_of words.old }
 {
     let eid = words.next()?;
@@ -156,13 +107,16 @@ fn read_open(words: &mut Words<'_>) -> Result<Action, LineFaultKind>
     Ok(Action::Open { requester, command })
 }
 
-/// `K J`.
+/// `K J`. `last` is the number of the step before that had one.
 // Inlined: nearly half of all steps are replies.
 #[inline(always)]
-fn read_reply(words: &mut Words<'_>) -> Result<Action, LineFaultKind>
+pub(crate) fn read_reply(
+    words: &mut Words<'_>,
+    last: &mut LastNumber,
+) -> Result<Action, LineFaultKind>
     ensures { result ≡ reply_of words.old }
 {
-    let number = words.next()?;
+    let number = words.next_like(last)?;
     let packet = words.only()?;
     let number = number.any_number()?;
     let packet = packet.byte()?;

@@ -2,11 +2,13 @@
 
 ghost use Rattle.std.specs.Prelude.{◌≡◌, Ok, IfOk, IfErr, OnOk, OnErr};
 ghost use Rattle.line_words.specs.TextLines.{lines_of};
-ghost use Rattle.schedule_text.specs.Schedules.{IsReached, IsSchedule, ReportsFault, ReportsKind, after_line, is_known, none_spelled, schedule_of, with_line, with_requester, with_step};
+ghost use Rattle.schedule_text.specs.Schedules.{IsReached, IsSchedule, ReportsFault, ReportsKind, after_line, is_known, none_spelled, schedule_of, with_action, with_named, with_open, with_requester, with_step, with_step_in, with_tick};
 
-use crate::last_number::LastNumber;
-use crate::line::{Line, read_line};
+use crate::last_number::{LastNumber, LastNumbers};
+use crate::line::{read_action, read_open, read_reply, read_request, read_requester, read_tick};
 use crate::requesters::Requesters;
+use crate::word::Word;
+use crate::words::{UsualName, Words, words_in};
 use crate::{Action, LineFault, LineFaultKind, RequesterLine, Step, Steps};
 use line_words::split_line;
 use std::alloc::Global;
@@ -18,8 +20,7 @@ use std::marker::Model;
 pub struct Schedule {
     requesters: Requesters,
     steps: Steps,
-    /// The moment of the last step that was read.
-    moment: LastNumber,
+    last: LastNumbers,
 }
 
 impl Model for Schedule {
@@ -40,7 +41,10 @@ impl Schedule {
         Schedule {
             requesters: Requesters::new(alloc),
             steps: Steps::new(alloc),
-            moment: LastNumber::none(),
+            last: LastNumbers {
+                moment: LastNumber::none(),
+                number: LastNumber::none(),
+            },
         }
     }
 
@@ -112,11 +116,94 @@ impl Schedule {
         ensures err { IfErr result (λ kind. ReportsKind (after_line self.old line.now) kind) }
         ensures unchanged { OnErr result (self.new ≡ self.old) }
     {
-        match read_line(line, &mut self.moment)? {
-            Line::Nothing => Ok(()),
-            Line::Requester(line) => self.add_requester(line),
-            Line::Step(step) => self.add_step(step),
+        let Some((keyword, mut words)) = words_in(line) else {
+            return Ok(());
+        };
+        if keyword.is(b"requester") {
+            let line = read_requester(&mut words)?;
+            self.add_requester(line)
+        } else if keyword.is(b"at") {
+            self.add_step_in(&mut words)
+        } else {
+            Err(LineFaultKind::Words)
         }
+    }
+
+    /// Adds the step of a line, `at MS` and an action, by the words after the first. Each usual action is added where
+    /// it is read: it is then known which one it is, and none is passed on.
+    fn add_step_in(&mut self, words: &mut Words<'_>) -> Result<(), LineFaultKind>
+        ensures ok { OnOk result (with_step_in self.old words.old ≡ Ok self.new) }
+        ensures err { IfErr result (λ kind. ReportsKind (with_step_in self.old words.old) kind) }
+        ensures unchanged { OnErr result (self.new ≡ self.old) }
+    {
+        let moment = words.next_like(&mut self.last.moment)?;
+        match words.usual_name() {
+            Some(UsualName::Reply) => {
+                let action = read_reply(words, &mut self.last.number)?;
+                self.add_action(&moment, action)
+            }
+            Some(UsualName::Request) => {
+                let action = read_request(words, &mut self.last.number)?;
+                self.add_action(&moment, action)
+            }
+            Some(UsualName::Tick) => self.add_tick(&moment, words),
+            Some(UsualName::Open) => self.add_open(&moment, words),
+            None => {
+                let name = words.next()?;
+                self.add_named(&moment, &name, words)
+            }
+        }
+    }
+
+    /// Adds a tick at the moment that a word spells, by the words after its name.
+    // Not inlined, as the two after it: the room for what is read of their words is then not cleared for the others.
+    #[inline(never)]
+    fn add_tick(&mut self, moment: &Word<'_>, words: &mut Words<'_>) -> Result<(), LineFaultKind>
+        ensures ok { OnOk result (with_tick self.old moment.now words.old ≡ Ok self.new) }
+        ensures err { IfErr result (λ kind. ReportsKind (with_tick self.old moment.now words.old) kind) }
+        ensures unchanged { OnErr result (self.new ≡ self.old) }
+    {
+        let action = read_tick(words)?;
+        self.add_action(moment, action)
+    }
+
+    /// Adds an opening at the moment that a word spells, by the words after its name.
+    #[inline(never)]
+    fn add_open(&mut self, moment: &Word<'_>, words: &mut Words<'_>) -> Result<(), LineFaultKind>
+        ensures ok { OnOk result (with_open self.old moment.now words.old ≡ Ok self.new) }
+        ensures err { IfErr result (λ kind. ReportsKind (with_open self.old moment.now words.old) kind) }
+        ensures unchanged { OnErr result (self.new ≡ self.old) }
+    {
+        let action = read_open(words)?;
+        self.add_action(moment, action)
+    }
+
+    /// Adds the action of this name at the moment that a word spells, by the words after the name.
+    #[inline(never)]
+    fn add_named(
+        &mut self,
+        moment: &Word<'_>,
+        name: &Word<'_>,
+        words: &mut Words<'_>,
+    ) -> Result<(), LineFaultKind>
+        ensures ok { OnOk result (with_named self.old moment.now name.now words.old ≡ Ok self.new) }
+        ensures err { IfErr result (λ kind. ReportsKind (with_named self.old moment.now name.now words.old) kind) }
+        ensures unchanged { OnErr result (self.new ≡ self.old) }
+    {
+        let action = read_action(name, words)?;
+        self.add_action(moment, action)
+    }
+
+    /// Adds the step of this action, at the moment that a word spells.
+    // Inlined: it is then known which action it is.
+    #[inline(always)]
+    fn add_action(&mut self, moment: &Word<'_>, action: Action) -> Result<(), LineFaultKind>
+        ensures ok { OnOk result (with_action self.old moment.now action ≡ Ok self.new) }
+        ensures err { IfErr result (λ kind. ReportsKind (with_action self.old moment.now action) kind) }
+        ensures unchanged { OnErr result (self.new ≡ self.old) }
+    {
+        let moment = moment.moment()?;
+        self.add_step(Step { moment, action })
     }
 
     /// Adds a requester, where none has its endpoint ID yet.
@@ -133,6 +220,8 @@ impl Schedule {
     }
 
     /// Adds a step, where its moment does not go back and its requester has a line.
+    // Inlined, as what it calls: it is then known which action it is.
+    #[inline(always)]
     fn add_step(&mut self, step: Step) -> Result<(), LineFaultKind>
         ensures ok { OnOk result (with_step self.old step ≡ Ok self.new) }
         ensures err { IfErr result (λ kind. ReportsKind (with_step self.old step) kind) }

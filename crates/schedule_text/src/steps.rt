@@ -125,6 +125,8 @@ impl Steps {
     }
 
     /// Adds the next step.
+    // Inlined where it is known which action it is.
+    #[inline(always)]
     pub(crate) fn push(&mut self, step: Step) -> Result<(), Memory>
         ensures ok { OnOk result (self.new ≡ self.old ++ step ∷ []) }
         ensures err { OnErr result (self.new ≡ self.old) }
@@ -139,13 +141,14 @@ impl Steps {
             &mut self.readings,
             &mut self.commands,
         )?;
-        self.marks.push(mark)?;
+        self.marks.push_reserved(mark);
         push_moment(&mut self.moments, moment);
         Ok(())
     }
 }
 
 /// Adds to the columns what of an action stands there, and returns its mark.
+#[inline(always)]
 fn push_parts(
     action: Action,
     numbers: &mut Vec<u64>,
@@ -166,11 +169,13 @@ fn push_parts(
         }
         Action::Tick { requester } => Ok(Mark::Tick { requester }),
         Action::Request { number } => {
-            numbers.push(number)?;
+            numbers.reserve(1)?;
+            numbers.push_reserved(number);
             Ok(Mark::Request)
         }
         Action::Reply { packet, number } => {
-            numbers.push(number)?;
+            numbers.reserve(1)?;
+            numbers.push_reserved(number);
             Ok(Mark::Reply { packet })
         }
         Action::Sense { sensor, value } => {

@@ -63,6 +63,8 @@ pub(crate) fn words_in(line: &[u8]) -> Option<(Word<'_>, Words<'_>)>
 
 impl<'a> Words<'a> {
     /// The next word, which there has to be.
+    // Inlined: a word is passed on in parts.
+    #[inline(always)]
     pub(crate) fn next(&mut self) -> Result<Word<'a>, LineFaultKind>
         ensures ok { IfOk result (λ word. self.old ≡ word ∷ self.new) }
         ensures none { OnErr result (self.old ≡ []) }

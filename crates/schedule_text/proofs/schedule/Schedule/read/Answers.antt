@@ -1,8 +1,8 @@
 -- Line by line, the schedule is that of the lines so far.
-use Rattle.std.proofs.Common.{◌+◌, [], ◌∷◌, ◌++◌, Ok, refl, sym, ap, ◌∙◌, arith, append_assoc, length-append}
+use Rattle.std.proofs.Common.{◌+◌, [], ◌∷◌, ◌++◌, Ok, refl, sym, ap, ◌∙◌, arith, append_assoc, length-append, rules}
 use Rattle.line_words.specs.TextLines.{lines_of}
 use Rattle.schedule_text.specs.Schedules.{none_spelled, spelled_from, spelled_then}
-use Rattle.schedule_text.proofs.LinesReached.{one_more}
+use Rattle.schedule_text.proofs.LinesReached.{one_more, reached}
 use Rattle.schedule_text.proofs.ReadLines.{at_first}
 use Rattle.schedule_text.proofs.schedule.Schedule.read.Goals as goal
 
@@ -36,3 +36,17 @@ loop-line-preserved c =
       good = one_more 1 none_spelled i.done line c.loop-line.schedule c.add_line.new.self i.good ok;
       number = omega (arith, number, more);
     }
+
+pub returns-in_err-add_line-clause-reached : goal.returns-in_err-add_line-clause-reached
+returns-in_err-add_line-clause-reached c =
+    let i = c.loop-line.invariant in
+    let all = i.lines ∙ ap (λ lines. i.done ++ lines) c.in-Some.ensures.some in
+    let at = reached (lines_of c.args.text.now) i.done (lines_of c.in-Some.after.now) c.in-Some.line.now c.loop-line.number c.loop-line.schedule all i.number i.good in
+    search (rules, at, c.from_residual.ensures, c.in_err-add_line.ensures.err)
+
+pub returns-in_err-add_line-2-clause-reached : goal.returns-in_err-add_line-2-clause-reached
+returns-in_err-add_line-2-clause-reached c =
+    let i = c.loop-line.invariant in
+    let all = i.lines ∙ ap (λ lines. i.done ++ lines) c.in_default.ensures.none in
+    let at = reached (lines_of c.args.text.now) i.done [] c.loop-line.rest.now c.loop-line.number c.loop-line.schedule all i.number i.good in
+    search (rules, at, c.from_residual-in_err-add_line-2.ensures, c.in_err-add_line-2.ensures.err)

@@ -12,7 +12,7 @@ invariant_of-self-2 c =
       is_spelled_more c.args.step (moments_in i.moments.items) i.marks.items i.numbers.items i.readings.items i.commands.items _ _ _ _ _
           (record {
             timed = c.push_moment.ensures.moments ∙ ap (λ rs. moments_in rs ++ c.args.step.moment ∷ []) c.reserve-2.ensures.items;
-            marked = c.in_ok-push.ensures.items ∙ ap (λ ms. ms ++ c.in_ok-mark.mark ∷ []) c.reserve.ensures.items ∙ ap (λ m. i.marks.items ++ m ∷ []) added.mark;
+            marked = c.push_reserved.ensures.items ∙ ap (λ ms. ms ++ c.in_ok-mark.mark ∷ []) c.reserve.ensures.items ∙ ap (λ m. i.marks.items ++ m ∷ []) added.mark;
             numbered = added.numbers;
             read = added.readings;
             asked = added.commands;
@@ -27,7 +27,7 @@ returns-clause-ok c =
     spelled_more c.args.step (moments_in i.moments.items) i.marks.items i.numbers.items i.readings.items i.commands.items _ _ _ _ _
     (record {
       timed = c.push_moment.ensures.moments ∙ ap (λ rs. moments_in rs ++ c.args.step.moment ∷ []) c.reserve-2.ensures.items;
-      marked = c.in_ok-push.ensures.items ∙ ap (λ ms. ms ++ c.in_ok-mark.mark ∷ []) c.reserve.ensures.items ∙ ap (λ m. i.marks.items ++ m ∷ []) added.mark;
+      marked = c.push_reserved.ensures.items ∙ ap (λ ms. ms ++ c.in_ok-mark.mark ∷ []) c.reserve.ensures.items ∙ ap (λ m. i.marks.items ++ m ∷ []) added.mark;
       numbered = added.numbers;
       read = added.readings;
       asked = added.commands;
