@@ -128,7 +128,9 @@ fn put_packets(
 {
     packets.clear();
     for i in 0..message.len().div_ceil(UNIT) {
-        packets.push(bytes_at(*route, message, i));
+        // Written in its place, so that no bytes are moved.
+        packets.push(ArrayVec::new());
+        put_packet(&mut packets[i], *route, message, i);
     }
 }
 
@@ -154,16 +156,15 @@ fn packet_of<'a>(route: Route, message: &'a [u8], i: usize) -> PacketRef<'a>
     PacketRef::new(route, i == 0, is_last, number_at(i), piece_at(message, i)).unwrap()
 }
 
-/// The bytes of packet `i` of a message.
-fn bytes_at(route: Route, message: &[u8], i: usize) -> ArrayVec<u8, MAX_PACKET_BYTES>
-    requires { i < piece_count message.now }
-    ensures { result.items ≡ written (packet_at route message.now i) }
+/// Puts the bytes of packet `i` of a message where none are yet.
+fn put_packet(bytes: &mut ArrayVec<u8, MAX_PACKET_BYTES>, route: Route, message: &[u8], i: usize)
+    requires empty { bytes.old.items ≡ [] }
+    requires place { i < piece_count message.now }
+    ensures { bytes.new.items ≡ written (packet_at route message.now i) }
 {
     let packet = packet_of(route, message, i);
-    let mut bytes = ArrayVec::new();
     bytes.try_extend_from_slice(&header_of(&packet)).unwrap();
     bytes.try_extend_from_slice(packet.payload()).unwrap();
-    bytes
 }
 
 /// The sequence number of packet `i`.

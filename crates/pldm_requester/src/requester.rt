@@ -29,7 +29,7 @@ use mctp_packet::{
     read_for, split,
 };
 use pldm_wire::{
-    Command, ERROR_NOT_READY, INSTANCE_IDS, Kind, ResponseRef, read_response, write_command,
+    Command, ERROR_NOT_READY, INSTANCE_IDS, Kind, ResponseRef, put_command, read_response,
 };
 use std::alloc::Global;
 use std::marker::Model;
@@ -235,12 +235,14 @@ impl Requester {
             owner: true,
             tag,
         };
+        let mut message = Body::new();
+        put_command(&mut message, id, command);
         put(
             &mut self.slots,
             number,
             command.kind(),
             &route,
-            &write_command(id, command),
+            &message,
             now,
         );
         self.assembler.forget(answer_key(self.device, tag));

@@ -23,9 +23,20 @@ pub fn write_command(id: u8, command: &Command) -> Body
     ensures range { IsCommand command.now }
 {
     let mut body = Body::new();
-    put_head(&mut body, 0x80 | id, command.kind());
-    push_command_data(&mut body, command);
+    put_command(&mut body, id, command);
     body
+}
+
+/// Puts what [`write_command`] gives in the place of what `body` holds.
+pub fn put_command(body: &mut Body, id: u8, command: &Command)
+    requires { id < INSTANCE_IDS }
+    ensures spelled { body.new.items ≡ command_message id command.now }
+    ensures request { IsRequest body.new.items id (kind_of command.now) (command_data command.now) }
+    ensures fields { CommandFields command.now (kind_of command.now) (command_data command.now) }
+    ensures range { IsCommand command.now }
+{
+    put_head(body, 0x80 | id, command.kind());
+    push_command_data(body, command);
 }
 
 /// Adds the command's data to a request's header.

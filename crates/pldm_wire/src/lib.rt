@@ -45,7 +45,7 @@ pub use assigned::{
 pub use code::Code;
 pub use command::Command;
 pub use command_reading::read_command;
-pub use command_writing::write_command;
+pub use command_writing::{put_command, write_command};
 pub use crc::crc8;
 pub use effecter_values::EffecterValues;
 pub use kind::Kind;

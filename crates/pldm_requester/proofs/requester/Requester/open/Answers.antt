@@ -26,7 +26,7 @@ returns-clause-held c =
     let tag = c.tag_of-tag.ensures.value in
     let route : Route = record { destination = station.device; source = station.own; owner = true; tag = c.tag_of-tag.result } in
     let packets = written_packets route c.deref.result.now in
-    let sent = ap (written_packets route) (c.deref.ensures.0 ∙ c.write_command.ensures.spelled) in
+    let sent = ap (written_packets route) (c.deref.ensures.0 ∙ c.put_command.ensures.spelled) in
     let memo : Memo = record { kind = c.kind.result; packets = packets; course = begun c.args.now } in
     let new = memo_is station c.args.now c.id_of-id.result c.tag_of-tag.result c.args.command.now c.kind.result packets c.kind.ensures sent c.id_of-id.ensures.value tag in
     subst (λ (s : Station). IsHeld (held_of (record station { count = station.count + 1; slots = c.put.new.slots.items; open_messages = c.forget.new.self; last = c.args.now })) (opened_held (held_of s) c.args.now c.args.command.now)) c.self.view_is
