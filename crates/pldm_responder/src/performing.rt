@@ -33,15 +33,16 @@ pub(crate) fn perform<P: Platform>(
     ensures none_performed { OnErr result (P.performed platform.old [] platform.new) }
     ensures steady { IsTrue P.STEADY → IsOk result }
 {
-    let command = match read_command(request) {
+    let read = read_command(request);
+    let command = match &read {
         Ok(command) => command,
         Err(code) => {
-            refuse(request, code, reply);
+            refuse(request, *code, reply);
             return Ok(false);
         }
     };
     let mut answer = Answer::SetTid;
-    platform.perform_into(alloc, &command, &mut answer)?;
+    platform.perform_into(alloc, command, &mut answer)?;
     put_answer(reply, request.id(), request.kind(), &answer);
     let _few = reply.len(); // for the proof: at most 256 bytes
     Ok(command.sets() && succeeded(&answer))
