@@ -1,5 +1,5 @@
 -- What the calls of a requester give, over what it holds.
-use Rattle.std.proofs.Common.{◌≡◌, ℕ, zero, suc, ◌+◌, ◌-◌, ◌%◌, ◌<◌, ◌≤◌, Bool, true, false, List, [], ◌∷◌, length, map, Option, Some, None, Result, Ok, Err, refl, sym, ap, ◌∙◌, arith, eq-eqb}
+use Rattle.std.proofs.Common.{◌≡◌, ℕ, zero, suc, ◌+◌, ◌-◌, ◌%◌, ◌<◌, ◌≤◌, Bool, true, false, List, [], ◌∷◌, length, map, Option, Some, None, Result, Ok, Err, refl, sym, ap, subst, ◌∙◌, arith, eq-eqb}
 use Rattle.std.specs.Prelude.{◌==◌, ◌&&◌, not, nat_lt, nat_le, filter, option_map, slice_get, slice_index, if◌then◌else◌}
 use Rattle.std.specs.List.{AllByRecursion, range_with_len}
 use Rattle.std.proofs.lemmas.Bool.{cond-true, ltb-true}
@@ -20,12 +20,13 @@ use Rattle.pldm_requester.specs.Calls.{is_from_device, open_answer}
 use Rattle.pldm_requester.specs.Courses as courses
 use Rattle.pldm_requester.specs.Courses.{Course, is_open}
 use Rattle.pldm_requester.specs.Numbering.{message_of, opened_as, route_of}
-use Rattle.pldm_requester.specs.Slots.{remembered_in}
+use Rattle.pldm_requester.specs.Slots.{held_of, remembered_in}
 use Rattle.pldm_requester.specs.declared.requester.TheConstants.{MAX_OPEN, MAX_REMEMBERED}
-use Rattle.pldm_requester.specs.Steps.{Held, IsHeld, Memo, arrived_by, goes_to, is_mine, is_open_in, latest_on, new_memo, opened_held, passed, passes, received_held, recent_numbers, remembered_after, where_open, with_course}
-use Rattle.pldm_requester.specs.declared.results.Got.TheVariants as got
+use Rattle.pldm_requester.specs.Steps.{Held, IsHeld, Memo, arrived_by, goes_to, got_at, is_mine, is_open_in, latest_on, new_memo, opened_held, passed, passes, received_held, recent_numbers, remembered_after, where_open, with_course}
+use Rattle.pldm_requester.specs.declared.results.Got.{Got}
+use Rattle.pldm_requester.specs.declared.results.Got.TheVariants as gots
 use Rattle.pldm_requester.specs.declared.results.Opened.{Opened}
-use Rattle.mctp_schedule.specs.Askers.{ReportsReply, packet_bytes}
+use Rattle.mctp_schedule.specs.Askers.{IsAnswered, ReportsReply, Side, TellsAnswer, packet_bytes}
 use Rattle.mctp_schedule.specs.declared.askers.AnsweredRequest.{AnsweredRequest}
 use Rattle.mctp_schedule.proofs.ListPlaces.{take_all}
 
@@ -109,7 +110,7 @@ answer_remembered held (Err reason) n message e = absurd (cc)
 answer_remembered held (Ok p) n message e =
     some_memo is_open (held.remembered n) (goes_open held p n (packet_number (goes_to held p) (λ number q. assembly.answer held.open_messages q) (is_mine held) p n message e))
 
-pub answer_of_got : (arrival : Arrival) (own : ℕ) → got_of arrival ≡ got.Answered own → (message : List ℕ) × (arrival ≡ Answer own message)
+pub answer_of_got : (arrival : Arrival) (own : ℕ) → got_of arrival ≡ gots.Answered own → (message : List ℕ) × (arrival ≡ Answer own message)
 answer_of_got (Drop reason) own e = absurd (cc)
 answer_of_got Part own e = absurd (cc)
 answer_of_got (Answer number message) own e = let same : number ≡ own = cc in (message, ap (λ n. Answer n message) same)
@@ -146,16 +147,32 @@ pub recent_below : (count : ℕ) (test : ℕ → Bool) → AllByRecursion (λ k.
 recent_below count test = all_filtered (λ k. k < count) test (recent_numbers count) (all_ranged count (count - MAX_OPEN) (count - (count - MAX_OPEN)) (omega arith))
 
 -- ---- what is told of an answer
-pub none_told : (numbers : List ℕ) (arrival : Arrival) → ((own : ℕ) → got_of arrival ≡ got.Answered own → ⊥) → ReportsReply numbers arrival None
-none_told numbers (Drop reason) h = refl
-none_told numbers Part h = refl
-none_told numbers (Answer number message) h = absurd (h number refl)
-
-pub one_told : (numbers : List ℕ) (arrival : Arrival) (own : ℕ) (a : AnsweredRequest) → got_of arrival ≡ got.Answered own → a.number ≡ slice_index numbers own → ((m : List ℕ) → arrival ≡ Answer own m → a.message ≡ m) → ReportsReply numbers arrival (Some a)
-one_told numbers (Drop reason) own a e number message = absurd (cc)
-one_told numbers Part own a e number message = absurd (cc)
-one_told numbers (Answer n m) own a e number message =
-    let same : n ≡ own = cc in (a, refl, number ∙ ap (slice_index numbers) (sym same), message m (ap (λ k. Answer k m) same))
-
 pub same_answer : (progress : Option courses.Progress) (a b : List ℕ) → progress ≡ Some (courses.Answered a) → progress ≡ Some (courses.Answered b) → a ≡ b
 same_answer progress a b e f = let both : ◌≡◌ {A = Option courses.Progress} (Some (courses.Answered a)) (Some (courses.Answered b)) = sym e ∙ f in cc
+
+module _ (old new : Side) (moment : ℕ) (bytes : List ℕ) (got : Got) (after : IsHeld (held_of new.station) (received_held (held_of old.station) moment bytes)) (gave : got ≡ got_at (held_of old.station) bytes) (same : new.numbers ≡ old.numbers) where
+  abbrev held : Held
+  held = held_of old.station
+
+  pub is_answered : length old.numbers ≡ held.count → IsAnswered new got
+  is_answered all = go got gave
+    where
+      go : (g : Got) → g ≡ got_at held bytes → IsAnswered new g
+      go (gots.Dropped reason) e = tt
+      go gots.Partial e = tt
+      go (gots.Answered own) e =
+          let answer = answer_of_got (arrived_by held (passed held bytes)) own (sym e) in
+          let memo = answer_remembered held (passed held bytes) own answer.0 answer.1 in
+          let low = own_below old.station.count old.station.slots own memo.0 memo.1 in
+          let many = ap (λ (xs : List ℕ). length xs) same in
+          ((answer.0, progress_left held (held_of new.station) moment bytes own answer.0 after answer.1), omega (arith, low, many, all))
+
+  pub reports_reply : (answered : Option AnsweredRequest) → TellsAnswer new got answered → ReportsReply old.numbers (arrived_by held (passed held bytes)) answered
+  reports_reply answered tells = go (arrived_by held (passed held bytes)) refl (subst (λ g. TellsAnswer new g answered) gave tells)
+    where
+      go : (a : Arrival) → arrived_by held (passed held bytes) ≡ a → TellsAnswer new (got_of a) answered → ReportsReply old.numbers a answered
+      go (Drop reason) at t = t
+      go Part at t = t
+      go (Answer n m) at t =
+          let progress = option_map (λ (memo : Memo). memo.course.progress) ((held_of new.station).remembered n) in
+          (t.0, t.1, t.2 ∙ ap (λ xs. slice_index xs n) same, same_answer progress t.0.message.now m t.3 (progress_left held (held_of new.station) moment bytes n m after at))

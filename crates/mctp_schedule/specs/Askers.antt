@@ -1,5 +1,5 @@
 -- What contracts see of a requester of a run, and what its calls give.
-use Rattle.std.specs.Prelude.{◌≡◌, ℕ, true, List, [], ◌∷◌, ◌++◌, Option, Some, None, Ok, option_map, slice_index, refl}
+use Rattle.std.specs.Prelude.{◌≡◌, ⊤, ℕ, ◌<◌, true, List, [], ◌∷◌, ◌++◌, length, Option, Some, None, Ok, option_map, slice_index, refl}
 use Rattle.std.specs.Coded.{Coded, code_by, coded×, coded_ℕ, coded_list}
 use Rattle.mctp_packet.specs.Packets.{packet, written}
 use Rattle.pldm_wire.specs.Commands.{IsCommand}
@@ -7,8 +7,10 @@ use Rattle.pldm_wire.specs.declared.command.Command.{Command}
 use Rattle.pldm_requester.specs.Arrivals.{Arrival, Drop, Part, Answer}
 use Rattle.pldm_requester.specs.Courses as courses
 use Rattle.pldm_requester.specs.Numbering.{message_of, opened_as, route_of}
-use Rattle.pldm_requester.specs.Slots.{Station, coded_station}
+use Rattle.pldm_requester.specs.Slots.{Station, coded_station, held_of}
 use Rattle.pldm_requester.specs.Steps.{Held, opening_answer}
+use Rattle.pldm_requester.specs.declared.results.Got.{Got}
+use Rattle.pldm_requester.specs.declared.results.Got.TheVariants as gots
 use Rattle.mctp_schedule.specs.declared.askers.AnsweredRequest.{AnsweredRequest}
 use Rattle.mctp_schedule.specs.declared.askers.SentRequest.{SentRequest}
 
@@ -49,9 +51,24 @@ HasAnswer held number =
     (message : List ℕ)
     × (option_map (λ memo. memo.course.progress) (held.remembered number) ≡ Some (courses.Answered message))
 
+-- the request that a packet answered, if any, has an answer, and a number over all requests
+abbrev pub IsAnswered : Side → Got → Type 0
+IsAnswered side (gots.Dropped reason) = ⊤
+IsAnswered side gots.Partial = ⊤
+IsAnswered side (gots.Answered own) = HasAnswer (held_of side.station) own × (own < length side.numbers)
+
+-- it is told by that number, with its answer
+abbrev pub TellsAnswer : Side → Got → Option AnsweredRequest → Type 0
+TellsAnswer side (gots.Dropped reason) answered = answered ≡ None
+TellsAnswer side gots.Partial answered = answered ≡ None
+TellsAnswer side (gots.Answered own) answered =
+    (a : AnsweredRequest) × (answered ≡ Some a) × (a.number ≡ slice_index side.numbers own)
+    × (option_map (λ memo. memo.course.progress) ((held_of side.station).remembered own)
+    ≡ Some (courses.Answered a.message.now))
+
 -- the request that a packet answered is told by its number over all requests, with its answer
 abbrev pub ReportsReply : List ℕ → Arrival → Option AnsweredRequest → Type 0
 ReportsReply numbers (Drop reason) answered = answered ≡ None
 ReportsReply numbers Part answered = answered ≡ None
 ReportsReply numbers (Answer number message) answered =
-    (a : AnsweredRequest) × (answered ≡ Some a) × (a.number ≡ slice_index numbers number) × (a.message ≡ message)
+    (a : AnsweredRequest) × (answered ≡ Some a) × (a.number ≡ slice_index numbers number) × (a.message.now ≡ message)

@@ -72,4 +72,4 @@ progress_after given_up number request =
 abbrev pub answered_as : Option AnsweredRequest → ℕ → Request → Request
 answered_as None number request = request
 answered_as (Some answered) number request =
-    if number == answered.number then with_progress (courses.Answered answered.message) request else request
+    if number == answered.number then with_progress (courses.Answered answered.message.now) request else request

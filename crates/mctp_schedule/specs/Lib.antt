@@ -21,6 +21,5 @@ pub mod Requests
 pub mod RunFaults
 pub mod Running
 pub mod Runs
-pub mod StoredMessages
 pub mod Taken
 pub mod Worlds

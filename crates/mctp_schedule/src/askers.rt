@@ -3,14 +3,12 @@
 ghost use Rattle.std.specs.Prelude.{◌≡◌, ◌≤◌, ◌<◌, ◌∷◌, ◌++◌, [], Ok, Err, Some, IfOk, IfErr, OnOk, drop, take, slice_index, length, option_map};
 ghost use Rattle.std.specs.List.{AllByRecursion};
 ghost use Rattle.mctp_packet.specs.Packets.{written};
-ghost use Rattle.pldm_requester.specs.Steps.{IsHeld, again_at, arrived_by, given_up_at, got_at, opened_held, opening_answer, passed, received_held, ticked_held};
+ghost use Rattle.pldm_requester.specs.Steps.{IsHeld, again_at, given_up_at, got_at, opened_held, opening_answer, received_held, ticked_held};
 ghost use Rattle.pldm_requester.specs.Slots.{held_of};
-ghost use Rattle.mctp_schedule.specs.Askers.{HasAnswer, HasPacket, IsSent, ReportsReply};
+ghost use Rattle.mctp_schedule.specs.Askers.{HasPacket, IsAnswered, IsSent, TellsAnswer};
 ghost use Rattle.mctp_schedule.specs.Entries.{numbered};
-ghost use Rattle.pldm_requester.specs.Courses as courses;
 
-use crate::Delivery;
-use crate::stored_message::{ShortMessage, StoredMessage};
+use crate::stored_message::ShortMessage;
 use mctp_packet::{HEADER, Memory, Moment, PacketRef};
 use pldm_requester::{Due, Got, OpenFault, Requester, Status};
 use pldm_wire::{Command, MAX_REQUEST_BYTES};
@@ -48,21 +46,13 @@ pub(crate) struct SentRequest {
     pub(crate) message: ShortMessage<MAX_REQUEST_BYTES>,
 }
 
-/// What a packet that came to an asker gave.
-#[derive(Drop)]
-pub(crate) struct ReceivedPacket {
-    pub(crate) got: Got,
-    /// The request that it answered.
-    pub(crate) answered: Option<AnsweredRequest>,
-}
-
 /// A request that was answered.
 #[derive(Drop)]
-pub(crate) struct AnsweredRequest {
+pub(crate) struct AnsweredRequest<'a> {
     /// Its number over all requests.
     pub(crate) number: u64,
-    /// The message that answered it.
-    pub(crate) message: StoredMessage,
+    /// The message that answered it, where its requester remembers it.
+    pub(crate) message: &'a [u8],
 }
 
 impl Asker {
@@ -145,58 +135,28 @@ impl Asker {
         self.requester.count()
     }
 
-    /// Takes a packet. The bytes of an answer that it completes lie where the answer of `sent` does, if both are
-    /// the same.
-    pub(crate) fn receive(
-        &mut self,
-        alloc: Global,
-        now: Moment,
-        packet: &PacketRef<'_>,
-        sent: &Delivery,
-    ) -> Result<ReceivedPacket, Memory>
-        requires moment { (held_of self.old.station).last ≤ now }
-        requires all { length self.old.numbers ≡ (held_of self.old.station).count }
-        ensures got { IfOk result (λ received. received.got ≡ got_at (held_of self.old.station) (written packet.now)) }
-        ensures answered { IfOk result (λ received. ReportsReply self.old.numbers (arrived_by (held_of self.old.station)
-            (passed (held_of self.old.station) (written packet.now))) received.answered) }
+    /// Takes a packet.
+    pub(crate) fn receive(&mut self, now: Moment, packet: &PacketRef<'_>) -> Result<Got, Memory>
+        requires { (held_of self.old.station).last ≤ now }
+        ensures got { IfOk result (λ got. got ≡ got_at (held_of self.old.station) (written packet.now)) }
         ensures held { OnOk result (IsHeld (held_of self.new.station) (received_held (held_of self.old.station) now
             (written packet.now))) }
         ensures numbers { OnOk result (self.new.numbers ≡ self.old.numbers) }
     {
-        let got = self.requester.receive_read(now, packet)?;
-        let Got::Answered(own) = got else {
-            return Ok(ReceivedPacket {
-                got,
-                answered: None,
-            });
-        };
-        let answered = self.store_answer(alloc, own, sent)?;
-        Ok(ReceivedPacket {
-            got,
-            answered: Some(answered),
-        })
+        self.requester.receive_read(now, packet)
     }
 
-    /// Stores the answer to a request that has one. It lies where the answer of `sent` does, if both are the
-    /// same.
-    fn store_answer(
-        &self,
-        alloc: Global,
-        own: u64,
-        sent: &Delivery,
-    ) -> Result<AnsweredRequest, Memory>
-        requires answer { HasAnswer (held_of self.now.station) own }
-        requires one { own < length self.now.numbers }
-        ensures number { IfOk result (λ answered. answered.number ≡ slice_index self.now.numbers own) }
-        ensures message { IfOk result (λ answered. option_map (λ memo. memo.course.progress)
-            ((held_of self.now.station).remembered own) ≡ Some (courses.Answered answered.message)) }
+    /// The request that was answered, where a packet gave this.
+    pub(crate) fn answered(&self, got: Got) -> Option<AnsweredRequest<'_>>
+        requires { IsAnswered self.now got }
+        ensures { TellsAnswer self.now got result }
     {
+        let Got::Answered(own) = got else {
+            return None;
+        };
         let number = self.numbers[own as usize];
         match self.requester.status(own) {
-            Some(Status::Answered(message)) => {
-                let message = StoredMessage::new(alloc, message, Some(sent))?;
-                Ok(AnsweredRequest { number, message })
-            }
+            Some(Status::Answered(message)) => Some(AnsweredRequest { number, message }),
             _ => unreachable!(),
         }
     }

@@ -230,22 +230,25 @@ impl<P: Platform> Ends<P> {
     {
         pldm_requester::laws::looks_back();
         let journal = &self.journal;
-        let Some((handed, sent)) = journal.latest_answer_packet(number, packet, busy) else {
+        let Some(handed) = journal.latest_answer_packet(number, packet, busy) else {
             self.journal.enter(Entry::Nothing)?;
             return Ok(());
         };
         let request = &journal.requests[number as usize];
         let own = request.number();
-        let (in_time, received) = match &mut self.places[usize::from(request.requester().get())] {
+        let (in_time, got, answered) = match &mut self.places[usize::from(
+            request.requester().get(),
+        )] {
             Some(asker) => {
                 // The request's tag is its own until the requester has opened TAGS requests more.
                 let in_time = asker.count().saturating_sub(u64::from(TAGS)) <= own;
-                (in_time, asker.receive(self.alloc, now, &handed, sent)?)
+                let got = asker.receive(now, &handed)?;
+                (in_time, got, asker.answered(got))
             }
             None => unreachable!(),
         };
         self.journal
-            .enter_received(in_time, received.got, received.answered)?;
+            .enter_received(number, busy, in_time, got, answered)?;
         Ok(())
     }
 

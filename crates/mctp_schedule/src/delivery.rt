@@ -6,7 +6,7 @@ ghost use Rattle.mctp_packet.specs.Packets.{written};
 ghost use Rattle.pldm_responder.specs.Answering.{answering};
 ghost use Rattle.mctp_schedule.specs.Deliveries.{ComesTo, packet_of_outcome};
 
-use crate::stored_message::{MAX_SHORT, ShortMessage, StoredBytes, StoredMessage};
+use crate::stored_message::{MAX_SHORT, ShortMessage, share_or_store};
 use mctp_packet::{MAX_PACKET_BYTES, Memory, PacketRef, packet_at, write};
 use pldm_responder::MessageOutcome;
 use std::alloc::Global;
@@ -50,7 +50,9 @@ impl Model for Delivery {
 
 impl Delivery {
     /// The delivery of which this became, where `reply` is the message that answers it. Its bytes lie where
-    /// those of the answer of `last` do if both are the same.
+    /// those of the answer of `last` do if both are long and the same.
+    // Inlined: it is then made where it is pushed.
+    #[inline(always)]
     pub(crate) fn new(
         alloc: Global,
         taken: MessageOutcome,
@@ -60,12 +62,16 @@ impl Delivery {
         ensures { IfOk result (λ delivery. delivery ≡ answering reply.now taken) }
     {
         let reply = match &taken {
-            MessageOutcome::Answered { .. } => StoredMessage::new(alloc, reply, last)?,
-            _ => StoredMessage::new(alloc, &[], None)?, // takes no memory
+            MessageOutcome::Answered { .. } => reply,
+            _ => &[],
         };
-        let kept = match reply.into_bytes() {
-            StoredBytes::Short(reply) => KeptDelivery::Short { taken, reply },
-            StoredBytes::Shared(reply) => KeptDelivery::Shared { taken, reply },
+        // Most answers are short: those ask for no memory, so their length is looked at first.
+        let kept = if reply.len() <= MAX_SHORT {
+            let reply = ShortMessage::new(reply);
+            KeptDelivery::Short { taken, reply }
+        } else {
+            let reply = share_or_store(alloc, reply, last)?;
+            KeptDelivery::Shared { taken, reply }
         };
         Ok(Delivery { kept })
     }

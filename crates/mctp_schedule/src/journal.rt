@@ -128,19 +128,18 @@ impl Journal {
         self.requests[number as usize].packet(header)
     }
 
-    /// A packet of the latest answer to a request, a busy one or not, and the delivery that brought that answer.
+    /// A packet of the latest answer to a request, a busy one or not.
     pub(crate) fn latest_answer_packet(
         &self,
         number: u64,
         packet: u8,
         busy: bool,
-    ) -> Option<(PacketRef<'_>, &Delivery)>
-        ensures { option_map (λ found. written found.0) result ≡ packet_at self.now.entries packet busy
+    ) -> Option<PacketRef<'_>>
+        ensures { option_map (λ found. written found) result ≡ packet_at self.now.entries packet busy
             (slice_get self.now.traffic.items number) }
     {
         let delivery = self.latest_delivery(number, busy)?;
-        let packet = delivery.answer_packet(usize::from(packet))?;
-        Some((packet, delivery))
+        delivery.answer_packet(usize::from(packet))
     }
 
     /// The delivery that brought the latest answer to a request, a busy one or not.
@@ -148,8 +147,7 @@ impl Journal {
         ensures { option_and_then (λ delivery. packets_of_outcome delivery.now) result ≡ latest_packets
             self.now.entries busy (slice_get self.now.traffic.items number) }
     {
-        let traffic = self.traffic.get(number as usize)?;
-        self.entries.delivery(traffic.latest_place(busy)?)
+        delivery_in(&self.entries, &self.traffic, number, busy)
     }
 
     /// Writes down what came of a step that told nothing of a request.
@@ -274,26 +272,43 @@ impl Journal {
         self.traffic[number as usize].set_latest_place(place, busy);
     }
 
-    /// Writes down what a requester got.
+    /// Writes down what a requester got from a packet of the latest answer to the request `sent`, a busy one or not.
     pub(crate) fn enter_received(
         &mut self,
+        sent: u64,
+        busy: bool,
         in_time: bool,
         got: Got,
-        answered: Option<AnsweredRequest>,
+        answered: Option<AnsweredRequest<'_>>,
     ) -> Result<(), Memory>
         requires { IfSome answered (λ a. a.number < length self.old.requests.items) }
         ensures entries { OnOk result (self.new.entries ≡ self.old.entries ++ Entry.Received got ∷ []) }
         ensures all { OnOk result (length self.new.requests.items ≡ length self.old.requests.items) }
         ensures requests { OnOk result ((k : ℕ) → slice_get self.new.requests.items k ≡ option_map
-            (answered_as answered k) (slice_get self.old.requests.items k)) }
+            (answered_as answered.entry k) (slice_get self.old.requests.items k)) }
         ensures traffic { OnOk result (self.new.traffic.items ≡ self.old.traffic.items) }
         ensures order { OnOk result (self.new.order.items ≡ self.old.order.items) }
         ensures timely { OnOk result (self.new.timely ≡ (in_time && self.old.timely)) }
     {
         if let Some(AnsweredRequest { number, message }) = answered {
-            self.requests[number as usize].answer(message);
+            let delivery = delivery_in(&self.entries, &self.traffic, sent, busy);
+            self.requests[number as usize].answer(self.alloc, message, delivery)?;
         }
         self.timely = in_time && self.timely;
         self.enter(Entry::Received(got))
     }
+}
+
+/// As [`Journal::latest_delivery`], with what it needs of a journal.
+fn delivery_in<'a>(
+    entries: &'a Entries,
+    traffic: &[Traffic],
+    number: u64,
+    busy: bool,
+) -> Option<&'a Delivery>
+    ensures { option_and_then (λ delivery. packets_of_outcome delivery.now) result ≡ latest_packets
+        entries.now busy (slice_get traffic.now number) }
+{
+    let place = traffic.get(number as usize)?.latest_place(busy)?;
+    entries.delivery(place)
 }

@@ -1,17 +1,19 @@
 //! A request that was opened, as a report tells it.
 
-ghost use Rattle.std.specs.Prelude.{◌≡◌, ◌++◌, ◌%◌};
+ghost use Rattle.std.specs.Prelude.{◌≡◌, ◌++◌, ◌%◌, OnOk};
 ghost use Rattle.pldm_requester.specs.Courses.{GaveUp, Answered};
 ghost use Rattle.pldm_requester.specs.Numbering.{id_of, tag_of};
 ghost use Rattle.pldm_requester.specs.RequestProgress.{progress_in_status};
 ghost use Rattle.mctp_schedule.specs.Requests.{begun, with_progress};
 
+use crate::Delivery;
 use crate::askers::MAX_REQUEST_PACKET_BYTES;
-use crate::stored_message::{MAX_SHORT, ShortMessage, StoredBytes, StoredMessage};
+use crate::stored_message::{MAX_SHORT, ShortMessage, share_or_store};
 use arrayvec::ArrayVec;
-use mctp_packet::{Eid, HEADER, Moment, TAGS, Tag};
+use mctp_packet::{Eid, HEADER, Memory, Moment, TAGS, Tag};
 use pldm_requester::Status;
 use pldm_wire::{INSTANCE_IDS, MAX_REQUEST_BYTES};
+use std::alloc::Global;
 use std::marker::Model;
 use std::rc::RcSlice;
 
@@ -145,13 +147,26 @@ impl OpenedRequest {
         self.progress = Progress::GaveUp;
     }
 
-    /// It is answered.
-    pub(crate) fn answer(&mut self, message: StoredMessage)
-        ensures { self.new ≡ with_progress (Answered message) self.old }
+    /// It is answered by this message. Its bytes lie where those of the answer of `sent` do if both are long and the
+    /// same.
+    pub(crate) fn answer(
+        &mut self,
+        alloc: Global,
+        message: &[u8],
+        sent: Option<&Delivery>,
+    ) -> Result<(), Memory>
+        ensures { OnOk result (self.new ≡ with_progress (Answered message.now) self.old) }
     {
-        self.progress = match message.into_bytes() {
-            StoredBytes::Short(message) => Progress::AnsweredShort(message),
-            StoredBytes::Shared(message) => Progress::AnsweredShared(message),
-        };
+        if message.len() > MAX_SHORT {
+            self.progress = Progress::AnsweredShared(share_or_store(alloc, message, sent)?);
+            return Ok(());
+        }
+        // Its bytes are written where they stay, so that they are not moved.
+        self.progress = Progress::AnsweredShort(ShortMessage::empty());
+        match &mut self.progress {
+            Progress::AnsweredShort(short) => short.set(message),
+            _ => unreachable!(),
+        }
+        Ok(())
     }
 }

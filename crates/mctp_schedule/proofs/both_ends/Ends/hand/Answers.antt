@@ -21,6 +21,7 @@ use Rattle.mctp_schedule.proofs.FoundRequester.{finds, its_side}
 use Rattle.mctp_schedule.proofs.HandedAnswerPackets.{asked_of, done_is, entry_is, not_some, timely_is, written as brought}
 use Rattle.mctp_schedule.proofs.ListPlaces.{get_or, or_get}
 use Rattle.mctp_schedule.proofs.AfterAnswerPacket.{hand_runs, tag_kept, told_below}
+use Rattle.mctp_schedule.proofs.AskerCalls.{is_answered, reports_reply}
 use Rattle.mctp_schedule.proofs.both_ends.Ends.hand.Goals as goal
 
 pub returns-in_default : goal.returns-in_default
@@ -31,7 +32,7 @@ returns-in_default g c = record {
       let k = c.args.number in
       let journal = c.args.self.now.journal in
       let nothing = not_some c.latest_answer_packet.result c.in_default.not-Some in
-      let brings = sym (brought setting past (held_by c.args.self.now) running c.args.busy k c.args.packet c.requires.first) ∙ sym c.latest_answer_packet.ensures ∙ ap (option_map (λ found. written found.0)) nothing in
+      let brings = sym (brought setting past (held_by c.args.self.now) running c.args.busy k c.args.packet c.requires.first) ∙ sym c.latest_answer_packet.ensures ∙ ap (option_map (λ found. written found)) nothing in
       let entered = c.in_ok-enter.ensures in
       nothing_runs setting past (held_by c.args.self.now) c.enter.new.self running c.args.now may.later (answer_action c.args.busy k c.args.packet)
       (done_is setting w c.args.busy c.args.now k c.args.packet ∙ ap (handed setting w c.args.now (source_of (asked_at w.log k))) brings)
@@ -77,8 +78,8 @@ index_mut-requires g c =
     let below = or_within c.args.self.now.places.items f.q.source s.0 s.1 in
     (let at = f.at in omega (arith, below, at))
 
-pub receive-requires-clause-moment : goal.receive-requires-clause-moment
-receive-requires-clause-moment g c =
+pub receive-requires : goal.receive-requires
+receive-requires g c =
     let terms = c.requires.steps.0 in
     let past = c.requires.steps.1 in
     let running = c.requires.steps.2 in
@@ -93,8 +94,8 @@ receive-requires-clause-moment g c =
     let last = ap (λ (x : Side). (held_of x.station).last) same in
     omega (arith, called, later, last)
 
-pub receive-requires-clause-all : goal.receive-requires-clause-all
-receive-requires-clause-all g c =
+pub answered-requires : goal.answered-requires
+answered-requires g c =
     let terms = c.requires.steps.0 in
     let past = c.requires.steps.1 in
     let running = c.requires.steps.2 in
@@ -104,7 +105,10 @@ receive-requires-clause-all g c =
     let found = c.index_mut.result.now in
     let asker = c.in-Some-index_mut.asker in
     let same = place_holds c.args.self.now.places.items f.q.source c.from.result found s.0 asker f.at c.index_mut.ensures.value s.1 c.in-Some-index_mut.is in
-    subst (λ (x : Side). length x.numbers ≡ (held_of x.station).count) (sym same) (ap (λ (xs : List ℕ). length xs) s.2.numbers ∙ s.2.counted ∙ sym s.2.left.count)
+    let gave = c.in_ok-got-in-Some-index_mut in
+    let received = gave.ensures in
+    is_answered asker c.receive.new.self c.args.now (written c.in-Some.handed) gave.got received.held received.got received.numbers
+    (subst (λ (x : Side). length x.numbers ≡ (held_of x.station).count) (sym same) (ap (λ (xs : List ℕ). length xs) s.2.numbers ∙ s.2.counted ∙ sym s.2.left.count))
 
 pub unreachable-requires : goal.unreachable-requires
 unreachable-requires g c =
@@ -131,10 +135,9 @@ enter_received-requires g c =
     let found = c.index_mut.result.now in
     let asker = c.in-Some-index_mut.asker in
     let same = place_holds c.args.self.now.places.items f.q.source c.from.result found s.0 asker f.at c.index_mut.ensures.value s.1 c.in-Some-index_mut.is in
-    let received = c.in_ok-receive-in-Some-index_mut.ensures in
-    let taken = c.in_ok-receive-in-Some-index_mut.field-0 in
-    told_below setting (world setting past) (time_now past) f.q.source s.0 s.2 (written c.in-Some.handed) taken.answered (length c.args.self.now.journal.requests.items) (sym running.counted)
-    (subst (λ (x : Side). ReportsReply x.numbers (arrived_by (held_of x.station) (passed (held_of x.station) (written c.in-Some.handed))) taken.answered) same received.answered)
+    let gave = c.in_ok-got-in-Some-index_mut in
+    told_below setting (world setting past) (time_now past) f.q.source s.0 s.2 (written c.in-Some.handed) c.answered.result (length c.args.self.now.journal.requests.items) (sym running.counted)
+    (subst (λ (x : Side). ReportsReply x.numbers (arrived_by (held_of x.station) (passed (held_of x.station) (written c.in-Some.handed))) c.answered.result) same (reports_reply asker c.receive.new.self c.args.now (written c.in-Some.handed) gave.got gave.ensures.held gave.ensures.got gave.ensures.numbers c.answered.result c.answered.ensures))
 
 pub returns : goal.returns
 returns g c = record {
@@ -145,21 +148,21 @@ returns g c = record {
       let found = c.index_mut.result.now in
       let asker = c.in-Some-index_mut.asker in
       let same = place_holds c.args.self.now.places.items f.q.source c.from.result found s.0 asker f.at c.index_mut.ensures.value s.1 c.in-Some-index_mut.is in
-      let received = c.in_ok-receive-in-Some-index_mut.ensures in
-      let taken = c.in_ok-receive-in-Some-index_mut.field-0 in
+      let gave = c.in_ok-got-in-Some-index_mut in
+      let received = gave.ensures in
       let entered = c.in_ok-enter_received.ensures in
       let own = c.number-own.ensures ∙ ap (λ (x : Request). x.asked.own) f.request_is in
       let count = c.count.ensures ∙ ap (λ (x : Side). (held_of x.station).count) same in
       let before : c.saturating_sub.result ≡ c.count.result - 8 = (let sub = c.saturating_sub.ensures in let eight = c.from-in-Some-index_mut.ensures in omega (arith, sub, eight)) in
       subst (λ i. IsRunning setting (record { moment = c.args.now; action = answer_action c.args.busy c.args.number c.args.packet } ∷ past) (with_side (held_by c.args.self.now) i c.receive.new.self c.enter_received.new.self)) (sym f.at)
       (hand_runs setting past (held_by c.args.self.now) c.enter_received.new.self running c.args.now may.later
-      c.args.busy c.args.number c.args.packet (written c.in-Some.handed) f.q f.is f.brings c.receive.new.self taken.got taken.answered (nat_le c.saturating_sub.result c.number-own.result)
+      c.args.busy c.args.number c.args.packet (written c.in-Some.handed) f.q f.is f.brings c.receive.new.self gave.got c.answered.result (nat_le c.saturating_sub.result c.number-own.result)
       c.looks_back.ensures.receive c.looks_back.ensures.same
       (record {
         same_numbers = received.numbers ∙ ap (λ (x : Side). x.numbers) same;
         new_held = subst (λ (x : Side). IsHeld (held_of c.receive.new.self.station) (received_held (held_of x.station) c.args.now (written c.in-Some.handed))) same received.held;
         got_is = received.got ∙ ap (λ (x : Side). got_at (held_of x.station) (written c.in-Some.handed)) same;
-        tells = subst (λ (x : Side). ReportsReply x.numbers (arrived_by (held_of x.station) (passed (held_of x.station) (written c.in-Some.handed))) taken.answered) same received.answered;
+        tells = subst (λ (x : Side). ReportsReply x.numbers (arrived_by (held_of x.station) (passed (held_of x.station) (written c.in-Some.handed))) c.answered.result) same (reports_reply asker c.receive.new.self c.args.now (written c.in-Some.handed) gave.got received.held received.got received.numbers c.answered.result c.answered.ensures);
         time_is = ap (λ n. nat_le n c.number-own.result) before ∙ ap (nat_le (c.count.result - 8)) own ∙ tag_kept c.count.result f.q.own ∙ ap (λ n. nat_le n (f.q.own + 8)) count;
         requests = entered.requests;
         counted = entered.all;
