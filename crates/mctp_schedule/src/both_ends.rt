@@ -11,12 +11,14 @@ ghost use Rattle.mctp_schedule.specs.Runs.{newest_first, setting_of_run};
 ghost use Rattle.schedule_text.specs.StepColumns.{borrowed_step};
 ghost use Rattle.schedule_text.specs.declared.step.Action.TheVariants as actions;
 
+use crate::askers::MAX_REQUEST_PACKET_BYTES;
 use crate::journal::Journal;
 use crate::laws::{
     fresh_deliveries_are_first, logs_are_timely, performs_once, requesters_take_the_one_reply,
 };
 use crate::places::{Places, begin_requesters};
 use crate::{ActionRef, Entries, Entry, OpenedRequest, RunFault, Schedule, StepRef};
+use arrayvec::ArrayVec;
 use mctp_packet::{Body, Eid, Keep, Memory, Moment, TAGS};
 use pldm_platform::Platform;
 use pldm_responder::Responder;
@@ -98,6 +100,7 @@ pub fn run<P: Platform>(
         responder: Responder::new(alloc, eid, keep, device),
         places: begin_requesters(alloc, eid, keep, schedule.requesters())?,
         journal: Journal::new(alloc),
+        packet: ArrayVec::new(),
         reply: Body::new(),
     };
     for step in schedule.steps().iter() {
@@ -133,6 +136,9 @@ struct Ends<P: Platform> {
     responder: Responder<P>,
     places: Places,
     journal: Journal,
+    /// Where the packet of a request is put that comes to the device. There is one room for the whole run, as for the
+    /// reply.
+    packet: ArrayVec<u8, MAX_REQUEST_PACKET_BYTES>,
     /// Where the responder puts the message that answers a packet. Its room is large, so there is one for
     /// the whole run and none is passed by value.
     reply: Body,
@@ -211,10 +217,10 @@ impl<P: Platform> Ends<P> {
         let in_time = now.get() < opening.get() + u64::from(self.keep.get());
         // Asked before the packet comes, since the entry tells a busy answer from a copy by it.
         let busy = self.responder.busy(now);
-        let packet = self.journal.request_packet(number);
+        self.journal.write_request_packet(number, &mut self.packet);
         let taken = self
             .responder
-            .receive_message(now, packet.as_slice(), &mut self.reply)?;
+            .receive_message(now, self.packet.as_slice(), &mut self.reply)?;
         self.journal
             .enter_delivered(number, in_time, busy, taken, &self.reply)?;
         Ok(())

@@ -117,15 +117,19 @@ impl Journal {
         }
     }
 
-    /// The bytes of the packet of a request.
-    pub(crate) fn request_packet(&self, number: u64) -> ArrayVec<u8, MAX_REQUEST_PACKET_BYTES>
+    /// Puts the bytes of the packet of a request in the place of those that `packet` has.
+    pub(crate) fn write_request_packet(
+        &self,
+        number: u64,
+        packet: &mut ArrayVec<u8, MAX_REQUEST_PACKET_BYTES>,
+    )
         requires requests { number < length self.now.requests.items }
         requires traffic { number < length self.now.traffic.items }
-        ensures { Some result.items ≡ packet_of_request (slice_get self.now.traffic.items number)
+        ensures { Some packet.new.items ≡ packet_of_request (slice_get self.now.traffic.items number)
             (slice_get self.now.requests.items number) }
     {
         let header = self.traffic[number as usize].header();
-        self.requests[number as usize].packet(header)
+        self.requests[number as usize].write_packet(header, packet);
     }
 
     /// A packet of the latest answer to a request, a busy one or not.

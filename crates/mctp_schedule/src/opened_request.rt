@@ -118,14 +118,17 @@ impl OpenedRequest {
         self.message.bytes()
     }
 
-    /// The bytes of its packet, which has this header.
-    pub(crate) fn packet(&self, header: &[u8; HEADER]) -> ArrayVec<u8, MAX_REQUEST_PACKET_BYTES>
-        ensures { result.items ≡ header.now ++ self.now.asked.message }
+    /// Puts the bytes of its packet, which has this header, in the place of those that `packet` has.
+    pub(crate) fn write_packet(
+        &self,
+        header: &[u8; HEADER],
+        packet: &mut ArrayVec<u8, MAX_REQUEST_PACKET_BYTES>,
+    )
+        ensures { packet.new.items ≡ header.now ++ self.now.asked.message }
     {
-        let mut packet = ArrayVec::new();
+        packet.clear();
         packet.try_extend_from_slice(header).unwrap();
         packet.try_extend_from_slice(self.message.bytes()).unwrap();
-        packet
     }
 
     /// How it stands.

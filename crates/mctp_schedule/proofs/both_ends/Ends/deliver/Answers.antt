@@ -66,7 +66,7 @@ returns g c = record {
       asked.0 asked.1 c.receive_message.new.self c.as_slice.result.now (answering c.deref.result.now c.in_ok-taken.taken) c.busy-busy.result (nat_lt c.get.result (c.get-2.result + c.from.result))
       c.looks_back.ensures.received c.looks_back.ensures.same c.bytes_spell_one_packet.ensures.written c.reading_is_spelling.ensures.read_for
       (record {
-        packet_is = c.as_slice.ensures.value ∙ carried_packet setting past (held_by c.args.self.now) running c.args.number asked.0 asked.1 c.request_packet-packet.result.items c.request_packet-packet.ensures;
+        packet_is = c.as_slice.ensures.value ∙ carried_packet setting past (held_by c.args.self.now) running c.args.number asked.0 asked.1 c.write_request_packet.new.packet.items c.write_request_packet.ensures;
         new_held = c.in_ok-taken.ensures.held;
         given_outcome = ap (λ message. answering message c.in_ok-taken.taken) c.deref.ensures.0 ∙ c.in_ok-taken.ensures.outcome;
         given_fits = c.in_ok-taken.ensures.fits;
@@ -88,7 +88,7 @@ returns g c = record {
       let asked = asked_some (world setting past).log c.args.number within in
       subst (λ (cs : List Command). g.P.Platform.performed c.args.self.now.responder.platform cs c.receive_message.new.self.platform)
       (delivery_performs setting past (held_by c.args.self.now) running c.args.now c.args.number
-      asked.0 asked.1 c.as_slice.result.now (c.as_slice.ensures.value ∙ carried_packet setting past (held_by c.args.self.now) running c.args.number asked.0 asked.1 c.request_packet-packet.result.items c.request_packet-packet.ensures)
+      asked.0 asked.1 c.as_slice.result.now (c.as_slice.ensures.value ∙ carried_packet setting past (held_by c.args.self.now) running c.args.number asked.0 asked.1 c.write_request_packet.new.packet.items c.write_request_packet.ensures)
       c.bytes_spell_one_packet.ensures.written c.reading_is_spelling.ensures.read_for)
       c.in_ok-taken.ensures.performed;
 }
