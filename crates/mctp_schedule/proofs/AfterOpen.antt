@@ -143,7 +143,7 @@ module _ {P S : Type 0} (setting : Setting S) (past : List Step) (run : HeldRun 
     pub new_held : IsHeld (held_of new.station) (opened_held (held_of (running.sides e has).0.station) moment command)
     pub more_numbers : new.numbers ≡ (running.sides e has).0.numbers ++ length run.journal.requests.items ∷ []
     pub new_entries : journal.entries ≡ run.journal.entries ++ entry.Opened (length run.journal.requests.items) ∷ []
-    pub new_requests : journal.requests.items ≡ run.journal.requests.items ++ begun e sent.own moment sent.message ∷ []
+    pub new_requests : journal.requests.items ≡ run.journal.requests.items ++ begun e sent.own moment sent.message.now ∷ []
     pub new_traffic : journal.traffic.items ≡ run.journal.traffic.items ++ (record { header = sent.header; reply = None; busy = None }) ∷ []
     pub new_order : journal.order.items ≡ run.journal.order.items
     pub timely : journal.timely ≡ run.journal.timely
@@ -182,7 +182,7 @@ module _ {P S : Type 0} (setting : Setting S) (past : List Step) (run : HeldRun 
     own_is : sent.own ≡ before.count
     own_is = x.is_sent.own ∙ s.left.count
 
-    message_is : sent.message ≡ message_of before.count command
+    message_is : sent.message.now ≡ message_of before.count command
     message_is = x.is_sent.message ∙ ap (λ n. message_of n command) s.left.count
 
     numbers_here : numbers_of v.log e ≡ numbers_of w.log e ++ count ∷ []
@@ -262,9 +262,9 @@ module _ {P S : Type 0} (setting : Setting S) (past : List Step) (run : HeldRun 
             ∙ ap (λ (a : Requests). (a.each r.own).course.progress) here
             ∙ ap (λ (y : requester.Request). y.course.progress) (cond-false (r.own == before.count) (new_request moment command) (before.each r.own) (ne_eqb r.own before.count (λ same_own. absurd (omega (arith, low, same_own))))))
 
-    new_stands : begun e sent.own moment sent.message ≡ as_it_stands setting v q
+    new_stands : begun e sent.own moment sent.message.now ≡ as_it_stands setting v q
     new_stands =
-        ap (λ own. begun e own moment sent.message) own_is ∙ ap (begun e before.count moment) message_is
+        ap (λ own. begun e own moment sent.message.now) own_is ∙ ap (begun e before.count moment) message_is
         ∙ ap (λ c. record { asked = q; progress = c })
         (sym (ap (λ (a : Requests). (a.each before.count).course.progress) here ∙ ap (λ (y : requester.Request). y.course.progress) (cond-true (before.count == before.count) (new_request moment command) (before.each before.count) (eq-eqb before.count before.count refl))))
 
@@ -272,26 +272,26 @@ module _ {P S : Type 0} (setting : Setting S) (past : List Step) (run : HeldRun 
     requests_now k = ap (λ rs. slice_get rs k) x.new_requests ∙ go (cases_eq k count)
       where
         r : Request
-        r = begun e sent.own moment sent.message
+        r = begun e sent.own moment sent.message.now
 
         older : (o : Option Asked) → asked_at w.log k ≡ o → option_map (as_it_stands setting w) o ≡ option_map (as_it_stands setting v) o
         older None is = refl
         older (Some a) is = ap Some (stands k a is)
 
-        past_end : (k ≡ count → ⊥) → slice_get (run.journal.requests.items ++ begun e sent.own moment sent.message ∷ []) k ≡ slice_get run.journal.requests.items k
+        past_end : (k ≡ count → ⊥) → slice_get (run.journal.requests.items ++ begun e sent.own moment sent.message.now ∷ []) k ≡ slice_get run.journal.requests.items k
         past_end other = at (cases_Bool (nat_lt k (length run.journal.requests.items)))
           where
-            at : (nat_lt k (length run.journal.requests.items) ≡ true) ⊎ (nat_lt k (length run.journal.requests.items) ≡ false) → slice_get (run.journal.requests.items ++ begun e sent.own moment sent.message ∷ []) k ≡ slice_get run.journal.requests.items k
-            at (inl low) = get_front run.journal.requests.items (begun e sent.own moment sent.message) k (ltb-true k (length run.journal.requests.items) low)
+            at : (nat_lt k (length run.journal.requests.items) ≡ true) ⊎ (nat_lt k (length run.journal.requests.items) ≡ false) → slice_get (run.journal.requests.items ++ begun e sent.own moment sent.message.now ∷ []) k ≡ slice_get run.journal.requests.items k
+            at (inl low) = get_front run.journal.requests.items (begun e sent.own moment sent.message.now) k (ltb-true k (length run.journal.requests.items) low)
             at (inr high) =
                 let above = ltb-false k (length run.journal.requests.items) high in
                 let all = running.counted in
-                let more = length_pushed run.journal.requests.items (begun e sent.own moment sent.message) in
-                get_past (run.journal.requests.items ++ begun e sent.own moment sent.message ∷ []) k (omega (arith, above, all, more, other)) ∙ sym (get_past run.journal.requests.items k above)
+                let more = length_pushed run.journal.requests.items (begun e sent.own moment sent.message.now) in
+                get_past (run.journal.requests.items ++ begun e sent.own moment sent.message.now ∷ []) k (omega (arith, above, all, more, other)) ∙ sym (get_past run.journal.requests.items k above)
 
-        go : (k ≡ count) ⊎ (k ≡ count → ⊥) → slice_get (run.journal.requests.items ++ begun e sent.own moment sent.message ∷ []) k ≡ option_map (as_it_stands setting v) (asked_at v.log k)
+        go : (k ≡ count) ⊎ (k ≡ count → ⊥) → slice_get (run.journal.requests.items ++ begun e sent.own moment sent.message.now ∷ []) k ≡ option_map (as_it_stands setting v) (asked_at v.log k)
         go (inl same_k) =
-            ap (slice_get (run.journal.requests.items ++ begun e sent.own moment sent.message ∷ [])) (same_k ∙ sym running.counted) ∙ get_last run.journal.requests.items (begun e sent.own moment sent.message) ∙ ap Some new_stands
+            ap (slice_get (run.journal.requests.items ++ begun e sent.own moment sent.message.now ∷ [])) (same_k ∙ sym running.counted) ∙ get_last run.journal.requests.items (begun e sent.own moment sent.message.now) ∙ ap Some new_stands
             ∙ sym (ap (option_map (as_it_stands setting v)) (ap (asked_at v.log) same_k ∙ asked_here w.log q))
         go (inr other) =
             past_end other ∙ running.requests k ∙ older (asked_at w.log k) refl ∙ sym (ap (option_map (as_it_stands setting v)) (cond-false (k == count) (Some q) (asked_at w.log k) (ne_eqb k count other)))
@@ -356,7 +356,7 @@ module _ {P S : Type 0} (setting : Setting S) (past : List Step) (run : HeldRun 
           sides = λ d known. let y = side_in d known in (y.0, y.1, subst (λ u. IsSide setting u moment d y.0) back y.2);
           opened = λ k r is. opened_at k r back (asked_cases k r (ap (λ (u : World). asked_at u.log k) back ∙ is));
           requests = λ k. requests_now k ∙ ap (λ u. option_map (as_it_stands setting u) (asked_at u.log k)) back;
-          counted = ap (λ (rs : List Request). length rs) x.new_requests ∙ length_pushed run.journal.requests.items (begun e sent.own moment sent.message) ∙ ap suc running.counted ∙ ap (λ (u : World). count_of u.log) back;
+          counted = ap (λ (rs : List Request). length rs) x.new_requests ∙ length_pushed run.journal.requests.items (begun e sent.own moment sent.message.now) ∙ ap suc running.counted ∙ ap (λ (u : World). count_of u.log) back;
           traffic = λ k r is.
               let t = traffic_now k r (ap (λ (u : World). asked_at u.log k) back ∙ is) in
               (t.0, t.1, subst (λ u. IsCarried setting u journal.entries k r t.0) back t.2);

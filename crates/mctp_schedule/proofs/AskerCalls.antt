@@ -1,14 +1,15 @@
 -- What the calls of a requester give, over what it holds.
-use Rattle.std.proofs.Common.{◌≡◌, ℕ, zero, suc, ◌+◌, ◌-◌, ◌%◌, ◌<◌, ◌≤◌, Bool, true, false, List, [], ◌∷◌, length, map, Option, Some, None, Result, Ok, Err, refl, sym, ap, subst, ◌∙◌, arith, eq-eqb}
+use Rattle.std.proofs.Common.{◌≡◌, ℕ, zero, suc, ◌+◌, ◌-◌, ◌%◌, ◌<◌, ◌≤◌, Bool, true, false, List, [], ◌∷◌, ◌++◌, drop, length, map, Option, Some, None, Result, Ok, Err, refl, sym, ap, subst, ◌∙◌, arith, eq-eqb}
 use Rattle.std.specs.Prelude.{◌==◌, ◌&&◌, not, nat_lt, nat_le, filter, option_map, slice_get, slice_index, if◌then◌else◌}
 use Rattle.std.specs.List.{AllByRecursion, range_with_len}
+use Rattle.std.proofs.Math.Seq.{drop-append_seam}
 use Rattle.std.proofs.lemmas.Bool.{cond-true, ltb-true}
 use Rattle.mctp_packet.specs.Packets.{Packet, packet, written}
 use Rattle.mctp_packet.specs.Pieces.{piece, piece_count, written_packets}
 use Rattle.mctp_packet.specs.declared.packet.Route.{Route}
 use Rattle.mctp_packet.specs.declared.reason.Reason.{Reason}
 use Rattle.mctp_packet.specs.declared.reason.Reason.TheVariants.{NotMine, NotReady}
-use Rattle.mctp_packet.specs.declared.TheConstants.{SEQUENCE_NUMBERS, UNIT}
+use Rattle.mctp_packet.specs.declared.TheConstants.{HEADER, SEQUENCE_NUMBERS, UNIT}
 use Rattle.mctp_assembly.specs.Steps as assembly
 use Rattle.mctp_assembly.specs.declared.fed.Fed.{Fed}
 use Rattle.mctp_assembly.specs.declared.fed.Fed.TheVariants as feds
@@ -26,8 +27,9 @@ use Rattle.pldm_requester.specs.Steps.{Held, IsHeld, Memo, arrived_by, goes_to, 
 use Rattle.pldm_requester.specs.declared.results.Got.{Got}
 use Rattle.pldm_requester.specs.declared.results.Got.TheVariants as gots
 use Rattle.pldm_requester.specs.declared.results.Opened.{Opened}
-use Rattle.mctp_schedule.specs.Askers.{IsAnswered, ReportsReply, Side, TellsAnswer, packet_bytes}
+use Rattle.mctp_schedule.specs.Askers.{HasPacket, IsAnswered, IsOpenedAs, IsSent, ReportsReply, Side, TellsAnswer, packet_bytes}
 use Rattle.mctp_schedule.specs.declared.askers.AnsweredRequest.{AnsweredRequest}
+use Rattle.mctp_schedule.specs.declared.askers.SentRequest.{SentRequest}
 use Rattle.mctp_schedule.proofs.ListPlaces.{take_all}
 
 -- ---- a message of one piece is one packet
@@ -66,6 +68,26 @@ sent_packet new held moment number command bytes h same some few here =
     let both : Some (bytes ∷ []) ≡ Some (packet_bytes held.own held.device held.count (message_of held.count command) ∷ []) =
     sym here ∙ opened_packet new held moment number command h same some few in
     cc
+
+-- what is told of it is what its packet tells
+module _ (held new : Held) (moment : ℕ) (command : Command) (own : ℕ) (after : IsHeld new (opened_held held moment command)) (is : IsOpenedAs held moment command own) (some : 0 < length (message_of held.count command)) (few : length (message_of held.count command) ≤ UNIT) where
+  pub has_packet : HasPacket new own
+  has_packet = (
+    packet_bytes held.own held.device held.count (message_of held.count command),
+    opened_packet new held moment own command after is.numbered some few,
+    omega arith,
+  )
+
+  pub sent_is : (sent : SentRequest) → sent.own ≡ own → length sent.header ≡ HEADER → option_map (λ (memo : Memo). memo.packets) (new.remembered own) ≡ Some ((sent.header ++ sent.message.now) ∷ []) → IsSent held moment command sent
+  sent_is sent same header packet =
+      let bytes = sent_packet new held moment own command (sent.header ++ sent.message.now) after is.numbered some few packet in
+      record {
+        opened = is.opened;
+        own = same ∙ is.numbered;
+        message = sym (ap (λ n. drop n (sent.header ++ sent.message.now)) (sym header) ∙ drop-append_seam sent.header sent.message.now) ∙ ap (drop HEADER) bytes;
+        packet = bytes;
+        readable = is.readable;
+      }
 
 -- ---- an answer
 response_number : (mine : ℕ → Response → Bool) (number : ℕ) (message : List ℕ) (read : Result Response Reason) (n : ℕ) (m : List ℕ) → response_arrival mine number message read ≡ Answer n m → number ≡ n

@@ -72,6 +72,10 @@ length_set [] i x = refl
 length_set (y ∷ ys) zero x = refl
 length_set (y ∷ ys) (suc i) x = ap suc (length_set ys i x)
 
+pub set_last : {X : Type 0} (xs : List X) (x y : X) → slice_set (xs ++ x ∷ []) (length xs) y ≡ xs ++ y ∷ []
+set_last [] x y = refl
+set_last (z ∷ xs) x y = ap (λ zs. z ∷ zs) (set_last xs x y)
+
 pub or_set_at : {X : Type 0} (xs : List X) (i : ℕ) (x d : X) → i < length xs → slice_index_or (slice_set xs i x) i d ≡ x
 or_set_at xs i x d h = or_get (slice_set xs i x) i d x (get_set_at xs i x h)
 

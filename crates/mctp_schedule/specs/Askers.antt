@@ -1,7 +1,8 @@
 -- What contracts see of a requester of a run, and what its calls give.
-use Rattle.std.specs.Prelude.{◌≡◌, ⊤, ℕ, ◌<◌, true, List, [], ◌∷◌, ◌++◌, length, Option, Some, None, Ok, option_map, slice_index, refl}
+use Rattle.std.specs.Prelude.{◌≡◌, ⊤, ℕ, ◌<◌, ◌≤◌, true, List, [], ◌∷◌, ◌++◌, length, Option, Some, None, Ok, option_map, slice_index, refl}
 use Rattle.std.specs.Coded.{Coded, code_by, coded×, coded_ℕ, coded_list}
 use Rattle.mctp_packet.specs.Packets.{packet, written}
+use Rattle.mctp_packet.specs.declared.TheConstants.{HEADER}
 use Rattle.pldm_wire.specs.Commands.{IsCommand}
 use Rattle.pldm_wire.specs.declared.command.Command.{Command}
 use Rattle.pldm_requester.specs.Arrivals.{Arrival, Drop, Part, Answer}
@@ -31,19 +32,26 @@ coded_side =
 abbrev pub packet_bytes : ℕ → ℕ → ℕ → List ℕ → List ℕ
 packet_bytes own device number message = written (packet (route_of own device number) true true 0 message)
 
+-- the next request is opened for a command that can be written, and has this number
+pub record IsOpenedAs (held : Held) (moment : ℕ) (command : Command) (own : ℕ) : Type 0 where
+  pub opened : opening_answer held moment ≡ Ok (opened_as held.count)
+  pub numbered : own ≡ held.count
+  pub readable : IsCommand command
+
 -- a request that was opened for a command
 pub record IsSent (held : Held) (moment : ℕ) (command : Command) (sent : SentRequest) : Type 0 where
   pub opened : opening_answer held moment ≡ Ok (opened_as held.count)
   pub own : sent.own ≡ held.count
-  pub message : sent.message ≡ message_of held.count command
-  pub packet : sent.header ++ sent.message
+  pub message : sent.message.now ≡ message_of held.count command
+  pub packet : sent.header ++ sent.message.now
       ≡ packet_bytes held.own held.device held.count (message_of held.count command)
   pub readable : IsCommand command
 
--- a request is remembered, and has one packet
+-- a request is remembered, and has one packet, which has a header
 abbrev pub HasPacket : Held → ℕ → Type 0
 HasPacket held number =
     (bytes : List ℕ) × (option_map (λ memo. memo.packets) (held.remembered number) ≡ Some (bytes ∷ []))
+    × (HEADER ≤ length bytes)
 
 -- a request is remembered, and was answered
 abbrev pub HasAnswer : Held → ℕ → Type 0

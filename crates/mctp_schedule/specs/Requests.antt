@@ -33,6 +33,17 @@ coded_request =
 abbrev pub with_progress : courses.Progress → Request → Request
 with_progress progress request = record { asked = request.asked; progress = progress }
 
+abbrev pub with_message : List ℕ → Request → Request
+with_message message request = record {
+  asked = record {
+    source = request.asked.source;
+    own = request.asked.own;
+    opening = request.asked.opening;
+    message = message;
+  };
+  progress = request.progress;
+}
+
 -- a request that is open
 abbrev pub begun : ℕ → ℕ → ℕ → List ℕ → Request
 begun source own opening message = record {

@@ -5,10 +5,9 @@ ghost use Rattle.std.specs.List.{AllByRecursion};
 ghost use Rattle.mctp_packet.specs.Packets.{written};
 ghost use Rattle.pldm_requester.specs.Steps.{IsHeld, again_at, given_up_at, got_at, opened_held, opening_answer, received_held, ticked_held};
 ghost use Rattle.pldm_requester.specs.Slots.{held_of};
-ghost use Rattle.mctp_schedule.specs.Askers.{HasPacket, IsAnswered, IsSent, TellsAnswer};
+ghost use Rattle.mctp_schedule.specs.Askers.{HasPacket, IsAnswered, IsOpenedAs, TellsAnswer};
 ghost use Rattle.mctp_schedule.specs.Entries.{numbered};
 
-use crate::stored_message::ShortMessage;
 use mctp_packet::{HEADER, Memory, Moment, PacketRef};
 use pldm_requester::{Due, Got, OpenFault, Requester, Status};
 use pldm_wire::{Command, MAX_REQUEST_BYTES};
@@ -37,13 +36,13 @@ impl Model for Asker {
 
 /// A request that an asker opened.
 #[derive(Drop)]
-pub(crate) struct SentRequest {
+pub(crate) struct SentRequest<'a> {
     /// Its number, counted from 0 over the requests of its requester.
     pub(crate) own: u64,
     /// The header of the one packet that carries its message.
     pub(crate) header: [u8; HEADER],
-    /// Its message, which is the rest of that packet.
-    pub(crate) message: ShortMessage<MAX_REQUEST_BYTES>,
+    /// Its message, which is the rest of that packet, where its requester remembers it.
+    pub(crate) message: &'a [u8],
 }
 
 /// A request that was answered.
@@ -66,15 +65,15 @@ impl Asker {
         }
     }
 
-    /// Opens a request, which has the number `number` over all requests.
+    /// Opens a request, which has the number `number` over all requests, and returns its own number.
     pub(crate) fn open(
         &mut self,
         now: Moment,
         command: &Command,
         number: u64,
-    ) -> Result<Result<SentRequest, OpenFault>, Memory>
+    ) -> Result<Result<u64, OpenFault>, Memory>
         requires { (held_of self.old.station).last ≤ now }
-        ensures sent { IfOk result (λ opening. IfOk opening (IsSent (held_of self.old.station) now command.now)) }
+        ensures opened { IfOk result (λ opening. IfOk opening (IsOpenedAs (held_of self.old.station) now command.now)) }
         ensures held { IfOk result (λ opening. OnOk opening (IsHeld (held_of self.new.station)
             (opened_held (held_of self.old.station) now command.now))) }
         ensures numbers { IfOk result (λ opening. OnOk opening (self.new.numbers ≡ self.old.numbers ++ number ∷ [])) }
@@ -83,21 +82,30 @@ impl Asker {
         ensures same { IfOk result (λ opening. IfErr opening (λ fault. IsHeld (held_of self.new.station)
             (held_of self.old.station) × (self.new.numbers ≡ self.old.numbers))) }
     {
-        pldm_wire::laws::messages_fit();
         let opened = match self.requester.open(now, command) {
             Ok(opened) => opened,
             Err(OpenFault::Memory(memory)) => return Err(memory),
             Err(fault) => return Ok(Err(fault)),
         };
-        let packet = self.packet(opened.number);
-        let sent = SentRequest {
-            own: opened.number,
-            header: header_of(packet),
-            message: ShortMessage::new(payload_of(packet)),
-        };
         // At a refused growth the requester has one request more than `numbers`. Nobody sees it: the run ends.
         self.numbers.push(number)?;
-        Ok(Ok(sent))
+        Ok(Ok(opened.number))
+    }
+
+    /// A request that it opened and remembers.
+    pub(crate) fn sent(&self, own: u64) -> SentRequest<'_>
+        requires { HasPacket (held_of self.now.station) own }
+        ensures own { result.own ≡ own }
+        ensures header { length result.header ≡ HEADER }
+        ensures packet { option_map (λ memo. memo.packets) ((held_of self.now.station).remembered own)
+            ≡ Some ((result.header ++ result.message.now) ∷ []) }
+    {
+        let packet = self.packet(own);
+        SentRequest {
+            own,
+            header: header_of(packet),
+            message: payload_of(packet),
+        }
     }
 
     /// The packet of a request that is remembered.

@@ -174,13 +174,12 @@ impl<P: Platform> Ends<P> {
         pldm_wire::laws::commands_are_read_back();
         pldm_wire::laws::messages_fit();
         let number = self.journal.requests.len() as u64; // what the journal will give it
-        let opening = match &mut self.places[usize::from(eid.get())] {
-            Some(asker) => asker.open(now, command, number)?,
+        match &mut self.places[usize::from(eid.get())] {
+            Some(asker) => match asker.open(now, command, number)? {
+                Ok(own) => self.journal.enter_opened(eid, now, asker.sent(own))?,
+                Err(fault) => self.journal.enter(Entry::NotOpened(fault))?,
+            },
             None => unreachable!(),
-        };
-        match opening {
-            Ok(sent) => self.journal.enter_opened(eid, now, sent)?,
-            Err(fault) => self.journal.enter(Entry::NotOpened(fault))?,
         }
         Ok(())
     }

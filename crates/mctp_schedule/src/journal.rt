@@ -1,6 +1,6 @@
 //! What a run writes down as it goes.
 
-ghost use Rattle.std.specs.Prelude.{◌≡◌, ◌+◌, ◌<◌, ◌^◌, ◌++◌, ◌∷◌, [], ◌&&◌, ◌==◌, true, ℕ, None, Some, OnOk, IfSome, length, option_and_then, option_map, slice_get, if◌then◌else◌};
+ghost use Rattle.std.specs.Prelude.{◌≡◌, ◌+◌, ◌≤◌, ◌<◌, ◌^◌, ◌++◌, ◌∷◌, [], ◌&&◌, ◌==◌, true, ℕ, None, Some, OnOk, IfSome, length, option_and_then, option_map, slice_get, if◌then◌else◌};
 ghost use Rattle.std.specs.List.{list_any};
 ghost use Rattle.mctp_packet.specs.Packets.{written};
 ghost use Rattle.pldm_responder.specs.Answering.{answering};
@@ -16,6 +16,7 @@ use arrayvec::ArrayVec;
 use mctp_packet::{Eid, HEADER, Memory, Moment, PacketRef};
 use pldm_requester::{Due, Got};
 use pldm_responder::MessageOutcome;
+use pldm_wire::MAX_REQUEST_BYTES;
 use std::alloc::Global;
 use std::marker::Model;
 
@@ -172,14 +173,15 @@ impl Journal {
         &mut self,
         requester: Eid,
         opening: Moment,
-        sent: SentRequest,
+        sent: SentRequest<'_>,
     ) -> Result<(), Memory>
+        requires { length sent.message.now ≤ MAX_REQUEST_BYTES }
         ensures entries { OnOk result (self.new.entries ≡ self.old.entries ++ Entry.Opened
             (length self.old.requests.items) ∷ []) }
-        ensures requests { OnOk result (self.new.requests.items ≡ self.old.requests.items ++ begun requester sent.own
-            opening sent.message ∷ []) }
+        ensures requests { OnOk result (self.new.requests.items ≡ self.old.requests.items ++ begun requester
+            sent.entry.own opening sent.entry.message.now ∷ []) }
         ensures traffic { OnOk result (self.new.traffic.items ≡ self.old.traffic.items
-            ++ (record { header = sent.header; reply = None; busy = None }) ∷ []) }
+            ++ (record { header = sent.entry.header; reply = None; busy = None }) ∷ []) }
         ensures order { OnOk result (self.new.order.items ≡ self.old.order.items) }
         ensures timely { OnOk result (self.new.timely ≡ self.old.timely) }
     {
@@ -190,7 +192,9 @@ impl Journal {
             message,
         } = sent;
         self.requests
-            .push(OpenedRequest::new(requester, own, opening, message))?;
+            .push(OpenedRequest::new(requester, own, opening))?;
+        // Its message is written where it stays, so that it is not moved.
+        self.requests[number as usize].set_message(message);
         self.traffic.push(Traffic::new(header))?;
         self.enter(Entry::Opened(number))
     }

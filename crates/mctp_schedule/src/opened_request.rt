@@ -1,10 +1,10 @@
 //! A request that was opened, as a report tells it.
 
-ghost use Rattle.std.specs.Prelude.{◌≡◌, ◌++◌, ◌%◌, OnOk};
+ghost use Rattle.std.specs.Prelude.{◌≡◌, ◌≤◌, ◌++◌, ◌%◌, [], OnOk, length};
 ghost use Rattle.pldm_requester.specs.Courses.{GaveUp, Answered};
 ghost use Rattle.pldm_requester.specs.Numbering.{id_of, tag_of};
 ghost use Rattle.pldm_requester.specs.RequestProgress.{progress_in_status};
-ghost use Rattle.mctp_schedule.specs.Requests.{begun, with_progress};
+ghost use Rattle.mctp_schedule.specs.Requests.{begun, with_message, with_progress};
 
 use crate::Delivery;
 use crate::askers::MAX_REQUEST_PACKET_BYTES;
@@ -58,22 +58,25 @@ impl Model for OpenedRequest {
 }
 
 impl OpenedRequest {
-    /// A request that is open.
-    pub(crate) fn new(
-        requester: Eid,
-        number: u64,
-        opening: Moment,
-        message: ShortMessage<MAX_REQUEST_BYTES>,
-    ) -> OpenedRequest
-        ensures { result ≡ begun requester number opening message }
+    /// A request that is open, with no message yet.
+    pub(crate) fn new(requester: Eid, number: u64, opening: Moment) -> OpenedRequest
+        ensures { result ≡ begun requester number opening [] }
     {
         OpenedRequest {
             number,
             opening,
             requester,
-            message,
+            message: ShortMessage::empty(),
             progress: Progress::Waiting,
         }
+    }
+
+    /// Its message is this from now on.
+    pub(crate) fn set_message(&mut self, message: &[u8])
+        requires { length message.now ≤ MAX_REQUEST_BYTES }
+        ensures { self.new ≡ with_message message.now self.old }
+    {
+        self.message.set(message);
     }
 
     /// The endpoint that asks.
