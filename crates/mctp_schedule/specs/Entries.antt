@@ -31,6 +31,13 @@ numbers_of (_ ∷ past) e = numbers_of past e
 abbrev pub numbered : List ℕ → List ℕ → List ℕ
 numbered numbers owns = map (slice_index numbers) owns
 
+-- what is due by own numbers, by numbers over all requests
+abbrev pub due_over_all : List ℕ → DueNumbers → DueNumbers
+due_over_all numbers due = record {
+  again = record { items = numbered numbers due.again.items };
+  given_up = record { items = numbered numbers due.given_up.items };
+}
+
 abbrev pub open_entry : ℕ → Result OpenedAs OpenFault → Entry
 open_entry number (Ok opened) = Opened number
 open_entry number (Err fault) = NotOpened fault

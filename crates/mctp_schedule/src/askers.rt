@@ -6,10 +6,11 @@ ghost use Rattle.mctp_packet.specs.Packets.{written};
 ghost use Rattle.pldm_requester.specs.Steps.{IsHeld, again_at, given_up_at, got_at, opened_held, opening_answer, received_held, ticked_held};
 ghost use Rattle.pldm_requester.specs.Slots.{held_of};
 ghost use Rattle.mctp_schedule.specs.Askers.{HasPacket, IsAnswered, IsOpenedAs, TellsAnswer};
-ghost use Rattle.mctp_schedule.specs.Entries.{numbered};
+ghost use Rattle.mctp_schedule.specs.Entries.{due_over_all, numbered};
 
+use arrayvec::ArrayVec;
 use mctp_packet::{HEADER, Memory, Moment, PacketRef};
-use pldm_requester::{Due, Got, OpenFault, Requester, Status};
+use pldm_requester::{Due, Got, MAX_OPEN, OpenFault, Requester, Status};
 use pldm_wire::{Command, MAX_REQUEST_BYTES};
 use std::alloc::Global;
 use std::marker::Model;
@@ -120,20 +121,22 @@ impl Asker {
         }
     }
 
-    /// Tells what is due, by the numbers over all requests.
+    /// Tells what is due, by own numbers.
     pub(crate) fn tick(&mut self, now: Moment) -> Due
-        requires moment { (held_of self.old.station).last ≤ now }
-        requires all { length self.old.numbers ≡ (held_of self.old.station).count }
-        ensures again { result.again.items ≡ numbered self.old.numbers (again_at (held_of self.old.station) now) }
-        ensures given_up { result.given_up.items ≡ numbered self.old.numbers (given_up_at (held_of self.old.station)
-            now) }
+        requires { (held_of self.old.station).last ≤ now }
+        ensures again { result.again.items ≡ again_at (held_of self.old.station) now }
+        ensures given_up { result.given_up.items ≡ given_up_at (held_of self.old.station) now }
         ensures held { IsHeld (held_of self.new.station) (ticked_held (held_of self.old.station) now) }
         ensures numbers { self.new.numbers ≡ self.old.numbers }
     {
-        let mut due = self.requester.tick(now);
-        number_over_all(&mut due.again, &self.numbers);
-        number_over_all(&mut due.given_up, &self.numbers);
-        due
+        self.requester.tick(now)
+    }
+
+    /// The numbers of its requests over all requests.
+    pub(crate) fn numbers(&self) -> &[u64]
+        ensures { result.now ≡ self.now.numbers }
+    {
+        &self.numbers
     }
 
     /// How many requests it opened.
@@ -186,6 +189,30 @@ fn payload_of(packet: &[u8]) -> &[u8]
     ensures { result.now ≡ drop HEADER packet.now }
 {
     &packet[HEADER..]
+}
+
+/// What is due by own numbers, by the numbers over all requests.
+pub(crate) fn over_all(due: &Due, numbers: &[u64]) -> Due
+    requires again { AllByRecursion (λ own. own < length numbers.now) due.now.again.items }
+    requires given_up { AllByRecursion (λ own. own < length numbers.now) due.now.given_up.items }
+    ensures { result ≡ due_over_all numbers.now due.now }
+{
+    Due {
+        again: numbers_over_all(&due.again, numbers),
+        given_up: numbers_over_all(&due.given_up, numbers),
+    }
+}
+
+/// The numbers over all requests of these own ones.
+fn numbers_over_all(owns: &[u64], numbers: &[u64]) -> ArrayVec<u64, MAX_OPEN>
+    requires few { length owns.now ≤ MAX_OPEN }
+    requires known { AllByRecursion (λ own. own < length numbers.now) owns.now }
+    ensures { result.items ≡ numbered numbers.now owns.now }
+{
+    let mut list = ArrayVec::new();
+    list.try_extend_from_slice(owns).unwrap();
+    number_over_all(&mut list, numbers);
+    list
 }
 
 /// Puts numbers over all requests in the place of own ones.

@@ -192,7 +192,10 @@ impl<P: Platform> Ends<P> {
     {
         pldm_requester::laws::looks_back();
         match &mut self.places[usize::from(eid.get())] {
-            Some(asker) => self.journal.enter_due(asker.tick(now))?,
+            Some(asker) => {
+                let due = asker.tick(now);
+                self.journal.enter_due(&due, asker.numbers())?;
+            }
             None => unreachable!(),
         }
         Ok(())

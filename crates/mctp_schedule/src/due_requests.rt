@@ -1,7 +1,7 @@
 //! What a tick found due.
 
 ghost use Rattle.std.specs.Prelude.{◌≡◌, IfOk};
-ghost use Rattle.mctp_schedule.specs.DueNumbers.{found_nothing};
+ghost use Rattle.mctp_schedule.specs.DueNumbers.{found_nothing, nothing_due};
 
 use mctp_packet::Memory;
 use pldm_requester::Due;
@@ -26,13 +26,17 @@ impl Model for DueRequests {
 }
 
 impl DueRequests {
+    /// None. It takes no memory.
+    pub(crate) fn none() -> DueRequests
+        ensures { result ≡ nothing_due }
+    {
+        DueRequests { due: None }
+    }
+
     /// The requests of these numbers.
     pub(crate) fn new(alloc: Global, due: Due) -> Result<DueRequests, Memory>
         ensures { IfOk result (λ requests. requests ≡ due) }
     {
-        if due.again.is_empty() && due.given_up.is_empty() {
-            return Ok(DueRequests { due: None });
-        }
         let due = Some(Box::new(alloc, due)?);
         Ok(DueRequests { due })
     }

@@ -1,15 +1,16 @@
 //! What a run writes down as it goes.
 
 ghost use Rattle.std.specs.Prelude.{◌≡◌, ◌+◌, ◌≤◌, ◌<◌, ◌^◌, ◌++◌, ◌∷◌, [], ◌&&◌, ◌==◌, true, ℕ, None, Some, OnOk, IfSome, length, option_and_then, option_map, slice_get, if◌then◌else◌};
-ghost use Rattle.std.specs.List.{list_any};
+ghost use Rattle.std.specs.List.{AllByRecursion, list_any};
 ghost use Rattle.mctp_packet.specs.Packets.{written};
 ghost use Rattle.pldm_responder.specs.Answering.{answering};
 ghost use Rattle.mctp_schedule.specs.Deliveries.{packets_of_outcome};
+ghost use Rattle.mctp_schedule.specs.Entries.{due_over_all, numbered};
 ghost use Rattle.mctp_schedule.specs.EntryColumns.{outcomes_in};
 ghost use Rattle.mctp_schedule.specs.Journals.{answered_as, answers_at, fresh_numbers, latest_packets, packet_at, packet_of_request, place_of, progress_after};
 ghost use Rattle.mctp_schedule.specs.Requests.{begun};
 
-use crate::askers::{AnsweredRequest, MAX_REQUEST_PACKET_BYTES, SentRequest};
+use crate::askers::{AnsweredRequest, MAX_REQUEST_PACKET_BYTES, SentRequest, over_all};
 use crate::delivery_place::DeliveryPlace;
 use crate::{Delivery, DueRequests, Entries, Entry, OpenedRequest};
 use arrayvec::ArrayVec;
@@ -199,8 +200,31 @@ impl Journal {
         self.enter(Entry::Opened(number))
     }
 
-    /// Writes down what a tick found due.
-    pub(crate) fn enter_due(&mut self, due: Due) -> Result<(), Memory>
+    /// Writes down what a tick found due at a requester, whose requests have these numbers over all requests.
+    pub(crate) fn enter_due(&mut self, due: &Due, numbers: &[u64]) -> Result<(), Memory>
+        requires again { AllByRecursion (λ own. own < length numbers.now) due.now.again.items }
+        requires given_up { AllByRecursion (λ own. own < length numbers.now) due.now.given_up.items }
+        requires opened { (number : ℕ) → list_any (λ n. n == number) (numbered numbers.now due.now.given_up.items)
+            ≡ true → number < length self.old.requests.items }
+        ensures entries { OnOk result (self.new.entries ≡ self.old.entries ++ Entry.Due (due_over_all numbers.now
+            due.now) ∷ []) }
+        ensures all { OnOk result (length self.new.requests.items ≡ length self.old.requests.items) }
+        ensures requests { OnOk result ((number : ℕ) → slice_get self.new.requests.items number ≡ option_map
+            (progress_after (numbered numbers.now due.now.given_up.items) number)
+            (slice_get self.old.requests.items number)) }
+        ensures traffic { OnOk result (self.new.traffic.items ≡ self.old.traffic.items) }
+        ensures order { OnOk result (self.new.order.items ≡ self.old.order.items) }
+        ensures timely { OnOk result (self.new.timely ≡ self.old.timely) }
+    {
+        // Most ticks find nothing: that is asked before what is due is moved anywhere.
+        if due.again.is_empty() && due.given_up.is_empty() {
+            return self.enter(Entry::Due(DueRequests::none()));
+        }
+        self.enter_some_due(over_all(due, numbers))
+    }
+
+    /// Writes down what a tick found due, by numbers over all requests.
+    fn enter_some_due(&mut self, due: Due) -> Result<(), Memory>
         requires { (number : ℕ) → list_any (λ n. n == number) due.given_up.items ≡ true → number < length
             self.old.requests.items }
         ensures entries { OnOk result (self.new.entries ≡ self.old.entries ++ Entry.Due due ∷ []) }

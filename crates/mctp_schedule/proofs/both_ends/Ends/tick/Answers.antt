@@ -1,13 +1,13 @@
 -- A tick is one more call of its requester.
-use Rattle.std.proofs.Common.{◌≡◌, ◌<◌, ◌∷◌, length, Some, sym, ap, subst, ◌∙◌, arith}
+use Rattle.std.proofs.Common.{◌≡◌, ℕ, ◌<◌, List, ◌∷◌, length, Some, sym, ap, subst, ◌∙◌, arith}
 use Rattle.std.specs.Prelude.{◌==◌, true, slice_index}
-use Rattle.std.specs.List.{list_any}
+use Rattle.std.specs.List.{AllByRecursion, list_any}
 use Rattle.pldm_responder.specs.Performing.{rules_of}
-use Rattle.pldm_requester.specs.Courses.{is_given_up}
+use Rattle.pldm_requester.specs.Courses.{is_given_up, is_sent_again}
 use Rattle.pldm_requester.specs.Slots.{held_of}
 use Rattle.pldm_requester.specs.Steps.{IsHeld, again_at, given_up_at, passes, ticked_held}
 use Rattle.mctp_schedule.specs.Askers.{Side}
-use Rattle.mctp_schedule.specs.Entries.{numbered, numbers_of}
+use Rattle.mctp_schedule.specs.Entries.{due_over_all, numbered, numbers_of}
 use Rattle.mctp_schedule.specs.HeldRuns.{held_by}
 use Rattle.mctp_schedule.specs.Running.{IsRunning, setting_of}
 use Rattle.mctp_schedule.specs.Worlds.{world}
@@ -19,8 +19,40 @@ use Rattle.mctp_schedule.proofs.NumberedRequests.{get_index, listed_own}
 use Rattle.mctp_schedule.proofs.AfterTick.{tick_runs}
 use Rattle.mctp_schedule.proofs.both_ends.Ends.tick.Goals as goal
 
-pub enter_due-requires : goal.enter_due-requires
-enter_due-requires g c = λ number listed.
+pub enter_due-requires-clause-again : goal.enter_due-requires-clause-again
+enter_due-requires-clause-again g c =
+    let terms = c.requires.0 in
+    let past = c.requires.1 in
+    let running = c.requires.2 in
+    let may = c.requires.3 in
+    let e = c.args.eid in
+    let s = running.sides e may.known in
+    let asker = c.in-Some.asker in
+    let same = place_holds c.args.self.now.places.items e c.from.result c.index_mut.result.now s.0 asker (c.from.ensures ∙ c.get.ensures.value) c.index_mut.ensures.value s.1 c.in-Some.is in
+    let held = held_of asker.station in
+    let all : length asker.numbers ≡ held.count = subst (λ (x : Side). length x.numbers ≡ (held_of x.station).count) (sym same) (ap (λ (xs : List ℕ). length xs) s.2.numbers ∙ s.2.counted ∙ sym s.2.left.count) in
+    let many : length c.numbers.result.now ≡ held.count = ap (λ (xs : List ℕ). length xs) (c.numbers.ensures ∙ c.tick-due.ensures.numbers) ∙ all in
+    subst (λ n. AllByRecursion (λ own. own < n) c.tick-due.result.again.items) (sym many)
+    (subst (AllByRecursion (λ own. own < held.count)) (sym c.tick-due.ensures.again) (recent_below held.count (λ n. passes (is_sent_again held.timing c.args.now) (held.remembered n))))
+
+pub enter_due-requires-clause-given_up : goal.enter_due-requires-clause-given_up
+enter_due-requires-clause-given_up g c =
+    let terms = c.requires.0 in
+    let past = c.requires.1 in
+    let running = c.requires.2 in
+    let may = c.requires.3 in
+    let e = c.args.eid in
+    let s = running.sides e may.known in
+    let asker = c.in-Some.asker in
+    let same = place_holds c.args.self.now.places.items e c.from.result c.index_mut.result.now s.0 asker (c.from.ensures ∙ c.get.ensures.value) c.index_mut.ensures.value s.1 c.in-Some.is in
+    let held = held_of asker.station in
+    let all : length asker.numbers ≡ held.count = subst (λ (x : Side). length x.numbers ≡ (held_of x.station).count) (sym same) (ap (λ (xs : List ℕ). length xs) s.2.numbers ∙ s.2.counted ∙ sym s.2.left.count) in
+    let many : length c.numbers.result.now ≡ held.count = ap (λ (xs : List ℕ). length xs) (c.numbers.ensures ∙ c.tick-due.ensures.numbers) ∙ all in
+    subst (λ n. AllByRecursion (λ own. own < n) c.tick-due.result.given_up.items) (sym many)
+    (subst (AllByRecursion (λ own. own < held.count)) (sym c.tick-due.ensures.given_up) (recent_below held.count (λ n. passes (is_given_up held.timing c.args.now) (held.remembered n))))
+
+pub enter_due-requires-clause-opened : goal.enter_due-requires-clause-opened
+enter_due-requires-clause-opened g c = λ number listed.
     let terms = c.requires.0 in
     let past = c.requires.1 in
     let running = c.requires.2 in
@@ -32,7 +64,7 @@ enter_due-requires g c = λ number listed.
     let same = place_holds c.args.self.now.places.items e c.from.result c.index_mut.result.now s.0 asker (c.from.ensures ∙ c.get.ensures.value) c.index_mut.ensures.value s.1 c.in-Some.is in
     let held = held_of asker.station in
     let all = recent_below held.count (λ n. passes (is_given_up held.timing c.args.now) (held.remembered n)) in
-    let own = listed_own (slice_index asker.numbers) number held.count (given_up_at held c.args.now) all (subst (λ xs. list_any (λ n. n == number) xs ≡ true) c.tick.ensures.given_up listed) in
+    let own = listed_own (slice_index asker.numbers) number held.count (given_up_at held c.args.now) all (subst (λ xs. list_any (λ n. n == number) xs ≡ true) (ap (λ ns. numbered ns c.tick-due.result.given_up.items) (c.numbers.ensures ∙ c.tick-due.ensures.numbers) ∙ ap (numbered asker.numbers) c.tick-due.ensures.given_up) listed) in
     let numbers = ap (λ (a : Side). a.numbers) same ∙ s.2.numbers in
     let counted = s.2.counted in
     let left = s.2.left.count in
@@ -54,16 +86,17 @@ returns g c = record {
       let asker = c.in-Some.asker in
       let at = c.from.ensures ∙ c.get.ensures.value in
       let same = place_holds c.args.self.now.places.items e c.from.result c.index_mut.result.now s.0 asker at c.index_mut.ensures.value s.1 c.in-Some.is in
-      let due = c.tick.ensures in
+      let due = c.tick-due.ensures in
+      let numbers = c.numbers.ensures ∙ due.numbers in
       let entered = c.in_ok-enter_due-in-Some.ensures in
-      subst (λ i. IsRunning setting (record { moment = c.args.now; action = actions.Tick e } ∷ past) (with_side (held_by c.args.self.now) i c.tick.new.self c.enter_due.new.self)) (sym at)
-      (tick_runs setting past (held_by c.args.self.now) c.enter_due.new.self running c.args.now may.later e may.known c.tick.new.self c.tick.result
+      subst (λ i. IsRunning setting (record { moment = c.args.now; action = actions.Tick e } ∷ past) (with_side (held_by c.args.self.now) i c.tick-due.new.self c.enter_due.new.self)) (sym at)
+      (tick_runs setting past (held_by c.args.self.now) c.enter_due.new.self running c.args.now may.later e may.known c.tick-due.new.self (due_over_all c.numbers.result.now c.tick-due.result)
       c.looks_back.ensures.tick c.looks_back.ensures.same
       (record {
-        held = subst (λ (a : Side). IsHeld (held_of c.tick.new.self.station) (ticked_held (held_of a.station) c.args.now)) same due.held;
+        held = subst (λ (a : Side). IsHeld (held_of c.tick-due.new.self.station) (ticked_held (held_of a.station) c.args.now)) same due.held;
         same_numbers = due.numbers ∙ ap (λ (a : Side). a.numbers) same;
-        again = due.again ∙ ap (λ (a : Side). numbered a.numbers (again_at (held_of a.station) c.args.now)) same;
-        given_up = due.given_up ∙ ap (λ (a : Side). numbered a.numbers (given_up_at (held_of a.station) c.args.now)) same;
+        again = ap (λ ns. numbered ns c.tick-due.result.again.items) numbers ∙ ap (numbered asker.numbers) due.again ∙ ap (λ (a : Side). numbered a.numbers (again_at (held_of a.station) c.args.now)) same;
+        given_up = ap (λ ns. numbered ns c.tick-due.result.given_up.items) numbers ∙ ap (numbered asker.numbers) due.given_up ∙ ap (λ (a : Side). numbered a.numbers (given_up_at (held_of a.station) c.args.now)) same;
         requests = entered.requests;
         counted = entered.all;
         writes = record { entries = entered.entries; traffic = entered.traffic; order = entered.order };
