@@ -244,9 +244,8 @@ impl<P: Platform> Ends<P> {
         };
         let request = &journal.requests[number as usize];
         let own = request.number();
-        let (in_time, got, answered) = match &mut self.places[usize::from(
-            request.requester().get(),
-        )] {
+        let place = usize::from(request.requester().get());
+        let (in_time, got, answered) = match &mut self.places[place] {
             Some(asker) => {
                 // The request's tag is its own until the requester has opened TAGS requests more.
                 let in_time = asker.count().saturating_sub(u64::from(TAGS)) <= own;

@@ -73,8 +73,8 @@ index_mut-requires g c =
     let past = c.requires.steps.1 in
     let running = c.requires.steps.2 in
     let setting = setting_of (rules_of g.P.Platform.answer g.P.Platform.after g.P.Platform.sensed) terms in
-    let f = finds setting past (held_by c.args.self.now) running c.args.busy c.args.number c.args.packet (written c.in-Some.handed) c.index-request.result.now c.from.result c.requires.first c.in-Some.ensures c.index-request.ensures (c.from.ensures ∙ c.get.ensures.value ∙ c.requester.ensures) in
-    let s = its_side setting past (held_by c.args.self.now) running c.args.busy c.args.number c.args.packet (written c.in-Some.handed) c.index-request.result.now c.from.result f in
+    let f = finds setting past (held_by c.args.self.now) running c.args.busy c.args.number c.args.packet (written c.in-Some.handed) c.index-request.result.now c.from-place.result c.requires.first c.in-Some.ensures c.index-request.ensures (c.from-place.ensures ∙ c.get.ensures.value ∙ c.requester.ensures) in
+    let s = its_side setting past (held_by c.args.self.now) running c.args.busy c.args.number c.args.packet (written c.in-Some.handed) c.index-request.result.now c.from-place.result f in
     let below = or_within c.args.self.now.places.items f.q.source s.0 s.1 in
     (let at = f.at in omega (arith, below, at))
 
@@ -84,11 +84,11 @@ receive-requires g c =
     let past = c.requires.steps.1 in
     let running = c.requires.steps.2 in
     let setting = setting_of (rules_of g.P.Platform.answer g.P.Platform.after g.P.Platform.sensed) terms in
-    let f = finds setting past (held_by c.args.self.now) running c.args.busy c.args.number c.args.packet (written c.in-Some.handed) c.index-request.result.now c.from.result c.requires.first c.in-Some.ensures c.index-request.ensures (c.from.ensures ∙ c.get.ensures.value ∙ c.requester.ensures) in
-    let s = its_side setting past (held_by c.args.self.now) running c.args.busy c.args.number c.args.packet (written c.in-Some.handed) c.index-request.result.now c.from.result f in
+    let f = finds setting past (held_by c.args.self.now) running c.args.busy c.args.number c.args.packet (written c.in-Some.handed) c.index-request.result.now c.from-place.result c.requires.first c.in-Some.ensures c.index-request.ensures (c.from-place.ensures ∙ c.get.ensures.value ∙ c.requester.ensures) in
+    let s = its_side setting past (held_by c.args.self.now) running c.args.busy c.args.number c.args.packet (written c.in-Some.handed) c.index-request.result.now c.from-place.result f in
     let found = c.index_mut.result.now in
     let asker = c.in-Some-index_mut.asker in
-    let same = place_holds c.args.self.now.places.items f.q.source c.from.result found s.0 asker f.at c.index_mut.ensures.value s.1 c.in-Some-index_mut.is in
+    let same = place_holds c.args.self.now.places.items f.q.source c.from-place.result found s.0 asker f.at c.index_mut.ensures.value s.1 c.in-Some-index_mut.is in
     let called = s.2.called in
     let later = c.requires.steps.3.later in
     let last = ap (λ (x : Side). (held_of x.station).last) same in
@@ -100,11 +100,11 @@ answered-requires g c =
     let past = c.requires.steps.1 in
     let running = c.requires.steps.2 in
     let setting = setting_of (rules_of g.P.Platform.answer g.P.Platform.after g.P.Platform.sensed) terms in
-    let f = finds setting past (held_by c.args.self.now) running c.args.busy c.args.number c.args.packet (written c.in-Some.handed) c.index-request.result.now c.from.result c.requires.first c.in-Some.ensures c.index-request.ensures (c.from.ensures ∙ c.get.ensures.value ∙ c.requester.ensures) in
-    let s = its_side setting past (held_by c.args.self.now) running c.args.busy c.args.number c.args.packet (written c.in-Some.handed) c.index-request.result.now c.from.result f in
+    let f = finds setting past (held_by c.args.self.now) running c.args.busy c.args.number c.args.packet (written c.in-Some.handed) c.index-request.result.now c.from-place.result c.requires.first c.in-Some.ensures c.index-request.ensures (c.from-place.ensures ∙ c.get.ensures.value ∙ c.requester.ensures) in
+    let s = its_side setting past (held_by c.args.self.now) running c.args.busy c.args.number c.args.packet (written c.in-Some.handed) c.index-request.result.now c.from-place.result f in
     let found = c.index_mut.result.now in
     let asker = c.in-Some-index_mut.asker in
-    let same = place_holds c.args.self.now.places.items f.q.source c.from.result found s.0 asker f.at c.index_mut.ensures.value s.1 c.in-Some-index_mut.is in
+    let same = place_holds c.args.self.now.places.items f.q.source c.from-place.result found s.0 asker f.at c.index_mut.ensures.value s.1 c.in-Some-index_mut.is in
     let gave = c.in_ok-got-in-Some-index_mut in
     let received = gave.ensures in
     is_answered asker c.receive.new.self c.args.now (written c.in-Some.handed) gave.got received.held received.got received.numbers
@@ -116,8 +116,8 @@ unreachable-requires g c =
     let past = c.requires.steps.1 in
     let running = c.requires.steps.2 in
     let setting = setting_of (rules_of g.P.Platform.answer g.P.Platform.after g.P.Platform.sensed) terms in
-    let f = finds setting past (held_by c.args.self.now) running c.args.busy c.args.number c.args.packet (written c.in-Some.handed) c.index-request.result.now c.from.result c.requires.first c.in-Some.ensures c.index-request.ensures (c.from.ensures ∙ c.get.ensures.value ∙ c.requester.ensures) in
-    let s = its_side setting past (held_by c.args.self.now) running c.args.busy c.args.number c.args.packet (written c.in-Some.handed) c.index-request.result.now c.from.result f in
+    let f = finds setting past (held_by c.args.self.now) running c.args.busy c.args.number c.args.packet (written c.in-Some.handed) c.index-request.result.now c.from-place.result c.requires.first c.in-Some.ensures c.index-request.ensures (c.from-place.ensures ∙ c.get.ensures.value ∙ c.requester.ensures) in
+    let s = its_side setting past (held_by c.args.self.now) running c.args.busy c.args.number c.args.packet (written c.in-Some.handed) c.index-request.result.now c.from-place.result f in
     let found = c.index_mut.result.now in
     let there = get_or c.args.self.now.places.items f.q.source None (or_within c.args.self.now.places.items f.q.source s.0 s.1) ∙ ap Some s.1 in
     let read : found ≡ Some s.0 = c.index_mut.ensures.value ∙ ap (λ i. slice_index_or c.args.self.now.places.items i found) f.at ∙ or_get c.args.self.now.places.items f.q.source found (Some s.0) there in
@@ -130,11 +130,11 @@ enter_received-requires g c =
     let past = c.requires.steps.1 in
     let running = c.requires.steps.2 in
     let setting = setting_of (rules_of g.P.Platform.answer g.P.Platform.after g.P.Platform.sensed) terms in
-    let f = finds setting past (held_by c.args.self.now) running c.args.busy c.args.number c.args.packet (written c.in-Some.handed) c.index-request.result.now c.from.result c.requires.first c.in-Some.ensures c.index-request.ensures (c.from.ensures ∙ c.get.ensures.value ∙ c.requester.ensures) in
-    let s = its_side setting past (held_by c.args.self.now) running c.args.busy c.args.number c.args.packet (written c.in-Some.handed) c.index-request.result.now c.from.result f in
+    let f = finds setting past (held_by c.args.self.now) running c.args.busy c.args.number c.args.packet (written c.in-Some.handed) c.index-request.result.now c.from-place.result c.requires.first c.in-Some.ensures c.index-request.ensures (c.from-place.ensures ∙ c.get.ensures.value ∙ c.requester.ensures) in
+    let s = its_side setting past (held_by c.args.self.now) running c.args.busy c.args.number c.args.packet (written c.in-Some.handed) c.index-request.result.now c.from-place.result f in
     let found = c.index_mut.result.now in
     let asker = c.in-Some-index_mut.asker in
-    let same = place_holds c.args.self.now.places.items f.q.source c.from.result found s.0 asker f.at c.index_mut.ensures.value s.1 c.in-Some-index_mut.is in
+    let same = place_holds c.args.self.now.places.items f.q.source c.from-place.result found s.0 asker f.at c.index_mut.ensures.value s.1 c.in-Some-index_mut.is in
     let gave = c.in_ok-got-in-Some-index_mut in
     told_below setting (world setting past) (time_now past) f.q.source s.0 s.2 (written c.in-Some.handed) c.answered.result (length c.args.self.now.journal.requests.items) (sym running.counted)
     (subst (λ (x : Side). ReportsReply x.numbers (arrived_by (held_of x.station) (passed (held_of x.station) (written c.in-Some.handed))) c.answered.result) same (reports_reply asker c.receive.new.self c.args.now (written c.in-Some.handed) gave.got gave.ensures.held gave.ensures.got gave.ensures.numbers c.answered.result c.answered.ensures))
@@ -143,17 +143,17 @@ pub returns : goal.returns
 returns g c = record {
   goes_on = λ terms past running may.
       let setting = setting_of (rules_of g.P.Platform.answer g.P.Platform.after g.P.Platform.sensed) terms in
-      let f = finds setting past (held_by c.args.self.now) running c.args.busy c.args.number c.args.packet (written c.in-Some.handed) c.index-request.result.now c.from.result c.requires.first c.in-Some.ensures c.index-request.ensures (c.from.ensures ∙ c.get.ensures.value ∙ c.requester.ensures) in
-      let s = its_side setting past (held_by c.args.self.now) running c.args.busy c.args.number c.args.packet (written c.in-Some.handed) c.index-request.result.now c.from.result f in
+      let f = finds setting past (held_by c.args.self.now) running c.args.busy c.args.number c.args.packet (written c.in-Some.handed) c.index-request.result.now c.from-place.result c.requires.first c.in-Some.ensures c.index-request.ensures (c.from-place.ensures ∙ c.get.ensures.value ∙ c.requester.ensures) in
+      let s = its_side setting past (held_by c.args.self.now) running c.args.busy c.args.number c.args.packet (written c.in-Some.handed) c.index-request.result.now c.from-place.result f in
       let found = c.index_mut.result.now in
       let asker = c.in-Some-index_mut.asker in
-      let same = place_holds c.args.self.now.places.items f.q.source c.from.result found s.0 asker f.at c.index_mut.ensures.value s.1 c.in-Some-index_mut.is in
+      let same = place_holds c.args.self.now.places.items f.q.source c.from-place.result found s.0 asker f.at c.index_mut.ensures.value s.1 c.in-Some-index_mut.is in
       let gave = c.in_ok-got-in-Some-index_mut in
       let received = gave.ensures in
       let entered = c.in_ok-enter_received.ensures in
       let own = c.number-own.ensures ∙ ap (λ (x : Request). x.asked.own) f.request_is in
       let count = c.count.ensures ∙ ap (λ (x : Side). (held_of x.station).count) same in
-      let before : c.saturating_sub.result ≡ c.count.result - 8 = (let sub = c.saturating_sub.ensures in let eight = c.from-in-Some-index_mut.ensures in omega (arith, sub, eight)) in
+      let before : c.saturating_sub.result ≡ c.count.result - 8 = (let sub = c.saturating_sub.ensures in let eight = c.from.ensures in omega (arith, sub, eight)) in
       subst (λ i. IsRunning setting (record { moment = c.args.now; action = answer_action c.args.busy c.args.number c.args.packet } ∷ past) (with_side (held_by c.args.self.now) i c.receive.new.self c.enter_received.new.self)) (sym f.at)
       (hand_runs setting past (held_by c.args.self.now) c.enter_received.new.self running c.args.now may.later
       c.args.busy c.args.number c.args.packet (written c.in-Some.handed) f.q f.is f.brings c.receive.new.self gave.got c.answered.result (nat_le c.saturating_sub.result c.number-own.result)
