@@ -1,5 +1,5 @@
 -- A text that is gathered part by part.
-use Rattle.std.proofs.Common.{◌≡◌, ℕ, List, [], ◌∷◌, ◌++◌, Option, None, Some, Result, Ok, Err, OnOk, refl, sym, ap, subst, ◌∙◌, append_assoc, append-nil}
+use Rattle.std.proofs.Common.{◌≡◌, ℕ, List, [], ◌++◌, Option, None, Some, Result, Ok, Err, OnOk, refl, sym, ap, subst, ◌∙◌, append_assoc, append-nil}
 use Rattle.std.specs.Io.KnownBytes.{Appends, append_known}
 use Rattle.std.proofs.KnownBytes.{Appends-trans}
 
@@ -19,10 +19,6 @@ after_room a b c more room added = Appends-trans a b c [] more room added
 pub nothing_gathered : (known : Option (List ℕ)) → append_known known [] ≡ known
 nothing_gathered None = refl
 nothing_gathered (Some taken) = ap Some (append-nil taken)
-
--- digits and a space, and then a text
-pub after_digits : (page digits text new : List ℕ) → new ≡ (page ++ (digits ++ 32 ∷ [])) ++ text → new ≡ page ++ (digits ++ 32 ∷ text)
-after_digits page digits text new is = is ∙ append_assoc page (digits ++ 32 ∷ []) text ∙ ap (λ t. page ++ t) (append_assoc digits (32 ∷ []) text)
 
 -- what a page tells at its end is written
 pub and_flushed : {E : Type 0} (result : Result Unit E) (a b c : Option (List ℕ)) (first gathered text : List ℕ)

@@ -1,11 +1,13 @@
 -- The text of items, one further: of steps with their entries, and of requests.
-use Rattle.std.proofs.Math.ListN.{drop_of_length-le}
-use Rattle.std.proofs.Common.{◌≡◌, ℕ, suc, map, ◌≤◌, ◌+◌, ◌<◌, List, [], ◌∷◌, ◌++◌, drop, get_or, length, refl, sym, ap, ◌∙◌, append_assoc, append-nil, arith, drop-cons}
+use Rattle.std.proofs.Common.{◌≡◌, ℕ, suc, map, min, ◌≤◌, ◌+◌, ◌<◌, List, [], ◌∷◌, ◌++◌, drop, get_or, length, Option, None, Some, refl, sym, ap, subst, ◌∙◌, append_assoc, append-nil, arith, drop-cons}
+use Rattle.std.specs.Fmt.{decimal}
+use Rattle.std.specs.Iterator.{YieldsFirstBy}
+use Rattle.std.specs.Option.{IsSome}
 use Rattle.mctp_schedule.specs.Requests.{Request}
 use Rattle.mctp_schedule.specs.declared.entry.Entry.{Entry}
 use Rattle.schedule_text.specs.StepColumns.{moment_of_step}
 use Rattle.schedule_text.specs.declared.step.Step.{Step}
-use Rattle.mctpctl_texts.specs.EntryTexts.{entries_text, entry_line}
+use Rattle.mctpctl_texts.specs.EntryTexts.{entries_text, entry_line, entry_text}
 use Rattle.mctpctl_texts.specs.ReportTexts.{requests_text, request_line}
 
 next_dropped : {A : Type 0} (things : List A) (i : ℕ) (thing : A) → i < length things → thing ≡ get_or things i thing
@@ -25,22 +27,33 @@ by_moments [] entries = refl
 by_moments (step ∷ steps) [] = refl
 by_moments (step ∷ steps) (entry ∷ entries) = ap (λ t. entry_line step.moment entry ++ t) (by_moments steps entries)
 
-pub entries_step : (before after : List ℕ) (moments : List ℕ) (i : ℕ) (entries rest : List Entry) (moment : ℕ) (entry : Entry)
-    → i < length moments → moment ≡ get_or moments i moment → entries ≡ entry ∷ rest → after ≡ before ++ entry_line moment entry
-    → after ++ entries_at (drop (i + 1) moments) rest ≡ before ++ entries_at (drop i moments) entries
-entries_step before after moments i entries rest moment entry within moment_is entry_is added =
-    let others = drop (i + 1) moments in
-    ap (λ (t : List ℕ). t ++ entries_at others rest) added
-    ∙ append_assoc before (entry_line moment entry) (entries_at others rest)
-    ∙ ap (λ (s : List Entry). before ++ entries_at (moment ∷ others) s) (sym entry_is)
-    ∙ ap (λ (s : List ℕ). before ++ entries_at s entries) (sym (next_dropped moments i moment within moment_is))
+-- a moment and what came of its step are its line
+pub line_of_parts : (moment : ℕ) (entry : Entry) → (decimal moment ++ 32 ∷ []) ++ (entry_text entry ++ 10 ∷ []) ≡ entry_line moment entry
+line_of_parts moment entry = append_assoc (decimal moment) (32 ∷ []) (entry_text entry ++ 10 ∷ [])
 
-pub no_entries : (moments : List ℕ) → entries_at moments [] ≡ []
-no_entries [] = refl
-no_entries (moment ∷ moments) = refl
+pub entries_step : (text : List ℕ) (moments later : List ℕ) (entries rest : List Entry) (moment : ℕ) (entry : Entry)
+    → moments ≡ moment ∷ later → entries ≡ entry ∷ rest
+    → (text ++ entry_line moment entry) ++ entries_at later rest ≡ text ++ entries_at moments entries
+entries_step text moments later entries rest moment entry moments_are entries_are =
+    append_assoc text (entry_line moment entry) (entries_at later rest) ∙ rw (moments_are, entries_are) refl
 
-pub past_moments : (moments : List ℕ) (i : ℕ) (entries : List Entry) → length moments ≤ i → entries_at (drop i moments) entries ≡ []
-past_moments moments i entries past = ap (λ left. entries_at left entries) (drop_of_length-le moments past)
+-- past the last moment or the last entry there is no line
+pub none_to_come : (moments : List ℕ) (entries : List Entry) (i steps all : ℕ) → i + length moments ≡ steps → i + length entries ≡ all
+    → min steps all ≤ i → entries_at moments entries ≡ []
+none_to_come [] entries i steps all moments_left entries_left past = refl
+none_to_come (moment ∷ moments) [] i steps all moments_left entries_left past = refl
+none_to_come (moment ∷ moments) (entry ∷ entries) i steps all moments_left entries_left past = absurd (omega (arith, moments_left, entries_left, past))
+
+-- an iterator that has items left gives one
+pub gives_one : {A B : Type 0} (view : A → B) (before after : List B) (item : Option A) → YieldsFirstBy view (λ left. left) before item after
+    → 0 < length before → IsSome item
+gives_one view before after None given some = absurd (omega (arith, ap length given.0, some))
+gives_one view before after (Some item) given some = refl
+
+-- and that is the first of them
+pub gives_first : {A B : Type 0} (view : A → B) (before after : List B) (item : Option A) (first : A)
+    → YieldsFirstBy view (λ left. left) before item after → item ≡ Some first → before ≡ view first ∷ after
+gives_first view before after item first given is = subst (λ i. YieldsFirstBy view (λ left. left) before i after) is given
 
 -- where none is to come, the text so far is all
 pub none_left : (text left all : List ℕ) → left ≡ [] → text ++ left ≡ all → text ≡ all

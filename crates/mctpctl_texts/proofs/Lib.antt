@@ -4,4 +4,5 @@ pub mod ItemTexts
 pub mod PairTables
 pub mod PlacesTold
 pub mod WrittenParts
+pub mod DigitCounts
 pub mod Numbers

@@ -1,9 +1,9 @@
 //! The text of what came of a step.
 
-ghost use Rattle.std.specs.Prelude.{◌≡◌, ◌≤◌, ◌<◌, ◌+◌, ◌*◌, ◌++◌, ◌∷◌, [], codes, length};
+ghost use Rattle.std.specs.Prelude.{◌≡◌, ◌≤◌, ◌<◌, ◌+◌, ◌*◌, ◌++◌, ◌∷◌, [], codes, length, OnOk};
 ghost use Rattle.std.specs.Fmt.{decimal};
 ghost use Rattle.mctp_schedule.specs.EntryColumns.{borrowed_entry};
-ghost use Rattle.mctpctl_texts.specs.EntryTexts.{again_text, delivered_text, due_text, entry_line, entry_text, gave_up_text, received_text};
+ghost use Rattle.mctpctl_texts.specs.EntryTexts.{again_text, delivered_text, due_text, entry_text, gave_up_text, received_text};
 ghost use Rattle.mctpctl_texts.specs.Gathering.{Gathered};
 ghost use Rattle.mctpctl_texts.specs.Phrases.{phrases as all_phrases};
 ghost use Rattle.mctpctl_texts.specs.ShownLines.{drop_text};
@@ -11,7 +11,7 @@ ghost use Rattle.mctpctl_texts.specs.Writers.{Wrote};
 
 use crate::decimal::Decimal;
 use crate::gathering::{flush, make_room};
-use crate::page::{MAX_PART, PAGE, Page, Part};
+use crate::page::{MAX_PART, PAGE, Page};
 use crate::parts::{write_numbers, write_text};
 use crate::phrases::Phrases;
 use crate::text_writer::TextWriter;
@@ -20,23 +20,36 @@ use mctp_schedule::{Delivery, EntryRef};
 use pldm_requester::Got;
 use pldm_responder::MessageOutcome;
 
-/// The most bytes of an entry's line, but for the numbers that a tick tells: its moment, and up to three parts.
-const MAX_ENTRY: usize = 4 * MAX_PART;
+/// The most bytes of what came of a step, but for the numbers that a tick tells: up to three parts.
+const MAX_ENTRY: usize = 3 * MAX_PART;
 
-/// Gathers the line of a step at this moment: the moment, and what came of the step.
-pub(crate) fn gather_entry_line<O: TextWriter>(
+/// Gathers the moment of a step, with which its line begins, and makes room for what came of the step.
+pub(crate) fn gather_moment<O: TextWriter>(
+    out: &mut O,
+    page: &mut Page,
+    moment: &Decimal,
+) -> Result<(), O::Refusal>
+    ensures gathered { Gathered O.contents O.failed O.refused out.old out.new page.old page.new
+        (decimal moment.now ++ 32 ∷ []) result }
+    ensures room { OnOk result (length page.new + MAX_ENTRY ≤ PAGE) }
+{
+    make_room(out, page, MAX_PART + MAX_ENTRY)?;
+    page.add(moment.spaced());
+    Ok(())
+}
+
+/// Gathers what came of a step, and the end of its line.
+pub(crate) fn gather_entry<O: TextWriter>(
     out: &mut O,
     page: &mut Page,
     phrases: &Phrases,
-    moment: &Decimal,
     entry: EntryRef<'_>,
 ) -> Result<(), O::Refusal>
-    requires { phrases.now ≡ all_phrases }
+    requires room { length page.old + MAX_ENTRY ≤ PAGE }
+    requires phrases { phrases.now ≡ all_phrases }
     ensures { Gathered O.contents O.failed O.refused out.old out.new page.old page.new
-        (entry_line moment.now (borrowed_entry entry.entry)) result }
+        (entry_text (borrowed_entry entry.entry) ++ 10 ∷ []) result }
 {
-    make_room(out, page, MAX_ENTRY)?;
-    page.add(moment.spaced());
     match entry {
         EntryRef::Nothing => page.add(&phrases.nothing),
         EntryRef::Opened(number) => add_opened(page, phrases, number),
@@ -58,17 +71,17 @@ pub(crate) fn gather_entry_line<O: TextWriter>(
 
 /// Adds the number of a request that was opened.
 fn add_opened(page: &mut Page, phrases: &Phrases, number: u64)
-    requires room { length page.old + 3 * MAX_PART ≤ PAGE }
+    requires room { length page.old + MAX_ENTRY ≤ PAGE }
     requires phrases { phrases.now ≡ all_phrases }
     ensures { page.new ≡ page.old ++ (codes "opened " ++ (decimal number ++ 10 ∷ [])) }
 {
     page.add(&phrases.opened);
-    page.add(&Part::of_number(number, b'\n'));
+    page.add_number(number, b'\n');
 }
 
 /// Adds what became of the packet of a request.
 fn add_delivered(page: &mut Page, phrases: &Phrases, busy: bool, delivery: &Delivery)
-    requires room { length page.old + 3 * MAX_PART ≤ PAGE }
+    requires room { length page.old + MAX_ENTRY ≤ PAGE }
     requires phrases { phrases.now ≡ all_phrases }
     ensures { page.new ≡ page.old ++ (delivered_text busy delivery.now ++ 10 ∷ []) }
 {
@@ -83,7 +96,7 @@ fn add_delivered(page: &mut Page, phrases: &Phrases, busy: bool, delivery: &Deli
 
 /// Adds what became of a packet of an answer.
 fn add_received(page: &mut Page, phrases: &Phrases, got: Got)
-    requires room { length page.old + 3 * MAX_PART ≤ PAGE }
+    requires room { length page.old + MAX_ENTRY ≤ PAGE }
     requires phrases { phrases.now ≡ all_phrases }
     ensures { page.new ≡ page.old ++ (received_text got ++ 10 ∷ []) }
 {
@@ -96,12 +109,12 @@ fn add_received(page: &mut Page, phrases: &Phrases, got: Got)
 
 /// Adds that bytes were dropped, and why.
 fn add_drop(page: &mut Page, phrases: &Phrases, reason: Reason)
-    requires room { length page.old + 3 * MAX_PART ≤ PAGE }
+    requires room { length page.old + MAX_ENTRY ≤ PAGE }
     requires phrases { phrases.now ≡ all_phrases }
     ensures { page.new ≡ page.old ++ (drop_text reason ++ 10 ∷ []) }
 {
     page.add(&phrases.drop);
-    page.add(&Part::new(reason.name()));
+    page.add_text(reason.name());
     page.add(&phrases.end);
 }
 

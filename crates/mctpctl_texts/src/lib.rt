@@ -4,6 +4,7 @@
 
 mod decimal;
 mod device_lines;
+mod digits;
 mod entry_text;
 mod gathering;
 mod hex_pairs;

@@ -4,8 +4,8 @@ ghost use Rattle.std.specs.Fmt.{decimal};
 ghost use Rattle.std.specs.Prelude.{◌≡◌, ◌≤◌, ◌+◌, ◌*◌, ◌++◌, ◌∷◌, [], length, IsTrue};
 ghost use Rattle.hex.specs.Hex.{encode_lower};
 
+use crate::digits::{put_digits, put_number};
 use crate::hex_pairs::HexPairs;
-use itoa::Buffer;
 use std::marker::Model;
 
 /// The most bytes of a part: a drop with the longest name of a reason has 27, a number of 64 bits with a space 21.
@@ -52,27 +52,11 @@ impl Part {
     pub(crate) fn of_number(number: u64, end: u8) -> Part
         ensures { result ≡ decimal number ++ end ∷ [] }
     {
-        let mut buffer = Buffer::new();
-        let digits = buffer.format(number).as_bytes();
-        let mut room = [end; MAX_PART];
-        room[..digits.len()].copy_from_slice(digits);
+        let mut room = [0; MAX_PART];
+        let count = put_number(&mut room, 0, number, end);
         Part {
             room,
-            count: digits.len() as u8 + 1,
-        }
-    }
-
-    /// A space and a number in decimal.
-    pub(crate) fn after_space(number: u64) -> Part
-        ensures { result ≡ 32 ∷ decimal number }
-    {
-        let mut buffer = Buffer::new();
-        let digits = buffer.format(number).as_bytes();
-        let mut room = [b' '; MAX_PART];
-        room[1..digits.len() + 1].copy_from_slice(digits);
-        Part {
-            room,
-            count: digits.len() as u8 + 1,
+            count: count as u8,
         }
     }
 }
@@ -138,6 +122,37 @@ impl Page {
     {
         self.room[self.count..self.count + MAX_PART].copy_from_slice(&part.room);
         self.count += usize::from(part.count);
+    }
+
+    /// Adds a number in decimal, and a byte that ends it. There has to be room for a part.
+    pub(crate) fn add_number(&mut self, number: u64, end: u8)
+        requires { length self.old + MAX_PART ≤ PAGE }
+        ensures value { self.new ≡ self.old ++ (decimal number ++ end ∷ []) }
+        ensures few { length self.new ≤ length self.old + MAX_PART }
+    {
+        self.count = put_number(&mut self.room, self.count, number, end);
+    }
+
+    /// Adds a space and a number in decimal. There has to be room for a part.
+    pub(crate) fn add_after_space(&mut self, number: u64)
+        requires { length self.old + MAX_PART ≤ PAGE }
+        ensures value { self.new ≡ self.old ++ 32 ∷ decimal number }
+        ensures few { length self.new ≤ length self.old + MAX_PART }
+    {
+        self.room[self.count] = b' ';
+        self.count = put_digits(&mut self.room, self.count + 1, number);
+    }
+
+    /// Adds a text that a part could hold, for which there has to be room.
+    pub(crate) fn add_text(&mut self, text: &str)
+        requires room { length self.old + MAX_PART ≤ PAGE }
+        requires short { length text.now ≤ MAX_PART }
+        ensures value { self.new ≡ self.old ++ text.now }
+        ensures few { length self.new ≤ length self.old + MAX_PART }
+    {
+        let end = self.count + text.len();
+        self.room[self.count..end].copy_from_slice(text.as_bytes());
+        self.count = end;
     }
 
     /// Adds bytes in lower-case hex by `pairs`. There has to be room for their digits.

@@ -12,10 +12,10 @@ ghost use Rattle.pldm_requester.specs.RequestProgress.{progress_in_status};
 
 use crate::decimal::Decimal;
 use crate::device_lines::write_device;
-use crate::entry_text::gather_entry_line;
+use crate::entry_text::{gather_entry, gather_moment};
 use crate::gathering::{flush, gather_hex, make_room};
 use crate::hex_pairs::HexPairs;
-use crate::page::{MAX_PART, PAGE, Page, Part};
+use crate::page::{MAX_PART, PAGE, Page};
 use crate::parts::write_text;
 use crate::phrases::Phrases;
 use crate::text_writer::TextWriter;
@@ -70,14 +70,14 @@ fn gather_entries<O: TextWriter>(
     ensures { Gathered O.contents O.failed O.refused out.old out.new page.old page.new
         (entries_text steps.now entries.now) result }
 {
+    let mut moments = steps.moments();
     let mut rest = entries.iter();
     let mut digits = Decimal::new(0);
-    for moment in steps.moments() {
-        let Some(entry) = rest.next() else {
-            return Ok(());
-        };
-        digits.set(moment.get());
-        gather_entry_line(out, page, phrases, &digits, entry)?;
+    for _line in 0..steps.len().min(entries.len()) {
+        digits.set(moments.next().unwrap().get());
+        gather_moment(out, page, &digits)?;
+        // Asked for here, so that what came of the step is told apart once, and not again behind its moment.
+        gather_entry(out, page, phrases, rest.next().unwrap())?;
     }
     Ok(())
 }
@@ -130,9 +130,9 @@ fn add_request(page: &mut Page, phrases: &Phrases, number: u64, requester: Eid)
     ensures few { length page.new ≤ length page.old + 4 * MAX_PART }
 {
     page.add(&phrases.request);
-    page.add(&Part::of_number(number, b' '));
+    page.add_number(number, b' ');
     page.add(&phrases.from);
-    page.add(&Part::of_number(requester.get().into(), b' '));
+    page.add_number(requester.get().into(), b' ');
 }
 
 /// Gathers how a request stands, and the end of its line.
@@ -209,7 +209,7 @@ fn gather_numbers<O: TextWriter>(
 {
     for i in 0..numbers.len() {
         make_room(out, page, MAX_PART)?;
-        page.add(&Part::after_space(numbers[i]));
+        page.add_after_space(numbers[i]);
     }
     Ok(())
 }

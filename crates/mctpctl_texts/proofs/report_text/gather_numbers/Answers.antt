@@ -1,5 +1,5 @@
 -- A number further, it is gathered after a space.
-use Rattle.std.proofs.Common.{◌≡◌, ◌∷◌, ◌++◌, Some, slice_index, refl, ◌∙◌, ap}
+use Rattle.std.proofs.Common.{◌≡◌, ◌∷◌, Some, slice_index, refl, ◌∙◌}
 use Rattle.std.specs.Fmt.{decimal}
 use Rattle.std.specs.List.{slice_get}
 use Rattle.std.proofs.lemmas.Option.{slice_get-get_or}
@@ -13,6 +13,6 @@ loop-i-preserved g c =
     let number = slice_index c.args.numbers.now c.loop-i.i in
     let found : slice_get c.args.numbers.now c.loop-i.i ≡ Some number = slice_get-get_or c.args.numbers.now c.loop-i.i 0 c.loop-i-test.true in (
       written_further (λ n. 32 ∷ decimal n) c.args.numbers.now c.loop-i.i number _ _ _ (32 ∷ decimal number) so_far.0
-          (after_room _ _ _ _ c.in_ok-make_room.ensures.gathered.text (grown_to _ _ _ _ (c.add.ensures.value ∙ ap (λ t. c.make_room.new.page ++ t) c.after_space.ensures))) refl found,
+          (after_room _ _ _ _ c.in_ok-make_room.ensures.gathered.text (grown_to _ _ _ _ (c.add_after_space.ensures.value))) refl found,
       c.in_ok-make_room.ensures.gathered.ok ∙ so_far.1,
     )
