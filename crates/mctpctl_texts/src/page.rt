@@ -120,7 +120,8 @@ impl Page {
         ensures value { self.new ≡ self.old ++ part.now }
         ensures few { length self.new ≤ length self.old + MAX_PART }
     {
-        self.room[self.count..self.count + MAX_PART].copy_from_slice(&part.room);
+        let room = part.room; // read first: whether it overlaps this page is then not asked
+        self.room[self.count..self.count + MAX_PART].copy_from_slice(&room);
         self.count += usize::from(part.count);
     }
 

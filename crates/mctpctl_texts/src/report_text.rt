@@ -1,7 +1,7 @@
 //! The text of a run's report.
 
 ghost use Rattle.std.specs.Fmt.{decimal};
-ghost use Rattle.std.specs.Prelude.{◌≡◌, ◌≤◌, ◌+◌, ◌*◌, ◌++◌, ◌∷◌, [], codes, length};
+ghost use Rattle.std.specs.Prelude.{◌≡◌, ◌≤◌, ◌+◌, ◌*◌, ◌++◌, ◌∷◌, [], codes, length, slice_get, IfSome};
 ghost use Rattle.hex.specs.Hex.{encode_lower};
 ghost use Rattle.mctpctl_texts.specs.EntryTexts.{entries_text, numbers_text};
 ghost use Rattle.mctpctl_texts.specs.ReportTexts.{device_text, order_line, progress_text, report_text, request_line, requests_text, timely_line};
@@ -94,16 +94,30 @@ fn gather_requests<O: TextWriter>(
         (requests_text 0 requests.now) result }
 {
     let pairs = HexPairs::new();
+    let mut next = status_at(requests, 0);
     for i in 0..requests.len() {
-        gather_request_line(out, page, phrases, &pairs, i as u64, &requests[i])?;
+        let status = next;
+        // Asked for a line ahead: where its answer lies is then known before it is written.
+        next = status_at(requests, i + 1);
+        gather_request_line(out, page, phrases, &pairs, i as u64, &requests[i], status)?;
     }
     Ok(())
+}
+
+/// How the request at this place stands; open where there is none.
+fn status_at(requests: &[OpenedRequest], place: usize) -> Status<'_>
+    ensures { IfSome (slice_get requests.now place) (λ request. progress_in_status result ≡ request.progress) }
+{
+    match requests.get(place) {
+        Some(request) => request.status(),
+        None => Status::Open,
+    }
 }
 
 /// The most bytes of a request's line, but for its answer: four parts, and then how it stands.
 const MAX_REQUEST: usize = 5 * MAX_PART;
 
-/// Gathers the line of a request: its number, who asked, and how it stands.
+/// Gathers the line of a request: its number, who asked, and how it stands, which is this status.
 fn gather_request_line<O: TextWriter>(
     out: &mut O,
     page: &mut Page,
@@ -111,14 +125,16 @@ fn gather_request_line<O: TextWriter>(
     pairs: &HexPairs,
     number: u64,
     request: &OpenedRequest,
+    status: Status<'_>,
 ) -> Result<(), O::Refusal>
-    requires { phrases.now ≡ all_phrases }
+    requires phrases { phrases.now ≡ all_phrases }
+    requires stands { progress_in_status status ≡ request.now.progress }
     ensures { Gathered O.contents O.failed O.refused out.old out.new page.old page.new
         (request_line number request.now) result }
 {
     make_room(out, page, MAX_REQUEST)?;
     add_request(page, phrases, number, request.requester());
-    gather_status(out, page, phrases, pairs, request.status())
+    gather_status(out, page, phrases, pairs, status)
 }
 
 /// Adds the number of a request and who asked.

@@ -1,5 +1,5 @@
 -- A request further, its line is gathered.
-use Rattle.std.proofs.Common.{◌++◌, refl, ◌∙◌}
+use Rattle.std.proofs.Common.{◌++◌, refl, rules, ◌∙◌}
 use Rattle.std.proofs.KnownBytes.{Appends-trans}
 use Rattle.mctpctl_texts.specs.ReportTexts.{request_line}
 use Rattle.mctpctl_texts.proofs.ItemTexts.{requests_step}
@@ -15,5 +15,6 @@ loop-i-preserved g c =
       works = c.in_ok-gather_request_line.ensures.ok ∙ i.works;
       whole = requests_step i.text (i.text ++ line) c.args.requests.now c.loop-i.i c.index-requests-i.result c.loop-i-test.true c.index-requests-i.is refl
           ∙ i.whole;
+      stands = search rules;
       end = refl;
     }
