@@ -5,7 +5,7 @@ ghost use Rattle.hex.specs.Hex.{encode_lower};
 ghost use Rattle.mctpctl_texts.specs.HexPairs.{TellsPairs};
 ghost use Rattle.mctpctl_texts.specs.Writers.{KeepsFront, Wrote};
 
-use crate::text_writer::{HEX_PIECE, TextWriter};
+use crate::text_writer::TextWriter;
 use std::marker::Model;
 
 /// How many bytes there are.
@@ -42,20 +42,12 @@ impl HexPairs {
         HexPairs { pairs }
     }
 
-    /// Writes bytes in lower-case hex, piece by piece, so that no memory is taken for the digits.
+    /// Writes bytes in lower-case hex.
     pub fn write<O: TextWriter>(&self, out: &mut O, bytes: &[u8]) -> Result<(), O::Refusal>
         ensures written { Wrote O.contents O.failed O.refused out.old out.new (encode_lower bytes.now) result }
         ensures front { KeepsFront O.begins out.old out.new }
     {
-        let mut room = [0; 2 * HEX_PIECE];
-        let mut rest = bytes;
-        while !rest.is_empty() {
-            let count = rest.len().min(HEX_PIECE);
-            self.spell(&rest[..count], &mut room);
-            out.write_bytes(&room[..2 * count])?;
-            rest = &rest[count..];
-        }
-        Ok(())
+        out.write_pairs(self, bytes)
     }
 
     /// Puts bytes in lower-case hex in front of `room`, as `hex::encode_to_slice` does.

@@ -2,16 +2,15 @@
 use Rattle.std.proofs.Common.{◌≡◌, ℕ, List, ◌++◌, length}
 use Rattle.std.specs.Io.KnownBytes.{Appends}
 use Rattle.hex.specs.Hex.{encode_lower}
-use Rattle.mctpctl_texts.specs.Writers.{KeepsFront}
-use Rattle.mctpctl_texts.proofs.hex_pairs.HexPairs.write.Given as goal
+use Rattle.mctpctl_input.specs.Ports.{inner_of, has_failed}
+use Rattle.mctpctl_texts.proofs.text_writer.PortTextWriter.write_pairs.Given as goal
 
 abbrev pub invariant-loop-rest : goal.invariant-loop-rest
 invariant-loop-rest g l = record {
   done : List ℕ;
   split : l.initial.rest ≡ done ++ l.rest;
-  written : Appends (g.O.TextWriter.contents l.initial.out) (g.O.TextWriter.contents l.out) (encode_lower done);
-  works : g.O.TextWriter.failed l.out ≡ g.O.TextWriter.failed l.initial.out;
-  front : KeepsFront g.O.TextWriter.begins l.initial.out l.out;
+  written : Appends (g.W.Write.contents (inner_of l.initial.self)) (g.W.Write.contents (inner_of l.self)) (encode_lower done);
+  works : has_failed l.self ≡ has_failed l.initial.self;
   long : length l.room ≡ 128;
 }
 

@@ -5,7 +5,7 @@ use Rattle.std.proofs.KnownBytes.{Appends-nil, Appends-trans}
 use Rattle.hex.specs.Hex.{encode_lower}
 use Rattle.mctpctl_input.proofs.WrittenFronts.{moves_front}
 use Rattle.mctpctl_texts.proofs.WrittenParts.{hex_after, hex_of_nothing}
-use Rattle.mctpctl_texts.proofs.hex_pairs.HexPairs.write.Goals as goal
+use Rattle.mctpctl_texts.proofs.text_writer.PortTextWriter.write_pairs.Goals as goal
 
 pub loop-rest-init : goal.loop-rest-init
 loop-rest-init g c = record {
@@ -13,7 +13,6 @@ loop-rest-init g c = record {
   split = refl;
   written = subst (Appends _ _) hex_of_nothing (Appends-nil _);
   works = refl;
-  front = λ front begins. begins;
   long = refl;
 }
 
@@ -31,6 +30,5 @@ loop-rest-preserved g c =
       written = subst (Appends _ _) (hex_after so_far.done (take n rest))
           (Appends-trans _ _ _ _ _ so_far.written (subst (Appends _ _) digits c.in_ok-write_bytes.ensures.written.text));
       works = c.in_ok-write_bytes.ensures.written.ok ∙ so_far.works;
-      front = λ front begins. c.in_ok-write_bytes.ensures.front front (so_far.front front begins);
       long = c.spell.auto.room ∙ so_far.long;
     }
