@@ -95,7 +95,6 @@ pub fn run<P: Platform>(
     let Setup { eid, keep, device } = setup;
     let _range = eid.get(); // for the proof: an endpoint ID
     let mut ends = Ends {
-        alloc,
         keep,
         responder: Responder::new(alloc, eid, keep, device),
         places: begin_requesters(alloc, eid, keep, schedule.requesters())?,
@@ -131,13 +130,12 @@ pub fn run<P: Platform>(
 /// Both ends, and what is written down of them.
 #[derive(Drop)]
 struct Ends<P: Platform> {
-    alloc: Global,
     keep: Keep,
     responder: Responder<P>,
     places: Places,
     journal: Journal,
-    /// Where the packet of a request is put that comes to the device. There is one room for the whole run, as for the
-    /// reply.
+    /// Where the packet of a request is put that comes to the device. There is one room for the whole run, as for
+    /// the reply.
     packet: ArrayVec<u8, MAX_REQUEST_PACKET_BYTES>,
     /// Where the responder puts the message that answers a packet. Its room is large, so there is one for
     /// the whole run and none is passed by value.

@@ -63,7 +63,7 @@ impl Delivery {
     {
         let reply = match &taken {
             MessageOutcome::Answered { .. } => reply,
-            _ => &[],
+            _ => &[], // it was not answered
         };
         // Most answers are short: those ask for no memory, so their length is looked at first.
         let kept = if reply.len() <= MAX_SHORT {
