@@ -1,11 +1,13 @@
 ghost use Rattle.std.specs.Prelude.{◌≡◌, ◌<◌, ◌≤◌, ◌==◌, [], length, Ok, IfOk, IsOk, OnOk, OnErr, IsTrue};
 ghost use Rattle.pldm_wire.specs.Answers.{answer_message, code_of};
+ghost use Rattle.pldm_wire.specs.CommandReading.{command_of};
+ghost use Rattle.pldm_wire.specs.Commands.{CommandFields};
 ghost use Rattle.pldm_wire.specs.declared.answer.Answer.TheVariants.{Refused};
 ghost use Rattle.pldm_responder.specs.Performing.{changes_at, commands_at, next_after, reply_to, rules_of};
 
 use mctp_packet::{Body, MAX_MESSAGE_BYTES, Memory};
 use pldm_platform::Platform;
-use pldm_wire::{Answer, Code, RequestRef, SUCCESS, put_answer, read_command};
+use pldm_wire::{Answer, Code, Command, RequestRef, SUCCESS, put_answer, read_command};
 use std::alloc::Global;
 
 /// Performs a request: its command where it has one, else it is refused. The message that answers it
@@ -33,14 +35,40 @@ pub(crate) fn perform<P: Platform>(
     ensures none_performed { OnErr result (P.performed platform.old [] platform.new) }
     ensures steady { IsTrue P.STEADY → IsOk result }
 {
-    let read = read_command(request);
-    let command = match &read {
-        Ok(command) => command,
+    // By reference: the command is not moved from where it was read.
+    match &read_command(request) {
+        Ok(command) => perform_command(alloc, platform, request, command, reply),
         Err(code) => {
             refuse(request, *code, reply);
-            return Ok(false);
+            Ok(false)
         }
-    };
+    }
+}
+
+/// As [`perform`], where the request has this command.
+fn perform_command<P: Platform>(
+    alloc: Global,
+    platform: &mut P,
+    request: &RequestRef<'_>,
+    command: &Command,
+    reply: &mut Body,
+) -> Result<bool, Memory>
+    requires read { command_of request.now.kind request.now.rest ≡ Ok command.now }
+    requires fields { CommandFields command.now request.now.kind request.now.rest }
+    ensures answer { OnOk result
+        (reply.new.items ≡ reply_to (rules_of P.answer P.after P.sensed) (P.state platform.old) (Ok request.now)) }
+    ensures changed { IfOk result
+        (λ changed. changed ≡ changes_at (rules_of P.answer P.after P.sensed) (P.state platform.old) (Ok request.now)) }
+    ensures state { OnOk result
+        (P.state platform.new
+        ≡ next_after (rules_of P.answer P.after P.sensed) (P.state platform.old) (Ok request.now)) }
+    ensures performed { OnOk result (P.performed platform.old (commands_at (Ok request.now)) platform.new) }
+    ensures some { OnOk result (0 < length reply.new.items) }
+    ensures few { OnOk result (length reply.new.items ≤ MAX_MESSAGE_BYTES) }
+    ensures err { OnErr result (P.state platform.new ≡ P.state platform.old) }
+    ensures none_performed { OnErr result (P.performed platform.old [] platform.new) }
+    ensures steady { IsTrue P.STEADY → IsOk result }
+{
     let mut answer = Answer::SetTid;
     platform.perform_into(alloc, command, &mut answer)?;
     put_answer(reply, request.id(), request.kind(), &answer);
