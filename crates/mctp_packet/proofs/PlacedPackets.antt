@@ -1,5 +1,5 @@
 -- A last element that is replaced where it stands.
-use Rattle.std.proofs.Common.{◌≡◌, ℕ, ◌+◌, ◌≤◌, List, [], ◌∷◌, ◌++◌, length, take, drop, sym, ap, ◌∙◌, append-nil, drop_of_length-le, length-append, arith}
+use Rattle.std.proofs.Common.{◌≡◌, ℕ, List, [], ◌∷◌, ◌++◌, length, take, drop, sym, ap, ◌∙◌, append-nil, drop_of_length-le, length-append, arith}
 use Rattle.std.specs.Prelude.{set}
 use Rattle.std.specs.List.{refill}
 use Rattle.std.proofs.Math.Seq.{set-append_seam}

@@ -9,13 +9,13 @@ use Rattle.schedule_text.specs.declared.step.Action.{Action}
 
 by_moment : (before : Spelled) (action : Action) (read : Result ℕ LineFaultKind)
     → ((read >>= λ m. Ok (lines.Step (record { moment = m; action = action }))) >>= with_line before)
-      ≡ (read >>= λ m. with_step before (record { moment = m; action = action }))
+    ≡ (read >>= λ m. with_step before (record { moment = m; action = action }))
 by_moment before action (Ok moment) = refl
 by_moment before action (Err kind) = refl
 
 by_action : (before : Spelled) (moment : List ℕ) (read : Result Action LineFaultKind)
     → ((read >>= λ action. moment_in moment >>= λ m. Ok (lines.Step (record { moment = m; action = action }))) >>= with_line before)
-      ≡ (read >>= with_action before moment)
+    ≡ (read >>= with_action before moment)
 by_action before moment (Ok action) = by_moment before action (moment_in moment)
 by_action before moment (Err kind) = refl
 

@@ -1,11 +1,10 @@
 -- Steps are what their moments, marks and columns spell, one step more too.
-use Rattle.std.proofs.Common.{◌≡◌, ℕ, ◌-◌, Some, List, [], ◌∷◌, ◌++◌, refl, sym, ap, subst, ◌∙◌, append-nil, arith, suc, length}
-use Rattle.std.specs.Prelude.{map, slice_get}
+use Rattle.std.proofs.Common.{◌≡◌, ℕ, List, [], ◌∷◌, ◌++◌, refl, sym, ap, subst, ◌∙◌, append-nil}
+use Rattle.std.specs.Prelude.{map}
 use Rattle.std.specs.List.{flat_map}
 use Rattle.std.proofs.lemmas.Grind.{flat_map-append}
 use Rattle.std.proofs.lemmas.List.{map-append}
 use Rattle.pldm_wire.specs.declared.command.Command.{Command}
-use Rattle.schedule_text.specs.Schedules.{last_from}
 use Rattle.schedule_text.specs.StepColumns.{AreOf, IsSpelled, at, commands_in_step, mark_of_step, moment_of_step, numbers_in_step, readings_in_step, spelled}
 use Rattle.schedule_text.specs.declared.steps.Mark.{Mark}
 use Rattle.schedule_text.specs.declared.steps.Reading.{Reading}

@@ -1,6 +1,5 @@
 -- A step whose name is no usual one is added by its name.
 use Rattle.std.proofs.Common.{◌≡◌, ◌∷◌, sym, ap, ◌∙◌}
-use Rattle.schedule_text.specs.Schedules.{with_step_in}
 use Rattle.schedule_text.proofs.NamedSteps.{by_name}
 use Rattle.schedule_text.proofs.schedule.Schedule.add_step_in.Goals as goal
 
