@@ -60,6 +60,16 @@ impl Record {
         requires { offset ≤ length self.now }
         ensures { result ≡ part_of self.now offset count }
     {
+        let mut part = RecordPart::empty();
+        self.put_part(offset, count, &mut part);
+        part
+    }
+
+    /// Puts what [`Record::part`] gives in the place of a part.
+    pub fn put_part(&self, offset: usize, count: u16, part: &mut RecordPart)
+        requires { offset ≤ length self.now }
+        ensures { part.new ≡ part_of self.now offset count }
+    {
         let record = self.as_slice();
         let (_, rest) = record.split_at(offset);
         let count = usize::from(count).min(MAX_PART_BYTES).min(rest.len());
@@ -70,7 +80,7 @@ impl Record {
         } else {
             None
         };
-        RecordPart::new(flag, bytes, checksum).unwrap()
+        part.put(flag, bytes, checksum);
     }
 }
 

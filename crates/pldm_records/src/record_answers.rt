@@ -9,7 +9,7 @@ use crate::repository::Repository;
 use pldm_platform::{
     INVALID_DATA_TRANSFER_HANDLE, INVALID_RECORD_HANDLE, INVALID_TRANSFER_OPERATION, refused,
 };
-use pldm_wire::{Answer, Code, GET_FIRST_PART, TIME_BYTES};
+use pldm_wire::{Answer, Code, GET_FIRST_PART, RecordPart, TIME_BYTES};
 
 /// The answer to GetPDRRepositoryInfo of a repository with these two times of its last change
 /// (DSP0248, "GetPDRRepositoryInfo command"; the times are timestamp104 of DSP0240).
@@ -45,42 +45,28 @@ pub fn put_record_part(
     ensures { given.new ≡ record_answer record_handle data_transfer_handle transfer_operation_flag request_count
         records.now }
 {
-    *given = record_answer(
-        records,
-        record_handle,
-        data_transfer_handle,
-        transfer_operation_flag,
-        request_count,
-    );
-}
-
-/// The answer to GetPDR.
-fn record_answer(
-    records: &Repository,
-    record_handle: u32,
-    data_transfer_handle: u32,
-    transfer_operation_flag: u8,
-    request_count: u16,
-) -> Answer
-    ensures { result ≡ record_answer record_handle data_transfer_handle transfer_operation_flag request_count
-        records.now }
-{
     if request_count == 0 {
-        return Answer::Refused(Code::ERROR_INVALID_DATA);
+        *given = Answer::Refused(Code::ERROR_INVALID_DATA);
+        return;
     }
     if transfer_operation_flag > GET_FIRST_PART {
-        return refused(INVALID_TRANSFER_OPERATION);
+        *given = refused(INVALID_TRANSFER_OPERATION);
+        return;
     }
     let Some(position) = records.position_asked(record_handle) else {
-        return refused(INVALID_RECORD_HANDLE);
+        *given = refused(INVALID_RECORD_HANDLE);
+        return;
     };
     let Some(pdr) = records.get(position) else {
-        return refused(INVALID_RECORD_HANDLE);
+        *given = refused(INVALID_RECORD_HANDLE);
+        return;
     };
     let Some(offset) = offset_asked(transfer_operation_flag, data_transfer_handle, pdr) else {
-        return refused(INVALID_DATA_TRANSFER_HANDLE);
+        *given = refused(INVALID_DATA_TRANSFER_HANDLE);
+        return;
     };
-    part_answered(records.handle_at(position + 1), request_count, pdr, offset)
+    let next_record_handle = records.handle_at(position + 1);
+    put_part(next_record_handle, request_count, pdr, offset, given);
 }
 
 /// The offset of the part that is asked for, where one begins there.
@@ -102,17 +88,36 @@ fn offset_asked(
     Some(offset)
 }
 
-/// The part of the record from the offset on, and where the next one begins.
-fn part_answered(next_record_handle: u32, request_count: u16, pdr: &Record, offset: usize) -> Answer
+/// Puts the part of the record from the offset on, and where the next one begins.
+fn put_part(
+    next_record_handle: u32,
+    request_count: u16,
+    pdr: &Record,
+    offset: usize,
+    given: &mut Answer,
+)
     requires { offset ≤ length pdr.now }
-    ensures { result ≡ part_answered next_record_handle request_count pdr.now (Some offset) }
+    ensures { given.new ≡ part_answered next_record_handle request_count pdr.now (Some offset) }
 {
     let length = pdr.as_slice().len();
-    let part = pdr.part(offset, request_count);
-    let end = offset + part.as_slice().len();
-    Answer::GetPdr {
+    // The part is written where it stays, so that it is not moved.
+    *given = Answer::GetPdr {
         next_record_handle,
-        next_data_transfer_handle: if end < length { end as u32 } else { 0 },
-        part,
+        next_data_transfer_handle: 0,
+        part: RecordPart::empty(),
+    };
+    match given {
+        Answer::GetPdr {
+            next_data_transfer_handle,
+            part,
+            ..
+        } => {
+            pdr.put_part(offset, request_count, part);
+            let end = offset + part.as_slice().len();
+            if end < length {
+                *next_data_transfer_handle = end as u32;
+            }
+        }
+        _ => unreachable!(),
     }
 }

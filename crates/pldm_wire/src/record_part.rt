@@ -33,8 +33,9 @@ impl Model for RecordPart {
 }
 
 impl RecordPart {
-    ghost use Rattle.std.specs.Prelude.{◌≡◌, ◌↔◌, IsSome, IfSome};
+    ghost use Rattle.std.specs.Prelude.{◌≡◌, ◌↔◌, [], None, IsSome, IfSome};
     ghost use Rattle.pldm_wire.specs.RecordParts.{IsPart, part};
+    ghost use Rattle.pldm_wire.specs.declared.transfer_flag.TransferFlag.TheVariants.{StartAndEnd};
 
     /// This part, where it is not too long and has a checksum exactly where its flag is
     /// [`TransferFlag::End`].
@@ -53,13 +54,31 @@ impl RecordPart {
         requires { IsPart (part flag bytes.now transfer_crc) }
         ensures { result ≡ part flag bytes.now transfer_crc }
     {
-        let mut kept = ArrayVec::new();
-        let _ = kept.try_extend_from_slice(bytes); // they fit
+        let mut made = RecordPart::empty();
+        made.put(flag, bytes, transfer_crc);
+        made
+    }
+
+    /// The whole of a record that has no bytes.
+    pub fn empty() -> RecordPart
+        ensures { result ≡ part StartAndEnd [] None }
+    {
         RecordPart {
-            flag,
-            bytes: kept,
-            transfer_crc,
+            flag: TransferFlag::StartAndEnd,
+            bytes: ArrayVec::new(),
+            transfer_crc: None,
         }
+    }
+
+    /// Puts this part in the place of what is here, so that none is moved. It has to be one.
+    pub fn put(&mut self, flag: TransferFlag, bytes: &[u8], transfer_crc: Option<u8>)
+        requires { IsPart (part flag bytes.now transfer_crc) }
+        ensures { self.new ≡ part flag bytes.now transfer_crc }
+    {
+        self.flag = flag;
+        self.bytes.clear();
+        let _ = self.bytes.try_extend_from_slice(bytes); // they fit
+        self.transfer_crc = transfer_crc;
     }
 
     /// Its transfer flag.
