@@ -15,3 +15,4 @@ pub mod TakenPackets
 pub mod NumberedMaps
 pub mod KeyNumbers
 mod Numbers
+pub mod OpenBySource

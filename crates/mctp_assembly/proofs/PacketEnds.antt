@@ -1,13 +1,13 @@
 -- What a packet cannot give: an end packet leaves no message open, and no other completes one.
 use Rattle.std.specs.FinMap as map
-use Rattle.std.proofs.Common.{◌≡◌, ℕ, List, true, false, Some, None, Option, refl, arith}
+use Rattle.std.proofs.Common.{◌≡◌, ℕ, List, true, false, Some, None, Option, refl, sym, ap, ◌∙◌, arith}
 use Rattle.std.proofs.lemmas.Grind.{common_steps}
 use Rattle.mctp_packet.specs.Packets.{Packet}
 use Rattle.mctp_packet.specs.declared.TheConstants.{MAX_PACKETS}
 use Rattle.mctp_assembly.specs.Fed.{fed_with}
 use Rattle.mctp_assembly.specs.Keys.{key_of}
 use Rattle.mctp_assembly.specs.Opened.{Opened}
-use Rattle.mctp_assembly.specs.Steps.{Held, answer, answer_to, after, after_piece, unless_whole}
+use Rattle.mctp_assembly.specs.Steps.{Held, answer, answer_alone, answer_to, after, after_piece, unless_whole}
 use Rattle.mctp_assembly.specs.declared.fed.Fed.{Fed}
 use Rattle.mctp_assembly.specs.declared.fed.Fed.TheVariants as feds
 use Rattle.mctp_assembly.specs.declared.fed.FedInto.{FedInto}
@@ -22,6 +22,13 @@ none_whole (Some o) p bytes unended whole = grind (arith, common_steps, unended,
 pub none_partial : (o : Option Opened) (p : Packet) → p.end ≡ true → feds.Partial ≡ answer_to MAX_PACKETS o p → ⊥
 none_partial None p ended partial = grind (arith, common_steps, ended, partial)
 none_partial (Some o) p ended partial = grind (arith, common_steps, ended, partial)
+
+-- a packet that is no start packet begins no message
+not_begun : (p : Packet) → p.start ≡ false → feds.Partial ≡ answer_alone p → ⊥
+not_begun p start partial = grind (arith, common_steps, start, partial)
+
+pub not_partial : (p : Packet) (given : FedInto) (body : List ℕ) → fed_with body given ≡ answer_alone p → p.start ≡ false → given ≡ Partial → ⊥
+not_partial p given body fed start partial = not_begun p start (ap (fed_with body) (sym partial) ∙ fed)
 
 pub with_any : (given : FedInto) (body bytes : List ℕ) (o : Option Opened) (p : Packet) → p.end ≡ false
     → fed_with body given ≡ answer_to MAX_PACKETS o p → fed_with bytes given ≡ answer_to MAX_PACKETS o p

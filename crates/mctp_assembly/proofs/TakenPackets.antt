@@ -88,10 +88,10 @@ module _ (l m : Numbered) (same : l ≡ m) (rises : Rises none_open l) (k place 
     dropped_here new reason removed entry dropped =
         ended_here new reason (removed ∙ ap (λ (list : Numbered). remove list place) (as_it_was entry)) dropped
 
--- ---- at the gap for the number
-module _ (m : Numbered) (k place : ℕ) (gap : IsGapFor none_open m k place) (p : Packet) (given : FedInto) (body : List ℕ) (fed : fed_with body given ≡ answer_alone p) where
+-- ---- where nothing is open under the number
+module _ (m : Numbered) (k : ℕ) (nothing : at m k ≡ None) (p : Packet) (given : FedInto) (body : List ℕ) (fed : fed_with body given ≡ answer_alone p) where
   none : None ≡ at m k
-  none = sym (none_in_gap none_open m k place gap)
+  none = sym nothing
 
   pub fed_alone : fed_with body given ≡ answer_to MAX_PACKETS (at m k) p
   fed_alone = fed ∙ ap (λ o. answer_to MAX_PACKETS o p) none
@@ -99,8 +99,9 @@ module _ (m : Numbered) (k place : ℕ) (gap : IsGapFor none_open m k place) (p 
   left_alone : left_by (fed_with body given) None p ≡ left_by (answer_to MAX_PACKETS (at m k) p) (at m k) p
   left_alone = ap (λ f. left_by f None p) fed_alone ∙ ap (λ o. left_by (answer_to MAX_PACKETS (at m k) p) o p) none
 
-  pub begun_here : (l new : Numbered) (begun : ℕ × Opened) → l ≡ m → new ≡ insert l place begun → begun ≡ (k, begun_by p) → given ≡ Partial → Leaves m new k p
-  begun_here l new begun same inserted entry partial =
+  -- at the gap for the number
+  pub begun_here : (place : ℕ) → IsGapFor none_open m k place → (l new : Numbered) (begun : ℕ × Opened) → l ≡ m → new ≡ insert l place begun → begun ≡ (k, begun_by p) → given ≡ Partial → Leaves m new k p
+  begun_here place gap l new begun same inserted entry partial =
       let opened = ap (λ g. left_by (fed_with body g) None p) (sym partial) ∙ left_alone in
       let made : new ≡ insert m place (k, begun_by p) = inserted ∙ ap (insert l place) entry ∙ ap (λ (list : Numbered). insert list place (k, begun_by p)) same in
       change_of none_open m m new k (Some (begun_by p)) _ refl opened

@@ -7,3 +7,4 @@ pub mod Histories
 pub mod Laws
 pub mod NumberLists
 pub mod Numbered
+pub mod BySource

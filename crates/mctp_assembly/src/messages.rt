@@ -18,11 +18,7 @@ use mctp_packet::{Body, Memory, PacketRef};
 use std::alloc::Global;
 use std::marker::Model;
 
-/// In a list of at most so many, to count the smaller numbers takes less time than to halve the list: no jump
-/// depends on a number.
-const FEW: usize = 32;
-
-/// The open messages by the numbers of their keys, which rise.
+/// Open messages by the numbers of their keys, which rise.
 #[derive(Debug, Drop)]
 pub(crate) struct Messages {
     alloc: Global,
@@ -57,11 +53,6 @@ impl Messages {
         ensures found { IfOk result (IsAt none_open self.now number) }
         ensures absent { IfErr result (IsGapFor none_open self.now number) }
     {
-        if self.len() > FEW {
-            return self
-                .list
-                .binary_search_by_key(&number, |buffer| buffer.number());
-        }
         let place = self.smaller(number);
         if place < self.len() && self.list[place].number() == number {
             Ok(place)
@@ -101,31 +92,7 @@ impl Messages {
         self.list.len()
     }
 
-    /// Takes a packet under this number, and gives what it gives, with a message that it completes in `message`:
-    /// what is open there is then left as it is. The list is searched once.
-    pub(crate) fn take(
-        &mut self,
-        number: u16,
-        packet: &PacketRef<'_>,
-        message: &mut Body,
-    ) -> Result<FedInto, Memory>
-        requires { IsNumber number }
-        ensures fed { IfOk result (λ given. fed_with message.new.items given
-            ≡ answer_to MAX_PACKETS (at self.old number) packet.now) }
-        ensures ok { OnOk result (Changes self.old self.new number (left_by
-            (answer_to MAX_PACKETS (at self.old number) packet.now) (at self.old number) packet.now)) }
-        ensures memory { OnErr result (answer_to MAX_PACKETS (at self.old number) packet.now ≡ Partial) }
-        ensures at_start { OnErr result (packet.now.start ≡ true) }
-        ensures err { OnErr result (self.new ≡ self.old) }
-    {
-        if packet.end() {
-            Ok(self.take_end(number, packet, message))
-        } else {
-            self.take_open(number, packet)
-        }
-    }
-
-    /// Takes a packet that is not an end packet, as [`Messages::take`] does.
+    /// Takes a packet under this number that is not an end packet, and gives what it gives. The list is searched once.
     pub(crate) fn take_open(
         &mut self,
         number: u16,
@@ -160,8 +127,9 @@ impl Messages {
         }
     }
 
-    /// Takes an end packet, as [`Messages::take`] does.
-    fn take_end(&mut self, number: u16, packet: &PacketRef<'_>, message: &mut Body) -> FedInto
+    /// Takes an end packet under this number, and gives what it gives, with a message that it completes in `message`:
+    /// what is open there is then left as it is.
+    pub(crate) fn take_end(&mut self, number: u16, packet: &PacketRef<'_>, message: &mut Body) -> FedInto
         requires { packet.now.end ≡ true }
         ensures fed { fed_with message.new.items result ≡ answer_to MAX_PACKETS (at self.old number) packet.now }
         ensures left { Changes self.old self.new number (left_by

@@ -1,24 +1,10 @@
-use Rattle.std.proofs.Common.{rules, ℕ, ◌<◌, length, subst, sym, ap, arith, ◌∙◌}
+use Rattle.std.proofs.Common.{ℕ, ◌<◌, length, subst, sym, ap, arith, ◌∙◌}
 use Rattle.std.proofs.lemmas.List.{get_or_default}
-use Rattle.std.proofs.lemmas.List.Sorted.{answers_always}
 use Rattle.mctp_assembly.specs.NumberLists.{Rises, number_in}
 use Rattle.mctp_assembly.specs.Numbered.{Numbered, none_open}
 use Rattle.mctp_assembly.specs.Opened.{Opened}
 use Rattle.mctp_assembly.proofs.NumberCounts.{goes}
-use Rattle.mctp_assembly.proofs.NumberPlaces.{found_by, absent_by}
 use Rattle.mctp_assembly.proofs.messages.Messages.search.Goals as goal
-
-pub returns-then-len-gt-FEW-clause-found : goal.returns-then-len-gt-FEW-clause-found
-returns-then-len-gt-FEW-clause-found c =
-    let facts = c.binary_search_by_key.ensures in
-    let by_number = facts.position (λ pair. pair.0) (answers_always _ _ _ (λ f a r g called. search rules)) in
-    rw (← c.self.view_is, ← c.deref.ensures.value) (found_by none_open _ (rw c.deref.ensures.value c.self.invariant.rises) c.args.number _ facts.bound by_number)
-
-pub returns-then-len-gt-FEW-clause-absent : goal.returns-then-len-gt-FEW-clause-absent
-returns-then-len-gt-FEW-clause-absent c =
-    let facts = c.binary_search_by_key.ensures in
-    let by_number = facts.position (λ pair. pair.0) (answers_always _ _ _ (λ f a r g called. search rules)) in
-    rw (← c.self.view_is, ← c.deref.ensures.value) (absent_by none_open _ (rw c.deref.ensures.value c.self.invariant.rises) c.args.number _ facts.bound by_number)
 
 pub returns-else-place-len-clause-absent : goal.returns-else-place-len-clause-absent
 returns-else-place-len-clause-absent c =
@@ -30,5 +16,5 @@ returns-else-place-len-clause-absent c =
           let here = ap (λ (entry : ℕ × Opened). entry.0) (w.index.ensures ∙ get_or_default list c.smaller-place.result w.index.result.now (0, none_open) within) in
           w.if-number.false (w.number.ensures ∙ here ∙ ap (λ (l : Numbered). number_in none_open l c.smaller-place.result) c.self.view_is ∙ same)
       | goal.else-place-len-via-else-place-len w ↦ λ in_range same.
-          absurd (omega (arith, w.if-place-len.false, c.len-2.ensures.value, in_range))
+          absurd (omega (arith, w.if-place-len.false, c.len.ensures.value, in_range))
     ])

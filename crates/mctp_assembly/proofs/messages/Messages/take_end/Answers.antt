@@ -1,6 +1,7 @@
 use Rattle.std.proofs.Common.{refl, sym, subst}
 use Rattle.mctp_assembly.specs.NumberLists.{IsAt}
 use Rattle.mctp_assembly.specs.Numbered.{none_open, AreOpen, Numbered}
+use Rattle.mctp_assembly.proofs.NumberPlaces.{none_in_gap}
 use Rattle.mctp_assembly.proofs.OpenPlaces.{open_removed}
 use Rattle.mctp_assembly.proofs.TakenPackets.{fed_here, kept_here, ended_here, fed_alone, unchanged_at_end}
 use Rattle.mctp_assembly.proofs.messages.Messages.take_end.Goals as goal
@@ -33,9 +34,9 @@ returns-in_default c = record {
 
 pub returns-in-Err-clause-fed : goal.returns-in-Err-clause-fed
 returns-in-Err-clause-fed c =
-    fed_alone c.args.self.now c.args.number c.in-Err.field-0 c.in-Err.ensures.absent c.args.packet.now c.look_alone.result c.look_alone.new.message.items c.look_alone.ensures
+    fed_alone c.args.self.now c.args.number (none_in_gap none_open c.args.self.now c.args.number c.in-Err.field-0 c.in-Err.ensures.absent) c.args.packet.now c.look_alone.result c.look_alone.new.message.items c.look_alone.ensures
 
 pub returns-in-Err-clause-left : goal.returns-in-Err-clause-left
 returns-in-Err-clause-left c =
-    unchanged_at_end c.args.self.now c.args.number c.in-Err.field-0 c.in-Err.ensures.absent c.args.packet.now c.look_alone.result c.look_alone.new.message.items c.look_alone.ensures
+    unchanged_at_end c.args.self.now c.args.number (none_in_gap none_open c.args.self.now c.args.number c.in-Err.field-0 c.in-Err.ensures.absent) c.args.packet.now c.look_alone.result c.look_alone.new.message.items c.look_alone.ensures
     c.requires

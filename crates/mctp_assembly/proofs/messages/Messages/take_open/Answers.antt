@@ -3,6 +3,7 @@ use Rattle.mctp_assembly.specs.NumberLists.{IsGapFor, at}
 use Rattle.mctp_assembly.specs.Numbered.{none_open, AreOpen, Numbered}
 use Rattle.mctp_assembly.specs.Opened.{Opened}
 use Rattle.mctp_assembly.specs.Steps.{carried_on}
+use Rattle.mctp_assembly.proofs.NumberPlaces.{none_in_gap}
 use Rattle.mctp_assembly.proofs.OpenPlaces.{open_inserted}
 use Rattle.mctp_assembly.proofs.PacketEnds.{with_any}
 use Rattle.mctp_assembly.proofs.TakenPackets.{open_taken, open_dropped, fed_here, taken_here, dropped_here, fed_alone, begun_here, unchanged_here}
@@ -53,14 +54,14 @@ returns-in_default c = record {
 
 pub returns-in_ok-insert-in-Err-clause-ok : goal.returns-in_ok-insert-in-Err-clause-ok
 returns-in_ok-insert-in-Err-clause-ok c =
-    begun_here c.args.self.now c.args.number c.in-Err.place c.in-Err.ensures.absent c.args.packet.now c.judge_alone-given.result c.args.packet.now.payload c.judge_alone-given.ensures
-    c.self.inside.list.items c.insert.new.self.items c.in_ok-begun-in-Err.begun c.self.view_is c.in_ok-insert-in-Err.ensures.items c.in_ok-begun-in-Err.ensures.value c.in-Partial.is
+    begun_here c.args.self.now c.args.number (none_in_gap none_open c.args.self.now c.args.number c.in-Err.place c.in-Err.ensures.absent) c.args.packet.now c.judge_alone-given.result c.args.packet.now.payload c.judge_alone-given.ensures
+    c.in-Err.place c.in-Err.ensures.absent c.self.inside.list.items c.insert.new.self.items c.in_ok-begun-in-Err.begun c.self.view_is c.in_ok-insert-in-Err.ensures.items c.in_ok-begun-in-Err.ensures.value c.in-Partial.is
 
 pub returns-in_default-given : goal.returns-in_default-given
 returns-in_default-given c = record {
   fed = λ bytes. with_any c.judge_alone-given.result _ bytes (at c.args.self.now c.args.number) c.args.packet.now c.requires.unended
-      (fed_alone c.args.self.now c.args.number c.in-Err.place c.in-Err.ensures.absent c.args.packet.now c.judge_alone-given.result c.args.packet.now.payload c.judge_alone-given.ensures);
-  ok = unchanged_here c.args.self.now c.args.number c.in-Err.place c.in-Err.ensures.absent c.args.packet.now c.judge_alone-given.result c.args.packet.now.payload c.judge_alone-given.ensures
+      (fed_alone c.args.self.now c.args.number (none_in_gap none_open c.args.self.now c.args.number c.in-Err.place c.in-Err.ensures.absent) c.args.packet.now c.judge_alone-given.result c.args.packet.now.payload c.judge_alone-given.ensures);
+  ok = unchanged_here c.args.self.now c.args.number (none_in_gap none_open c.args.self.now c.args.number c.in-Err.place c.in-Err.ensures.absent) c.args.packet.now c.judge_alone-given.result c.args.packet.now.payload c.judge_alone-given.ensures
       c.in_default-given.not-Partial;
   memory = tt;
   at_start = tt;
