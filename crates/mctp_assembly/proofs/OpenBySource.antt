@@ -1,5 +1,5 @@
 -- What is open by source: what stands under a number is in the list of its source, and a change there is one of all.
-use Rattle.std.proofs.Common.{◌≡◌, ◌≢◌, ℕ, zero, suc, ◌+◌, ◌-◌, ◌*◌, ◌/◌, ◌<◌, ◌≤◌, ◌==◌, ◌++◌, [], ◌∷◌, length, Bool, true, false, cond, Option, Some, None, Fits, w64, refl, sym, ap, subst, arith, ◌∙◌, eqb-true}
+use Rattle.std.proofs.Common.{◌≡◌, ◌≢◌, ℕ, zero, suc, ◌+◌, ◌-◌, ◌/◌, ◌<◌, ◌≤◌, ◌==◌, ◌++◌, [], ◌∷◌, length, Bool, true, false, cond, Option, Some, None, Fits, w64, refl, sym, ap, subst, arith, ◌∙◌, eqb-true}
 use Rattle.std.specs.Prelude.{slice_set, slice_index_or, List}
 use Rattle.std.specs.List.{All}
 use Rattle.std.proofs.lemmas.Bool.{eqb-false, ne_eqb}
@@ -7,7 +7,7 @@ use Rattle.std.proofs.lemmas.Bool.Decides.{nat_tests}
 use Rattle.std.proofs.lemmas.List.{length-append, get_or_append_left, get_or-append_right, get_or-set_same, get_or-set_other, get_or_past, get_or_default, set-get_or}
 use Rattle.std.proofs.lemmas.List.Elements.{All-append}
 use Rattle.mctp_assembly.specs.BySource.{AreBySource, all_open, row}
-use Rattle.mctp_assembly.specs.NumberLists.{Changes, Rises, IsAt, at, number_in}
+use Rattle.mctp_assembly.specs.NumberLists.{Changes, Rises, at, number_in}
 use Rattle.mctp_assembly.specs.Numbered.{Numbered, AreOpen, IsEntry, KEYS, none_open}
 use Rattle.mctp_assembly.specs.Opened.{Opened}
 use Rattle.mctp_assembly.specs.declared.assembler.TheConstants.{MAX_ASSEMBLIES}
@@ -84,16 +84,31 @@ not_below : (sources : List Numbered) (s : ℕ) → ((i : ℕ) → AreOpen (row 
 not_below [] s each own i in_range = absurd (omega arith)
 not_below (list ∷ rest) s each own i in_range =
     let long = length-append list (all_open rest) in
-    grind (arith, nat_tests, number_left list (all_open rest) i, number_right list (all_open rest) i, number_of_source list s (each 0).rises (own_here s list rest own) i,
-    not_below rest (suc s) (λ j. each (suc j)) (own_rest s list rest own) (i - length list))
+    grind (
+      arith,
+      nat_tests,
+      number_left list (all_open rest) i,
+      number_right list (all_open rest) i,
+      number_of_source list s (each 0).rises (own_here s list rest own) i,
+      not_below rest (suc s) (λ j. each (suc j)) (own_rest s list rest own) (i - length list),
+    )
 
 rises_from : (sources : List Numbered) (s : ℕ) → ((i : ℕ) → AreOpen (row sources i)) → OwnFrom s sources → Rises none_open (all_open sources)
 rises_from [] s each own i j lt in_range = absurd (omega arith)
 rises_from (list ∷ rest) s each own i j lt in_range =
     let long = length-append list (all_open rest) in
-    grind (arith, nat_tests, number_left list (all_open rest) i, number_right list (all_open rest) i, number_left list (all_open rest) j, number_right list (all_open rest) j,
-    (each 0).rises i j lt, number_of_source list s (each 0).rises (own_here s list rest own) i, not_below rest (suc s) (λ k. each (suc k)) (own_rest s list rest own) (j - length list),
-    rises_from rest (suc s) (λ k. each (suc k)) (own_rest s list rest own) (i - length list) (j - length list))
+    grind (
+      arith,
+      nat_tests,
+      number_left list (all_open rest) i,
+      number_right list (all_open rest) i,
+      number_left list (all_open rest) j,
+      number_right list (all_open rest) j,
+      (each 0).rises i j lt,
+      number_of_source list s (each 0).rises (own_here s list rest own) i,
+      not_below rest (suc s) (λ k. each (suc k)) (own_rest s list rest own) (j - length list),
+      rises_from rest (suc s) (λ k. each (suc k)) (own_rest s list rest own) (i - length list) (j - length list),
+    )
 
 each_open : (sources : List Numbered) → ((i : ℕ) → AreOpen (row sources i)) → All IsEntry (all_open sources)
 each_open [] each = λ i d in_range. absurd (omega arith)
@@ -147,9 +162,9 @@ module _ (sources : List Numbered) (are : AreBySource sources) (n s : ℕ) (sour
   changes_all q =
       at_all (slice_set sources s new) still_by_source q
       ∙ replaced (λ t list. t ≡ q / KEYS → at list q ≡ cond (n == q) o (at (row sources (q / KEYS)) q))
-          (λ same. change q ∙ ap (λ t. cond (n == q) o (at (row sources t) q)) same)
-          (λ t other same. ap (λ t. at (row sources t) q) same ∙ ap (λ b. cond b o (at (row sources (q / KEYS)) q)) (sym (ne_eqb n q (λ equal. other (same ∙ ap (λ n. n / KEYS) (sym equal) ∙ sym source)))))
-          (q / KEYS) refl
+      (λ same. change q ∙ ap (λ t. cond (n == q) o (at (row sources t) q)) same)
+      (λ t other same. ap (λ t. at (row sources t) q) same ∙ ap (λ b. cond b o (at (row sources (q / KEYS)) q)) (sym (ne_eqb n q (λ equal. other (same ∙ ap (λ n. n / KEYS) (sym equal) ∙ sym source)))))
+      (q / KEYS) refl
       ∙ ap (cond (n == q) o) (sym (at_all sources are q))
 
 -- ---- a list more, with none open

@@ -14,7 +14,7 @@ use Rattle.mctp_assembly.specs.Steps.{answer_alone, answer_to, begun_by, carried
 use Rattle.mctp_assembly.specs.declared.fed.FedInto.{FedInto}
 use Rattle.mctp_assembly.specs.declared.fed.FedInto.TheVariants.{Whole, Partial, Dropped}
 use Rattle.mctp_assembly.proofs.PacketEnds.{none_partial}
-use Rattle.mctp_assembly.proofs.NumberPlaces.{read_at, written_at, removed_at, inserted_at, none_in_gap, change_of, unchanged}
+use Rattle.mctp_assembly.proofs.NumberPlaces.{read_at, written_at, removed_at, inserted_at, change_of, unchanged}
 use Rattle.mctp_assembly.proofs.OpenPlaces.{open_written, open_removed}
 
 -- what a packet leaves under a number, by what it gives where this is open there

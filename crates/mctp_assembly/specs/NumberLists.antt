@@ -1,4 +1,4 @@
--- Lists of values by numbers that rise, so that a look-up is a binary search.
+-- Lists of values by numbers that rise.
 use Rattle.std.specs.FinMap as map
 use Rattle.std.specs.declared.cmp.Ordering.{Ordering}
 use Rattle.std.specs.Prelude.{◌≡◌, ℕ, ◌<◌, ◌≤◌, ◌==◌, List, [], ◌∷◌, length, Option, Some, None, if◌then◌else◌, slice_index_or}

@@ -1,4 +1,4 @@
--- How an assembler holds its open messages: in a list by the numbers of their keys, which rise.
+-- Open messages in a list by the numbers of their keys, which rise.
 use Rattle.std.specs.Prelude.{ℕ, ◌+◌, ◌*◌, ◌/◌, ◌%◌, ◌<◌, ◌≤◌, ◌==◌, []}
 use Rattle.std.specs.List.{All}
 use Rattle.std.specs.Coded.{Coded, coded_list, coded×, coded_ℕ}

@@ -129,7 +129,12 @@ impl Messages {
 
     /// Takes an end packet under this number, and gives what it gives, with a message that it completes in `message`:
     /// what is open there is then left as it is.
-    pub(crate) fn take_end(&mut self, number: u16, packet: &PacketRef<'_>, message: &mut Body) -> FedInto
+    pub(crate) fn take_end(
+        &mut self,
+        number: u16,
+        packet: &PacketRef<'_>,
+        message: &mut Body,
+    ) -> FedInto
         requires { packet.now.end ≡ true }
         ensures fed { fed_with message.new.items result ≡ answer_to MAX_PACKETS (at self.old number) packet.now }
         ensures left { Changes self.old self.new number (left_by

@@ -8,7 +8,7 @@ pub returns-then-source-len : goal.returns-then-source-len
 returns-then-source-len c =
     unchanged none_open c.args.self.now c.args.number
     (none_past c.self.inside.sources.items c.args.self.now c.self.view_is c.self.invariant.0 c.args.number c.source_of-source.result c.source_of-source.ensures
-        (omega (arith, c.if-source-len.true, c.len.ensures)))
+    (omega (arith, c.if-source-len.true, c.len.ensures)))
 
 pub overflow_sub-self : goal.overflow_sub-self
 overflow_sub-self c =

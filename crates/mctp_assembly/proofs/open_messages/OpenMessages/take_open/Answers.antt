@@ -1,4 +1,4 @@
-use Rattle.std.proofs.Common.{ℕ, Option, ◌≡◌, ◌∙◌, length, sym, ap, subst, arith}
+use Rattle.std.proofs.Common.{Option, ◌≡◌, ◌∙◌, length, sym, ap, subst}
 use Rattle.std.specs.Prelude.{List, slice_set}
 use Rattle.mctp_packet.specs.declared.TheConstants.{MAX_PACKETS}
 use Rattle.mctp_assembly.specs.BySource.{AreBySource, all_open}
@@ -27,7 +27,7 @@ pub returns-then-not-branch-clause-fed : goal.returns-then-not-branch-clause-fed
 returns-then-not-branch-clause-fed c bytes =
     let are = still_as_before c.self.inside.sources.items c.make_place.new.sources.items c.make_place.ensures.same c.self.invariant.0 in
     let none = none_past c.make_place.new.sources.items c.args.self.now (c.make_place.ensures.all ∙ c.self.view_is) are c.args.number c.source_of-source.result c.source_of-source.ensures
-        (c.in_ok-make_place.ensures.none c.if-not-branch.true) in
+    (c.in_ok-make_place.ensures.none c.if-not-branch.true) in
     with_any c.judge_alone.result _ bytes (at c.args.self.now c.args.number) c.args.packet.now c.requires.unended
     (fed_alone c.args.self.now c.args.number none c.args.packet.now c.judge_alone.result c.args.packet.now.payload c.judge_alone.ensures)
 
@@ -35,12 +35,12 @@ pub returns-then-not-branch-clause-ok : goal.returns-then-not-branch-clause-ok
 returns-then-not-branch-clause-ok c =
     let are = still_as_before c.self.inside.sources.items c.make_place.new.sources.items c.make_place.ensures.same c.self.invariant.0 in
     let none = none_past c.make_place.new.sources.items c.args.self.now (c.make_place.ensures.all ∙ c.self.view_is) are c.args.number c.source_of-source.result c.source_of-source.ensures
-        (c.in_ok-make_place.ensures.none c.if-not-branch.true) in
+    (c.in_ok-make_place.ensures.none c.if-not-branch.true) in
     let not_start = sym c.start.ensures ∙ c.in_ok-make_place.ensures.other c.if-not-branch.true in
     subst (λ (new : Numbered). Changes c.args.self.now new c.args.number (left_by (answer_to MAX_PACKETS (at c.args.self.now c.args.number) c.args.packet.now) (at c.args.self.now c.args.number) c.args.packet.now))
     (sym (c.make_place.ensures.all ∙ c.self.view_is))
     (unchanged_here c.args.self.now c.args.number none c.args.packet.now c.judge_alone.result c.args.packet.now.payload c.judge_alone.ensures
-        (not_partial c.args.packet.now c.judge_alone.result c.args.packet.now.payload c.judge_alone.ensures not_start))
+    (not_partial c.args.packet.now c.judge_alone.result c.args.packet.now.payload c.judge_alone.ensures not_start))
 
 pub invariant_of-self-in_err-given : goal.invariant_of-self-in_err-given
 invariant_of-self-in_err-given c =
@@ -79,9 +79,9 @@ returns-clause-fed c bytes =
     let after = c.make_place.new.sources.items in
     let are = still_as_before c.self.inside.sources.items after c.make_place.ensures.same c.self.invariant.0 in
     let here = in_row after c.args.self.now (c.make_place.ensures.all ∙ c.self.view_is) are c.args.number c.source_of-source.result c.source_of-source.ensures c.index_mut-messages.result.now
-        (read_row after c.args.self.now (c.make_place.ensures.all ∙ c.self.view_is) are c.self.inside.count (c.self.invariant.1 ∙ ap length (sym c.make_place.ensures.all))
-        c.args.number c.source_of-source.result c.source_of-source.ensures (c.in_ok-make_place.ensures.made c.if-not-branch.false)
-        c.index_mut-messages.result.now c.index_mut-messages.ensures.value c.len-before.result c.len-before.ensures.value) in
+    (read_row after c.args.self.now (c.make_place.ensures.all ∙ c.self.view_is) are c.self.inside.count (c.self.invariant.1 ∙ ap length (sym c.make_place.ensures.all))
+    c.args.number c.source_of-source.result c.source_of-source.ensures (c.in_ok-make_place.ensures.made c.if-not-branch.false)
+    c.index_mut-messages.result.now c.index_mut-messages.ensures.value c.len-before.result c.len-before.ensures.value) in
     c.in_ok-given.ensures.fed bytes ∙ ap (λ o. answer_to MAX_PACKETS o c.args.packet.now) here
 
 pub returns-clause-ok : goal.returns-clause-ok
@@ -89,11 +89,11 @@ returns-clause-ok c =
     let after = c.make_place.new.sources.items in
     let are = still_as_before c.self.inside.sources.items after c.make_place.ensures.same c.self.invariant.0 in
     let here = in_row after c.args.self.now (c.make_place.ensures.all ∙ c.self.view_is) are c.args.number c.source_of-source.result c.source_of-source.ensures c.index_mut-messages.result.now
-        (read_row after c.args.self.now (c.make_place.ensures.all ∙ c.self.view_is) are c.self.inside.count (c.self.invariant.1 ∙ ap length (sym c.make_place.ensures.all))
-        c.args.number c.source_of-source.result c.source_of-source.ensures (c.in_ok-make_place.ensures.made c.if-not-branch.false)
-        c.index_mut-messages.result.now c.index_mut-messages.ensures.value c.len-before.result c.len-before.ensures.value) in
+    (read_row after c.args.self.now (c.make_place.ensures.all ∙ c.self.view_is) are c.self.inside.count (c.self.invariant.1 ∙ ap length (sym c.make_place.ensures.all))
+    c.args.number c.source_of-source.result c.source_of-source.ensures (c.in_ok-make_place.ensures.made c.if-not-branch.false)
+    c.index_mut-messages.result.now c.index_mut-messages.ensures.value c.len-before.result c.len-before.ensures.value) in
     subst (λ (o : Option Opened). Changes c.args.self.now (all_open (slice_set after c.source_of-source.result c.take_open.new.self)) c.args.number (left_by (answer_to MAX_PACKETS o c.args.packet.now) o c.args.packet.now)) here
     (changed_all after c.args.self.now (c.make_place.ensures.all ∙ c.self.view_is) are c.self.inside.count (c.self.invariant.1 ∙ ap length (sym c.make_place.ensures.all))
-        c.args.number c.source_of-source.result c.source_of-source.ensures (c.in_ok-make_place.ensures.made c.if-not-branch.false)
-        c.index_mut-messages.result.now c.index_mut-messages.ensures.value c.len-before.result c.len-before.ensures.value
-        c.take_open.new.self c.len.result c.len.ensures.value c.len.ensures.few c.len.ensures.rises c.len.ensures.opened _ c.in_ok-given.ensures.ok)
+    c.args.number c.source_of-source.result c.source_of-source.ensures (c.in_ok-make_place.ensures.made c.if-not-branch.false)
+    c.index_mut-messages.result.now c.index_mut-messages.ensures.value c.len-before.result c.len-before.ensures.value
+    c.take_open.new.self c.len.result c.len.ensures.value c.len.ensures.few c.len.ensures.rises c.len.ensures.opened _ c.in_ok-given.ensures.ok)
