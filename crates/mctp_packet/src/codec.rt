@@ -101,8 +101,9 @@ pub fn write(packet: &PacketRef<'_>, out: &mut [u8; MAX_PACKET_BYTES]) -> usize
     count
 }
 
-/// The four bytes before a packet's payload, as they are written.
-pub(crate) fn header_of(packet: &PacketRef<'_>) -> [u8; HEADER]
+/// The bytes before the packet's payload, with reserved bits 0 (DSP0236, "MCTP packet fields"). With
+/// the payload after them they are what [`write`] writes.
+pub fn header_of(packet: &PacketRef<'_>) -> [u8; HEADER]
     ensures { result ≡ header packet.now }
 {
     let route = packet.route();

@@ -13,7 +13,7 @@ mod reason;
 mod times;
 
 use arrayvec::ArrayVec;
-pub use codec::{read, read_for, write};
+pub use codec::{header_of, read, read_for, write};
 pub use ids::{Eid, Seq, Tag};
 pub use memory::Memory;
 pub use packet::{PacketRef, Route};

@@ -1,6 +1,7 @@
 pub mod BitTexts
 pub mod GatheredParts
 pub mod ItemTexts
+pub mod PacketLines
 pub mod PairTables
 pub mod PlacesTold
 pub mod WrittenParts

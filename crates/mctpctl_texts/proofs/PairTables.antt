@@ -1,7 +1,7 @@
 -- A text whose digits are looked up in a table of pairs is written as `hex` writes it.
-use Rattle.std.proofs.Common.{◌≡◌, ◌<◌, ◌≤◌, ◌+◌, ◌*◌, ◌/◌, ◌%◌, inl, inr, ℕ, List, [], ◌∷◌, ◌++◌, length, take, get_or, slice_get, slice_index, slice_set, Some, refl, sym, ap, ◌∙◌, add-one, append_assoc, take-suc, length-set, arith}
+use Rattle.std.proofs.Common.{◌≡◌, ◌<◌, ◌≤◌, ◌+◌, ◌*◌, ◌/◌, ◌%◌, inl, inr, ℕ, List, [], ◌∷◌, ◌++◌, length, take, drop, get_or, slice_get, slice_index, slice_set, Some, refl, sym, ap, ◌∙◌, add-one, append_assoc, take-suc, length-set, arith}
 use Rattle.std.proofs.lemmas.Bool.{cases_lt}
-use Rattle.std.proofs.lemmas.List.{get_or-set_same, get_or-set_other, take_more_set}
+use Rattle.std.proofs.lemmas.List.{drop-drop, drop-set-lt, get_or-set_same, get_or-set_other, take_more_set}
 use Rattle.std.proofs.lemmas.Option.{get_or_from_slice_get, slice_get-get_or}
 use Rattle.hex.specs.Hex.{encode_lower, encode_with, lower_digits}
 use Rattle.mctpctl_texts.specs.HexPairs.{TellsPairs}
@@ -75,6 +75,15 @@ two_more room place high low within =
     rw end (take_more_set first (2 * place + 1) low (omega (arith, length-set room (2 * place) high))
     ∙ ap (λ front. front ++ low ∷ []) (take_more_set room (2 * place) high (omega arith))
     ∙ append_assoc (take (2 * place) room) (high ∷ []) (low ∷ []))
+
+-- what comes after two more digits is as it was
+pub rest_kept : (room old : List ℕ) (place high low : ℕ) → drop (2 * place) room ≡ drop (2 * place) old
+    → drop (2 * (place + 1)) (slice_set (slice_set room (2 * place) high) (2 * place + 1) low) ≡ drop (2 * (place + 1)) old
+rest_kept room old place high low kept =
+    let end : 2 * (place + 1) ≡ 2 * place + 2 = omega arith in
+    drop-set-lt (2 * (place + 1)) (slice_set room (2 * place) high) (2 * place + 1) low (omega arith)
+    ∙ drop-set-lt (2 * (place + 1)) room (2 * place) high (omega arith)
+    ∙ rw end (sym (drop-drop 2 (2 * place) room) ∙ ap (drop 2) kept ∙ drop-drop 2 (2 * place) old)
 
 pub pair_added : (pairs : List (List ℕ)) (room bytes : List ℕ) (place byte : ℕ) → TellsPairs pairs → byte < 256
     → byte ≡ get_or bytes place 0 → place < length bytes → 2 * place + 1 < length room

@@ -1,11 +1,9 @@
 //! The two hex digits of each byte, in a table that the crate `hex` fills.
 
-ghost use Rattle.std.specs.Prelude.{◌≡◌, ◌≤◌, ◌*◌, ◌∷◌, [], length, take};
+ghost use Rattle.std.specs.Prelude.{◌≡◌, ◌≤◌, ◌*◌, ◌∷◌, ◌++◌, [], length, drop};
 ghost use Rattle.hex.specs.Hex.{encode_lower};
 ghost use Rattle.mctpctl_texts.specs.HexPairs.{TellsPairs};
-ghost use Rattle.mctpctl_texts.specs.Writers.{KeepsFront, Wrote};
 
-use crate::text_writer::TextWriter;
 use std::marker::Model;
 
 /// How many bytes there are.
@@ -42,19 +40,10 @@ impl HexPairs {
         HexPairs { pairs }
     }
 
-    /// Writes bytes in lower-case hex.
-    pub fn write<O: TextWriter>(&self, out: &mut O, bytes: &[u8]) -> Result<(), O::Refusal>
-        ensures written { Wrote O.contents O.failed O.refused out.old out.new (encode_lower bytes.now) result }
-        ensures front { KeepsFront O.begins out.old out.new }
-    {
-        out.write_pairs(self, bytes)
-    }
-
-    /// Puts bytes in lower-case hex in front of `room`, as `hex::encode_to_slice` does.
+    /// Puts bytes in lower-case hex in front of `room`, whose rest is left as it was.
     pub(crate) fn spell(&self, bytes: &[u8], room: &mut [u8])
         requires { 2 * length bytes.now ≤ length room.old }
-        ensures digits { take (2 * length bytes.now) room.new ≡ encode_lower bytes.now }
-        ensures length { length room.new ≡ length room.old }
+        ensures { room.new ≡ encode_lower bytes.now ++ drop (2 * length bytes.now) room.old }
     {
         for place in 0..bytes.len() {
             let [high, low] = self.pairs[usize::from(bytes[place])];

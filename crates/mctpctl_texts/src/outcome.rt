@@ -1,17 +1,18 @@
 //! The text of what becomes of one packet.
 
-ghost use Rattle.std.specs.Prelude.{◌≡◌, ◌++◌, OnOk, OnErr};
+ghost use Rattle.std.specs.Io.{StartsWith};
+ghost use Rattle.std.specs.Prelude.{◌≡◌, ◌≤◌, ◌*◌, ◌++◌, length, drop, OnOk, OnErr};
+ghost use Rattle.hex.specs.Hex.{encode_lower};
 ghost use Rattle.mctp_packet.specs.Packets.{written};
 ghost use Rattle.mctp_packet.specs.Pieces.{written_packets};
 ghost use Rattle.pldm_responder.specs.Answering.{answering};
 ghost use Rattle.mctpctl_texts.specs.OutcomeTexts.{outcome_text, packet_text, packets_text};
-ghost use Rattle.mctpctl_texts.specs.Writers.{KeepsFront, Wrote};
 
 use crate::hex_pairs::HexPairs;
 use crate::parts::{write_drop_line, write_text};
-use crate::text_writer::TextWriter;
-use mctp_packet::{MAX_PACKET_BYTES, Memory, PacketRef, Route, UNIT, packet_at, write};
+use mctp_packet::{HEADER, Memory, PacketRef, Route, UNIT, header_of, packet_at};
 use pldm_responder::MessageOutcome;
+use std::alloc::AllocError;
 
 /// Adds the lines of what becomes of a packet that `reply` answers: `drop NAME`, `partial`, or the
 /// answer's packets in lower-case hex by `pairs`, one a line. Whether the answer is a copy's, and whether it changed
@@ -33,16 +34,15 @@ pub fn push_outcome(
     result
 }
 
-/// As `push_outcome`, but that a front of the text may be taken before a refusal.
-fn write_outcome<O: TextWriter>(
-    out: &mut O,
+/// As `push_outcome`, but that a front of the text may be added before a refusal.
+fn write_outcome(
+    out: &mut Vec<u8>,
     pairs: &HexPairs,
     taken: &MessageOutcome,
     reply: &[u8],
-) -> Result<(), O::Refusal>
-    ensures written { Wrote O.contents O.failed O.refused out.old out.new
-        (outcome_text (answering reply.now taken.now)) result }
-    ensures front { KeepsFront O.begins out.old out.new }
+) -> Result<(), Memory>
+    ensures ok { OnOk result (out.new.items ≡ out.old.items ++ outcome_text (answering reply.now taken.now)) }
+    ensures err { OnErr result (StartsWith out.new.items out.old.items) }
 {
     match taken {
         MessageOutcome::Dropped(reason) => write_drop_line(out, *reason),
@@ -52,15 +52,14 @@ fn write_outcome<O: TextWriter>(
 }
 
 /// Writes the packets of a message on this route.
-fn write_packets<O: TextWriter>(
-    out: &mut O,
+fn write_packets(
+    out: &mut Vec<u8>,
     pairs: &HexPairs,
     route: &Route,
     message: &[u8],
-) -> Result<(), O::Refusal>
-    ensures written { Wrote O.contents O.failed O.refused out.old out.new
-        (packets_text (written_packets route.now message.now)) result }
-    ensures front { KeepsFront O.begins out.old out.new }
+) -> Result<(), Memory>
+    ensures ok { OnOk result (out.new.items ≡ out.old.items ++ packets_text (written_packets route.now message.now)) }
+    ensures err { OnErr result (StartsWith out.new.items out.old.items) }
 {
     for i in 0..message.len().div_ceil(UNIT) {
         let Some(packet) = packet_at(route, message, i) else {
@@ -71,18 +70,28 @@ fn write_packets<O: TextWriter>(
     Ok(())
 }
 
-/// Writes the bytes of a packet in lower-case hex, on a line.
-fn write_packet<O: TextWriter>(
-    out: &mut O,
-    pairs: &HexPairs,
-    packet: &PacketRef<'_>,
-) -> Result<(), O::Refusal>
-    ensures written { Wrote O.contents O.failed O.refused out.old out.new
-        (packet_text (written packet.now)) result }
-    ensures front { KeepsFront O.begins out.old out.new }
+/// Writes the bytes of a packet in lower-case hex, on a line. The whole line gets its room at once. An `Err` writes
+/// nothing.
+fn write_packet(out: &mut Vec<u8>, pairs: &HexPairs, packet: &PacketRef<'_>) -> Result<(), Memory>
+    ensures ok { OnOk result (out.new.items ≡ out.old.items ++ packet_text (written packet.now)) }
+    ensures err { OnErr result (out.new.items ≡ out.old.items) }
 {
-    let mut bytes = [0; MAX_PACKET_BYTES];
-    let count = write(packet, &mut bytes);
-    pairs.write(out, &bytes[..count])?;
-    write_text(out, "\n")
+    let start = out.len();
+    let Some(end) = start.checked_add(2 * (HEADER + packet.payload().len()) + 1) else {
+        return Err(AllocError.into()); // more bytes than an allocator can give
+    };
+    out.resize(end, b'\n')?;
+    spell_packet(pairs, packet, &mut out[start..]);
+    Ok(())
+}
+
+/// Puts the bytes of a packet in lower-case hex in front of `room`, whose rest is left as it was. They are not put one
+/// after the other first: a copy over bytes that were just stored one by one would wait for them.
+fn spell_packet(pairs: &HexPairs, packet: &PacketRef<'_>, room: &mut [u8])
+    requires { 2 * length (written packet.now) ≤ length room.old }
+    ensures { room.new ≡ encode_lower (written packet.now) ++ drop (2 * length (written packet.now)) room.old }
+{
+    let (header, rest) = room.split_at_mut(2 * HEADER);
+    pairs.spell(&header_of(packet), header);
+    pairs.spell(packet.payload(), rest);
 }

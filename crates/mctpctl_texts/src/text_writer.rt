@@ -6,7 +6,6 @@ ghost use Rattle.hex.specs.Hex.{encode_lower};
 ghost use Rattle.mctpctl_input.specs.Ports.{inner_of, has_failed};
 ghost use Rattle.mctpctl_texts.specs.Writers.{KeepsFront, Wrote};
 
-use crate::hex_pairs::HexPairs;
 use mctp_packet::Memory;
 use mctpctl_input::Port;
 use std::alloc::AllocError;
@@ -36,11 +35,6 @@ pub trait TextWriter {
 
     /// Takes bytes in lower-case hex.
     fn write_hex(&mut self, bytes: &[u8]) -> Result<(), Self::Refusal>
-        ensures written { Wrote contents failed refused self.old self.new (encode_lower bytes.now) result }
-        ensures front { KeepsFront begins self.old self.new };
-
-    /// The same, by a table of the digits of each byte.
-    fn write_pairs(&mut self, pairs: &HexPairs, bytes: &[u8]) -> Result<(), Self::Refusal>
         ensures written { Wrote contents failed refused self.old self.new (encode_lower bytes.now) result }
         ensures front { KeepsFront begins self.old self.new };
 }
@@ -73,17 +67,6 @@ impl TextWriter for Vec<u8> {
             Ok(()) => Ok(()),
             Err(_) => unreachable!(),
         }
-    }
-
-    /// As `write_hex`: digits that were made elsewhere, one by one, and copied at once would make the copy wait.
-    fn write_pairs(&mut self, pairs: &HexPairs, bytes: &[u8]) -> Result<(), Memory> {
-        let start = self.len();
-        let Some(end) = start.checked_add(2 * bytes.len()) else {
-            return Err(AllocError.into()); // more bytes than an allocator can give
-        };
-        self.resize(end, 0)?;
-        pairs.spell(bytes, &mut self[start..]);
-        Ok(())
     }
 }
 
@@ -125,19 +108,6 @@ impl<W: Write> TextWriter for Port<W> {
                 Err(_) => unreachable!(),
             }
             self.write_bytes(digits)?;
-            rest = &rest[count..];
-        }
-        Ok(())
-    }
-
-    /// As `write_hex`.
-    fn write_pairs(&mut self, pairs: &HexPairs, bytes: &[u8]) -> Result<(), NotWritten> {
-        let mut room = [0; 2 * HEX_PIECE];
-        let mut rest = bytes;
-        while !rest.is_empty() {
-            let count = rest.len().min(HEX_PIECE);
-            pairs.spell(&rest[..count], &mut room);
-            self.write_bytes(&room[..2 * count])?;
             rest = &rest[count..];
         }
         Ok(())
