@@ -1,7 +1,7 @@
-ghost use Rattle.std.specs.Prelude.{◌≡◌, ◌≢◌, ◌≤◌, true, false, ℕ, nat_lt, List, [], length};
+ghost use Rattle.std.specs.Prelude.{◌≡◌, ◌≢◌, ◌<◌, ◌≤◌, true, false, ℕ, nat_lt, List, [], length};
 ghost use Rattle.std.specs.Prelude.{Some, None, IfOk, IfErr, OnOk, OnErr};
 ghost use Rattle.std.specs.Option.{option_copied, option_map};
-ghost use Rattle.std.specs.List.{All, count_by};
+ghost use Rattle.std.specs.List.{All, count_by, remove};
 ghost use Rattle.mctp_packet.specs.declared.TheConstants.{MAX_PACKETS};
 ghost use Rattle.mctp_assembly.specs.Fed.{fed_with};
 ghost use Rattle.mctp_assembly.specs.NumberLists.{Changes, IsAt, IsGapFor, Rises, at};
@@ -112,7 +112,7 @@ impl Messages {
             Ok(place) => {
                 let given = self.list[place].take(packet);
                 if let FedInto::Dropped(_) = given {
-                    self.list.remove(place);
+                    end_at(self.alloc, &mut self.list, place);
                 }
                 Ok(given)
             }
@@ -144,7 +144,7 @@ impl Messages {
             Ok(place) => {
                 let given = self.list[place].look_into(packet, message);
                 if let FedInto::Dropped(_) = given {
-                    self.list.remove(place);
+                    end_at(self.alloc, &mut self.list, place);
                 }
                 given
             }
@@ -157,7 +157,18 @@ impl Messages {
         ensures { Changes self.old self.new number None }
     {
         if let Ok(place) = self.search(number) {
-            self.list.remove(place);
+            end_at(self.alloc, &mut self.list, place);
         }
+    }
+}
+
+/// Ends the message at this place. A list with none left gives its room back.
+fn end_at(alloc: Global, list: &mut Vec<Buffer>, place: usize)
+    requires { place < length list.old.items }
+    ensures { list.new.items ≡ remove list.old.items place }
+{
+    list.remove(place);
+    if list.is_empty() {
+        *list = Vec::new(alloc);
     }
 }

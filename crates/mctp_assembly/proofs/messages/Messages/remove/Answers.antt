@@ -9,14 +9,14 @@ pub invariant_of-self : goal.invariant_of-self
 invariant_of-self c =
     let list = c.self.inside.list.items in
     let is = subst (λ (l : Numbered). IsAt none_open l c.args.number c.in-Ok.place) (sym c.self.view_is) c.in-Ok.ensures.found in
-    subst AreOpen (sym c.remove.ensures.items) (open_removed list c.self.invariant.rises c.args.number c.in-Ok.place is c.self.invariant.each)
+    subst AreOpen (sym c.end_at.ensures) (open_removed list c.self.invariant.rises c.args.number c.in-Ok.place is c.self.invariant.each)
 
 pub returns-in-Ok : goal.returns-in-Ok
 returns-in-Ok c =
     let list = c.self.inside.list.items in
     let is = subst (λ (l : Numbered). IsAt none_open l c.args.number c.in-Ok.place) (sym c.self.view_is) c.in-Ok.ensures.found in
     change_of none_open list c.args.self.now _ c.args.number None None c.self.view_is refl
-    (subst (λ (new : Numbered). Changes list new c.args.number None) (sym c.remove.ensures.items) (removed_at none_open list c.self.invariant.rises c.args.number c.in-Ok.place is))
+    (subst (λ (new : Numbered). Changes list new c.args.number None) (sym c.end_at.ensures) (removed_at none_open list c.self.invariant.rises c.args.number c.in-Ok.place is))
 
 pub returns-in_default : goal.returns-in_default
 returns-in_default c = unchanged none_open c.args.self.now c.args.number (none_in_gap none_open c.args.self.now c.args.number _ c.in_default.ensures.absent)

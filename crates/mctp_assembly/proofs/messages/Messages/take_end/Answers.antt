@@ -10,7 +10,7 @@ pub invariant_of-self : goal.invariant_of-self
 invariant_of-self c =
     let list = c.self.inside.list.items in
     let is = subst (λ (l : Numbered). IsAt none_open l c.args.number c.in-Ok.place) (sym c.self.view_is) c.in-Ok.ensures.found in
-    subst AreOpen (sym c.remove.ensures.items) (open_removed list c.self.invariant.rises c.args.number c.in-Ok.place is c.self.invariant.each)
+    subst AreOpen (sym c.end_at.ensures) (open_removed list c.self.invariant.rises c.args.number c.in-Ok.place is c.self.invariant.each)
 
 pub returns-in-Dropped-clause-fed : goal.returns-in-Dropped-clause-fed
 returns-in-Dropped-clause-fed c =
@@ -21,7 +21,7 @@ pub returns-in-Dropped-clause-left : goal.returns-in-Dropped-clause-left
 returns-in-Dropped-clause-left c =
     ended_here c.self.inside.list.items c.args.self.now c.self.view_is c.self.invariant.rises c.args.number c.in-Ok.place c.in-Ok.ensures.found
     c.index.result.now c.index.ensures c.index.result.now refl c.args.packet.now c.look_into-given.result c.look_into-given.new.message.items c.look_into-given.ensures
-    c.remove.new.self.items c.in-Dropped.field-0 c.remove.ensures.items c.in-Dropped.is
+    c.end_at.new.list.items c.in-Dropped.field-0 c.end_at.ensures c.in-Dropped.is
 
 pub returns-in_default : goal.returns-in_default
 returns-in_default c = record {

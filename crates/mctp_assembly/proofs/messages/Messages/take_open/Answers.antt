@@ -12,7 +12,7 @@ use Rattle.mctp_assembly.proofs.messages.Messages.take_open.Goals as goal
 pub invariant_of-self : goal.invariant_of-self
 invariant_of-self c =
     open_dropped c.self.inside.list.items c.args.self.now c.self.view_is c.self.invariant.rises c.args.number c.in-Ok.place c.in-Ok.ensures.found
-    c.index_mut.result.now c.index_mut.ensures.value c.take-given.new.self c.take-given.ensures.number c.remove.new.self.items c.remove.ensures.items
+    c.index_mut.result.now c.index_mut.ensures.value c.take-given.new.self c.take-given.ensures.number c.end_at.new.list.items c.end_at.ensures
     (c.take-given.ensures.other (λ same. cc (sym c.in-Dropped.is ∙ same))) c.self.invariant.each
 
 pub invariant_of-self-in_default : goal.invariant_of-self-in_default
@@ -36,7 +36,7 @@ pub returns-in-Dropped-clause-ok : goal.returns-in-Dropped-clause-ok
 returns-in-Dropped-clause-ok c =
     dropped_here c.self.inside.list.items c.args.self.now c.self.view_is c.self.invariant.rises c.args.number c.in-Ok.place c.in-Ok.ensures.found
     c.index_mut.result.now c.index_mut.ensures.value c.take-given.new.self c.take-given.ensures.number c.args.packet.now c.take-given.result (carried_on (Some c.index_mut.result.now.1) c.args.packet.now).bytes c.take-given.ensures.given
-    c.remove.new.self.items c.in-Dropped.field-0 c.remove.ensures.items
+    c.end_at.new.list.items c.in-Dropped.field-0 c.end_at.ensures
     (c.take-given.ensures.other (λ same. cc (sym c.in-Dropped.is ∙ same))) c.in-Dropped.is
 
 pub returns-in_default : goal.returns-in_default
