@@ -3,6 +3,7 @@
 import argparse
 import contextlib
 import os
+import statistics
 import subprocess
 import sys
 import tempfile
@@ -59,19 +60,23 @@ def build_peer(folder, room):
     return built[0]
 
 
-def measure(programs, task, text, room):
-    """The least seconds of each program, the peak memory of each, and whether all wrote the same. What else the
-    machine does can only lengthen a run, so the least of several says most; of a short input there are more."""
+def measure(programs, task, text, room, is_loaded):
+    """The seconds of each program, the peak memory of each, and whether all wrote the same. What else the machine does
+    can only lengthen a run, so the least of several says most; of a short input there are more. Beside load the least
+    is a run that happened to be left alone, so there are three times as many runs, and the one in the middle is taken.
+    """
+    runs = max(RUNS, min(RUNS * MOST_INPUT // len(text), MOST_RUNS)) * (3 if is_loaded else 1)
+    typical = statistics.median if is_loaded else min
     outputs = [Path(room) / f"output{place}" for place in range(len(programs))]
     with tempfile.TemporaryFile() as given:
         given.write(text)
         given.flush()
         rounds = [
             [run(program, task, given, output) for program, output in zip(programs, outputs)]
-            for _ in range(max(RUNS, min(RUNS * MOST_INPUT // len(text), MOST_RUNS)))
+            for _ in range(runs)
         ]
         peaks = [peak_memory(program, task, given) for program in programs]
-    seconds = [min(times[place] for times in rounds) for place in range(len(programs))]
+    seconds = [typical(times[place] for times in rounds) for place in range(len(programs))]
     return seconds, peaks, len({output.read_bytes() for output in outputs}) == 1
 
 
@@ -132,7 +137,7 @@ def bench(document, task, unit, rules):
             times = []
             for size in sizes:
                 text, count = filled(head, rule, min(size * 1024 * 1024, MOST_INPUT))
-                seconds, peaks, equal = measure(programs, task, text, room)
+                seconds, peaks, equal = measure(programs, task, text, room, chosen.beside > 0)
                 same = same and equal
                 times.append(seconds[0])
                 row = f"{rule.__name__:<10}{size:>5}{count:>9}"

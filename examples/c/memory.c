@@ -1,12 +1,15 @@
 /*
- * Prints how many bytes of heap the ends take, and ends with status 1 where some are left at the end. Its allocator has
- * the size of each block in front of it.
+ * Prints how many bytes of heap the ends take, and ends with status 1 where some are left at the end, or where an open
+ * message that has ended leaves more than its source's entry in a table. Its allocator has the size of each block in
+ * front of it.
  */
 #include "needleoat.h"
 #include <stdio.h>
 #include <stdlib.h>
 
 enum { FRONT = 16, MANY_SOURCES = 4, MANY_COMMANDS = 5 };
+/* the table of the sources of open messages, up to endpoint 14: 16 entries of 24 bytes */
+enum { TABLE = 384 };
 
 static size_t in_use;
 
@@ -42,10 +45,14 @@ static struct needleoat_endpoint endpoint = NEEDLEOAT_ENDPOINT_NONE;
 static struct needleoat_requester requester = NEEDLEOAT_REQUESTER_NONE;
 static uint8_t packet[NEEDLEOAT_PACKET_BYTES], packets[NEEDLEOAT_PACKETS][NEEDLEOAT_PACKET_BYTES];
 
-static struct needleoat_step receive(uint8_t source, const uint8_t *message, size_t length) {
+static struct needleoat_step receive_packet(uint8_t source, const uint8_t *message, size_t length, size_t index) {
     struct needleoat_command command;
-    size_t count = needleoat_packet_write(9, source, true, 0, message, length, 0, packet);
+    size_t count = needleoat_packet_write(9, source, true, 0, message, length, index, packet);
     return needleoat_endpoint_receive(&endpoint, 0, packet, count, &command, packets);
+}
+
+static struct needleoat_step receive(uint8_t source, const uint8_t *message, size_t length) {
+    return receive_packet(source, message, length, 0);
 }
 
 static struct needleoat_step get_tid(uint8_t source, uint8_t instance_id) {
@@ -70,8 +77,12 @@ int main(void) {
     }
     if (get_tid(10, MANY_COMMANDS + 1).reason != NEEDLEOAT_TOO_MANY_COMMANDS) return 1;
     if (get_tid(14, 0).reason != NEEDLEOAT_TOO_MANY_COMMANDS) return 1;
+    size_t before = in_use;
     if (receive(14, two_packets, sizeof two_packets).kind != 2) return 1;
     printf("heap of an endpoint with an open message too %zu\n", in_use);
+    if (receive_packet(14, two_packets, sizeof two_packets, 1).kind != 1) return 1;
+    printf("heap of an endpoint after that message %zu\n", in_use);
+    if (in_use != before + TABLE) return 1;
     needleoat_endpoint_free(&endpoint);
     needleoat_requester_new(8, 9, 1000, 200, 3, &requester);
     printf("heap of a requester at first %zu\n", in_use);

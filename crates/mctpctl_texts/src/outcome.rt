@@ -85,8 +85,8 @@ fn write_packet(out: &mut Vec<u8>, pairs: &HexPairs, packet: &PacketRef<'_>) -> 
     Ok(())
 }
 
-/// Puts the bytes of a packet in lower-case hex in front of `room`, whose rest is left as it was. They are not put one
-/// after the other first: a copy over bytes that were just stored one by one would wait for them.
+/// Puts the bytes of a packet in lower-case hex in front of `room`, whose rest is left as it was. The packet is not
+/// put together first: a copy over bytes that were just stored one by one would wait for them.
 fn spell_packet(pairs: &HexPairs, packet: &PacketRef<'_>, room: &mut [u8])
     requires { 2 * length (written packet.now) ≤ length room.old }
     ensures { room.new ≡ encode_lower (written packet.now) ++ drop (2 * length (written packet.now)) room.old }

@@ -68,10 +68,6 @@ action_named name words =
     else if is name (codes "busy") then (only_number words >>= λ number. Ok (Busy number))
     else Err Words
 
-abbrev pub action_of : List (List ℕ) → Result Action LineFaultKind
-action_of [] = Err Words
-action_of (name ∷ words) = action_named name words
-
 -- `at MS` and an action, by the words after the first
 abbrev pub step_of : List (List ℕ) → Result Line LineFaultKind
 step_of (moment ∷ name ∷ words) =
