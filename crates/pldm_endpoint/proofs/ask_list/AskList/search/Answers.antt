@@ -1,7 +1,7 @@
 use Rattle.std.proofs.Common.{rules}
 use Rattle.std.proofs.lemmas.List.Sorted.{answers_always}
 use Rattle.pldm_endpoint.specs.Askers.{none_asked}
-use Rattle.mctp_assembly.proofs.NumberPlaces.{found_by, absent_by}
+use Rattle.pldm_endpoint.proofs.NumberSearches.{found_by, absent_by}
 use Rattle.pldm_endpoint.proofs.ask_list.AskList.search.Goals as goal
 
 pub returns-clause-found : goal.returns-clause-found
