@@ -20,8 +20,8 @@ use Rattle.mctp_assembly.specs.Steps.{Held, answer, after, stays_open, carried_o
 use Rattle.mctp_assembly.specs.declared.fed.Fed.{Fed}
 use Rattle.mctp_assembly.specs.declared.fed.Fed.TheVariants.{Whole, Partial, Dropped}
 use Rattle.mctp_assembly.specs.declared.key.Key.{Key}
-use Rattle.pldm_responder.specs.Stations.{IsAsked, AreAsked}
-use Rattle.pldm_responder.specs.declared.responder.TheConstants.{MAX_PENDING}
+use Rattle.pldm_responder.specs.Ends.{IsAsked, AreAsked}
+use Rattle.pldm_responder.specs.declared.answering_end.TheConstants.{MAX_PENDING}
 use Rattle.pldm_responder.proofs.FewSources.{place, place_low, same_place}
 use Rattle.mctp_assembly.proofs.KeyOrder.{keys_total, keys_exact}
 

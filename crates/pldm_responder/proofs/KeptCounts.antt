@@ -7,8 +7,8 @@ use Rattle.pldm_wire.specs.declared.assigned.TheConstants.{INSTANCE_IDS}
 use Rattle.pldm_responder.specs.Counts.{CountsKept}
 use Rattle.pldm_responder.specs.Held.{Entry}
 use Rattle.pldm_responder.specs.Slots.{Rows, kept_in, IsKept, AreKept}
-use Rattle.pldm_responder.specs.Stations.{KeepsForOthers}
-use Rattle.pldm_responder.specs.declared.responder.TheConstants.{MAX_KEPT}
+use Rattle.pldm_responder.specs.Ends.{KeepsForOthers}
+use Rattle.pldm_responder.specs.declared.answering_end.TheConstants.{MAX_KEPT}
 use Rattle.pldm_responder.proofs.CountedPairs.{counts_one_more, counts_as_before, few_pairs}
 use Rattle.pldm_responder.proofs.FewSources.{place, place_low, same_place}
 

@@ -3,7 +3,7 @@ pub mod AskedKeys
 pub mod CountedPairs
 pub mod SlotLookups
 pub mod KeptCounts
-pub mod ServedMessages
+pub mod ServedRequests
 pub mod CallsLookBack
 pub mod PairCounts
 pub mod BusyAnswers
@@ -11,10 +11,11 @@ pub mod Numbers
 pub mod WorkedRows
 pub mod AnswersFromOutside
 pub mod SourceCounts
-pub mod AskedRooms
 pub mod AskedOnce
 pub mod OpenBounds
 pub mod WorkedLight
-pub mod AnswersKept
 pub mod SameHeld
 pub mod StoredRows
+pub mod RowsAdded
+pub mod OpenedPackets
+pub mod RefusedMemory

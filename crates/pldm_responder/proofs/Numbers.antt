@@ -1,6 +1,6 @@
 -- Every constant of the source, told a second time.
 use Rattle.std.proofs.Common.{◌≡◌, refl}
-use Rattle.pldm_responder.specs.declared.responder.TheConstants.{OTHER_ENDPOINTS, MAX_KEPT, MAX_PENDING}
+use Rattle.pldm_responder.specs.declared.answering_end.TheConstants.{OTHER_ENDPOINTS, MAX_KEPT, MAX_PENDING}
 
 other_endpoints : OTHER_ENDPOINTS ≡ 246
 other_endpoints = refl

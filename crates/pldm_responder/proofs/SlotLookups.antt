@@ -19,7 +19,7 @@ set_by : {A : Type 0} (xs : List (Option A)) (n i : ℕ) (x : A) (t : Bool) → 
 set_by xs n i x true room h = rw (← eqb-true n i h) (get_or-set_same xs n (Some x) None room)
 set_by xs n i x false room h = get_or-set_other xs n i (Some x) None (λ same. grind arith)
 
-at_set : {A : Type 0} (xs : List (Option A)) (n i : ℕ) (x : A) → n < length xs
+pub at_set : {A : Type 0} (xs : List (Option A)) (n i : ℕ) (x : A) → n < length xs
     → slice_index_or (slice_set xs n (Some x)) i None ≡ cond (n == i) (Some x) (slice_index_or xs i None)
 at_set xs n i x room = set_by xs n i x (n == i) room refl
 

@@ -9,10 +9,15 @@ pub mod Fitting
 pub mod Needs
 pub mod Counts
 pub mod Slots
+pub mod Ends
 pub mod Stations
+pub mod Requested
+pub mod Looking
+pub mod Reserving
 pub mod Laws
 pub mod Asked
 pub mod Rooms
 pub mod Receiving
 pub mod Askings
 pub mod OutsideAnswers
+pub mod Serving

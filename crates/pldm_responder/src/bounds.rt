@@ -1,4 +1,4 @@
-use crate::responder::{MAX_PENDING, OTHER_ENDPOINTS};
+use crate::answering_end::{MAX_PENDING, OTHER_ENDPOINTS};
 
 /// The most that a responder keeps at a time. What would pass a bound is refused as a growth is for which
 /// there is no memory: nothing is performed, and nothing that is kept makes room for it.

@@ -1,11 +1,14 @@
-ghost use Rattle.std.specs.Prelude.{◌≡◌, ℕ, ◌*◌, ◌≤◌, ◌<◌, ◌&&◌, ◌==◌, length, Some, None, is_some, if◌then◌else◌, IfSome, IsSome, OnOk, OnErr};
+ghost use Rattle.std.specs.Prelude.{◌≡◌, ℕ, ◌*◌, ◌≤◌, ◌<◌, ◌&&◌, ◌==◌, length, Some, None, is_some, if◌then◌else◌, IfOk, IfErr, IfSome, IsSome, OnOk};
 ghost use Rattle.std.specs.Option.{option_copied};
 ghost use Rattle.mctp_packet.specs.Ids.{IsEid};
 ghost use Rattle.mctp_packet.specs.declared.TheConstants.{MAX_MESSAGE_BYTES};
 ghost use Rattle.pldm_wire.specs.declared.assigned.TheConstants.{INSTANCE_IDS};
 ghost use Rattle.pldm_responder.specs.Counts.{CountsKept};
+ghost use Rattle.pldm_responder.specs.Ends.{AreSameRows, GetsRow, has_row};
+ghost use Rattle.pldm_responder.specs.Reserving.{IsRoomFor, IsWhyNoRow, IsWithinSources};
 ghost use Rattle.pldm_responder.specs.Slots.{IsKept, kept_in, row_of, source_count};
 
+use crate::arriving::RoomRefusal;
 use crate::kept_answer::KeptAnswer;
 use crate::row::Row;
 use mctp_packet::{Eid, Memory, Moment};
@@ -37,6 +40,24 @@ impl Model for KeptAnswers {
     ghost invariant = { λ k. AreKept k.rows.items k.count × (k.sources ≡ source_count k.rows.items) };
 }
 
+/// Room for the answers to a source: a row where the source has none yet. It is given back where it is not put in.
+#[derive(Debug, Drop)]
+pub struct Reserved {
+    row: Option<Row>,
+}
+
+impl Model for Reserved {
+    ghost use Rattle.std.specs.Coded.{coded_option};
+    ghost use Rattle.std.specs.Prelude.{Option};
+    ghost use Rattle.pldm_responder.specs.Slots.{Row as Slots, coded_row};
+
+    ghost Value = { Option Slots };
+
+    ghost coded = { coded_option coded_row };
+
+    ghost view = { λ r. r.row };
+}
+
 impl KeptAnswers {
     /// No answers. It takes no memory.
     pub(crate) fn new(alloc: Global) -> KeptAnswers
@@ -66,24 +87,35 @@ impl KeptAnswers {
         self.rows.get(usize::from(source.get()))?.as_ref()
     }
 
-    /// Takes the room for the answers to a source, where it has none yet and fewer than `max` sources have.
-    pub(crate) fn make_room(&mut self, source: Eid, max: usize) -> Result<(), Memory>
-        ensures same { (other id : ℕ) → kept_in self.new other id ≡ kept_in self.old other id }
-        ensures ok { OnOk result (IsSome (row_of self.new source)) }
-        ensures few { source_count self.old ≤ max → source_count self.new ≤ max }
-        ensures err { OnErr result (row_of self.old source ≡ None) }
+    /// Takes the room for the answers to a source, where it has none yet and fewer than `max` sources have. It counts
+    /// for nothing until it is put in.
+    pub(crate) fn reserve(&mut self, source: Eid, max: usize) -> Result<Reserved, RoomRefusal>
+        ensures same { AreSameRows self.new self.old }
+        ensures ok { IfOk result (IsRoomFor self.new source) }
+        ensures few { IfOk result (IsWithinSources self.new max) }
+        ensures err { IfErr result (IsWhyNoRow self.old max source) }
     {
         if self.row(source).is_some() {
-            return Ok(());
+            return Ok(Reserved { row: None });
         }
         if self.sources >= max {
-            return Err(Memory::at_limit(self.sources, max));
+            return Err(RoomRefusal::Sources);
         }
         let row = Row::new(self.alloc)?;
         make_place(&mut self.rows, source)?;
-        self.rows[usize::from(source.get())] = Some(row);
-        self.sources += 1;
-        Ok(())
+        Ok(Reserved { row: Some(row) })
+    }
+
+    /// Puts the room for the answers to a source in, where it has none yet.
+    pub(crate) fn put_row(&mut self, source: Eid, reserved: Reserved)
+        requires { IsRoomFor self.old source reserved }
+        ensures gets { GetsRow source self.new self.old }
+        ensures some { IsSome (row_of self.new source) }
+    {
+        if let Some(row) = reserved.row {
+            self.rows[usize::from(source.get())] = Some(row);
+            self.sources += 1;
+        }
     }
 
     /// Puts an answer in the place of its source's and instance ID's. There has to be room for it.
@@ -98,6 +130,7 @@ impl KeptAnswers {
             then Some (record { moment = moment; bytes = bytes.now; answer = answer.now })
             else kept_in self.old other i) }
         ensures sources { source_count self.new ≡ source_count self.old }
+        ensures rows { (other : ℕ) → has_row self.new other ≡ has_row self.old other }
     {
         let _range = source.get(); // for the proof: an endpoint ID
         let is_first = match &mut self.rows[usize::from(source.get())] {
@@ -107,6 +140,13 @@ impl KeptAnswers {
         if is_first {
             self.count += 1;
         }
+    }
+
+    /// How many sources have a row.
+    pub(crate) fn sources(&self) -> usize
+        ensures { result ≡ source_count self.now }
+    {
+        self.sources
     }
 
     /// How many there are.

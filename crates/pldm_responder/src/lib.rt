@@ -2,7 +2,8 @@
 //! instance ID tells a new request from a retry (DSP0240, "PLDM message fields").
 #![tactic(auto)]
 
-mod answering;
+mod answering_end;
+mod arriving;
 mod bounds;
 mod kept_answer;
 mod kept_answers;
@@ -13,6 +14,9 @@ mod responder;
 mod routes;
 mod row;
 
+pub use answering_end::{AnsweringEnd, MAX_KEPT, MAX_PENDING};
+pub use arriving::{Arrived, Request, RoomRefusal, Standing};
 pub use bounds::Bounds;
-pub use outcome::{Completed, MessageOutcome, Outcome};
-pub use responder::{MAX_KEPT, MAX_PENDING, Responder};
+pub use kept_answers::Reserved;
+pub use outcome::{MessageOutcome, Outcome};
+pub use responder::Responder;

@@ -1,9 +1,9 @@
-//! What a packet gives at a responder, and whose request it completes.
+//! What a packet gives at a responder.
 
 ghost use Rattle.std.specs.Prelude.{◌≡◌};
 ghost use Rattle.pldm_responder.specs.Answering.{HasReply, answering};
 
-use mctp_packet::{Body, Eid, Packets, Reason, Route, Tag, split};
+use mctp_packet::{Body, Packets, Reason, Route, split};
 
 /// What becomes of bytes that were received, as [`crate::Responder::receive`] returns it.
 #[derive(Debug, Drop)]
@@ -67,15 +67,4 @@ impl MessageOutcome {
             },
         }
     }
-}
-
-/// Whose request bytes complete.
-#[derive(Clone, Copy, Debug, PartialEq, Eq)]
-pub struct Completed {
-    /// The endpoint that it came from.
-    pub source: Eid,
-    /// The tag of its packets.
-    pub tag: Tag,
-    /// Its instance ID.
-    pub id: u8,
 }

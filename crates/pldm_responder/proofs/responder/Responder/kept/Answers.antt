@@ -1,6 +1,0 @@
-use Rattle.pldm_responder.proofs.KeptCounts.{few_for_others}
-use Rattle.pldm_responder.proofs.responder.Responder.kept.Goals as goal
-
-pub returns-clause-few : goal.returns-clause-few
-returns-clause-few g c =
-    few_for_others c.self.inside.kept c.count.ensures.each c.self.inside.own c.get-range.ensures.range c.self.invariant.1 c.count.result c.count.ensures.value

@@ -1,6 +1,0 @@
-use Rattle.pldm_responder.proofs.AskedKeys.{few_pending}
-use Rattle.pldm_responder.proofs.responder.Responder.pending.Goals as goal
-
-pub returns-clause-few : goal.returns-clause-few
-returns-clause-few g c =
-    rw c.pending.ensures.value (few_pending c.self.inside.own c.self.inside.assembler c.get-range.ensures.range c.self.invariant.0)

@@ -1,0 +1,108 @@
+-- What contracts see of an answering end: what it holds, and the rows in which answers are kept.
+use Rattle.std.specs.FinMap as map
+use Rattle.std.specs.Prelude.{◌≡◌, ◌≢◌, ℕ, ◌+◌, ◌≤◌, Bool, true, ◌||◌, ◌==◌, None, is_some, if◌then◌else◌, refl}
+use Rattle.std.specs.Coded.{Coded, code_by, coded×, coded_ℕ}
+use Rattle.mctp_assembly.specs.Keys.{IsKey, key_cmp, coded_key}
+use Rattle.mctp_assembly.specs.Opened.{Opened, coded_opened}
+use Rattle.mctp_assembly.specs.declared.key.Key.{Key}
+use Rattle.pldm_responder.specs.Held.{Held}
+use Rattle.pldm_responder.specs.Slots.{Rows, coded_rows, kept_in, row_of, source_count}
+use Rattle.pldm_responder.specs.declared.bounds.Bounds.{Bounds}
+
+-- its endpoint ID, keeping time and bounds, what is open on each key, the rows of kept answers, the moment from which
+-- it serves, and the last moment
+pub record End : Type 0 where
+  pub own : ℕ
+  pub keep : ℕ
+  pub bounds : Bounds
+  pub open_messages : map.FinMap key_cmp Opened
+  pub rows : Rows
+  pub serves_from : ℕ
+  pub last : ℕ
+
+-- they are stored as their parts
+abbrev pub coded_bounds : Coded Bounds
+coded_bounds =
+    code_by (ℕ × ℕ) (coded× coded_ℕ coded_ℕ) (λ b. (b.sources, b.open_messages))
+    (λ c. record { sources = c.0; open_messages = c.1 }) (λ _. refl)
+
+abbrev pub coded_end : Coded End
+coded_end =
+    code_by
+    (ℕ × (ℕ × (Bounds × (map.FinMap key_cmp Opened × (Rows × (ℕ × ℕ))))))
+    (coded× coded_ℕ (coded× coded_ℕ (coded× coded_bounds (coded× (map.code coded_key coded_opened) (coded× coded_rows
+    (coded× coded_ℕ coded_ℕ))))))
+    (λ e. (e.own, (e.keep, (e.bounds, (e.open_messages, (e.rows, (e.serves_from, e.last)))))))
+    (λ c. record {
+      own = c.0;
+      keep = c.1.0;
+      bounds = c.1.1.0;
+      open_messages = c.1.1.1.0;
+      rows = c.1.1.1.1.0;
+      serves_from = c.1.1.1.1.1.0;
+      last = c.1.1.1.1.1.1;
+    })
+    (λ _. refl)
+
+-- what a responder holds over this end, whose platform has this state
+abbrev pub held_over : {S : Type 0} → S → End → Held S
+held_over state end = record {
+  own = end.own;
+  keep = end.keep;
+  open_messages = end.open_messages;
+  kept = kept_in end.rows;
+  state = state;
+  serves_from = end.serves_from;
+  last = end.last;
+}
+
+-- the same without a platform
+abbrev pub held_by : End → Held (Unit {0})
+held_by end = held_over tt end
+
+-- the packets of a request from another endpoint
+pub record IsAsked (own : ℕ) (key : Key) : Type 0 where
+  pub ranges : IsKey key
+  pub owner : key.owner ≡ true
+  pub other : key.source ≢ own
+
+-- what is open is of such packets
+abbrev pub AreAsked : ℕ → map.FinMap key_cmp Opened → Type 0
+AreAsked own open_messages = (key : Key) → map.contains_key open_messages key ≡ true → IsAsked own key
+
+-- no answer to the endpoint itself is kept
+abbrev pub KeepsForOthers : ℕ → Rows → Type 0
+KeepsForOthers own rows = (id : ℕ) → kept_in rows own id ≡ None
+
+-- no bound is passed
+abbrev pub IsWithin : Bounds → map.FinMap key_cmp Opened → Rows → Type 0
+IsWithin bounds open_messages rows =
+    (map.len open_messages ≤ bounds.open_messages) × (source_count rows ≤ bounds.sources)
+
+-- ---- the sources that have a row
+abbrev pub has_row : Rows → ℕ → Bool
+has_row rows source = is_some (row_of rows source)
+
+-- how many have one, once this source has
+abbrev pub count_with : Rows → ℕ → ℕ
+count_with rows source = if has_row rows source then source_count rows else source_count rows + 1
+
+-- the same answers are kept, for the same sources
+pub record AreSameRows (new old : Rows) : Type 0 where
+  pub rows : (source : ℕ) → row_of new source ≡ row_of old source
+  pub sources : source_count new ≡ source_count old
+
+-- the same answers are kept, and this source has a row now
+pub record GetsRow (source : ℕ) (new old : Rows) : Type 0 where
+  pub kept : (other id : ℕ) → kept_in new other id ≡ kept_in old other id
+  pub rows : (other : ℕ) → has_row new other ≡ (has_row old other || source == other)
+  pub sources : source_count new ≡ count_with old source
+
+-- the same end, but for where its rows are stored
+pub record IsSameEnd (new old : End) : Type 0 where
+  pub same : record new { rows = old.rows } ≡ old
+  pub rows : AreSameRows new.rows old.rows
+
+-- bounds that are never passed: every endpoint other than the own, with every tag
+abbrev pub unreached : Bounds
+unreached = record { sources = 246; open_messages = 1968 }

@@ -1,0 +1,107 @@
+-- What an answering end makes of a packet by looking at it, and of the request that it completes.
+use Rattle.std.specs.FinMap as map
+use Rattle.std.specs.Prelude.{◌≡◌, ◌≢◌, ℕ, ◌<◌, Bool, true, false, ◌&&◌, not, nat_le, nat_lt, List, length, IfSome, Result, Ok, Err, if◌then◌else◌}
+use Rattle.mctp_packet.specs.Packets.{Packet}
+use Rattle.mctp_packet.specs.declared.packet.Route.{Route}
+use Rattle.mctp_packet.specs.declared.reason.Reason.{Reason}
+use Rattle.mctp_assembly.specs.Keys.{key_of}
+use Rattle.mctp_assembly.specs.Steps as assembly
+use Rattle.mctp_assembly.specs.declared.key.Key.{Key}
+use Rattle.pldm_responder.specs.Arrivals.{Arrival, Drop, Part, Whole, message_of, passed_arrival, request_packet}
+use Rattle.pldm_responder.specs.Ends.{End, held_by}
+use Rattle.pldm_responder.specs.Events.{Message}
+use Rattle.pldm_responder.specs.Held.{Held}
+use Rattle.pldm_responder.specs.Performing.{busy_reply}
+use Rattle.pldm_responder.specs.Requested.{Requested}
+use Rattle.pldm_responder.specs.Steps.{entry_for, open_after, received_arrival, repeats}
+use Rattle.pldm_responder.specs.declared.arriving.Arrived.{Arrived}
+use Rattle.pldm_responder.specs.declared.arriving.Arrived.TheVariants.{Dropped, Partial, Request}
+use Rattle.pldm_responder.specs.declared.arriving.Standing.{Standing}
+use Rattle.pldm_responder.specs.declared.arriving.Standing.TheVariants.{Busy, Copy, Fresh}
+
+-- the message that it is, whose last packet came at this moment
+abbrev pub message_at : ℕ → Requested → Message
+message_at moment r = message_of r.source r.tag moment r.bytes
+
+-- its packets are assembled on this key
+abbrev pub request_key : Requested → Key
+request_key r = record { source = r.source; tag = r.tag; owner = true }
+
+-- ---- a packet is looked at
+abbrev pub arrival_in : ℕ → Arrived → Arrival
+arrival_in moment (Dropped reason) = Drop reason
+arrival_in moment Partial = Part
+arrival_in moment (Request r) = Whole (message_at moment r)
+
+-- the end once the packet at this moment was taken
+abbrev pub end_after : End → ℕ → List ℕ → End
+end_after end moment bytes = record end {
+  open_messages = open_after end.open_messages (request_packet end.own bytes);
+  last = moment;
+}
+
+-- the end once this request, which came at this moment, was done with: its packets are no longer open
+abbrev pub end_finished : End → ℕ → Requested → End
+end_finished end moment r = record end {
+  open_messages = map.remove end.open_messages (request_key r);
+  last = moment;
+}
+
+-- the end once this packet was taken
+abbrev pub end_fed : End → ℕ → Packet → End
+end_fed end moment p = record end { open_messages = assembly.after end.open_messages p; last = moment }
+
+abbrev pub IsLeftByPacket : End → ℕ → Packet → End → Arrived → Type 0
+IsLeftByPacket old moment p new (Dropped reason) = new ≡ end_fed old moment p
+IsLeftByPacket old moment p new Partial = new ≡ end_fed old moment p
+IsLeftByPacket old moment p new (Request r) =
+    (new ≡ old) × (r.source ≡ p.route.source) × (end_finished old moment r ≡ end_fed old moment p)
+
+-- nothing is done with a request yet
+abbrev pub IsLookedAt : End → ℕ → List ℕ → End → Arrived → Type 0
+IsLookedAt old moment bytes new (Dropped reason) = new ≡ end_after old moment bytes
+IsLookedAt old moment bytes new Partial = new ≡ end_after old moment bytes
+IsLookedAt old moment bytes new (Request r) =
+    (new ≡ old) × (r.source ≢ old.own) × (end_finished old moment r ≡ end_after old moment bytes)
+
+-- the packet was taken
+pub record HasArrived (old : End) (moment : ℕ) (bytes : List ℕ) (new : End) (arrived : Arrived) : Type 0 where
+  pub arrival : arrival_in moment arrived ≡ received_arrival (held_by old) moment bytes
+  pub left : IsLookedAt old moment bytes new arrived
+
+-- the same, of a packet that is addressed to the endpoint by another one
+pub record HasComeBy (old : End) (moment : ℕ) (p : Packet) (new : End) (arrived : Arrived) : Type 0 where
+  pub arrival : arrival_in moment arrived ≡ passed_arrival (assembly.answer old.open_messages) moment (Ok p)
+  pub left : IsLeftByPacket old moment p new arrived
+
+-- a whole message was read whose packets had this route
+abbrev pub IsReadBy : End → ℕ → Route → List ℕ → End → Arrived → Type 0
+IsReadBy old moment route bytes new (Dropped reason) =
+    new ≡ end_finished old moment (record { source = route.source; tag = route.tag; bytes = bytes })
+IsReadBy old moment route bytes new Partial = ⊥
+IsReadBy old moment route bytes new (Request r) =
+    (new ≡ old) × (r ≡ record { source = route.source; tag = route.tag; bytes = bytes })
+
+-- a packet that passed begins a message of several packets, where as many are open as may be
+abbrev pub opens_past : End → Result Packet Reason → Bool
+opens_past end (Ok p) =
+    p.start && not p.end && not (map.contains_key end.open_messages (key_of p))
+    && nat_le end.bounds.open_messages (map.len end.open_messages)
+opens_past end (Err reason) = false
+
+-- so do these bytes
+abbrev pub is_past_open : End → List ℕ → Bool
+is_past_open end bytes = opens_past end (request_packet end.own bytes)
+
+-- ---- a request is looked at
+module _ {S : Type 0} (held : Held S) (m : Message) where
+  abbrev pub standing : Standing
+  standing =
+      if nat_lt m.moment held.serves_from then Busy
+      else (if repeats held.keep m (entry_for held m) then Copy else Fresh)
+
+  -- `reply` is the message that answers it, where there is one already
+  abbrev pub IsReply : List ℕ → Standing → Type 0
+  IsReply reply Busy = (reply ≡ busy_reply m.bytes) × (0 < length reply)
+  IsReply reply Copy = IfSome (entry_for held m) (λ e. reply ≡ e.answer) × (0 < length reply)
+  IsReply reply Fresh = Unit {0}

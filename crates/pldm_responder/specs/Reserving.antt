@@ -1,0 +1,34 @@
+-- Room for the answers to a source, before it is used: a row of empty slots, where the source has none yet.
+use Rattle.std.specs.FinMap as map
+use Rattle.std.specs.Prelude.{◌≡◌, ℕ, ◌<◌, ◌≤◌, Bool, ◌&&◌, not, nat_le, length, Option, Some, None, IsSome}
+use Rattle.pldm_responder.specs.Ends.{End, has_row}
+use Rattle.pldm_responder.specs.Slots.{Row, Rows, in_slot, row_of, source_count}
+use Rattle.pldm_responder.specs.declared.arriving.RoomRefusal.{RoomRefusal}
+use Rattle.pldm_responder.specs.declared.arriving.RoomRefusal.TheVariants.{Sources, OpenMessages, Memory}
+
+-- the source has a row, or gets this one
+abbrev pub IsRoomFor : Rows → ℕ → Option Row → Type 0
+IsRoomFor rows source None = IsSome (row_of rows source)
+IsRoomFor rows source (Some row) =
+    (row_of rows source ≡ None) × ((id : ℕ) → in_slot row id ≡ None) × (source < length rows)
+
+-- a row more is within the bound
+abbrev pub IsWithinSources : Rows → ℕ → Option Row → Type 0
+IsWithinSources rows max None = Unit {0}
+IsWithinSources rows max (Some row) = source_count rows < max
+
+-- the source has no row, and as many sources have one as may have
+abbrev pub is_past_sources : Rows → ℕ → ℕ → Bool
+is_past_sources rows max source = not (has_row rows source) && nat_le max (source_count rows)
+
+-- why there is no room for its answers
+abbrev pub IsWhyNoRow : Rows → ℕ → ℕ → RoomRefusal → Type 0
+IsWhyNoRow rows max source Sources = (row_of rows source ≡ None) × (max ≤ source_count rows)
+IsWhyNoRow rows max source OpenMessages = ⊥
+IsWhyNoRow rows max source (Memory memory) = (row_of rows source ≡ None) × (source_count rows < max)
+
+-- why there is no room at an end
+abbrev pub IsWhyNoRoom : End → RoomRefusal → Type 0
+IsWhyNoRoom end Sources = end.bounds.sources ≤ source_count end.rows
+IsWhyNoRoom end OpenMessages = end.bounds.open_messages ≤ map.len end.open_messages
+IsWhyNoRoom end (Memory memory) = Unit {0}

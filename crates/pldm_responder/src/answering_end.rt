@@ -1,0 +1,390 @@
+//! The answering end of a link: what is open, what is kept, and what a packet is to it. Each packet is looked at once;
+//! then it is done what it asks for.
+
+ghost use Rattle.std.specs.FinMap as map;
+ghost use Rattle.std.specs.Prelude.{◌≡◌, ◌≢◌, ◌↔◌, ℕ, [], not, Ok, ◌+◌, ◌*◌, ◌≤◌, ◌<◌, ◌&&◌, ◌==◌, false, true, length, nat_lt, Some, None, IfOk, IfErr, IfSome, IsErrOf, IsSome, OnOk, OnErr, if◌then◌else◌};
+ghost use Rattle.mctp_packet.specs.declared.TheConstants.{MAX_MESSAGE_BYTES as most};
+ghost use Rattle.mctp_assembly.specs.declared.key.Key.{Key as KeyValue};
+ghost use Rattle.pldm_responder.specs.Counts.{CountsKept};
+ghost use Rattle.pldm_responder.specs.Ends.{End, GetsRow, IsSameEnd, has_row, held_by};
+ghost use Rattle.pldm_responder.specs.Arrivals.{Part, message_arrival};
+ghost use Rattle.pldm_responder.specs.Looking.{HasArrived, HasComeBy, IsReadBy, IsReply, arrival_in, end_finished, is_past_open, message_at, opens_past, standing};
+ghost use Rattle.mctp_assembly.specs.Keys.{key_of};
+ghost use Rattle.mctp_assembly.specs.Steps.{answer};
+ghost use Rattle.mctp_assembly.specs.declared.fed.Fed.TheVariants.{Partial};
+ghost use Rattle.pldm_responder.specs.Needs.{NeedsMemory};
+ghost use Rattle.pldm_responder.specs.Reserving.{IsRoomFor, IsWhyNoRow, IsWithinSources};
+ghost use Rattle.pldm_responder.specs.Slots.{kept_in, row_of, source_count};
+ghost use Rattle.pldm_responder.specs.Steps.{received_arrival};
+ghost use Rattle.pldm_wire.specs.Headers.{id_at};
+ghost use Rattle.pldm_wire.specs.declared.assigned.TheConstants.{INSTANCE_IDS as ids};
+
+use crate::arriving::{Arrived, Request, RoomRefusal, Standing};
+use crate::bounds::Bounds;
+use crate::kept_answers::{KeptAnswers, Reserved};
+use crate::performing::refuse;
+use mctp_assembly::{Assembler, FedInto, Key};
+use mctp_packet::{
+    Body, Eid, Keep, MAX_EID, MAX_MESSAGE_BYTES, MIN_EID, Memory, Moment, PacketRef, Reason, Route,
+    TAGS, Tag, read_for,
+};
+use pldm_wire::{Code, INSTANCE_IDS, read_request};
+use std::alloc::Global;
+use std::marker::Model;
+
+/// The endpoints other than the own that a message can come from.
+pub(crate) const OTHER_ENDPOINTS: usize = (MAX_EID - MIN_EID) as usize;
+
+/// The most kept answers: one for each endpoint ID other than the own and each instance ID.
+pub const MAX_KEPT: usize = OTHER_ENDPOINTS * INSTANCE_IDS as usize;
+
+/// The most messages that have begun and not ended: one for each endpoint ID other than the own and
+/// each tag.
+pub const MAX_PENDING: usize = OTHER_ENDPOINTS * TAGS as usize;
+
+/// The answering end at one endpoint, without a device. [`AnsweringEnd::take`] looks at a packet and
+/// [`AnsweringEnd::standing`] at the request that it completes; then the request is done with: answered at once, or
+/// first performed, with room for its answer that was reserved before.
+#[derive(Drop)]
+pub struct AnsweringEnd {
+    alloc: Global,
+    own: Eid,
+    keep: Keep,
+    bounds: Bounds,
+    last: Moment,
+    /// The moment in milliseconds from which it serves: the last restart's and the keeping time.
+    serves_from: u64,
+    assembler: Assembler,
+    kept: KeptAnswers,
+}
+
+impl Model for AnsweringEnd {
+    ghost use Rattle.pldm_responder.specs.Ends.{End, coded_end, AreAsked, IsWithin, KeepsForOthers};
+
+    ghost Value = { End };
+
+    ghost coded = { coded_end };
+
+    ghost view = { λ e. record {
+      own = e.own;
+      keep = e.keep;
+      bounds = e.bounds;
+      open_messages = e.assembler;
+      rows = e.kept;
+      serves_from = e.serves_from;
+      last = e.last;
+    } };
+
+    ghost invariant = { λ e.
+        AreAsked e.own e.assembler × KeepsForOthers e.own e.kept × IsWithin e.bounds e.assembler e.kept };
+}
+
+impl AnsweringEnd {
+    /// The endpoint `own`, which keeps each answer for `keep` and at a time no more than `bounds` allow. Nothing is
+    /// open or kept, and its last moment is 0. It takes no memory.
+    pub fn new(alloc: Global, own: Eid, keep: Keep, bounds: Bounds) -> AnsweringEnd
+        ensures own { result.own ≡ own }
+        ensures keep { result.keep ≡ keep }
+        ensures bounds { result.bounds ≡ bounds }
+        ensures closed { result.open_messages ≡ map.empty }
+        ensures none { (source id : ℕ) → kept_in result.rows source id ≡ None }
+        ensures no_rows { source_count result.rows ≡ 0 }
+        ensures serves { result.serves_from ≡ 0 }
+        ensures last { result.last ≡ 0 }
+    {
+        AnsweringEnd {
+            alloc,
+            own,
+            keep,
+            bounds,
+            last: Moment::new(0).unwrap(),
+            serves_from: 0,
+            assembler: Assembler::new(alloc),
+            kept: KeptAnswers::new(alloc),
+        }
+    }
+
+    /// Its endpoint ID.
+    pub fn own(&self) -> Eid
+        ensures { result ≡ self.now.own }
+    {
+        self.own
+    }
+
+    /// The moment of the last packet that was done with or of the last `restart`, whichever was later, 0 before the
+    /// first.
+    pub fn last_moment(&self) -> Moment
+        ensures { result ≡ self.now.last }
+    {
+        self.last
+    }
+
+    /// The most that it keeps at a time.
+    pub fn bounds(&self) -> Bounds
+        ensures { result ≡ self.now.bounds }
+    {
+        self.bounds
+    }
+
+    /// Whether it does not serve yet at the moment `now`: it restarted less than the keeping time before.
+    pub fn is_busy(&self, now: Moment) -> bool
+        ensures { result ≡ nat_lt now self.now.serves_from }
+    {
+        self.serves_from > now.get()
+    }
+
+    /// Restarts at the moment `now`. The kept answers and the messages that have begun are lost, and for the keeping
+    /// time from then on it is busy.
+    pub fn restart(&mut self, now: Moment)
+        ensures own { self.new.own ≡ self.old.own }
+        ensures keep { self.new.keep ≡ self.old.keep }
+        ensures bounds { self.new.bounds ≡ self.old.bounds }
+        ensures closed { self.new.open_messages ≡ map.empty }
+        ensures none { (source id : ℕ) → kept_in self.new.rows source id ≡ None }
+        ensures no_rows { source_count self.new.rows ≡ 0 }
+        ensures serves { self.new.serves_from ≡ now + self.old.keep }
+        ensures last { self.new.last ≡ now }
+    {
+        self.assembler = Assembler::new(self.alloc);
+        self.kept = KeptAnswers::new(self.alloc);
+        self.serves_from = now.get() + u64::from(self.keep.get());
+        self.last = now;
+    }
+
+    /// Takes the bytes of a packet that came at the moment `now`. A packet that is dropped or a part of a message is
+    /// done with. A request that it completes is returned, and nothing is done with it: that is the caller's, up to
+    /// [`AnsweringEnd::finish`]. The bytes of a request of several packets are put into `room`.
+    ///
+    /// # Errors
+    ///
+    /// `OpenMessages` exactly where a packet begins a message of several packets, none is open on its key, and as many
+    /// are open as [`Bounds::open_messages`] allow. `Memory` where a growth was refused, which only a start packet
+    /// that gives `Partial` wants.
+    pub fn take<'a>(
+        &mut self,
+        now: Moment,
+        bytes: &'a [u8],
+        room: &'a mut Option<Body>,
+    ) -> Result<Arrived<'a>, RoomRefusal>
+        ensures ok { IfOk result (HasArrived self.old now bytes.now self.new) }
+        ensures err { OnErr result (self.new ≡ self.old) }
+        ensures sources { IsErrOf result RoomRefusal.Sources → ⊥ }
+        ensures open_messages { IsErrOf result RoomRefusal.OpenMessages ↔ (is_past_open self.old bytes.now ≡ true) }
+        ensures part { OnErr result (received_arrival (held_by self.old) now bytes.now ≡ Part) }
+        ensures needs { OnErr result (NeedsMemory (held_by self.old) true now bytes.now) }
+    {
+        let packet = match read_for(self.own, bytes) {
+            Ok(packet) => packet,
+            Err(reason) => return Ok(self.dropped(now, reason)),
+        };
+        let route = packet.route();
+        if !route.owner {
+            return Ok(self.dropped(now, Reason::BadTag));
+        }
+        if packet.start() && packet.end() {
+            return Ok(self.read(now, &route, packet.payload()));
+        }
+        self.take_piece(now, &packet, room)
+    }
+
+    /// Takes a packet of a message of several packets. It is addressed to the endpoint by another one, with TO 1.
+    // Not inlined: a message of one packet, the usual one, then needs none of its stack.
+    #[inline(never)]
+    fn take_piece<'a>(
+        &mut self,
+        now: Moment,
+        packet: &PacketRef<'_>,
+        room: &'a mut Option<Body>,
+    ) -> Result<Arrived<'a>, RoomRefusal>
+        requires owner { packet.now.route.owner ≡ true }
+        requires other { packet.now.route.source ≢ self.old.own }
+        ensures ok { IfOk result (HasComeBy self.old now packet.now self.new) }
+        ensures err { OnErr result (self.new ≡ self.old) }
+        ensures sources { IsErrOf result RoomRefusal.Sources → ⊥ }
+        ensures open_messages { IsErrOf result RoomRefusal.OpenMessages ↔ (opens_past self.old (Ok packet.now) ≡ true) }
+        ensures partial { OnErr result (answer self.old.open_messages packet.now ≡ Partial) }
+        ensures at_start { OnErr result (packet.now.start ≡ true) }
+    {
+        let key = Key::of(packet);
+        if !self.has_room(packet, key) {
+            return Err(RoomRefusal::OpenMessages);
+        }
+        if !packet.end() {
+            let given = self.assembler.feed_open(packet)?;
+            self.last = now;
+            return Ok(match given {
+                FedInto::Whole | FedInto::Partial => Arrived::Partial,
+                FedInto::Dropped(reason) => Arrived::Dropped(reason),
+            });
+        }
+        let message = room.insert(Body::new());
+        match self.assembler.feed_piece(packet, message)? {
+            FedInto::Whole => Ok(self.read(now, &packet.route(), message)),
+            FedInto::Partial => {
+                self.last = now;
+                Ok(Arrived::Partial)
+            }
+            FedInto::Dropped(reason) => {
+                self.last = now;
+                Ok(Arrived::Dropped(reason))
+            }
+        }
+    }
+
+    /// Reads a whole message, whose packets had this route. Where it is no request, its packets are no longer open.
+    fn read<'a>(&mut self, now: Moment, route: &Route, message: &'a [u8]) -> Arrived<'a>
+        requires few { length message.now ≤ most }
+        ensures arrival { arrival_in now result ≡ message_arrival route.now.source route.now.tag now message.now }
+        ensures left { IsReadBy self.old now route.now message.now self.new result }
+    {
+        match read_request(message) {
+            Ok(read) => Arrived::Request(Request::new(route.source, route.tag, message, read)),
+            Err(reason) => {
+                self.forget(now, route.source, route.tag);
+                Arrived::Dropped(reason)
+            }
+        }
+    }
+
+    /// A packet that is dropped at the moment `now`, and touches nothing that is open.
+    fn dropped<'a>(&mut self, now: Moment, reason: Reason) -> Arrived<'a>
+        ensures value { result ≡ Arrived.Dropped reason }
+        ensures left { self.new ≡ record self.old { last = now } }
+    {
+        self.last = now;
+        Arrived::Dropped(reason)
+    }
+
+    /// Whether there is room for what a packet leaves open: it begins no message of several packets, or its key is
+    /// open, or the bounds allow one more.
+    fn has_room(&self, packet: &PacketRef<'_>, key: Key) -> bool
+        requires { key ≡ key_of packet.now }
+        ensures { result ≡ not (opens_past self.now (Ok packet.now)) }
+    {
+        if !packet.start() || packet.end() {
+            return true;
+        }
+        self.assembler.pending() < self.bounds.open_messages || self.assembler.is_open(key)
+    }
+
+    /// What a request that came at the moment `now` is. The message that answers one in the busy time, or a copy, is
+    /// put into `reply`; for a fresh one what `reply` then holds is not specified.
+    pub fn standing(&self, now: Moment, request: &Request<'_>, reply: &mut Body) -> Standing
+        ensures standing { result ≡ standing (held_by self.now) (message_at now request.now) }
+        ensures reply { IsReply (held_by self.now) (message_at now request.now) reply.new.items result }
+    {
+        if self.is_busy(now) {
+            refuse(request.read(), Code::ERROR_NOT_READY, reply);
+            return Standing::Busy;
+        }
+        match self.kept.get(request.source(), request.id()) {
+            Some(kept) if kept.is_repeated(self.keep, now, request.bytes()) => {
+                reply.clear();
+                reply.try_extend_from_slice(kept.answer()).unwrap();
+                Standing::Copy
+            }
+            _ => Standing::Fresh,
+        }
+    }
+
+    /// Reserves the room for the answer to a request. It counts for nothing, and is given back where it is dropped.
+    ///
+    /// # Errors
+    ///
+    /// `Sources` exactly where the source has no room yet and as many sources have as [`Bounds::sources`] allow.
+    /// `Memory` where it has none and a growth was refused.
+    pub fn reserve(&mut self, request: &Request<'_>) -> Result<Reserved, RoomRefusal>
+        ensures same { IsSameEnd self.new self.old }
+        ensures ok { IfOk result (IsRoomFor self.new.rows request.now.source) }
+        ensures few { IfOk result (IsWithinSources self.new.rows self.new.bounds.sources) }
+        ensures err { IfErr result (IsWhyNoRow self.old.rows self.old.bounds.sources request.now.source) }
+    {
+        self.kept.reserve(request.source(), self.bounds.sources)
+    }
+
+    /// Puts the room for the answers to the source of a request in, for an answer that is to come.
+    pub fn put_room(&mut self, request: &Request<'_>, reserved: Reserved)
+        requires other { request.now.source ≢ self.old.own }
+        requires room { IsRoomFor self.old.rows request.now.source reserved }
+        requires few { IsWithinSources self.old.rows self.old.bounds.sources reserved }
+        ensures gets { GetsRow request.now.source self.new.rows self.old.rows }
+        ensures some { IsSome (row_of self.new.rows request.now.source) }
+        ensures rest { self.new ≡ record self.old { rows = self.new.rows } }
+    {
+        self.kept.put_row(request.source(), reserved);
+    }
+
+    /// Keeps the answer to a request of this source, instance ID, moment and bytes, in the place of the one that is
+    /// kept for that instance ID. There has to be room for it. It takes no memory.
+    pub fn keep(&mut self, source: Eid, id: u8, moment: Moment, bytes: &[u8], answer: &[u8])
+        requires other { source ≢ self.old.own }
+        requires room { IsSome (row_of self.old.rows source) }
+        requires id { id < ids }
+        requires bytes { length bytes.now ≤ most }
+        requires some { 0 < length answer.now }
+        requires few { length answer.now ≤ most }
+        ensures kept { (other i : ℕ) → kept_in self.new.rows other i ≡
+            (if source == other && id == i
+            then Some (record { moment = moment; bytes = bytes.now; answer = answer.now })
+            else kept_in self.old.rows other i) }
+        ensures rows { (other : ℕ) → has_row self.new.rows other ≡ has_row self.old.rows other }
+        ensures sources { source_count self.new.rows ≡ source_count self.old.rows }
+        ensures rest { self.new ≡ record self.old { rows = self.new.rows } }
+    {
+        self.kept.put(source, id, moment, bytes, answer);
+    }
+
+    /// Ends a request, which came at the moment `now`: its packets are no longer open, and it is the last that was done
+    /// with.
+    pub fn finish(&mut self, now: Moment, request: &Request<'_>)
+        ensures { self.new ≡ end_finished self.old now request.now }
+    {
+        self.forget(now, request.source(), request.tag());
+    }
+
+    /// Ends what is open of a source and tag, at the moment `now`.
+    fn forget(&mut self, now: Moment, source: Eid, tag: Tag)
+        ensures { self.new ≡ end_finished self.old now (record { source = source; tag = tag; bytes = [] }) }
+    {
+        self.assembler.forget(Key {
+            source,
+            tag,
+            owner: true,
+        });
+        self.last = now;
+    }
+
+    /// How many pairs of a source and an instance ID have a kept answer: at most [`MAX_KEPT`], each of
+    /// at most [`MAX_MESSAGE_BYTES`] bytes.
+    pub fn kept(&self) -> usize
+        ensures value { CountsKept (kept_in self.now.rows) result }
+        ensures few { result ≤ MAX_KEPT }
+        ensures bounded { result ≤ INSTANCE_IDS * self.now.bounds.sources }
+        ensures small { (source id : ℕ) → IfSome (kept_in self.now.rows source id)
+            (λ entry. length entry.answer ≤ MAX_MESSAGE_BYTES) }
+    {
+        let _range = self.own.get(); // for the proof: an endpoint ID
+        self.kept.count()
+    }
+
+    /// How many sources have room for their answers, at most [`Bounds::sources`].
+    pub fn sources(&self) -> usize
+        ensures value { result ≡ source_count self.now.rows }
+        ensures bounded { result ≤ self.now.bounds.sources }
+    {
+        self.kept.sources()
+    }
+
+    /// How many messages have begun and not ended: at most [`MAX_PENDING`], each of at most
+    /// [`MAX_MESSAGE_BYTES`] bytes.
+    pub fn open_messages(&self) -> usize
+        ensures value { result ≡ map.len self.now.open_messages }
+        ensures few { result ≤ MAX_PENDING }
+        ensures bounded { result ≤ self.now.bounds.open_messages }
+        ensures small { (key : KeyValue) → IfSome (map.get self.now.open_messages key)
+            (λ o. length o.bytes ≤ MAX_MESSAGE_BYTES) }
+    {
+        let _range = self.own.get(); // for the proof: an endpoint ID
+        self.assembler.pending()
+    }
+}

@@ -1,0 +1,133 @@
+//! What one packet brings an answering end.
+
+ghost use Rattle.std.specs.Prelude.{◌≡◌, ◌<◌, ◌≤◌, ◌≢◌, Ok, length};
+ghost use Rattle.mctp_packet.specs.declared.TheConstants.{MAX_MESSAGE_BYTES as most};
+ghost use Rattle.pldm_wire.specs.Headers.{id_at};
+ghost use Rattle.pldm_wire.specs.Requests.{request_of};
+ghost use Rattle.pldm_wire.specs.declared.assigned.TheConstants.{INSTANCE_IDS as ids};
+
+use mctp_packet::{Eid, Memory, Reason, Route, Tag};
+use pldm_wire::RequestRef;
+use std::marker::Model;
+use thiserror::Error;
+
+/// A whole request from another endpoint: a message with a good header, borrowed from where its bytes are.
+#[derive(Debug, Drop)]
+pub struct Request<'a> {
+    source: Eid,
+    tag: Tag,
+    bytes: &'a [u8],
+    read: RequestRef<'a>,
+}
+
+impl<'a> Model for Request<'a> {
+    ghost use Rattle.std.specs.Prelude.{◌≡◌, ◌≤◌, Ok, length};
+    ghost use Rattle.mctp_packet.specs.declared.TheConstants.{MAX_MESSAGE_BYTES};
+    ghost use Rattle.pldm_wire.specs.Requests.{request_of};
+    ghost use Rattle.pldm_responder.specs.Requested.{Requested};
+
+    ghost Value = { Requested };
+
+    ghost view = { λ r. record { source = r.source; tag = r.tag; bytes = r.bytes.now } };
+
+    ghost invariant = { λ r. (request_of r.bytes.now ≡ Ok r.read) × (length r.bytes.now ≤ MAX_MESSAGE_BYTES) };
+}
+
+impl<'a> Request<'a> {
+    /// The request of these bytes, whose packets had this source and tag, as it was read.
+    pub(crate) fn new(source: Eid, tag: Tag, bytes: &'a [u8], read: RequestRef<'a>) -> Request<'a>
+        requires read { request_of bytes.now ≡ Ok read }
+        requires few { length bytes.now ≤ most }
+        ensures { result ≡ record { source = source; tag = tag; bytes = bytes.now } }
+    {
+        Request {
+            source,
+            tag,
+            bytes,
+            read,
+        }
+    }
+
+    /// The endpoint that it came from.
+    pub fn source(&self) -> Eid
+        ensures { result ≡ self.now.source }
+    {
+        self.source
+    }
+
+    /// The tag of its packets.
+    pub fn tag(&self) -> Tag
+        ensures { result ≡ self.now.tag }
+    {
+        self.tag
+    }
+
+    /// Its instance ID.
+    pub fn id(&self) -> u8
+        ensures value { result ≡ id_at self.now.bytes }
+        ensures range { id_at self.now.bytes < ids }
+    {
+        self.read.id()
+    }
+
+    /// Its bytes.
+    pub fn bytes(&self) -> &'a [u8]
+        ensures value { result.now ≡ self.now.bytes }
+        ensures few { length self.now.bytes ≤ most }
+    {
+        self.bytes
+    }
+
+    /// What its bytes were read as.
+    pub fn read(&self) -> &RequestRef<'a>
+        ensures { request_of self.now.bytes ≡ Ok result.now }
+    {
+        &self.read
+    }
+}
+
+/// What becomes of the bytes of a packet, as far as they are only looked at.
+#[derive(Debug, Drop)]
+pub enum Arrived<'a> {
+    /// They are dropped, for one of the reasons 1 to 17.
+    Dropped(Reason),
+    /// They begin a message of several packets, or go on with one.
+    Partial,
+    /// They complete a request, with which nothing is done yet.
+    Request(Request<'a>),
+}
+
+/// What a request is to the endpoint that it came to.
+#[derive(Clone, Copy, Debug, PartialEq, Eq)]
+pub enum Standing {
+    /// It came in the busy time.
+    Busy,
+    /// It is a copy of one whose answer is kept.
+    Copy,
+    /// It is to be performed or refused now.
+    Fresh,
+}
+
+/// Why there is no room for what a packet brings. All is then as before, and the packet counts as lost on the bus.
+#[derive(Clone, Copy, Debug, PartialEq, Eq, Error)]
+pub enum RoomRefusal {
+    /// As many sources have room for their answers as the bounds allow, and this is another one.
+    #[error("as many sources as may be have kept answers")]
+    Sources,
+    /// As many messages of several packets are open as the bounds allow, and this would be one more.
+    #[error("as many messages as may be are open")]
+    OpenMessages,
+    /// A growth of memory was refused.
+    #[error("out of memory")]
+    Memory(Memory),
+}
+
+impl From<Memory> for RoomRefusal {
+    ghost use Rattle.pldm_responder.specs.declared.arriving.RoomRefusal.TheVariants as refusals;
+
+    ghost from_gives = { λ memory refusal. refusal ≡ refusals.Memory memory };
+
+    fn from(memory: Memory) -> RoomRefusal {
+        RoomRefusal::Memory(memory)
+    }
+}
