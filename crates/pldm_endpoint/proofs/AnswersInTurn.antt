@@ -16,7 +16,7 @@ use Rattle.pldm_responder.specs.Arrivals.{Arrival, Drop, Part, Whole, packets_ba
 use Rattle.pldm_responder.specs.Asked.{IsAsGiven, gives, over}
 use Rattle.pldm_responder.specs.Calls.{Call, Received, Restart, outcome}
 use Rattle.pldm_responder.specs.Events.{Message, is_of}
-use Rattle.pldm_responder.specs.OutsideAnswers.{entry_answered, kept_bytes, message_in, outcome_of_answer}
+use Rattle.pldm_responder.specs.OutsideAnswers.{message_in, outcome_of_answer}
 use Rattle.pldm_responder.specs.Held.{Entry, Held}
 use Rattle.pldm_responder.specs.Laws.{IsLeftBy}
 use Rattle.pldm_responder.specs.Performing.{Rules, after_command, busy_reply, changes, commands_at, commands_in, commands_of, next_after, reply}
@@ -24,12 +24,12 @@ use Rattle.pldm_responder.specs.Steps.{arrival_commands, arrival_held, arrival_o
 use Rattle.pldm_responder.specs.declared.outcome.Outcome.TheVariants.{Answered}
 use Rattle.pldm_responder.proofs.AnswersFromOutside.{answer_decides, none_is_asked}
 use Rattle.pldm_responder.proofs.CallsLookBack.{new_looks_back, received_looks_back, restarted_looks_back, same_is_left}
-use Rattle.pldm_endpoint.specs.Askers.{Asks, asker, asker_cmp, asker_of, numbered}
+use Rattle.pldm_endpoint.specs.RequestKeys.{PendingCommands, request_key, request_key_cmp, request_key_of}
 use Rattle.pldm_endpoint.specs.Histories.{AnsweredInTurn, AskedLooksBack, IsFree, IsLeftInTurn, NewInTurn, ReceivedInTurn, RestartedInTurn, SameInTurn, TwoStepsAreOne, UnaskedLooksBack, entry_to_be, in_turn, to_be}
-use Rattle.pldm_endpoint.specs.TwoSteps.{asks_after, asks_by, count_after, request_in, unasked}
-use Rattle.pldm_endpoint.specs.declared.asks.Asked.{Asked}
-use Rattle.pldm_endpoint.proofs.AskerOrder.{askers_total}
-use Rattle.pldm_endpoint.proofs.PendingGlue.{one_asker, same_asker, whole_is}
+use Rattle.pldm_endpoint.specs.TwoSteps.{command_at, count_after, entry_given, held_after, kept_by, pending_after, pending_by, request_in, stepped, unasked}
+use Rattle.pldm_endpoint.specs.declared.pending_commands.PendingCommand.{PendingCommand}
+use Rattle.pldm_endpoint.proofs.KeyOrder.{request_keys_total}
+use Rattle.pldm_endpoint.proofs.PendingGlue.{numbered_is, one_key, same_key, whole_is}
 
 -- ---- each command is counted
 by_command : (answers : ℕ → Answer) (count : ℕ) (r : Result Command ℕ) → after_command (in_turn answers) count r ≡ count + length (commands_in r)
@@ -51,22 +51,22 @@ by_arrival answers held Part = omega arith
 by_arrival answers held (Whole m) = by_performing answers (performs held m) held.state (request_of m.bytes)
 
 -- ---- what is held once all is answered has the same entry where a request comes
-module _ (answers : ℕ → Answer) (count : ℕ) (asks : Asks) (held : Held (Unit {0})) where
+module _ (answers : ℕ → Answer) (count : ℕ) (pending : PendingCommands) (held : Held (Unit {0})) where
   abbrev later : Held (Unit {0})
-  later = to_be answers asks held
+  later = to_be answers pending held
 
-  same_entry : (m : Message) → map.get asks (asker_of m) ≡ None → entry_for later m ≡ entry_for held m
+  same_entry : (m : Message) → map.get pending (request_key_of m) ≡ None → entry_for later m ≡ entry_for held m
   same_entry m free = ap (λ o. entry_to_be answers o (entry_for held m)) free
 
-  same_performs : (m : Message) → map.get asks (asker_of m) ≡ None → performs later m ≡ performs held m
+  same_performs : (m : Message) → map.get pending (request_key_of m) ≡ None → performs later m ≡ performs held m
   same_performs m free = ap (λ e. not (nat_lt m.moment held.serves_from) && not (repeats held.keep m e)) (same_entry m free)
 
-  pub same_commands : (a : Arrival) → IsFree asks (message_in a) → arrival_commands later a ≡ arrival_commands held a
+  pub same_commands : (a : Arrival) → IsFree pending (message_in a) → arrival_commands later a ≡ arrival_commands held a
   same_commands (Drop reason) free = refl
   same_commands Part free = refl
   same_commands (Whole m) free = ap (λ t. if t then commands_of m.bytes else []) (same_performs m free)
 
-  same_outcome : (device : Rules (Unit {0})) (a : Arrival) → IsFree asks (message_in a) → arrival_outcome device later a ≡ arrival_outcome device held a
+  same_outcome : (device : Rules (Unit {0})) (a : Arrival) → IsFree pending (message_in a) → arrival_outcome device later a ≡ arrival_outcome device held a
   same_outcome device (Drop reason) free = refl
   same_outcome device Part free = refl
   same_outcome device (Whole m) free =
@@ -74,44 +74,44 @@ module _ (answers : ℕ → Answer) (count : ℕ) (asks : Asks) (held : Held (Un
       else served device held m (copied_packets held.own held.keep m e)) (same_entry m free)
 
   -- ---- what is kept
-  at_asker : (m : Message) (source id : ℕ) → is_of m source id ≡ true → map.get asks (asker_of m) ≡ None → map.get asks (asker source id) ≡ None
-  at_asker m source id is free = ap (map.get asks) (sym (same_asker m (asker source id) is)) ∙ free
+  at_asker : (m : Message) (source id : ℕ) → is_of m source id ≡ true → map.get pending (request_key_of m) ≡ None → map.get pending (request_key source id) ≡ None
+  at_asker m source id is free = ap (map.get pending) (sym (same_key m (request_key source id) is)) ∙ free
 
-  kept_where_none : (m : Message) (source id : ℕ) (p of : Bool) → is_of m source id ≡ of → map.get asks (asker_of m) ≡ None
-      → entry_to_be answers (map.get asks (asker source id)) (if of && p then Some (entry_of (gives unasked) held m) else held.kept source id)
-      ≡ (if of && p then Some (entry_of (gives unasked) later m) else entry_to_be answers (map.get asks (asker source id)) (held.kept source id))
+  kept_where_none : (m : Message) (source id : ℕ) (p of : Bool) → is_of m source id ≡ of → map.get pending (request_key_of m) ≡ None
+      → entry_to_be answers (map.get pending (request_key source id)) (if of && p then Some (entry_of (gives unasked) held m) else held.kept source id)
+      ≡ (if of && p then Some (entry_of (gives unasked) later m) else entry_to_be answers (map.get pending (request_key source id)) (held.kept source id))
   kept_where_none m source id p false is free = refl
   kept_where_none m source id false true is free = refl
   kept_where_none m source id true true is free = ap (λ o. entry_to_be answers o (Some (entry_of (gives unasked) held m))) (at_asker m source id is free)
 
-  abbrev now_asked : Message → Command → Asked
-  now_asked m command = record { tag = m.tag; number = count; command = command }
+  abbrev now_asked : Message → Command → PendingCommand
+  now_asked m command = command_at m count command
 
   inserted_at : (m : Message) (command : Command) (source id : ℕ) (of : Bool) → is_of m source id ≡ of
-      → map.get (map.insert asks (asker_of m) (now_asked m command)) (asker source id) ≡ cond of (Some (now_asked m command)) (map.get asks (asker source id))
+      → map.get (map.insert pending (request_key_of m) (now_asked m command)) (request_key source id) ≡ cond of (Some (now_asked m command)) (map.get pending (request_key source id))
   inserted_at m command source id true is =
-      map.get-insert askers_total asks (asker_of m) (now_asked m command) (asker source id)
-      ∙ ap (λ t. cond t (Some (now_asked m command)) (map.get asks (asker source id)))
-      (ap (λ k. eq_by_cmp asker_cmp (asker source id) k) (same_asker m (asker source id) is) ∙ (eq_by_cmp_equiv askers_total).refl (asker source id))
+      map.get-insert request_keys_total pending (request_key_of m) (now_asked m command) (request_key source id)
+      ∙ ap (λ t. cond t (Some (now_asked m command)) (map.get pending (request_key source id)))
+      (ap (λ k. eq_by_cmp request_key_cmp (request_key source id) k) (same_key m (request_key source id) is) ∙ (eq_by_cmp_equiv request_keys_total).refl (request_key source id))
   inserted_at m command source id false is =
-      map.get-insert askers_total asks (asker_of m) (now_asked m command) (asker source id)
-      ∙ ap (λ t. cond t (Some (now_asked m command)) (map.get asks (asker source id))) (not_at (eq_by_cmp asker_cmp (asker source id) (asker_of m)) refl)
+      map.get-insert request_keys_total pending (request_key_of m) (now_asked m command) (request_key source id)
+      ∙ ap (λ t. cond t (Some (now_asked m command)) (map.get pending (request_key source id))) (not_at (eq_by_cmp request_key_cmp (request_key source id) (request_key_of m)) refl)
     where
-      of_its : (by : _) → by ≡ asker_of m → is_of m by.source by.id ≡ true
+      of_its : (by : _) → by ≡ request_key_of m → is_of m by.source by.id ≡ true
       of_its by same = subst (λ k. is_of m k.source k.id ≡ true) (sym same) (ap (λ t. t && (id_at m.bytes == id_at m.bytes)) (eq-eqb m.source m.source refl) ∙ eq-eqb (id_at m.bytes) (id_at m.bytes) refl)
 
-      not_at : (t : Bool) → eq_by_cmp asker_cmp (asker source id) (asker_of m) ≡ t → t ≡ false
+      not_at : (t : Bool) → eq_by_cmp request_key_cmp (request_key source id) (request_key_of m) ≡ t → t ≡ false
       not_at false h = refl
-      not_at true h = absurd (both_ways (is_of m source id) is (of_its (asker source id) (one_asker (asker source id) (asker_of m) h)))
+      not_at true h = absurd (both_ways (is_of m source id) is (of_its (request_key source id) (one_key (request_key source id) (request_key_of m) h)))
 
   kept_where_asked : (m : Message) (command : Command) (source id : ℕ) (of : Bool) → is_of m source id ≡ of
-      → entry_to_be answers (cond of (Some (now_asked m command)) (map.get asks (asker source id))) (if of && true then Some (entry_of (gives unasked) held m) else held.kept source id)
-      ≡ (if of && true then Some (entry_of (gives (answers count)) later m) else entry_to_be answers (map.get asks (asker source id)) (held.kept source id))
+      → entry_to_be answers (cond of (Some (now_asked m command)) (map.get pending (request_key source id))) (held.kept source id)
+      ≡ (if of && true then Some (entry_of (gives (answers count)) later m) else entry_to_be answers (map.get pending (request_key source id)) (held.kept source id))
   kept_where_asked m command source id true is = refl
   kept_where_asked m command source id false is = refl
 
-  kept_none : (a : Arrival) → IsFree asks (message_in a) → (source id : ℕ)
-      → entry_to_be answers (map.get asks (asker source id)) ((arrival_held (gives unasked) held a).kept source id) ≡ (arrival_held (gives unasked) later a).kept source id
+  kept_none : (a : Arrival) → IsFree pending (message_in a) → (source id : ℕ)
+      → entry_to_be answers (map.get pending (request_key source id)) ((arrival_held (gives unasked) held a).kept source id) ≡ (arrival_held (gives unasked) later a).kept source id
   kept_none (Drop reason) free source id = refl
   kept_none Part free source id = refl
   kept_none (Whole m) free source id =
@@ -122,14 +122,13 @@ module _ (answers : ℕ → Answer) (count : ℕ) (asks : Asks) (held : Held (Un
   performed_by true commands command h = refl
   performed_by false commands command h = cc
 
-  kept_asked : (m : Message) (command : Command) → map.get asks (asker_of m) ≡ None → arrival_commands held (Whole m) ≡ command ∷ [] → (source id : ℕ)
-      → entry_to_be answers (map.get (map.insert asks (asker_of m) (now_asked m command)) (asker source id)) ((arrival_held (gives unasked) held (Whole m)).kept source id)
+  kept_asked : (m : Message) (command : Command) → map.get pending (request_key_of m) ≡ None → arrival_commands held (Whole m) ≡ command ∷ [] → (source id : ℕ)
+      → entry_to_be answers (map.get (map.insert pending (request_key_of m) (now_asked m command)) (request_key source id)) (held.kept source id)
       ≡ (arrival_held (gives (answers count)) later (Whole m)).kept source id
   kept_asked m command free asked source id =
       let of = is_of m source id in
       let done : performs held m ≡ true = performed_by (performs held m) (commands_of m.bytes) command asked in
-      ap (λ o. entry_to_be answers o (if of && performs held m then Some (entry_of (gives unasked) held m) else held.kept source id)) (inserted_at m command source id of refl)
-      ∙ ap (λ p. entry_to_be answers (cond of (Some (now_asked m command)) (map.get asks (asker source id))) (if of && p then Some (entry_of (gives unasked) held m) else held.kept source id)) done
+      ap (λ o. entry_to_be answers o (held.kept source id)) (inserted_at m command source id of refl)
       ∙ kept_where_asked m command source id of refl
       ∙ ap (λ p. if of && p then Some (entry_of (gives (answers count)) later m) else later.kept source id) (sym (same_performs m free ∙ done))
 
@@ -176,9 +175,22 @@ from_is device held (Drop reason) = refl
 from_is device held Part = refl
 from_is device held (Whole m) = refl
 
-asks_where_none : (asks : Asks) (count : ℕ) (request : Option Message) (commands : List Command) → commands ≡ [] → asks_by asks count request commands ≡ asks
-asks_where_none asks count None commands is = refl
-asks_where_none asks count (Some m) commands is = ap (asks_by asks count (Some m)) is
+-- what is held after an arrival differs only by what is kept
+own_stepped : (commands : List Command) (x y : Held (Unit {0})) → x.own ≡ y.own → (kept_by commands x y).own ≡ y.own
+own_stepped [] x y h = h
+own_stepped (command ∷ commands) x y h = refl
+
+keep_stepped : (commands : List Command) (x y : Held (Unit {0})) → x.keep ≡ y.keep → (kept_by commands x y).keep ≡ y.keep
+keep_stepped [] x y h = h
+keep_stepped (command ∷ commands) x y h = refl
+
+from_stepped : (commands : List Command) (x y : Held (Unit {0})) → x.serves_from ≡ y.serves_from → (kept_by commands x y).serves_from ≡ y.serves_from
+from_stepped [] x y h = h
+from_stepped (command ∷ commands) x y h = refl
+
+pending_where_none : (pending : PendingCommands) (count : ℕ) (request : Option Message) (commands : List Command) → commands ≡ [] → pending_by pending count request commands ≡ pending
+pending_where_none pending count None commands is = refl
+pending_where_none pending count (Some m) commands is = ap (pending_by pending count (Some m)) is
 
 -- ---- a request that is performed is answered so
 no_packets : (own keep : ℕ) (m : Message) (e : Option Entry) → repeats keep m e ≡ false → copied_packets own keep m e ≡ None
@@ -194,51 +206,37 @@ performed_outcome device held m done =
     ∙ ap (served device held m) (no_packets held.own held.keep m (entry_for held m) (not-true (repeats held.keep m (entry_for held m)) parts.1))
 
 -- ---- both steps at once
-module _ (held : Held (Unit {0})) (given : Answer) (m : Message) (done : performs held m ≡ true) where
-  given_where : (source id : ℕ) (of p : Bool) → is_of m source id ≡ of → p ≡ true
-      → (if of then entry_answered given (if is_of m m.source (id_at m.bytes) && p then Some (entry_of (gives unasked) held m) else held.kept m.source (id_at m.bytes))
-      else (if of && p then Some (entry_of (gives unasked) held m) else held.kept source id))
-      ≡ (if of && p then Some (entry_of (gives given) held m) else held.kept source id)
-  given_where source id true true is h =
-      ap (λ t. entry_answered given (if t && true then Some (entry_of (gives unasked) held m) else held.kept m.source (id_at m.bytes)))
-      (ap (λ t. t && (id_at m.bytes == id_at m.bytes)) (eq-eqb m.source m.source refl) ∙ eq-eqb (id_at m.bytes) (id_at m.bytes) refl)
-  given_where source id false p is h = refl
-  given_where source id of false is h = cc
-
-  kept_of_it : kept_bytes ((arrival_held (gives unasked) held (Whole m)).kept m.source (id_at m.bytes)) ≡ m.bytes
-  kept_of_it =
-      ap (λ t. kept_bytes (if t && performs held m then Some (entry_of (gives unasked) held m) else held.kept m.source (id_at m.bytes)))
-      (ap (λ t. t && (id_at m.bytes == id_at m.bytes)) (eq-eqb m.source m.source refl) ∙ eq-eqb (id_at m.bytes) (id_at m.bytes) refl)
-      ∙ ap (λ p. kept_bytes (if p then Some (entry_of (gives unasked) held m) else held.kept m.source (id_at m.bytes))) done
+where_done : {A : Type 0} (of p : Bool) (x y : A) → p ≡ true → (if of then x else y) ≡ (if of && p then x else y)
+where_done true true x y h = refl
+where_done false p x y h = refl
+where_done true false x y h = cc
 
 pub two_steps_are_one : TwoStepsAreOne
-two_steps_are_one held moment bytes m command given arrives asked =
+two_steps_are_one held moment bytes count m command given arrives asked =
     let a = received_arrival held moment bytes in
     let is : a ≡ Whole m = whole_is a m arrives in
-    let done = performed_where (performs held m) (commands_of m.bytes) command (ap (arrival_commands held) (sym is) ∙ asked) in (
-      ap (λ kept. outcome_of_answer (arrival_held (gives unasked) held a).own m.source m.tag kept given)
-          (ap (λ x. kept_bytes ((arrival_held (gives unasked) held x).kept m.source (id_at m.bytes))) is ∙ kept_of_it held given m done)
-          ∙ ap (λ own. outcome_of_answer own m.source m.tag m.bytes given) (own_is (gives unasked) held a)
-          ∙ sym (performed_outcome (gives given) held m done) ∙ ap (arrival_outcome (gives given) held) (sym is),
+    let done = performed_where (performs held m) (commands_of m.bytes) command (ap (arrival_commands held) (sym is) ∙ asked) in
+    let unchanged : stepped held a ≡ held = ap (λ commands. kept_by commands (arrival_held (gives unasked) held a) held) asked in (
+      sym (performed_outcome (gives given) held m done) ∙ ap (arrival_outcome (gives given) held) (sym is),
       record {
-        own = own_is (gives unasked) held a ∙ sym (own_is (gives given) held a);
-        keep = keep_is (gives unasked) held a ∙ sym (keep_is (gives given) held a);
+        own = ap (λ (h : Held (Unit {0})). h.own) unchanged ∙ sym (own_is (gives given) held a);
+        keep = ap (λ (h : Held (Unit {0})). h.keep) unchanged ∙ sym (keep_is (gives given) held a);
         open_messages = refl;
         kept = λ source id.
-            ap (λ x. if is_of m source id then entry_answered given ((arrival_held (gives unasked) held x).kept m.source (id_at m.bytes)) else (arrival_held (gives unasked) held x).kept source id) is
-            ∙ given_where held given m done source id (is_of m source id) (performs held m) refl done
+            ap (λ (h : Held (Unit {0})). if is_of m source id then Some (entry_given (command_at m count command) given) else h.kept source id) unchanged
+            ∙ where_done (is_of m source id) (performs held m) (Some (entry_given (command_at m count command) given)) (held.kept source id) done
             ∙ ap (λ x. (arrival_held (gives given) held x).kept source id) (sym is);
         state = refl;
-        serves_from = from_is (gives unasked) held a ∙ sym (from_is (gives given) held a);
+        serves_from = ap (λ (h : Held (Unit {0})). h.serves_from) unchanged ∙ sym (from_is (gives given) held a);
         last = refl;
       },
     )
 
 -- ---- the laws
-module _ (own keep : ℕ) (answers : ℕ → Answer) (count : ℕ) (asks : Asks) (held : Held (Unit {0})) (calls : List (Call ℕ)) (moment : ℕ) (bytes : List ℕ)
-    (looks : assembly.FeedLooksBack) (left : IsLeftInTurn own keep answers count asks held calls) (free : IsFree asks (request_in held moment bytes)) where
+module _ (own keep : ℕ) (answers : ℕ → Answer) (count : ℕ) (pending : PendingCommands) (held : Held (Unit {0})) (calls : List (Call ℕ)) (moment : ℕ) (bytes : List ℕ)
+    (looks : assembly.FeedLooksBack) (left : IsLeftInTurn own keep answers count pending held calls) (free : IsFree pending (request_in held moment bytes)) where
   abbrev full : Held ℕ
-  full = over count (to_be answers asks held)
+  full = over count (to_be answers pending held)
 
   abbrev a : Arrival
   a = received_arrival held moment bytes
@@ -248,7 +246,7 @@ module _ (own keep : ℕ) (answers : ℕ → Answer) (count : ℕ) (asks : Asks)
   step = received_looks_back (in_turn answers) looks own keep 0 full calls moment bytes left
 
   full_commands : received_commands full moment bytes ≡ received_commands held moment bytes
-  full_commands = same_commands answers count asks held a free
+  full_commands = same_commands answers count pending held a free
 
   given_none : received_commands held moment bytes ≡ [] → IsAsGiven (in_turn answers) full moment bytes unasked
   given_none none = none_is_asked (in_turn answers) full moment bytes unasked (full_commands ∙ none)
@@ -257,128 +255,117 @@ module _ (own keep : ℕ) (answers : ℕ → Answer) (count : ℕ) (asks : Asks)
   given_asked command asked = (answer_decides (in_turn answers) full moment bytes command (answers count) (full_commands ∙ asked) refl).0
 
   left_same : (given : Answer) → IsAsGiven (in_turn answers) full moment bytes given
-      → ((source id : ℕ) → entry_to_be answers (map.get (asks_after held moment bytes asks count) (asker source id)) ((received_held (gives unasked) held moment bytes).kept source id)
-      ≡ (received_held (gives given) (to_be answers asks held) moment bytes).kept source id)
-      → IsLeftInTurn own keep answers (count_after held moment bytes count) (asks_after held moment bytes asks count) (received_held (gives unasked) held moment bytes) (Received moment bytes ∷ calls)
+      → ((source id : ℕ) → entry_to_be answers (map.get (pending_after held moment bytes pending count) (request_key source id)) ((held_after held moment bytes).kept source id)
+      ≡ (received_held (gives given) (to_be answers pending held) moment bytes).kept source id)
+      → IsLeftInTurn own keep answers (count_after held moment bytes count) (pending_after held moment bytes pending count) (held_after held moment bytes) (Received moment bytes ∷ calls)
   left_same given as_given kept =
       same_is_left (in_turn answers) own keep 0 _ _ (Received moment bytes ∷ calls) (record {
-        own = own_is (gives unasked) held a ∙ sym (own_is (gives given) (to_be answers asks held) a) ∙ sym as_given.left.own;
-        keep = keep_is (gives unasked) held a ∙ sym (keep_is (gives given) (to_be answers asks held) a) ∙ sym as_given.left.keep;
+        own = own_stepped (arrival_commands held a) (arrival_held (gives unasked) held a) held (own_is (gives unasked) held a) ∙ sym (own_is (gives given) (to_be answers pending held) a) ∙ sym as_given.left.own;
+        keep = keep_stepped (arrival_commands held a) (arrival_held (gives unasked) held a) held (keep_is (gives unasked) held a) ∙ sym (keep_is (gives given) (to_be answers pending held) a) ∙ sym as_given.left.keep;
         open_messages = sym as_given.left.open_messages;
         kept = λ source id. kept source id ∙ sym (as_given.left.kept source id);
         state = sym (by_arrival answers full a ∙ ap (λ commands. count + length commands) full_commands);
-        serves_from = from_is (gives unasked) held a ∙ sym (from_is (gives given) (to_be answers asks held) a) ∙ sym as_given.left.serves_from;
+        serves_from = from_stepped (arrival_commands held a) (arrival_held (gives unasked) held a) held (from_is (gives unasked) held a) ∙ sym (from_is (gives given) (to_be answers pending held) a) ∙ sym as_given.left.serves_from;
         last = sym as_given.left.last;
       }) step.1
 
   left_none : received_commands held moment bytes ≡ []
-      → IsLeftInTurn own keep answers (count_after held moment bytes count) (asks_after held moment bytes asks count) (received_held (gives unasked) held moment bytes) (Received moment bytes ∷ calls)
+      → IsLeftInTurn own keep answers (count_after held moment bytes count) (pending_after held moment bytes pending count) (held_after held moment bytes) (Received moment bytes ∷ calls)
   left_none none =
       left_same unasked (given_none none)
-      (λ source id. ap (λ asked_now. entry_to_be answers (map.get asked_now (asker source id)) ((arrival_held (gives unasked) held a).kept source id)) (asks_where_none asks count (message_in a) (received_commands held moment bytes) none)
-      ∙ kept_none answers count asks held a free source id)
+      (λ source id.
+      ap (λ commands. entry_to_be answers (map.get (pending_by pending count (message_in a) commands) (request_key source id)) ((kept_by commands (arrival_held (gives unasked) held a) held).kept source id)) none
+      ∙ ap (λ p. entry_to_be answers (map.get p (request_key source id)) ((arrival_held (gives unasked) held a).kept source id)) (pending_where_none pending count (message_in a) [] refl)
+      ∙ kept_none answers count pending held a free source id)
 
   left_asked : (m : Message) (command : Command) → a ≡ Whole m → received_commands held moment bytes ≡ command ∷ []
-      → IsLeftInTurn own keep answers (count_after held moment bytes count) (asks_after held moment bytes asks count) (received_held (gives unasked) held moment bytes) (Received moment bytes ∷ calls)
+      → IsLeftInTurn own keep answers (count_after held moment bytes count) (pending_after held moment bytes pending count) (held_after held moment bytes) (Received moment bytes ∷ calls)
   left_asked m command is asked =
       left_same (answers count) (given_asked command asked)
       (λ source id.
-      ap (λ commands. entry_to_be answers (map.get (asks_by asks count (message_in a) commands) (asker source id)) ((arrival_held (gives unasked) held a).kept source id)) asked
-      ∙ ap (λ x. entry_to_be answers (map.get (asks_by asks count (message_in x) (command ∷ [])) (asker source id)) ((arrival_held (gives unasked) held x).kept source id)) is
-      ∙ kept_asked answers count asks held m command (subst (λ x. IsFree asks (message_in x)) is free) (ap (arrival_commands held) (sym is) ∙ asked) source id
-      ∙ ap (λ x. (arrival_held (gives (answers count)) (to_be answers asks held) x).kept source id) (sym is))
+      ap (λ commands. entry_to_be answers (map.get (pending_by pending count (message_in a) commands) (request_key source id)) ((kept_by commands (arrival_held (gives unasked) held a) held).kept source id)) asked
+      ∙ ap (λ x. entry_to_be answers (map.get (pending_by pending count (message_in x) (command ∷ [])) (request_key source id)) (held.kept source id)) is
+      ∙ kept_asked answers count pending held m command (subst (λ x. IsFree pending (message_in x)) is free) (ap (arrival_commands held) (sym is) ∙ asked) source id
+      ∙ ap (λ x. (arrival_held (gives (answers count)) (to_be answers pending held) x).kept source id) (sym is))
 
-  pub received : IsLeftInTurn own keep answers (count_after held moment bytes count) (asks_after held moment bytes asks count) (received_held (gives unasked) held moment bytes) (Received moment bytes ∷ calls)
-  received = by_commands (one_asked answers count asks held a)
+  pub received : IsLeftInTurn own keep answers (count_after held moment bytes count) (pending_after held moment bytes pending count) (held_after held moment bytes) (Received moment bytes ∷ calls)
+  received = by_commands (one_asked answers count pending held a)
     where
       by_commands : (received_commands held moment bytes ≡ []) ⊎ ((command : Command) × (received_commands held moment bytes ≡ command ∷ []))
-          → IsLeftInTurn own keep answers (count_after held moment bytes count) (asks_after held moment bytes asks count) (received_held (gives unasked) held moment bytes) (Received moment bytes ∷ calls)
+          → IsLeftInTurn own keep answers (count_after held moment bytes count) (pending_after held moment bytes pending count) (held_after held moment bytes) (Received moment bytes ∷ calls)
       by_commands (inl none) = left_none none
       by_commands (inr one) =
-          let whole = message_of_asked answers count asks held a one.0 one.1 in
+          let whole = message_of_asked answers count pending held a one.0 one.1 in
           left_asked whole.0 one.0 whole.1 one.1
 
   pub unasked_outcome : received_commands held moment bytes ≡ [] → received_outcome (gives unasked) held moment bytes ≡ outcome (in_turn answers) own keep 0 calls moment bytes
   unasked_outcome none =
-      sym (same_outcome answers count asks held (gives unasked) a free) ∙ sym (given_none none).outcome ∙ step.0
+      sym (same_outcome answers count pending held (gives unasked) a free) ∙ sym (given_none none).outcome ∙ step.0
 
   pub asked_outcome : (m : Message) (command : Command) → request_in held moment bytes ≡ Some m → received_commands held moment bytes ≡ command ∷ []
       → outcome_of_answer held.own m.source m.tag m.bytes (answers count) ≡ outcome (in_turn answers) own keep 0 calls moment bytes
   asked_outcome m command arrives asked =
       let is = whole_is a m arrives in
-      let done = performed_by answers count asks held (performs held m) (commands_of m.bytes) command (ap (arrival_commands held) (sym is) ∙ asked) in
+      let done = performed_by answers count pending held (performs held m) (commands_of m.bytes) command (ap (arrival_commands held) (sym is) ∙ asked) in
       sym (performed_outcome (gives (answers count)) held m done)
       ∙ ap (arrival_outcome (gives (answers count)) held) (sym is)
-      ∙ sym (same_outcome answers count asks held (gives (answers count)) a free) ∙ sym (given_asked command asked).outcome ∙ step.0
+      ∙ sym (same_outcome answers count pending held (gives (answers count)) a free) ∙ sym (given_asked command asked).outcome ∙ step.0
 
 pub received_in_turn : assembly.FeedLooksBack → ReceivedInTurn
-received_in_turn looks own keep answers count asks held calls moment bytes left free = received own keep answers count asks held calls moment bytes looks left free
+received_in_turn looks own keep answers count pending held calls moment bytes left free = received own keep answers count pending held calls moment bytes looks left free
 
 pub unasked_looks_back : assembly.FeedLooksBack → UnaskedLooksBack
-unasked_looks_back looks own keep answers count asks held calls moment bytes left free none = unasked_outcome own keep answers count asks held calls moment bytes looks left free none
+unasked_looks_back looks own keep answers count pending held calls moment bytes left free none = unasked_outcome own keep answers count pending held calls moment bytes looks left free none
 
 pub asked_looks_back : assembly.FeedLooksBack → AskedLooksBack
-asked_looks_back looks own keep answers count asks held calls moment bytes m command left free arrives asked = asked_outcome own keep answers count asks held calls moment bytes looks left free m command arrives asked
+asked_looks_back looks own keep answers count pending held calls moment bytes m command left free arrives asked = asked_outcome own keep answers count pending held calls moment bytes looks left free m command arrives asked
 
 -- ---- an answer
-abbrev number_in : Option Asked → ℕ
-number_in None = 0
-number_in (Some x) = x.number
-
-numbered_is : (number : ℕ) (o : Option Asked) (a : Asked) → numbered number o ≡ Some a → (o ≡ Some a) × (a.number ≡ number)
-numbered_is number None a h = cc
-numbered_is number (Some b) a h = by_number (b.number == number) refl h
-  where
-    by_number : (t : Bool) → (b.number == number) ≡ t → (if t then Some b else None) ≡ Some a → (Some b ≡ Some a) × (a.number ≡ number)
-    by_number true is h = (h, subst (λ (o : Option Asked). number_in o ≡ number) h (eqb-true b.number number is))
-    by_number false is h = cc
-
-module _ (answers : ℕ → Answer) (asks : Asks) (held : Held (Unit {0})) (source id number : ℕ) (a : Asked)
-    (is : map.get asks (asker source id) ≡ Some a) (number_is : a.number ≡ number) where
+module _ (answers : ℕ → Answer) (pending : PendingCommands) (held : Held (Unit {0})) (source id number : ℕ) (a : PendingCommand)
+    (is : map.get pending (request_key source id) ≡ Some a) (number_is : a.number ≡ number) where
   kept_answered : (other i : ℕ) (t : Bool) → (source == other && id == i) ≡ t
-      → entry_to_be answers (map.get (map.remove asks (asker source id)) (asker other i)) (if t then entry_answered (answers number) (held.kept source id) else held.kept other i)
-      ≡ entry_to_be answers (map.get asks (asker other i)) (held.kept other i)
+      → entry_to_be answers (map.get (map.remove pending (request_key source id)) (request_key other i)) (if t then Some (entry_given a (answers number)) else held.kept other i)
+      ≡ entry_to_be answers (map.get pending (request_key other i)) (held.kept other i)
   kept_answered other i true here =
       let both = and_parts (source == other) (id == i) here in
-      let same = ap (λ s. asker s i) (sym (eqb-true source other both.0)) ∙ ap (λ n. asker source n) (sym (eqb-true id i both.1)) in
-      ap (λ o. entry_to_be answers o (entry_answered (answers number) (held.kept source id)))
-      (map.get-remove askers_total asks (asker source id) (asker other i)
-      ∙ ap (λ t. cond t None (map.get asks (asker other i))) (ap (λ k. eq_by_cmp asker_cmp k (asker source id)) same ∙ (eq_by_cmp_equiv askers_total).refl (asker source id)))
-      ∙ ap (λ n. entry_answered (answers n) (held.kept source id)) (sym number_is)
-      ∙ sym (ap (λ o. entry_to_be answers o (held.kept other i)) (ap (map.get asks) same ∙ is)
-      ∙ ap (λ (k : _). entry_answered (answers a.number) (held.kept k.source k.id)) same)
+      let same = ap (λ s. request_key s i) (sym (eqb-true source other both.0)) ∙ ap (λ n. request_key source n) (sym (eqb-true id i both.1)) in
+      ap (λ o. entry_to_be answers o (Some (entry_given a (answers number))))
+      (map.get-remove request_keys_total pending (request_key source id) (request_key other i)
+      ∙ ap (λ t. cond t None (map.get pending (request_key other i))) (ap (λ k. eq_by_cmp request_key_cmp k (request_key source id)) same ∙ (eq_by_cmp_equiv request_keys_total).refl (request_key source id)))
+      ∙ ap (λ n. Some (entry_given a (answers n))) (sym number_is)
+      ∙ sym (ap (λ o. entry_to_be answers o (held.kept other i)) (ap (map.get pending) same ∙ is))
   kept_answered other i false there =
       ap (λ o. entry_to_be answers o (held.kept other i))
-      (map.get-remove askers_total asks (asker source id) (asker other i)
-      ∙ ap (λ t. cond t None (map.get asks (asker other i))) (not_at (eq_by_cmp asker_cmp (asker other i) (asker source id)) refl))
+      (map.get-remove request_keys_total pending (request_key source id) (request_key other i)
+      ∙ ap (λ t. cond t None (map.get pending (request_key other i))) (not_at (eq_by_cmp request_key_cmp (request_key other i) (request_key source id)) refl))
     where
-      not_at : (t : Bool) → eq_by_cmp asker_cmp (asker other i) (asker source id) ≡ t → t ≡ false
+      not_at : (t : Bool) → eq_by_cmp request_key_cmp (request_key other i) (request_key source id) ≡ t → t ≡ false
       not_at false h = refl
       not_at true h =
-          let same = one_asker (asker other i) (asker source id) h in
+          let same = one_key (request_key other i) (request_key source id) h in
           absurd (both_ways (source == other && id == i) there
           (subst (λ k. (source == k.source && id == k.id) ≡ true) (sym same) (ap (λ t. t && (id == id)) (eq-eqb source source refl) ∙ eq-eqb id id refl)))
 
 pub answered_in_turn : AnsweredInTurn
-answered_in_turn own keep answers count asks held calls asking a left asked =
-    let found = numbered_is asking.number (map.get asks (asker asking.source asking.id)) a asked in
-    same_is_left (in_turn answers) own keep 0 _ (over count (to_be answers asks held)) calls (record {
+answered_in_turn own keep answers count pending held calls handle a left asked =
+    let found = numbered_is handle.number (map.get pending (request_key handle.source handle.id)) a asked in
+    same_is_left (in_turn answers) own keep 0 _ (over count (to_be answers pending held)) calls (record {
       own = refl;
       keep = refl;
       open_messages = refl;
-      kept = λ source id. kept_answered answers asks held asking.source asking.id asking.number a found.0 found.1 source id (asking.source == source && asking.id == id) refl;
+      kept = λ source id. kept_answered answers pending held handle.source handle.id handle.number a found.0 found.1 source id (handle.source == source && handle.id == id) refl;
       state = refl;
       serves_from = refl;
       last = refl;
     }) left
 
 -- ---- a restart, and a new endpoint
-nothing_to_be : (answers : ℕ → Answer) (source id : ℕ) → entry_to_be answers (map.get {R = asker_cmp} map.empty (asker source id)) None ≡ None
-nothing_to_be answers source id = ap (λ o. entry_to_be answers o None) (map.get-empty asker_cmp (asker source id))
+nothing_to_be : (answers : ℕ → Answer) (source id : ℕ) → entry_to_be answers (map.get {R = request_key_cmp} map.empty (request_key source id)) None ≡ None
+nothing_to_be answers source id = ap (λ o. entry_to_be answers o None) (map.get-empty request_key_cmp (request_key source id))
 
 pub restarted_in_turn : assembly.NewLooksBack → RestartedInTurn
-restarted_in_turn new own keep answers count asks held calls moment left =
-    same_is_left (in_turn answers) own keep 0 _ (restarted_held (over count (to_be answers asks held)) moment) (Restart moment ∷ calls) (record {
+restarted_in_turn new own keep answers count pending held calls moment left =
+    same_is_left (in_turn answers) own keep 0 _ (restarted_held (over count (to_be answers pending held)) moment) (Restart moment ∷ calls) (record {
       own = refl;
       keep = refl;
       open_messages = refl;
@@ -386,7 +373,7 @@ restarted_in_turn new own keep answers count asks held calls moment left =
       state = refl;
       serves_from = refl;
       last = refl;
-    }) (restarted_looks_back (in_turn answers) new own keep 0 (over count (to_be answers asks held)) calls moment left)
+    }) (restarted_looks_back (in_turn answers) new own keep 0 (over count (to_be answers pending held)) calls moment left)
 
 pub new_in_turn : assembly.NewLooksBack → NewInTurn
 new_in_turn new own keep answers =
@@ -401,12 +388,12 @@ new_in_turn new own keep answers =
     }) (new_looks_back (in_turn answers) new own keep 0)
 
 pub same_in_turn : SameInTurn
-same_in_turn own keep answers count asks new held calls same left =
-    same_is_left (in_turn answers) own keep 0 _ (over count (to_be answers asks held)) calls (record {
+same_in_turn own keep answers count pending new held calls same left =
+    same_is_left (in_turn answers) own keep 0 _ (over count (to_be answers pending held)) calls (record {
       own = same.own;
       keep = same.keep;
       open_messages = same.open_messages;
-      kept = λ source id. ap (entry_to_be answers (map.get asks (asker source id))) (same.kept source id);
+      kept = λ source id. ap (entry_to_be answers (map.get pending (request_key source id))) (same.kept source id);
       state = refl;
       serves_from = same.serves_from;
       last = same.last;

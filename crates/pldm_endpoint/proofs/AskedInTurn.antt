@@ -12,7 +12,6 @@ use Rattle.pldm_responder.specs.Asked.{gives, over}
 use Rattle.pldm_responder.specs.Askings.{askings}
 use Rattle.pldm_responder.specs.Calls.{events}
 use Rattle.pldm_responder.specs.Events.{Event, Came, Set, Restarted, Changed, Message, Place, is_busy, is_copy, is_copy_of, is_fresh}
-use Rattle.pldm_responder.specs.OutsideAnswers.{entry_answered, kept_bytes}
 use Rattle.pldm_responder.specs.Held.{Entry}
 use Rattle.pldm_responder.specs.Laws.{entry_at}
 use Rattle.pldm_responder.specs.Performing.{answered_by, commands_at, performed, reply, reply_at, reply_to, answer_to}
@@ -21,13 +20,14 @@ use Rattle.pldm_responder.specs.declared.outcome.Outcome.{Outcome}
 use Rattle.pldm_responder.specs.declared.outcome.Outcome.TheVariants.{Answered}
 use Rattle.pldm_responder.proofs.AskedOnce.{commands_look_back}
 use Rattle.pldm_endpoint.specs.Histories.{entry_to_be, in_turn, to_be}
+use Rattle.pldm_endpoint.specs.TwoSteps.{entry_given}
 use Rattle.pldm_endpoint.specs.Turns.{AnswersItsOrigin, CopiesAreAnsweredAgain, CountsAskings, IsAskedInTurn, is_unchanged}
 use Rattle.pldm_endpoint.proofs.AnswersInTurn.{by_performing, same_commands}
 
 pub asked_in_turn : assembly.FeedLooksBack → IsAskedInTurn
-asked_in_turn looks own keep answers count asks held calls moment bytes left free =
-    sym (same_commands answers count asks held (received_arrival held moment bytes) free)
-    ∙ commands_look_back (in_turn answers) looks own keep 0 (over count (to_be answers asks held)) calls moment bytes left
+asked_in_turn looks own keep answers count pending held calls moment bytes left free =
+    sym (same_commands answers count pending held (received_arrival held moment bytes) free)
+    ∙ commands_look_back (in_turn answers) looks own keep 0 (over count (to_be answers pending held)) calls moment bytes left
 
 -- ---- the number of an asking
 more_asked : (commands before : List Command) → length (commands ++ before) ≡ length commands + length before
@@ -51,22 +51,23 @@ module _ (keep : ℕ) (answers : ℕ → Answer) where
       turned m n = omega arith
 
 pub counts_askings : CountsAskings
-counts_askings own keep answers count asks held calls left unchanged = left.state ∙ counted keep answers (events own calls) unchanged
+counts_askings own keep answers count pending held calls left unchanged = left.state ∙ counted keep answers (events own calls) unchanged
 
 -- ---- what goes out
 abbrev answer_in : Option Entry → List ℕ
 answer_in None = []
 answer_in (Some e) = e.answer
 
-by_kept : (o : Option Entry) (given : Answer) (e : Entry) → entry_answered given o ≡ Some e → (reply (gives given) tt (kept_bytes o) ≡ e.answer) × (kept_bytes o ≡ e.bytes)
-by_kept None given e h = cc
-by_kept (Some k) given e h = (ap answer_in h, ap kept_bytes h)
+abbrev bytes_in : Option Entry → List ℕ
+bytes_in None = []
+bytes_in (Some e) = e.bytes
 
 pub answers_its_origin : AnswersItsOrigin
-answers_its_origin own keep answers count asks held calls source id a place left is from =
-    by_kept (held.kept source id) (answers a.number)
-    (record { moment = place.message.moment; bytes = place.message.bytes; answer = reply_at (in_turn answers) keep 0 place })
-    (sym (ap (λ o. entry_to_be answers o (held.kept source id)) is) ∙ left.kept source id ∙ ap (entry_at (in_turn answers) keep 0) from)
+answers_its_origin own keep answers count pending held calls source id a place left is from =
+    let e : Entry = record { moment = place.message.moment; bytes = place.message.bytes; answer = reply_at (in_turn answers) keep 0 place } in
+    let same : Some (entry_given a (answers a.number)) ≡ Some e =
+    sym (ap (λ o. entry_to_be answers o (held.kept source id)) is) ∙ left.kept source id ∙ ap (entry_at (in_turn answers) keep 0) from in
+    (ap answer_in same, ap bytes_in same)
 
 -- ---- a copy
 by_command : (answers : ℕ → Answer) (count : ℕ) (r : Result Command ℕ) → answer_to (in_turn answers) count r ≡ answer_to (gives (answers count)) tt r

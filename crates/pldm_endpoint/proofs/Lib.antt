@@ -1,6 +1,9 @@
 pub mod AnswersInTurn
 pub mod AskedInTurn
-pub mod AskerOrder
+pub mod KeyOrder
 pub mod NumberSearches
 pub mod PendingGlue
-pub mod StepGlue
+pub mod AnswersGiven
+pub mod HandedOut
+pub mod RefusedRequests
+pub mod AnswersKept

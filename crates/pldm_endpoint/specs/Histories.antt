@@ -1,24 +1,23 @@
 -- What an endpoint returns and holds after any list of calls: what a responder does whose platform gives the answers
--- that the device gave, each to the command that it was asked for. Each asking has a number, that of the askings before
--- it, and `answers` says what the device answers to it, sooner or later.
+-- that the device gave, each to the command that it was asked for. Each command that is handed out has a number, that of
+-- those before it, and `answers` says what the device answers to it, sooner or later.
 use Rattle.std.specs.FinMap as map
 use Rattle.std.specs.Prelude.{◌≡◌, ℕ, ◌+◌, List, [], ◌∷◌, Option, Some, None, Err}
-use Rattle.pldm_wire.specs.Headers.{id_at}
 use Rattle.pldm_wire.specs.declared.answer.Answer.{Answer}
 use Rattle.pldm_wire.specs.declared.command.Command.{Command}
 use Rattle.pldm_platform.specs.declared.platform.ReadingFault.TheVariants.{NoSuchSensor}
 use Rattle.pldm_responder.specs.Asked.{gives, over}
 use Rattle.pldm_responder.specs.Calls.{Call, Received, Restart, outcome}
 use Rattle.pldm_responder.specs.Events.{Message}
-use Rattle.pldm_responder.specs.OutsideAnswers.{entry_answered, answered_held, kept_bytes, outcome_of_answer}
+use Rattle.pldm_responder.specs.OutsideAnswers.{outcome_of_answer}
 use Rattle.pldm_responder.specs.Held.{Entry, Held, IsHeld, held_at_first}
 use Rattle.pldm_responder.specs.Laws.{IsLeftBy}
 use Rattle.pldm_responder.specs.Performing.{Rules}
 use Rattle.pldm_responder.specs.Steps.{received_commands, received_held, received_outcome, restarted_held}
-use Rattle.pldm_endpoint.specs.Askers.{Asks, asked_at, asker, asker_of}
-use Rattle.pldm_endpoint.specs.TwoSteps.{asks_after, count_after, request_in, unasked}
-use Rattle.pldm_endpoint.specs.declared.asks.Asked.{Asked}
-use Rattle.pldm_endpoint.specs.declared.step.Asking.{Asking}
+use Rattle.pldm_endpoint.specs.RequestKeys.{PendingCommands, pending_at, request_key, request_key_of}
+use Rattle.pldm_endpoint.specs.TwoSteps.{answered_held, command_at, count_after, entry_given, handle_of, held_after, pending_after, request_in, unasked}
+use Rattle.pldm_endpoint.specs.declared.pending_commands.PendingCommand.{PendingCommand}
+use Rattle.pldm_endpoint.specs.declared.step.CommandHandle.{CommandHandle}
 
 -- the platform whose state is how many commands it was asked
 abbrev pub in_turn : (ℕ → Answer) → Rules ℕ
@@ -29,50 +28,50 @@ in_turn answers = record {
 }
 
 -- what is kept for a request that the device performs, once it has answered
-abbrev pub entry_to_be : (ℕ → Answer) → Option Asked → Option Entry → Option Entry
+abbrev pub entry_to_be : (ℕ → Answer) → Option PendingCommand → Option Entry → Option Entry
 entry_to_be answers None entry = entry
-entry_to_be answers (Some a) entry = entry_answered (answers a.number) entry
+entry_to_be answers (Some a) entry = Some (entry_given a (answers a.number))
 
 -- what is held, once the device has answered all that it performs
-abbrev pub to_be : (ℕ → Answer) → Asks → Held (Unit {0}) → Held (Unit {0})
-to_be answers asks held = record held {
-  kept = λ source id. entry_to_be answers (map.get asks (asker source id)) (held.kept source id);
+abbrev pub to_be : (ℕ → Answer) → PendingCommands → Held (Unit {0}) → Held (Unit {0})
+to_be answers pending held = record held {
+  kept = λ source id. entry_to_be answers (map.get pending (request_key source id)) (held.kept source id);
 }
 
 -- what is held is what the calls leave, but for the answers to what the device performs
-abbrev pub IsLeftInTurn : ℕ → ℕ → (ℕ → Answer) → ℕ → Asks → Held (Unit {0}) → List (Call ℕ) → Type 0
-IsLeftInTurn own keep answers count asks held calls =
-    IsLeftBy (in_turn answers) own keep 0 (over count (to_be answers asks held)) calls
+abbrev pub IsLeftInTurn : ℕ → ℕ → (ℕ → Answer) → ℕ → PendingCommands → Held (Unit {0}) → List (Call ℕ) → Type 0
+IsLeftInTurn own keep answers count pending held calls =
+    IsLeftBy (in_turn answers) own keep 0 (over count (to_be answers pending held)) calls
 
 -- no command of this request's source and instance ID is with the device
-abbrev pub IsFree : Asks → Option Message → Type 0
-IsFree asks None = Unit {0}
-IsFree asks (Some m) = map.get asks (asker_of m) ≡ None
+abbrev pub IsFree : PendingCommands → Option Message → Type 0
+IsFree pending None = Unit {0}
+IsFree pending (Some m) = map.get pending (request_key_of m) ≡ None
 
 -- bytes that are not refused leave what the longer list leaves, whether a command is asked for them or not
 abbrev pub ReceivedInTurn : Type 0
 ReceivedInTurn =
-    (own keep : ℕ) (answers : ℕ → Answer) (count : ℕ) (asks : Asks) (held : Held (Unit {0}))
+    (own keep : ℕ) (answers : ℕ → Answer) (count : ℕ) (pending : PendingCommands) (held : Held (Unit {0}))
     (calls : List (Call ℕ)) (moment : ℕ) (bytes : List ℕ)
-    → IsLeftInTurn own keep answers count asks held calls → IsFree asks (request_in held moment bytes)
-    → IsLeftInTurn own keep answers (count_after held moment bytes count) (asks_after held moment bytes asks count)
-    (received_held (gives unasked) held moment bytes) (Received moment bytes ∷ calls)
+    → IsLeftInTurn own keep answers count pending held calls → IsFree pending (request_in held moment bytes)
+    → IsLeftInTurn own keep answers (count_after held moment bytes count) (pending_after held moment bytes pending count)
+    (held_after held moment bytes) (Received moment bytes ∷ calls)
 
 -- where none is asked, they return what looking back over all calls says
 abbrev pub UnaskedLooksBack : Type 0
 UnaskedLooksBack =
-    (own keep : ℕ) (answers : ℕ → Answer) (count : ℕ) (asks : Asks) (held : Held (Unit {0}))
+    (own keep : ℕ) (answers : ℕ → Answer) (count : ℕ) (pending : PendingCommands) (held : Held (Unit {0}))
     (calls : List (Call ℕ)) (moment : ℕ) (bytes : List ℕ)
-    → IsLeftInTurn own keep answers count asks held calls → IsFree asks (request_in held moment bytes)
+    → IsLeftInTurn own keep answers count pending held calls → IsFree pending (request_in held moment bytes)
     → received_commands held moment bytes ≡ []
     → received_outcome (gives unasked) held moment bytes ≡ outcome (in_turn answers) own keep 0 calls moment bytes
 
 -- where one is, its answer is what looking back says that these bytes return
 abbrev pub AskedLooksBack : Type 0
 AskedLooksBack =
-    (own keep : ℕ) (answers : ℕ → Answer) (count : ℕ) (asks : Asks) (held : Held (Unit {0}))
+    (own keep : ℕ) (answers : ℕ → Answer) (count : ℕ) (pending : PendingCommands) (held : Held (Unit {0}))
     (calls : List (Call ℕ)) (moment : ℕ) (bytes : List ℕ) (m : Message) (command : Command)
-    → IsLeftInTurn own keep answers count asks held calls → IsFree asks (request_in held moment bytes)
+    → IsLeftInTurn own keep answers count pending held calls → IsFree pending (request_in held moment bytes)
     → request_in held moment bytes ≡ Some m → received_commands held moment bytes ≡ command ∷ []
     → outcome_of_answer held.own m.source m.tag m.bytes (answers count)
     ≡ outcome (in_turn answers) own keep 0 calls moment bytes
@@ -80,28 +79,29 @@ AskedLooksBack =
 -- the two steps, one right after the other, are what a responder does whose platform gives this answer
 abbrev pub TwoStepsAreOne : Type 0
 TwoStepsAreOne =
-    (held : Held (Unit {0})) (moment : ℕ) (bytes : List ℕ) (m : Message) (command : Command) (given : Answer)
+    (held : Held (Unit {0})) (moment : ℕ) (bytes : List ℕ) (count : ℕ) (m : Message) (command : Command)
+    (given : Answer)
     → request_in held moment bytes ≡ Some m → received_commands held moment bytes ≡ command ∷ []
-    → let middle = received_held (gives unasked) held moment bytes in
-    (outcome_of_answer middle.own m.source m.tag (kept_bytes (middle.kept m.source (id_at m.bytes))) given
-    ≡ received_outcome (gives given) held moment bytes)
-    × IsHeld (answered_held middle m.source (id_at m.bytes) given) (received_held (gives given) held moment bytes)
+    → (outcome_of_answer held.own m.source m.tag m.bytes given ≡ received_outcome (gives given) held moment bytes)
+    × IsHeld
+    (answered_held (held_after held moment bytes) (handle_of m count) given (Some (command_at m count command)))
+    (received_held (gives given) held moment bytes)
 
 -- an answer of the device leaves what the calls before leave: it changes no more than that it is there
 abbrev pub AnsweredInTurn : Type 0
 AnsweredInTurn =
-    (own keep : ℕ) (answers : ℕ → Answer) (count : ℕ) (asks : Asks) (held : Held (Unit {0}))
-    (calls : List (Call ℕ)) (asking : Asking) (a : Asked)
-    → IsLeftInTurn own keep answers count asks held calls → asked_at asks asking ≡ Some a
-    → IsLeftInTurn own keep answers count (map.remove asks (asker asking.source asking.id))
-    (answered_held held asking.source asking.id (answers asking.number)) calls
+    (own keep : ℕ) (answers : ℕ → Answer) (count : ℕ) (pending : PendingCommands) (held : Held (Unit {0}))
+    (calls : List (Call ℕ)) (handle : CommandHandle) (a : PendingCommand)
+    → IsLeftInTurn own keep answers count pending held calls → pending_at pending handle ≡ Some a
+    → IsLeftInTurn own keep answers count (map.remove pending (request_key handle.source handle.id))
+    (answered_held held handle (answers handle.number) (Some a)) calls
 
--- a restart: the commands that are asked count as performed, with answers that nobody got
+-- a restart: the commands that are pending count as performed, with answers that nobody got
 abbrev pub RestartedInTurn : Type 0
 RestartedInTurn =
-    (own keep : ℕ) (answers : ℕ → Answer) (count : ℕ) (asks : Asks) (held : Held (Unit {0}))
+    (own keep : ℕ) (answers : ℕ → Answer) (count : ℕ) (pending : PendingCommands) (held : Held (Unit {0}))
     (calls : List (Call ℕ)) (moment : ℕ)
-    → IsLeftInTurn own keep answers count asks held calls
+    → IsLeftInTurn own keep answers count pending held calls
     → IsLeftInTurn own keep answers count map.empty (restarted_held held moment) (Restart moment ∷ calls)
 
 -- a new endpoint
@@ -113,7 +113,7 @@ NewInTurn =
 -- what holds the same is left by the same calls
 abbrev pub SameInTurn : Type 0
 SameInTurn =
-    (own keep : ℕ) (answers : ℕ → Answer) (count : ℕ) (asks : Asks) (new held : Held (Unit {0}))
+    (own keep : ℕ) (answers : ℕ → Answer) (count : ℕ) (pending : PendingCommands) (new held : Held (Unit {0}))
     (calls : List (Call ℕ))
-    → IsHeld new held → IsLeftInTurn own keep answers count asks held calls
-    → IsLeftInTurn own keep answers count asks new calls
+    → IsHeld new held → IsLeftInTurn own keep answers count pending held calls
+    → IsLeftInTurn own keep answers count pending new calls

@@ -1,46 +1,51 @@
 -- Why a packet is refused.
 use Rattle.std.specs.FinMap as map
-use Rattle.std.specs.Prelude.{ℕ, Bool, false, true, ◌&&◌, ◌||◌, ◌==◌, nat_le, List, [], ◌∷◌, Option, Some, None, if◌then◌else◌}
+use Rattle.std.specs.Prelude.{ℕ, Bool, false, true, ◌&&◌, ◌||◌, ◌==◌, nat_le, bytes_eq, List, [], ◌∷◌, Option, Some, None, if◌then◌else◌}
 use Rattle.pldm_wire.specs.declared.command.Command.{Command}
 use Rattle.pldm_responder.specs.Events.{Message}
-use Rattle.pldm_responder.specs.OutsideAnswers.{has_bytes}
-use Rattle.pldm_responder.specs.Held.{Held}
-use Rattle.pldm_responder.specs.Stations.{held_of}
-use Rattle.pldm_responder.specs.Steps.{entry_for, received_commands}
-use Rattle.pldm_endpoint.specs.Askers.{Asks, asker_of}
-use Rattle.pldm_endpoint.specs.TwoSteps.{Pending, request_in}
-use Rattle.pldm_endpoint.specs.declared.asks.Asked.{Asked}
+use Rattle.pldm_responder.specs.Looking.{is_past_open}
+use Rattle.pldm_responder.specs.Performing.{commands_of}
+use Rattle.pldm_responder.specs.Reserving.{is_past_sources}
+use Rattle.pldm_responder.specs.Steps.{performs}
+use Rattle.pldm_endpoint.specs.RequestKeys.{request_key_of}
+use Rattle.pldm_endpoint.specs.TwoSteps.{EndpointView, held_in, request_in}
+use Rattle.pldm_endpoint.specs.declared.pending_commands.PendingCommand.{PendingCommand}
 use Rattle.pldm_endpoint.specs.declared.step.ReceiveRefusal.{ReceiveRefusal}
-use Rattle.pldm_endpoint.specs.declared.step.ReceiveRefusal.TheVariants.{Performing, BeingPerformed, Full, Memory}
+use Rattle.pldm_endpoint.specs.declared.step.ReceiveRefusal.TheVariants.{Performing, BeingPerformed, Full, Sources, OpenMessages, Memory}
 
--- the device has as many commands as it may have; or as many were asked as can be counted
-abbrev pub is_full : Asks → ℕ → ℕ → Bool
-is_full asks count most = nat_le most (map.len asks) || count == 18446744073709551615
+-- as many commands are pending as may be; or as many were handed out as can be counted
+abbrev pub is_full : EndpointView → Bool
+is_full e = nat_le e.max_pending (map.len e.pending) || e.count == 18446744073709551615
 
-abbrev pub is_some_command : List Command → Bool
-is_some_command [] = false
-is_some_command (command ∷ commands) = true
+abbrev pub has_command : List Command → Bool
+has_command [] = false
+has_command (command ∷ commands) = true
 
--- `same` tells whether the request has the bytes of the one whose command is with the device
-abbrev pub refused_while : Option Asked → Bool → Bool → Option ReceiveRefusal
-refused_while None same full = if full then Some Full else None
-refused_while (Some a) same full = if same then Some BeingPerformed else Some Performing
+-- a request that is to be performed or refused now: its command is one too many, or its source
+abbrev pub refused_fresh : EndpointView → Message → Option ReceiveRefusal
+refused_fresh e m =
+    if is_full e && has_command (commands_of m.bytes) then Some Full
+    else (if is_past_sources e.end.rows e.end.bounds.sources m.source then Some Sources else None)
 
-abbrev pub refused_with : {S : Type 0} → Held S → Asks → Bool → Option Message → Option ReceiveRefusal
-refused_with held asks full None = None
-refused_with held asks full (Some m) =
-    refused_while (map.get asks (asker_of m)) (has_bytes m.bytes (entry_for held m)) full
+-- a request whose source and instance ID have this pending command, or none
+abbrev pub refused_while : EndpointView → Message → Option PendingCommand → Option ReceiveRefusal
+refused_while e m (Some a) = if bytes_eq a.request.items m.bytes then Some BeingPerformed else Some Performing
+refused_while e m None = if performs (held_in e) m then refused_fresh e m else None
 
--- why a packet is refused, whatever memory there is: the device performs the command of the very request that it
--- completes, or of another one of that source and instance ID, or it may have no command more
-abbrev pub refused_by : Pending → ℕ → List ℕ → Option ReceiveRefusal
-refused_by p moment bytes =
-    refused_with (held_of p.station) p.asks
-    (is_full p.asks p.count p.most && is_some_command (received_commands (held_of p.station) moment bytes))
-    (request_in (held_of p.station) moment bytes)
+abbrev pub refused_request : EndpointView → Option Message → Option ReceiveRefusal
+refused_request e None = None
+refused_request e (Some m) = refused_while e m (map.get e.pending (request_key_of m))
+
+-- why a packet is refused, whatever memory there is: it begins one open message too many; or of the request that it
+-- completes the very command is pending, or another of its source and instance ID; or it is one too many
+abbrev pub refused_by : EndpointView → ℕ → List ℕ → Option ReceiveRefusal
+refused_by e moment bytes =
+    if is_past_open e.end bytes then Some OpenMessages else refused_request e (request_in (held_in e) moment bytes)
 
 abbrev pub IsOfMemory : ReceiveRefusal → Type 0
 IsOfMemory Performing = ⊥
 IsOfMemory BeingPerformed = ⊥
 IsOfMemory Full = ⊥
+IsOfMemory Sources = ⊥
+IsOfMemory OpenMessages = ⊥
 IsOfMemory (Memory memory) = Unit {0}

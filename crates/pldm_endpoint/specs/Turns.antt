@@ -8,22 +8,21 @@ use Rattle.pldm_responder.specs.Asked.{gives}
 use Rattle.pldm_responder.specs.Askings.{asked_for, askings}
 use Rattle.pldm_responder.specs.Calls.{Call, answer_expected, arrived, events}
 use Rattle.pldm_responder.specs.Events.{Event, Came, Set, Restarted, Changed, Message, Place, is_busy, is_copy, origin}
-use Rattle.pldm_responder.specs.OutsideAnswers.{kept_bytes}
 use Rattle.pldm_responder.specs.Held.{Held}
 use Rattle.pldm_responder.specs.Performing.{reply, reply_at}
 use Rattle.pldm_responder.specs.Steps.{received_commands}
 use Rattle.pldm_responder.specs.declared.outcome.Outcome.TheVariants.{Answered}
-use Rattle.pldm_endpoint.specs.Askers.{Asks, asker}
+use Rattle.pldm_endpoint.specs.RequestKeys.{PendingCommands, request_key}
 use Rattle.pldm_endpoint.specs.Histories.{IsFree, IsLeftInTurn, in_turn}
 use Rattle.pldm_endpoint.specs.TwoSteps.{request_in}
-use Rattle.pldm_endpoint.specs.declared.asks.Asked.{Asked}
+use Rattle.pldm_endpoint.specs.declared.pending_commands.PendingCommand.{PendingCommand}
 
 -- the device is asked what looking back over the calls says: the command of a fresh request, and nothing else
 abbrev pub IsAskedInTurn : Type 0
 IsAskedInTurn =
-    (own keep : ℕ) (answers : ℕ → Answer) (count : ℕ) (asks : Asks) (held : Held (Unit {0}))
+    (own keep : ℕ) (answers : ℕ → Answer) (count : ℕ) (pending : PendingCommands) (held : Held (Unit {0}))
     (calls : List (Call ℕ)) (moment : ℕ) (bytes : List ℕ)
-    → IsLeftInTurn own keep answers count asks held calls → IsFree asks (request_in held moment bytes)
+    → IsLeftInTurn own keep answers count pending held calls → IsFree pending (request_in held moment bytes)
     → received_commands held moment bytes ≡ asked_for keep (events own calls) (arrived own calls moment bytes)
 
 -- nothing was changed from outside: no call of an endpoint does
@@ -37,21 +36,21 @@ is_unchanged (Changed state ∷ events) = false
 -- then an asking has the number of those before it
 abbrev pub CountsAskings : Type 0
 CountsAskings =
-    (own keep : ℕ) (answers : ℕ → Answer) (count : ℕ) (asks : Asks) (held : Held (Unit {0})) (calls : List (Call ℕ))
-    → IsLeftInTurn own keep answers count asks held calls → is_unchanged (events own calls) ≡ true
+    (own keep : ℕ) (answers : ℕ → Answer) (count : ℕ) (pending : PendingCommands) (held : Held (Unit {0})) (calls : List (Call ℕ))
+    → IsLeftInTurn own keep answers count pending held calls → is_unchanged (events own calls) ≡ true
     → count ≡ length (askings keep (events own calls))
 
 -- what goes out for a command is the reply of the request that it was asked for: the latest fresh one of its source and
 -- instance ID
 abbrev pub AnswersItsOrigin : Type 0
 AnswersItsOrigin =
-    (own keep : ℕ) (answers : ℕ → Answer) (count : ℕ) (asks : Asks) (held : Held (Unit {0})) (calls : List (Call ℕ))
-    (source id : ℕ) (a : Asked) (place : Place ℕ)
-    → IsLeftInTurn own keep answers count asks held calls → map.get asks (asker source id) ≡ Some a
+    (own keep : ℕ) (answers : ℕ → Answer) (count : ℕ) (pending : PendingCommands) (held : Held (Unit {0})) (calls : List (Call ℕ))
+    (source id : ℕ) (a : PendingCommand) (place : Place ℕ)
+    → IsLeftInTurn own keep answers count pending held calls → map.get pending (request_key source id) ≡ Some a
     → origin keep (events own calls) source id ≡ Some place
-    → (reply (gives (answers a.number)) tt (kept_bytes (held.kept source id))
+    → (reply (gives (answers a.number)) tt a.request.items
     ≡ reply_at (in_turn answers) keep 0 place)
-    × (kept_bytes (held.kept source id) ≡ place.message.bytes)
+    × (a.request.items ≡ place.message.bytes)
 
 -- a copy gets the very answer that the device gave for its origin: that to the asking after those before it
 abbrev pub CopiesAreAnsweredAgain : Type 0

@@ -1,7 +1,8 @@
--- What the two steps of an endpoint return and leave: over the responder's own definitions, for a platform that is not
--- ready for any command, and whose place the answer takes that the device gave.
+-- What the two steps of an endpoint return and leave. A packet's request is answered at once, or its command is handed
+-- out and pending; the answer of the device then takes the place of what is kept for the request's source and instance
+-- ID.
 use Rattle.std.specs.FinMap as map
-use Rattle.std.specs.Prelude.{◌≡◌, ℕ, ◌+◌, ◌<◌, ◌≤◌, List, [], ◌∷◌, length, Option, Some, None, IfSome, option_map, refl}
+use Rattle.std.specs.Prelude.{◌≡◌, ◌≢◌, ℕ, ◌+◌, ◌<◌, ◌≤◌, ◌&&◌, ◌==◌, List, [], ◌∷◌, length, Option, Some, None, IsSome, IfSome, option_map, if◌then◌else◌, refl}
 use Rattle.std.specs.Coded.{Coded, code_by, coded×, coded_ℕ}
 use Rattle.pldm_wire.specs.Answers.{IsAnswerTo}
 use Rattle.pldm_wire.specs.Commands.{kind_of}
@@ -10,121 +11,152 @@ use Rattle.pldm_wire.specs.declared.answer.Answer.{Answer}
 use Rattle.pldm_wire.specs.declared.answer.Answer.TheVariants.{Refused}
 use Rattle.pldm_wire.specs.declared.assigned.TheConstants.{ERROR_NOT_READY, INSTANCE_IDS}
 use Rattle.pldm_wire.specs.declared.command.Command.{Command}
-use Rattle.pldm_responder.specs.Asked.{gives, listed, over}
+use Rattle.pldm_responder.specs.Arrivals.{Arrival, request_packet}
+use Rattle.pldm_responder.specs.Asked.{gives, listed}
+use Rattle.pldm_responder.specs.Ends.{End, coded_end, held_by}
 use Rattle.pldm_responder.specs.Events.{Message}
-use Rattle.pldm_responder.specs.OutsideAnswers.{IsKeptFor, answered_held, kept_bytes, message_in, outcome_of_answer}
-use Rattle.pldm_responder.specs.Held as held
-use Rattle.pldm_responder.specs.Held.{Held, IsHeld}
-use Rattle.pldm_responder.specs.Stations.{Station, coded_station, held_of}
-use Rattle.pldm_responder.specs.Steps.{received_arrival, received_commands, received_held, received_outcome}
+use Rattle.pldm_responder.specs.Held.{Entry, Held}
+use Rattle.pldm_responder.specs.OutsideAnswers.{message_in, outcome_of_answer}
+use Rattle.pldm_responder.specs.Performing.{commands_of, reply}
+use Rattle.pldm_responder.specs.Slots.{row_of}
+use Rattle.pldm_responder.specs.Steps.{arrival_commands, arrival_held, open_after, received_arrival, received_commands, received_outcome}
 use Rattle.pldm_responder.specs.declared.outcome.Outcome.{Outcome}
-use Rattle.pldm_endpoint.specs.Askers.{Asks, asked_at, asker_of, coded_asker}
-use Rattle.pldm_endpoint.specs.contracts.asks.Asked as asked_type
-use Rattle.pldm_endpoint.specs.contracts.outside_device.OutsideDevice as device_type
-use Rattle.pldm_endpoint.specs.declared.asks.Asked.{Asked}
-use Rattle.pldm_endpoint.specs.declared.asks.Asker.{Asker}
-use Rattle.pldm_endpoint.specs.declared.outside_device.OutsideDevice.{OutsideDevice}
-use Rattle.pldm_endpoint.specs.declared.step.Asking.{Asking}
+use Rattle.pldm_endpoint.specs.RequestKeys.{PendingCommands, coded_request_key, pending_at, request_key_of}
+use Rattle.pldm_endpoint.specs.contracts.pending_commands.PendingCommand as command_type
+use Rattle.pldm_endpoint.specs.declared.pending_commands.PendingCommand.{PendingCommand}
+use Rattle.pldm_endpoint.specs.declared.pending_commands.RequestKey.{RequestKey}
+use Rattle.pldm_endpoint.specs.declared.step.CommandHandle.{CommandHandle}
 use Rattle.pldm_endpoint.specs.declared.step.Step.{Step}
 use Rattle.pldm_endpoint.specs.declared.step.Step.TheVariants.{Perform, Done}
 
--- the responder, what the device was asked to perform, how many commands it was asked, and how many at a time it may be
-pub record Pending : Type 0 where
-  pub station : Station OutsideDevice OutsideDevice
-  pub asks : Asks
+-- what contracts see of an endpoint: the answering end, the pending commands, how many commands were handed out, and how
+-- many may be pending at a time
+pub record EndpointView : Type 0 where
+  pub end : End
+  pub pending : PendingCommands
   pub count : ℕ
-  pub most : ℕ
+  pub max_pending : ℕ
 
-abbrev pub coded_pending : Coded Pending
-coded_pending =
-    code_by (Station OutsideDevice OutsideDevice × (Asks × (ℕ × ℕ)))
-    (coded× (coded_station device_type.the_row.coded device_type.the_row.coded)
-    (coded× (map.code coded_asker asked_type.the_row.coded) (coded× coded_ℕ coded_ℕ)))
-    (λ p. (p.station, (p.asks, (p.count, p.most))))
-    (λ c. record { station = c.0; asks = c.1.0; count = c.1.1.0; most = c.1.1.1 }) (λ _. refl)
+-- it is stored as its parts
+abbrev pub coded_endpoint : Coded EndpointView
+coded_endpoint =
+    code_by (End × (PendingCommands × (ℕ × ℕ)))
+    (coded× coded_end (coded× (map.code coded_request_key command_type.the_row.coded) (coded× coded_ℕ coded_ℕ)))
+    (λ e. (e.end, (e.pending, (e.count, e.max_pending))))
+    (λ c. record { end = c.0; pending = c.1.0; count = c.1.1.0; max_pending = c.1.1.1 }) (λ _. refl)
 
--- the request is kept whose command was asked
-pub record IsWithDevice
-    (station : Station OutsideDevice OutsideDevice) (count : ℕ) (by : Asker) (a : Asked) : Type 0 where
-  pub instance : by.id < INSTANCE_IDS
-  pub request : IsKeptFor a.command by.id ((held_of station).kept by.source by.id)
+-- what it holds: it has no device
+abbrev pub held_in : EndpointView → Held (Unit {0})
+held_in e = held_by e.end
+
+-- the request of a pending command is known, and there is room for its answer
+pub record IsWithDevice (end : End) (count : ℕ) (key : RequestKey) (a : PendingCommand) : Type 0 where
+  pub instance : key.id < INSTANCE_IDS
+  pub command : commands_of a.request.items ≡ a.command ∷ []
+  pub id : id_at a.request.items ≡ key.id
   pub before : a.number < count
+  pub room : IsSome (row_of end.rows key.source)
+  pub other : key.source ≢ end.own
 
--- so are all, and there are not more than there may be
-pub record IsPending (station : Station OutsideDevice OutsideDevice) (asks : Asks) (count most : ℕ) : Type 0 where
-  pub each : (by : Asker) → IfSome (map.get asks by) (IsWithDevice station count by)
-  pub few : map.len asks ≤ most
-
--- what is held, but for the state of the platform, which has none of the device's
-abbrev pub bare : {S : Type 0} → Held S → Held (Unit {0})
-bare held = over tt held
-
--- what a new one holds
-abbrev pub held_at_first : ℕ → ℕ → Held (Unit {0})
-held_at_first own keep = held.held_at_first own keep tt
-
--- what is kept for a request until the device has answered it; no copy gets it
-abbrev pub unasked : Answer
-unasked = Refused ERROR_NOT_READY
+-- that is so of all, and they are no more than there may be
+pub record ArePending (end : End) (pending : PendingCommands) (count max_pending : ℕ) : Type 0 where
+  pub each : (key : RequestKey) → IfSome (map.get pending key) (IsWithDevice end count key)
+  pub few : map.len pending ≤ max_pending
 
 -- ---- a packet that comes
 
--- the number under which a command is asked
-abbrev pub asking_of : Message → ℕ → Asking
-asking_of m number = record { source = m.source; id = id_at m.bytes; number = number }
+-- for packets that have the device perform nothing: whatever it would answer plays no part
+abbrev pub unasked : Answer
+unasked = Refused ERROR_NOT_READY
 
--- the device is asked the command of a request, or the bytes are done with as the responder does
+-- the handle under which a command is pending
+abbrev pub handle_of : Message → ℕ → CommandHandle
+handle_of m number = record { source = m.source; id = id_at m.bytes; number = number }
+
+-- the command of a request is handed out, or the bytes are done with as a responder does
 abbrev pub step_by : Outcome → ℕ → Option Message → List Command → Step
 step_by outcome count None commands = Done outcome
 step_by outcome count (Some m) [] = Done outcome
-step_by outcome count (Some m) (command ∷ commands) = Perform (asking_of m count)
+step_by outcome count (Some m) (command ∷ commands) = Perform (handle_of m count)
 
-abbrev pub asks_by : Asks → ℕ → Option Message → List Command → Asks
-asks_by asks count None commands = asks
-asks_by asks count (Some m) [] = asks
-asks_by asks count (Some m) (command ∷ commands) =
-    map.insert asks (asker_of m) (record { tag = m.tag; number = count; command = command })
+-- a command that is handed out is pending from then on
+abbrev pub command_at : Message → ℕ → Command → PendingCommand
+command_at m number command = record {
+  tag = m.tag;
+  moment = m.moment;
+  number = number;
+  command = command;
+  request = record { items = m.bytes };
+}
 
-module _ {S : Type 0} (held : Held S) (moment : ℕ) (bytes : List ℕ) where
-  -- the request that the bytes complete
-  abbrev pub request_in : Option Message
-  request_in = message_in (received_arrival held moment bytes)
+abbrev pub pending_by : PendingCommands → ℕ → Option Message → List Command → PendingCommands
+pending_by pending count None commands = pending
+pending_by pending count (Some m) [] = pending
+pending_by pending count (Some m) (command ∷ commands) =
+    map.insert pending (request_key_of m) (command_at m count command)
 
-  abbrev pub received_step : ℕ → Step
-  received_step count =
-      step_by (received_outcome (gives unasked) (bare held) moment bytes) count request_in
-      (received_commands held moment bytes)
+-- nothing is kept for it until the device has answered
+abbrev pub kept_by : {S : Type 0} → List Command → Held S → Held S → Held S
+kept_by [] answered held = answered
+kept_by (command ∷ commands) answered held = held
 
-  abbrev pub asks_after : Asks → ℕ → Asks
-  asks_after asks count = asks_by asks count request_in (received_commands held moment bytes)
+module _ (held : Held (Unit {0})) where
+  -- what is held after an arrival, but for the open messages and the moment
+  abbrev pub stepped : Arrival → Held (Unit {0})
+  stepped a = kept_by (arrival_commands held a) (arrival_held (gives unasked) held a) held
 
-  abbrev pub count_after : ℕ → ℕ
-  count_after count = count + length (received_commands held moment bytes)
+  module _ (moment : ℕ) (bytes : List ℕ) where
+    -- the request that the bytes complete
+    abbrev pub request_in : Option Message
+    request_in = message_in (received_arrival held moment bytes)
 
-  -- a request whose command is asked is kept at once, with an answer that no copy gets
-  abbrev pub IsLeftByStep : Held S → Type 0
-  IsLeftByStep new = IsHeld (bare new) (received_held (gives unasked) (bare held) moment bytes)
+    abbrev pub received_step : ℕ → Step
+    received_step count =
+        step_by (received_outcome (gives unasked) held moment bytes) count request_in
+        (received_commands held moment bytes)
 
--- what the step says is asked: the commands that the bytes have performed, one or none
-abbrev pub IsAskedBy : Step → Asks → List Command → Type 0
-IsAskedBy (Done outcome) asks commands = commands ≡ []
-IsAskedBy (Perform asking) asks commands = listed (option_map (λ a. a.command) (asked_at asks asking)) ≡ commands
+    abbrev pub pending_after : PendingCommands → ℕ → PendingCommands
+    pending_after pending count = pending_by pending count request_in (received_commands held moment bytes)
+
+    abbrev pub count_after : ℕ → ℕ
+    count_after count = count + length (received_commands held moment bytes)
+
+    abbrev pub held_after : Held (Unit {0})
+    held_after = record (stepped (received_arrival held moment bytes)) {
+      open_messages = open_after held.open_messages (request_packet held.own bytes);
+      last = moment;
+    }
+
+-- what the step says is pending: the commands that the bytes have performed, one or none
+abbrev pub IsAskedBy : Step → PendingCommands → List Command → Type 0
+IsAskedBy (Done outcome) pending commands = commands ≡ []
+IsAskedBy (Perform handle) pending commands =
+    listed (option_map (λ a. a.command) (pending_at pending handle)) ≡ commands
 
 -- ---- an answer of the device
 
--- it answers the command that was asked
-abbrev pub IsItsAnswer : Option Asked → Answer → Type 0
+-- it answers the command that is pending
+abbrev pub IsItsAnswer : Option PendingCommand → Answer → Type 0
 IsItsAnswer None given = ⊥
 IsItsAnswer (Some a) given = IsAnswerTo (kind_of a.command) given
 
-module _ {S : Type 0} (held : Held S) (asking : Asking) (given : Answer) where
-  -- it goes to the source of the request that it was asked for, on the tag of that one's packets
-  abbrev pub IsAnsweredBy : Option Asked → Outcome → Type 0
-  IsAnsweredBy None outcome = ⊥
-  IsAnsweredBy (Some a) outcome =
-      outcome
-      ≡ outcome_of_answer held.own asking.source a.tag (kept_bytes (held.kept asking.source asking.id)) given
+-- it goes to the source of the request, on the tag of that one's packets
+abbrev pub IsAnsweredBy : ℕ → CommandHandle → Answer → Option PendingCommand → Outcome → Type 0
+IsAnsweredBy own handle given None outcome = ⊥
+IsAnsweredBy own handle given (Some a) outcome =
+    outcome ≡ outcome_of_answer own handle.source a.tag a.request.items given
 
-  -- and is kept for that request, from its moment on
-  abbrev pub IsLeftByAnswer : Held S → Type 0
-  IsLeftByAnswer new = IsHeld (bare new) (answered_held (bare held) asking.source asking.id given)
+-- and is kept for that request, from its moment on
+abbrev pub entry_given : PendingCommand → Answer → Entry
+entry_given a given = record {
+  moment = a.moment;
+  bytes = a.request.items;
+  answer = reply (gives given) tt a.request.items;
+}
+
+abbrev pub answered_held : {S : Type 0} → Held S → CommandHandle → Answer → Option PendingCommand → Held S
+answered_held held handle given None = held
+answered_held held handle given (Some a) = record held {
+  kept = λ source id.
+      if handle.source == source && handle.id == id then Some (entry_given a given) else held.kept source id;
+}

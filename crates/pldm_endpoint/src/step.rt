@@ -2,9 +2,10 @@
 
 ghost use Rattle.std.specs.Prelude.{◌≡◌, true, false};
 ghost use Rattle.pldm_wire.specs.Answers.{IsAnswerTo, answered_kind};
+ghost use Rattle.pldm_endpoint.specs.RefusalNames.{name_of, name_of_answer_refusal};
 
 use mctp_packet::{Eid, Memory};
-use pldm_responder::{MessageOutcome, Outcome};
+use pldm_responder::{MessageOutcome, Outcome, RoomRefusal};
 use pldm_wire::{
     Answer, BASE, GET_NUMERIC_EFFECTER_VALUE, GET_PDR, GET_PDR_REPOSITORY_INFO, GET_PLDM_COMMANDS,
     GET_PLDM_TYPES, GET_PLDM_VERSION, GET_SENSOR_READING, GET_STATE_EFFECTER_STATES,
@@ -13,14 +14,15 @@ use pldm_wire::{
 };
 use thiserror::Error;
 
-/// Under which number a command was asked, and for whose request. No two commands of an endpoint have one number.
+/// The handle of a command that was handed out: whose request it is of, and its number. No two commands of an endpoint
+/// have one number.
 #[derive(Clone, Copy, Debug, PartialEq, Eq)]
-pub struct Asking {
+pub struct CommandHandle {
     /// The endpoint that the request came from.
     pub source: Eid,
     /// The request's instance ID.
     pub id: u8,
-    /// How many commands were asked before.
+    /// How many commands were handed out before.
     pub number: u64,
 }
 
@@ -28,7 +30,7 @@ pub struct Asking {
 #[derive(Debug, Drop)]
 pub enum Step {
     /// They complete a request whose command the device has to perform now, once.
-    Perform(Asking),
+    Perform(CommandHandle),
     /// They are done with: dropped, a part of a message, or answered.
     Done(Outcome),
 }
@@ -38,7 +40,7 @@ pub enum Step {
 #[derive(Debug, Drop)]
 pub enum MessageStep {
     /// They complete a request whose command the device has to perform now, once.
-    Perform(Asking),
+    Perform(CommandHandle),
     /// They are done with: dropped, a part of a message, or answered.
     Done(MessageOutcome),
 }
@@ -46,18 +48,55 @@ pub enum MessageStep {
 /// Why a packet was refused. It counts as lost on the bus, and the endpoint is as before.
 #[derive(Clone, Copy, Debug, PartialEq, Eq, Error)]
 pub enum ReceiveRefusal {
-    /// The device is performing the command of another request of this source and instance ID.
-    #[error("the device is performing another command of this source and instance ID")]
+    /// Another request of this source and instance ID has a pending command.
+    #[error("{}", self.name())]
     Performing,
-    /// The device is performing the command of this very request.
-    #[error("the device is performing the command of this request")]
+    /// The command of this very request is pending.
+    #[error("{}", self.name())]
     BeingPerformed,
-    /// The device is performing as many commands as it may at a time.
-    #[error("the device is performing as many commands as it may")]
+    /// As many commands are pending as may be.
+    #[error("{}", self.name())]
     Full,
-    /// No memory was to be had, or a bound would be passed.
-    #[error("out of memory")]
+    /// As many sources have kept answers or pending commands as the bounds allow.
+    #[error("{}", self.name())]
+    Sources,
+    /// As many messages of several packets are open as the bounds allow.
+    #[error("{}", self.name())]
+    OpenMessages,
+    /// A growth of memory was refused.
+    #[error("{}", self.name())]
     Memory(Memory),
+}
+
+impl ReceiveRefusal {
+    /// What it is, in a few words.
+    pub fn name(self) -> &'static str
+        ensures { result.now ≡ name_of self }
+    {
+        match self {
+            ReceiveRefusal::Performing =>
+                "another command of its source and instance ID is pending",
+            ReceiveRefusal::BeingPerformed => "its command is pending",
+            ReceiveRefusal::Full => "too many commands are pending",
+            ReceiveRefusal::Sources => "too many sources",
+            ReceiveRefusal::OpenMessages => "too many open messages",
+            ReceiveRefusal::Memory(_) => "out of memory",
+        }
+    }
+}
+
+impl From<RoomRefusal> for ReceiveRefusal {
+    ghost use Rattle.pldm_endpoint.specs.RefusalNames.{of_room};
+
+    ghost from_gives = { λ room refusal. refusal ≡ of_room room };
+
+    fn from(room: RoomRefusal) -> ReceiveRefusal {
+        match room {
+            RoomRefusal::Sources => ReceiveRefusal::Sources,
+            RoomRefusal::OpenMessages => ReceiveRefusal::OpenMessages,
+            RoomRefusal::Memory(memory) => ReceiveRefusal::Memory(memory),
+        }
+    }
 }
 
 impl From<Memory> for ReceiveRefusal {
@@ -73,12 +112,24 @@ impl From<Memory> for ReceiveRefusal {
 /// Why an answer was refused. The endpoint is as before.
 #[derive(Clone, Copy, Debug, PartialEq, Eq, Error)]
 pub enum AnswerRefusal {
-    /// No command is asked under this number: it was answered, or forgotten by a restart.
-    #[error("no command is asked under this number")]
-    NotAsked,
+    /// No command is pending under this handle: it was answered, or forgotten by a restart.
+    #[error("{}", self.name())]
+    NotPending,
     /// It is the answer to another command.
-    #[error("the answer is to another command")]
+    #[error("{}", self.name())]
     OtherCommand,
+}
+
+impl AnswerRefusal {
+    /// What it is, in a few words.
+    pub fn name(self) -> &'static str
+        ensures { result.now ≡ name_of_answer_refusal self }
+    {
+        match self {
+            AnswerRefusal::NotPending => "no command is pending under this handle",
+            AnswerRefusal::OtherCommand => "the answer is to another command",
+        }
+    }
 }
 
 /// Whether this answers a command of this kind. A refusal answers any.

@@ -31,7 +31,7 @@ passed_needs held steady moment (Ok p) needs = arrival_needs held steady p.start
 passed_needs held steady moment (Err reason) needs = needs
 
 -- ---- a fresh request whose source has no row
-whole_needs : {S : Type 0} (held : Held S) (steady : Bool) (moment : ℕ) (read : Result Packet Reason) (m : Message)
+pub whole_needs : {S : Type 0} (held : Held S) (steady : Bool) (moment : ℕ) (read : Result Packet Reason) (m : Message)
     → Whole m ≡ passed_arrival (assembly.answer held.open_messages) moment read → performs held m ≡ true → (steady ≡ true → KeepsNone held steady m.source)
     → PassedNeeds held steady moment read
 whole_needs held steady moment (Ok p) m is fresh none = subst (ArrivalNeeds held steady p.start) is (fresh, none)

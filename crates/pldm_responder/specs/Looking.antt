@@ -24,8 +24,8 @@ abbrev pub message_at : ℕ → Requested → Message
 message_at moment r = message_of r.source r.tag moment r.bytes
 
 -- its packets are assembled on this key
-abbrev pub request_key : Requested → Key
-request_key r = record { source = r.source; tag = r.tag; owner = true }
+abbrev pub assembly_key : Requested → Key
+assembly_key r = record { source = r.source; tag = r.tag; owner = true }
 
 -- ---- a packet is looked at
 abbrev pub arrival_in : ℕ → Arrived → Arrival
@@ -43,7 +43,7 @@ end_after end moment bytes = record end {
 -- the end once this request, which came at this moment, was done with: its packets are no longer open
 abbrev pub end_finished : End → ℕ → Requested → End
 end_finished end moment r = record end {
-  open_messages = map.remove end.open_messages (request_key r);
+  open_messages = map.remove end.open_messages (assembly_key r);
   last = moment;
 }
 

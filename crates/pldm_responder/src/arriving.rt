@@ -1,6 +1,6 @@
 //! What one packet brings an answering end.
 
-ghost use Rattle.std.specs.Prelude.{◌≡◌, ◌<◌, ◌≤◌, ◌≢◌, Ok, length};
+ghost use Rattle.std.specs.Prelude.{◌≡◌, ◌<◌, ◌≤◌, ◌≢◌, false, Ok, length};
 ghost use Rattle.mctp_packet.specs.declared.TheConstants.{MAX_MESSAGE_BYTES as most};
 ghost use Rattle.pldm_wire.specs.Headers.{id_at};
 ghost use Rattle.pldm_wire.specs.Requests.{request_of};
@@ -76,6 +76,18 @@ impl<'a> Request<'a> {
         ensures few { length self.now.bytes ≤ most }
     {
         self.bytes
+    }
+
+    /// The way of the packets that answer it, from the endpoint `own`: back to its source, with TO 0 and its tag.
+    pub fn way_back(&self, own: Eid) -> Route
+        ensures { result ≡ record { destination = self.now.source; source = own; owner = false; tag = self.now.tag } }
+    {
+        Route {
+            destination: self.source,
+            source: own,
+            owner: false,
+            tag: self.tag,
+        }
     }
 
     /// What its bytes were read as.

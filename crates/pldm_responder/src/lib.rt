@@ -19,4 +19,6 @@ pub use arriving::{Arrived, Request, RoomRefusal, Standing};
 pub use bounds::Bounds;
 pub use kept_answers::Reserved;
 pub use outcome::{MessageOutcome, Outcome};
+pub use performing::{refuse, succeeded};
 pub use responder::Responder;
+pub use routes::{not_performed, performed};

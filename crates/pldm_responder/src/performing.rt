@@ -79,7 +79,7 @@ fn perform_command<P: Platform>(
 /// Puts the message that refuses a request into `reply`.
 // Not inlined: refusals are seldom, and the answer's room is not taken on the way of each request.
 #[inline(never)]
-pub(crate) fn refuse(request: &RequestRef<'_>, code: Code, reply: &mut Body)
+pub fn refuse(request: &RequestRef<'_>, code: Code, reply: &mut Body)
     ensures answer { reply.new.items ≡ answer_message request.now.id request.now.kind (Refused code) }
     ensures some { 0 < length reply.new.items }
     ensures few { length reply.new.items ≤ MAX_MESSAGE_BYTES }
@@ -88,7 +88,7 @@ pub(crate) fn refuse(request: &RequestRef<'_>, code: Code, reply: &mut Body)
 }
 
 /// Whether the answer has the completion code SUCCESS.
-pub(crate) fn succeeded(answer: &Answer) -> bool
+pub fn succeeded(answer: &Answer) -> bool
     ensures { result ≡ (code_of answer.now == SUCCESS) }
 {
     match answer {

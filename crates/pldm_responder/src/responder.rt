@@ -22,7 +22,7 @@ use crate::arriving::{Arrived, Request, RoomRefusal, Standing};
 use crate::bounds::Bounds;
 use crate::outcome::{MessageOutcome, Outcome};
 use crate::performing::perform;
-use crate::routes::{not_performed, performed, way_back};
+use crate::routes::{not_performed, performed};
 use mctp_packet::{Body, Eid, Keep, MAX_MESSAGE_BYTES, Memory, Moment};
 use pldm_platform::{Platform, ReadingFault};
 use pldm_wire::INSTANCE_IDS;
@@ -234,7 +234,7 @@ impl<P: Platform> Responder<P> {
             (rules_of P.answer P.after P.sensed) reply.new.items) }
         ensures err { OnErr result (IsNotServed P.performed self.old now request.now self.new P.STEADY) }
     {
-        let route = way_back(self.end.own(), request.source(), request.tag());
+        let route = request.way_back(self.end.own());
         if self.end.standing(now, request, reply) != Standing::Fresh {
             self.end.finish(now, request);
             return Ok(not_performed(route));

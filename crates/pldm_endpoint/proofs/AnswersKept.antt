@@ -1,0 +1,38 @@
+-- What an endpoint is after the device has answered a pending command.
+use Rattle.std.proofs.Common.{◌≡◌, ℕ, Bool, ◌&&◌, ◌==◌, true, List, Option, Some, if◌then◌else◌, refl, sym, ap, ◌∙◌, subst}
+use Rattle.pldm_wire.specs.declared.answer.Answer.{Answer}
+use Rattle.pldm_responder.specs.Answering.{answering}
+use Rattle.pldm_responder.specs.Arrivals.{message_of, way_back}
+use Rattle.pldm_responder.specs.Asked.{gives}
+use Rattle.pldm_responder.specs.Ends.{End, held_by}
+use Rattle.pldm_responder.specs.Held.{IsHeld}
+use Rattle.pldm_responder.specs.Performing.{changes, reply}
+use Rattle.pldm_responder.specs.Slots.{kept_in}
+use Rattle.pldm_responder.specs.declared.outcome.MessageOutcome.TheVariants.{Answered}
+use Rattle.pldm_endpoint.specs.TwoSteps.{IsAnsweredBy, answered_held}
+use Rattle.pldm_endpoint.specs.declared.pending_commands.PendingCommand.{PendingCommand}
+use Rattle.pldm_endpoint.specs.declared.step.CommandHandle.{CommandHandle}
+
+module _ (handle : CommandHandle) (given : Answer) (a : PendingCommand) (o : Option PendingCommand) (is : o ≡ Some a)
+    (bytes : List ℕ) (bytes_are : bytes ≡ reply (gives given) tt a.request.items) where
+  -- what goes out
+  pub goes_out : (own : ℕ) (changed : Bool) → changed ≡ changes (gives given) tt a.request.items
+      → IsAnsweredBy own handle given o (answering bytes (Answered true changed (way_back own (message_of handle.source a.tag 0 a.request.items))))
+  goes_out own changed changed_is =
+      subst (λ x. IsAnsweredBy own handle given x (answering bytes (Answered true changed (way_back own (message_of handle.source a.tag 0 a.request.items))))) (sym is)
+      (λ i. answering (bytes_are i) (Answered true (changed_is i) (way_back own (message_of handle.source a.tag 0 a.request.items))))
+
+  -- what is kept
+  pub is_kept : (end new : End) → record new { rows = end.rows } ≡ end
+      → ((source id : ℕ) → kept_in new.rows source id ≡ (if handle.source == source && handle.id == id then Some (record { moment = a.moment; bytes = a.request.items; answer = bytes }) else kept_in end.rows source id))
+      → IsHeld (held_by new) (answered_held (held_by end) handle given o)
+  is_kept end new rest kept =
+      subst (λ x. IsHeld (held_by new) (answered_held (held_by end) handle given x)) (sym is) (record {
+        own = ap (λ (e : End). e.own) rest;
+        keep = ap (λ (e : End). e.keep) rest;
+        open_messages = ap (λ (e : End). e.open_messages) rest;
+        kept = λ source id. kept source id ∙ ap (λ answer. if handle.source == source && handle.id == id then Some (record { moment = a.moment; bytes = a.request.items; answer = answer }) else kept_in end.rows source id) bytes_are;
+        state = refl;
+        serves_from = ap (λ (e : End). e.serves_from) rest;
+        last = ap (λ (e : End). e.last) rest;
+      })

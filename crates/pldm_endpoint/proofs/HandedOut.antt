@@ -1,0 +1,151 @@
+-- What an endpoint is after the command of a fresh request was handed out.
+use Rattle.std.specs.FinMap as map
+use Rattle.std.proofs.Common.{◌≡◌, ◌≢◌, ℕ, ◌+◌, Bool, true, false, cond, not, ◌<◌, nat_le, ◌&&◌, ◌||◌, ◌==◌, List, [], ◌∷◌, length, Option, Some, None, is_some, option_map, IsSome, if◌then◌else◌, refl, sym, ap, ◌∙◌, subst, arith}
+use Rattle.std.proofs.lemmas.Bool.{leb-false, leb-true}
+use Rattle.pldm_wire.specs.Headers.{id_at}
+use Rattle.pldm_wire.specs.declared.assigned.TheConstants.{INSTANCE_IDS}
+use Rattle.pldm_wire.specs.declared.command.Command.{Command}
+use Rattle.pldm_responder.specs.Arrivals.{Whole}
+use Rattle.pldm_responder.specs.Asked.{gives, listed}
+use Rattle.pldm_responder.specs.Ends.{AreSameRows, End, GetsRow, IsSameEnd, count_with, has_row}
+use Rattle.pldm_responder.specs.Events.{Message}
+use Rattle.pldm_responder.specs.Held.{Held, IsHeld}
+use Rattle.pldm_responder.specs.Looking.{end_finished, message_at}
+use Rattle.pldm_responder.specs.Performing.{commands_of}
+use Rattle.pldm_responder.specs.Requested.{Requested}
+use Rattle.pldm_responder.specs.Reserving.{IsRoomFor, IsWithinSources, is_past_sources}
+use Rattle.pldm_responder.specs.Slots.{Row, Rows, row_of, source_count}
+use Rattle.pldm_responder.specs.Steps.{arrival_commands, arrival_held, message_outcome, performs}
+use Rattle.pldm_responder.proofs.RowsAdded.{same_rows_keep}
+use Rattle.pldm_endpoint.specs.Receiving.{HasServed}
+use Rattle.pldm_endpoint.specs.Refusing.{is_full, refused_fresh, refused_while}
+use Rattle.pldm_endpoint.specs.RequestKeys.{numbered, request_key_of}
+use Rattle.pldm_endpoint.specs.TwoSteps.{ArePending, EndpointView, command_at, handle_of, held_in, kept_by, pending_by, step_by, unasked}
+use Rattle.pldm_endpoint.specs.declared.pending_commands.PendingCommand.{PendingCommand}
+use Rattle.pldm_endpoint.specs.declared.step.ReceiveRefusal.{ReceiveRefusal}
+use Rattle.pldm_endpoint.specs.declared.step.MessageStep.TheVariants.{Perform}
+use Rattle.pldm_endpoint.proofs.PendingGlue.{just_put, more_rows_pending, pending_with}
+
+-- ---- the end gets room for the source, and the request is ended
+module _ (old reserved with_room finished : End) (moment : ℕ) (r : Requested) (same : IsSameEnd reserved old)
+    (gets : GetsRow r.source with_room.rows reserved.rows) (rest : with_room ≡ record reserved { rows = with_room.rows })
+    (done : finished ≡ end_finished with_room moment r) where
+  rows_are : finished.rows ≡ with_room.rows
+  rows_are = ap (λ (e : End). e.rows) done
+
+  pub gets_row : GetsRow r.source finished.rows old.rows
+  gets_row = subst (λ rows. GetsRow r.source rows old.rows) (sym rows_are) (record {
+    kept = λ other id. gets.kept other id ∙ same_rows_keep reserved.rows old.rows same.rows other id;
+    rows = λ other. gets.rows other ∙ ap (λ t. is_some t || r.source == other) (same.rows.rows other);
+    sources =
+        gets.sources
+        ∙ ap (λ t. cond (is_some t) (source_count reserved.rows) (source_count reserved.rows + 1)) (same.rows.rows r.source)
+        ∙ ap (λ n. cond (has_row old.rows r.source) n (n + 1)) same.rows.sources;
+  })
+
+  pub finished_is : record finished { rows = old.rows } ≡ end_finished old moment r
+  finished_is =
+      ap (λ (e : End). record e { rows = old.rows }) done
+      ∙ ap (λ (e : End). end_finished (record e { rows = old.rows }) moment r) rest
+      ∙ ap (λ (e : End). end_finished e moment r) same.same
+
+-- ---- there is room for the source
+room_by : (full past : Bool) → past ≡ false → (full && past) ≡ false
+room_by true past h = h
+room_by false past h = refl
+
+not_past : (rows : Rows) (max source : ℕ) (row : Option Row) → IsRoomFor rows source row → IsWithinSources rows max row → is_past_sources rows max source ≡ false
+not_past rows max source None some within = ap (λ t. not t && nat_le max (source_count rows)) some
+not_past rows max source (Some row) room within = room_by (not (has_row rows source)) (nat_le max (source_count rows)) (beyond max (source_count rows) within)
+  where
+    beyond : (max count : ℕ) → count < max → nat_le max count ≡ false
+    beyond max count lt = by_test (nat_le max count) refl
+      where
+        by_test : (t : Bool) → nat_le max count ≡ t → t ≡ false
+        by_test false h = refl
+        by_test true h = absurd (omega (arith, lt, leb-true max count h))
+
+pub room_is_within : (new old : Rows) (max source : ℕ) (row : Option Row) → AreSameRows new old → IsRoomFor new source row → IsWithinSources new max row → is_past_sources old max source ≡ false
+room_is_within new old max source row same room within =
+    ap (λ r. not (is_some r) && nat_le max (source_count old)) (sym (same.rows source))
+    ∙ ap (λ n. not (has_row new source) && nat_le max n) (sym same.sources)
+    ∙ not_past new max source row room within
+
+-- ---- what was handed out
+past_by : (full past : Bool) (f s n : Option ReceiveRefusal) → full ≡ false → past ≡ false → (if full then f else (if past then s else n)) ≡ n
+past_by false false f s n h g = refl
+past_by true past f s n h g = cc
+past_by false true f s n h g = cc
+
+neither : (full asked : Bool) → full ≡ false → (full && asked) ≡ false
+neither false asked h = refl
+neither true asked h = cc
+
+module _ (old new : EndpointView) (moment : ℕ) (r : Requested) (command : Command) (reply : List ℕ)
+    (free : map.get old.pending (request_key_of (message_at moment r)) ≡ None)
+    (fresh : performs (held_in old) (message_at moment r) ≡ true) (asked : commands_of r.bytes ≡ command ∷ [])
+    (vacant : is_full old ≡ false) (within : is_past_sources old.end.rows old.end.bounds.sources r.source ≡ false)
+    (gets : GetsRow r.source new.end.rows old.end.rows) (rest : record new.end { rows = old.end.rows } ≡ end_finished old.end moment r)
+    (pending_is : new.pending ≡ map.insert old.pending (request_key_of (message_at moment r)) (command_at (message_at moment r) old.count command))
+    (count_is : new.count ≡ old.count + 1) (most_is : new.max_pending ≡ old.max_pending) where
+  abbrev m : Message
+  m = message_at moment r
+
+  commands_are : arrival_commands (held_in old) (Whole m) ≡ command ∷ []
+  commands_are = ap (λ t. if t then commands_of r.bytes else []) fresh ∙ asked
+
+  accepted_is : refused_while old m (map.get old.pending (request_key_of m)) ≡ None
+  accepted_is =
+      ap (refused_while old m) free
+      ∙ ap (λ t. if t then refused_fresh old m else None) fresh
+      ∙ past_by (is_full old && _) (is_past_sources old.end.rows old.end.bounds.sources r.source) _ _ None (neither (is_full old) _ vacant) within
+
+  found : listed (option_map (λ (a : PendingCommand). a.command) (numbered old.count (map.get new.pending (request_key_of m)))) ≡ arrival_commands (held_in old) (Whole m)
+  found =
+      ap (λ pending. listed (option_map (λ (a : PendingCommand). a.command) (numbered old.count (map.get pending (request_key_of m))))) pending_is
+      ∙ ap (λ o. listed (option_map (λ (a : PendingCommand). a.command) o)) (just_put old.pending (request_key_of m) (command_at m old.count command))
+      ∙ sym commands_are
+
+  pub handed_out : HasServed old moment r new reply (Perform (handle_of m old.count))
+  handed_out = record {
+    accepted = accepted_is;
+    step_is = sym (ap (step_by (message_outcome (gives unasked) (held_in old) m) old.count (Some m)) commands_are);
+    some = tt;
+    command = found;
+    held = subst (λ (h : Held (Unit {0})). IsHeld (held_in new) (record h { open_messages = (end_finished old.end moment r).open_messages; last = moment }))
+        (sym (ap (λ commands. kept_by commands (arrival_held (gives unasked) (held_in old) (Whole m)) (held_in old)) commands_are)) (record {
+          own = ap (λ (e : End). e.own) rest;
+          keep = ap (λ (e : End). e.keep) rest;
+          open_messages = ap (λ (e : End). e.open_messages) rest;
+          kept = gets.kept;
+          state = refl;
+          serves_from = ap (λ (e : End). e.serves_from) rest;
+          last = ap (λ (e : End). e.last) rest;
+        });
+    pending = pending_is ∙ sym (ap (pending_by old.pending old.count (Some m)) commands_are);
+    count = count_is ∙ sym (ap (λ (commands : List Command). old.count + length commands) commands_are);
+    room = record {
+      each = λ source. gets.rows source ∙ sym (ap (λ t. has_row old.end.rows source || t && r.source == source) fresh);
+      sources = gets.sources ∙ sym (ap (λ t. if t then count_with old.end.rows r.source else source_count old.end.rows) fresh);
+    };
+    settings = record { bounds = ap (λ (e : End). e.bounds) rest; max_pending = most_is };
+  }
+
+-- ---- there is room for one command more
+or_parts : (a b : Bool) → (a || b) ≡ false → a ≡ false
+or_parts true b h = h
+or_parts false b h = refl
+
+pub room_for_one : (e : EndpointView) → is_full e ≡ false → map.len e.pending < e.max_pending
+room_for_one e vacant = leb-false e.max_pending (map.len e.pending) (or_parts (nat_le e.max_pending (map.len e.pending)) _ vacant)
+
+pub pending_out : (old : EndpointView) (new : End) (moment : ℕ) (r : Requested) (command : Command) → new.own ≡ old.end.own → r.source ≢ old.end.own
+    → commands_of r.bytes ≡ command ∷ [] → id_at r.bytes < INSTANCE_IDS → map.get old.pending (request_key_of (message_at moment r)) ≡ None → is_full old ≡ false
+    → GetsRow r.source new.rows old.end.rows → IsSome (row_of new.rows r.source) → ArePending old.end old.pending old.count old.max_pending
+    → ArePending new (map.insert old.pending (request_key_of (message_at moment r)) (command_at (message_at moment r) old.count command)) (old.count + 1) old.max_pending
+pending_out old new moment r command own other asked range free vacant gets some are =
+    let m = message_at moment r in
+    pending_with new old.pending (old.count + 1) old.max_pending (request_key_of m) (command_at m old.count command)
+    (record { instance = range; command = asked; id = refl; before = omega arith; room = some; other = λ same. other (same ∙ own) })
+    free (room_for_one old vacant)
+    (more_rows_pending new old.end old.pending old.count (old.count + 1) old.max_pending r.source own gets (omega arith) are)
