@@ -318,8 +318,9 @@ struct needleoat_control {
  * control message is one packet. Set Endpoint ID to another endpoint ID is answered, and rejected.
  *
  * It returns 0 and leaves `out` as it was where there is no answer: `reason` is neither NEEDLEOAT_NOT_PLDM nor,
- * of a packet to the null endpoint ID (0), NEEDLEOAT_UNKNOWN_DESTINATION; the packet is no control request to
- * `eid` or to the null endpoint ID; or `eid` is not 8 to 254.
+ * of a packet to the null endpoint ID (0), NEEDLEOAT_UNKNOWN_DESTINATION, nor, of a packet from the null endpoint
+ * ID, NEEDLEOAT_BAD_SOURCE; the packet is no control request to `eid` or to the null endpoint ID; or `eid` is not
+ * 8 to 254. The answer to a packet from the null endpoint ID goes back to that ID.
  *
  * With the codecs alone the reason is that of needleoat_packet_read or, where that is 0 and the packet has a
  * whole message, that of needleoat_request_read.

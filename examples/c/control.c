@@ -53,6 +53,9 @@ int main(void) {
     receive("an unknown command", "010908cc0089ff");
     receive("a wrong length", "010908cc008a0200");
     receive("to another endpoint", "010a08c8008002");
+    receive("Get Endpoint ID, from the null endpoint ID", "010900c8008002");
+    receive("from a reserved endpoint ID", "010907c8008002");
+    receive("from its own endpoint ID", "010909c8008002");
     receive("from the broadcast endpoint ID", "0100ffc8008002");
     receive("a response", "010908c8000002");
     receive("GetTID of PLDM, by the physical address", "010008c801800002");

@@ -354,6 +354,9 @@ static void controls(void) {
     control("to another endpoint", 200, NEEDLEOAT_UNKNOWN_DESTINATION, "01c908c8" "008002");
     control("to this one, unknown", 200, NEEDLEOAT_UNKNOWN_DESTINATION, "01c808c8" "008002");
     control("a source that is none", 200, NEEDLEOAT_BAD_SOURCE, "010008c8" "008002");
+    control("from the null endpoint ID to this one", 200, NEEDLEOAT_BAD_SOURCE, "01c800c8" "008002");
+    control("from a reserved endpoint ID", 200, NEEDLEOAT_BAD_SOURCE, "01c807c8" "008002");
+    control("from this one to itself", 200, NEEDLEOAT_BAD_SOURCE, "01c8c8c8" "008002");
     control("no reason", 200, 0, "010008c8" "008002");
     control("a reason that is none", 200, 21, "010008c8" "008002");
     control("not an endpoint", 200, NEEDLEOAT_NOT_AN_ENDPOINT, "010008c8" "008002");

@@ -48,8 +48,8 @@ impl ControlFields {
 /// Writes the packet that answers a control message to the front of `out`, and returns its length in bytes (DSP0236,
 /// "MCTP control protocol"). `packet` is a packet that the responder of the same endpoint ID dropped, and `reason` the
 /// number of its reason, 1 to 20. Returns 0 and leaves `out` as it was where there is no answer: the packet is no
-/// control request to this endpoint ID or, by its physical address, to the null one; `reason` is another than 12, and
-/// than 3 of a packet to the null endpoint ID; or `eid` is no endpoint ID.
+/// control request to this endpoint ID or, by its physical address, to the null one; `reason` is another than 12, than 3
+/// of a packet to the null endpoint ID, and than 4 of a packet from the null one; or `eid` is no endpoint ID.
 pub fn control_reply(
     fields: &ControlFields,
     reason: u8,
