@@ -24,7 +24,8 @@ static struct needleoat_endpoint endpoint = NEEDLEOAT_ENDPOINT_NONE;
 /* Receives a packet of at most 11 bytes, and prints what comes of it. */
 static void receive(const char *name, const char *hex) {
     uint8_t packet[11], packets[NEEDLEOAT_PACKETS][NEEDLEOAT_PACKET_BYTES], reply[NEEDLEOAT_PACKET_BYTES];
-    size_t length = 0, count = 0;
+    size_t length = 0;
+    uint32_t count = 0;
     while (length < sizeof packet && sscanf(hex + 2 * length, "%2hhx", &packet[length]) == 1) length++;
     struct needleoat_command command;
     struct needleoat_step step;
@@ -34,7 +35,7 @@ static void receive(const char *name, const char *hex) {
     printf("%s: ", name);
     if (step.kind == TO_PERFORM) printf("command %02x of PLDM is to be performed", command.command);
     else if (count == 0) printf("dropped, reason %u", step.reason);
-    for (size_t i = 0; i < count; i++) printf("%02x", reply[i]);
+    for (uint32_t i = 0; i < count; i++) printf("%02x", reply[i]);
     printf("\n");
 }
 

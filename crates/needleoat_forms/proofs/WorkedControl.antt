@@ -1,6 +1,6 @@
 -- What endpoints of settings answer to packets that were dropped, computed from the definitions: the endpoint 9, asked by
 -- the endpoint 8.
-use Rattle.std.proofs.Common.{◌≡◌, List, ℕ, [], ◌∷◌, Some, None, refl}
+use Rattle.std.proofs.Common.{◌≡◌, [], ◌∷◌, Some, None, refl}
 use Rattle.mctp_control.specs.CommandReading.{command_of}
 use Rattle.mctp_control.specs.Dropped.{control_reply}
 use Rattle.mctp_control.specs.Messages.{request_of}

@@ -28,6 +28,9 @@ pub struct ControlFields {
     pub pldm_version: [u8; VERSION_BYTES],
 }
 
+// As in `include/needleoat.h`.
+const _: () = prove!(size_of::<ControlFields>() == 29);
+
 impl ControlFields {
     /// The endpoint of these settings at an endpoint ID.
     fn endpoint(&self, eid: Eid) -> Endpoint
@@ -55,7 +58,7 @@ pub fn control_reply(
     reason: u8,
     packet: &[u8],
     out: &mut [u8; MAX_PACKET_BYTES],
-) -> usize
+) -> u32
     ensures reply { (dropped : ReasonValue) → number_of dropped ≡ reason → IsEid fields.now.eid
         → IsWritten (control_reply (endpoint_in fields.now) dropped packet.now) result out.old out.new }
     ensures no_reason { IsNoReason reason → IsUntouched result out.old out.new }
