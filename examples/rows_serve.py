@@ -329,12 +329,15 @@ def control(rows, place):
         ("types", "010908cb008805", "010809c300080500020001"),
         ("an unknown command", "010908cc0089ff", "010809c40009ff05"),
         ("a wrong length", "010908cc008a0200", "010809c4000a0203"),
+        ("Get Endpoint ID from the null source", "010900c8008002", "010009c000000200090100"),
+        ("Get Endpoint ID between null endpoint IDs", "010000c8008002", "010009c000000200090100"),
     )
     for name, packet, want in asked:
         ran = place.run(frame(bytes.fromhex(packet)))
         want = frame(bytes.fromhex(want))
         rows.check(f"control: {name}", ran == (0, want, b""), repr((ran, want.hex())))
     dropped = ("010008c801800002", "010a08c8008002", "0100ffc8008002", "010009c8008002", "010908c8000002")
+    dropped += ("010907c8008002", "010909c8008002", "0109ffc8008002", "010900c801800002")
     for packet in dropped:
         ran = place.run(frame(bytes.fromhex(packet)), "--verbose")
         well = (ran[0], ran[1]) == (0, b"") and ran[2].startswith(b"mctpctl: drop ")

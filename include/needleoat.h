@@ -15,7 +15,9 @@
  *   - Two threads may call at once, each with structs and arrays of its own.
  *
  * Numbers in structs are in the byte order of the processor. A `length` or `count` is in bytes where
- * nothing else is said. Where a call says that it leaves something as it was, no byte of it changed.
+ * nothing else is said. In the structs and the results of libneedleoat_wire_c.a it is a uint32_t, on
+ * every processor; the length that goes with a pointer is a size_t. Where a call says that it leaves
+ * something as it was, no byte of it changed.
  */
 #ifndef NEEDLEOAT_H
 #define NEEDLEOAT_H
@@ -69,22 +71,22 @@ enum needleoat_reason {
 
 /* A packet's fields. Where `reason` is not 0 the others have no meaning. The payload begins at byte 4. */
 struct needleoat_packet {
-    uint8_t reason;        /* 0, or enum needleoat_reason: 1 to 6, or 255 */
-    uint8_t destination;   /* endpoint IDs, 8 to 254 */
+    uint8_t reason;          /* 0, or enum needleoat_reason: 1 to 6, or 255 */
+    uint8_t destination;     /* endpoint IDs, 8 to 254 */
     uint8_t source;
-    uint8_t tag;           /* message tag, 0 to 7 */
-    uint8_t seq;           /* packet sequence number, 0 to 3 */
-    bool owner;            /* TO: the source chose the tag, so it is a request's packet */
-    bool start;            /* SOM: the packet starts a message */
-    bool end;              /* EOM: the packet ends a message */
-    size_t payload_length; /* 1 to 64 bytes */
+    uint8_t tag;             /* message tag, 0 to 7 */
+    uint8_t seq;             /* packet sequence number, 0 to 3 */
+    bool owner;              /* TO: the source chose the tag, so it is a request's packet */
+    bool start;              /* SOM: the packet starts a message */
+    bool end;                /* EOM: the packet ends a message */
+    uint32_t payload_length; /* 1 to 64 bytes */
 };
 
 /* Reads a packet at the endpoint `own`. */
 struct needleoat_packet needleoat_packet_read(uint8_t own, const uint8_t *bytes, size_t length);
 
 /* How many packets a message of so many bytes has: 1 to 5, and 0 of no bytes or of more than 320. */
-size_t needleoat_packet_count(size_t message_length);
+uint32_t needleoat_packet_count(uint32_t message_length);
 
 /*
  * Writes packet `index` of a message, counted from 0, to the front of `out`, and returns its length
@@ -92,8 +94,8 @@ size_t needleoat_packet_count(size_t message_length);
  * to 254, where `tag` is above 7, where the message has more than 320 bytes, and where `index` is not
  * below needleoat_packet_count of its length. `owner` is true in a request and false in a response.
  */
-size_t needleoat_packet_write(uint8_t destination, uint8_t source, bool owner, uint8_t tag, const uint8_t *message,
-                              size_t length, size_t index, uint8_t out[NEEDLEOAT_PACKET_BYTES]);
+uint32_t needleoat_packet_write(uint8_t destination, uint8_t source, bool owner, uint8_t tag, const uint8_t *message,
+                                size_t length, uint32_t index, uint8_t out[NEEDLEOAT_PACKET_BYTES]);
 
 /* ---- Messages ---- */
 
@@ -102,12 +104,12 @@ size_t needleoat_packet_write(uint8_t destination, uint8_t source, bool owner, u
  * byte 4 of the message, a response's at byte 5.
  */
 struct needleoat_message {
-    uint8_t reason;      /* 0, or enum needleoat_reason: 12 to 18 */
-    uint8_t instance_id; /* 0 to 31 */
-    uint8_t pldm_type;   /* 0 to 63 */
-    uint8_t command;     /* the command's number in that type */
-    uint8_t code;        /* a response's completion code; of a request 0 */
-    size_t data_length;  /* in bytes */
+    uint8_t reason;       /* 0, or enum needleoat_reason: 12 to 18 */
+    uint8_t instance_id;  /* 0 to 31 */
+    uint8_t pldm_type;    /* 0 to 63 */
+    uint8_t command;      /* the command's number in that type */
+    uint8_t code;         /* a response's completion code; of a request 0 */
+    uint32_t data_length; /* in bytes; UINT32_MAX where there are more */
 };
 
 struct needleoat_message needleoat_request_read(const uint8_t *message, size_t length);
@@ -194,7 +196,7 @@ struct needleoat_command_reading needleoat_command_read(const uint8_t *message, 
  * `pldm_type` and `command`, and where a field that the command has is out of range: `size` above 5,
  * a `value` that does not fit it, a `count` other than 1 to 8.
  */
-size_t needleoat_command_write(const struct needleoat_command *fields, uint8_t out[NEEDLEOAT_REQUEST_BYTES]);
+uint32_t needleoat_command_write(const struct needleoat_command *fields, uint8_t out[NEEDLEOAT_REQUEST_BYTES]);
 
 /* ---- Answers ---- */
 
@@ -242,7 +244,7 @@ struct needleoat_answer {
     uint32_t largest_record_size;        /* GetPDRRepositoryInfo: in bytes */
     int64_t value;                       /* GetSensorReading: the reading; GetNumericEffecterValue: present */
     int64_t pending_value;               /* GetNumericEffecterValue: the value that it is going to */
-    size_t length;                       /* GetPLDMVersion, GetPDR: how many of `bytes` there are */
+    uint32_t length;                     /* GetPLDMVersion, GetPDR: how many of `bytes` there are */
     struct needleoat_sensor_state sensor_states[NEEDLEOAT_STATES];       /* GetStateSensorReadings */
     struct needleoat_effecter_state effecter_states[NEEDLEOAT_STATES];   /* GetStateEffecterStates */
     uint8_t types[8];            /* GetPLDMTypes: type t is bit t mod 8 of byte t / 8 */
@@ -284,7 +286,7 @@ uint8_t needleoat_answer_check(const uint8_t *request, size_t request_length, co
  * 303 (of versions: other than 4, 8 and so on to 32), a `transfer_flag` other than 0, 1, 2, 4 and 5.
  * Where `code` is not 0, the response has no data, and is written for any command.
  */
-size_t needleoat_answer_write(const struct needleoat_answer *fields, uint8_t out[NEEDLEOAT_MESSAGE_BYTES]);
+uint32_t needleoat_answer_write(const struct needleoat_answer *fields, uint8_t out[NEEDLEOAT_MESSAGE_BYTES]);
 
 /*
  * The checksum of a whole record, as the last part of a GetPDR answer carries it: CRC-8 by
@@ -318,14 +320,15 @@ struct needleoat_control {
  * control message is one packet. Set Endpoint ID to another endpoint ID is answered, and rejected.
  *
  * It returns 0 and leaves `out` as it was where there is no answer: `reason` is neither NEEDLEOAT_NOT_PLDM nor,
- * of a packet to the null endpoint ID (0), NEEDLEOAT_UNKNOWN_DESTINATION; the packet is no control request to
- * `eid` or to the null endpoint ID; or `eid` is not 8 to 254.
+ * of a packet to the null endpoint ID (0), NEEDLEOAT_UNKNOWN_DESTINATION, nor, of a packet from the null endpoint
+ * ID, NEEDLEOAT_BAD_SOURCE; the packet is no control request to `eid` or to the null endpoint ID; or `eid` is not
+ * 8 to 254. The answer to a packet from the null endpoint ID goes back to that ID.
  *
  * With the codecs alone the reason is that of needleoat_packet_read or, where that is 0 and the packet has a
  * whole message, that of needleoat_request_read.
  */
-size_t needleoat_control_reply(const struct needleoat_control *fields, uint8_t reason, const uint8_t *packet,
-                               size_t length, uint8_t out[NEEDLEOAT_PACKET_BYTES]);
+uint32_t needleoat_control_reply(const struct needleoat_control *fields, uint8_t reason, const uint8_t *packet,
+                                 size_t length, uint8_t out[NEEDLEOAT_PACKET_BYTES]);
 
 /* ---- Both ends: libneedleoat_c.a ----
  *
@@ -548,7 +551,7 @@ void rattle_dealloc(uint8_t *block);
  * facts fails, the library is not for the target.
  */
 #define NEEDLEOAT_AT(type, field, place) NEEDLEOAT_ASSERT(offsetof(struct type, field) == place)
-NEEDLEOAT_ASSERT(sizeof(struct needleoat_packet) == 16);
+NEEDLEOAT_ASSERT(sizeof(struct needleoat_packet) == 12);
 NEEDLEOAT_AT(needleoat_packet, reason, 0);
 NEEDLEOAT_AT(needleoat_packet, destination, 1);
 NEEDLEOAT_AT(needleoat_packet, source, 2);
@@ -558,7 +561,7 @@ NEEDLEOAT_AT(needleoat_packet, owner, 5);
 NEEDLEOAT_AT(needleoat_packet, start, 6);
 NEEDLEOAT_AT(needleoat_packet, end, 7);
 NEEDLEOAT_AT(needleoat_packet, payload_length, 8);
-NEEDLEOAT_ASSERT(sizeof(struct needleoat_message) == 16);
+NEEDLEOAT_ASSERT(sizeof(struct needleoat_message) == 12);
 NEEDLEOAT_AT(needleoat_message, reason, 0);
 NEEDLEOAT_AT(needleoat_message, instance_id, 1);
 NEEDLEOAT_AT(needleoat_message, pldm_type, 2);
@@ -599,7 +602,7 @@ NEEDLEOAT_ASSERT(sizeof(struct needleoat_effecter_state) == 3);
 NEEDLEOAT_AT(needleoat_effecter_state, operational, 0);
 NEEDLEOAT_AT(needleoat_effecter_state, pending, 1);
 NEEDLEOAT_AT(needleoat_effecter_state, present, 2);
-NEEDLEOAT_ASSERT(sizeof(struct needleoat_answer) == 496);
+NEEDLEOAT_ASSERT(sizeof(struct needleoat_answer) == 488);
 NEEDLEOAT_AT(needleoat_answer, instance_id, 0);
 NEEDLEOAT_AT(needleoat_answer, pldm_type, 1);
 NEEDLEOAT_AT(needleoat_answer, command, 2);
@@ -624,13 +627,13 @@ NEEDLEOAT_AT(needleoat_answer, largest_record_size, 32);
 NEEDLEOAT_AT(needleoat_answer, value, 40);
 NEEDLEOAT_AT(needleoat_answer, pending_value, 48);
 NEEDLEOAT_AT(needleoat_answer, length, 56);
-NEEDLEOAT_AT(needleoat_answer, sensor_states, 64);
-NEEDLEOAT_AT(needleoat_answer, effecter_states, 96);
-NEEDLEOAT_AT(needleoat_answer, types, 120);
-NEEDLEOAT_AT(needleoat_answer, commands, 128);
-NEEDLEOAT_AT(needleoat_answer, update_time, 160);
-NEEDLEOAT_AT(needleoat_answer, oem_update_time, 173);
-NEEDLEOAT_AT(needleoat_answer, bytes, 186);
+NEEDLEOAT_AT(needleoat_answer, sensor_states, 60);
+NEEDLEOAT_AT(needleoat_answer, effecter_states, 92);
+NEEDLEOAT_AT(needleoat_answer, types, 116);
+NEEDLEOAT_AT(needleoat_answer, commands, 124);
+NEEDLEOAT_AT(needleoat_answer, update_time, 156);
+NEEDLEOAT_AT(needleoat_answer, oem_update_time, 169);
+NEEDLEOAT_AT(needleoat_answer, bytes, 182);
 NEEDLEOAT_ASSERT(sizeof(struct needleoat_control) == 29);
 NEEDLEOAT_AT(needleoat_control, eid, 0);
 NEEDLEOAT_AT(needleoat_control, uuid, 1);

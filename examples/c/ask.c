@@ -34,7 +34,7 @@ static const char *device(const uint8_t *bytes, size_t length) {
     if (command.command == NEEDLEOAT_SET_NUMERIC_EFFECTER_VALUE) speed = command.value;
     answer.value = answer.pending_value = speed;
     uint8_t response[NEEDLEOAT_MESSAGE_BYTES];
-    size_t count = needleoat_answer_write(&answer, response);
+    uint32_t count = needleoat_answer_write(&answer, response);
     kept_answer_length = needleoat_packet_write(packet.source, 9, false, packet.tag, response, count, 0, kept_answer);
     memcpy(kept_request, bytes, length);
     kept_request_length = length;
@@ -55,7 +55,7 @@ static uint8_t make(struct needleoat_requester *handle, uint8_t own) {
 
 static void open(uint64_t now, const struct needleoat_command *command) {
     uint8_t request[NEEDLEOAT_REQUEST_BYTES];
-    size_t length = needleoat_command_write(command, request);
+    uint32_t length = needleoat_command_write(command, request);
     struct needleoat_opening opening;
     do opening = needleoat_requester_open(&requester, now, request, length);
     while (opening.refusal == NEEDLEOAT_NO_MEMORY);

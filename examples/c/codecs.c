@@ -31,7 +31,7 @@ static void perform(const struct needleoat_command *command, struct needleoat_an
 }
 
 /* Answers a packet with a packet in `out`. Returns its length, or 0 where the packet is dropped. */
-static size_t device(const uint8_t *bytes, size_t length, uint8_t out[NEEDLEOAT_PACKET_BYTES]) {
+static uint32_t device(const uint8_t *bytes, size_t length, uint8_t out[NEEDLEOAT_PACKET_BYTES]) {
     struct needleoat_packet packet = needleoat_packet_read(DEVICE, bytes, length);
     if (packet.reason != 0 || !packet.start || !packet.end || !packet.owner) return 0;
     const uint8_t *request = bytes + 4;
@@ -46,15 +46,16 @@ static size_t device(const uint8_t *bytes, size_t length, uint8_t out[NEEDLEOAT_
     if (reading.code != 0) answer.code = reading.code;
     else perform(&command, &answer);
     uint8_t response[NEEDLEOAT_MESSAGE_BYTES];
-    size_t count = needleoat_answer_write(&answer, response);
+    uint32_t count = needleoat_answer_write(&answer, response);
     return needleoat_packet_write(packet.source, DEVICE, false, packet.tag, response, count, 0, out);
 }
 
 /* Asks the device, and prints both packets and what came of it. */
 static void ask(const struct needleoat_command *command) {
     uint8_t request[NEEDLEOAT_REQUEST_BYTES], there[NEEDLEOAT_PACKET_BYTES], back[NEEDLEOAT_PACKET_BYTES];
-    size_t count = needleoat_command_write(command, request);
-    size_t length = needleoat_packet_write(DEVICE, REQUESTER, true, command->instance_id % 8, request, count, 0, there);
+    uint32_t count = needleoat_command_write(command, request);
+    uint8_t tag = command->instance_id % 8;
+    uint32_t length = needleoat_packet_write(DEVICE, REQUESTER, true, tag, request, count, 0, there);
     print_bytes("request", there, length);
     length = device(there, length, back);
     print_bytes("answer", back, length);

@@ -24,7 +24,8 @@ static struct needleoat_endpoint endpoint = NEEDLEOAT_ENDPOINT_NONE;
 /* Receives a packet of at most 11 bytes, and prints what comes of it. */
 static void receive(const char *name, const char *hex) {
     uint8_t packet[11], packets[NEEDLEOAT_PACKETS][NEEDLEOAT_PACKET_BYTES], reply[NEEDLEOAT_PACKET_BYTES];
-    size_t length = 0, count = 0;
+    size_t length = 0;
+    uint32_t count = 0;
     while (length < sizeof packet && sscanf(hex + 2 * length, "%2hhx", &packet[length]) == 1) length++;
     struct needleoat_command command;
     struct needleoat_step step;
@@ -34,7 +35,7 @@ static void receive(const char *name, const char *hex) {
     printf("%s: ", name);
     if (step.kind == TO_PERFORM) printf("command %02x of PLDM is to be performed", command.command);
     else if (count == 0) printf("dropped, reason %u", step.reason);
-    for (size_t i = 0; i < count; i++) printf("%02x", reply[i]);
+    for (uint32_t i = 0; i < count; i++) printf("%02x", reply[i]);
     printf("\n");
 }
 
@@ -53,6 +54,9 @@ int main(void) {
     receive("an unknown command", "010908cc0089ff");
     receive("a wrong length", "010908cc008a0200");
     receive("to another endpoint", "010a08c8008002");
+    receive("Get Endpoint ID, from the null endpoint ID", "010900c8008002");
+    receive("from a reserved endpoint ID", "010907c8008002");
+    receive("from its own endpoint ID", "010909c8008002");
     receive("from the broadcast endpoint ID", "0100ffc8008002");
     receive("a response", "010908c8000002");
     receive("GetTID of PLDM, by the physical address", "010008c801800002");

@@ -4,6 +4,7 @@
  * hand.
  */
 #include "needleoat.h"
+#include <inttypes.h>
 #include <stdio.h>
 #include <string.h>
 
@@ -40,7 +41,7 @@ static void read_packet(uint8_t own, const char *hex) {
     struct needleoat_packet p = needleoat_packet_read(own, bytes, length);
     printf("packet at %u: reason %u", own, p.reason);
     if (p.reason == 0)
-        printf(" destination %u source %u tag %u seq %u owner %d start %d end %d payload %zu", p.destination,
+        printf(" destination %u source %u tag %u seq %u owner %d start %d end %d payload %" PRIu32, p.destination,
                p.source, p.tag, p.seq, p.owner, p.start, p.end, p.payload_length);
     printf("\n");
 }
@@ -60,18 +61,18 @@ static void packets(void) {
                    "01010101010101010101010101010101010101010101010101010101010101");
     read_packet(7, "010708c801800002");
     read_packet(255, "01ff08c801800002");
-    static const size_t lengths[] = {0, 1, 64, 65, 128, 320, 321, SIZE_MAX};
+    static const uint32_t lengths[] = {0, 1, 64, 65, 128, 320, 321, UINT32_MAX};
     printf("counts");
-    for (size_t i = 0; i < COUNT(lengths); i++) printf(" %zu", needleoat_packet_count(lengths[i]));
+    for (size_t i = 0; i < COUNT(lengths); i++) printf(" %" PRIu32, needleoat_packet_count(lengths[i]));
     printf("\n");
 }
 
-static void write_packet(uint8_t destination, uint8_t source, bool owner, uint8_t tag, size_t length, size_t index) {
+static void write_packet(uint8_t destination, uint8_t source, bool owner, uint8_t tag, size_t length, uint32_t index) {
     uint8_t message[321], out[NEEDLEOAT_PACKET_BYTES];
     for (size_t i = 0; i < sizeof message; i++) message[i] = (uint8_t)i;
     memset(out, UNTOUCHED, sizeof out);
-    size_t count = needleoat_packet_write(destination, source, owner, tag, message, length, index, out);
-    printf("packet %zu of %zu bytes: %zu ", index, length, count);
+    uint32_t count = needleoat_packet_write(destination, source, owner, tag, message, length, index, out);
+    printf("packet %" PRIu32 " of %zu bytes: %" PRIu32 " ", index, length, count);
     print_bytes(out, count < 6 ? count : 6);
     printf(" %s\n", rest(out, count, sizeof out));
 }
@@ -80,7 +81,7 @@ static void written_packets(void) {
     write_packet(8, 9, false, 0, 64, 0);
     write_packet(30, 29, true, 5, 65, 0);
     write_packet(30, 29, true, 5, 65, 1);
-    for (size_t i = 0; i < 6; i++) write_packet(254, 10, false, 7, 320, i);
+    for (uint32_t i = 0; i < 6; i++) write_packet(254, 10, false, 7, 320, i);
     write_packet(8, 9, false, 0, 0, 0);
     write_packet(8, 9, false, 0, 321, 0);
     write_packet(7, 9, false, 0, 1, 0);
@@ -93,7 +94,7 @@ static void written_packets(void) {
 static void print_message(const char *name, struct needleoat_message m) {
     printf("%s: reason %u", name, m.reason);
     if (m.reason == 0)
-        printf(" id %u type %u command %u code %u data %zu", m.instance_id, m.pldm_type, m.command, m.code,
+        printf(" id %u type %u command %u code %u data %" PRIu32, m.instance_id, m.pldm_type, m.command, m.code,
                m.data_length);
     printf("\n");
 }
@@ -183,7 +184,7 @@ static void written_commands(void) {
         struct needleoat_command command;
         memset(out, UNTOUCHED, sizeof out);
         memset(&command, UNTOUCHED, sizeof command);
-        size_t count = needleoat_command_write(&commands[i], out);
+        uint32_t count = needleoat_command_write(&commands[i], out);
         struct needleoat_command_reading r = needleoat_command_read(out, count, &command);
         bool same = r.reason == 0 && r.code == 0 && same_command(&commands[i], &command);
         printf("command ");
@@ -192,8 +193,8 @@ static void written_commands(void) {
     }
     for (size_t i = 0; i < COUNT(no_commands); i++) {
         memset(out, UNTOUCHED, sizeof out);
-        size_t count = needleoat_command_write(&no_commands[i], out);
-        printf("no command %zu %s\n", count, rest(out, 0, sizeof out));
+        uint32_t count = needleoat_command_write(&no_commands[i], out);
+        printf("no command %" PRIu32 " %s\n", count, rest(out, 0, sizeof out));
     }
     static const char *const refused[] = {"01800231010006",   "0180023101000628", "0180023101000228", "01800239020000",
                                           "0180023902000201", "01800502",         "01810010",         "0182000200",
@@ -245,7 +246,7 @@ static const struct needleoat_answer no_answers[] = {
     {BASE(1, 0x06)},
     {BASE(1, NEEDLEOAT_GET_PLDM_VERSION), .length = 5},
     {BASE(1, NEEDLEOAT_GET_PLDM_VERSION), .length = 36},
-    {BASE(1, NEEDLEOAT_GET_PLDM_VERSION), .length = SIZE_MAX},
+    {BASE(1, NEEDLEOAT_GET_PLDM_VERSION), .length = UINT32_MAX},
     {PLATFORM(1, NEEDLEOAT_GET_SENSOR_READING), .size = 6},
     {PLATFORM(1, NEEDLEOAT_GET_NUMERIC_EFFECTER_VALUE), .size = NEEDLEOAT_UINT8, .value = 256},
     {PLATFORM(1, NEEDLEOAT_GET_NUMERIC_EFFECTER_VALUE), .size = NEEDLEOAT_UINT8, .pending_value = -1},
@@ -266,7 +267,7 @@ static bool same_answer(const struct needleoat_answer *a, const struct needleoat
 }
 
 /* A request that the answer is one to. */
-static size_t request_for(const struct needleoat_answer *answer, uint8_t out[NEEDLEOAT_REQUEST_BYTES]) {
+static uint32_t request_for(const struct needleoat_answer *answer, uint8_t out[NEEDLEOAT_REQUEST_BYTES]) {
     struct needleoat_command command = {.instance_id = answer->instance_id,
                                         .pldm_type = answer->pldm_type,
                                         .command = answer->command,
@@ -292,8 +293,8 @@ static void written_answers(void) {
         struct needleoat_answer answer;
         memset(out, UNTOUCHED, sizeof out);
         memset(&answer, UNTOUCHED, sizeof answer);
-        size_t count = needleoat_answer_write(&answers[i], out);
-        size_t request_length = request_for(&answers[i], request);
+        uint32_t count = needleoat_answer_write(&answers[i], out);
+        uint32_t request_length = request_for(&answers[i], request);
         uint8_t fault = needleoat_answer_read(request, request_length, out, count, &answer);
         bool same = fault == 0 && same_answer(&answers[i], &answer);
         printf("answer ");
@@ -302,8 +303,8 @@ static void written_answers(void) {
     }
     for (size_t i = 0; i < COUNT(no_answers); i++) {
         memset(out, UNTOUCHED, sizeof out);
-        size_t count = needleoat_answer_write(&no_answers[i], out);
-        printf("no answer %zu %s\n", count, rest(out, 0, sizeof out));
+        uint32_t count = needleoat_answer_write(&no_answers[i], out);
+        printf("no answer %" PRIu32 " %s\n", count, rest(out, 0, sizeof out));
     }
     check("01800002", "010000020001");
     check("01800002", "0100000203ff");
@@ -333,8 +334,8 @@ static void control(const char *what, uint8_t eid, uint8_t reason, const char *h
         settings.pldm_version[i] = (uint8_t)(0xc1 + i);
     }
     memset(out, UNTOUCHED, sizeof out);
-    size_t count = needleoat_control_reply(&settings, reason, bytes, from_hex(hex, bytes), out);
-    printf("control, %s: %zu ", what, count);
+    uint32_t count = needleoat_control_reply(&settings, reason, bytes, from_hex(hex, bytes), out);
+    printf("control, %s: %" PRIu32 " ", what, count);
     print_bytes(out, count);
     printf(" %s\n", rest(out, count, sizeof out));
 }
@@ -354,6 +355,9 @@ static void controls(void) {
     control("to another endpoint", 200, NEEDLEOAT_UNKNOWN_DESTINATION, "01c908c8" "008002");
     control("to this one, unknown", 200, NEEDLEOAT_UNKNOWN_DESTINATION, "01c808c8" "008002");
     control("a source that is none", 200, NEEDLEOAT_BAD_SOURCE, "010008c8" "008002");
+    control("from the null endpoint ID to this one", 200, NEEDLEOAT_BAD_SOURCE, "01c800c8" "008002");
+    control("from a reserved endpoint ID", 200, NEEDLEOAT_BAD_SOURCE, "01c807c8" "008002");
+    control("from this one to itself", 200, NEEDLEOAT_BAD_SOURCE, "01c8c8c8" "008002");
     control("no reason", 200, 0, "010008c8" "008002");
     control("a reason that is none", 200, 21, "010008c8" "008002");
     control("not an endpoint", 200, NEEDLEOAT_NOT_AN_ENDPOINT, "010008c8" "008002");
@@ -397,7 +401,7 @@ static void step_answer(const char *what, struct needleoat_asking asking, const 
 }
 
 /* Answers a request for a part of a record with so many bytes, each of which is its own place. */
-static void step_part(const char *hex, uint8_t transfer_flag, size_t length) {
+static void step_part(const char *hex, uint8_t transfer_flag, uint32_t length) {
     struct needleoat_answer part = {PLATFORM(0, NEEDLEOAT_GET_PDR), .transfer_flag = transfer_flag, .length = length};
     for (size_t i = 0; i < length; i++) part.bytes[i] = (uint8_t)i;
     step_answer("answer with a part", step_receive("part", 6, hex), &part);

@@ -147,7 +147,7 @@ static void listen(void) {
 /* Asks until there is an answer, with a new request where one was given up. */
 static void ask(const struct needleoat_command *command, struct needleoat_answer *answer) {
     uint8_t request[NEEDLEOAT_REQUEST_BYTES], response[NEEDLEOAT_MESSAGE_BYTES];
-    size_t length = needleoat_command_write(command, request);
+    uint32_t length = needleoat_command_write(command, request);
     for (;;) {
         struct needleoat_opening opening = needleoat_requester_open(&requester, now(), request, length);
         if (opening.refusal == NEEDLEOAT_ID_IN_USE || opening.refusal == NEEDLEOAT_NO_MEMORY) {

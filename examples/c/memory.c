@@ -45,9 +45,9 @@ static struct needleoat_endpoint endpoint = NEEDLEOAT_ENDPOINT_NONE;
 static struct needleoat_requester requester = NEEDLEOAT_REQUESTER_NONE;
 static uint8_t packet[NEEDLEOAT_PACKET_BYTES], packets[NEEDLEOAT_PACKETS][NEEDLEOAT_PACKET_BYTES];
 
-static struct needleoat_step receive_packet(uint8_t source, const uint8_t *message, size_t length, size_t index) {
+static struct needleoat_step receive_packet(uint8_t source, const uint8_t *message, size_t length, uint32_t index) {
     struct needleoat_command command;
-    size_t count = needleoat_packet_write(9, source, true, 0, message, length, index, packet);
+    uint32_t count = needleoat_packet_write(9, source, true, 0, message, length, index, packet);
     return needleoat_endpoint_receive(&endpoint, 0, packet, count, &command, packets);
 }
 

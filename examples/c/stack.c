@@ -32,7 +32,7 @@ static size_t taken_by(void (*function)(void)) {
 static struct needleoat_command command;
 static struct needleoat_answer answer;
 static uint8_t request[NEEDLEOAT_REQUEST_BYTES], response[NEEDLEOAT_MESSAGE_BYTES], packet[NEEDLEOAT_PACKET_BYTES];
-static size_t request_length, response_length, packet_length;
+static uint32_t request_length, response_length, packet_length;
 
 static void none(void) {}
 static void command_write(void) { request_length = needleoat_command_write(&command, request); }
@@ -96,13 +96,13 @@ static void requester_new(void) { needleoat_requester_new(8, 9, 1000, 200, 3, &r
 static void requester_open(void) { needleoat_requester_open(&requester, 0, request, request_length); }
 static void requester_packet(void) { needleoat_requester_packet(&requester, 0, packet); }
 static void requester_tick(void) { needleoat_requester_tick(&requester, 200, &due); }
-static void receive_packet(size_t index) {
+static void receive_packet(uint32_t index) {
     packet_length = needleoat_packet_write(8, 9, false, 0, response, response_length, index, packet);
     needleoat_requester_receive(&requester, 300, packet, packet_length);
 }
 static void receive_first(void) { receive_packet(0); }
 static void receive_middle(void) {
-    for (size_t index = 1; index < 4; index++) receive_packet(index);
+    for (uint32_t index = 1; index < 4; index++) receive_packet(index);
 }
 static void receive_last(void) { receive_packet(4); }
 static void requester_status(void) { needleoat_requester_status(&requester, 0, response); }

@@ -67,6 +67,11 @@ one_byte_too_many : reply_to (nine false) (1 ∷ 9 ∷ 8 ∷ 200 ∷ 0 ∷ 134 �
 unfolding request_of command_of
 one_byte_too_many = refl
 
+-- from an endpoint that has no endpoint ID yet: the answer goes back to the null one
+from_the_null_source : reply_to (nine false) (1 ∷ 9 ∷ 0 ∷ 200 ∷ 0 ∷ 128 ∷ 2 ∷ []) ≡ Some (1 ∷ 0 ∷ 9 ∷ 192 ∷ 0 ∷ 0 ∷ 2 ∷ 0 ∷ 9 ∷ 1 ∷ 0 ∷ [])
+unfolding request_of command_of
+from_the_null_source = refl
+
 -- a datagram, a response, and a packet of PLDM are not answered
 datagram : reply_to (nine false) (1 ∷ 9 ∷ 8 ∷ 200 ∷ 0 ∷ 192 ∷ 2 ∷ []) ≡ None
 unfolding request_of command_of
@@ -93,3 +98,12 @@ of_another_type = refl
 
 of_no_source : is_handed_on BadSource (1 ∷ 0 ∷ 255 ∷ 200 ∷ 0 ∷ 128 ∷ 2 ∷ []) ≡ false
 of_no_source = refl
+
+of_the_null_source : is_handed_on BadSource (1 ∷ 9 ∷ 0 ∷ 200 ∷ 0 ∷ 128 ∷ 2 ∷ []) ≡ true
+of_the_null_source = refl
+
+of_a_reserved_source : is_handed_on BadSource (1 ∷ 9 ∷ 7 ∷ 200 ∷ 0 ∷ 128 ∷ 2 ∷ []) ≡ false
+of_a_reserved_source = refl
+
+of_the_own_source : is_handed_on BadSource (1 ∷ 9 ∷ 9 ∷ 200 ∷ 0 ∷ 128 ∷ 2 ∷ []) ≡ false
+of_the_own_source = refl

@@ -1,10 +1,11 @@
 -- Every constant of the source, written a second time.
 use Rattle.std.proofs.Common.{◌≡◌, refl}
-use Rattle.mctp_control.specs.declared.assigned.TheConstants.{BASE_SPECIFICATION, CONTROL, INSTANCE_IDS, NULL_EID, PLDM}
+use Rattle.mctp_control.specs.declared.assigned.TheConstants.{BASE_SPECIFICATION, CONTROL, DATAGRAM, INSTANCE_IDS, NULL_EID, PLDM, RQ}
 use Rattle.mctp_control.specs.declared.assigned.TheConstants.{GET_ENDPOINT_ID, GET_ENDPOINT_UUID, GET_MESSAGE_TYPE_SUPPORT}
 use Rattle.mctp_control.specs.declared.assigned.TheConstants.{GET_VERSION_SUPPORT, SET_ENDPOINT_ID, SUCCESS}
 use Rattle.mctp_control.specs.declared.assigned.TheConstants.{MAX_DATA, MAX_MESSAGE_TYPES, MAX_VERSIONS, MAX_VERSION_BYTES}
 use Rattle.mctp_control.specs.declared.assigned.TheConstants.{REQUEST_HEADER, RESPONSE_HEADER, UUID_BYTES, VERSION_BYTES}
+use Rattle.mctp_control.specs.declared.packet_header.TheConstants.{ENDS_SHIFT, TAG_OWNER_SHIFT, VERSION_BITS, WHOLE_MESSAGE}
 
 control : CONTROL ≡ 0
 control = refl
@@ -17,6 +18,24 @@ base_specification = refl
 
 null_eid : NULL_EID ≡ 0
 null_eid = refl
+
+rq : RQ ≡ 128
+rq = refl
+
+datagram : DATAGRAM ≡ 64
+datagram = refl
+
+version_bits : VERSION_BITS ≡ 15
+version_bits = refl
+
+ends_shift : ENDS_SHIFT ≡ 6
+ends_shift = refl
+
+whole_message : WHOLE_MESSAGE ≡ 3
+whole_message = refl
+
+tag_owner_shift : TAG_OWNER_SHIFT ≡ 3
+tag_owner_shift = refl
 
 instance_ids : INSTANCE_IDS ≡ 32
 instance_ids = refl

@@ -2,7 +2,7 @@
 -- "MCTP control protocol").
 use Rattle.std.specs.Prelude.{ℕ, ◌==◌, Bool, false, true, if◌then◌else◌, List, ◌∷◌, Option, None}
 use Rattle.mctp_packet.specs.declared.reason.Reason.{Reason}
-use Rattle.mctp_packet.specs.declared.reason.Reason.TheVariants.{NotPldm, UnknownDestination}
+use Rattle.mctp_packet.specs.declared.reason.Reason.TheVariants.{BadSource, NotPldm, UnknownDestination}
 use Rattle.mctp_control.specs.Packets.{eid_left, reply_to}
 use Rattle.mctp_control.specs.declared.assigned.TheConstants.{NULL_EID}
 use Rattle.mctp_control.specs.declared.endpoint.Endpoint.{Endpoint}
@@ -12,11 +12,17 @@ abbrev pub is_to_null : List ℕ → Bool
 is_to_null (version ∷ destination ∷ more) = destination == NULL_EID
 is_to_null _ = false
 
--- whether the endpoint gets the packet that the responder dropped: it completes a message of another type, or is
--- addressed by its physical address alone
+-- whether bytes are sent from the null endpoint ID
+abbrev pub is_from_null : List ℕ → Bool
+is_from_null (version ∷ destination ∷ source ∷ more) = source == NULL_EID
+is_from_null _ = false
+
+-- whether the endpoint gets the packet that the responder dropped: it completes a message of another type, is addressed
+-- by its physical address alone, or comes from an endpoint that has no endpoint ID yet
 abbrev pub is_handed_on : Reason → List ℕ → Bool
 is_handed_on NotPldm packet = true
 is_handed_on UnknownDestination packet = is_to_null packet
+is_handed_on BadSource packet = is_from_null packet
 is_handed_on _ packet = false
 
 -- the packet that answers one that the responder dropped

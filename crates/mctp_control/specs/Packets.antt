@@ -33,10 +33,14 @@ comes_to e bytes =
 abbrev pub request_in : Endpoint → List ℕ → Option Request
 request_in e bytes = if comes_to e bytes then request_of (drop HEADER bytes) else None
 
+-- the flags of the packet that answers one with these: SOM 1, EOM 1, the sequence number 0, TO 0, and the same tag
+abbrev pub reply_flags : ℕ → ℕ
+reply_flags flags = 192 + flags % 8
+
 -- the packet that answers: back to the source from the endpoint ID that it has, on the same tag with TO 0
 abbrev pub reply : Endpoint → ℕ → ℕ → Request → List ℕ
 reply e source flags r =
-    VERSION ∷ source ∷ e.eid ∷ (192 + flags % 8)
+    VERSION ∷ source ∷ e.eid ∷ reply_flags flags
     ∷ answer_message r.id r.command (answer_of_read e (command_of r.command r.rest))
 
 abbrev pub reply_by : Endpoint → List ℕ → Option Request → Option (List ℕ)

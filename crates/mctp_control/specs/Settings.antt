@@ -30,7 +30,9 @@ assigned_answer e wanted =
     then EndpointIdSet (if takes e wanted then Accepted else Rejected) (eid_after e wanted)
     else Refused invalid_data
 
--- there is no static endpoint ID to go back to, and no flag of discovery
+-- Force is answered as Set is. The endpoint was set up with a static endpoint ID, as the kind `Static` says below; the
+-- one that it has now is all that it keeps of it, so there is no other to go back to, and Reset is refused. It has no
+-- flag of discovery.
 abbrev pub set_answer : Endpoint → EidOperation → ℕ → Answer
 set_answer e Set wanted = assigned_answer e wanted
 set_answer e Force wanted = assigned_answer e wanted

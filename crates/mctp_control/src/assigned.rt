@@ -16,6 +16,13 @@ pub const BASE_SPECIFICATION: u8 = 0xff;
 /// "Special endpoint IDs").
 pub const NULL_EID: u8 = 0;
 
+/// Rq, the highest bit of the byte with the instance ID: set in a request, and not in a response (DSP0236, "MCTP control
+/// message format").
+pub(crate) const RQ: u8 = 0x80;
+
+/// D, the bit below Rq: set in a datagram, a request that wants no response (DSP0236, "MCTP control message format").
+pub(crate) const DATAGRAM: u8 = 0x40;
+
 /// How many instance IDs there are (DSP0236, "MCTP control message fields").
 pub const INSTANCE_IDS: u8 = 32;
 

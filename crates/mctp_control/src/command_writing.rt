@@ -3,7 +3,7 @@ ghost use Rattle.mctp_control.specs.Commands.{command_data};
 ghost use Rattle.mctp_control.specs.Written.{command_message};
 ghost use Rattle.mctp_control.specs.declared.assigned.TheConstants.{INSTANCE_IDS};
 
-use crate::{CONTROL, Command};
+use crate::{CONTROL, Command, RQ};
 use mctp_packet::Body;
 
 /// The message of a command with this instance ID, 0 to 31 (DSP0236, "MCTP control message format"). Reserved bits
@@ -14,7 +14,7 @@ pub fn write_command(id: u8, command: &Command) -> Body
 {
     let mut message = Body::new();
     message.push(CONTROL);
-    message.push(0x80 + id);
+    message.push(RQ + id);
     message.push(command.number());
     match command {
         Command::SetEndpointId { operation, eid } => {

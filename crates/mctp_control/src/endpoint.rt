@@ -5,6 +5,7 @@ ghost use Rattle.mctp_control.specs.CommandReading.{command_of};
 ghost use Rattle.mctp_control.specs.Packets.{comes_to, eid_left, is_from, is_to, reply_to, request_in};
 ghost use Rattle.mctp_control.specs.Settings.{answer_to, assigned_answer, eid_after, eid_after_command, set_answer, eid_after_set, version_answer};
 
+use crate::packet_header::{has_version, is_whole_request, reply_flags};
 use crate::{
     Answer, Assignment, BASE_SPECIFICATION, CONTROL, Command, CompletionCode, EidKind,
     EidOperation, EndpointKind, MessageTypes, NULL_EID, PLDM, RequestRef, UUID_BYTES,
@@ -48,7 +49,7 @@ impl Endpoint {
         reply.push(VERSION);
         reply.push(source);
         reply.push(self.eid.get());
-        reply.push(0xc0 + (flags & 0x07));
+        reply.push(reply_flags(flags));
         let answer = match read_command(&request) {
             Ok(command) => {
                 let answer = self.answer(&command);
@@ -69,8 +70,10 @@ impl Endpoint {
         let [version, destination, source, flags, message @ ..] = packet else {
             return None;
         };
-        let whole = *flags >> 6 == 3 && *flags >> 3 & 1 == 1;
-        if packet.len() > MAX_PACKET_BYTES || *version & 0x0f != VERSION || !whole {
+        if packet.len() > MAX_PACKET_BYTES || !has_version(*version) {
+            return None;
+        }
+        if !is_whole_request(*flags) {
             return None;
         }
         if !self.is_to(*destination) || !self.is_from(*source) {
@@ -116,7 +119,8 @@ impl Endpoint {
         }
     }
 
-    /// What it answers to Set Endpoint ID.
+    /// What it answers to Set Endpoint ID. Force is answered as Set is. Reset is refused: of the static endpoint ID that
+    /// it was set up with it keeps none but the one that it has now. It has no flag of discovery.
     fn set_answer(&self, operation: EidOperation, wanted: u8) -> Answer
         ensures { result ≡ set_answer self.now operation wanted }
     {

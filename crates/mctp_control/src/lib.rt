@@ -15,6 +15,7 @@ mod endpoint;
 pub mod laws;
 mod message;
 mod message_types;
+mod packet_header;
 mod versions;
 
 pub use answer::{Answer, Assignment, EidKind, EndpointKind};
@@ -26,6 +27,7 @@ pub use assigned::{
     MAX_VERSIONS, NULL_EID, PLDM, REQUEST_HEADER, RESPONSE_HEADER, SET_ENDPOINT_ID, SUCCESS,
     UUID_BYTES, VERSION_BYTES,
 };
+pub(crate) use assigned::{DATAGRAM, RQ};
 pub use code::CompletionCode;
 pub use command::{Command, EidOperation};
 pub use command_reading::read_command;

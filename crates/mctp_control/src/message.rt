@@ -4,7 +4,7 @@ ghost use Rattle.std.specs.Prelude.{◌≡◌, ◌<◌, Some, IfSome};
 ghost use Rattle.mctp_control.specs.Messages.{IsRequest, IsResponse, Request, Response, request_of, response_of};
 ghost use Rattle.mctp_control.specs.declared.assigned.TheConstants.{INSTANCE_IDS};
 
-use crate::CONTROL;
+use crate::{CONTROL, DATAGRAM, INSTANCE_IDS, RQ};
 use std::marker::Model;
 
 /// A request: its instance ID, the number of its command, and the bytes after its header, borrowed (DSP0236, "MCTP
@@ -129,11 +129,11 @@ fn request_in(message: &[u8]) -> Option<RequestRef<'_>>
     let [message_type, flags, command, rest @ ..] = message else {
         return None;
     };
-    if *message_type != CONTROL || *flags >> 6 != 0b10 {
+    if *message_type != CONTROL || *flags & (RQ | DATAGRAM) != RQ {
         return None;
     }
     Some(RequestRef {
-        id: *flags & 0x1f,
+        id: *flags % INSTANCE_IDS,
         command: *command,
         rest,
     })
@@ -157,11 +157,11 @@ fn response_in(message: &[u8]) -> Option<ResponseRef<'_>>
     let [message_type, flags, command, code, rest @ ..] = message else {
         return None;
     };
-    if *message_type != CONTROL || *flags >> 6 != 0 {
+    if *message_type != CONTROL || *flags & (RQ | DATAGRAM) != 0 {
         return None;
     }
     Some(ResponseRef {
-        id: *flags & 0x1f,
+        id: *flags % INSTANCE_IDS,
         command: *command,
         code: *code,
         rest,

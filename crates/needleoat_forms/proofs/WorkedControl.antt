@@ -1,10 +1,10 @@
 -- What endpoints of settings answer to packets that were dropped, computed from the definitions: the endpoint 9, asked by
 -- the endpoint 8.
-use Rattle.std.proofs.Common.{◌≡◌, List, ℕ, [], ◌∷◌, Some, None, refl}
+use Rattle.std.proofs.Common.{◌≡◌, [], ◌∷◌, Some, None, refl}
 use Rattle.mctp_control.specs.CommandReading.{command_of}
 use Rattle.mctp_control.specs.Dropped.{control_reply}
 use Rattle.mctp_control.specs.Messages.{request_of}
-use Rattle.mctp_packet.specs.declared.reason.Reason.TheVariants.{BadTag, NotPldm, UnknownDestination}
+use Rattle.mctp_packet.specs.declared.reason.Reason.TheVariants.{BadSource, BadTag, NotPldm, UnknownDestination}
 use Rattle.needleoat_forms.specs.Control.{endpoint_in}
 use Rattle.needleoat_forms.specs.declared.control.ControlFields.{ControlFields}
 
@@ -33,6 +33,15 @@ set_other : control_reply (endpoint_in nine) UnknownDestination (1 ∷ 0 ∷ 8 �
     ≡ Some (1 ∷ 8 ∷ 9 ∷ 192 ∷ 0 ∷ 2 ∷ 1 ∷ 0 ∷ 16 ∷ 9 ∷ 0 ∷ [])
 unfolding request_of command_of
 set_other = refl
+
+-- from an endpoint that has no endpoint ID yet: the answer goes back to the null one
+from_the_null_source : control_reply (endpoint_in nine) BadSource (1 ∷ 9 ∷ 0 ∷ 200 ∷ 0 ∷ 128 ∷ 2 ∷ [])
+    ≡ Some (1 ∷ 0 ∷ 9 ∷ 192 ∷ 0 ∷ 0 ∷ 2 ∷ 0 ∷ 9 ∷ 1 ∷ 0 ∷ [])
+unfolding request_of command_of
+from_the_null_source = refl
+
+from_a_reserved_source : control_reply (endpoint_in nine) BadSource (1 ∷ 9 ∷ 7 ∷ 200 ∷ 0 ∷ 128 ∷ 2 ∷ []) ≡ None
+from_a_reserved_source = refl
 
 for_another_reason : control_reply (endpoint_in nine) BadTag (1 ∷ 9 ∷ 8 ∷ 200 ∷ 0 ∷ 128 ∷ 2 ∷ []) ≡ None
 for_another_reason = refl

@@ -68,7 +68,7 @@ pub struct AnswerFields {
     /// GetNumericEffecterValue: the value that the effecter is going to.
     pub pending_value: i64,
     /// GetPLDMVersion, GetPDR: how many of `bytes` there are.
-    pub length: usize,
+    pub length: u32,
     /// GetStateSensorReadings: the fields, the first `count` of these.
     pub sensor_states: [SensorState; MAX_STATES],
     /// GetStateEffecterStates: the fields, the first `count` of these.
@@ -85,6 +85,9 @@ pub struct AnswerFields {
     /// record, at most [`MAX_PART_BYTES`].
     pub bytes: [u8; MAX_PART_BYTES],
 }
+
+// As in `include/needleoat.h`.
+const _: () = prove!(size_of::<AnswerFields>() == 488);
 
 impl AnswerFields {
     /// Each field is 0.

@@ -29,7 +29,7 @@ const PLDM_TYPES: u8 = 64;
 /// above 63, and, where the completion code is 0, where this profile has no such command or a field
 /// of its answer is out of range: a data size, a value that does not fit it, a count, a length or a
 /// transfer flag.
-pub fn answer_write(fields: &AnswerFields, out: &mut [u8; MAX_MESSAGE_BYTES]) -> usize
+pub fn answer_write(fields: &AnswerFields, out: &mut [u8; MAX_MESSAGE_BYTES]) -> u32
     ensures { IsWritten (response_in fields.now) result out.old out.new }
 {
     if fields.instance_id >= INSTANCE_IDS {
@@ -110,10 +110,11 @@ fn version_answer_of(fields: &AnswerFields) -> Option<Answer>
 fn bytes_of(fields: &AnswerFields) -> Option<&[u8]>
     ensures { option_map (λ bytes. bytes.now) result ≡ bytes_in fields.now }
 {
-    if fields.length > MAX_PART_BYTES {
+    let length = fields.length as usize;
+    if length > MAX_PART_BYTES {
         return None;
     }
-    Some(&fields.bytes[..fields.length])
+    Some(&fields.bytes[..length])
 }
 
 /// The answer to a command of platform monitoring and control (DSP0248).

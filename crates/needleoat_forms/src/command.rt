@@ -53,6 +53,9 @@ pub struct CommandFields {
     pub sets: [SetState; MAX_STATES],
 }
 
+// As in `include/needleoat.h`.
+const _: () = prove!(size_of::<CommandFields>() == 64);
+
 impl CommandFields {
     /// Each field is 0.
     const NONE: CommandFields = CommandFields {

@@ -14,6 +14,9 @@ pub struct CommandReading {
     pub code: u8,
 }
 
+// As in `include/needleoat.h`.
+const _: () = prove!(size_of::<CommandReading>() == 2);
+
 /// Reads a message as a request and its command into `fields` (DSP0240, DSP0248). Where the message
 /// is no request or its command is refused, `fields` is left as it was.
 pub fn command_read(message: &[u8], fields: &mut CommandFields) -> CommandReading

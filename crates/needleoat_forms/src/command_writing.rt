@@ -16,7 +16,7 @@ use pldm_wire::{
 /// DSP0248). Returns 0 and leaves `out` as it was where the instance ID is above 31, where this
 /// profile has no such command, where there is no such data size or the value does not fit it, and
 /// where a count of fields is not 1 to 8.
-pub fn command_write(fields: &CommandFields, out: &mut [u8; MAX_REQUEST_BYTES]) -> usize
+pub fn command_write(fields: &CommandFields, out: &mut [u8; MAX_REQUEST_BYTES]) -> u32
     ensures { IsWritten (request_in fields.now) result out.old out.new }
 {
     if fields.instance_id >= INSTANCE_IDS {

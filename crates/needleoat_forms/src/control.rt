@@ -28,6 +28,9 @@ pub struct ControlFields {
     pub pldm_version: [u8; VERSION_BYTES],
 }
 
+// As in `include/needleoat.h`.
+const _: () = prove!(size_of::<ControlFields>() == 29);
+
 impl ControlFields {
     /// The endpoint of these settings at an endpoint ID.
     fn endpoint(&self, eid: Eid) -> Endpoint
@@ -48,14 +51,14 @@ impl ControlFields {
 /// Writes the packet that answers a control message to the front of `out`, and returns its length in bytes (DSP0236,
 /// "MCTP control protocol"). `packet` is a packet that the responder of the same endpoint ID dropped, and `reason` the
 /// number of its reason, 1 to 20. Returns 0 and leaves `out` as it was where there is no answer: the packet is no
-/// control request to this endpoint ID or, by its physical address, to the null one; `reason` is another than 12, and
-/// than 3 of a packet to the null endpoint ID; or `eid` is no endpoint ID.
+/// control request to this endpoint ID or, by its physical address, to the null one; `reason` is another than 12, than 3
+/// of a packet to the null endpoint ID, and than 4 of a packet from the null one; or `eid` is no endpoint ID.
 pub fn control_reply(
     fields: &ControlFields,
     reason: u8,
     packet: &[u8],
     out: &mut [u8; MAX_PACKET_BYTES],
-) -> usize
+) -> u32
     ensures reply { (dropped : ReasonValue) → number_of dropped ≡ reason → IsEid fields.now.eid
         → IsWritten (control_reply (endpoint_in fields.now) dropped packet.now) result out.old out.new }
     ensures no_reason { IsNoReason reason → IsUntouched result out.old out.new }

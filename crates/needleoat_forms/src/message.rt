@@ -1,9 +1,12 @@
 ghost use Rattle.std.specs.Prelude.{◌≡◌};
 ghost use Rattle.pldm_wire.specs.Requests.{request_of};
 ghost use Rattle.pldm_wire.specs.Responses.{response_of};
-ghost use Rattle.needleoat_forms.specs.Messages.{ReportsRequest, ReportsResponse};
+ghost use Rattle.needleoat_forms.specs.Messages.{ReportsRequest, ReportsResponse, reported_length};
 
 use pldm_wire::{read_request, read_response};
+
+/// The most bytes of data that are reported.
+const MOST_REPORTED: u32 = 0xffff_ffff;
 
 /// The header of a request or a response, or why the bytes are none (DSP0240, "PLDM message
 /// fields"). A request's data begins at byte 4 and a response's at byte 5.
@@ -21,9 +24,12 @@ pub struct MessageFields {
     pub command: u8,
     /// A response's completion code. A request has none: 0.
     pub code: u8,
-    /// The length of the data in bytes.
-    pub data_length: usize,
+    /// The length of the data in bytes; of 2^32 bytes or more, 2^32 - 1.
+    pub data_length: u32,
 }
+
+// As in `include/needleoat.h`.
+const _: () = prove!(size_of::<MessageFields>() == 12);
 
 impl MessageFields {
     /// The report of bytes that are no message.
@@ -53,7 +59,7 @@ pub fn request_read(message: &[u8]) -> MessageFields
             pldm_type: request.kind().pldm_type,
             command: request.kind().command,
             code: 0,
-            data_length: request.data().len(),
+            data_length: reported_length(request.data()),
         },
         Err(reason) => MessageFields::refused(reason.number()),
     }
@@ -71,8 +77,18 @@ pub fn response_read(message: &[u8]) -> MessageFields
             pldm_type: response.kind().pldm_type,
             command: response.kind().command,
             code: response.code(),
-            data_length: response.data().len(),
+            data_length: reported_length(response.data()),
         },
         Err(reason) => MessageFields::refused(reason.number()),
     }
+}
+
+/// The length of a message's data, as it is reported.
+fn reported_length(bytes: &[u8]) -> u32
+    ensures { result ≡ reported_length bytes.now }
+{
+    if bytes.len() > MOST_REPORTED as usize {
+        return MOST_REPORTED;
+    }
+    bytes.len() as u32
 }

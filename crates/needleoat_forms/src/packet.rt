@@ -38,8 +38,11 @@ pub struct PacketFields {
     /// EOM: whether the packet ends a message.
     pub end: bool,
     /// The length of the payload in bytes, 1 to 64.
-    pub payload_length: usize,
+    pub payload_length: u32,
 }
+
+// As in `include/needleoat.h`.
+const _: () = prove!(size_of::<PacketFields>() == 12);
 
 impl PacketFields {
     /// The report of bytes that are no packet.
@@ -73,7 +76,7 @@ impl PacketFields {
             owner: route.owner,
             start: packet.start(),
             end: packet.end(),
-            payload_length: packet.payload().len(),
+            payload_length: packet.payload().len() as u32,
         }
     }
 }
@@ -95,14 +98,15 @@ pub fn packet_read(own: u8, bytes: &[u8]) -> PacketFields
 
 /// How many packets a message of so many bytes has (DSP0236, "Packetizing a message"): 1 to 5, and
 /// 0 where there are no bytes or more than [`MAX_MESSAGE_BYTES`].
-pub fn packet_count(bytes: usize) -> usize
+pub fn packet_count(bytes: u32) -> u32
     ensures count { bytes ≤ MAX_MESSAGE_BYTES → result ≡ (bytes + (UNIT - 1)) / UNIT }
     ensures too_long { MAX_MESSAGE_BYTES < bytes → result ≡ 0 }
 {
+    let bytes = bytes as usize;
     if bytes > MAX_MESSAGE_BYTES {
         return 0;
     }
-    bytes.div_ceil(UNIT)
+    bytes.div_ceil(UNIT) as u32
 }
 
 /// Writes packet `index` of a message, counted from 0, to the front of `out`, and returns its
@@ -115,9 +119,9 @@ pub fn packet_write(
     owner: bool,
     tag: u8,
     message: &[u8],
-    index: usize,
+    index: u32,
     out: &mut [u8; MAX_PACKET_BYTES],
-) -> usize
+) -> u32
     ensures written { IsRoute destination source tag → length message.now ≤ MAX_MESSAGE_BYTES
         → index < piece_count message.now
         → HasFront (packet_bytes destination source owner tag message.now index) result out.old out.new }
@@ -141,7 +145,7 @@ pub fn packet_write(
         owner,
         tag,
     };
-    match packet_at(&route, message, index) {
+    match packet_at(&route, message, index as usize) {
         Some(packet) => put_packet(&packet, out),
         None => 0,
     }
@@ -150,7 +154,7 @@ pub fn packet_write(
 /// Writes a packet to the front of `out`, and returns its length in bytes. The bytes go through an
 /// array of their own: a copy from the message to `out` would be a `memmove`, which firmware may not
 /// have.
-fn put_packet(packet: &PacketRef<'_>, out: &mut [u8; MAX_PACKET_BYTES]) -> usize
+fn put_packet(packet: &PacketRef<'_>, out: &mut [u8; MAX_PACKET_BYTES]) -> u32
     ensures { HasFront (written packet.now) result out.old out.new }
 {
     let mut bytes = [0; MAX_PACKET_BYTES];

@@ -17,6 +17,9 @@ pub struct SetState {
     pub state: u8,
 }
 
+// As in `include/needleoat.h`.
+const _: () = prove!(size_of::<SetState>() == 2);
+
 /// One field of GetStateSensorReadings' answer (DSP0248, "GetStateSensorReadings command").
 #[repr(C)]
 #[derive(Clone, Copy, Default)]
@@ -31,6 +34,9 @@ pub struct SensorState {
     pub event: u8,
 }
 
+// As in `include/needleoat.h`.
+const _: () = prove!(size_of::<SensorState>() == 4);
+
 /// One field of GetStateEffecterStates' answer (DSP0248, "GetStateEffecterStates command").
 #[repr(C)]
 #[derive(Clone, Copy, Default)]
@@ -42,6 +48,9 @@ pub struct EffecterState {
     /// The state that it is in.
     pub present: u8,
 }
+
+// As in `include/needleoat.h`.
+const _: () = prove!(size_of::<EffecterState>() == 3);
 
 /// Puts the fields in front of the others.
 #[tactic(auto, using(crate::proofs::FirstStates::first_sets_append))]
