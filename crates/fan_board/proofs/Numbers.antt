@@ -1,6 +1,6 @@
 -- Every constant of the source, told a second time: the board's own numbers, and the standard's.
 use Rattle.std.proofs.Common.{◌≡◌, pos, refl}
-use Rattle.fan_board.specs.declared.TheConstants.{OWN, KEEP, COMMANDS}
+use Rattle.fan_board.specs.declared.TheConstants.{OWN, KEEP, BOUNDS, COMMANDS}
 use Rattle.fan_board.specs.declared.board.TheConstants.{TID, THERMOMETER, COLDEST, HOTTEST, FIRST_DEGREES, FULL_SPEED, FANS, GOOD_TRANSFERS, SECOND, SENSOR_ENABLED, EFFECTER_ENABLED, NORMAL, INVALID_ID}
 
 endpoint_id : OWN ≡ 10
@@ -8,6 +8,12 @@ endpoint_id = refl
 
 keeping_time_in_milliseconds : KEEP ≡ 1000
 keeping_time_in_milliseconds = refl
+
+sources_with_kept_answers : BOUNDS.sources ≡ 2
+sources_with_kept_answers = refl
+
+open_messages : BOUNDS.open_messages ≡ 2
+open_messages = refl
 
 commands_at_a_time : COMMANDS ≡ 1
 commands_at_a_time = refl
