@@ -1,1 +1,4 @@
+pub mod BoardRows
+pub mod LineRows
+pub mod Numbers
 pub mod ServedSteps

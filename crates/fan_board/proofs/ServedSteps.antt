@@ -23,7 +23,9 @@ use Rattle.pldm_endpoint.specs.declared.step.Step.TheVariants.{Done, Perform}
 use Rattle.pldm_endpoint.proofs.AskerOrder.{askers_exact, askers_total}
 use Rattle.pldm_endpoint.proofs.PendingGlue.{just_asked}
 use Rattle.pldm_endpoint.proofs.StepGlue.{then_held}
-use Rattle.fan_board.specs.Served.{IsServed}
+use Rattle.fan_board.specs.BoardCommands.{board_after, board_answer}
+use Rattle.fan_board.specs.Boards.{BoardState}
+use Rattle.fan_board.specs.Served.{IsServed, answer_given, board_served}
 
 -- what is asked alone and answered leaves nothing asked
 none_left : (by : Asker) (v : Asked) → map.remove (map.insert {R = asker_cmp} map.empty by v) by ≡ map.empty
@@ -54,13 +56,16 @@ module _ {S : Type 0} (old : Held S) (moment : ℕ) (bytes : List ℕ) (count : 
   idle_by (Some m) [] outcome asks step are = are
   idle_by (Some m) (command ∷ commands) outcome asks step are = cc
 
-  pub served_done : (new : Held S) (outcome : Outcome) → Done outcome ≡ received_step old moment bytes count → IsLeftByStep old moment bytes new
-      → IsServed old new moment bytes outcome
-  served_done new outcome step left = record {
-    given = unasked;
-    returned = done_by (request_in old moment bytes) (received_commands old moment bytes) outcome step;
-    left = left;
-  }
+  pub served_done : (board : BoardState) (new : Held S) (outcome : Outcome) → Done outcome ≡ received_step old moment bytes count → IsLeftByStep old moment bytes new
+      → received_commands old moment bytes ≡ [] → IsServed old board moment bytes new board outcome
+  served_done board new outcome step left none =
+      let same = ap (answer_given board moment) none in
+      record {
+        returned = done_by (request_in old moment bytes) (received_commands old moment bytes) outcome step
+            ∙ ap (λ g. received_outcome (gives g) (bare old) moment bytes) (sym same);
+        left = subst (λ g. IsHeld (bare new) (received_held (gives g) (bare old) moment bytes)) (sym same) left;
+        board_is = sym (ap (board_served board moment) none);
+      }
 
   pub idle_done : (outcome : Outcome) (asks : Asks) → Done outcome ≡ received_step old moment bytes count → asks ≡ asks_after old moment bytes map.empty count → asks ≡ map.empty
   idle_done outcome asks step are = idle_by (request_in old moment bytes) (received_commands old moment bytes) outcome asks step are
@@ -103,20 +108,35 @@ module _ {S : Type 0} (old : Held S) (moment : ℕ) (bytes : List ℕ) (count : 
         ∙ ap (λ (k : Asking). map.remove (map.insert map.empty (asker_of is.m) (record { tag = is.m.tag; number = count; command = is.command })) (asker k.source k.id)) is.number
         ∙ none_left (asker_of is.m) (record { tag = is.m.tag; number = count; command = is.command })
 
-    pub served_performed : TwoStepsAreOne → (middle new : Held S) (given : Answer) (outcome : Outcome) → IsLeftByStep old moment bytes middle
-        → IsAnsweredBy middle asking given (asked_at asks asking) outcome → IsLeftByAnswer middle asking given new → IsServed old new moment bytes outcome
-    served_performed law middle new given outcome left answered last =
+    -- the command that the endpoint tells is the one that was asked
+    pub command_told : (command : Command) → Some command ≡ option_map (λ (a : Asked). a.command) (asked_at asks asking) → command ≡ is.command
+    command_told command told = ap (command_in command) (told ∙ ap (option_map (λ (a : Asked). a.command)) found)
+      where
+        command_in : Command → Option Command → Command
+        command_in other None = other
+        command_in other (Some c) = c
+
+    -- the answer that the board gave to it
+    pub served_performed : TwoStepsAreOne → (board board_left : BoardState) (middle new : Held S) (command : Command) (given : Answer) (outcome : Outcome)
+        → command ≡ is.command → given ≡ board_answer board moment command → board_left ≡ board_after board moment command
+        → IsLeftByStep old moment bytes middle → IsAnsweredBy middle asking given (asked_at asks asking) outcome → IsLeftByAnswer middle asking given new
+        → IsServed old board moment bytes new board_left outcome
+    served_performed law board board_left middle new command given outcome told answer after left answered last =
+        let answer_is : given ≡ answer_given board moment (received_commands old moment bytes) =
+        answer ∙ ap (board_answer board moment) told ∙ sym (ap (answer_given board moment) is.commands) in
         let same = same_held {new = bare middle} {held = received_held (gives unasked) (bare old) moment bytes} left in
         let one = law (bare old) moment bytes is.m is.command given is.arrives is.commands in
         record {
-          given = given;
           returned =
               subst (λ (k : Asking). IsAnsweredBy middle k given (Some (record { tag = is.m.tag; number = count; command = is.command })) outcome) is.number
               (subst (λ o. IsAnsweredBy middle asking given o outcome) found answered)
               ∙ ap (λ (h : Held (Unit {0})). outcome_of_answer h.own is.m.source is.m.tag (kept_bytes (h.kept is.m.source (id_at is.m.bytes))) given) same
-              ∙ one.0;
-          left = then_held _ _ _
+              ∙ one.0
+              ∙ ap (λ g. received_outcome (gives g) (bare old) moment bytes) answer_is;
+          left = subst (λ g. IsHeld (bare new) (received_held (gives g) (bare old) moment bytes)) answer_is
+              (then_held _ _ _
               (subst (λ (h : Held (Unit {0})). IsHeld (bare new) (answered_held h is.m.source (id_at is.m.bytes) given)) same
               (subst (λ (k : Asking). IsLeftByAnswer middle k given new) is.number last))
-              one.1;
+              one.1);
+          board_is = after ∙ ap (board_after board moment) told ∙ sym (ap (board_served board moment) is.commands);
         }

@@ -1,2 +1,4 @@
+pub mod BoardCommands
 pub mod Boards
+pub mod PacketLines
 pub mod Served

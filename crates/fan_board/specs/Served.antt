@@ -1,15 +1,31 @@
--- What becomes of a packet that reaches the board's endpoint: what the responder does, for a platform that gives the
--- answer that the board gave.
-use Rattle.std.specs.Prelude.{◌≡◌, ℕ, List}
+-- What becomes of a packet that reaches the board's endpoint: what a responder does, for a platform that gives the
+-- board's answer to the command that the packet has performed, if any; and what becomes of the board.
+use Rattle.std.specs.Prelude.{◌≡◌, ℕ, List, [], ◌∷◌}
 use Rattle.pldm_wire.specs.declared.answer.Answer.{Answer}
+use Rattle.pldm_wire.specs.declared.command.Command.{Command}
 use Rattle.pldm_responder.specs.Asked.{gives}
 use Rattle.pldm_responder.specs.Held.{Held, IsHeld}
-use Rattle.pldm_responder.specs.Steps.{received_held, received_outcome}
+use Rattle.pldm_responder.specs.Steps.{received_commands, received_held, received_outcome}
 use Rattle.pldm_responder.specs.declared.outcome.Outcome.{Outcome}
-use Rattle.pldm_endpoint.specs.TwoSteps.{bare}
+use Rattle.pldm_endpoint.specs.TwoSteps.{bare, unasked}
+use Rattle.fan_board.specs.BoardCommands.{board_after, board_answer}
+use Rattle.fan_board.specs.Boards.{BoardState}
 
-pub record IsServed {S : Type 0} (old new : Held S) (moment : ℕ) (bytes : List ℕ) (outcome : Outcome) : Type 0 where
-  -- the answer of the board, where it was asked
-  pub given : Answer
-  pub returned : outcome ≡ received_outcome (gives given) (bare old) moment bytes
-  pub left : IsHeld (bare new) (received_held (gives given) (bare old) moment bytes)
+-- the board's answer to the command that it is asked, which is one at most; where it is asked none, nothing gets one
+abbrev pub answer_given : BoardState → ℕ → List Command → Answer
+answer_given board moment [] = unasked
+answer_given board moment (command ∷ commands) = board_answer board moment command
+
+-- the board after that: where it is asked none, it is as before
+abbrev pub board_served : BoardState → ℕ → List Command → BoardState
+board_served board moment [] = board
+board_served board moment (command ∷ commands) = board_after board moment command
+
+module _ {S : Type 0} (old : Held S) (board : BoardState) (moment : ℕ) (bytes : List ℕ) where
+  abbrev pub given : Answer
+  given = answer_given board moment (received_commands old moment bytes)
+
+  pub record IsServed (new : Held S) (board_left : BoardState) (outcome : Outcome) : Type 0 where
+    pub returned : outcome ≡ received_outcome (gives given) (bare old) moment bytes
+    pub left : IsHeld (bare new) (received_held (gives given) (bare old) moment bytes)
+    pub board_is : board_left ≡ board_served board moment (received_commands old moment bytes)

@@ -1,17 +1,14 @@
 //! A board with two fans and a thermometer, behind a bus that fails now and then.
 
-ghost use Rattle.std.specs.Prelude.{◌≡◌, ◌+◌, ◌-◌, ◌/◌, ◌==◌, ◌<◌, ◌≤◌, pos, count_by, IfOk, [], ◌∷◌};
+ghost use Rattle.std.specs.Prelude.{◌≡◌, ℕ, ◌==◌, ◌<◌, ◌≤◌, pos, count_by, IfOk, Ok, Err, if◌then◌else◌};
 ghost use Rattle.pldm_wire.specs.Answers.{IsAnswerTo};
 ghost use Rattle.pldm_wire.specs.Commands.{kind_of};
-ghost use Rattle.pldm_wire.specs.Kinds.{of_type};
-ghost use Rattle.pldm_wire.specs.Numbers.{sized};
-ghost use Rattle.fan_board.specs.Boards.{degrees_after};
+ghost use Rattle.fan_board.specs.BoardCommands.{answer_now, answer_of, board_after, board_answer, byte_number, code_of, fan_of, is_bus_failing, left_now, transferred};
+ghost use Rattle.fan_board.specs.Boards.{board_at, board_at_first};
 
 use mctp_packet::Moment;
-use pldm_wire::{
-    Answer, Code, Command, EffecterValues, GET_NUMERIC_EFFECTER_VALUE, GET_SENSOR_READING, Number,
-    PLATFORM, Size,
-};
+use pldm_wire::{Answer, Code, Command, EffecterValues, Number, Size};
+use std::marker::Model;
 
 /// The number of the completion codes for a sensor or an effecter that the board does not have (DSP0248,
 /// INVALID_SENSOR_ID and INVALID_EFFECTER_ID).
@@ -32,10 +29,15 @@ pub(crate) enum BoardFault {
 
 impl BoardFault {
     /// The completion code that reports it.
-    pub(crate) fn code(self) -> Code {
+    pub(crate) fn code(self) -> Code
+        ensures { result ≡ code_of self }
+    {
         match self {
             BoardFault::Bus => Code::ERROR,
-            BoardFault::UnknownId => Code::new(INVALID_ID).unwrap_or(Code::ERROR),
+            BoardFault::UnknownId => match Code::new(INVALID_ID) {
+                Some(code) => code,
+                None => unreachable!(),
+            },
             BoardFault::NoSpeed => Code::ERROR_INVALID_DATA,
             BoardFault::UnknownCommand => Code::ERROR_UNSUPPORTED_PLDM_CMD,
         }
@@ -88,13 +90,18 @@ pub struct Board {
     transfers: u8,
 }
 
+impl Model for Board {
+    ghost use Rattle.fan_board.specs.Boards.{BoardState};
+
+    ghost Value = { BoardState };
+
+    ghost view = { λ b. record { speeds = b.speeds; degrees = b.degrees; since = b.since; transfers = b.transfers } };
+}
+
 impl Board {
     /// A board at the moment 0 whose fans stand still.
     pub fn new() -> Board
-        ensures speeds { result.speeds ≡ 0 ∷ 0 ∷ [] }
-        ensures degrees { result.degrees ≡ FIRST_DEGREES }
-        ensures since { result.since ≡ 0 }
-        ensures transfers { result.transfers ≡ 0 }
+        ensures { result ≡ board_at_first }
     {
         Board {
             speeds: [0; FANS],
@@ -107,7 +114,9 @@ impl Board {
     /// Performs a command at the moment `now`, and returns what the board answers. A fault of its bus is a
     /// completion code.
     pub fn perform(&mut self, now: Moment, command: &Command) -> Answer
-        ensures { IsAnswerTo (kind_of command.now) result }
+        ensures answer { result ≡ board_answer self.old now command.now }
+        ensures after { self.new ≡ board_after self.old now command.now }
+        ensures to_the_command { IsAnswerTo (kind_of command.now) result }
     {
         self.pass_time(now.get());
         match self.try_command(command) {
@@ -118,12 +127,10 @@ impl Board {
 
     /// Lets the time pass up to a moment in milliseconds: the temperature rises where a fan stands still.
     fn pass_time(&mut self, now: u64)
-        ensures degrees { self.new.degrees
-            ≡ degrees_after self.old.speeds self.old.degrees ((now - self.old.since) / SECOND) }
-        ensures speeds { self.new.speeds ≡ self.old.speeds }
+        ensures { self.new ≡ board_at self.old now }
     {
         let seconds = now.saturating_sub(self.since) / SECOND;
-        let still = self.still_fans();
+        let still = still_fans(&self.speeds);
         let degrees = u64::from(self.degrees);
         let warmed = if still == 0 {
             degrees.saturating_sub(seconds).max(u64::from(COLDEST))
@@ -136,25 +143,17 @@ impl Board {
         self.since += seconds * SECOND;
     }
 
-    /// How many fans stand still.
-    fn still_fans(&self) -> u64
-        ensures value { result ≡ count_by (λ speed. speed == 0) self.now.speeds }
-        ensures few { result ≤ FANS }
-    {
-        self.speeds.iter().filter(|speed| **speed == 0).count() as u64
-    }
-
-    /// What a command gives.
+    /// What a command gives, where no time passes.
     fn try_command(&mut self, command: &Command) -> Result<Answer, BoardFault>
-        ensures { IfOk result (λ answer. IsAnswerTo (kind_of command.now) answer) }
+        ensures answer { answer_of result ≡ answer_now self.old command.now }
+        ensures after { self.new ≡ left_now self.old command.now }
     {
         match command {
             Command::GetTid => Ok(Answer::GetTid { tid: TID }),
             Command::GetSensorReading { sensor, .. } => self.read_sensor(*sensor),
-            Command::SetNumericEffecterValue { effecter, value } => {
-                self.set_speed(*effecter, value.value())?;
-                Ok(Answer::SetNumericEffecterValue)
-            }
+            Command::SetNumericEffecterValue { effecter, value } => self.set_speed(
+                *effecter, *value,
+            ),
             Command::GetNumericEffecterValue { effecter } => self.read_effecter(*effecter),
             _ => Err(BoardFault::UnknownCommand),
         }
@@ -162,7 +161,8 @@ impl Board {
 
     /// Reads the thermometer.
     fn read_sensor(&mut self, sensor: u16) -> Result<Answer, BoardFault>
-        ensures { IfOk result (λ answer. IsAnswerTo (of_type PLATFORM GET_SENSOR_READING) answer) }
+        ensures answer { (rearm : ℕ) → answer_of result ≡ answer_now self.old (Command.GetSensorReading sensor rearm) }
+        ensures after { (rearm : ℕ) → self.new ≡ left_now self.old (Command.GetSensorReading sensor rearm) }
     {
         if sensor != THERMOMETER {
             return Err(BoardFault::UnknownId);
@@ -180,7 +180,8 @@ impl Board {
 
     /// Reads the speed of a fan.
     fn read_effecter(&mut self, effecter: u16) -> Result<Answer, BoardFault>
-        ensures { IfOk result (λ answer. IsAnswerTo (of_type PLATFORM GET_NUMERIC_EFFECTER_VALUE) answer) }
+        ensures answer { answer_of result ≡ answer_now self.old (Command.GetNumericEffecterValue effecter) }
+        ensures after { self.new ≡ left_now self.old (Command.GetNumericEffecterValue effecter) }
     {
         let fan = fan_of(effecter)?;
         self.transfer()?;
@@ -194,19 +195,26 @@ impl Board {
         }
     }
 
-    /// Sets the speed of a fan in percent.
-    fn set_speed(&mut self, effecter: u16, percent: i64) -> Result<(), BoardFault> {
+    /// Sets the speed of a fan in percent. A transfer that fails leaves it.
+    fn set_speed(&mut self, effecter: u16, value: Number) -> Result<Answer, BoardFault>
+        ensures answer { answer_of result ≡ answer_now self.old (Command.SetNumericEffecterValue effecter value) }
+        ensures after { self.new ≡ left_now self.old (Command.SetNumericEffecterValue effecter value) }
+    {
         let fan = fan_of(effecter)?;
+        let percent = value.value();
         if percent < 0 || percent > FULL_SPEED {
             return Err(BoardFault::NoSpeed);
         }
         self.transfer()?;
         self.speeds[fan] = percent as u8;
-        Ok(())
+        Ok(Answer::SetNumericEffecterValue)
     }
 
     /// Moves bytes over the bus. Each fourth transfer fails.
-    fn transfer(&mut self) -> Result<(), BoardFault> {
+    fn transfer(&mut self) -> Result<(), BoardFault>
+        ensures outcome { result ≡ (if is_bus_failing self.old then Err BoardFault.Bus else Ok tt) }
+        ensures counted { self.new ≡ transferred self.old }
+    {
         if self.transfers >= GOOD_TRANSFERS {
             self.transfers = 0;
             return Err(BoardFault::Bus);
@@ -216,20 +224,29 @@ impl Board {
     }
 }
 
-/// The number of the fan with this effecter ID.
-fn fan_of(effecter: u16) -> Result<usize, BoardFault>
-    ensures { IfOk result (λ fan. fan < FANS) }
+/// How many fans stand still.
+fn still_fans(speeds: &[u8; FANS]) -> u64
+    ensures value { result ≡ count_by (λ speed. speed == 0) speeds.now }
+    ensures few { result ≤ FANS }
 {
-    match effecter {
-        1 => Ok(0),
-        2 => Ok(1),
-        _ => Err(BoardFault::UnknownId),
+    speeds.iter().filter(|speed| **speed == 0).count() as u64
+}
+
+/// The place of the fan with this effecter ID.
+fn fan_of(effecter: u16) -> Result<usize, BoardFault>
+    ensures fan { result ≡ fan_of effecter }
+    ensures range { IfOk result (λ fan. fan < FANS) }
+{
+    let number = usize::from(effecter);
+    if number < 1 || number > FANS {
+        return Err(BoardFault::UnknownId);
     }
+    Ok(number - 1)
 }
 
 /// The byte as a number of the data size uint8.
 fn byte_number(value: u8) -> Number
-    ensures { result ≡ sized Size.Uint8 (pos value) }
+    ensures { result ≡ byte_number value }
 {
     match Number::new(Size::Uint8, value.into()) {
         Some(number) => number,

@@ -32,7 +32,8 @@ pub fn serve(
     requires idle { endpoint.old.asks ≡ map.empty }
     requires later { (held_of endpoint.old.station).last ≤ now }
     ensures served { IfOk result
-        (λ outcome. IsServed (held_of endpoint.old.station) (held_of endpoint.new.station) now packet.now outcome) }
+        (λ outcome. IsServed (held_of endpoint.old.station) board.old now packet.now
+        (held_of endpoint.new.station) board.new outcome) }
     ensures refused { IfErr result (λ refusal.
         IsOfMemory refusal ⊎ (refused_by endpoint.old now packet.now ≡ Some refusal)) }
     ensures memory { IfErr result (λ refusal. IsOfMemory refusal
@@ -40,6 +41,7 @@ pub fn serve(
         ⊎ IsCommanded (held_of endpoint.old.station) now packet.now) }
     ensures err { OnErr result
         (IsHeld (bare (held_of endpoint.new.station)) (bare (held_of endpoint.old.station))) }
+    ensures board { OnErr result (board.new ≡ board.old) }
     ensures idle { endpoint.new.asks ≡ map.empty }
 {
     answers_come_in_turn();

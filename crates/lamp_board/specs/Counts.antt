@@ -1,4 +1,4 @@
--- A count of the commands that were performed, which stays at the most that 32 bits tell.
+-- A count of commands, which stays at the most that 32 bits tell.
 use Rattle.std.specs.Prelude.{◌≡◌, ℕ, ◌+◌, List, [], ◌++◌, length, min}
 use Rattle.std.proofs.Common.{ap, sym, add-zero, arith, length-append}
 use Rattle.pldm_wire.specs.declared.command.Command.{Command}
@@ -6,6 +6,10 @@ use Rattle.pldm_wire.specs.declared.command.Command.{Command}
 -- the most that 32 bits tell
 abbrev pub MAX_COUNTED : ℕ
 MAX_COUNTED = 4294967295
+
+-- the count after one command more
+abbrev pub counted : ℕ → ℕ
+counted count = min (count + 1) MAX_COUNTED
 
 -- the count rises by one for each command, up to the most that it can tell
 abbrev pub Counts : ℕ → List Command → ℕ → Type 0

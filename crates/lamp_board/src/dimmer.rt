@@ -1,8 +1,9 @@
 //! A lamp that may want memory, and that counts what it performs.
 
-ghost use Rattle.std.specs.Prelude.{◌≡◌, false, pos, IfOk};
+ghost use Rattle.std.specs.Prelude.{◌≡◌, false, pos, IfOk, OnOk, OnErr};
 ghost use Rattle.pldm_wire.specs.Numbers.{sized};
-ghost use Rattle.lamp_board.specs.Counts.{Counts, counts_in_turn, counts_none};
+ghost use Rattle.pldm_platform.specs.Changes.{Changes};
+ghost use Rattle.lamp_board.specs.Counts.{Counts, counted, counts_in_turn, counts_none};
 ghost use Rattle.lamp_board.specs.Lamps.{lamp_after, lamp_answer, lamp_answers, lamp_reads_only, lamp_refusal, lamp_sensed};
 
 use crate::lighting::{SENSOR, after, answer, level_of};
@@ -34,7 +35,8 @@ impl Dimmer {
     /// `AllocError` where the box for its level was refused.
     pub fn new(alloc: Global) -> Result<Dimmer, AllocError>
         ensures level { IfOk result (λ dimmer. dimmer.level.value ≡ sized Size.Uint8 (pos 0)) }
-        ensures counts { IfOk result (λ dimmer. dimmer.performed ≡ 0) }
+        ensures asked { IfOk result (λ dimmer. dimmer.asked ≡ 0) }
+        ensures performed { IfOk result (λ dimmer. dimmer.performed ≡ 0) }
     {
         let level = match level_of(0) {
             Some(level) => level,
@@ -97,7 +99,16 @@ impl Platform for Dimmer {
     ghost performed_in_turn = { λ first second third before after one other.
         counts_in_turn first.performed second.performed third.performed before after one other };
 
-    fn perform(&mut self, alloc: Global, command: &Command) -> Result<Answer, Memory> {
+    /// What the trait says of it, and what the two counts are: a command that wanted memory was asked, and is not
+    /// performed.
+    fn perform(&mut self, alloc: Global, command: &Command) -> Result<Answer, Memory>
+        ensures answered { IfOk result (λ given. given ≡ lamp_answer self.old.level.value command.now) }
+        ensures changed { OnOk result (self.new.level.value ≡ lamp_after self.old.level.value command.now) }
+        ensures unchanged { OnErr result (self.new.level.value ≡ self.old.level.value) }
+        ensures performs { OnOk result (self.new.performed ≡ counted self.old.performed) }
+        ensures performs_none { OnErr result (self.new.performed ≡ self.old.performed) }
+        ensures asked { self.new.asked ≡ counted self.old.asked }
+    {
         self.asked = self.asked.saturating_add(1);
         let given = answer(*self.level, command);
         if let Command::SetNumericEffecterValue { .. } = command {
@@ -107,7 +118,13 @@ impl Platform for Dimmer {
         Ok(given)
     }
 
-    fn set_reading(&mut self, id: u16, value: i64) -> Result<(), ReadingFault> {
+    /// What the trait says of it. It counts nothing.
+    fn set_reading(&mut self, id: u16, value: i64) -> Result<(), ReadingFault>
+        ensures changes { Changes (lamp_sensed self.old.level.value id value) self.old.level.value result
+            self.new.level.value }
+        ensures performs_none { self.new.performed ≡ self.old.performed }
+        ensures asked { self.new.asked ≡ self.old.asked }
+    {
         if id != SENSOR {
             return Err(ReadingFault::NoSuchSensor);
         }
