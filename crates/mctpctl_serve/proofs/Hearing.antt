@@ -5,12 +5,12 @@ use Rattle.std.specs.List.{FoldsTo}
 use Rattle.std.proofs.KnownBytes.{Appends-kept, Appends-trans, Appends-nil, Consumes-trans, Consumes-nil, Consumes-whole}
 use Rattle.mctp_serial.specs.Readings.{Reading, Step, step, after, events_in, then_event}
 use Rattle.mctp_serial.specs.declared.reader.FrameEvent.{FrameEvent}
-use Rattle.mctp_serial.specs.declared.reader.FrameEvent.TheVariants.{Nothing, Packet, Dropped}
+use Rattle.mctp_serial.specs.declared.reader.FrameEvent.TheVariants.{Packet}
 use Rattle.mctpctl_input.specs.CaptureLine.{TimedPacket}
 use Rattle.mctpctl_serve.proofs.EventsTold.{frames_told-append, folds-append}
 use Rattle.mctpctl_serve.proofs.FramesRead.{events-append, packets-append, after-append}
 use Rattle.mctpctl_serve.specs.Events.{Told}
-use Rattle.mctpctl_serve.specs.Heard.{Shown, HearsAt, HearsPacket, Hears, HearsFront, Stops}
+use Rattle.mctpctl_serve.specs.Heard.{Shown, HearsPacket, Hears, HearsFront, Stops}
 use Rattle.mctpctl_serve.specs.Serving.{packets_of, packets_in, moment_after, timed, Answerers, packet_frames, packet_after, packets_after, answers, came}
 use Rattle.mctpctl_serve.specs.Told.{bytes_told, frames_told, packet_told}
 use Rattle.mctpctl_serve.specs.declared.fault.ServeFault.{ServeFault}

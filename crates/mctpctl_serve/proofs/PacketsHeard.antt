@@ -1,5 +1,5 @@
 -- A packet was heard as it came at the responder, at the moment of its reading.
-use Rattle.std.proofs.Common.{◌≡◌, ℕ, List, [], ◌∷◌, Option, sym, ap, subst, ◌∙◌}
+use Rattle.std.proofs.Common.{◌≡◌, ℕ, List, [], ◌∷◌, sym, ap, subst, ◌∙◌}
 use Rattle.std.specs.Io.KnownBytes.{Appends, Consumes}
 use Rattle.std.specs.List.{FoldsTo}
 use Rattle.mctpctl_serve.specs.Events.{Told, Came}

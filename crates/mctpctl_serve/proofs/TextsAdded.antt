@@ -1,5 +1,5 @@
 -- A text is added to a log that is open, or there was no memory for it.
-use Rattle.std.proofs.Common.{◌≡◌, ◌≢◌, ℕ, Bool, true, false, List, [], Option, None, Result, Ok, Err, IfOk, OnErr, MatchResult, sym, subst, ◌∙◌, inr}
+use Rattle.std.proofs.Common.{◌≡◌, ◌≢◌, ℕ, true, false, List, [], Option, None, Result, Ok, Err, IfOk, OnErr, MatchResult, sym, subst, ◌∙◌, inr}
 use Rattle.mctpctl_serve.specs.Logs.{AddsText}
 use Rattle.mctpctl_serve.specs.declared.log.TextLog.{TextLog}
 
