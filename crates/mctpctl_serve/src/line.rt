@@ -200,6 +200,7 @@ fn hear_piece<P: Platform, C: Ticks, L: Watch, W: Write>(
 
 /// Serves a line until its input ends: each packet whose frame ends is answered at its moment, and the
 /// frames of its answer are written and flushed before more is read. There is no limit of the input.
+/// The watcher is told of each frame that was none, of each packet that came, and of what became of it.
 ///
 /// # Errors
 ///
