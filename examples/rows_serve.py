@@ -200,24 +200,50 @@ def terminal_of_the_help(rows, place):
     rows.check("a terminal that stty makes raw", answer == frame(ANSWER), repr(answer))
 
 
+# An effecter is set to 40 and to 50 and asked for its value twice, each with an instance ID of its own; the answers.
+SET_40, SET_50 = map(bytes.fromhex, ("010908c90181023101000028", "010908ca0182023101000032"))
+ASK, ASK_AGAIN = map(bytes.fromhex, ("010908cb018302320100", "010908cc018402320100"))
+DONE_40, DONE_50 = map(bytes.fromhex, ("010809c10101023100", "010809c20102023100"))
+AT_50, AT_40 = map(bytes.fromhex, ("010809c3010302320000013232", "010809c4010402320000012828"))
+
+
+def keeping(place, milliseconds):
+    """The device's description with another keeping time."""
+    with open(place.device) as file:
+        text = file.read()
+    return place.write(f"keeps_{milliseconds}.toml", text.replace("keep_ms = 1000", f"keep_ms = {milliseconds}"))
+
+
+def told(served, asked, wanted):
+    """Whether a program that runs answers these packets by those."""
+    served.stdin.write(b"".join(map(frame, asked)))
+    want = b"".join(map(frame, wanted))
+    return wait_for(served.stdout.fileno(), len(want)) == want
+
+
 def copies(rows, place):
     """The clock is the one of the keeping time: a copy within it has the kept answer, and after it is performed."""
-    short = place.write("short.toml", open(place.device).read().replace("keep_ms = 1000", "keep_ms = 300"))
-    set_40, set_50 = map(bytes.fromhex, ("010908c90181023101000028", "010908ca0182023101000032"))
-    ask, ask_again = map(bytes.fromhex, ("010908cb018302320100", "010908cc018402320100"))
-    done_40, done_50 = map(bytes.fromhex, ("010809c10101023100", "010809c20102023100"))
-    at_50, at_40 = map(bytes.fromhex, ("010809c3010302320000013232", "010809c4010402320000012828"))
-    served = place.start(device=short)
-    out = served.stdout.fileno()
-    served.stdin.write(b"".join(map(frame, (set_40, set_50, set_40, ask))))
-    want = b"".join(map(frame, (done_40, done_50, done_40, at_50)))
-    got = wait_for(out, len(want))
-    rows.check("a copy within the keeping time", got == want, got.hex())
+    served = place.start(device=keeping(place, 300))
+    well = told(served, (SET_40, SET_50, SET_40, ASK), (DONE_40, DONE_50, DONE_40, AT_50))
+    rows.check("a copy within the keeping time", well, "it was performed")
     time.sleep(0.4)
-    served.stdin.write(frame(set_40) + frame(ask_again))
-    want = frame(done_40) + frame(at_40)
-    got = wait_for(out, len(want))
-    rows.check("the same packet after the keeping time", got == want, got.hex())
+    well = told(served, (SET_40, ASK_AGAIN), (DONE_40, AT_40))
+    rows.check("the same packet after the keeping time", well, "it was not performed")
+    served.communicate(timeout=SECONDS)
+
+
+def copies_in_turn(rows, place):
+    """The clock goes on from the start: a packet, a copy after half the keeping time, and the same packet once more,
+    which is past the keeping time of the first and within that time of the copy. It is performed."""
+    served = place.start(device=keeping(place, 600))
+    well = told(served, (SET_40, SET_50), (DONE_40, DONE_50))
+    rows.check("two packets at first", well, "they were not answered")
+    time.sleep(0.3)
+    well = told(served, (SET_40, ASK), (DONE_40, AT_50))
+    rows.check("a copy after half the keeping time", well, "it was performed")
+    time.sleep(0.4)
+    well = told(served, (SET_40, ASK_AGAIN), (DONE_40, AT_40))
+    rows.check("the same packet within that time of its copy", well, "it was not performed")
     served.communicate(timeout=SECONDS)
 
 
@@ -410,8 +436,8 @@ def described_control(rows, place):
     rows.check("control: `answer` ignores the table", (ran.returncode, ran.stdout, ran.stderr) == want, repr(ran))
 
 
-PARTS = (large, no_frames, escapes, open_pipe, terminal, terminal_of_the_help, copies, refusals, broken_line, watched)
-PARTS += (control, described_control)
+PARTS = (large, no_frames, escapes, open_pipe, terminal, terminal_of_the_help, copies, copies_in_turn, refusals)
+PARTS += (broken_line, watched, control, described_control)
 
 
 def check(rows, program, here, device):

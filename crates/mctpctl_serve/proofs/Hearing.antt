@@ -1,42 +1,20 @@
 -- What is heard of bytes, and of more bytes.
-use Rattle.std.proofs.Common.{Result, Ok, Err, OnOk, ◌≡◌, ℕ, List, [], ◌∷◌, ◌++◌, length, Option, Some, None, IfSome, refl, sym, ap, subst, take, ◌∙◌, append_assoc, append-nil, length-append, arith}
+use Rattle.std.proofs.Common.{Result, Ok, Err, OnErr, OnOk, ◌≡◌, ℕ, List, [], ◌∷◌, ◌++◌, length, Option, Some, None, IfSome, refl, sym, ap, subst, take, ◌∙◌, append_assoc, append-nil, length-append, arith}
 use Rattle.std.specs.Io.KnownBytes.{Appends, Consumes, Keeps, IsAtEnd}
+use Rattle.std.specs.List.{FoldsTo}
 use Rattle.std.proofs.KnownBytes.{Appends-kept, Appends-trans, Appends-nil, Consumes-trans, Consumes-nil, Consumes-whole}
-use Rattle.mctp_control.specs.declared.endpoint.Endpoint.{Endpoint}
 use Rattle.mctp_serial.specs.Readings.{Reading, Step, step, after, events_in, then_event}
 use Rattle.mctp_serial.specs.declared.reader.FrameEvent.{FrameEvent}
-use Rattle.mctp_serial.specs.declared.reader.FrameEvent.TheVariants.{Nothing, Packet, Dropped}
+use Rattle.mctp_serial.specs.declared.reader.FrameEvent.TheVariants.{Packet}
 use Rattle.mctpctl_input.specs.CaptureLine.{TimedPacket}
-use Rattle.mctpctl_serve.specs.Serving.{packets_of, packets_in, moment_after, timed, Answerers, answerers, packet_frames, packet_after, packets_after, control_after, frames_of, answers, came, Hears, HearsFront}
-use Rattle.pldm_responder.specs.Held.{Held}
+use Rattle.mctpctl_serve.proofs.EventsTold.{frames_told-append, folds-append}
+use Rattle.mctpctl_serve.proofs.FramesRead.{events-append, packets-append, after-append}
+use Rattle.mctpctl_serve.specs.Events.{Told}
+use Rattle.mctpctl_serve.specs.Heard.{Shown, HearsPacket, Hears, HearsFront, Stops}
+use Rattle.mctpctl_serve.specs.Serving.{packets_of, packets_in, moment_after, timed, Answerers, packet_frames, packet_after, packets_after, answers, came}
+use Rattle.mctpctl_serve.specs.Told.{bytes_told, frames_told, packet_told}
+use Rattle.mctpctl_serve.specs.declared.fault.ServeFault.{ServeFault}
 use Rattle.pldm_responder.specs.Performing.{Rules}
-use Rattle.pldm_responder.specs.Steps.{received_held, received_outcome}
-
--- the packet of one word, if it tells one
-packet_of : FrameEvent → List (List ℕ)
-packet_of Nothing = []
-packet_of (Packet packet) = packet.items ∷ []
-packet_of (Dropped fault) = []
-
-packets-then : (t : FrameEvent) (told : List FrameEvent) → packets_of (then_event t told) ≡ packet_of t ++ packets_of told
-unfolding packet_of
-packets-then Nothing told = refl
-packets-then (Packet packet) told = refl
-packets-then (Dropped fault) told = refl
-
-packets-append : (r : Reading) (a b : List ℕ) → packets_in r (a ++ b) ≡ packets_in r a ++ packets_in (after r a) b
-packets-append r [] b = refl
-packets-append r (c ∷ a) b =
-    let t = (step r c).told in
-    let next = (step r c).next in
-    packets-then t (events_in next (a ++ b))
-    ∙ ap (λ l. packet_of t ++ l) (packets-append next a b)
-    ∙ sym (append_assoc (packet_of t) (packets_in next a) (packets_in (after next a) b))
-    ∙ ap (λ l. l ++ packets_in (after next a) b) (sym (packets-then t (events_in next a)))
-
-after-append : (r : Reading) (a b : List ℕ) → after r (a ++ b) ≡ after (after r a) b
-after-append r [] b = refl
-after-append r (c ∷ a) b = after-append (step r c).next a b
 
 module _ {S : Type 0} (device : Rules S) where
   timed-append : (a : Answerers S) (rs ss : List ℕ) (ps qs : List (List ℕ)) → length rs ≡ length ps
@@ -60,124 +38,150 @@ module _ {S : Type 0} (device : Rules S) where
       ap (λ l. first ++ l) (answers-append next xs ys)
       ∙ sym (append_assoc first (answers device next xs) (answers device (packets_after device next xs) ys))
 
-  pub hears_nothing : (a : Answerers S) (r : Reading) (clock old : Option (List ℕ)) → Hears device a r [] a r clock clock old old
-  hears_nothing a r clock old = record {
+module _ {S L : Type 0} (device : Rules S) (sees : L → Told → L → Type 0) where
+  pub hears_nothing : (s : Shown S L) → Hears device sees s [] s
+  hears_nothing s = record {
     readings = [];
     each = refl;
-    ticked = Consumes-nil clock;
+    ticked = Consumes-nil s.clock;
     reader = refl;
     answer = refl;
-    wrote = Appends-nil old;
+    wrote = Appends-nil s.written;
+    told = refl;
   }
 
-  joined : (a : Answerers S) (r : Reading) (xs ys rs : List ℕ) (a2 : Answerers S) (r2 : Reading) (c0 c1 c2 w0 w1 w2 : Option (List ℕ))
-      → length rs ≡ length (packets_in r xs) → Consumes c0 c1 rs → Appends w0 w1 (answers device a (came device a r xs rs))
-      → Hears device (packets_after device a (came device a r xs rs)) (after r xs) ys a2 r2 c1 c2 w1 w2
-      → Hears device a r (xs ++ ys) a2 r2 c0 c2 w0 w2
-  joined a r xs ys rs a2 r2 c0 c1 c2 w0 w1 w2 each ticked wrote g =
+  joined : (s : Shown S L) (xs ys rs : List ℕ) (c1 w1 : Option (List ℕ)) (v1 : L) (s2 : Shown S L)
+      → length rs ≡ length (packets_in s.reading xs) → Consumes s.clock c1 rs
+      → Appends s.written w1 (answers device s.answering (came device s.answering s.reading xs rs))
+      → FoldsTo sees s.watch (bytes_told device s.answering s.reading xs rs) v1
+      → Hears device sees
+      (record {
+        answering = packets_after device s.answering (came device s.answering s.reading xs rs);
+        reading = after s.reading xs;
+        clock = c1;
+        written = w1;
+        watch = v1;
+      }) ys s2
+      → Hears device sees s (xs ++ ys) s2
+  joined s xs ys rs c1 w1 v1 s2 each ticked wrote told g =
+      let a = s.answering in
+      let r = s.reading in
       let first = came device a r xs rs in
       let middle = packets_after device a first in
       let second = came device middle (after r xs) ys g.readings in
       let all : came device a r (xs ++ ys) (rs ++ g.readings) ≡ first ++ second =
       ap (timed a.held.last (rs ++ g.readings)) (packets-append r xs ys)
-      ∙ timed-append a rs g.readings (packets_in r xs) (packets_in (after r xs) ys) each in
+      ∙ timed-append device a rs g.readings (packets_in r xs) (packets_in (after r xs) ys) each in
+      let all_told : bytes_told device a r (xs ++ ys) (rs ++ g.readings) ≡ bytes_told device a r xs rs ++ bytes_told device middle (after r xs) ys g.readings =
+      ap (λ (es : List FrameEvent). frames_told device a es (rs ++ g.readings)) (events-append r xs ys)
+      ∙ frames_told-append device a (events_in r xs) (events_in (after r xs) ys) rs g.readings each in
       record {
         readings = rs ++ g.readings;
         each =
             length-append rs g.readings
             ∙ omega (arith, each, g.each, length-append (packets_in r xs) (packets_in (after r xs) ys))
             ∙ ap (λ (l : List (List ℕ)). length l) (sym (packets-append r xs ys));
-        ticked = Consumes-trans c0 c1 c2 rs g.readings ticked g.ticked;
+        ticked = Consumes-trans s.clock c1 s2.clock rs g.readings ticked g.ticked;
         reader = g.reader ∙ sym (after-append r xs ys);
-        answer = g.answer ∙ sym (after-packets a first second) ∙ ap (packets_after device a) (sym all);
+        answer = g.answer ∙ sym (after-packets device a first second) ∙ ap (packets_after device a) (sym all);
         wrote =
-            subst (Appends w0 w2) (sym (ap (answers device a) all ∙ answers-append a first second))
-            (Appends-trans w0 w1 w2 (answers device a first) (answers device middle second) wrote g.wrote);
+            subst (Appends s.written s2.written) (sym (ap (answers device a) all ∙ answers-append device a first second))
+            (Appends-trans s.written w1 s2.written (answers device a first) (answers device middle second) wrote g.wrote);
+        told =
+            subst (λ (l : List Told). FoldsTo sees s.watch l s2.watch) (sym all_told)
+            (folds-append sees s.watch (bytes_told device a r xs rs) v1 (bytes_told device middle (after r xs) ys g.readings) s2.watch told g.told);
       }
 
-  pub hears_after : (a : Answerers S) (r : Reading) (xs ys : List ℕ) (a1 : Answerers S) (r1 : Reading) (a2 : Answerers S) (r2 : Reading) (c0 c1 c2 w0 w1 w2 : Option (List ℕ))
-      → Hears device a r xs a1 r1 c0 c1 w0 w1 → Hears device a1 r1 ys a2 r2 c1 c2 w1 w2
-      → Hears device a r (xs ++ ys) a2 r2 c0 c2 w0 w2
-  hears_after a r xs ys a1 r1 a2 r2 c0 c1 c2 w0 w1 w2 f g =
-      joined a r xs ys f.readings a2 r2 c0 c1 c2 w0 w1 w2 f.each f.ticked f.wrote
-      (subst (λ h. Hears device h (after r xs) ys a2 r2 c1 c2 w1 w2) f.answer (subst (λ s. Hears device a1 s ys a2 r2 c1 c2 w1 w2) f.reader g))
+  pub hears_after : (s : Shown S L) (xs ys : List ℕ) (s1 s2 : Shown S L)
+      → Hears device sees s xs s1 → Hears device sees s1 ys s2 → Hears device sees s (xs ++ ys) s2
+  hears_after s xs ys s1 s2 f g =
+      joined s xs ys f.readings s1.clock s1.written s1.watch s2 f.each f.ticked f.wrote f.told
+      (subst (λ (h : Answerers S). Hears device sees (record s1 { answering = h; reading = after s.reading xs }) ys s2) f.answer
+      (subst (λ (r : Reading). Hears device sees (record s1 { reading = r }) ys s2) f.reader g))
 
   -- a byte that tells no packet
-  pub hears_silent : (a : Answerers S) (r : Reading) (byte : ℕ) (t : FrameEvent) (next : Reading) (clock old : Option (List ℕ))
-      → step r byte ≡ record { told = t; next = next } → packets_of (then_event t []) ≡ []
-      → Hears device a r (byte ∷ []) a next clock clock old old
-  hears_silent a r byte t next clock old e silent = record {
+  pub hears_silent : (s : Shown S L) (byte : ℕ) (t : FrameEvent) (next : Reading) (watch1 : L)
+      → step s.reading byte ≡ record { told = t; next = next } → packets_of (then_event t []) ≡ []
+      → FoldsTo sees s.watch (frames_told device s.answering (then_event t []) []) watch1
+      → Hears device sees s (byte ∷ []) (record s { reading = next; watch = watch1 })
+  hears_silent s byte t next watch1 e silent told = record {
     readings = [];
-    each = ap (λ (l : List (List ℕ)). length l) (sym (ap (λ (s : Step). packets_of (then_event s.told [])) e ∙ silent));
-    ticked = Consumes-nil clock;
-    reader = sym (ap (λ (s : Step). s.next) e);
+    each = ap (λ (l : List (List ℕ)). length l) (sym (ap (λ (st : Step). packets_of (then_event st.told [])) e ∙ silent));
+    ticked = Consumes-nil s.clock;
+    reader = sym (ap (λ (st : Step). st.next) e);
     answer = refl;
-    wrote = Appends-nil old;
+    wrote = Appends-nil s.written;
+    told = subst (λ (st : Step). FoldsTo sees s.watch (frames_told device s.answering (then_event st.told []) []) watch1) (sym e) told;
   }
 
   -- a byte that ends a packet's frame
-  pub hears_packet : (a : Answerers S) (r : Reading) (byte : ℕ) (packet : List ℕ) (next : Reading) (reading : ℕ) (held1 : Held S) (control1 : Endpoint) (clock clock1 old new : Option (List ℕ))
-      → step r byte ≡ record { told = Packet (record { items = packet }); next = next }
-      → Consumes clock clock1 (reading ∷ [])
-      → held1 ≡ received_held device a.held (moment_after a.held.last reading) packet
-      → control1 ≡ control_after a.control packet (received_outcome device a.held (moment_after a.held.last reading) packet)
-      → Appends old new (frames_of a.control packet (received_outcome device a.held (moment_after a.held.last reading) packet))
-      → Hears device a r (byte ∷ []) (answerers held1 control1) next clock clock1 old new
-  hears_packet a r byte packet next reading held1 control1 clock clock1 old new e ticked responder control wrote =
-      let moment = moment_after a.held.last reading in
-      let one : packets_in r (byte ∷ []) ≡ packet ∷ [] = ap (λ (s : Step). packets_of (then_event s.told [])) e in
-      let timed_one : came device a r (byte ∷ []) (reading ∷ []) ≡ record { moment = moment; bytes = packet } ∷ [] = ap (timed a.held.last (reading ∷ [])) one in
+  pub hears_packet : (s : Shown S L) (byte : ℕ) (packet : List ℕ) (next : Reading) (s1 : Shown S L)
+      → step s.reading byte ≡ record { told = Packet (record { items = packet }); next = next } → s1.reading ≡ next
+      → HearsPacket device sees (record s { reading = next }) packet s1 → Hears device sees s (byte ∷ []) s1
+  hears_packet s byte packet next s1 e read h =
+      let a = s.answering in
+      let r = s.reading in
+      let moment = moment_after a.held.last h.reading in
+      let one : packets_in r (byte ∷ []) ≡ packet ∷ [] = ap (λ (st : Step). packets_of (then_event st.told [])) e in
+      let timed_one : came device a r (byte ∷ []) (h.reading ∷ []) ≡ record { moment = moment; bytes = packet } ∷ [] = ap (timed a.held.last (h.reading ∷ [])) one in
       let text = packet_frames device a moment packet in
+      let events = packet_told device a moment packet in
+      let told_one : bytes_told device a r (byte ∷ []) (h.reading ∷ []) ≡ events =
+      ap (λ (st : Step). frames_told device a (then_event st.told []) (h.reading ∷ [])) e ∙ append-nil events in
       record {
-        readings = reading ∷ [];
+        readings = h.reading ∷ [];
         each = ap (λ (l : List (List ℕ)). length l) (sym one);
-        ticked = ticked;
-        reader = sym (ap (λ (s : Step). s.next) e);
-        answer =
-            ap (λ h. answerers h control1) responder
-            ∙ ap (answerers (received_held device a.held moment packet)) control
-            ∙ ap (packets_after device a) (sym timed_one);
-        wrote = subst (Appends old new) (sym (append-nil text) ∙ ap (answers device a) (sym timed_one)) wrote;
+        ticked = h.ticked;
+        reader = read ∙ sym (ap (λ (st : Step). st.next) e);
+        answer = h.heard.answer ∙ ap (packets_after device a) (sym timed_one);
+        wrote = subst (Appends s.written s1.written) (sym (append-nil text) ∙ ap (answers device a) (sym timed_one)) h.heard.wrote;
+        told = subst (λ (l : List Told). FoldsTo sees s.watch l s1.watch) (sym told_one) h.heard.told;
       }
 
-  hears_kept : (a : Answerers S) (r : Reading) (xs : List ℕ) (a1 : Answerers S) (r1 : Reading) (c0 c1 w0 w1 w2 : Option (List ℕ))
-      → Hears device a r xs a1 r1 c0 c1 w0 w1 → Keeps w1 w2 → Hears device a r xs a1 r1 c0 c1 w0 w2
-  hears_kept a r xs a1 r1 c0 c1 w0 w1 w2 f kept = record {
+  hears_kept : (s : Shown S L) (xs : List ℕ) (s1 : Shown S L) (w2 : Option (List ℕ))
+      → Hears device sees s xs s1 → Keeps s1.written w2 → Hears device sees s xs (record s1 { written = w2 })
+  hears_kept s xs s1 w2 f kept = record {
     readings = f.readings;
     each = f.each;
     ticked = f.ticked;
     reader = f.reader;
     answer = f.answer;
-    wrote = Appends-kept w0 w1 w2 (answers device a (came device a r xs f.readings)) f.wrote kept;
+    wrote = Appends-kept s.written s1.written w2 (answers device s.answering (came device s.answering s.reading xs f.readings)) f.wrote kept;
+    told = f.told;
   }
 
   -- what was heard is a front of all
-  pub front_heard : (a : Answerers S) (r : Reading) (xs : List ℕ) (a1 : Answerers S) (r1 : Reading) (all back c0 c1 w0 w1 w2 : Option (List ℕ))
-      → Consumes all back xs → Hears device a r xs a1 r1 c0 c1 w0 w1 → Keeps w1 w2 → HearsFront device a r all c0 w0 w2
-  front_heard a r xs a1 r1 all back c0 c1 w0 w1 w2 are f kept = record {
+  pub front_heard : (s : Shown S L) (xs : List ℕ) (s1 : Shown S L) (all back : Option (List ℕ)) (fault : ServeFault) (s2 : Shown S L)
+      → Consumes all back xs → Hears device sees s xs s1 → Stops sees fault s1 s2 → HearsFront device sees s all fault s2
+  front_heard s xs s1 all back fault s2 are f stops = record {
     front = xs;
     back = back;
     all_are = are;
-    a1 = a1;
-    reading1 = r1;
-    clock1 = c1;
-    hears = hears_kept a r xs a1 r1 c0 c1 w0 w1 w2 f kept;
+    answering1 = s1.answering;
+    reading1 = s1.reading;
+    clock1 = s1.clock;
+    watch1 = s1.watch;
+    hears = hears_kept s xs s1 s2.written f stops.kept;
+    told = stops.told;
   }
 
   -- so is what was heard of a piece, after what was heard before
-  pub front_after : (a : Answerers S) (r : Reading) (xs : List ℕ) (a1 : Answerers S) (r1 : Reading) (all now end c0 c1 w0 w1 w2 : Option (List ℕ)) (piece : List ℕ)
-      → Consumes all now xs → Consumes now end piece → Hears device a r xs a1 r1 c0 c1 w0 w1
-      → HearsFront device a1 r1 (Some piece) c1 w1 w2 → HearsFront device a r all c0 w0 w2
-  front_after a r xs a1 r1 all now end c0 c1 w0 w1 w2 piece before read f g =
+  pub front_after : (s : Shown S L) (xs : List ℕ) (s1 : Shown S L) (all now end : Option (List ℕ)) (piece : List ℕ) (fault : ServeFault) (s2 : Shown S L)
+      → Consumes all now xs → Consumes now end piece → Hears device sees s xs s1
+      → HearsFront device sees s1 (Some piece) fault s2 → HearsFront device sees s all fault s2
+  front_after s xs s1 all now end piece fault s2 before read f g =
       let rest = found all now end xs piece g.front g.back before read g.all_are in
+      let middle : Shown S L = record { answering = g.answering1; reading = g.reading1; clock = g.clock1; written = s2.written; watch = g.watch1 } in
       record {
         front = xs ++ g.front;
         back = rest.0;
         all_are = rest.1;
-        a1 = g.a1;
+        answering1 = g.answering1;
         reading1 = g.reading1;
         clock1 = g.clock1;
-        hears = hears_after a r xs g.front a1 r1 g.a1 g.reading1 c0 c1 g.clock1 w0 w1 w2 f g.hears;
+        watch1 = g.watch1;
+        hears = hears_after s xs g.front s1 middle f g.hears;
+        told = g.told;
       } where
         found : (all now end : Option (List ℕ)) (taken piece front : List ℕ) (back : Option (List ℕ))
             → Consumes all now taken → Consumes now end piece → Consumes (Some piece) back front
@@ -192,17 +196,22 @@ module _ {S : Type 0} (device : Rules S) where
         )
 
   -- at the end of the input all has been heard
-  pub all_heard : (a : Answerers S) (r : Reading) (xs : List ℕ) (a1 : Answerers S) (r1 : Reading) (all now end c0 c1 w0 w1 : Option (List ℕ)) (got : List ℕ)
-      → Consumes all now xs → Consumes now end got → got ≡ [] → IsAtEnd end → Hears device a r xs a1 r1 c0 c1 w0 w1
-      → IfSome all (λ all. Hears device a r all a1 r1 c0 c1 w0 w1)
-  all_heard a r xs a1 r1 all now end c0 c1 w0 w1 got before read none at_end f =
+  pub all_heard : (s : Shown S L) (xs : List ℕ) (s1 : Shown S L) (all now end : Option (List ℕ)) (got : List ℕ)
+      → Consumes all now xs → Consumes now end got → got ≡ [] → IsAtEnd end → Hears device sees s xs s1
+      → IfSome all (λ all. Hears device sees s all s1)
+  all_heard s xs s1 all now end got before read none at_end f =
       let same : xs ++ got ≡ xs = ap (λ l. xs ++ l) none ∙ append-nil xs in
-      Consumes-whole all end (xs ++ got) (λ all. Hears device a r all a1 r1 c0 c1 w0 w1) (Consumes-trans all now end xs got before read) at_end
-      (subst (λ l. Hears device a r l a1 r1 c0 c1 w0 w1) (sym same) f)
+      Consumes-whole all end (xs ++ got) (λ all. Hears device sees s all s1) (Consumes-trans all now end xs got before read) at_end
+      (subst (λ l. Hears device sees s l s1) (sym same) f)
 
 -- of no bytes none are taken
 pub no_bytes : (n : ℕ) (xs : List ℕ) → n ≡ 0 → take n xs ≡ []
 no_bytes n xs e = rw e refl
+
+-- a fact stands at `Err` too
+pub on_err : {A E : Type 0} (r : Result A E) (P : Type 0) → P → OnErr r P
+on_err (Ok value) P h = tt
+on_err (Err fault) P h = h
 
 -- a fact at `Ok` that follows from another
 pub on_ok : {A E : Type 0} (r : Result A E) (P Q : Type 0) → (P → Q) → OnOk r P → OnOk r Q

@@ -1,13 +1,11 @@
 -- What a device that is served over a serial line writes of the bytes that come and of the clock's readings.
-use Rattle.std.specs.Prelude.{◌≡◌, ℕ, max, min}
-use Rattle.std.specs.Prelude.{List, [], ◌∷◌, ◌++◌, length, Option, None, Some}
-use Rattle.std.specs.Io.KnownBytes.{Appends, Consumes}
+use Rattle.std.specs.Prelude.{ℕ, max, min, List, [], ◌∷◌, ◌++◌, Option, None, Some}
 use Rattle.std.specs.List.{flat_map}
 use Rattle.mctp_control.specs.Dropped.{control_left, control_reply}
 use Rattle.mctp_control.specs.declared.endpoint.Endpoint.{Endpoint}
 use Rattle.mctp_packet.specs.declared.TheConstants.{MAX_MOMENT}
 use Rattle.mctp_serial.specs.Frames.{frame}
-use Rattle.mctp_serial.specs.Readings.{Reading, after, events_in}
+use Rattle.mctp_serial.specs.Readings.{Reading, events_in}
 use Rattle.mctp_serial.specs.declared.reader.FrameEvent.{FrameEvent}
 use Rattle.mctp_serial.specs.declared.reader.FrameEvent.TheVariants.{Nothing, Packet, Dropped}
 use Rattle.mctpctl_input.specs.CaptureLine.{TimedPacket}
@@ -88,23 +86,3 @@ module _ {S : Type 0} (device : Rules S) where
   -- the packets whose frames end in the bytes, at their moments
   abbrev pub came : Answerers S → Reading → List ℕ → List ℕ → List TimedPacket
   came a reading bytes readings = timed a.held.last readings (packets_in reading bytes)
-
-  -- of these bytes, with readings that the clock gave, one for each packet, the answers were written
-  pub record Hears (a : Answerers S) (reading : Reading) (bytes : List ℕ) (a1 : Answerers S) (reading1 : Reading)
-      (clock clock1 old new : Option (List ℕ)) : Type 0 where
-    pub readings : List ℕ
-    pub each : length readings ≡ length (packets_in reading bytes)
-    pub ticked : Consumes clock clock1 readings
-    pub reader : reading1 ≡ after reading bytes
-    pub answer : a1 ≡ packets_after a (came a reading bytes readings)
-    pub wrote : Appends old new (answers a (came a reading bytes readings))
-
-  -- of a front of all bytes
-  pub record HearsFront (a : Answerers S) (reading : Reading) (all clock old new : Option (List ℕ)) : Type 0 where
-    pub front : List ℕ
-    pub back : Option (List ℕ)
-    pub all_are : Consumes all back front
-    pub a1 : Answerers S
-    pub reading1 : Reading
-    pub clock1 : Option (List ℕ)
-    pub hears : Hears a reading front a1 reading1 clock clock1 old new

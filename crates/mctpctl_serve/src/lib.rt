@@ -5,6 +5,7 @@
 mod answers;
 mod events;
 mod fault;
+pub mod laws;
 mod line;
 mod log;
 mod texts;

@@ -2,17 +2,17 @@
 //! before more is read.
 
 ghost use Rattle.std.specs.Prelude.{◌≡◌, ◌≢◌, ◌↔◌, ℕ, List, [], ◌∷◌, Some, Err, IfErr, OnOk, IfSome, IsErrOf, max, min, ◌≤◌, ◌<◌, true, false};
-ghost use Rattle.std.specs.Io.KnownBytes.{Appends, Consumes, Keeps};
+ghost use Rattle.std.specs.Io.KnownBytes.{Appends, Consumes};
+ghost use Rattle.std.specs.List.{FoldsTo, flat_map};
 ghost use Rattle.mctp_control.specs.Dropped.{control_left, control_reply};
 ghost use Rattle.mctp_packet.specs.Ids.{IsMoment};
 ghost use Rattle.mctp_packet.specs.Pieces.{written_packets};
 ghost use Rattle.mctp_serial.specs.Frames.{frame};
 ghost use Rattle.mctpctl_input.specs.Ports.{inner_of, has_failed};
-ghost use Rattle.mctpctl_serve.specs.Serving.{Hears, HearsFront, answerers, control_after, frames_if, frames_of, moment_after};
+ghost use Rattle.mctpctl_serve.specs.Heard.{Hears, HearsFront, HearsPacket, HearsTaken, Stops, shown};
+ghost use Rattle.mctpctl_serve.specs.Serving.{frames_if, moment_after};
+ghost use Rattle.mctpctl_serve.specs.Told.{drop_told};
 ghost use Rattle.pldm_responder.specs.Performing.{rules_of};
-ghost use Rattle.pldm_responder.specs.Stations.{held_of};
-ghost use Rattle.pldm_responder.specs.Steps.{received_held, received_outcome};
-ghost use Rattle.std.specs.List.{flat_map};
 
 use crate::answers::frames_of;
 use crate::events::{Event, Watch};
@@ -79,19 +79,11 @@ fn hear_packet<P: Platform, C: Ticks, L: Watch, W: Write>(
     writer: &mut Port<W>,
 ) -> Result<(), ServeFault>
     requires { has_failed writer.old ≡ false }
-    ensures heard { OnOk result ((reading : ℕ)
-        × Consumes (C.to_come line.old.ticks) (C.to_come line.new.ticks) (reading ∷ [])
-        × (held_of line.new.responder ≡ received_held (rules_of P.answer P.after P.sensed) (held_of line.old.responder)
-        (moment_after (held_of line.old.responder).last reading) packet.now)
-        × (line.new.control ≡ control_after line.old.control packet.now (received_outcome
-        (rules_of P.answer P.after P.sensed) (held_of line.old.responder)
-        (moment_after (held_of line.old.responder).last reading) packet.now))
-        × Appends (W.contents (inner_of writer.old)) (W.contents (inner_of writer.new))
-        (frames_of line.old.control packet.now (received_outcome (rules_of P.answer P.after P.sensed)
-        (held_of line.old.responder) (moment_after (held_of line.old.responder).last reading) packet.now))) }
+    ensures heard { OnOk result (HearsPacket (rules_of P.answer P.after P.sensed) L.sees
+        (shown C.to_come W.contents line.old writer.old) packet.now (shown C.to_come W.contents line.new writer.new)) }
     ensures frames { line.new.frames ≡ line.old.frames }
-    ensures stopped { IfErr result (λ fault. fault ≢ ServeFault.Write
-        → Keeps (W.contents (inner_of writer.old)) (W.contents (inner_of writer.new))) }
+    ensures stopped { IfErr result (λ fault. fault ≢ ServeFault.Write → Stops L.sees fault
+        (shown C.to_come W.contents line.old writer.old) (shown C.to_come W.contents line.new writer.new)) }
     ensures read { result ≢ Err ServeFault.Read }
     ensures write { IsErrOf result ServeFault.Write ↔ (has_failed writer.new ≡ true) }
 {
@@ -136,6 +128,8 @@ fn answer_drop<L: Watch, W: Write>(
     ensures bytes { OnOk result (Appends (W.contents (inner_of writer.old)) (W.contents (inner_of writer.new))
         (frames_if (control_reply control.old reason packet.now))) }
     ensures control { control.new ≡ control_left control.old reason packet.now }
+    ensures told { OnOk result
+        (FoldsTo L.sees watch.old (drop_told now reason (control_reply control.old reason packet.now)) watch.new) }
     ensures fault { IfErr result (λ fault. fault ≡ ServeFault.Write) }
     ensures write { IsErrOf result ServeFault.Write ↔ (has_failed writer.new ≡ true) }
 {
@@ -159,13 +153,10 @@ fn hear_byte<P: Platform, C: Ticks, L: Watch, W: Write>(
     writer: &mut Port<W>,
 ) -> Result<(), ServeFault>
     requires { has_failed writer.old ≡ false }
-    ensures heard { OnOk result (Hears (rules_of P.answer P.after P.sensed)
-        (answerers (held_of line.old.responder) line.old.control) line.old.frames (byte ∷ [])
-        (answerers (held_of line.new.responder) line.new.control) line.new.frames
-        (C.to_come line.old.ticks) (C.to_come line.new.ticks)
-        (W.contents (inner_of writer.old)) (W.contents (inner_of writer.new))) }
-    ensures stopped { IfErr result (λ fault. fault ≢ ServeFault.Write
-        → Keeps (W.contents (inner_of writer.old)) (W.contents (inner_of writer.new))) }
+    ensures heard { OnOk result (Hears (rules_of P.answer P.after P.sensed) L.sees
+        (shown C.to_come W.contents line.old writer.old) (byte ∷ []) (shown C.to_come W.contents line.new writer.new)) }
+    ensures stopped { IfErr result (λ fault. fault ≢ ServeFault.Write → Stops L.sees fault
+        (shown C.to_come W.contents line.old writer.old) (shown C.to_come W.contents line.new writer.new)) }
     ensures read { result ≢ Err ServeFault.Read }
     ensures write { IsErrOf result ServeFault.Write ↔ (has_failed writer.new ≡ true) }
 {
@@ -187,15 +178,12 @@ fn hear_piece<P: Platform, C: Ticks, L: Watch, W: Write>(
     writer: &mut Port<W>,
 ) -> Result<(), ServeFault>
     requires { has_failed writer.old ≡ false }
-    ensures heard { OnOk result (Hears (rules_of P.answer P.after P.sensed)
-        (answerers (held_of line.old.responder) line.old.control) line.old.frames piece.now
-        (answerers (held_of line.new.responder) line.new.control) line.new.frames
-        (C.to_come line.old.ticks) (C.to_come line.new.ticks)
-        (W.contents (inner_of writer.old)) (W.contents (inner_of writer.new))) }
+    ensures heard { OnOk result (Hears (rules_of P.answer P.after P.sensed) L.sees
+        (shown C.to_come W.contents line.old writer.old) piece.now (shown C.to_come W.contents line.new writer.new)) }
     ensures stopped { IfErr result (λ fault. fault ≢ ServeFault.Write
-        → HearsFront (rules_of P.answer P.after P.sensed)
-        (answerers (held_of line.old.responder) line.old.control) line.old.frames (Some piece.now)
-        (C.to_come line.old.ticks) (W.contents (inner_of writer.old)) (W.contents (inner_of writer.new))) }
+        → HearsFront (rules_of P.answer P.after P.sensed) L.sees
+        (shown C.to_come W.contents line.old writer.old) (Some piece.now) fault
+        (shown C.to_come W.contents line.new writer.new)) }
     ensures read { result ≢ Err ServeFault.Read }
     ensures write { IsErrOf result ServeFault.Write ↔ (has_failed writer.new ≡ true) }
 {
@@ -212,6 +200,7 @@ fn hear_piece<P: Platform, C: Ticks, L: Watch, W: Write>(
 
 /// Serves a line until its input ends: each packet whose frame ends is answered at its moment, and the
 /// frames of its answer are written and flushed before more is read. There is no limit of the input.
+/// The watcher is told of each frame that was none, of each packet that came, and of what became of it.
 ///
 /// # Errors
 ///
@@ -227,23 +216,14 @@ pub fn serve<P: Platform, C: Ticks, L: Watch, R: Read, W: Write>(
     requires reads { has_failed reader.old ≡ false }
     requires writes { has_failed writer.old ≡ false }
     ensures heard { OnOk result (IfSome (R.remaining (inner_of reader.old)) (λ all.
-        Hears (rules_of P.answer P.after P.sensed)
-        (answerers (held_of line.old.responder) line.old.control) line.old.frames all
-        (answerers (held_of line.new.responder) line.new.control) line.new.frames
-        (C.to_come line.old.ticks) (C.to_come line.new.ticks)
-        (W.contents (inner_of writer.old)) (W.contents (inner_of writer.new)))) }
-    ensures at_read { IsErrOf result ServeFault.Read → (taken : List ℕ)
-        × Consumes (R.remaining (inner_of reader.old)) (R.remaining (inner_of reader.new)) taken
-        × Hears (rules_of P.answer P.after P.sensed)
-        (answerers (held_of line.old.responder) line.old.control) line.old.frames taken
-        (answerers (held_of line.new.responder) line.new.control) line.new.frames
-        (C.to_come line.old.ticks) (C.to_come line.new.ticks)
-        (W.contents (inner_of writer.old)) (W.contents (inner_of writer.new)) }
+        Hears (rules_of P.answer P.after P.sensed) L.sees
+        (shown C.to_come W.contents line.old writer.old) all (shown C.to_come W.contents line.new writer.new))) }
+    ensures at_read { IsErrOf result ServeFault.Read → HearsTaken (rules_of P.answer P.after P.sensed) L.sees
+        (shown C.to_come W.contents line.old writer.old) (R.remaining (inner_of reader.old))
+        (R.remaining (inner_of reader.new)) (shown C.to_come W.contents line.new writer.new) }
     ensures stopped { IfErr result (λ fault. fault ≢ ServeFault.Write
-        → HearsFront (rules_of P.answer P.after P.sensed)
-        (answerers (held_of line.old.responder) line.old.control) line.old.frames
-        (R.remaining (inner_of reader.old)) (C.to_come line.old.ticks)
-        (W.contents (inner_of writer.old)) (W.contents (inner_of writer.new))) }
+        → HearsFront (rules_of P.answer P.after P.sensed) L.sees (shown C.to_come W.contents line.old writer.old)
+        (R.remaining (inner_of reader.old)) fault (shown C.to_come W.contents line.new writer.new)) }
     ensures read { IsErrOf result ServeFault.Read ↔ (has_failed reader.new ≡ true) }
     ensures write { IsErrOf result ServeFault.Write ↔ (has_failed writer.new ≡ true) }
 {

@@ -1,8 +1,8 @@
 //! A watcher that writes what happens on a line as text.
 
-ghost use Rattle.std.specs.Prelude.{◌≡◌, ◌||◌, None, true, false, IfOk, OnErr, string_bytes};
-ghost use Rattle.std.specs.Io.KnownBytes.{Appends};
-ghost use Rattle.mctpctl_serve.specs.Logs.{capture_contents, capture_failed, capture_text, drop_text, drops_contents, drops_failed, port_contents};
+ghost use Rattle.std.specs.Prelude.{◌≡◌, ◌≢◌, ◌||◌, None, true, false, OnErr, MatchResult, string_bytes};
+ghost use Rattle.mctpctl_serve.specs.Events.{told_of};
+ghost use Rattle.mctpctl_serve.specs.Logs.{AddsEvent, AddsText, capture_contents, capture_failed, capture_text, drop_text, drops_contents, drops_failed, port_contents};
 
 use crate::events::{Event, Watch};
 use crate::texts::{capture_text, drop_text};
@@ -22,16 +22,35 @@ impl<W: Write> TextLog<W> {
     /// Whether what comes next is written.
     fn is_open(&self) -> bool
         ensures open { result ≡ true → self.now.failed ≡ false }
+        ensures there { result ≡ true → self.now.port ≢ None }
         ensures closed { result ≡ false → self.now.failed ≡ false → self.now.port ≡ None }
     {
         self.port.is_some() && !self.failed
     }
 
-    /// Adds a text. Where there was no memory for it, that is the failure.
+    /// Adds what an event adds to the drops.
+    fn add_drop(&mut self, alloc: Global, event: &Event<'_>)
+        ensures { AddsText W.contents self.old (drop_text (told_of event.now)) self.new }
+    {
+        if self.is_open() {
+            self.add(drop_text(alloc, event));
+        }
+    }
+
+    /// Adds what an event adds to the capture.
+    fn add_packets(&mut self, alloc: Global, event: &Event<'_>)
+        ensures { AddsText W.contents self.old (capture_text (told_of event.now)) self.new }
+    {
+        if self.is_open() {
+            self.add(capture_text(alloc, event));
+        }
+    }
+
+    /// Adds a text to a log that is open. Where there was no memory for it, that is the failure.
     fn add(&mut self, text: Result<String, Memory>)
-        ensures text { IfOk text (λ text. self.new.failed ≡ false → Appends (port_contents W.contents self.old.port)
-            (port_contents W.contents self.new.port) (string_bytes text)) }
-        ensures memory { OnErr text (self.new.failed ≡ true) }
+        requires { self.old.failed ≡ false }
+        ensures { MatchResult text (λ text. AddsText W.contents self.old (string_bytes text) self.new)
+            (λ _. (self.new.failed ≡ true) × (self.new.port ≡ self.old.port)) }
     {
         match text {
             Ok(text) => self.write(text.as_bytes()),
@@ -41,8 +60,8 @@ impl<W: Write> TextLog<W> {
 
     /// Writes a text whole, and flushes it.
     fn write(&mut self, text: &[u8])
-        ensures { self.new.failed ≡ false
-            → Appends (port_contents W.contents self.old.port) (port_contents W.contents self.new.port) text.now }
+        requires { self.old.failed ≡ false }
+        ensures { AddsText W.contents self.old text.now self.new }
     {
         let Some(port) = &mut self.port else {
             return;
@@ -105,22 +124,11 @@ impl<N: Write, T: Write> Log<N, T> {
 }
 
 impl<N: Write, T: Write> Watch for Log<N, T> {
+    ghost sees = { λ old event new. AddsEvent N.contents T.contents old event new };
+
     /// Adds what happened.
-    fn saw(&mut self, event: &Event<'_>)
-        ensures drops { drops_failed self.new ≡ false → Appends (drops_contents N.contents self.old)
-            (drops_contents N.contents self.new) (drop_text event.now) }
-        ensures capture { capture_failed self.new ≡ false → Appends (capture_contents T.contents self.old)
-            (capture_contents T.contents self.new) (capture_text event.now) }
-        ensures drops_end { drops_failed self.old ≡ true → (drops_failed self.new ≡ true)
-            × (drops_contents N.contents self.new ≡ drops_contents N.contents self.old) }
-        ensures capture_ends { capture_failed self.old ≡ true → (capture_failed self.new ≡ true)
-            × (capture_contents T.contents self.new ≡ capture_contents T.contents self.old) }
-    {
-        if self.drops.is_open() {
-            self.drops.add(drop_text(self.alloc, event));
-        }
-        if self.capture.is_open() {
-            self.capture.add(capture_text(self.alloc, event));
-        }
+    fn saw(&mut self, event: &Event<'_>) {
+        self.drops.add_drop(self.alloc, event);
+        self.capture.add_packets(self.alloc, event);
     }
 }

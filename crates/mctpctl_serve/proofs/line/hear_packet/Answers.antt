@@ -1,12 +1,18 @@
--- A packet that the responder dropped.
-use Rattle.std.proofs.Common.{◌≡◌, rules}
-use Rattle.mctpctl_serve.specs.Serving.{moment_after}
-use Rattle.mctpctl_serve.proofs.DropsAnswered.{drop_is_answered}
+-- A packet, by what came of it at the responder.
+use Rattle.std.proofs.Common.{◌≡◌, refl, rules}
+use Rattle.std.specs.Io.KnownBytes.{Appends}
+use Rattle.std.specs.List.{flat_map}
+use Rattle.mctp_packet.specs.Pieces.{written_packets}
+use Rattle.mctp_serial.specs.Frames.{frame}
+use Rattle.mctpctl_serve.proofs.PacketsHeard.{packet_heard}
 use Rattle.mctpctl_serve.proofs.SameHeld.{same_held}
+use Rattle.mctpctl_serve.specs.Events.{Sent}
+use Rattle.mctpctl_serve.specs.Heard.{shown}
+use Rattle.mctpctl_serve.specs.Serving.{moment_after}
 use Rattle.pldm_responder.specs.Performing.{rules_of}
 use Rattle.pldm_responder.specs.Stations.{held_of}
-use Rattle.pldm_responder.specs.Steps.{received_outcome}
-use Rattle.pldm_responder.specs.declared.outcome.Outcome.TheVariants.{Dropped}
+use Rattle.pldm_responder.specs.Steps.{received_held, received_outcome}
+use Rattle.pldm_responder.specs.declared.outcome.Outcome.TheVariants as outcome
 use Rattle.mctpctl_serve.proofs.line.hear_packet.Goals as goal
 
 pub returns-in_ok-answer_drop-in-Dropped-clause-heard : goal.returns-in_ok-answer_drop-in-Dropped-clause-heard
@@ -15,9 +21,33 @@ returns-in_ok-answer_drop-in-Dropped-clause-heard g c =
     let held = held_of c.args.line.now.responder in
     let now = c.moment_after-now.result in
     let same : now ≡ moment_after held.last c.in-Ok.reading = search rules in
-    let came : received_outcome device held now c.args.packet.now ≡ Dropped c.in-Dropped.reason = search rules in
-    let answered =
-    drop_is_answered device held (held_of c.receive_message.new.self) c.args.line.now.control c.answer_drop.new.control c.in-Dropped.reason now
-    (moment_after held.last c.in-Ok.reading) c.args.packet.now (g.W.Write.contents c.args.writer.now.inner) (g.W.Write.contents c.answer_drop.new.writer.inner)
-    same came (same_held c.in-Ok-receive_message.ensures.held) c.in_ok-answer_drop-in-Dropped.ensures.control c.in_ok-answer_drop-in-Dropped.ensures.bytes in
-    (c.in-Ok.reading, c.in-Ok.ensures, answered.0, answered.1, answered.2)
+    let gives : received_outcome device held now c.args.packet.now ≡ outcome.Dropped c.in-Dropped.reason = search rules in
+    let after = record c.args.line.now {
+      responder = c.receive_message.new.self;
+      control = c.answer_drop.new.control;
+      ticks = c.tick.new.self;
+      watch = c.answer_drop.new.watch;
+    } in
+    packet_heard device g.L.Watch.sees (shown g.C.Ticks.to_come g.W.Write.contents c.args.line.now c.args.writer.now) c.args.packet.now
+    (shown g.C.Ticks.to_come g.W.Write.contents after c.answer_drop.new.writer) c.in-Ok.reading now c.saw.new.self (outcome.Dropped c.in-Dropped.reason)
+    same c.in-Ok.ensures gives (same_held {held = received_held device held now c.args.packet.now} c.in-Ok-receive_message.ensures.held) c.in_ok-answer_drop-in-Dropped.ensures.control
+    c.in_ok-answer_drop-in-Dropped.ensures.bytes c.saw.ensures c.in_ok-answer_drop-in-Dropped.ensures.told
+
+pub returns-in_ok-send-in-Answered-clause-heard : goal.returns-in_ok-send-in-Answered-clause-heard
+returns-in_ok-send-in-Answered-clause-heard g c =
+    let device = rules_of g.P.Platform.answer g.P.Platform.after g.P.Platform.sensed in
+    let held = held_of c.args.line.now.responder in
+    let now = c.moment_after-now.result in
+    let answer = outcome.Answered c.in-Answered.fresh c.in-Answered.changed (written_packets c.in-Answered.route c.receive_message.new.reply.items) in
+    let same : now ≡ moment_after held.last c.in-Ok.reading = search rules in
+    let gives : received_outcome device held now c.args.packet.now ≡ answer = search rules in
+    let wrote : Appends (g.W.Write.contents c.args.writer.now.inner) (g.W.Write.contents c.send.new.writer.inner) (flat_map frame (written_packets c.in-Answered.route c.receive_message.new.reply.items)) = search rules in
+    let sent : g.L.Watch.sees c.saw.new.self (Sent now (written_packets c.in-Answered.route c.receive_message.new.reply.items)) c.saw-in-Answered.new.self = search rules in
+    let after = record c.args.line.now {
+      responder = c.receive_message.new.self;
+      ticks = c.tick.new.self;
+      watch = c.saw-in-Answered.new.self;
+    } in
+    packet_heard device g.L.Watch.sees (shown g.C.Ticks.to_come g.W.Write.contents c.args.line.now c.args.writer.now) c.args.packet.now
+    (shown g.C.Ticks.to_come g.W.Write.contents after c.send.new.writer) c.in-Ok.reading now c.saw.new.self answer
+    same c.in-Ok.ensures gives (same_held {held = received_held device held now c.args.packet.now} c.in-Ok-receive_message.ensures.held) refl wrote c.saw.ensures (c.saw-in-Answered.new.self, sent, refl)

@@ -1,9 +1,11 @@
--- A packet further, its line stands behind the others.
-use Rattle.std.proofs.Common.{◌≡◌, ◌++◌, ap, ◌∙◌, string_bytes}
+-- A packet further, its line stands behind the others. Where there is a packet, there are bytes.
+use Rattle.std.proofs.Common.{◌≡◌, ◌<◌, ◌++◌, ap, ◌∙◌, string_bytes, rules}
 use Rattle.mctp_packet.specs.Packets.{Packet, written}
-use Rattle.mctp_packet.specs.Pieces.{packet_at}
+use Rattle.mctp_packet.specs.Pieces.{packet_at, piece_count}
 use Rattle.mctpctl_serve.specs.Logs.{capture_line}
 use Rattle.mctpctl_serve.proofs.AnswerFrames.{told_more}
+use Rattle.mctpctl_serve.proofs.Hearing.{on_err}
+use Rattle.mctpctl_serve.proofs.LinesHaveBytes.{capture_lines_have_bytes}
 use Rattle.mctpctl_serve.proofs.texts.capture_lines.Goals as goal
 
 pub loop-i-preserved : goal.loop-i-preserved
@@ -17,3 +19,9 @@ loop-i-preserved c =
       added = told_more line (λ k. written (at k)) c.loop-i.i (string_bytes c.loop-i.lines) (string_bytes c.push_packet.new.lines) i.added added;
       end = i.end;
     }
+
+pub returns-in_err-push_packet-clause-memory : goal.returns-in_err-push_packet-clause-memory
+returns-in_err-push_packet-clause-memory c =
+    let here : c.loop-i.i < piece_count c.args.message.now = search rules in
+    on_err c.from_residual.result _
+    (capture_lines_have_bytes c.args.moment (λ k. written (packet_at c.args.route.now c.args.message.now k)) c.loop-i.i (piece_count c.args.message.now) here)
