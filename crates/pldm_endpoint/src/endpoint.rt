@@ -343,6 +343,15 @@ impl Endpoint {
         Ok(performed(changed, route))
     }
 
+    /// Lets the time pass up to the moment `now`, which must not be before [`Endpoint::last_moment`]: no moment before
+    /// it may come then. Nothing else changes.
+    pub fn pass_time(&mut self, now: Moment)
+        requires { (held_in self.old).last ≤ now }
+        ensures { self.new ≡ record self.old { end = record self.old.end { last = now } } }
+    {
+        self.end.pass_time(now);
+    }
+
     /// Restarts at the moment `now`, which must not be before [`Endpoint::last_moment`]. The kept answers, the messages
     /// that have begun and the pending commands are forgotten. The device may have performed those commands or
     /// not, so for the keeping time from then on nothing is performed, as after

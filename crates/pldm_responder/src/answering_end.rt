@@ -133,6 +133,13 @@ impl AnsweringEnd {
         self.serves_from > now.get()
     }
 
+    /// Lets the time pass up to the moment `now`, and changes nothing else.
+    pub fn pass_time(&mut self, now: Moment)
+        ensures { self.new ≡ record self.old { last = now } }
+    {
+        self.last = now;
+    }
+
     /// Restarts at the moment `now`. The kept answers and the messages that have begun are lost, and for the keeping
     /// time from then on it is busy.
     pub fn restart(&mut self, now: Moment)
