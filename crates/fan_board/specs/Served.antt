@@ -4,10 +4,10 @@ use Rattle.std.specs.Prelude.{◌≡◌, ℕ, List, [], ◌∷◌}
 use Rattle.pldm_wire.specs.declared.answer.Answer.{Answer}
 use Rattle.pldm_wire.specs.declared.command.Command.{Command}
 use Rattle.pldm_responder.specs.Asked.{gives}
-use Rattle.pldm_responder.specs.Held.{Held, IsHeld}
+use Rattle.pldm_responder.specs.Held.{IsHeld}
 use Rattle.pldm_responder.specs.Steps.{received_commands, received_held, received_outcome}
 use Rattle.pldm_responder.specs.declared.outcome.Outcome.{Outcome}
-use Rattle.pldm_endpoint.specs.TwoSteps.{bare, unasked}
+use Rattle.pldm_endpoint.specs.TwoSteps.{EndpointView, held_in, unasked}
 use Rattle.fan_board.specs.BoardCommands.{board_after, board_answer}
 use Rattle.fan_board.specs.Boards.{BoardState}
 
@@ -21,11 +21,11 @@ abbrev pub board_served : BoardState → ℕ → List Command → BoardState
 board_served board moment [] = board
 board_served board moment (command ∷ commands) = board_after board moment command
 
-module _ {S : Type 0} (old : Held S) (board : BoardState) (moment : ℕ) (bytes : List ℕ) where
+module _ (old : EndpointView) (board : BoardState) (moment : ℕ) (bytes : List ℕ) where
   abbrev pub given : Answer
-  given = answer_given board moment (received_commands old moment bytes)
+  given = answer_given board moment (received_commands (held_in old) moment bytes)
 
-  pub record IsServed (new : Held S) (board_left : BoardState) (outcome : Outcome) : Type 0 where
-    pub returned : outcome ≡ received_outcome (gives given) (bare old) moment bytes
-    pub left : IsHeld (bare new) (received_held (gives given) (bare old) moment bytes)
-    pub board_is : board_left ≡ board_served board moment (received_commands old moment bytes)
+  pub record IsServed (new : EndpointView) (board_left : BoardState) (outcome : Outcome) : Type 0 where
+    pub returned : outcome ≡ received_outcome (gives given) (held_in old) moment bytes
+    pub left : IsHeld (held_in new) (received_held (gives given) (held_in old) moment bytes)
+    pub board_is : board_left ≡ board_served board moment (received_commands (held_in old) moment bytes)

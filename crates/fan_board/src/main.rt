@@ -8,6 +8,8 @@ mod service;
 
 ghost use Rattle.std.specs.FinMap as map;
 ghost use Rattle.std.specs.Prelude.{◌≡◌};
+ghost use Rattle.pldm_endpoint.specs.TwoSteps.{held_in};
+ghost use Rattle.pldm_responder.specs.Held.{IsHeld, held_at_first};
 
 use crate::board::Board;
 use crate::packet_line::{LineFault, TimedPacket, read_line};
@@ -46,7 +48,10 @@ fn main(rt: HostRuntime) -> anyhow::Result<()> {
 
 /// The endpoint in front of the board.
 fn new_endpoint(alloc: Global) -> Endpoint
-    ensures { result.asks ≡ map.empty }
+    ensures held { IsHeld (held_in result) (held_at_first OWN KEEP tt) }
+    ensures bounds { result.end.bounds ≡ BOUNDS }
+    ensures max_pending { result.max_pending ≡ COMMANDS }
+    ensures idle { result.pending ≡ map.empty }
 {
     let (Some(own), Some(keep)) = (Eid::new(OWN), Keep::new(KEEP)) else {
         unreachable!();
@@ -62,8 +67,8 @@ fn handle(
     board: &mut Board,
     packet: &TimedPacket,
 ) -> anyhow::Result<()>
-    requires { endpoint.old.asks ≡ map.empty }
-    ensures { endpoint.new.asks ≡ map.empty }
+    requires { endpoint.old.pending ≡ map.empty }
+    ensures { endpoint.new.pending ≡ map.empty }
 {
     if packet.moment.get() < endpoint.last_moment().get() {
         return Err(LineFault::BackInTime.into());
