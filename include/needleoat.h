@@ -15,9 +15,9 @@
  *   - Two threads may call at once, each with structs and arrays of its own.
  *
  * Numbers in structs are in the byte order of the processor. A `length` or `count` is in bytes where
- * nothing else is said. In the structs and the results of libneedleoat_wire_c.a it is a uint32_t, on
- * every processor; the length that goes with a pointer is a size_t. Where a call says that it leaves
- * something as it was, no byte of it changed.
+ * nothing else is said. In libneedleoat_wire_c.a a length that a struct has or that a call returns is
+ * a uint32_t, on every processor; the length that goes with a pointer is a size_t. Where a call says
+ * that it leaves something as it was, no byte of it changed.
  */
 #ifndef NEEDLEOAT_H
 #define NEEDLEOAT_H
