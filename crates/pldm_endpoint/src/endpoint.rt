@@ -99,6 +99,15 @@ impl Endpoint {
         self.end.kept()
     }
 
+    /// How many sources have room for their answers, at most [`Bounds::sources`]: those of which a request was performed,
+    /// refused or handed out since the last restart.
+    pub fn sources(&self) -> usize
+        ensures value { result ≡ source_count self.now.end.rows }
+        ensures bounded { result ≤ self.now.end.bounds.sources }
+    {
+        self.end.sources()
+    }
+
     /// The command that is pending under this handle.
     pub fn command(&self, handle: &CommandHandle) -> Option<&Command>
         ensures { option_map (λ command. command.now) result
