@@ -1,6 +1,7 @@
 //! A watcher that writes what happens on a line as text.
 
-ghost use Rattle.std.specs.Prelude.{◌≡◌, ◌≢◌, ◌||◌, None, true, false, OnErr, MatchResult, string_bytes};
+ghost use Rattle.std.specs.Prelude.{◌≡◌, ◌≢◌, ◌||◌, None, true, false, IfOk, OnErr, string_bytes};
+ghost use Rattle.std.specs.Io.KnownBytes.{Appends};
 ghost use Rattle.mctpctl_serve.specs.Events.{told_of};
 ghost use Rattle.mctpctl_serve.specs.Logs.{AddsEvent, AddsText, capture_contents, capture_failed, capture_text, drop_text, drops_contents, drops_failed, port_contents};
 
@@ -46,11 +47,14 @@ impl<W: Write> TextLog<W> {
         }
     }
 
-    /// Adds a text to a log that is open. Where there was no memory for it, that is the failure.
+    /// Adds a text. Where there was no memory for it, that is the failure.
     fn add(&mut self, text: Result<String, Memory>)
-        requires { self.old.failed ≡ false }
-        ensures { MatchResult text (λ text. AddsText W.contents self.old (string_bytes text) self.new)
-            (λ _. (self.new.failed ≡ true) × (self.new.port ≡ self.old.port)) }
+        ensures text { IfOk text (λ text. self.new.failed ≡ false → Appends (port_contents W.contents self.old.port)
+            (port_contents W.contents self.new.port) (string_bytes text)) }
+        ensures adds { self.old.failed ≡ false
+            → IfOk text (λ text. AddsText W.contents self.old (string_bytes text) self.new) }
+        ensures memory { OnErr text (self.new.failed ≡ true) }
+        ensures port { OnErr text (self.new.port ≡ self.old.port) }
     {
         match text {
             Ok(text) => self.write(text.as_bytes()),
@@ -60,8 +64,9 @@ impl<W: Write> TextLog<W> {
 
     /// Writes a text whole, and flushes it.
     fn write(&mut self, text: &[u8])
-        requires { self.old.failed ≡ false }
-        ensures { AddsText W.contents self.old text.now self.new }
+        ensures text { self.new.failed ≡ false
+            → Appends (port_contents W.contents self.old.port) (port_contents W.contents self.new.port) text.now }
+        ensures adds { self.old.failed ≡ false → AddsText W.contents self.old text.now self.new }
     {
         let Some(port) = &mut self.port else {
             return;

@@ -9,4 +9,4 @@ pub returns-then-is_open : goal.returns-then-is_open
 returns-then-is_open g c =
     let works : c.args.self.now.failed ≡ false = search rules in
     text_added g.W.Write.contents string_bytes c.capture_text.result (capture_text (told_of c.args.event.now)) c.args.self.now c.add.new.self
-    works (c.if-is_open.ensures.there refl) c.capture_text.ensures.text c.capture_text.ensures.memory c.add.ensures
+    works (c.if-is_open.ensures.there refl) c.capture_text.ensures.text c.capture_text.ensures.memory (c.add.ensures.adds works) c.add.ensures.memory c.add.ensures.port
