@@ -11,10 +11,13 @@ use Rattle.mctpctl_serve.proofs.EventsTold.{frames_told-append, folds-append}
 use Rattle.mctpctl_serve.proofs.FramesRead.{events-append, packets-append, after-append}
 use Rattle.mctpctl_serve.specs.Events.{Told}
 use Rattle.mctpctl_serve.specs.Heard.{Shown, HearsPacket, Hears, HearsFront, Stops}
-use Rattle.mctpctl_serve.specs.Serving.{packets_of, packets_in, moment_after, timed, Answerers, packet_frames, packet_after, packets_after, answers, came}
+use Rattle.mctpctl_serve.specs.Serving.{packets_of, packets_in, moment_after, timed, Answerers, packet_frames, packet_after, packets_after, answers, came, commands}
 use Rattle.mctpctl_serve.specs.Told.{bytes_told, frames_told, packet_told}
 use Rattle.mctpctl_serve.specs.declared.fault.ServeFault.{ServeFault}
 use Rattle.pldm_responder.specs.Performing.{Rules}
+use Rattle.pldm_responder.specs.Steps.{received_commands}
+use Rattle.pldm_responder.specs.declared.bounds.Bounds.{Bounds}
+use Rattle.pldm_wire.specs.declared.command.Command.{Command}
 
 module _ {S : Type 0} (device : Rules S) where
   timed-append : (a : Answerers S) (rs ss : List ℕ) (ps qs : List (List ℕ)) → length rs ≡ length ps
@@ -38,9 +41,23 @@ module _ {S : Type 0} (device : Rules S) where
       ap (λ l. first ++ l) (answers-append next xs ys)
       ∙ sym (append_assoc first (answers device next xs) (answers device (packets_after device next xs) ys))
 
-module _ {S L : Type 0} (device : Rules S) (sees : L → Told → L → Type 0) where
-  pub hears_nothing : (s : Shown S L) → Hears device sees s [] s
-  hears_nothing s = record {
+  commands-append : (a : Answerers S) (xs ys : List TimedPacket) → commands device a (xs ++ ys) ≡ commands device (packets_after device a xs) ys ++ commands device a xs
+  commands-append a [] ys = sym (append-nil (commands device a ys))
+  commands-append a (x ∷ xs) ys =
+      let first = received_commands a.held x.moment x.bytes in
+      let next = packet_after device a x.moment x.bytes in
+      ap (λ (l : List Command). l ++ first) (commands-append next xs ys)
+      ∙ append_assoc (commands device (packets_after device next xs) ys) (commands device next xs) first
+
+-- commands that were performed in turn were performed together: the platform's law
+abbrev pub PerformsInTurn : {P : Type 0} → (P → List Command → P → Type 0) → Type 0
+PerformsInTurn {P} performing =
+    (first second third : P) (before after : List Command)
+    → performing first before second → performing second after third → performing first (after ++ before) third
+
+module _ {P S L : Type 0} (performing : P → List Command → P → Type 0) (device : Rules S) (sees : L → Told → L → Type 0) where
+  pub hears_nothing : ((value : P) → performing value [] value) → (s : Shown P S L) → Hears performing device sees s [] s
+  hears_nothing none s = record {
     readings = [];
     each = refl;
     ticked = Consumes-nil s.clock;
@@ -48,22 +65,27 @@ module _ {S L : Type 0} (device : Rules S) (sees : L → Told → L → Type 0) 
     answer = refl;
     wrote = Appends-nil s.written;
     told = refl;
+    performed = none s.platform;
+    bounds = refl;
   }
 
-  joined : (s : Shown S L) (xs ys rs : List ℕ) (c1 w1 : Option (List ℕ)) (v1 : L) (s2 : Shown S L)
+  joined : PerformsInTurn performing → (s : Shown P S L) (xs ys rs : List ℕ) (p1 : P) (b1 : Bounds) (c1 w1 : Option (List ℕ)) (v1 : L) (s2 : Shown P S L)
       → length rs ≡ length (packets_in s.reading xs) → Consumes s.clock c1 rs
       → Appends s.written w1 (answers device s.answering (came device s.answering s.reading xs rs))
       → FoldsTo sees s.watch (bytes_told device s.answering s.reading xs rs) v1
-      → Hears device sees
+      → performing s.platform (commands device s.answering (came device s.answering s.reading xs rs)) p1 → b1 ≡ s.bounds
+      → Hears performing device sees
       (record {
         answering = packets_after device s.answering (came device s.answering s.reading xs rs);
+        platform = p1;
+        bounds = b1;
         reading = after s.reading xs;
         clock = c1;
         written = w1;
         watch = v1;
       }) ys s2
-      → Hears device sees s (xs ++ ys) s2
-  joined s xs ys rs c1 w1 v1 s2 each ticked wrote told g =
+      → Hears performing device sees s (xs ++ ys) s2
+  joined in_turn s xs ys rs p1 b1 c1 w1 v1 s2 each ticked wrote told performed bounds g =
       let a = s.answering in
       let r = s.reading in
       let first = came device a r xs rs in
@@ -90,21 +112,25 @@ module _ {S L : Type 0} (device : Rules S) (sees : L → Told → L → Type 0) 
         told =
             subst (λ (l : List Told). FoldsTo sees s.watch l s2.watch) (sym all_told)
             (folds-append sees s.watch (bytes_told device a r xs rs) v1 (bytes_told device middle (after r xs) ys g.readings) s2.watch told g.told);
+        performed =
+            subst (λ (l : List Command). performing s.platform l s2.platform) (sym (ap (commands device a) all ∙ commands-append device a first second))
+            (in_turn s.platform p1 s2.platform (commands device a first) (commands device middle second) performed g.performed);
+        bounds = g.bounds ∙ bounds;
       }
 
-  pub hears_after : (s : Shown S L) (xs ys : List ℕ) (s1 s2 : Shown S L)
-      → Hears device sees s xs s1 → Hears device sees s1 ys s2 → Hears device sees s (xs ++ ys) s2
-  hears_after s xs ys s1 s2 f g =
-      joined s xs ys f.readings s1.clock s1.written s1.watch s2 f.each f.ticked f.wrote f.told
-      (subst (λ (h : Answerers S). Hears device sees (record s1 { answering = h; reading = after s.reading xs }) ys s2) f.answer
-      (subst (λ (r : Reading). Hears device sees (record s1 { reading = r }) ys s2) f.reader g))
+  pub hears_after : PerformsInTurn performing → (s : Shown P S L) (xs ys : List ℕ) (s1 s2 : Shown P S L)
+      → Hears performing device sees s xs s1 → Hears performing device sees s1 ys s2 → Hears performing device sees s (xs ++ ys) s2
+  hears_after in_turn s xs ys s1 s2 f g =
+      joined in_turn s xs ys f.readings s1.platform s1.bounds s1.clock s1.written s1.watch s2 f.each f.ticked f.wrote f.told f.performed f.bounds
+      (subst (λ (h : Answerers S). Hears performing device sees (record s1 { answering = h; reading = after s.reading xs }) ys s2) f.answer
+      (subst (λ (r : Reading). Hears performing device sees (record s1 { reading = r }) ys s2) f.reader g))
 
   -- a byte that tells no packet
-  pub hears_silent : (s : Shown S L) (byte : ℕ) (t : FrameEvent) (next : Reading) (watch1 : L)
+  pub hears_silent : ((value : P) → performing value [] value) → (s : Shown P S L) (byte : ℕ) (t : FrameEvent) (next : Reading) (watch1 : L)
       → step s.reading byte ≡ record { told = t; next = next } → packets_of (then_event t []) ≡ []
       → FoldsTo sees s.watch (frames_told device s.answering (then_event t []) []) watch1
-      → Hears device sees s (byte ∷ []) (record s { reading = next; watch = watch1 })
-  hears_silent s byte t next watch1 e silent told = record {
+      → Hears performing device sees s (byte ∷ []) (record s { reading = next; watch = watch1 })
+  hears_silent none s byte t next watch1 e silent told = record {
     readings = [];
     each = ap (λ (l : List (List ℕ)). length l) (sym (ap (λ (st : Step). packets_of (then_event st.told [])) e ∙ silent));
     ticked = Consumes-nil s.clock;
@@ -112,12 +138,14 @@ module _ {S L : Type 0} (device : Rules S) (sees : L → Told → L → Type 0) 
     answer = refl;
     wrote = Appends-nil s.written;
     told = subst (λ (st : Step). FoldsTo sees s.watch (frames_told device s.answering (then_event st.told []) []) watch1) (sym e) told;
+    performed = none s.platform;
+    bounds = refl;
   }
 
   -- a byte that ends a packet's frame
-  pub hears_packet : (s : Shown S L) (byte : ℕ) (packet : List ℕ) (next : Reading) (s1 : Shown S L)
+  pub hears_packet : (s : Shown P S L) (byte : ℕ) (packet : List ℕ) (next : Reading) (s1 : Shown P S L)
       → step s.reading byte ≡ record { told = Packet (record { items = packet }); next = next } → s1.reading ≡ next
-      → HearsPacket device sees (record s { reading = next }) packet s1 → Hears device sees s (byte ∷ []) s1
+      → HearsPacket performing device sees (record s { reading = next }) packet s1 → Hears performing device sees s (byte ∷ []) s1
   hears_packet s byte packet next s1 e read h =
       let a = s.answering in
       let r = s.reading in
@@ -136,24 +164,30 @@ module _ {S L : Type 0} (device : Rules S) (sees : L → Told → L → Type 0) 
         answer = h.heard.answer ∙ ap (packets_after device a) (sym timed_one);
         wrote = subst (Appends s.written s1.written) (sym (append-nil text) ∙ ap (answers device a) (sym timed_one)) h.heard.wrote;
         told = subst (λ (l : List Told). FoldsTo sees s.watch l s1.watch) (sym told_one) h.heard.told;
+        performed = subst (λ (l : List TimedPacket). performing s.platform (commands device a l) s1.platform) (sym timed_one) h.heard.performed;
+        bounds = h.heard.bounds;
       }
 
-  hears_kept : (s : Shown S L) (xs : List ℕ) (s1 : Shown S L) (w2 : Option (List ℕ))
-      → Hears device sees s xs s1 → Keeps s1.written w2 → Hears device sees s xs (record s1 { written = w2 })
-  hears_kept s xs s1 w2 f kept = record {
+  -- nothing was written after that, and no command performed
+  hears_kept : PerformsInTurn performing → (s : Shown P S L) (xs : List ℕ) (s1 s2 : Shown P S L)
+      → Hears performing device sees s xs s1 → Keeps s1.written s2.written → performing s1.platform [] s2.platform → s2.bounds ≡ s1.bounds
+      → Hears performing device sees s xs (record s1 { platform = s2.platform; bounds = s2.bounds; written = s2.written })
+  hears_kept in_turn s xs s1 s2 f kept none bounds = record {
     readings = f.readings;
     each = f.each;
     ticked = f.ticked;
     reader = f.reader;
     answer = f.answer;
-    wrote = Appends-kept s.written s1.written w2 (answers device s.answering (came device s.answering s.reading xs f.readings)) f.wrote kept;
+    wrote = Appends-kept s.written s1.written s2.written (answers device s.answering (came device s.answering s.reading xs f.readings)) f.wrote kept;
     told = f.told;
+    performed = in_turn s.platform s1.platform s2.platform (commands device s.answering (came device s.answering s.reading xs f.readings)) [] f.performed none;
+    bounds = bounds ∙ f.bounds;
   }
 
   -- what was heard is a front of all
-  pub front_heard : (s : Shown S L) (xs : List ℕ) (s1 : Shown S L) (all back : Option (List ℕ)) (fault : ServeFault) (s2 : Shown S L)
-      → Consumes all back xs → Hears device sees s xs s1 → Stops sees fault s1 s2 → HearsFront device sees s all fault s2
-  front_heard s xs s1 all back fault s2 are f stops = record {
+  pub front_heard : PerformsInTurn performing → (s : Shown P S L) (xs : List ℕ) (s1 : Shown P S L) (all back : Option (List ℕ)) (fault : ServeFault) (s2 : Shown P S L)
+      → Consumes all back xs → Hears performing device sees s xs s1 → Stops performing sees fault s1 s2 → HearsFront performing device sees s all fault s2
+  front_heard in_turn s xs s1 all back fault s2 are f stops = record {
     front = xs;
     back = back;
     all_are = are;
@@ -161,17 +195,17 @@ module _ {S L : Type 0} (device : Rules S) (sees : L → Told → L → Type 0) 
     reading1 = s1.reading;
     clock1 = s1.clock;
     watch1 = s1.watch;
-    hears = hears_kept s xs s1 s2.written f stops.kept;
+    hears = hears_kept in_turn s xs s1 s2 f stops.kept stops.none_performed stops.bounds;
     told = stops.told;
   }
 
   -- so is what was heard of a piece, after what was heard before
-  pub front_after : (s : Shown S L) (xs : List ℕ) (s1 : Shown S L) (all now end : Option (List ℕ)) (piece : List ℕ) (fault : ServeFault) (s2 : Shown S L)
-      → Consumes all now xs → Consumes now end piece → Hears device sees s xs s1
-      → HearsFront device sees s1 (Some piece) fault s2 → HearsFront device sees s all fault s2
-  front_after s xs s1 all now end piece fault s2 before read f g =
+  pub front_after : PerformsInTurn performing → (s : Shown P S L) (xs : List ℕ) (s1 : Shown P S L) (all now end : Option (List ℕ)) (piece : List ℕ) (fault : ServeFault) (s2 : Shown P S L)
+      → Consumes all now xs → Consumes now end piece → Hears performing device sees s xs s1
+      → HearsFront performing device sees s1 (Some piece) fault s2 → HearsFront performing device sees s all fault s2
+  front_after in_turn s xs s1 all now end piece fault s2 before read f g =
       let rest = found all now end xs piece g.front g.back before read g.all_are in
-      let middle : Shown S L = record { answering = g.answering1; reading = g.reading1; clock = g.clock1; written = s2.written; watch = g.watch1 } in
+      let middle : Shown P S L = record { answering = g.answering1; platform = s2.platform; bounds = s2.bounds; reading = g.reading1; clock = g.clock1; written = s2.written; watch = g.watch1 } in
       record {
         front = xs ++ g.front;
         back = rest.0;
@@ -180,7 +214,7 @@ module _ {S L : Type 0} (device : Rules S) (sees : L → Told → L → Type 0) 
         reading1 = g.reading1;
         clock1 = g.clock1;
         watch1 = g.watch1;
-        hears = hears_after s xs g.front s1 middle f g.hears;
+        hears = hears_after in_turn s xs g.front s1 middle f g.hears;
         told = g.told;
       } where
         found : (all now end : Option (List ℕ)) (taken piece front : List ℕ) (back : Option (List ℕ))
@@ -196,13 +230,13 @@ module _ {S L : Type 0} (device : Rules S) (sees : L → Told → L → Type 0) 
         )
 
   -- at the end of the input all has been heard
-  pub all_heard : (s : Shown S L) (xs : List ℕ) (s1 : Shown S L) (all now end : Option (List ℕ)) (got : List ℕ)
-      → Consumes all now xs → Consumes now end got → got ≡ [] → IsAtEnd end → Hears device sees s xs s1
-      → IfSome all (λ all. Hears device sees s all s1)
+  pub all_heard : (s : Shown P S L) (xs : List ℕ) (s1 : Shown P S L) (all now end : Option (List ℕ)) (got : List ℕ)
+      → Consumes all now xs → Consumes now end got → got ≡ [] → IsAtEnd end → Hears performing device sees s xs s1
+      → IfSome all (λ all. Hears performing device sees s all s1)
   all_heard s xs s1 all now end got before read none at_end f =
       let same : xs ++ got ≡ xs = ap (λ l. xs ++ l) none ∙ append-nil xs in
-      Consumes-whole all end (xs ++ got) (λ all. Hears device sees s all s1) (Consumes-trans all now end xs got before read) at_end
-      (subst (λ l. Hears device sees s l s1) (sym same) f)
+      Consumes-whole all end (xs ++ got) (λ all. Hears performing device sees s all s1) (Consumes-trans all now end xs got before read) at_end
+      (subst (λ l. Hears performing device sees s l s1) (sym same) f)
 
 -- of no bytes none are taken
 pub no_bytes : (n : ℕ) (xs : List ℕ) → n ≡ 0 → take n xs ≡ []

@@ -7,10 +7,11 @@ use Rattle.mctpctl_serve.specs.Heard.{Shown, HearsAt, HearsPacket}
 use Rattle.mctpctl_serve.specs.Serving.{answerers, control_after, frames_of, moment_after}
 use Rattle.mctpctl_serve.specs.Told.{outcome_told}
 use Rattle.pldm_responder.specs.Performing.{Rules}
-use Rattle.pldm_responder.specs.Steps.{received_held, received_outcome}
+use Rattle.pldm_responder.specs.Steps.{received_commands, received_held, received_outcome}
 use Rattle.pldm_responder.specs.declared.outcome.Outcome.{Outcome}
+use Rattle.pldm_wire.specs.declared.command.Command.{Command}
 
-pub packet_heard : {S L : Type 0} (device : Rules S) (sees : L → Told → L → Type 0) (s : Shown S L) (packet : List ℕ) (s1 : Shown S L)
+pub packet_heard : {P S L : Type 0} (performing : P → List Command → P → Type 0) (device : Rules S) (sees : L → Told → L → Type 0) (s : Shown P S L) (packet : List ℕ) (s1 : Shown P S L)
     (reading now : ℕ) (came : L) (outcome : Outcome)
     → now ≡ moment_after s.answering.held.last reading → Consumes s.clock s1.clock (reading ∷ [])
     → received_outcome device s.answering.held now packet ≡ outcome
@@ -18,19 +19,22 @@ pub packet_heard : {S L : Type 0} (device : Rules S) (sees : L → Told → L �
     → s1.answering.control ≡ control_after s.answering.control packet outcome
     → Appends s.written s1.written (frames_of s.answering.control packet outcome)
     → sees s.watch (Came now packet) came → FoldsTo sees came (outcome_told s.answering.control now packet outcome) s1.watch
-    → HearsPacket device sees s packet s1
-packet_heard device sees s packet s1 reading now came outcome same ticked gives held control wrote told_first told_then =
+    → performing s.platform (received_commands s.answering.held now packet) s1.platform → s1.bounds ≡ s.bounds
+    → HearsPacket performing device sees s packet s1
+packet_heard performing device sees s packet s1 reading now came outcome same ticked gives held control wrote told_first told_then performed bounds =
     let before = s.answering in
-    let at_now : HearsAt device sees s now packet s1 = record {
+    let at_now : HearsAt performing device sees s now packet s1 = record {
       answer =
           ap (λ h. answerers h s1.answering.control) held
           ∙ ap (answerers (received_held device before.held now packet))
           (control ∙ ap (control_after before.control packet) (sym gives));
       wrote = subst (λ (o : Outcome). Appends s.written s1.written (frames_of before.control packet o)) (sym gives) wrote;
       told = (came, told_first, subst (λ (o : Outcome). FoldsTo sees came (outcome_told before.control now packet o) s1.watch) (sym gives) told_then);
+      performed = performed;
+      bounds = bounds;
     } in
     record {
       reading = reading;
       ticked = ticked;
-      heard = subst (λ m. HearsAt device sees s m packet s1) same at_now;
+      heard = subst (λ m. HearsAt performing device sees s m packet s1) same at_now;
     }

@@ -1,4 +1,6 @@
--- What a line that is served makes of bytes: what answers then, what was written, and what its watcher was told.
+-- What a line that is served makes of bytes: what answers then, what its platform performed, what was written, and what
+-- its watcher was told. `performing` holds of a platform, commands, the newest first, and the platform once they were
+-- performed.
 use Rattle.std.specs.Prelude.{◌≡◌, ℕ, List, [], ◌∷◌, length, Option}
 use Rattle.std.specs.Io.KnownBytes.{Appends, Consumes, Keeps}
 use Rattle.std.specs.List.{FoldsTo}
@@ -6,28 +8,35 @@ use Rattle.mctp_serial.specs.Readings.{Reading, after}
 use Rattle.mctpctl_input.specs.Ports.{inner_of}
 use Rattle.mctpctl_input.specs.declared.port.Port.{Port}
 use Rattle.mctpctl_serve.specs.Events.{Told, Came}
-use Rattle.mctpctl_serve.specs.Serving.{Answerers, answerers, answers, came, moment_after, packet_after, packet_frames}
-use Rattle.mctpctl_serve.specs.Serving.{packets_after, packets_in}
+use Rattle.mctpctl_serve.specs.Serving.{Answerers, answerers, answers, came, commands, moment_after}
+use Rattle.mctpctl_serve.specs.Serving.{packet_after, packet_frames, packets_after, packets_in}
 use Rattle.mctpctl_serve.specs.Told.{bytes_told, packet_told}
 use Rattle.mctpctl_serve.specs.declared.fault.ServeFault.{ServeFault}
 use Rattle.mctpctl_serve.specs.declared.fault.ServeFault.TheVariants as fault
 use Rattle.mctpctl_serve.specs.declared.line.Line.{Line}
 use Rattle.pldm_responder.specs.Performing.{Rules}
 use Rattle.pldm_responder.specs.Stations.{held_of}
+use Rattle.pldm_responder.specs.Steps.{received_commands}
+use Rattle.pldm_responder.specs.declared.bounds.Bounds.{Bounds}
+use Rattle.pldm_wire.specs.declared.command.Command.{Command}
 
--- what a line and its writer show: what answers, where the reader of frames stands, the readings of the clock to come
--- and what was written, where these are known, and who watches
-pub record Shown (S L : Type 0) : Type 0 where
+-- what a line and its writer show: what answers, the platform and the bounds of the responder, where the reader of
+-- frames stands, the readings of the clock to come and what was written, where these are known, and who watches
+pub record Shown (P S L : Type 0) : Type 0 where
   pub answering : Answerers S
+  pub platform : P
+  pub bounds : Bounds
   pub reading : Reading
   pub clock : Option (List ℕ)
   pub written : Option (List ℕ)
   pub watch : L
 
 abbrev pub shown :
-    {P C L S W : Type 0} → (C → Option (List ℕ)) → (W → Option (List ℕ)) → Line P C L S → Port W → Shown S L
+    {P C L S W : Type 0} → (C → Option (List ℕ)) → (W → Option (List ℕ)) → Line P C L S → Port W → Shown P S L
 shown to_come contents line writer = record {
   answering = answerers (held_of line.responder) line.control;
+  platform = line.responder.platform;
+  bounds = line.responder.end.bounds;
   reading = line.frames;
   clock = to_come line.ticks;
   written = contents (inner_of writer);
@@ -39,27 +48,33 @@ abbrev pub TellsAt : {L : Type 0} → (L → Told → L → Type 0) → ServeFau
 TellsAt sees fault.Memory watch watch1 = (moment : ℕ) × (packet : List ℕ) × sees watch (Came moment packet) watch1
 TellsAt sees _ watch watch1 = watch1 ≡ watch
 
--- the line stopped at a fault: nothing was written
-pub record Stops {S L : Type 0} (sees : L → Told → L → Type 0) (fault : ServeFault) (s s1 : Shown S L) : Type 0 where
+-- the line stopped at a fault: nothing was written, and no command performed
+pub record Stops {P S L : Type 0} (performing : P → List Command → P → Type 0) (sees : L → Told → L → Type 0)
+    (fault : ServeFault) (s s1 : Shown P S L) : Type 0 where
   pub kept : Keeps s.written s1.written
   pub told : TellsAt sees fault s.watch s1.watch
+  pub none_performed : performing s.platform [] s1.platform
+  pub bounds : s1.bounds ≡ s.bounds
 
-module _ {S L : Type 0} (device : Rules S) (sees : L → Told → L → Type 0) where
+module _ {P S L : Type 0} (performing : P → List Command → P → Type 0) (device : Rules S)
+    (sees : L → Told → L → Type 0) where
   -- this packet was answered at this moment, and told
-  pub record HearsAt (s : Shown S L) (moment : ℕ) (packet : List ℕ) (s1 : Shown S L) : Type 0 where
+  pub record HearsAt (s : Shown P S L) (moment : ℕ) (packet : List ℕ) (s1 : Shown P S L) : Type 0 where
     pub answer : s1.answering ≡ packet_after device s.answering moment packet
     pub wrote : Appends s.written s1.written (packet_frames device s.answering moment packet)
     pub told : FoldsTo sees s.watch (packet_told device s.answering moment packet) s1.watch
+    pub performed : performing s.platform (received_commands s.answering.held moment packet) s1.platform
+    pub bounds : s1.bounds ≡ s.bounds
 
   -- the same at the moment of a reading that the clock gave
-  pub record HearsPacket (s : Shown S L) (packet : List ℕ) (s1 : Shown S L) : Type 0 where
+  pub record HearsPacket (s : Shown P S L) (packet : List ℕ) (s1 : Shown P S L) : Type 0 where
     pub reading : ℕ
     pub ticked : Consumes s.clock s1.clock (reading ∷ [])
     pub heard : HearsAt s (moment_after s.answering.held.last reading) packet s1
 
-  -- of these bytes, with readings that the clock gave, one for each packet, the answers were written and what happened
-  -- was told
-  pub record Hears (s : Shown S L) (bytes : List ℕ) (s1 : Shown S L) : Type 0 where
+  -- of these bytes, with readings that the clock gave, one for each packet, the answers were written, the commands were
+  -- performed, and what happened was told
+  pub record Hears (s : Shown P S L) (bytes : List ℕ) (s1 : Shown P S L) : Type 0 where
     pub readings : List ℕ
     pub each : length readings ≡ length (packets_in s.reading bytes)
     pub ticked : Consumes s.clock s1.clock readings
@@ -68,15 +83,19 @@ module _ {S L : Type 0} (device : Rules S) (sees : L → Told → L → Type 0) 
     pub wrote :
         Appends s.written s1.written (answers device s.answering (came device s.answering s.reading bytes readings))
     pub told : FoldsTo sees s.watch (bytes_told device s.answering s.reading bytes readings) s1.watch
+    pub performed :
+        performing s.platform (commands device s.answering (came device s.answering s.reading bytes readings))
+        s1.platform
+    pub bounds : s1.bounds ≡ s.bounds
 
   -- of what was taken of the bytes that were left
-  pub record HearsTaken (s : Shown S L) (left left1 : Option (List ℕ)) (s1 : Shown S L) : Type 0 where
+  pub record HearsTaken (s : Shown P S L) (left left1 : Option (List ℕ)) (s1 : Shown P S L) : Type 0 where
     pub taken : List ℕ
     pub consumed : Consumes left left1 taken
     pub hears : Hears s taken s1
 
   -- of a front of all bytes, before a fault
-  pub record HearsFront (s : Shown S L) (all : Option (List ℕ)) (fault : ServeFault) (s1 : Shown S L) : Type 0 where
+  pub record HearsFront (s : Shown P S L) (all : Option (List ℕ)) (fault : ServeFault) (s1 : Shown P S L) : Type 0 where
     pub front : List ℕ
     pub back : Option (List ℕ)
     pub all_are : Consumes all back front
@@ -86,6 +105,8 @@ module _ {S L : Type 0} (device : Rules S) (sees : L → Told → L → Type 0) 
     pub watch1 : L
     pub hears : Hears s front (record {
       answering = answering1;
+      platform = s1.platform;
+      bounds = s1.bounds;
       reading = reading1;
       clock = clock1;
       written = s1.written;

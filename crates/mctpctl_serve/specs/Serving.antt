@@ -11,9 +11,10 @@ use Rattle.mctp_serial.specs.declared.reader.FrameEvent.TheVariants.{Nothing, Pa
 use Rattle.mctpctl_input.specs.CaptureLine.{TimedPacket}
 use Rattle.pldm_responder.specs.Held.{Held}
 use Rattle.pldm_responder.specs.Performing.{Rules}
-use Rattle.pldm_responder.specs.Steps.{received_held, received_outcome}
+use Rattle.pldm_responder.specs.Steps.{received_commands, received_held, received_outcome}
 use Rattle.pldm_responder.specs.declared.outcome.Outcome.{Outcome}
 use Rattle.pldm_responder.specs.declared.outcome.Outcome.TheVariants as outcome
+use Rattle.pldm_wire.specs.declared.command.Command.{Command}
 
 -- the packets of what was told
 abbrev pub packets_of : List FrameEvent → List (List ℕ)
@@ -82,6 +83,13 @@ module _ {S : Type 0} (device : Rules S) where
   answers a [] = []
   answers a (packet ∷ packets) =
       packet_frames a packet.moment packet.bytes ++ answers (packet_after a packet.moment packet.bytes) packets
+
+  -- the commands that the platform performs for packets at their moments, the newest first
+  abbrev pub commands : Answerers S → List TimedPacket → List Command
+  commands a [] = []
+  commands a (packet ∷ packets) =
+      commands (packet_after a packet.moment packet.bytes) packets
+      ++ received_commands a.held packet.moment packet.bytes
 
   -- the packets whose frames end in the bytes, at their moments
   abbrev pub came : Answerers S → Reading → List ℕ → List ℕ → List TimedPacket

@@ -79,10 +79,10 @@ fn hear_packet<P: Platform, C: Ticks, L: Watch, W: Write>(
     writer: &mut Port<W>,
 ) -> Result<(), ServeFault>
     requires { has_failed writer.old ≡ false }
-    ensures heard { OnOk result (HearsPacket (rules_of P.answer P.after P.sensed) L.sees
+    ensures heard { OnOk result (HearsPacket P.performed (rules_of P.answer P.after P.sensed) L.sees
         (shown C.to_come W.contents line.old writer.old) packet.now (shown C.to_come W.contents line.new writer.new)) }
     ensures frames { line.new.frames ≡ line.old.frames }
-    ensures stopped { IfErr result (λ fault. fault ≢ ServeFault.Write → Stops L.sees fault
+    ensures stopped { IfErr result (λ fault. fault ≢ ServeFault.Write → Stops P.performed L.sees fault
         (shown C.to_come W.contents line.old writer.old) (shown C.to_come W.contents line.new writer.new)) }
     ensures read { result ≢ Err ServeFault.Read }
     ensures write { IsErrOf result ServeFault.Write ↔ (has_failed writer.new ≡ true) }
@@ -153,9 +153,9 @@ fn hear_byte<P: Platform, C: Ticks, L: Watch, W: Write>(
     writer: &mut Port<W>,
 ) -> Result<(), ServeFault>
     requires { has_failed writer.old ≡ false }
-    ensures heard { OnOk result (Hears (rules_of P.answer P.after P.sensed) L.sees
+    ensures heard { OnOk result (Hears P.performed (rules_of P.answer P.after P.sensed) L.sees
         (shown C.to_come W.contents line.old writer.old) (byte ∷ []) (shown C.to_come W.contents line.new writer.new)) }
-    ensures stopped { IfErr result (λ fault. fault ≢ ServeFault.Write → Stops L.sees fault
+    ensures stopped { IfErr result (λ fault. fault ≢ ServeFault.Write → Stops P.performed L.sees fault
         (shown C.to_come W.contents line.old writer.old) (shown C.to_come W.contents line.new writer.new)) }
     ensures read { result ≢ Err ServeFault.Read }
     ensures write { IsErrOf result ServeFault.Write ↔ (has_failed writer.new ≡ true) }
@@ -178,10 +178,10 @@ fn hear_piece<P: Platform, C: Ticks, L: Watch, W: Write>(
     writer: &mut Port<W>,
 ) -> Result<(), ServeFault>
     requires { has_failed writer.old ≡ false }
-    ensures heard { OnOk result (Hears (rules_of P.answer P.after P.sensed) L.sees
+    ensures heard { OnOk result (Hears P.performed (rules_of P.answer P.after P.sensed) L.sees
         (shown C.to_come W.contents line.old writer.old) piece.now (shown C.to_come W.contents line.new writer.new)) }
     ensures stopped { IfErr result (λ fault. fault ≢ ServeFault.Write
-        → HearsFront (rules_of P.answer P.after P.sensed) L.sees
+        → HearsFront P.performed (rules_of P.answer P.after P.sensed) L.sees
         (shown C.to_come W.contents line.old writer.old) (Some piece.now) fault
         (shown C.to_come W.contents line.new writer.new)) }
     ensures read { result ≢ Err ServeFault.Read }
@@ -216,14 +216,16 @@ pub fn serve<P: Platform, C: Ticks, L: Watch, R: Read, W: Write>(
     requires reads { has_failed reader.old ≡ false }
     requires writes { has_failed writer.old ≡ false }
     ensures heard { OnOk result (IfSome (R.remaining (inner_of reader.old)) (λ all.
-        Hears (rules_of P.answer P.after P.sensed) L.sees
+        Hears P.performed (rules_of P.answer P.after P.sensed) L.sees
         (shown C.to_come W.contents line.old writer.old) all (shown C.to_come W.contents line.new writer.new))) }
-    ensures at_read { IsErrOf result ServeFault.Read → HearsTaken (rules_of P.answer P.after P.sensed) L.sees
+    ensures at_read { IsErrOf result ServeFault.Read
+        → HearsTaken P.performed (rules_of P.answer P.after P.sensed) L.sees
         (shown C.to_come W.contents line.old writer.old) (R.remaining (inner_of reader.old))
         (R.remaining (inner_of reader.new)) (shown C.to_come W.contents line.new writer.new) }
     ensures stopped { IfErr result (λ fault. fault ≢ ServeFault.Write
-        → HearsFront (rules_of P.answer P.after P.sensed) L.sees (shown C.to_come W.contents line.old writer.old)
-        (R.remaining (inner_of reader.old)) fault (shown C.to_come W.contents line.new writer.new)) }
+        → HearsFront P.performed (rules_of P.answer P.after P.sensed) L.sees
+        (shown C.to_come W.contents line.old writer.old) (R.remaining (inner_of reader.old)) fault
+        (shown C.to_come W.contents line.new writer.new)) }
     ensures read { IsErrOf result ServeFault.Read ↔ (has_failed reader.new ≡ true) }
     ensures write { IsErrOf result ServeFault.Write ↔ (has_failed writer.new ≡ true) }
 {

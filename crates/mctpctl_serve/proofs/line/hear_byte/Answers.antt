@@ -9,7 +9,8 @@ use Rattle.mctpctl_serve.proofs.line.hear_byte.Goals as goal
 
 pub returns-in-Nothing-clause-heard : goal.returns-in-Nothing-clause-heard
 returns-in-Nothing-clause-heard g c =
-    hears_silent (rules_of g.P.Platform.answer g.P.Platform.after g.P.Platform.sensed) g.L.Watch.sees
+    hears_silent g.P.Platform.performed (rules_of g.P.Platform.answer g.P.Platform.after g.P.Platform.sensed) g.L.Watch.sees
+    g.met.P.Platform.none_performed
     (shown g.C.Ticks.to_come g.W.Write.contents c.args.line.now c.args.writer.now) c.args.byte Nothing c.take.new.self c.args.line.now.watch
     c.in-Nothing.ensures refl refl
 
@@ -18,13 +19,14 @@ returns-in-Packet-clause-heard g c =
     let stepped : step c.args.line.now.frames c.args.byte ≡ record { told = Packet (record { items = c.deref.result.now }); next = c.take.new.self } =
     rw c.deref.ensures.0 c.in-Packet.ensures in
     on_ok c.hear_packet.result _ _
-    (hears_packet (rules_of g.P.Platform.answer g.P.Platform.after g.P.Platform.sensed) g.L.Watch.sees
+    (hears_packet g.P.Platform.performed (rules_of g.P.Platform.answer g.P.Platform.after g.P.Platform.sensed) g.L.Watch.sees
     (shown g.C.Ticks.to_come g.W.Write.contents c.args.line.now c.args.writer.now) c.args.byte c.deref.result.now c.take.new.self
     (shown g.C.Ticks.to_come g.W.Write.contents c.hear_packet.new.line c.hear_packet.new.writer) stepped c.hear_packet.ensures.frames)
     c.hear_packet.ensures.heard
 
 pub returns-in-Dropped-clause-heard : goal.returns-in-Dropped-clause-heard
 returns-in-Dropped-clause-heard g c =
-    hears_silent (rules_of g.P.Platform.answer g.P.Platform.after g.P.Platform.sensed) g.L.Watch.sees
+    hears_silent g.P.Platform.performed (rules_of g.P.Platform.answer g.P.Platform.after g.P.Platform.sensed) g.L.Watch.sees
+    g.met.P.Platform.none_performed
     (shown g.C.Ticks.to_come g.W.Write.contents c.args.line.now c.args.writer.now) c.args.byte (Dropped c.in-Dropped.fault) c.take.new.self
     c.saw.new.self c.in-Dropped.ensures refl (c.saw.new.self, c.saw.ensures, refl)

@@ -28,10 +28,11 @@ returns-in_ok-answer_drop-in-Dropped-clause-heard g c =
       ticks = c.tick.new.self;
       watch = c.answer_drop.new.watch;
     } in
-    packet_heard device g.L.Watch.sees (shown g.C.Ticks.to_come g.W.Write.contents c.args.line.now c.args.writer.now) c.args.packet.now
+    packet_heard g.P.Platform.performed device g.L.Watch.sees (shown g.C.Ticks.to_come g.W.Write.contents c.args.line.now c.args.writer.now) c.args.packet.now
     (shown g.C.Ticks.to_come g.W.Write.contents after c.answer_drop.new.writer) c.in-Ok.reading now c.saw.new.self (outcome.Dropped c.in-Dropped.reason)
-    same c.in-Ok.ensures gives (same_held {held = received_held device held now c.args.packet.now} c.in-Ok-receive_message.ensures.held) c.in_ok-answer_drop-in-Dropped.ensures.control
+    same c.in-Ok.ensures gives (same_held {held = received_held device held now c.args.packet.now} c.in-Ok-receive_message.ensures.received.held) c.in_ok-answer_drop-in-Dropped.ensures.control
     c.in_ok-answer_drop-in-Dropped.ensures.bytes c.saw.ensures c.in_ok-answer_drop-in-Dropped.ensures.told
+    c.in-Ok-receive_message.ensures.received.performed c.in-Ok-receive_message.ensures.received.bounds
 
 pub returns-in_ok-send-in-Answered-clause-heard : goal.returns-in_ok-send-in-Answered-clause-heard
 returns-in_ok-send-in-Answered-clause-heard g c =
@@ -48,6 +49,7 @@ returns-in_ok-send-in-Answered-clause-heard g c =
       ticks = c.tick.new.self;
       watch = c.saw-in-Answered.new.self;
     } in
-    packet_heard device g.L.Watch.sees (shown g.C.Ticks.to_come g.W.Write.contents c.args.line.now c.args.writer.now) c.args.packet.now
+    packet_heard g.P.Platform.performed device g.L.Watch.sees (shown g.C.Ticks.to_come g.W.Write.contents c.args.line.now c.args.writer.now) c.args.packet.now
     (shown g.C.Ticks.to_come g.W.Write.contents after c.send.new.writer) c.in-Ok.reading now c.saw.new.self answer
-    same c.in-Ok.ensures gives (same_held {held = received_held device held now c.args.packet.now} c.in-Ok-receive_message.ensures.held) refl wrote c.saw.ensures (c.saw-in-Answered.new.self, sent, refl)
+    same c.in-Ok.ensures gives (same_held {held = received_held device held now c.args.packet.now} c.in-Ok-receive_message.ensures.received.held) refl wrote c.saw.ensures (c.saw-in-Answered.new.self, sent, refl)
+    c.in-Ok-receive_message.ensures.received.performed c.in-Ok-receive_message.ensures.received.bounds

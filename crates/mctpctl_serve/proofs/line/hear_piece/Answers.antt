@@ -10,7 +10,8 @@ loop-first-init g c = record {
   taken = [];
   parts = refl;
   heard =
-      hears_nothing (rules_of g.P.Platform.answer g.P.Platform.after g.P.Platform.sensed) g.L.Watch.sees
+      hears_nothing g.P.Platform.performed (rules_of g.P.Platform.answer g.P.Platform.after g.P.Platform.sensed) g.L.Watch.sees
+      g.met.P.Platform.none_performed
       (shown g.C.Ticks.to_come g.W.Write.contents c.args.line.now c.args.writer.now);
   works = c.requires;
 }
@@ -24,7 +25,8 @@ loop-first-preserved g c =
       taken = i.taken ++ first ∷ [];
       parts = i.parts ∙ ap (λ l. i.taken ++ l) split ∙ sym (append_assoc i.taken (first ∷ []) c.in-Some.others.now);
       heard =
-          hears_after (rules_of g.P.Platform.answer g.P.Platform.after g.P.Platform.sensed) g.L.Watch.sees
+          hears_after g.P.Platform.performed (rules_of g.P.Platform.answer g.P.Platform.after g.P.Platform.sensed) g.L.Watch.sees
+          g.met.P.Platform.performed_in_turn
           (shown g.C.Ticks.to_come g.W.Write.contents c.args.line.now c.args.writer.now) i.taken (first ∷ [])
           (shown g.C.Ticks.to_come g.W.Write.contents c.loop-first.line c.loop-first.writer)
           (shown g.C.Ticks.to_come g.W.Write.contents c.hear_byte.new.line c.hear_byte.new.writer)
@@ -36,7 +38,8 @@ pub returns-in-Err-clause-stopped : goal.returns-in-Err-clause-stopped
 returns-in-Err-clause-stopped g c =
     let i = c.loop-first.invariant in
     λ other.
-    front_heard (rules_of g.P.Platform.answer g.P.Platform.after g.P.Platform.sensed) g.L.Watch.sees
+    front_heard g.P.Platform.performed (rules_of g.P.Platform.answer g.P.Platform.after g.P.Platform.sensed) g.L.Watch.sees
+    g.met.P.Platform.performed_in_turn
     (shown g.C.Ticks.to_come g.W.Write.contents c.args.line.now c.args.writer.now) i.taken
     (shown g.C.Ticks.to_come g.W.Write.contents c.loop-first.line c.loop-first.writer)
     (Some c.args.piece.now) (Some c.loop-first.rest.now) c.in-Err.fault

@@ -8,7 +8,7 @@ abbrev pub invariant-loop-first : goal.invariant-loop-first
 invariant-loop-first g l = record {
   taken : List ℕ;
   parts : l.initial.rest ≡ taken ++ l.rest;
-  heard : Hears (rules_of g.P.Platform.answer g.P.Platform.after g.P.Platform.sensed) g.L.Watch.sees
+  heard : Hears g.P.Platform.performed (rules_of g.P.Platform.answer g.P.Platform.after g.P.Platform.sensed) g.L.Watch.sees
       (shown g.C.Ticks.to_come g.W.Write.contents l.initial.line l.initial.writer) taken
       (shown g.C.Ticks.to_come g.W.Write.contents l.line l.writer);
   works : l.writer.failed ≡ false;

@@ -11,7 +11,8 @@ loop-init g c = record {
   taken = [];
   consumed = Consumes-nil (g.R.Read.remaining c.args.reader.now.inner);
   heard =
-      hears_nothing (rules_of g.P.Platform.answer g.P.Platform.after g.P.Platform.sensed) g.L.Watch.sees
+      hears_nothing g.P.Platform.performed (rules_of g.P.Platform.answer g.P.Platform.after g.P.Platform.sensed) g.L.Watch.sees
+      g.met.P.Platform.none_performed
       (shown g.C.Ticks.to_come g.W.Write.contents c.args.line.now c.args.writer.now);
   reads = c.requires.reads;
   writes = c.requires.writes;
@@ -25,7 +26,8 @@ loop-preserved g c =
       taken = i.taken ++ got;
       consumed = Consumes-trans (g.R.Read.remaining c.args.reader.now.inner) (g.R.Read.remaining c.loop.reader.inner) (g.R.Read.remaining c.read.new.self.inner) i.taken got i.consumed c.in-Ok.ensures.bytes.0;
       heard =
-          hears_after (rules_of g.P.Platform.answer g.P.Platform.after g.P.Platform.sensed) g.L.Watch.sees
+          hears_after g.P.Platform.performed (rules_of g.P.Platform.answer g.P.Platform.after g.P.Platform.sensed) g.L.Watch.sees
+          g.met.P.Platform.performed_in_turn
           (shown g.C.Ticks.to_come g.W.Write.contents c.args.line.now c.args.writer.now) i.taken got
           (shown g.C.Ticks.to_come g.W.Write.contents c.loop.line c.loop.writer)
           (shown g.C.Ticks.to_come g.W.Write.contents c.hear_piece.new.line c.hear_piece.new.writer)
@@ -38,7 +40,8 @@ pub returns-in-Err-clause-stopped : goal.returns-in-Err-clause-stopped
 returns-in-Err-clause-stopped g c =
     let i = c.loop.invariant in
     λ other.
-    front_after (rules_of g.P.Platform.answer g.P.Platform.after g.P.Platform.sensed) g.L.Watch.sees
+    front_after g.P.Platform.performed (rules_of g.P.Platform.answer g.P.Platform.after g.P.Platform.sensed) g.L.Watch.sees
+    g.met.P.Platform.performed_in_turn
     (shown g.C.Ticks.to_come g.W.Write.contents c.args.line.now c.args.writer.now) i.taken
     (shown g.C.Ticks.to_come g.W.Write.contents c.loop.line c.loop.writer)
     (g.R.Read.remaining c.args.reader.now.inner) (g.R.Read.remaining c.loop.reader.inner) (g.R.Read.remaining c.read.new.self.inner)

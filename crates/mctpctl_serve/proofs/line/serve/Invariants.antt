@@ -9,7 +9,7 @@ abbrev pub invariant-loop : goal.invariant-loop
 invariant-loop g l = record {
   taken : List ℕ;
   consumed : Consumes (g.R.Read.remaining l.initial.reader.inner) (g.R.Read.remaining l.reader.inner) taken;
-  heard : Hears (rules_of g.P.Platform.answer g.P.Platform.after g.P.Platform.sensed) g.L.Watch.sees
+  heard : Hears g.P.Platform.performed (rules_of g.P.Platform.answer g.P.Platform.after g.P.Platform.sensed) g.L.Watch.sees
       (shown g.C.Ticks.to_come g.W.Write.contents l.initial.line l.initial.writer) taken
       (shown g.C.Ticks.to_come g.W.Write.contents l.line l.writer);
   reads : l.reader.failed ≡ false;

@@ -67,9 +67,9 @@ returns g c = record {
       c.looks_back.ensures.received c.looks_back.ensures.same c.bytes_spell_one_packet.ensures.written c.reading_is_spelling.ensures.read_for
       (record {
         packet_is = c.as_slice.ensures.value ∙ carried_packet setting past (held_by c.args.self.now) running c.args.number asked.0 asked.1 c.write_request_packet.new.packet.items c.write_request_packet.ensures;
-        new_held = c.in_ok-taken.ensures.held;
-        given_outcome = ap (λ message. answering message c.in_ok-taken.taken) c.deref.ensures.0 ∙ c.in_ok-taken.ensures.outcome;
-        given_fits = c.in_ok-taken.ensures.fits;
+        new_held = c.in_ok-taken.ensures.received.held;
+        given_outcome = ap (λ message. answering message c.in_ok-taken.taken) c.deref.ensures.0 ∙ c.in_ok-taken.ensures.received.outcome_is;
+        given_fits = c.in_ok-taken.ensures.received.fits;
         given_busy = c.busy-busy.ensures;
         given_in_time = ap (λ now. nat_lt now (c.get-2.result + c.from.result)) c.get.ensures.value ∙ ap (λ x. nat_lt c.args.now (x + c.from.result)) opening ∙ ap (λ x. nat_lt c.args.now (asked.0.opening + x)) keep;
         new_entries = entered.entries;
@@ -90,5 +90,5 @@ returns g c = record {
       (delivery_performs setting past (held_by c.args.self.now) running c.args.now c.args.number
       asked.0 asked.1 c.as_slice.result.now (c.as_slice.ensures.value ∙ carried_packet setting past (held_by c.args.self.now) running c.args.number asked.0 asked.1 c.write_request_packet.new.packet.items c.write_request_packet.ensures)
       c.bytes_spell_one_packet.ensures.written c.reading_is_spelling.ensures.read_for)
-      c.in_ok-taken.ensures.performed;
+      c.in_ok-taken.ensures.received.performed;
 }
