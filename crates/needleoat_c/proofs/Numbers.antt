@@ -1,8 +1,8 @@
 -- The numbers of refusals, written a second time.
 use Rattle.std.proofs.Common.{◌≡◌, refl}
 use Rattle.needleoat_c.specs.declared.refusals.TheConstants.{ALREADY_THERE, BAD_MOMENT, BEING_PERFORMED, ID_IN_USE, NOTHING_THERE}
-use Rattle.needleoat_c.specs.declared.refusals.TheConstants.{NO_COMMAND, NO_MEMORY, NOT_ITS_ANSWER, OUT_OF_RANGE}
-use Rattle.needleoat_c.specs.declared.refusals.TheConstants.{OUT_OF_TURN, TAG_IN_USE, TOO_MANY_COMMANDS}
+use Rattle.needleoat_c.specs.declared.refusals.TheConstants.{NO_COMMAND, NO_MEMORY, NOT_ITS_ANSWER, NOT_PENDING, OUT_OF_RANGE}
+use Rattle.needleoat_c.specs.declared.refusals.TheConstants.{OUT_OF_TURN, TAG_IN_USE, TOO_MANY_COMMANDS, TOO_MANY_OPEN_MESSAGES, TOO_MANY_SOURCES}
 
 no_memory : NO_MEMORY ≡ 1
 no_memory = refl
@@ -31,6 +31,9 @@ being_performed = refl
 too_many_commands : TOO_MANY_COMMANDS ≡ 9
 too_many_commands = refl
 
+not_pending : NOT_PENDING ≡ 10
+not_pending = refl
+
 tag_in_use : TAG_IN_USE ≡ 11
 tag_in_use = refl
 
@@ -39,3 +42,9 @@ id_in_use = refl
 
 no_command : NO_COMMAND ≡ 13
 no_command = refl
+
+too_many_sources : TOO_MANY_SOURCES ≡ 14
+too_many_sources = refl
+
+too_many_open_messages : TOO_MANY_OPEN_MESSAGES ≡ 15
+too_many_open_messages = refl

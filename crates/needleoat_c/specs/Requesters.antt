@@ -28,6 +28,7 @@ use Rattle.needleoat_c.specs.declared.reports.OpeningReport.{OpeningReport}
 use Rattle.needleoat_c.specs.declared.reports.PacketReport.{PacketReport}
 use Rattle.needleoat_c.specs.declared.reports.StatusReport.{StatusReport}
 use Rattle.needleoat_c.specs.declared.requester_handle.RequesterForC.{RequesterForC}
+use Rattle.needleoat_c.specs.declared.settings.RequesterSettings.{RequesterSettings}
 
 -- a handle says truly whether there is something behind it
 abbrev pub SaysWhether : Bool → Option Inside → Type 0
@@ -62,17 +63,17 @@ refusal_at now (Some held) = if is_next now held then 0 else BAD_MOMENT
 
 -- ---- making ----
 
-abbrev pub timing : ℕ → ℕ → ℕ → Timing
-timing keep timeout tries = record { keep = keep; timeout = timeout; tries = tries }
+abbrev pub timing_of : RequesterSettings → Timing
+timing_of s = record { keep = s.keep_ms; timeout = s.timeout_ms; tries = s.tries }
 
 -- two endpoint IDs, a keeping time, and a timing without a fault
-abbrev pub IsSetup : ℕ → ℕ → Timing → Type 0
-IsSetup own device t = IsEid own × IsEid device × IsKeep t.keep × (timing_fault own device t ≡ None)
+abbrev pub IsSetup : RequesterSettings → Type 0
+IsSetup s = IsEid s.own × IsEid s.device × IsKeep s.keep_ms × (timing_fault s.own s.device (timing_of s) ≡ None)
 
 -- a new requester is behind the handle
-abbrev pub IsNew : ℕ → ℕ → Timing → Option Inside → Type 0
-IsNew own device t None = ⊥
-IsNew own device t (Some new) = IsHeld (held_of new) (held_at_first own device t)
+abbrev pub IsNew : RequesterSettings → Option Inside → Type 0
+IsNew s None = ⊥
+IsNew s (Some new) = IsHeld (held_of new) (held_at_first s.own s.device (timing_of s))
 
 -- ---- opening ----
 

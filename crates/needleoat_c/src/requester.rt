@@ -1,6 +1,6 @@
 //! The work of each call on the requester behind a handle.
 
-ghost use Rattle.std.specs.Prelude.{◌≡◌, ◌<◌, ◌≤◌, Some, IfSome, is_some, length, take, option_and_then, option_map};
+ghost use Rattle.std.specs.Prelude.{◌≡◌, ◌≢◌, ◌<◌, ◌≤◌, Some, IfSome, is_some, length, take, option_and_then, option_map};
 ghost use Rattle.std.specs.Option.{option_copied};
 ghost use Rattle.pldm_requester.specs.Slots.{held_of};
 ghost use Rattle.pldm_requester.specs.RequestProgress.{progress_in_status};
@@ -79,6 +79,7 @@ pub(crate) fn open(requester: &mut Requester, now_ms: u64, request: &[u8]) -> Op
 pub(crate) fn tick(requester: &mut Requester, now_ms: u64, due: &mut DueReport) -> u8
     ensures refusal { result ≡ refusal_at now_ms (Some (held_of requester.old)) }
     ensures due { result ≡ 0 → ReportsDue now_ms due.new (Some (held_of requester.old)) }
+    ensures refused { result ≢ 0 → due.new ≡ due.old }
     ensures held { IsHeld (held_of requester.new) (ticked_by now_ms result (held_of requester.old)) }
 {
     let Some(now) = next_moment(requester, now_ms) else {
@@ -91,12 +92,12 @@ pub(crate) fn tick(requester: &mut Requester, now_ms: u64, due: &mut DueReport) 
 }
 
 /// Puts numbers in front, and returns how many there are.
-fn put_numbers(room: &mut [u64; MAX_OPEN], numbers: &[u64]) -> usize
+fn put_numbers(room: &mut [u64; MAX_OPEN], numbers: &[u64]) -> u32
     requires { length numbers.now ≤ MAX_OPEN }
     ensures { take result room.new ≡ numbers.now }
 {
     room[..numbers.len()].copy_from_slice(numbers);
-    numbers.len()
+    numbers.len() as u32
 }
 
 /// Receives the bytes of a packet.
@@ -130,7 +131,7 @@ fn report_of(got: Got) -> PacketReport
 }
 
 /// Writes the packet of a request that is remembered, and returns its length, else 0.
-pub(crate) fn packet(requester: &Requester, number: u64, out: &mut [u8; MAX_PACKET_BYTES]) -> usize
+pub(crate) fn packet(requester: &Requester, number: u64, out: &mut [u8; MAX_PACKET_BYTES]) -> u32
     ensures { IsWritten (packet_of number (Some (held_of requester.now))) result out.old out.new }
 {
     match requester.packets(number) {
@@ -140,7 +141,7 @@ pub(crate) fn packet(requester: &Requester, number: u64, out: &mut [u8; MAX_PACK
 }
 
 /// Writes a packet, where there is one and it has room.
-fn put_packet(packet: Option<&[u8]>, out: &mut [u8; MAX_PACKET_BYTES]) -> usize
+fn put_packet(packet: Option<&[u8]>, out: &mut [u8; MAX_PACKET_BYTES]) -> u32
     ensures { IsWritten (option_and_then (fitting MAX_PACKET_BYTES) (option_copied packet.entry)) result
         out.old out.new }
 {
@@ -150,15 +151,17 @@ fn put_packet(packet: Option<&[u8]>, out: &mut [u8; MAX_PACKET_BYTES]) -> usize
     }
 }
 
-/// Writes bytes to the front of a room, where they fit, and returns their count, else 0.
-fn put_fitting(room: &mut [u8], bytes: &[u8]) -> usize
+/// Writes bytes to the front of a room, where they fit, and returns their count, else 0. No room that crosses to C has
+/// more bytes than a message.
+fn put_fitting(room: &mut [u8], bytes: &[u8]) -> u32
+    requires { length room.old ≤ MAX_MESSAGE_BYTES }
     ensures { IsWritten (fitting (length room.old) bytes.now) result room.old room.new }
 {
     if bytes.len() > room.len() {
         return 0;
     }
     room[..bytes.len()].copy_from_slice(bytes);
-    bytes.len()
+    bytes.len() as u32
 }
 
 /// Reports how a request stands, and writes the message that answered it.
