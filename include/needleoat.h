@@ -33,12 +33,13 @@
  *             return now_ms += (uint32_t)(ticks() - (uint32_t)now_ms);    // uint32_t ticks(void)
  *         }
  *
- *   - rattle_alloc, rattle_realloc and rattle_dealloc are there (at the end of this file). They
- *     always return: by no longjmp and no exception. They call nothing of this library. A block is
- *     aligned as asked for and lies apart from all else, also from every other block, until it is
- *     given back. rattle_realloc keeps the first `kept` bytes, and gives the old block back where it
- *     gives another one; where it gives none, the old block is as it was. Where two threads call this
- *     library, two may call the three functions at once: malloc may be, examples/c/pool_heap.c not.
+ *   - rattle_alloc, rattle_realloc and rattle_dealloc are there (at the end of this file). Each
+ *     always returns, leaves by no longjmp and no exception, and calls nothing of this library. A
+ *     block is aligned as asked for and lies apart from all else, also from every other block, until
+ *     it is given back. rattle_realloc keeps the first `kept` bytes, and gives the old block back
+ *     where it gives another one; where it gives none, the old block is as it was. Where two threads
+ *     call this library, the three functions are safe for two threads: they are over malloc
+ *     (examples/c/heap.c), and are not over an array without a lock (examples/c/pool_heap.c).
  *   - While a command is pending, its endpoint is restarted and never freed and made anew: the
  *     numbers of a new endpoint begin at 0, so a handle of the old one could be taken for that of
  *     another command, and the answer would go to that one.

@@ -38,6 +38,7 @@ use Rattle.needleoat_forms.specs.Commands.{command_in}
 use Rattle.needleoat_forms.specs.declared.answer.AnswerFields.{AnswerFields}
 use Rattle.needleoat_forms.specs.declared.command.CommandFields.{CommandFields}
 use Rattle.needleoat_c.specs.EndpointHandles.{Inside}
+use Rattle.needleoat_c.specs.declared.kinds.TheConstants.{STEP_ANSWERED, STEP_DROPPED, STEP_PARTIAL, STEP_PERFORM, STEP_REFUSED}
 use Rattle.needleoat_c.specs.declared.refusals.TheConstants.{BAD_MOMENT, BEING_PERFORMED, NOTHING_THERE, NOT_ITS_ANSWER, NOT_PENDING}
 use Rattle.needleoat_c.specs.declared.refusals.TheConstants.{NO_MEMORY, OUT_OF_RANGE, OUT_OF_TURN, TOO_MANY_COMMANDS}
 use Rattle.needleoat_c.specs.declared.refusals.TheConstants.{TOO_MANY_OPEN_MESSAGES, TOO_MANY_SOURCES}
@@ -137,7 +138,7 @@ HasNumbers kind reason fresh changed count fields r =
     × (r.handle ≡ fields)
 
 abbrev pub IsRefused : ℕ → StepReport → Type 0
-IsRefused number r = HasNumbers 0 number false false 0 no_handle r
+IsRefused number r = HasNumbers STEP_REFUSED number false false 0 no_handle r
 
 -- a packet is in front of its room, and this is its length
 abbrev pub IsInFront : Option (List ℕ) → ℕ → List ℕ → Type 0
@@ -159,13 +160,13 @@ ArePackets packets lengths rooms =
 
 -- the numbers of an outcome, and its packets
 abbrev pub ReportsOutcome : Outcome → StepReport → List (List ℕ) → Type 0
-ReportsOutcome (Dropped reason) r rooms = HasNumbers 1 (number_of reason) false false 0 no_handle r
-ReportsOutcome Partial r rooms = HasNumbers 2 0 false false 0 no_handle r
+ReportsOutcome (Dropped reason) r rooms = HasNumbers STEP_DROPPED (number_of reason) false false 0 no_handle r
+ReportsOutcome Partial r rooms = HasNumbers STEP_PARTIAL 0 false false 0 no_handle r
 ReportsOutcome (Answered fresh changed packets) r rooms =
-    HasNumbers 3 0 fresh changed (length packets) no_handle r × ArePackets packets r.lengths rooms
+    HasNumbers STEP_ANSWERED 0 fresh changed (length packets) no_handle r × ArePackets packets r.lengths rooms
 
 abbrev pub ReportsStep : Step → StepReport → List (List ℕ) → Type 0
-ReportsStep (Perform handle) r rooms = HasNumbers 4 0 false false 0 (fields_of handle) r
+ReportsStep (Perform handle) r rooms = HasNumbers STEP_PERFORM 0 false false 0 (fields_of handle) r
 ReportsStep (Done outcome) r rooms = ReportsOutcome outcome r rooms
 
 -- ---- packets that come ----
@@ -210,7 +211,7 @@ pub record IsReceived (now : ℕ) (bytes : List ℕ) (old new : Inside) : Type 0
 
 -- a packet that was refused changes nothing
 abbrev pub IsLeftByPacket : ℕ → List ℕ → ℕ → Inside → Inside → Type 0
-IsLeftByPacket now bytes kind old new = MatchBool (kind == 0) (IsAsBefore new old) (IsReceived now bytes old new)
+IsLeftByPacket now bytes kind old new = MatchBool (kind == STEP_REFUSED) (IsAsBefore new old) (IsReceived now bytes old new)
 
 -- the fields are those of the command that is pending
 abbrev pub AreOf : Option PendingCommand → CommandFields → Type 0
@@ -219,7 +220,7 @@ AreOf (Some a) fields = (fields.instance_id ≡ 0) × (command_in fields ≡ Som
 
 -- where a command is to be performed, its fields are there; else they are as before
 abbrev pub HasCommand : ℕ → Option PendingCommand → CommandFields → CommandFields → Type 0
-HasCommand kind pending old new = MatchBool (kind == 4) (AreOf pending new) (new ≡ old)
+HasCommand kind pending old new = MatchBool (kind == STEP_PERFORM) (AreOf pending new) (new ≡ old)
 
 -- ---- answers of the device ----
 

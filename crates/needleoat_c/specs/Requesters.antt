@@ -21,6 +21,9 @@ use Rattle.pldm_requester.specs.declared.results.OpenFault.TheVariants as cause
 use Rattle.pldm_requester.specs.declared.timing.Timing.{Timing}
 use Rattle.needleoat_forms.specs.Written.{IsWritten}
 use Rattle.needleoat_c.specs.RequesterHandles.{Inside}
+use Rattle.needleoat_c.specs.declared.kinds.TheConstants.{RECEIVING_ANSWERED, RECEIVING_DROPPED, RECEIVING_PARTIAL}
+use Rattle.needleoat_c.specs.declared.kinds.TheConstants.{RECEIVING_REFUSED, STATUS_ANSWERED, STATUS_GAVE_UP, STATUS_OPEN}
+use Rattle.needleoat_c.specs.declared.kinds.TheConstants.{STATUS_UNKNOWN}
 use Rattle.needleoat_c.specs.declared.refusals.TheConstants.{BAD_MOMENT, ID_IN_USE, NOTHING_THERE, NO_COMMAND, NO_MEMORY}
 use Rattle.needleoat_c.specs.declared.refusals.TheConstants.{TAG_IN_USE}
 use Rattle.needleoat_c.specs.declared.reports.DueReport.{DueReport}
@@ -150,12 +153,12 @@ ticked_by now refusal held = if refusal == 0 then ticked_held held now else held
 -- ---- packets that come ----
 
 abbrev pub ReportsGot : Got → PacketReport → Type 0
-ReportsGot (outcome.Dropped reason) r = (r.kind ≡ 1) × (r.reason ≡ number_of reason)
-ReportsGot outcome.Partial r = (r.kind ≡ 2) × (r.reason ≡ 0)
-ReportsGot (outcome.Answered number) r = (r.kind ≡ 3) × (r.reason ≡ 0) × (r.number ≡ number)
+ReportsGot (outcome.Dropped reason) r = (r.kind ≡ RECEIVING_DROPPED) × (r.reason ≡ number_of reason)
+ReportsGot outcome.Partial r = (r.kind ≡ RECEIVING_PARTIAL) × (r.reason ≡ 0)
+ReportsGot (outcome.Answered number) r = (r.kind ≡ RECEIVING_ANSWERED) × (r.reason ≡ 0) × (r.number ≡ number)
 
 abbrev pub IsRefused : ℕ → PacketReport → Type 0
-IsRefused number r = (r.kind ≡ 0) × (r.reason ≡ number)
+IsRefused number r = (r.kind ≡ RECEIVING_REFUSED) × (r.reason ≡ number)
 
 -- what becomes of it; only a packet that begins a message of several may want memory
 abbrev pub ReportsTaken : Got → PacketReport → Type 0
@@ -170,7 +173,7 @@ ReportsPacket now bytes r None = IsRefused NOTHING_THERE r
 ReportsPacket now bytes r (Some held) = ReportsPacketIn now bytes r held
 
 abbrev pub received_by : ℕ → List ℕ → ℕ → Held → Held
-received_by now bytes kind held = if kind == 0 then held else received_held held now bytes
+received_by now bytes kind held = if kind == RECEIVING_REFUSED then held else received_held held now bytes
 
 -- ---- what is remembered ----
 
@@ -190,11 +193,11 @@ packet_of number held =
 
 -- how a request stands, and its answer in front of the room
 abbrev pub ReportsProgress : Option Progress → StatusReport → List ℕ → List ℕ → Type 0
-ReportsProgress None r old new = (r.kind ≡ 0) × (r.length ≡ 0) × (new ≡ old)
-ReportsProgress (Some Waiting) r old new = (r.kind ≡ 1) × (r.length ≡ 0) × (new ≡ old)
+ReportsProgress None r old new = (r.kind ≡ STATUS_UNKNOWN) × (r.length ≡ 0) × (new ≡ old)
+ReportsProgress (Some Waiting) r old new = (r.kind ≡ STATUS_OPEN) × (r.length ≡ 0) × (new ≡ old)
 ReportsProgress (Some (Answered message)) r old new =
-    (r.kind ≡ 2) × IsWritten (fitting MAX_MESSAGE_BYTES message) r.length old new
-ReportsProgress (Some GaveUp) r old new = (r.kind ≡ 3) × (r.length ≡ 0) × (new ≡ old)
+    (r.kind ≡ STATUS_ANSWERED) × IsWritten (fitting MAX_MESSAGE_BYTES message) r.length old new
+ReportsProgress (Some GaveUp) r old new = (r.kind ≡ STATUS_GAVE_UP) × (r.length ≡ 0) × (new ≡ old)
 
 abbrev pub progress_of : ℕ → Option Held → Option Progress
 progress_of number held = option_map (λ (memo : Memo). memo.course.progress) (memo_of number held)

@@ -9,6 +9,7 @@ ghost use Rattle.pldm_endpoint.specs.RequestKeys.{pending_at};
 ghost use Rattle.pldm_endpoint.specs.TwoSteps.{held_in};
 ghost use Rattle.needleoat_c.specs.Endpoints.{AreOf, ArePackets, HasCommand, IsInFront, IsLeftByAnswer, IsLeftByPacket, IsLeftByRestart, IsMade, IsReportedSo, ReportsHandedIn, ReportsOutcome, ReportsPacketIn, given_to, is_next, number_of_refusal, pending_under, refusal_at};
 
+use crate::kinds::{STEP_ANSWERED, STEP_DROPPED, STEP_PARTIAL, STEP_REFUSED};
 use crate::refusals::{
     BAD_MOMENT, BEING_PERFORMED, NO_MEMORY, NOT_ITS_ANSWER, NOT_PENDING, OUT_OF_RANGE, OUT_OF_TURN,
     TOO_MANY_COMMANDS, TOO_MANY_OPEN_MESSAGES, TOO_MANY_SOURCES,
@@ -89,7 +90,7 @@ pub(crate) fn receive(
     ensures left { IsLeftByPacket now_ms packet.now result.kind endpoint.old endpoint.new }
 {
     let Some(now) = next_moment(endpoint, now_ms) else {
-        return StepReport::without(0, BAD_MOMENT);
+        return StepReport::without(STEP_REFUSED, BAD_MOMENT);
     };
     let mut reply = Body::new();
     match endpoint.receive_message(now, packet, &mut reply) {
@@ -98,7 +99,7 @@ pub(crate) fn receive(
             StepReport::to_perform(&handle)
         }
         Ok(MessageStep::Done(taken)) => report_of(&taken, &reply, packets),
-        Err(refusal) => StepReport::without(0, refusal_number(refusal)),
+        Err(refusal) => StepReport::without(STEP_REFUSED, refusal_number(refusal)),
     }
 }
 
@@ -162,7 +163,7 @@ pub(crate) fn report(
 {
     match given {
         Ok(taken) => report_of(taken, reply, packets),
-        Err(number) => StepReport::without(0, *number),
+        Err(number) => StepReport::without(STEP_REFUSED, *number),
     }
 }
 
@@ -200,14 +201,14 @@ fn report_of(
     ensures other { result.kind ≤ 3 }
 {
     match taken {
-        MessageOutcome::Dropped(reason) => StepReport::without(1, reason.number()),
-        MessageOutcome::Partial => StepReport::without(2, 0),
+        MessageOutcome::Dropped(reason) => StepReport::without(STEP_DROPPED, reason.number()),
+        MessageOutcome::Partial => StepReport::without(STEP_PARTIAL, 0),
         MessageOutcome::Answered {
             fresh,
             changed,
             route,
         } => StepReport {
-            kind: 3,
+            kind: STEP_ANSWERED,
             reason: 0,
             fresh: *fresh,
             changed: *changed,

@@ -6,6 +6,7 @@ ghost use Rattle.needleoat_c.specs.Endpoints.{HasCommand, IsLeft, IsLeftByAnswer
 
 use crate::endpoint;
 use crate::endpoint_handle::EndpointForC;
+use crate::kinds::STEP_REFUSED;
 use crate::refusals::{ALREADY_THERE, BAD_MOMENT, NO_MEMORY, NOTHING_THERE, OUT_OF_RANGE};
 use crate::reports::{HandleFields, StepReport};
 use crate::settings::EndpointSettings;
@@ -73,7 +74,7 @@ pub extern "C" fn needleoat_endpoint_receive(
         endpoint.old.handle.held endpoint.new.handle.held }
 {
     if !endpoint.is_live {
-        return StepReport::without(0, NOTHING_THERE);
+        return StepReport::without(STEP_REFUSED, NOTHING_THERE);
     }
     let mut inside = endpoint.handle.take(alloc);
     let report = endpoint::receive(&mut inside, now_ms, packet, command, packets);
@@ -97,7 +98,7 @@ pub extern "C" fn needleoat_endpoint_answer(
     ensures left { IsLeft (IsLeftByAnswer handle.now answer.now) endpoint.old.handle.held endpoint.new.handle.held }
 {
     if !endpoint.is_live {
-        return StepReport::without(0, NOTHING_THERE);
+        return StepReport::without(STEP_REFUSED, NOTHING_THERE);
     }
     let mut reply = Body::new();
     let mut inside = endpoint.handle.take(alloc);

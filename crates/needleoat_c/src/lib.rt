@@ -5,6 +5,7 @@
 mod endpoint;
 mod endpoint_calls;
 mod endpoint_handle;
+mod kinds;
 mod parts;
 mod refusals;
 mod reports;

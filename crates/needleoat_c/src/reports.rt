@@ -4,6 +4,7 @@ ghost use Rattle.std.specs.Prelude.{◌≡◌, IfSome, false, is_some, true};
 ghost use Rattle.mctp_packet.specs.Refusals.{is_eid};
 ghost use Rattle.needleoat_c.specs.Endpoints.{HasNumbers, fields_of, handle_in, no_handle};
 
+use crate::kinds::STEP_PERFORM;
 use mctp_packet::{Eid, MAX_PACKETS};
 use pldm_endpoint::CommandHandle;
 use pldm_requester::MAX_OPEN;
@@ -60,7 +61,7 @@ const _: () = prove!(size_of::<DueReport>() == 136);
 #[repr(C)]
 #[derive(Drop)]
 pub struct PacketReport {
-    /// 0 refused, 1 dropped, 2 partial, 3 the answer to a request.
+    /// One of the kinds `RECEIVING_*`.
     pub kind: u8,
     /// Why it was refused, or the number of the reason to drop it, else 0.
     pub reason: u8,
@@ -89,7 +90,7 @@ impl PacketReport {
 #[repr(C)]
 #[derive(Drop)]
 pub struct StatusReport {
-    /// 0 not remembered, 1 open, 2 answered, 3 given up.
+    /// One of the kinds `STATUS_*`.
     pub kind: u8,
     /// The length of its answer in bytes.
     pub length: u32,
@@ -97,6 +98,16 @@ pub struct StatusReport {
 
 // As in `include/needleoat.h`.
 const _: () = prove!(size_of::<StatusReport>() == 8);
+
+impl StatusReport {
+    /// There is no answer.
+    pub(crate) fn without(kind: u8) -> StatusReport
+        ensures kind { result.kind ≡ kind }
+        ensures length { result.length ≡ 0 }
+    {
+        StatusReport { kind, length: 0 }
+    }
+}
 
 /// The handle of a command that was handed out: its number, and whose request it is of. No two commands of an endpoint
 /// have one number.
@@ -156,7 +167,7 @@ impl HandleFields {
 #[repr(C)]
 #[derive(Drop)]
 pub struct StepReport {
-    /// 0 refused, 1 dropped, 2 partial, 3 answered, 4 a command is to be performed.
+    /// One of the kinds `STEP_*`.
     pub kind: u8,
     /// Why it was refused, or the number of the reason to drop it, else 0.
     pub reason: u8,
@@ -193,10 +204,10 @@ impl StepReport {
 
     /// A command is to be performed.
     pub(crate) fn to_perform(handle: &CommandHandle) -> StepReport
-        ensures numbers { HasNumbers 4 0 false false 0 (fields_of handle.now) result }
+        ensures numbers { HasNumbers STEP_PERFORM 0 false false 0 (fields_of handle.now) result }
         ensures source { is_eid result.handle.source ≡ true }
     {
-        let mut report = StepReport::without(4, 0);
+        let mut report = StepReport::without(STEP_PERFORM, 0);
         report.handle = HandleFields::of(handle);
         report
     }

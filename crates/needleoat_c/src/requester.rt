@@ -8,6 +8,10 @@ ghost use Rattle.pldm_requester.specs.Steps.{IsHeld};
 ghost use Rattle.needleoat_forms.specs.Written.{IsWritten};
 ghost use Rattle.needleoat_c.specs.Requesters.{ReportsDue, ReportsGot, ReportsOpening, ReportsPacketIn, ReportsProgress, command_in, fault_number, fitting, is_next, opened_by, opening_in, packet_of, received_by, refusal_at, progress_of, ticked_by};
 
+use crate::kinds::{
+    RECEIVING_ANSWERED, RECEIVING_DROPPED, RECEIVING_PARTIAL, RECEIVING_REFUSED, STATUS_ANSWERED,
+    STATUS_GAVE_UP, STATUS_OPEN, STATUS_UNKNOWN,
+};
 use crate::refusals::{BAD_MOMENT, ID_IN_USE, NO_COMMAND, NO_MEMORY, TAG_IN_USE};
 use crate::reports::{DueReport, OpeningReport, PacketReport, StatusReport};
 use mctp_packet::{MAX_MESSAGE_BYTES, MAX_PACKET_BYTES, Moment};
@@ -106,11 +110,11 @@ pub(crate) fn receive(requester: &mut Requester, now_ms: u64, packet: &[u8]) -> 
     ensures held { IsHeld (held_of requester.new) (received_by now_ms packet.now result.kind (held_of requester.old)) }
 {
     let Some(now) = next_moment(requester, now_ms) else {
-        return PacketReport::without(0, BAD_MOMENT);
+        return PacketReport::without(RECEIVING_REFUSED, BAD_MOMENT);
     };
     match requester.receive(now, packet) {
         Ok(got) => report_of(got),
-        Err(_) => PacketReport::without(0, NO_MEMORY),
+        Err(_) => PacketReport::without(RECEIVING_REFUSED, NO_MEMORY),
     }
 }
 
@@ -120,10 +124,10 @@ fn report_of(got: Got) -> PacketReport
     ensures kind { 1 ≤ result.kind }
 {
     match got {
-        Got::Dropped(reason) => PacketReport::without(1, reason.number()),
-        Got::Partial => PacketReport::without(2, 0),
+        Got::Dropped(reason) => PacketReport::without(RECEIVING_DROPPED, reason.number()),
+        Got::Partial => PacketReport::without(RECEIVING_PARTIAL, 0),
         Got::Answered(number) => PacketReport {
-            kind: 3,
+            kind: RECEIVING_ANSWERED,
             reason: 0,
             number,
         },
@@ -180,12 +184,12 @@ fn status_report(status: Option<Status<'_>>, room: &mut [u8; MAX_MESSAGE_BYTES])
     ensures { ReportsProgress (option_map progress_in_status status.entry) result room.old room.new }
 {
     match status {
-        None => StatusReport { kind: 0, length: 0 },
-        Some(Status::Open) => StatusReport { kind: 1, length: 0 },
+        None => StatusReport::without(STATUS_UNKNOWN),
+        Some(Status::Open) => StatusReport::without(STATUS_OPEN),
         Some(Status::Answered(message)) => StatusReport {
-            kind: 2,
+            kind: STATUS_ANSWERED,
             length: put_fitting(room, message),
         },
-        Some(Status::GaveUp) => StatusReport { kind: 3, length: 0 },
+        Some(Status::GaveUp) => StatusReport::without(STATUS_GAVE_UP),
     }
 }

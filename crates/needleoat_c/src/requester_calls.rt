@@ -4,6 +4,7 @@ ghost use Rattle.std.specs.Prelude.{◌≡◌, ◌≢◌, ◌⊎◌, false, true
 ghost use Rattle.needleoat_forms.specs.Written.{IsWritten};
 ghost use Rattle.needleoat_c.specs.Requesters.{HoldsAfter, IsNew, IsSetup, IsUpheld, MayNeedRoom, ReportsDue, ReportsOpening, ReportsPacket, ReportsProgress, holding, opened_by, opening_at, packet_of, received_by, refusal_at, progress_of, ticked_by, unchanged};
 
+use crate::kinds::{RECEIVING_REFUSED, STATUS_UNKNOWN};
 use crate::refusals::{ALREADY_THERE, NO_MEMORY, NOTHING_THERE, OUT_OF_RANGE};
 use crate::reports::{DueReport, OpeningReport, PacketReport, StatusReport};
 use crate::requester;
@@ -121,7 +122,7 @@ pub extern "C" fn needleoat_requester_receive(
         requester.old.handle.held requester.new.handle.held }
 {
     if !requester.is_live {
-        return PacketReport::without(0, NOTHING_THERE);
+        return PacketReport::without(RECEIVING_REFUSED, NOTHING_THERE);
     }
     let mut inside = requester.handle.take(alloc);
     let report = requester::receive(&mut inside, now_ms, packet);
@@ -166,7 +167,7 @@ pub extern "C" fn needleoat_requester_status(
     ensures held { HoldsAfter unchanged requester.old.handle.held requester.new.handle.held }
 {
     if !requester.is_live {
-        return StatusReport { kind: 0, length: 0 };
+        return StatusReport::without(STATUS_UNKNOWN);
     }
     let inside = requester.handle.take(alloc);
     let report = requester::status(&inside, number, message);
