@@ -211,7 +211,8 @@ pub record IsReceived (now : ℕ) (bytes : List ℕ) (old new : Inside) : Type 0
 
 -- a packet that was refused changes nothing
 abbrev pub IsLeftByPacket : ℕ → List ℕ → ℕ → Inside → Inside → Type 0
-IsLeftByPacket now bytes kind old new = MatchBool (kind == STEP_REFUSED) (IsAsBefore new old) (IsReceived now bytes old new)
+IsLeftByPacket now bytes kind old new =
+    MatchBool (kind == STEP_REFUSED) (IsAsBefore new old) (IsReceived now bytes old new)
 
 -- the fields are those of the command that is pending
 abbrev pub AreOf : Option PendingCommand → CommandFields → Type 0
