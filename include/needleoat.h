@@ -7,17 +7,47 @@
  * Each call returns, whatever the bytes are. docs/PROTOCOL.md has the protocol whole, docs/C.md says
  * what is proved of these calls and how to build the libraries.
  *
- * The caller has to see to the following; nothing checks it.
+ * The caller has to see to the following; nothing checks it. With both libraries:
  *
  *   - Each pointer is valid: to `length` bytes that may be read (one byte at least is there even
  *     where `length` is 0, so never NULL), or to a struct or an array that may be read and written.
  *   - What a call writes to (`fields`, `out`) overlaps nothing else that is passed to it.
+ *   - What a call reads does not change until it returns. So a buffer that DMA or an interrupt
+ *     writes is copied, or held back from them, before its bytes are passed.
  *   - Two threads may call at once, each with structs and arrays of its own.
  *
+ * With the two ends of libneedleoat_c.a also:
+ *
+ *   - A handle begins as NEEDLEOAT_ENDPOINT_NONE or NEEDLEOAT_REQUESTER_NONE. The caller reads and
+ *     writes no field of it and uses no copy of it; it may stand anywhere, and may be moved between
+ *     two calls. One that is forgotten leaks: end with needleoat_endpoint_free or
+ *     needleoat_requester_free.
+ *   - One call at a time with one handle. No call from a signal or interrupt handler, nor in the
+ *     child of a fork of a process with threads.
+ *   - Moments are milliseconds of one clock that never goes back, at most 4,000,000,000,000,000. A
+ *     counter of 32 bits goes back after 49 days. It is extended so, where this is called once in 49
+ *     days at least:
+ *
+ *         static uint64_t now_ms;
+ *         uint64_t moment(void) {
+ *             return now_ms += (uint32_t)(ticks() - (uint32_t)now_ms);    // uint32_t ticks(void)
+ *         }
+ *
+ *   - rattle_alloc, rattle_realloc and rattle_dealloc are there (at the end of this file). Each
+ *     always returns, leaves by no longjmp and no exception, and calls nothing of this library. A
+ *     block is aligned as asked for and lies apart from all else, also from every other block, until
+ *     it is given back. rattle_realloc keeps the first `kept` bytes, and gives the old block back
+ *     where it gives another one; where it gives none, the old block is as it was. Where two threads
+ *     call this library, the three functions are safe for two threads: they are over malloc
+ *     (examples/c/heap.c), and are not over an array without a lock (examples/c/pool_heap.c).
+ *   - While a command is pending, its endpoint is restarted and never freed and made anew: the
+ *     numbers of a new endpoint begin at 0, so a handle of the old one could be taken for that of
+ *     another command, and the answer would go to that one.
+ *
  * Numbers in structs are in the byte order of the processor. A `length` or `count` is in bytes where
- * nothing else is said. In libneedleoat_wire_c.a a length that a struct has or that a call returns is
- * a uint32_t, on every processor; the length that goes with a pointer is a size_t. Where a call says
- * that it leaves something as it was, no byte of it changed.
+ * nothing else is said. In the structs and the results it is a uint32_t, on every processor; the
+ * length that goes with a pointer is a size_t. Where a call says that it leaves something as it was,
+ * no byte of it changed.
  */
 #ifndef NEEDLEOAT_H
 #define NEEDLEOAT_H
@@ -315,8 +345,8 @@ struct needleoat_control {
 
 /*
  * Writes the packet that answers a control message to the front of `out`, and returns its length in bytes, 8 to
- * 24. Call it where a step of needleoat_endpoint_receive has kind 1, that is where the packet was dropped, with
- * the `reason` of the step and the bytes of that packet; send what it gives to where the packet came from. Each
+ * 24. Call it where a step of needleoat_endpoint_receive is NEEDLEOAT_STEP_DROPPED, with the `reason` of the step
+ * and the bytes of that packet; send what it gives to where the packet came from. Each
  * control message is one packet. Set Endpoint ID to another endpoint ID is answered, and rejected.
  *
  * It returns 0 and leaves `out` as it was where there is no answer: `reason` is neither NEEDLEOAT_NOT_PLDM nor,
@@ -334,45 +364,43 @@ uint32_t needleoat_control_reply(const struct needleoat_control *fields, uint8_t
  *
  * An endpoint answers, a requester asks. Each is behind a handle of its own. They need memory: link the
  * three functions at the end of this file, or examples/c/heap.c, which has them over malloc, or
- * examples/c/pool_heap.c, over an array. What the caller has to see to, beside what the head of this file
- * says:
+ * examples/c/pool_heap.c, over an array. What the caller has to see to stands in the head of this file.
  *
- *   - A handle begins as NEEDLEOAT_ENDPOINT_NONE or NEEDLEOAT_REQUESTER_NONE. The caller reads and writes
- *     no field of it and uses no copy of it; it may stand anywhere, and may be moved between two calls.
- *   - One call at a time with one handle. No call from a signal handler, nor in the child of a fork of a
- *     process with threads.
- *   - Moments are milliseconds of one clock that never goes back, at most 4,000,000,000,000,000. A call
- *     with a moment before that of an earlier call is refused.
- *   - A handle that is forgotten leaks: end with needleoat_endpoint_free or needleoat_requester_free.
+ * A call with a moment past the last one, or before that of the last call with this handle that was accepted,
+ * is refused (NEEDLEOAT_BAD_MOMENT). A call that was refused counts none: what is behind the handle is as
+ * before, its last moment too.
  */
 
 /* Why a call was refused. What is behind the handle is then as before. */
 enum needleoat_refusal {
-    NEEDLEOAT_NO_MEMORY = 1,        /* a growth was refused, or a bound would be passed; it may be tried again */
-    NEEDLEOAT_BAD_MOMENT = 2,       /* the moment is past the last one, or before that of an earlier call */
-    NEEDLEOAT_NOTHING_THERE = 3,    /* there is nothing behind the handle */
-    NEEDLEOAT_OUT_OF_TURN = 4,      /* another request of this source and instance ID is being performed;
-                                       of an answer: no command is asked under its number */
-    NEEDLEOAT_NOT_ITS_ANSWER = 5,   /* it is the answer to another command */
-    NEEDLEOAT_OUT_OF_RANGE = 6,     /* a number is out of its range */
-    NEEDLEOAT_ALREADY_THERE = 7,    /* there is something behind the handle */
-    NEEDLEOAT_BEING_PERFORMED = 8,  /* the command of this very request is being performed */
-    NEEDLEOAT_TOO_MANY_COMMANDS = 9, /* as many commands are being performed as may be at a time */
-    NEEDLEOAT_TAG_IN_USE = 11,      /* the request 8 before this one is still open */
-    NEEDLEOAT_ID_IN_USE = 12,       /* the request 32 before was opened less than twice keep_ms ago */
-    NEEDLEOAT_NOT_A_COMMAND = 13    /* the bytes are no request that carries a command */
+    NEEDLEOAT_NO_MEMORY = 1,         /* a growth of memory was refused, and nothing else; it may be tried again */
+    NEEDLEOAT_BAD_MOMENT = 2,        /* the moment is past the last one, or before that of the last accepted call */
+    NEEDLEOAT_NOTHING_THERE = 3,     /* there is nothing behind the handle */
+    NEEDLEOAT_OUT_OF_TURN = 4,       /* of a packet: another command of its source and instance ID is pending */
+    NEEDLEOAT_NOT_ITS_ANSWER = 5,    /* it is the answer to another command */
+    NEEDLEOAT_OUT_OF_RANGE = 6,      /* a number is out of its range */
+    NEEDLEOAT_ALREADY_THERE = 7,     /* there is something behind the handle */
+    NEEDLEOAT_BEING_PERFORMED = 8,   /* of a packet: the command of this very request is pending */
+    NEEDLEOAT_TOO_MANY_COMMANDS = 9, /* of a packet: as many commands are pending as may be */
+    NEEDLEOAT_NOT_PENDING = 10,      /* of an answer: no command is pending under this handle */
+    NEEDLEOAT_TAG_IN_USE = 11,       /* the request 8 before this one is still open */
+    NEEDLEOAT_ID_IN_USE = 12,        /* the request 32 before was opened less than twice keep_ms ago */
+    NEEDLEOAT_NOT_A_COMMAND = 13,    /* the bytes are no request that carries a command */
+    NEEDLEOAT_TOO_MANY_SOURCES = 14, /* of a packet: as many sources have room for answers as may have */
+    NEEDLEOAT_TOO_MANY_OPEN_MESSAGES = 15 /* of a packet: as many messages of several packets are open as may be */
 };
 
 /* ---- The answering end ----
  *
  * An endpoint takes packets, has each command performed once, and gives the packets of the answers. A copy
  * of a request gets the kept answer. The device is the caller's: where needleoat_endpoint_receive says that
- * a command is to be performed, the caller performs it, however long that takes, and hands its answer to
- * needleoat_endpoint_answer, with the `asking` of that step: it tells for which command the answer is.
+ * a command is to be performed, the command is pending. The caller performs it, however long that takes, and
+ * hands its answer to needleoat_endpoint_answer, with the `handle` of that step: it tells for which command
+ * the answer is.
  *
  * Meanwhile all other packets are received as ever, and more commands may have to be performed, up to the
- * number that the endpoint was made with; they may be answered in any order. Refused for their sake are only:
- * the very request whose command is being performed, byte for byte, in whatever packets and whenever it comes
+ * number of the settings; they may be answered in any order. Refused for their sake are only: the very request
+ * whose command is pending, byte for byte, in whatever packets and whenever it comes
  * (NEEDLEOAT_BEING_PERFORMED); another request of its source and instance ID (NEEDLEOAT_OUT_OF_TURN); and a
  * request whose command would pass the number (NEEDLEOAT_TOO_MANY_COMMANDS). A packet that is refused counts
  * as lost on the bus, and its sender sends it again. An answer is kept from the moment of the request's packet
@@ -386,47 +414,83 @@ struct needleoat_endpoint {
 #define NEEDLEOAT_ENDPOINT_NONE {0, false}
 
 /*
- * Makes an endpoint: 0, or enum needleoat_refusal: 7, else 6 where `own` is not 8 to 254 or `keep_ms` is
- * not 1 to 60,000; else 2; else 1. `keep_ms` is how long an answer is kept for copies. Answers are kept for
- * at most `sources` other endpoints, 32 for each, and at most `open_messages` messages of several packets
- * are open: a packet that would pass one of these bounds is refused before anything is performed
- * (NEEDLEOAT_NO_MEMORY), and nothing that is kept makes room for it. At most `commands` commands are being
- * performed at a time; with 0 none is ever performed. `first_start` is true only where this
- * endpoint never ran before. After a reset of the processor it is false: a request that was performed
- * before could come once more, so for `keep_ms` from `now_ms` on each request with a good header is answered
- * with ERROR_NOT_READY and nothing is performed.
+ * What an endpoint is made with. Fill it by the names of its fields: later settings will be further fields.
+ *
+ * What would pass one of the three bounds is refused before anything is performed, and nothing that is kept
+ * makes room for it. A source has room for its answers from its first request that is no copy until a restart;
+ * a request in the busy time gives none.
  */
-uint8_t needleoat_endpoint_new(uint8_t own, uint32_t keep_ms, size_t sources, size_t open_messages, size_t commands,
-                               uint64_t now_ms, bool first_start, struct needleoat_endpoint *endpoint);
+struct needleoat_endpoint_settings {
+    uint8_t own;               /* its endpoint ID, 8 to 254 */
+    bool first_start;          /* true only where this endpoint never ran before */
+    uint32_t keep_ms;          /* how long an answer is kept for copies, 1 to 60,000 */
+    uint32_t sources;          /* how many other endpoints have room for answers at most, 32 for each */
+    uint32_t open_messages;    /* how many messages of several packets have begun and not ended at most */
+    uint32_t pending_commands; /* how many commands are pending at most; with 0 none is ever performed */
+};
 
 /*
- * Under which number a command was asked, and for whose request. No two commands of an endpoint have one
- * number, also after a restart. Keep it as it is until the answer, one for each command.
+ * Makes an endpoint: 0, or enum needleoat_refusal: 7, else 6 where `own` is not 8 to 254 or `keep_ms` is
+ * not 1 to 60,000; else 2 where `now_ms` is past the last moment; else 1. After a reset of the processor
+ * `first_start` is false: a request that was performed before could come once more, so for `keep_ms` from
+ * `now_ms` on each request with a good header is answered with ERROR_NOT_READY and nothing is performed. At
+ * any start `now_ms` is the moment of a call that was accepted, so no moment before it may come then.
  */
-struct needleoat_asking {
-    uint64_t number;     /* how many commands were asked before */
+uint8_t needleoat_endpoint_new(const struct needleoat_endpoint_settings *settings, uint64_t now_ms,
+                               struct needleoat_endpoint *endpoint);
+
+/*
+ * The handle of a command: its number, and whose request it is of. No two commands of an endpoint have one
+ * number, also after a restart; those of an endpoint that was freed come again. Keep it as it is until the
+ * answer, one for each command.
+ */
+struct needleoat_command_handle {
+    uint64_t number;     /* how many commands were handed out before */
     uint8_t source;      /* where the request came from, 8 to 254: the packets of its answer go there */
     uint8_t instance_id; /* the request's, 0 to 31 */
 };
 
 /* What becomes of a packet, or of the device's answer. */
+enum needleoat_step_kind {
+    NEEDLEOAT_STEP_REFUSED = 0,  /* it is refused, and all is as before */
+    NEEDLEOAT_STEP_DROPPED = 1,  /* the packet is dropped */
+    NEEDLEOAT_STEP_PARTIAL = 2,  /* the packet begins a message of several, or goes on with one */
+    NEEDLEOAT_STEP_ANSWERED = 3, /* it is answered: the packets of the answer are to be sent */
+    NEEDLEOAT_STEP_PERFORM = 4   /* the command of a request is to be performed, once */
+};
+
 struct needleoat_step {
-    uint8_t kind;   /* 0 refused, 1 dropped, 2 partial, 3 answered, 4 a command is to be performed */
-    uint8_t reason; /* of 0: enum needleoat_refusal; of 1: why, 1 to 17; else 0 */
-    bool fresh;     /* of 3: the request was performed now. Else it is a copy, or nothing is performed yet */
-    bool changed;   /* of 3: it was, is of a command that sets, and was not refused */
-    size_t count;   /* of 3: how many packets the answer has, 1 to 5; else 0 */
-    size_t lengths[NEEDLEOAT_PACKETS]; /* the length of each in bytes, 5 to 68 */
-    struct needleoat_asking asking;    /* of 4: for needleoat_endpoint_answer; else zeros */
+    uint8_t kind;   /* enum needleoat_step_kind */
+    uint8_t reason; /* REFUSED: enum needleoat_refusal; DROPPED: enum needleoat_reason, 1 to 17; else 0 */
+    bool fresh;     /* ANSWERED: it is the first answer to this request, whose command was performed or which was
+                       refused by its code without the device. Else it is a copy, or nothing is performed yet */
+    bool changed;   /* ANSWERED: it is fresh, of a command that sets, and was not refused */
+    uint32_t count; /* ANSWERED: how many packets the answer has, 1 to 5; else 0 */
+    uint32_t lengths[NEEDLEOAT_PACKETS];    /* the length of each in bytes, 5 to 68 */
+    struct needleoat_command_handle handle; /* PERFORM: for needleoat_endpoint_answer; else zeros */
 };
 
 /*
- * Receives the bytes of a packet that came at a moment: refused with the first of 3, 2, 8, 4, 9 and 1, or one
- * of the other kinds. Where a command is to be performed, its fields are in `command`, with the instance ID 0,
- * and `asking` of the step says for whom; otherwise `command` is as it was. Where the packet is answered, packet
- * i of the answer is in front of `packets[i]`. It goes to the source of the request. What else is in `packets`
- * has no meaning. Where the packet was dropped, it may be a control message: hand it on to
- * needleoat_control_reply.
+ * Receives the bytes of a packet that came at a moment: refused with the first of these, or one of the other
+ * kinds.
+ *
+ *    3  there is nothing behind the handle
+ *    2  the moment may not come next
+ *   15  the packet begins a message of several, none of its source and tag is open, and `open_messages` are
+ *    8  it completes the very request whose command is pending
+ *    4  it completes another request of the source and instance ID of a pending command
+ *    9  it completes a request that is no copy and has a command, and `pending_commands` are pending (or 2^64 - 1
+ *       were handed out)
+ *   14  it completes a request that is no copy, its source has no room for answers, and `sources` others have
+ *    1  a growth of memory was refused
+ *
+ * 9 and 14 do not come while nothing is performed: for `keep_ms` from a restart on, or from a start that is not
+ * the first.
+ *
+ * Where a command is to be performed, its fields are in `command`, with the instance ID 0, and `handle` of the
+ * step is its handle; otherwise `command` is as it was. Where the packet is answered, packet i of the answer is
+ * in front of `packets[i]`. It goes to the source of the request. What else is in `packets` has no meaning.
+ * Where the packet was dropped, it may be a control message: hand it on to needleoat_control_reply.
  */
 struct needleoat_step needleoat_endpoint_receive(struct needleoat_endpoint *endpoint, uint64_t now_ms,
                                                  const uint8_t *packet, size_t length,
@@ -434,23 +498,23 @@ struct needleoat_step needleoat_endpoint_receive(struct needleoat_endpoint *endp
                                                  uint8_t packets[NEEDLEOAT_PACKETS][NEEDLEOAT_PACKET_BYTES]);
 
 /*
- * Hands in the answer to the command that was asked by the step with this `asking`, and gives the packets of
- * it: kind 3, or refused with the first of 3, 4, 6 and 5. They go to `asking->source`. 4 comes exactly where no
- * command is to be answered under these three numbers: it was answered, or forgotten by a restart. The answer
- * is the one that needleoat_answer_write writes: 6 comes exactly where that call writes nothing, 5 where
- * `pldm_type` or `command` is another than the command's, also where `code` is not 0. The instance ID in
- * `answer` is not looked at beyond that; the request's is sent. It takes no memory. Where it is refused, the
- * command is still to be answered.
+ * Hands in the answer to the command that is pending under this handle, and gives the packets of it:
+ * NEEDLEOAT_STEP_ANSWERED, or refused with the first of 3, 10, 6 and 5. They go to `handle->source`. 10 comes
+ * exactly where no command is pending under the three numbers of the handle: it was answered, or forgotten by a
+ * restart. The answer is the one that needleoat_answer_write writes: 6 comes exactly where that call writes
+ * nothing, 5 where `pldm_type` or `command` is another than the command's, also where `code` is not 0. The
+ * instance ID in `answer` is not looked at beyond that; the request's is sent. It takes no memory. Where it is
+ * refused with 6 or 5, the command is still pending.
  */
 struct needleoat_step needleoat_endpoint_answer(struct needleoat_endpoint *endpoint,
-                                                const struct needleoat_asking *asking,
+                                                const struct needleoat_command_handle *handle,
                                                 const struct needleoat_answer *answer,
                                                 uint8_t packets[NEEDLEOAT_PACKETS][NEEDLEOAT_PACKET_BYTES]);
 
 /*
  * Restarts at a moment: 0, or 3 or 2 of enum needleoat_refusal. The kept answers, the messages that have
- * begun and the commands that are being performed are forgotten, and for the keeping time from then on
- * nothing is performed. An answer to one of those commands is refused with 4 from then on.
+ * begun and the pending commands are forgotten, and for the keeping time from then on nothing is performed.
+ * An answer to one of those commands is refused with 10 from then on.
  */
 uint8_t needleoat_endpoint_restart(struct needleoat_endpoint *endpoint, uint64_t now_ms);
 
@@ -468,13 +532,21 @@ struct needleoat_requester {
 };
 #define NEEDLEOAT_REQUESTER_NONE {0, false}
 
+/* What a requester is made with. Fill it by the names of its fields: later settings will be further fields. */
+struct needleoat_requester_settings {
+    uint8_t own;         /* its endpoint ID, 8 to 254 */
+    uint8_t device;      /* that of the device, 8 to 254 */
+    uint8_t tries;       /* how often a request is sent at most, 1 to 8 */
+    uint32_t keep_ms;    /* how long the device keeps an answer for copies, 1 to 60,000 */
+    uint32_t timeout_ms; /* how long after it was sent a request is sent again, 1 or more */
+};
+
 /*
- * Makes a requester: 0, or enum needleoat_refusal: 7, else 6 where `own` or `device` is not 8 to 254 or
- * both are the same, `keep_ms` is not 1 to 60,000, `timeout_ms` is 0, `tries` is not 1 to 8, or `tries`
- * times `timeout_ms` is above `keep_ms`; else 1. `keep_ms` is the keeping time of the device. Instance IDs
- * begin at 0: after a reset of the processor let twice `keep_ms` pass before the first request.
+ * Makes a requester: 0, or enum needleoat_refusal: 7, else 6 where a setting is out of its range, `own` and
+ * `device` are the same, or `tries` times `timeout_ms` is above `keep_ms`; else 1. Instance IDs begin at 0:
+ * after a reset of the processor let twice `keep_ms` pass before the first request. Its last moment is 0.
  */
-uint8_t needleoat_requester_new(uint8_t own, uint8_t device, uint32_t keep_ms, uint32_t timeout_ms, uint8_t tries,
+uint8_t needleoat_requester_new(const struct needleoat_requester_settings *settings,
                                 struct needleoat_requester *requester);
 
 /* A request that was opened. Where `refusal` is not 0, the other fields have no meaning. */
@@ -494,20 +566,31 @@ struct needleoat_opening needleoat_requester_open(struct needleoat_requester *re
 
 /* The requests that are due, by their numbers. */
 struct needleoat_due {
-    size_t again_count;    /* at most 8 */
-    size_t given_up_count; /* at most 8 */
-    uint64_t again[8];     /* those to be sent again now: the first of these */
-    uint64_t given_up[8];  /* those that were given up: the first of these */
+    uint32_t again_count;    /* at most 8 */
+    uint32_t given_up_count; /* at most 8 */
+    uint64_t again[8];       /* those to be sent again now: the first of these */
+    uint64_t given_up[8];    /* those that were given up: the first of these */
 };
 
-/* Lists the requests that are due at a moment: 0, or 3 or 2 of enum needleoat_refusal. */
+/*
+ * Lists the requests that are due at a moment: 0, or 3 or 2 of enum needleoat_refusal. Where it is not 0, `due`
+ * is as it was.
+ */
 uint8_t needleoat_requester_tick(struct needleoat_requester *requester, uint64_t now_ms, struct needleoat_due *due);
 
 /* What becomes of a packet. */
+enum needleoat_receiving_kind {
+    NEEDLEOAT_RECEIVING_REFUSED = 0, /* it is refused, and all is as before */
+    NEEDLEOAT_RECEIVING_DROPPED = 1, /* it is dropped */
+    NEEDLEOAT_RECEIVING_PARTIAL = 2, /* it begins a message of several packets, or goes on with one */
+    NEEDLEOAT_RECEIVING_ANSWERED = 3 /* it completes the answer to a request */
+};
+
 struct needleoat_receiving {
-    uint8_t kind;    /* 0 refused, 1 dropped, 2 partial, 3 the answer to a request */
-    uint8_t reason;  /* of 0: 3, 2 or 1 of enum needleoat_refusal; of 1: why, 1 to 20 but 16; else 0 */
-    uint64_t number; /* of 3: the request that was answered */
+    uint8_t kind;    /* enum needleoat_receiving_kind */
+    uint8_t reason;  /* REFUSED: 3, 2 or 1 of enum needleoat_refusal; DROPPED: enum needleoat_reason, 1 to 20 but 16;
+                        else 0 */
+    uint64_t number; /* ANSWERED: the request that was answered */
 };
 
 /* Receives the bytes of a packet that came at a moment. */
@@ -518,16 +601,26 @@ struct needleoat_receiving needleoat_requester_receive(struct needleoat_requeste
  * Writes the packet of a request to the front of `out`, and returns its length in bytes; 0, with `out` as
  * it was, where the request is not among the last 32. The packet is the same each time that it is sent.
  */
-size_t needleoat_requester_packet(struct needleoat_requester *requester, uint64_t number,
-                                  uint8_t out[NEEDLEOAT_PACKET_BYTES]);
+uint32_t needleoat_requester_packet(struct needleoat_requester *requester, uint64_t number,
+                                    uint8_t out[NEEDLEOAT_PACKET_BYTES]);
 
 /* How a request stands. */
-struct needleoat_status {
-    uint8_t kind;  /* 0 not among the last 32, 1 open, 2 answered, 3 given up */
-    size_t length; /* of 2: the length of the response; else 0 */
+enum needleoat_status_kind {
+    NEEDLEOAT_STATUS_UNKNOWN = 0,  /* it is not among the last 32 */
+    NEEDLEOAT_STATUS_OPEN = 1,     /* its answer may still come */
+    NEEDLEOAT_STATUS_ANSWERED = 2, /* it was answered */
+    NEEDLEOAT_STATUS_GAVE_UP = 3   /* it was given up */
 };
 
-/* Reports how a request stands, and writes the response that answered it to the front of `message`. */
+struct needleoat_status {
+    uint8_t kind;    /* enum needleoat_status_kind */
+    uint32_t length; /* ANSWERED: the length of the response; else 0 */
+};
+
+/*
+ * Reports how a request stands, and writes the response that answered it to the front of `message`, which is
+ * as it was where there is none.
+ */
 struct needleoat_status needleoat_requester_status(struct needleoat_requester *requester, uint64_t number,
                                                    uint8_t message[NEEDLEOAT_MESSAGE_BYTES]);
 
@@ -535,8 +628,9 @@ struct needleoat_status needleoat_requester_status(struct needleoat_requester *r
 void needleoat_requester_free(struct needleoat_requester *requester);
 
 /*
- * The memory that the library asks for. `size` may be 0. A block is aligned to `align`, a power of two up
- * to 16. Where `is_there` is false, `at` points to some byte all the same, and nothing else changed.
+ * The memory that the library asks for; the head of this file says what these functions have to keep. `size`
+ * may be 0. A block is aligned to `align`, a power of two up to 16. Where `is_there` is false, `at` points to
+ * some byte all the same, and nothing else changed.
  */
 struct needleoat_block {
     bool is_there;
@@ -643,38 +737,51 @@ NEEDLEOAT_AT(needleoat_control, pldm_version, 25);
 NEEDLEOAT_ASSERT(sizeof(struct needleoat_endpoint) == 16);
 NEEDLEOAT_AT(needleoat_endpoint, at, 0);
 NEEDLEOAT_AT(needleoat_endpoint, is_live, 8);
-NEEDLEOAT_ASSERT(sizeof(struct needleoat_asking) == 16);
-NEEDLEOAT_AT(needleoat_asking, number, 0);
-NEEDLEOAT_AT(needleoat_asking, source, 8);
-NEEDLEOAT_AT(needleoat_asking, instance_id, 9);
-NEEDLEOAT_ASSERT(sizeof(struct needleoat_step) == 72);
+NEEDLEOAT_ASSERT(sizeof(struct needleoat_endpoint_settings) == 20);
+NEEDLEOAT_AT(needleoat_endpoint_settings, own, 0);
+NEEDLEOAT_AT(needleoat_endpoint_settings, first_start, 1);
+NEEDLEOAT_AT(needleoat_endpoint_settings, keep_ms, 4);
+NEEDLEOAT_AT(needleoat_endpoint_settings, sources, 8);
+NEEDLEOAT_AT(needleoat_endpoint_settings, open_messages, 12);
+NEEDLEOAT_AT(needleoat_endpoint_settings, pending_commands, 16);
+NEEDLEOAT_ASSERT(sizeof(struct needleoat_command_handle) == 16);
+NEEDLEOAT_AT(needleoat_command_handle, number, 0);
+NEEDLEOAT_AT(needleoat_command_handle, source, 8);
+NEEDLEOAT_AT(needleoat_command_handle, instance_id, 9);
+NEEDLEOAT_ASSERT(sizeof(struct needleoat_step) == 48);
 NEEDLEOAT_AT(needleoat_step, kind, 0);
 NEEDLEOAT_AT(needleoat_step, reason, 1);
 NEEDLEOAT_AT(needleoat_step, fresh, 2);
 NEEDLEOAT_AT(needleoat_step, changed, 3);
-NEEDLEOAT_AT(needleoat_step, count, 8);
-NEEDLEOAT_AT(needleoat_step, lengths, 16);
-NEEDLEOAT_AT(needleoat_step, asking, 56);
+NEEDLEOAT_AT(needleoat_step, count, 4);
+NEEDLEOAT_AT(needleoat_step, lengths, 8);
+NEEDLEOAT_AT(needleoat_step, handle, 32);
 NEEDLEOAT_ASSERT(sizeof(struct needleoat_requester) == 16);
 NEEDLEOAT_AT(needleoat_requester, at, 0);
 NEEDLEOAT_AT(needleoat_requester, is_live, 8);
+NEEDLEOAT_ASSERT(sizeof(struct needleoat_requester_settings) == 12);
+NEEDLEOAT_AT(needleoat_requester_settings, own, 0);
+NEEDLEOAT_AT(needleoat_requester_settings, device, 1);
+NEEDLEOAT_AT(needleoat_requester_settings, tries, 2);
+NEEDLEOAT_AT(needleoat_requester_settings, keep_ms, 4);
+NEEDLEOAT_AT(needleoat_requester_settings, timeout_ms, 8);
 NEEDLEOAT_ASSERT(sizeof(struct needleoat_opening) == 16);
 NEEDLEOAT_AT(needleoat_opening, refusal, 0);
 NEEDLEOAT_AT(needleoat_opening, instance_id, 1);
 NEEDLEOAT_AT(needleoat_opening, tag, 2);
 NEEDLEOAT_AT(needleoat_opening, number, 8);
-NEEDLEOAT_ASSERT(sizeof(struct needleoat_due) == 144);
+NEEDLEOAT_ASSERT(sizeof(struct needleoat_due) == 136);
 NEEDLEOAT_AT(needleoat_due, again_count, 0);
-NEEDLEOAT_AT(needleoat_due, given_up_count, 8);
-NEEDLEOAT_AT(needleoat_due, again, 16);
-NEEDLEOAT_AT(needleoat_due, given_up, 80);
+NEEDLEOAT_AT(needleoat_due, given_up_count, 4);
+NEEDLEOAT_AT(needleoat_due, again, 8);
+NEEDLEOAT_AT(needleoat_due, given_up, 72);
 NEEDLEOAT_ASSERT(sizeof(struct needleoat_receiving) == 16);
 NEEDLEOAT_AT(needleoat_receiving, kind, 0);
 NEEDLEOAT_AT(needleoat_receiving, reason, 1);
 NEEDLEOAT_AT(needleoat_receiving, number, 8);
-NEEDLEOAT_ASSERT(sizeof(struct needleoat_status) == 16);
+NEEDLEOAT_ASSERT(sizeof(struct needleoat_status) == 8);
 NEEDLEOAT_AT(needleoat_status, kind, 0);
-NEEDLEOAT_AT(needleoat_status, length, 8);
+NEEDLEOAT_AT(needleoat_status, length, 4);
 NEEDLEOAT_ASSERT(sizeof(struct needleoat_block) == 16);
 NEEDLEOAT_AT(needleoat_block, is_there, 0);
 NEEDLEOAT_AT(needleoat_block, at, 8);

@@ -1,6 +1,6 @@
 /*
  * The requesting end: a request whose answer is lost, its retry, a second request, and one that is given up. The device
- * is a fan that keeps one answer. Each call that had no memory is made again, since it changed nothing.
+ * is a fan that keeps one answer. A call that had no memory is made again, at most three times: it changed nothing.
  */
 #include "needleoat.h"
 #include <inttypes.h>
@@ -46,10 +46,15 @@ static const char *device(const uint8_t *bytes, size_t length) {
 static struct needleoat_requester requester = NEEDLEOAT_REQUESTER_NONE;
 static uint8_t packet[NEEDLEOAT_PACKET_BYTES], response[NEEDLEOAT_MESSAGE_BYTES];
 
+enum { MEMORY_TRIES = 3 };
+
 static uint8_t make(struct needleoat_requester *handle, uint8_t own) {
+    struct needleoat_requester_settings settings = {
+        .own = own, .device = 9, .tries = 3, .keep_ms = 1000, .timeout_ms = 200};
     uint8_t refusal;
-    do refusal = needleoat_requester_new(own, 9, 1000, 200, 3, handle);
-    while (refusal == NEEDLEOAT_NO_MEMORY);
+    int tries = MEMORY_TRIES;
+    do refusal = needleoat_requester_new(&settings, handle);
+    while (refusal == NEEDLEOAT_NO_MEMORY && --tries > 0);
     return refusal;
 }
 
@@ -57,16 +62,17 @@ static void open(uint64_t now, const struct needleoat_command *command) {
     uint8_t request[NEEDLEOAT_REQUEST_BYTES];
     uint32_t length = needleoat_command_write(command, request);
     struct needleoat_opening opening;
+    int tries = MEMORY_TRIES;
     do opening = needleoat_requester_open(&requester, now, request, length);
-    while (opening.refusal == NEEDLEOAT_NO_MEMORY);
+    while (opening.refusal == NEEDLEOAT_NO_MEMORY && --tries > 0);
     if (opening.refusal != 0) printf("%" PRIu64 " not opened: %u\n", now, opening.refusal);
     else
         printf("%" PRIu64 " opened %" PRIu64 ", instance ID %u, tag %u\n", now, opening.number, opening.instance_id,
                opening.tag);
 }
 
-static size_t send(uint64_t number) {
-    size_t length = needleoat_requester_packet(&requester, number, packet);
+static uint32_t send(uint64_t number) {
+    uint32_t length = needleoat_requester_packet(&requester, number, packet);
     print_bytes("packet", packet, length);
     return length;
 }
@@ -78,22 +84,23 @@ static void tick(uint64_t now) {
         printf("%" PRIu64 " no tick: %u\n", now, refusal);
         return;
     }
-    for (size_t i = 0; i < due.again_count; i++) printf("%" PRIu64 " again %" PRIu64 "\n", now, due.again[i]);
-    for (size_t i = 0; i < due.given_up_count; i++) printf("%" PRIu64 " gave up %" PRIu64 "\n", now, due.given_up[i]);
+    for (uint32_t i = 0; i < due.again_count; i++) printf("%" PRIu64 " again %" PRIu64 "\n", now, due.again[i]);
+    for (uint32_t i = 0; i < due.given_up_count; i++) printf("%" PRIu64 " gave up %" PRIu64 "\n", now, due.given_up[i]);
 }
 
 static void receive(uint64_t now) {
     struct needleoat_receiving r;
+    int tries = MEMORY_TRIES;
     do r = needleoat_requester_receive(&requester, now, kept_answer, kept_answer_length);
-    while (r.kind == 0 && r.reason == NEEDLEOAT_NO_MEMORY);
-    if (r.kind == 3) printf("%" PRIu64 " answered %" PRIu64 "\n", now, r.number);
+    while (r.kind == NEEDLEOAT_RECEIVING_REFUSED && r.reason == NEEDLEOAT_NO_MEMORY && --tries > 0);
+    if (r.kind == NEEDLEOAT_RECEIVING_ANSWERED) printf("%" PRIu64 " answered %" PRIu64 "\n", now, r.number);
     else printf("%" PRIu64 " kind %u reason %u\n", now, r.kind, r.reason);
 }
 
 static void status(uint64_t number) {
     struct needleoat_status s = needleoat_requester_status(&requester, number, response);
     printf("request %" PRIu64 ": kind %u\n", number, s.kind);
-    if (s.kind == 2) print_bytes("response", response, s.length);
+    if (s.kind == NEEDLEOAT_STATUS_ANSWERED) print_bytes("response", response, s.length);
 }
 
 int main(void) {

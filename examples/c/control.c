@@ -7,11 +7,10 @@
 #include <stdio.h>
 #include <string.h>
 
-enum { OWN = 9, KEEP_MS = 1000, SOURCES = 1, OPEN_MESSAGES = 1, COMMANDS = 1 };
-enum { DROPPED = 1, TO_PERFORM = 4 };
+enum { OWN = 9, MEMORY_TRIES = 3 };
 
 /* The versions 1.3.1 of the base specification and of the control protocol, and 1.0.0 of PLDM over MCTP. */
-static const struct needleoat_control settings = {
+static const struct needleoat_control control = {
     .eid = OWN,
     .uuid = {0x4e, 0x65, 0x65, 0x64, 0x6c, 0x65, 0x8f, 0x61, 0x80, 0x74, 0, 0, 0, 0, 0, OWN},
     .base_version = {0xf1, 0xf3, 0xf1, 0x00},
@@ -19,9 +18,14 @@ static const struct needleoat_control settings = {
     .pldm_version = {0xf1, 0xf0, 0xf0, 0x00},
 };
 
+static const struct needleoat_endpoint_settings settings = {
+    .own = OWN, .first_start = true, .keep_ms = 1000, .sources = 1, .open_messages = 1, .pending_commands = 1};
 static struct needleoat_endpoint endpoint = NEEDLEOAT_ENDPOINT_NONE;
 
-/* Receives a packet of at most 11 bytes, and prints what comes of it. */
+/*
+ * Receives a packet of at most 11 bytes, and prints what comes of it. Where memory was refused it is received again, at
+ * most three times; a packet that is refused counts as lost.
+ */
 static void receive(const char *name, const char *hex) {
     uint8_t packet[11], packets[NEEDLEOAT_PACKETS][NEEDLEOAT_PACKET_BYTES], reply[NEEDLEOAT_PACKET_BYTES];
     size_t length = 0;
@@ -29,11 +33,14 @@ static void receive(const char *name, const char *hex) {
     while (length < sizeof packet && sscanf(hex + 2 * length, "%2hhx", &packet[length]) == 1) length++;
     struct needleoat_command command;
     struct needleoat_step step;
+    int tries = MEMORY_TRIES;
     do step = needleoat_endpoint_receive(&endpoint, 0, packet, length, &command, packets);
-    while (step.kind == 0 && step.reason == NEEDLEOAT_NO_MEMORY);
-    if (step.kind == DROPPED) count = needleoat_control_reply(&settings, step.reason, packet, length, reply);
+    while (step.kind == NEEDLEOAT_STEP_REFUSED && step.reason == NEEDLEOAT_NO_MEMORY && --tries > 0);
+    if (step.kind == NEEDLEOAT_STEP_DROPPED)
+        count = needleoat_control_reply(&control, step.reason, packet, length, reply);
     printf("%s: ", name);
-    if (step.kind == TO_PERFORM) printf("command %02x of PLDM is to be performed", command.command);
+    if (step.kind == NEEDLEOAT_STEP_PERFORM) printf("command %02x of PLDM is to be performed", command.command);
+    else if (step.kind == NEEDLEOAT_STEP_REFUSED) printf("lost, refusal %u", step.reason);
     else if (count == 0) printf("dropped, reason %u", step.reason);
     for (uint32_t i = 0; i < count; i++) printf("%02x", reply[i]);
     printf("\n");
@@ -41,8 +48,9 @@ static void receive(const char *name, const char *hex) {
 
 int main(void) {
     uint8_t refusal;
-    do refusal = needleoat_endpoint_new(OWN, KEEP_MS, SOURCES, OPEN_MESSAGES, COMMANDS, 0, true, &endpoint);
-    while (refusal == NEEDLEOAT_NO_MEMORY);
+    int tries = MEMORY_TRIES;
+    do refusal = needleoat_endpoint_new(&settings, 0, &endpoint);
+    while (refusal == NEEDLEOAT_NO_MEMORY && --tries > 0);
     receive("Get Endpoint ID, by the physical address", "010008c8008002");
     receive("Set Endpoint ID to its own", "010008c80081010009");
     receive("Set Endpoint ID to another", "010008c8008201000a");

@@ -2,14 +2,14 @@
  * A fan behind numeric effecter 1 of the endpoint 9: its speed is 0 to 100 percent, and 10 at first. The input is lines
  * of a moment and a packet in hexadecimal, after a line `%%` (examples/copies.txt); the output is each packet of each
  * answer, also to the control messages of a bus owner. A packet that was refused for want of memory is received again,
- * as if its sender had sent it again.
+ * at most three times. One that is refused still, or at a bound, counts as lost: its sender sends it again.
  */
 #include "needleoat.h"
 #include <inttypes.h>
 #include <stdio.h>
 #include <string.h>
 
-enum { OWN = 9, KEEP_MS = 1000, SOURCES = 2, OPEN_MESSAGES = 1, COMMANDS = 1 };
+enum { OWN = 9, MEMORY_TRIES = 3 };
 enum { ERROR_INVALID_DATA = 2, ERROR_UNSUPPORTED_COMMAND = 5, INVALID_EFFECTER_ID = 0x80 };
 enum { FULL_SPEED = 100, ENABLED_NO_UPDATE_PENDING = 1 };
 
@@ -32,7 +32,7 @@ static struct needleoat_answer perform(const struct needleoat_command *command) 
 }
 
 /* What a bus owner is told: the versions 1.3.1 of the base specification and of the control protocol, and 1.0.0. */
-static const struct needleoat_control settings = {
+static const struct needleoat_control control = {
     .eid = OWN,
     .uuid = {0x4e, 0x65, 0x65, 0x64, 0x6c, 0x65, 0x8f, 0x61, 0x80, 0x74, 0, 0, 0, 0, 0, OWN},
     .base_version = {0xf1, 0xf3, 0xf1, 0x00},
@@ -40,27 +40,31 @@ static const struct needleoat_control settings = {
     .pldm_version = {0xf1, 0xf0, 0xf0, 0x00},
 };
 
+static const struct needleoat_endpoint_settings settings = {
+    .own = OWN, .first_start = true, .keep_ms = 1000, .sources = 2, .open_messages = 1, .pending_commands = 1};
 static struct needleoat_endpoint endpoint = NEEDLEOAT_ENDPOINT_NONE;
 static uint8_t packets[NEEDLEOAT_PACKETS][NEEDLEOAT_PACKET_BYTES];
 
-/* Receives a packet, and writes the packets that answer it. Returns whether it went well. */
+/* Receives a packet, and writes the packets that answer it. Returns whether the moment and the answer were good. */
 static bool serve(uint64_t now_ms, const uint8_t *packet, size_t length) {
     struct needleoat_command command;
     struct needleoat_step step;
+    int tries = MEMORY_TRIES;
     do step = needleoat_endpoint_receive(&endpoint, now_ms, packet, length, &command, packets);
-    while (step.kind == 0 && step.reason == NEEDLEOAT_NO_MEMORY);
-    if (step.kind == 4) {
+    while (step.kind == NEEDLEOAT_STEP_REFUSED && step.reason == NEEDLEOAT_NO_MEMORY && --tries > 0);
+    if (step.kind == NEEDLEOAT_STEP_REFUSED) return step.reason != NEEDLEOAT_BAD_MOMENT; /* the packet is lost */
+    if (step.kind == NEEDLEOAT_STEP_PERFORM) {
         struct needleoat_answer answer = perform(&command);
-        step = needleoat_endpoint_answer(&endpoint, &step.asking, &answer, packets);
-    } else if (step.kind == 1) {
-        step.lengths[0] = needleoat_control_reply(&settings, step.reason, packet, length, packets[0]);
+        step = needleoat_endpoint_answer(&endpoint, &step.handle, &answer, packets);
+    } else if (step.kind == NEEDLEOAT_STEP_DROPPED) {
+        step.lengths[0] = needleoat_control_reply(&control, step.reason, packet, length, packets[0]);
         step.count = step.lengths[0] > 0;
     }
-    for (size_t i = 0; i < step.count; i++) {
-        for (size_t j = 0; j < step.lengths[i]; j++) printf("%02x", packets[i][j]);
+    for (uint32_t i = 0; i < step.count; i++) {
+        for (uint32_t j = 0; j < step.lengths[i]; j++) printf("%02x", packets[i][j]);
         printf("\n");
     }
-    return step.kind != 0;
+    return step.kind != NEEDLEOAT_STEP_REFUSED;
 }
 
 /* Reads the bytes that are written in hexadecimal up to the end of a line, and returns how many there are. */
@@ -73,8 +77,9 @@ static size_t read_bytes(const char *text, uint8_t *bytes, size_t most) {
 int main(void) {
     char line[512];
     uint8_t packet[128], refusal, well = 1;
-    do refusal = needleoat_endpoint_new(OWN, KEEP_MS, SOURCES, OPEN_MESSAGES, COMMANDS, 0, true, &endpoint);
-    while (refusal == NEEDLEOAT_NO_MEMORY);
+    int tries = MEMORY_TRIES;
+    do refusal = needleoat_endpoint_new(&settings, 0, &endpoint);
+    while (refusal == NEEDLEOAT_NO_MEMORY && --tries > 0);
     while (fgets(line, sizeof line, stdin) && strcmp(line, "%%\n") != 0) continue;
     while (refusal == 0 && well && fgets(line, sizeof line, stdin)) {
         uint64_t now_ms;

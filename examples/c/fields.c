@@ -375,29 +375,30 @@ static uint8_t rooms[NEEDLEOAT_PACKETS][NEEDLEOAT_PACKET_BYTES];
 
 /* The numbers of a step, and the first five bytes of each packet. */
 static void print_step(const char *what, struct needleoat_step step) {
-    printf("%s: kind %u reason %u fresh %d changed %d count %zu lengths", what, step.kind, step.reason, step.fresh,
-           step.changed, step.count);
-    for (size_t i = 0; i < NEEDLEOAT_PACKETS; i++) printf(" %zu", step.lengths[i]);
-    printf(" asking %u %u %u", (unsigned)step.asking.number, step.asking.source, step.asking.instance_id);
-    for (size_t i = 0; i < step.count && i < NEEDLEOAT_PACKETS; i++) {
+    printf("%s: kind %u reason %u fresh %d changed %d count %" PRIu32 " lengths", what, step.kind, step.reason,
+           step.fresh, step.changed, step.count);
+    for (size_t i = 0; i < NEEDLEOAT_PACKETS; i++) printf(" %" PRIu32, step.lengths[i]);
+    printf(" handle %" PRIu64 " %u %u", step.handle.number, step.handle.source, step.handle.instance_id);
+    for (uint32_t i = 0; i < step.count && i < NEEDLEOAT_PACKETS; i++) {
         printf(" ");
         print_bytes(rooms[i], 5);
     }
     printf("\n");
 }
 
-/* Receives a packet, and returns under which number its command is asked. */
-static struct needleoat_asking step_receive(const char *what, uint64_t now_ms, const char *hex) {
+/* Receives a packet, and returns the handle of its command. */
+static struct needleoat_command_handle step_receive(const char *what, uint64_t now_ms, const char *hex) {
     uint8_t bytes[NEEDLEOAT_PACKET_BYTES];
     size_t length = from_hex(hex, bytes);
     struct needleoat_command command;
     struct needleoat_step step = needleoat_endpoint_receive(&endpoint, now_ms, bytes, length, &command, rooms);
     print_step(what, step);
-    return step.asking;
+    return step.handle;
 }
 
-static void step_answer(const char *what, struct needleoat_asking asking, const struct needleoat_answer *answer) {
-    print_step(what, needleoat_endpoint_answer(&endpoint, &asking, answer, rooms));
+static void step_answer(const char *what, struct needleoat_command_handle handle,
+                        const struct needleoat_answer *answer) {
+    print_step(what, needleoat_endpoint_answer(&endpoint, &handle, answer, rooms));
 }
 
 /* Answers a request for a part of a record with so many bytes, each of which is its own place. */
@@ -417,22 +418,22 @@ static const struct needleoat_answer done = {PLATFORM(0, NEEDLEOAT_SET_NUMERIC_E
 static void two_commands(void) {
     static const struct needleoat_answer of_another = {BASE(0, NEEDLEOAT_SET_TID)};
     static const struct needleoat_answer out_of_range = {PLATFORM(32, NEEDLEOAT_SET_NUMERIC_EFFECTER_VALUE)};
-    struct needleoat_asking first = step_receive("set", 5, SET_OF_8);
+    struct needleoat_command_handle first = step_receive("set", 5, SET_OF_8);
     step_receive("set again", 5, SET_OF_8);
     step_receive("first half of the set", 5, "01090888" "01800231");
     step_receive("second half of the set", 5, "01090858" "01000028");
     step_receive("set to another value", 5, "010908c8" "0180023101000029");
     step_receive("set by another", 5, "01090ac8" "0180023101000028");
-    struct needleoat_asking second = step_receive("set with another instance ID", 5, OTHER_SET_OF_8);
+    struct needleoat_command_handle second = step_receive("set with another instance ID", 5, OTHER_SET_OF_8);
     step_receive("set with another instance ID again", 5, OTHER_SET_OF_8);
     step_receive("set with a third instance ID", 5, "010908ca" "0187023101000028");
     step_receive("for another endpoint meanwhile", 5, "010a08c8" "0180023101000028");
     step_answer("answer to another command", first, &of_another);
     step_answer("answer out of range", first, &out_of_range);
-    step_answer("answer under another number", (struct needleoat_asking){1, 8, 0}, &done);
-    step_answer("answer to another instance ID", (struct needleoat_asking){0, 8, 6}, &done);
-    step_answer("answer to another source", (struct needleoat_asking){0, 10, 0}, &done);
-    step_answer("answer to no source", (struct needleoat_asking){0, 0, 0}, &done);
+    step_answer("answer under another number", (struct needleoat_command_handle){1, 8, 0}, &done);
+    step_answer("answer to another instance ID", (struct needleoat_command_handle){0, 8, 6}, &done);
+    step_answer("answer to another source", (struct needleoat_command_handle){0, 10, 0}, &done);
+    step_answer("answer to no source", (struct needleoat_command_handle){0, 0, 0}, &done);
     step_answer("answer to the second", second, &done);
     step_answer("answer to the first", first, &done);
     step_answer("answer to the first again", first, &done);
@@ -442,23 +443,29 @@ static void two_commands(void) {
 
 static void steps(void) {
     static const struct needleoat_answer refused = {PLATFORM(0, NEEDLEOAT_GET_PDR), .code = 0x82};
-    const struct needleoat_asking none = {0, 8, 0};
+    static const struct needleoat_endpoint_settings settings = {
+        .own = 9, .first_start = true, .keep_ms = 1000, .sources = 1, .open_messages = 3, .pending_commands = 2};
+    const struct needleoat_command_handle none = {0, 8, 0};
     step_receive("nothing there", 0, SET_OF_8);
     step_answer("nothing there", none, &done);
-    printf("made %u", needleoat_endpoint_new(9, 1000, 1, 2, 2, 0, true, &endpoint));
-    printf(" again %u\n", needleoat_endpoint_new(9, 1000, 1, 2, 2, 0, true, &endpoint));
-    step_answer("nothing asked", none, &done);
+    printf("made %u", needleoat_endpoint_new(&settings, 4, &endpoint));
+    printf(" again %u\n", needleoat_endpoint_new(&settings, 4, &endpoint));
+    step_answer("nothing pending", none, &done);
+    step_receive("before the first moment", 3, SET_OF_8);
     two_commands();
     step_receive("before the last moment", 5, SET_OF_8);
     step_receive("for another endpoint", 6, "010a08c8" "0180023101000028");
     step_receive("first packet", 6, "0109088d" "0180023101000028");
+    step_receive("a second open message", 6, "0109088e" "01800231");
+    step_receive("a third open message", 6, "0109088f" "01800231");
+    step_receive("a fourth open message", 6, "01090888" "01800231");
     step_receive("another source", 6, "01090ac8" "0180023101000028");
     step_part(PART_OF_8("c9", "81"), 4, 300);
     step_part(PART_OF_8("ca", "82"), 0, 60);
     step_part(PART_OF_8("cb", "83"), 0, 130);
     step_part(PART_OF_8("cc", "84"), 0, 200);
     step_answer("answer with a code", step_receive("part", 6, PART_OF_8("cd", "85")), &refused);
-    struct needleoat_asking last = step_receive("set before the restart", 6, "010908ce" "0188023101000028");
+    struct needleoat_command_handle last = step_receive("set before the restart", 6, "010908ce" "0188023101000028");
     printf("restarted %u", needleoat_endpoint_restart(&endpoint, 7));
     printf(" before %u\n", needleoat_endpoint_restart(&endpoint, 6));
     step_answer("answer after the restart", last, &done);

@@ -7,19 +7,16 @@
 #include <stdlib.h>
 
 static uint8_t some_byte;
-static unsigned long growths, refused;
+static _Atomic unsigned long growths; /* two threads may call at once */
 
-static void report(void) { fprintf(stderr, "growths %lu\n", growths); }
+static void report(void) { fprintf(stderr, "growths %lu\n", (unsigned long)growths); }
 
 /* Counts a growth, and says whether it is the one to be refused. */
 static bool is_refused(void) {
-    if (growths == 0) {
-        const char *number = getenv("REFUSED_GROWTH");
-        if (number) refused = strtoul(number, NULL, 10);
-        atexit(report);
-    }
-    growths++;
-    return growths == refused;
+    unsigned long growth = ++growths;
+    if (growth == 1) atexit(report);
+    const char *refused = getenv("REFUSED_GROWTH");
+    return refused && growth == strtoul(refused, NULL, 10);
 }
 
 static struct needleoat_block block(void *at) {

@@ -14,7 +14,10 @@
 #include <time.h>
 #include <unistd.h>
 
-enum { OWN = 8, DEVICE = 9, KEEP_MS = 1000, TIMEOUT_MS = 200, TRIES = 5 };
+enum { MEMORY_TRIES = 3 };
+
+static const struct needleoat_requester_settings requester_settings = {
+    .own = 8, .device = 9, .tries = 5, .keep_ms = 1000, .timeout_ms = 200};
 
 static int line;
 static struct needleoat_requester requester = NEEDLEOAT_REQUESTER_NONE;
@@ -128,7 +131,7 @@ static void send_request(uint64_t number) {
     send_frame(packet, needleoat_requester_packet(&requester, number, packet));
 }
 
-/* Hands in what has come, and waits at most 10 milliseconds for it. */
+/* Hands in what has come, and waits at most 10 milliseconds for it. A packet for which there is no memory is lost. */
 static void listen(void) {
     struct pollfd polled = {.fd = line, .events = POLLIN};
     if (poll(&polled, 1, 10) < 0) fail("poll");
@@ -139,8 +142,9 @@ static void listen(void) {
     for (ssize_t i = 0; i < count; i++) {
         if (!take(bytes[i])) continue;
         struct needleoat_receiving received;
+        int tries = MEMORY_TRIES;
         do received = needleoat_requester_receive(&requester, now(), frame.packet, frame.length);
-        while (received.kind == 0 && received.reason == NEEDLEOAT_NO_MEMORY);
+        while (received.kind == NEEDLEOAT_RECEIVING_REFUSED && received.reason == NEEDLEOAT_NO_MEMORY && --tries > 0);
     }
 }
 
@@ -160,14 +164,17 @@ static void ask(const struct needleoat_command *command, struct needleoat_answer
         }
         send_request(opening.number);
         struct needleoat_status status;
-        while ((status = needleoat_requester_status(&requester, opening.number, response)).kind == 1) {
+        while (status = needleoat_requester_status(&requester, opening.number, response),
+               status.kind == NEEDLEOAT_STATUS_OPEN) {
             listen();
             struct needleoat_due due;
             if (needleoat_requester_tick(&requester, now(), &due) != 0) continue;
-            for (size_t i = 0; i < due.again_count; i++) send_request(due.again[i]);
+            for (uint32_t i = 0; i < due.again_count; i++) send_request(due.again[i]);
         }
         request[1] = (uint8_t)(0x80 | opening.instance_id); /* byte 0 is the message type */
-        if (status.kind == 2 && needleoat_answer_read(request, length, response, status.length, answer) == 0) return;
+        if (status.kind == NEEDLEOAT_STATUS_ANSWERED &&
+            needleoat_answer_read(request, length, response, status.length, answer) == 0)
+            return;
     }
 }
 
@@ -183,7 +190,7 @@ int main(int count, char **words) {
         cfmakeraw(&settings);
         if (tcsetattr(line, TCSANOW, &settings) != 0) fail(words[1]);
     }
-    if (needleoat_requester_new(OWN, DEVICE, KEEP_MS, TIMEOUT_MS, TRIES, &requester) != 0) return 1;
+    if (needleoat_requester_new(&requester_settings, &requester) != 0) return 1;
     int wrong = 0;
     for (int i = 0; i < atoi(words[2]); i++) {
         struct needleoat_command set = {.pldm_type = NEEDLEOAT_PLATFORM,

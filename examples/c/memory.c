@@ -41,6 +41,14 @@ void rattle_dealloc(uint8_t *old) {
     free(old - FRONT);
 }
 
+static const struct needleoat_endpoint_settings settings = {.own = 9,
+                                                            .first_start = true,
+                                                            .keep_ms = 1000,
+                                                            .sources = MANY_SOURCES,
+                                                            .open_messages = 1,
+                                                            .pending_commands = MANY_COMMANDS};
+static const struct needleoat_requester_settings requester_settings = {
+    .own = 8, .device = 9, .tries = 3, .keep_ms = 1000, .timeout_ms = 200};
 static struct needleoat_endpoint endpoint = NEEDLEOAT_ENDPOINT_NONE;
 static struct needleoat_requester requester = NEEDLEOAT_REQUESTER_NONE;
 static uint8_t packet[NEEDLEOAT_PACKET_BYTES], packets[NEEDLEOAT_PACKETS][NEEDLEOAT_PACKET_BYTES];
@@ -63,28 +71,29 @@ static struct needleoat_step get_tid(uint8_t source, uint8_t instance_id) {
 int main(void) {
     static const uint8_t two_packets[100] = {1};
     static const struct needleoat_answer tid = {.pldm_type = NEEDLEOAT_BASE, .command = NEEDLEOAT_GET_TID, .tid = 7};
-    needleoat_endpoint_new(9, 1000, MANY_SOURCES, 1, MANY_COMMANDS, 0, true, &endpoint);
+    needleoat_endpoint_new(&settings, 0, &endpoint);
     printf("heap of an endpoint at first %zu\n", in_use);
     for (uint8_t i = 0; i < MANY_SOURCES; i++) {
         struct needleoat_step step = get_tid(10 + i, 0);
-        if (step.kind != 4) return 1;
-        if (needleoat_endpoint_answer(&endpoint, &step.asking, &tid, packets).kind != 3) return 1;
+        if (step.kind != NEEDLEOAT_STEP_PERFORM) return 1;
+        step = needleoat_endpoint_answer(&endpoint, &step.handle, &tid, packets);
+        if (step.kind != NEEDLEOAT_STEP_ANSWERED) return 1;
         printf("heap of an endpoint with answers for %d sources %zu\n", i + 1, in_use);
     }
     for (uint8_t i = 1; i <= MANY_COMMANDS; i++) {
-        if (get_tid(10, i).kind != 4) return 1;
+        if (get_tid(10, i).kind != NEEDLEOAT_STEP_PERFORM) return 1;
         printf("heap of an endpoint with %d commands too %zu\n", i, in_use);
     }
     if (get_tid(10, MANY_COMMANDS + 1).reason != NEEDLEOAT_TOO_MANY_COMMANDS) return 1;
     if (get_tid(14, 0).reason != NEEDLEOAT_TOO_MANY_COMMANDS) return 1;
     size_t before = in_use;
-    if (receive(14, two_packets, sizeof two_packets).kind != 2) return 1;
+    if (receive(14, two_packets, sizeof two_packets).kind != NEEDLEOAT_STEP_PARTIAL) return 1;
     printf("heap of an endpoint with an open message too %zu\n", in_use);
-    if (receive_packet(14, two_packets, sizeof two_packets, 1).kind != 1) return 1;
+    if (receive_packet(14, two_packets, sizeof two_packets, 1).kind != NEEDLEOAT_STEP_DROPPED) return 1;
     printf("heap of an endpoint after that message %zu\n", in_use);
     if (in_use != before + TABLE) return 1;
     needleoat_endpoint_free(&endpoint);
-    needleoat_requester_new(8, 9, 1000, 200, 3, &requester);
+    needleoat_requester_new(&requester_settings, &requester);
     printf("heap of a requester at first %zu\n", in_use);
     needleoat_requester_free(&requester);
     return in_use != 0;

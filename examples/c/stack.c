@@ -49,26 +49,30 @@ static void response_read(void) { needleoat_response_read(response, response_len
 static void checksum(void) { needleoat_crc8(response, response_length); }
 
 /* An endpoint whose versions a bus owner asks for. */
-static const struct needleoat_control settings = {.eid = 9};
+static const struct needleoat_control control = {.eid = 9};
 static void control_reply(void) {
     static const uint8_t versions[] = {1, 9, 8, 0xc8, 0x00, 0x80, 0x04, 0xff};
-    needleoat_control_reply(&settings, NEEDLEOAT_NOT_PLDM, versions, sizeof versions, packet);
+    needleoat_control_reply(&control, NEEDLEOAT_NOT_PLDM, versions, sizeof versions, packet);
 }
 
 /* An endpoint that is asked for that part: its answer has five packets. */
 static struct needleoat_endpoint endpoint = NEEDLEOAT_ENDPOINT_NONE;
-static struct needleoat_command asked;
-static struct needleoat_asking asking;
+static struct needleoat_command pending;
+static struct needleoat_command_handle handle;
 static uint8_t packets[NEEDLEOAT_PACKETS][NEEDLEOAT_PACKET_BYTES];
 
-static void endpoint_new(void) { needleoat_endpoint_new(9, 1000, 1, 1, 1, 0, false, &endpoint); }
+static void endpoint_new(void) {
+    static const struct needleoat_endpoint_settings settings = {
+        .own = 9, .first_start = false, .keep_ms = 1000, .sources = 1, .open_messages = 1, .pending_commands = 1};
+    needleoat_endpoint_new(&settings, 0, &endpoint);
+}
 static void endpoint_receive(uint64_t now_ms, const uint8_t *message, size_t length) {
     packet_length = needleoat_packet_write(9, 8, true, 0, message, length, 0, packet);
-    asking = needleoat_endpoint_receive(&endpoint, now_ms, packet, packet_length, &asked, packets).asking;
+    handle = needleoat_endpoint_receive(&endpoint, now_ms, packet, packet_length, &pending, packets).handle;
 }
 static void receive_busy(void) { endpoint_receive(999, request, request_length); }
 static void receive_request(void) { endpoint_receive(1000, request, request_length); }
-static void endpoint_answer(void) { needleoat_endpoint_answer(&endpoint, &asking, &answer, packets); }
+static void endpoint_answer(void) { needleoat_endpoint_answer(&endpoint, &handle, &answer, packets); }
 static void receive_copy(void) { endpoint_receive(1001, request, request_length); }
 /* The request once more, with another instance ID and in two packets. */
 static void receive_two(void) {
@@ -78,11 +82,11 @@ static void receive_two(void) {
     other[1]++;
     bytes[3] = 0x88;
     memcpy(bytes + HEAD, other, FIRST);
-    needleoat_endpoint_receive(&endpoint, 1001, bytes, HEAD + FIRST, &asked, packets);
+    needleoat_endpoint_receive(&endpoint, 1001, bytes, HEAD + FIRST, &pending, packets);
     bytes[3] = 0x58;
     memcpy(bytes + HEAD, other + FIRST, request_length - FIRST);
     size_t length = HEAD + request_length - FIRST;
-    asking = needleoat_endpoint_receive(&endpoint, 1001, bytes, length, &asked, packets).asking;
+    handle = needleoat_endpoint_receive(&endpoint, 1001, bytes, length, &pending, packets).handle;
 }
 static void receive_start(void) { endpoint_receive(1002, response, response_length); }
 static void endpoint_restart(void) { needleoat_endpoint_restart(&endpoint, 1003); }
@@ -92,7 +96,11 @@ static void endpoint_free(void) { needleoat_endpoint_free(&endpoint); }
 static struct needleoat_requester requester = NEEDLEOAT_REQUESTER_NONE;
 static struct needleoat_due due;
 
-static void requester_new(void) { needleoat_requester_new(8, 9, 1000, 200, 3, &requester); }
+static void requester_new(void) {
+    static const struct needleoat_requester_settings settings = {
+        .own = 8, .device = 9, .tries = 3, .keep_ms = 1000, .timeout_ms = 200};
+    needleoat_requester_new(&settings, &requester);
+}
 static void requester_open(void) { needleoat_requester_open(&requester, 0, request, request_length); }
 static void requester_packet(void) { needleoat_requester_packet(&requester, 0, packet); }
 static void requester_tick(void) { needleoat_requester_tick(&requester, 200, &due); }

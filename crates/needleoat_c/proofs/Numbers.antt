@@ -1,8 +1,51 @@
--- The numbers of refusals, written a second time.
+-- The numbers of kinds and of refusals, written a second time.
 use Rattle.std.proofs.Common.{◌≡◌, refl}
+use Rattle.needleoat_c.specs.declared.kinds.TheConstants.{RECEIVING_ANSWERED, RECEIVING_DROPPED, RECEIVING_PARTIAL}
+use Rattle.needleoat_c.specs.declared.kinds.TheConstants.{RECEIVING_REFUSED, STATUS_ANSWERED, STATUS_GAVE_UP, STATUS_OPEN}
+use Rattle.needleoat_c.specs.declared.kinds.TheConstants.{STATUS_UNKNOWN, STEP_ANSWERED, STEP_DROPPED, STEP_PARTIAL}
+use Rattle.needleoat_c.specs.declared.kinds.TheConstants.{STEP_PERFORM, STEP_REFUSED}
 use Rattle.needleoat_c.specs.declared.refusals.TheConstants.{ALREADY_THERE, BAD_MOMENT, BEING_PERFORMED, ID_IN_USE, NOTHING_THERE}
-use Rattle.needleoat_c.specs.declared.refusals.TheConstants.{NO_COMMAND, NO_MEMORY, NOT_ITS_ANSWER, OUT_OF_RANGE}
-use Rattle.needleoat_c.specs.declared.refusals.TheConstants.{OUT_OF_TURN, TAG_IN_USE, TOO_MANY_COMMANDS}
+use Rattle.needleoat_c.specs.declared.refusals.TheConstants.{NO_COMMAND, NO_MEMORY, NOT_ITS_ANSWER, NOT_PENDING, OUT_OF_RANGE}
+use Rattle.needleoat_c.specs.declared.refusals.TheConstants.{OUT_OF_TURN, TAG_IN_USE, TOO_MANY_COMMANDS, TOO_MANY_OPEN_MESSAGES, TOO_MANY_SOURCES}
+
+step_refused : STEP_REFUSED ≡ 0
+step_refused = refl
+
+step_dropped : STEP_DROPPED ≡ 1
+step_dropped = refl
+
+step_partial : STEP_PARTIAL ≡ 2
+step_partial = refl
+
+step_answered : STEP_ANSWERED ≡ 3
+step_answered = refl
+
+step_perform : STEP_PERFORM ≡ 4
+step_perform = refl
+
+receiving_refused : RECEIVING_REFUSED ≡ 0
+receiving_refused = refl
+
+receiving_dropped : RECEIVING_DROPPED ≡ 1
+receiving_dropped = refl
+
+receiving_partial : RECEIVING_PARTIAL ≡ 2
+receiving_partial = refl
+
+receiving_answered : RECEIVING_ANSWERED ≡ 3
+receiving_answered = refl
+
+status_unknown : STATUS_UNKNOWN ≡ 0
+status_unknown = refl
+
+status_open : STATUS_OPEN ≡ 1
+status_open = refl
+
+status_answered : STATUS_ANSWERED ≡ 2
+status_answered = refl
+
+status_gave_up : STATUS_GAVE_UP ≡ 3
+status_gave_up = refl
 
 no_memory : NO_MEMORY ≡ 1
 no_memory = refl
@@ -31,6 +74,9 @@ being_performed = refl
 too_many_commands : TOO_MANY_COMMANDS ≡ 9
 too_many_commands = refl
 
+not_pending : NOT_PENDING ≡ 10
+not_pending = refl
+
 tag_in_use : TAG_IN_USE ≡ 11
 tag_in_use = refl
 
@@ -39,3 +85,9 @@ id_in_use = refl
 
 no_command : NO_COMMAND ≡ 13
 no_command = refl
+
+too_many_sources : TOO_MANY_SOURCES ≡ 14
+too_many_sources = refl
+
+too_many_open_messages : TOO_MANY_OPEN_MESSAGES ≡ 15
+too_many_open_messages = refl

@@ -21,6 +21,9 @@ use Rattle.pldm_requester.specs.declared.results.OpenFault.TheVariants as cause
 use Rattle.pldm_requester.specs.declared.timing.Timing.{Timing}
 use Rattle.needleoat_forms.specs.Written.{IsWritten}
 use Rattle.needleoat_c.specs.RequesterHandles.{Inside}
+use Rattle.needleoat_c.specs.declared.kinds.TheConstants.{RECEIVING_ANSWERED, RECEIVING_DROPPED, RECEIVING_PARTIAL}
+use Rattle.needleoat_c.specs.declared.kinds.TheConstants.{RECEIVING_REFUSED, STATUS_ANSWERED, STATUS_GAVE_UP, STATUS_OPEN}
+use Rattle.needleoat_c.specs.declared.kinds.TheConstants.{STATUS_UNKNOWN}
 use Rattle.needleoat_c.specs.declared.refusals.TheConstants.{BAD_MOMENT, ID_IN_USE, NOTHING_THERE, NO_COMMAND, NO_MEMORY}
 use Rattle.needleoat_c.specs.declared.refusals.TheConstants.{TAG_IN_USE}
 use Rattle.needleoat_c.specs.declared.reports.DueReport.{DueReport}
@@ -28,6 +31,7 @@ use Rattle.needleoat_c.specs.declared.reports.OpeningReport.{OpeningReport}
 use Rattle.needleoat_c.specs.declared.reports.PacketReport.{PacketReport}
 use Rattle.needleoat_c.specs.declared.reports.StatusReport.{StatusReport}
 use Rattle.needleoat_c.specs.declared.requester_handle.RequesterForC.{RequesterForC}
+use Rattle.needleoat_c.specs.declared.settings.RequesterSettings.{RequesterSettings}
 
 -- a handle says truly whether there is something behind it
 abbrev pub SaysWhether : Bool → Option Inside → Type 0
@@ -62,17 +66,17 @@ refusal_at now (Some held) = if is_next now held then 0 else BAD_MOMENT
 
 -- ---- making ----
 
-abbrev pub timing : ℕ → ℕ → ℕ → Timing
-timing keep timeout tries = record { keep = keep; timeout = timeout; tries = tries }
+abbrev pub timing_of : RequesterSettings → Timing
+timing_of s = record { keep = s.keep_ms; timeout = s.timeout_ms; tries = s.tries }
 
 -- two endpoint IDs, a keeping time, and a timing without a fault
-abbrev pub IsSetup : ℕ → ℕ → Timing → Type 0
-IsSetup own device t = IsEid own × IsEid device × IsKeep t.keep × (timing_fault own device t ≡ None)
+abbrev pub IsSetup : RequesterSettings → Type 0
+IsSetup s = IsEid s.own × IsEid s.device × IsKeep s.keep_ms × (timing_fault s.own s.device (timing_of s) ≡ None)
 
 -- a new requester is behind the handle
-abbrev pub IsNew : ℕ → ℕ → Timing → Option Inside → Type 0
-IsNew own device t None = ⊥
-IsNew own device t (Some new) = IsHeld (held_of new) (held_at_first own device t)
+abbrev pub IsNew : RequesterSettings → Option Inside → Type 0
+IsNew s None = ⊥
+IsNew s (Some new) = IsHeld (held_of new) (held_at_first s.own s.device (timing_of s))
 
 -- ---- opening ----
 
@@ -149,12 +153,12 @@ ticked_by now refusal held = if refusal == 0 then ticked_held held now else held
 -- ---- packets that come ----
 
 abbrev pub ReportsGot : Got → PacketReport → Type 0
-ReportsGot (outcome.Dropped reason) r = (r.kind ≡ 1) × (r.reason ≡ number_of reason)
-ReportsGot outcome.Partial r = (r.kind ≡ 2) × (r.reason ≡ 0)
-ReportsGot (outcome.Answered number) r = (r.kind ≡ 3) × (r.reason ≡ 0) × (r.number ≡ number)
+ReportsGot (outcome.Dropped reason) r = (r.kind ≡ RECEIVING_DROPPED) × (r.reason ≡ number_of reason)
+ReportsGot outcome.Partial r = (r.kind ≡ RECEIVING_PARTIAL) × (r.reason ≡ 0)
+ReportsGot (outcome.Answered number) r = (r.kind ≡ RECEIVING_ANSWERED) × (r.reason ≡ 0) × (r.number ≡ number)
 
 abbrev pub IsRefused : ℕ → PacketReport → Type 0
-IsRefused number r = (r.kind ≡ 0) × (r.reason ≡ number)
+IsRefused number r = (r.kind ≡ RECEIVING_REFUSED) × (r.reason ≡ number)
 
 -- what becomes of it; only a packet that begins a message of several may want memory
 abbrev pub ReportsTaken : Got → PacketReport → Type 0
@@ -169,7 +173,7 @@ ReportsPacket now bytes r None = IsRefused NOTHING_THERE r
 ReportsPacket now bytes r (Some held) = ReportsPacketIn now bytes r held
 
 abbrev pub received_by : ℕ → List ℕ → ℕ → Held → Held
-received_by now bytes kind held = if kind == 0 then held else received_held held now bytes
+received_by now bytes kind held = if kind == RECEIVING_REFUSED then held else received_held held now bytes
 
 -- ---- what is remembered ----
 
@@ -189,11 +193,11 @@ packet_of number held =
 
 -- how a request stands, and its answer in front of the room
 abbrev pub ReportsProgress : Option Progress → StatusReport → List ℕ → List ℕ → Type 0
-ReportsProgress None r old new = (r.kind ≡ 0) × (r.length ≡ 0) × (new ≡ old)
-ReportsProgress (Some Waiting) r old new = (r.kind ≡ 1) × (r.length ≡ 0) × (new ≡ old)
+ReportsProgress None r old new = (r.kind ≡ STATUS_UNKNOWN) × (r.length ≡ 0) × (new ≡ old)
+ReportsProgress (Some Waiting) r old new = (r.kind ≡ STATUS_OPEN) × (r.length ≡ 0) × (new ≡ old)
 ReportsProgress (Some (Answered message)) r old new =
-    (r.kind ≡ 2) × IsWritten (fitting MAX_MESSAGE_BYTES message) r.length old new
-ReportsProgress (Some GaveUp) r old new = (r.kind ≡ 3) × (r.length ≡ 0) × (new ≡ old)
+    (r.kind ≡ STATUS_ANSWERED) × IsWritten (fitting MAX_MESSAGE_BYTES message) r.length old new
+ReportsProgress (Some GaveUp) r old new = (r.kind ≡ STATUS_GAVE_UP) × (r.length ≡ 0) × (new ≡ old)
 
 abbrev pub progress_of : ℕ → Option Held → Option Progress
 progress_of number held = option_map (λ (memo : Memo). memo.course.progress) (memo_of number held)

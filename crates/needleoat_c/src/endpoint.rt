@@ -1,45 +1,52 @@
 //! The work of each call on the endpoint behind a handle.
 
-ghost use Rattle.std.specs.FinMap as map;
-ghost use Rattle.std.specs.Prelude.{◌≡◌, ◌≤◌, None, Some, Ok, Err, IfErr, IfSome, IsSome, OnOk, OnErr, is_some, slice_get};
+ghost use Rattle.std.specs.Prelude.{◌≡◌, ◌≤◌, Some, Ok, Err, IfErr, IfSome, IsSome, OnOk, OnErr, is_some, slice_get};
 ghost use Rattle.mctp_packet.specs.Pieces.{written_packets};
 ghost use Rattle.pldm_wire.specs.Answers.{IsAnswerTo};
 ghost use Rattle.pldm_wire.specs.Commands.{kind_of};
 ghost use Rattle.pldm_responder.specs.Answering.{answering};
-ghost use Rattle.pldm_responder.specs.Held.{IsHeld};
-ghost use Rattle.pldm_responder.specs.Stations.{held_of};
-ghost use Rattle.pldm_endpoint.specs.Askers.{asked_at, asker};
-ghost use Rattle.pldm_endpoint.specs.TwoSteps.{bare};
-ghost use Rattle.needleoat_c.specs.Endpoints.{AreOf, ArePackets, HasCommand, IsInFront, IsNew, IsReportedSo, ReportsHandedIn, ReportsOutcome, ReportsPacketIn, answered_by, asked_by, asked_in, counted_by, forgotten_by, given_to, is_next, number_of_refusal, received_by, refusal_at, restarted_by, started};
+ghost use Rattle.pldm_endpoint.specs.RequestKeys.{pending_at};
+ghost use Rattle.pldm_endpoint.specs.TwoSteps.{held_in};
+ghost use Rattle.needleoat_c.specs.Endpoints.{AreOf, ArePackets, HasCommand, IsInFront, IsLeftByAnswer, IsLeftByPacket, IsLeftByRestart, IsMade, IsReportedSo, ReportsHandedIn, ReportsOutcome, ReportsPacketIn, given_to, is_next, number_of_refusal, pending_under, refusal_at};
 
+use crate::kinds::{STEP_ANSWERED, STEP_DROPPED, STEP_PARTIAL, STEP_REFUSED};
 use crate::refusals::{
-    BAD_MOMENT, BEING_PERFORMED, NO_MEMORY, NOT_ITS_ANSWER, OUT_OF_RANGE, OUT_OF_TURN,
-    TOO_MANY_COMMANDS,
+    BAD_MOMENT, BEING_PERFORMED, NO_MEMORY, NOT_ITS_ANSWER, NOT_PENDING, OUT_OF_RANGE, OUT_OF_TURN,
+    TOO_MANY_COMMANDS, TOO_MANY_OPEN_MESSAGES, TOO_MANY_SOURCES,
 };
-use crate::reports::{AskingFields, StepReport};
+use crate::reports::{HandleFields, StepReport};
+use crate::settings::EndpointSettings;
 use mctp_packet::{
     Body, Eid, Keep, MAX_PACKET_BYTES, MAX_PACKETS, Moment, Route, UNIT, packet_at, write,
 };
 use needleoat_forms::{AnswerFields, CommandFields, answer_of};
-use pldm_endpoint::{Asking, Endpoint, MessageStep, ReceiveRefusal};
+use pldm_endpoint::{CommandHandle, Endpoint, MessageStep, ReceiveRefusal};
 use pldm_responder::{Bounds, MessageOutcome};
 use pldm_wire::{Answer, Command, INSTANCE_IDS};
 use std::alloc::Global;
 
-/// A new endpoint, which at any start but the first performs nothing for the keeping time.
+/// A new endpoint with these settings, whose endpoint ID and keeping time they are. At any start but the first it
+/// performs nothing for the keeping time.
 pub(crate) fn start(
     alloc: Global,
     own: Eid,
     keep: Keep,
-    bounds: Bounds,
-    commands: usize,
+    settings: &EndpointSettings,
     now: Moment,
-    first_start: bool,
 ) -> Endpoint
-    ensures { IsNew (started own keep first_start now) bounds commands (Some result) }
+    requires own { own ≡ settings.now.own }
+    requires keep { keep ≡ settings.now.keep_ms }
+    ensures { IsMade settings.now now result }
 {
-    let mut endpoint = Endpoint::new(alloc, own, keep, bounds, commands);
-    if !first_start {
+    let bounds = Bounds {
+        sources: settings.sources as usize,
+        open_messages: settings.open_messages as usize,
+    };
+    let max_pending = settings.pending_commands as usize;
+    let mut endpoint = Endpoint::new(alloc, own, keep, bounds, max_pending);
+    if settings.first_start {
+        endpoint.pass_time(now);
+    } else {
         endpoint.restart(now);
     }
     endpoint
@@ -49,7 +56,7 @@ pub(crate) fn start(
 fn next_moment(endpoint: &Endpoint, now_ms: u64) -> Option<Moment>
     ensures some { is_some result ≡ is_next now_ms endpoint.now }
     ensures value { IfSome result (λ now. now ≡ now_ms) }
-    ensures later { IfSome result (λ now. (held_of endpoint.now.station).last ≤ now) }
+    ensures later { IfSome result (λ now. (held_in endpoint.now).last ≤ now) }
 {
     let now = Moment::new(now_ms)?;
     if now < endpoint.last_moment() {
@@ -61,11 +68,7 @@ fn next_moment(endpoint: &Endpoint, now_ms: u64) -> Option<Moment>
 /// Restarts at a moment: 0, or why not.
 pub(crate) fn restart(endpoint: &mut Endpoint, now_ms: u64) -> u8
     ensures refusal { result ≡ refusal_at now_ms (Some endpoint.old) }
-    ensures held { IsHeld (bare (held_of endpoint.new.station)) (restarted_by now_ms result endpoint.old) }
-    ensures bounds { endpoint.new.station.bounds ≡ endpoint.old.station.bounds }
-    ensures asks { endpoint.new.asks ≡ forgotten_by result endpoint.old }
-    ensures count { endpoint.new.count ≡ endpoint.old.count }
-    ensures most { endpoint.new.most ≡ endpoint.old.most }
+    ensures left { IsLeftByRestart now_ms result endpoint.old endpoint.new }
 {
     let Some(now) = next_moment(endpoint, now_ms) else {
         return BAD_MOMENT;
@@ -83,25 +86,20 @@ pub(crate) fn receive(
     packets: &mut [[u8; MAX_PACKET_BYTES]; MAX_PACKETS],
 ) -> StepReport
     ensures report { ReportsPacketIn now_ms packet.now result packets.new endpoint.old }
-    ensures command { HasCommand result.kind (asked_in result.asking endpoint.new) command.old command.new }
-    ensures held { IsHeld (bare (held_of endpoint.new.station))
-        (received_by now_ms packet.now result.kind endpoint.old) }
-    ensures bounds { endpoint.new.station.bounds ≡ endpoint.old.station.bounds }
-    ensures asks { endpoint.new.asks ≡ asked_by now_ms packet.now result.kind endpoint.old }
-    ensures count { endpoint.new.count ≡ counted_by now_ms packet.now result.kind endpoint.old }
-    ensures most { endpoint.new.most ≡ endpoint.old.most }
+    ensures command { HasCommand result.kind (pending_under result.handle endpoint.new) command.old command.new }
+    ensures left { IsLeftByPacket now_ms packet.now result.kind endpoint.old endpoint.new }
 {
     let Some(now) = next_moment(endpoint, now_ms) else {
-        return StepReport::without(0, BAD_MOMENT);
+        return StepReport::without(STEP_REFUSED, BAD_MOMENT);
     };
     let mut reply = Body::new();
     match endpoint.receive_message(now, packet, &mut reply) {
-        Ok(MessageStep::Perform(asking)) => {
-            put_command(endpoint, &asking, command);
-            StepReport::to_perform(&asking)
+        Ok(MessageStep::Perform(handle)) => {
+            put_command(endpoint, &handle, command);
+            StepReport::to_perform(&handle)
         }
         Ok(MessageStep::Done(taken)) => report_of(&taken, &reply, packets),
-        Err(refusal) => StepReport::without(0, refusal_number(refusal)),
+        Err(refusal) => StepReport::without(STEP_REFUSED, refusal_number(refusal)),
     }
 }
 
@@ -113,47 +111,43 @@ fn refusal_number(refusal: ReceiveRefusal) -> u8
         ReceiveRefusal::Performing => OUT_OF_TURN,
         ReceiveRefusal::BeingPerformed => BEING_PERFORMED,
         ReceiveRefusal::Full => TOO_MANY_COMMANDS,
+        ReceiveRefusal::Sources => TOO_MANY_SOURCES,
+        ReceiveRefusal::OpenMessages => TOO_MANY_OPEN_MESSAGES,
         ReceiveRefusal::Memory(_) => NO_MEMORY,
     }
 }
 
-/// Puts the fields of the command that is asked under this number.
-fn put_command(endpoint: &Endpoint, asking: &Asking, fields: &mut CommandFields)
-    requires { IsSome (asked_at endpoint.now.asks asking.now) }
-    ensures { AreOf (asked_at endpoint.now.asks asking.now) fields.new }
+/// Puts the fields of the command that is pending under this handle.
+fn put_command(endpoint: &Endpoint, handle: &CommandHandle, fields: &mut CommandFields)
+    requires { IsSome (pending_at endpoint.now.pending handle.now) }
+    ensures { AreOf (pending_at endpoint.now.pending handle.now) fields.new }
 {
-    match endpoint.command(asking) {
+    match endpoint.command(handle) {
         Some(command) => fields.set(0, command),
         None => unreachable!(),
     }
 }
 
-/// Hands in the device's answer to the command that was asked under a number. The message that answers the request is
+/// Hands in the device's answer to the command that is pending under a handle. The message that answers the request is
 /// put into `reply`. An `Err` has the number that says why the answer was refused.
 pub(crate) fn answer(
     endpoint: &mut Endpoint,
-    asked: &AskingFields,
+    handle: &HandleFields,
     fields: &AnswerFields,
     reply: &mut Body,
 ) -> Result<MessageOutcome, u8>
-    ensures report { IsReportedSo reply.new.items result asked.now fields.now endpoint.old }
-    ensures held { IsHeld (bare (held_of endpoint.new.station)) (answered_by asked.now fields.now endpoint.old) }
-    ensures bounds { endpoint.new.station.bounds ≡ endpoint.old.station.bounds }
-    ensures answered { OnOk result (endpoint.new.asks
-        ≡ map.remove endpoint.old.asks (asker asked.now.source asked.now.instance_id)) }
-    ensures refused { OnErr result (endpoint.new.asks ≡ endpoint.old.asks) }
-    ensures count { endpoint.new.count ≡ endpoint.old.count }
-    ensures most { endpoint.new.most ≡ endpoint.old.most }
+    ensures report { IsReportedSo reply.new.items result handle.now fields.now endpoint.old }
+    ensures left { IsLeftByAnswer handle.now fields.now endpoint.old endpoint.new }
 {
-    let Some(asking) = asked.asking() else {
-        return Err(OUT_OF_TURN);
+    let Some(handle) = handle.handle() else {
+        return Err(NOT_PENDING);
     };
-    let Some(command) = endpoint.command(&asking) else {
-        return Err(OUT_OF_TURN);
+    let Some(command) = endpoint.command(&handle) else {
+        return Err(NOT_PENDING);
     };
     let mut answer = Answer::SetTid;
     put_given(command, fields, &mut answer)?;
-    match endpoint.answer_message(&asking, &answer, reply) {
+    match endpoint.answer_message(&handle, &answer, reply) {
         Ok(taken) => Ok(taken),
         Err(_) => unreachable!(),
     }
@@ -162,16 +156,14 @@ pub(crate) fn answer(
 /// The report of an answer that was handed in, with the packets of `reply`, the message that answers.
 pub(crate) fn report(
     given: &Result<MessageOutcome, u8>,
-    reply: &[u8],
+    reply: &Body,
     packets: &mut [[u8; MAX_PACKET_BYTES]; MAX_PACKETS],
 ) -> StepReport
-    ensures report { ReportsHandedIn reply.now given.now result packets.new }
-    ensures answered { OnOk given.now (1 ≤ result.kind) }
-    ensures refused { OnErr given.now (result.kind ≡ 0) }
+    ensures { ReportsHandedIn reply.now.items given.now result packets.new }
 {
     match given {
         Ok(taken) => report_of(taken, reply, packets),
-        Err(number) => StepReport::without(0, *number),
+        Err(number) => StepReport::without(STEP_REFUSED, *number),
     }
 }
 
@@ -201,28 +193,28 @@ fn put_given(command: &Command, fields: &AnswerFields, given: &mut Answer) -> Re
 /// The report of what becomes of a packet, with the packets of `reply`, the message that answers.
 fn report_of(
     taken: &MessageOutcome,
-    reply: &[u8],
+    reply: &Body,
     rooms: &mut [[u8; MAX_PACKET_BYTES]; MAX_PACKETS],
 ) -> StepReport
-    ensures report { ReportsOutcome (answering reply.now taken.now) result rooms.new }
+    ensures report { ReportsOutcome (answering reply.now.items taken.now) result rooms.new }
     ensures kind { 1 ≤ result.kind }
     ensures other { result.kind ≤ 3 }
 {
     match taken {
-        MessageOutcome::Dropped(reason) => StepReport::without(1, reason.number()),
-        MessageOutcome::Partial => StepReport::without(2, 0),
+        MessageOutcome::Dropped(reason) => StepReport::without(STEP_DROPPED, reason.number()),
+        MessageOutcome::Partial => StepReport::without(STEP_PARTIAL, 0),
         MessageOutcome::Answered {
             fresh,
             changed,
             route,
         } => StepReport {
-            kind: 3,
+            kind: STEP_ANSWERED,
             reason: 0,
             fresh: *fresh,
             changed: *changed,
-            count: reply.len().div_ceil(UNIT),
+            count: reply.len().div_ceil(UNIT) as u32,
             lengths: put_packets(route, reply, rooms),
-            asking: AskingFields::none(),
+            handle: HandleFields::none(),
         },
     }
 }
@@ -232,7 +224,7 @@ fn put_packets(
     route: &Route,
     message: &[u8],
     rooms: &mut [[u8; MAX_PACKET_BYTES]; MAX_PACKETS],
-) -> [usize; MAX_PACKETS]
+) -> [u32; MAX_PACKETS]
     ensures { ArePackets (written_packets route.now message.now) result rooms.new }
 {
     let first = put_packet(route, message, 0, &mut rooms[0]);
@@ -246,16 +238,11 @@ fn put_packets(
 /// Puts packet `index` of a message in front of a room, where there is one, and returns its length, else 0.
 // Not inlined: it is called five times, and its packet is on the stack once.
 #[inline(never)]
-fn put_packet(
-    route: &Route,
-    message: &[u8],
-    index: usize,
-    room: &mut [u8; MAX_PACKET_BYTES],
-) -> usize
+fn put_packet(route: &Route, message: &[u8], index: usize, room: &mut [u8; MAX_PACKET_BYTES]) -> u32
     ensures { IsInFront (slice_get (written_packets route.now message.now) index) result room.new }
 {
     match packet_at(route, message, index) {
-        Some(packet) => write(&packet, room),
+        Some(packet) => write(&packet, room) as u32,
         None => 0,
     }
 }

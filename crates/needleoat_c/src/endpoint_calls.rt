@@ -2,63 +2,49 @@
 
 ghost use Rattle.std.specs.Prelude.{◌≡◌, ◌≢◌, ◌≤◌, ◌⊎◌, false, true};
 ghost use Rattle.mctp_packet.specs.declared.TheConstants.{MAX_MOMENT};
-ghost use Rattle.needleoat_c.specs.Endpoints.{AsksAfter, HasCommand, HoldsAfter, IsNew, IsSetup, IsUpheld, ReportsAnswer, ReportsPacket, answered_by, asked, asked_after, asked_by, asking, bounds, counted, counted_by, forgotten_by, received_by, refusal_at, restarted_by, started, unchanged};
+ghost use Rattle.needleoat_c.specs.Endpoints.{HasCommand, IsLeft, IsLeftByAnswer, IsLeftByPacket, IsLeftByRestart, IsNew, IsSetup, IsUpheld, ReportsAnswer, ReportsPacket, pending, refusal_at};
 
 use crate::endpoint;
 use crate::endpoint_handle::EndpointForC;
+use crate::kinds::STEP_REFUSED;
 use crate::refusals::{ALREADY_THERE, BAD_MOMENT, NO_MEMORY, NOTHING_THERE, OUT_OF_RANGE};
-use crate::reports::{AskingFields, StepReport};
+use crate::reports::{HandleFields, StepReport};
+use crate::settings::EndpointSettings;
 use mctp_packet::{Body, Eid, Keep, MAX_PACKET_BYTES, MAX_PACKETS, Moment};
 use needleoat_forms::{AnswerFields, CommandFields};
-use pldm_responder::Bounds;
 use std::alloc::Global;
 
-/// Makes an endpoint with room for the answers to so many sources, and for so many messages of several
-/// packets that have begun; its device has at most so many commands at a time: 0, or why not. It performs
-/// nothing for the keeping time from `now_ms` on, unless this is the first start ever: a processor that
-/// was reset may have performed a request before.
+/// Makes an endpoint with these settings: 0, or why not. No moment before `now_ms` may come then. It performs nothing
+/// for the keeping time from `now_ms` on, unless this is the first start ever: a processor that was reset may have
+/// performed a request before.
 #[unsafe(no_mangle)]
 pub extern "C" fn needleoat_endpoint_new(
     alloc: Global,
-    own: u8,
-    keep_ms: u32,
-    sources: usize,
-    open_messages: usize,
-    commands: usize,
+    settings: &EndpointSettings,
     now_ms: u64,
-    first_start: bool,
     endpoint: &mut EndpointForC,
 ) -> u8
     requires { IsUpheld endpoint.old }
     ensures upheld { IsUpheld endpoint.new }
     ensures already { endpoint.old.is_live ≡ true → result ≡ ALREADY_THERE }
-    ensures out_of_range { endpoint.old.is_live ≡ false → (IsSetup own keep_ms → ⊥) → result ≡ OUT_OF_RANGE }
-    ensures moment { endpoint.old.is_live ≡ false → IsSetup own keep_ms → (now_ms ≤ MAX_MOMENT → ⊥)
+    ensures out_of_range { endpoint.old.is_live ≡ false → (IsSetup settings.now → ⊥) → result ≡ OUT_OF_RANGE }
+    ensures moment { endpoint.old.is_live ≡ false → IsSetup settings.now → (now_ms ≤ MAX_MOMENT → ⊥)
         → result ≡ BAD_MOMENT }
-    ensures number { endpoint.old.is_live ≡ false → IsSetup own keep_ms → now_ms ≤ MAX_MOMENT
+    ensures number { endpoint.old.is_live ≡ false → IsSetup settings.now → now_ms ≤ MAX_MOMENT
         → (result ≡ 0) ⊎ (result ≡ NO_MEMORY) }
-    ensures made { result ≡ 0 → IsNew (started own keep_ms first_start now_ms) (bounds sources open_messages)
-        commands endpoint.new.handle.held }
-    ensures refused { result ≢ 0 → HoldsAfter unchanged endpoint.old.handle.held endpoint.new.handle.held }
-    ensures asks { result ≢ 0 → AsksAfter asked counted endpoint.old.handle.held endpoint.new.handle.held }
+    ensures made { result ≡ 0 → IsNew settings.now now_ms endpoint.new.handle.held }
+    ensures refused { result ≢ 0 → endpoint.new.handle.held ≡ endpoint.old.handle.held }
 {
     if endpoint.is_live {
         return ALREADY_THERE;
     }
-    let (Some(own), Some(keep)) = (Eid::new(own), Keep::new(keep_ms)) else {
+    let (Some(own), Some(keep)) = (Eid::new(settings.own), Keep::new(settings.keep_ms)) else {
         return OUT_OF_RANGE;
     };
     let Some(now) = Moment::new(now_ms) else {
         return BAD_MOMENT;
     };
-    let bounds = Bounds {
-        sources,
-        open_messages,
-    };
-    match Box::new(
-        alloc,
-        endpoint::start(alloc, own, keep, bounds, commands, now, first_start),
-    ) {
+    match Box::new(alloc, endpoint::start(alloc, own, keep, settings, now)) {
         Ok(inside) => {
             endpoint.handle.put(inside);
             endpoint.is_live = true;
@@ -69,8 +55,8 @@ pub extern "C" fn needleoat_endpoint_new(
 }
 
 /// Receives the bytes of a packet that came at a moment. Where the report says that a command is to be
-/// performed, its fields are in `command`, and the report says under which number it is asked; where it
-/// says that the packet is answered, the packets of the answer are in front of the rooms of `packets`.
+/// performed, its fields are in `command`, and the report has its handle; where it says that the packet is
+/// answered, the packets of the answer are in front of the rooms of `packets`.
 #[unsafe(no_mangle)]
 pub extern "C" fn needleoat_endpoint_receive(
     alloc: Global,
@@ -83,14 +69,12 @@ pub extern "C" fn needleoat_endpoint_receive(
     requires { IsUpheld endpoint.old }
     ensures upheld { IsUpheld endpoint.new }
     ensures report { ReportsPacket now_ms packet.now result packets.new endpoint.old.handle.held }
-    ensures command { HasCommand result.kind (asking result.asking endpoint.new.handle.held) command.old command.new }
-    ensures held { HoldsAfter (received_by now_ms packet.now result.kind)
-        endpoint.old.handle.held endpoint.new.handle.held }
-    ensures asks { AsksAfter (asked_by now_ms packet.now result.kind) (counted_by now_ms packet.now result.kind)
+    ensures command { HasCommand result.kind (pending result.handle endpoint.new.handle.held) command.old command.new }
+    ensures left { IsLeft (IsLeftByPacket now_ms packet.now result.kind)
         endpoint.old.handle.held endpoint.new.handle.held }
 {
     if !endpoint.is_live {
-        return StepReport::without(0, NOTHING_THERE);
+        return StepReport::without(STEP_REFUSED, NOTHING_THERE);
     }
     let mut inside = endpoint.handle.take(alloc);
     let report = endpoint::receive(&mut inside, now_ms, packet, command, packets);
@@ -98,35 +82,33 @@ pub extern "C" fn needleoat_endpoint_receive(
     report
 }
 
-/// Hands in the device's answer to the command that it was asked under this number. The report has the
-/// packets of the answer, or says why it was refused; the command is then still to be answered.
+/// Hands in the device's answer to the command that is pending under this handle. The report has the
+/// packets of the answer, or says why it was refused; the command then stays pending, where it is.
 #[unsafe(no_mangle)]
 pub extern "C" fn needleoat_endpoint_answer(
     alloc: Global,
     endpoint: &mut EndpointForC,
-    asked: &AskingFields,
+    handle: &HandleFields,
     answer: &AnswerFields,
     packets: &mut [[u8; MAX_PACKET_BYTES]; MAX_PACKETS],
 ) -> StepReport
     requires { IsUpheld endpoint.old }
     ensures upheld { IsUpheld endpoint.new }
-    ensures report { ReportsAnswer asked.now answer.now result packets.new endpoint.old.handle.held }
-    ensures held { HoldsAfter (answered_by asked.now answer.now) endpoint.old.handle.held endpoint.new.handle.held }
-    ensures asks { AsksAfter (asked_after asked.now result.kind) counted endpoint.old.handle.held
-        endpoint.new.handle.held }
+    ensures report { ReportsAnswer handle.now answer.now result packets.new endpoint.old.handle.held }
+    ensures left { IsLeft (IsLeftByAnswer handle.now answer.now) endpoint.old.handle.held endpoint.new.handle.held }
 {
     if !endpoint.is_live {
-        return StepReport::without(0, NOTHING_THERE);
+        return StepReport::without(STEP_REFUSED, NOTHING_THERE);
     }
     let mut reply = Body::new();
     let mut inside = endpoint.handle.take(alloc);
-    let given = endpoint::answer(&mut inside, asked, answer, &mut reply);
+    let given = endpoint::answer(&mut inside, handle, answer, &mut reply);
     endpoint.handle.put(inside);
     endpoint::report(&given, &reply, packets)
 }
 
-/// Restarts the endpoint at a moment: 0, or why not. The kept answers and the commands that are asked are
-/// forgotten, and nothing is performed for the keeping time from then on.
+/// Restarts the endpoint at a moment: 0, or why not. The kept answers, the messages that have begun and the pending
+/// commands are forgotten, and nothing is performed for the keeping time from then on.
 #[unsafe(no_mangle)]
 pub extern "C" fn needleoat_endpoint_restart(
     alloc: Global,
@@ -136,8 +118,7 @@ pub extern "C" fn needleoat_endpoint_restart(
     requires { IsUpheld endpoint.old }
     ensures upheld { IsUpheld endpoint.new }
     ensures refusal { result ≡ refusal_at now_ms endpoint.old.handle.held }
-    ensures held { HoldsAfter (restarted_by now_ms result) endpoint.old.handle.held endpoint.new.handle.held }
-    ensures asks { AsksAfter (forgotten_by result) counted endpoint.old.handle.held endpoint.new.handle.held }
+    ensures left { IsLeft (IsLeftByRestart now_ms result) endpoint.old.handle.held endpoint.new.handle.held }
 {
     if !endpoint.is_live {
         return NOTHING_THERE;

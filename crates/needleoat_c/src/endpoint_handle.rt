@@ -20,6 +20,9 @@ pub struct EndpointForC {
     pub(crate) is_live: bool,
 }
 
+// As in `include/needleoat.h`.
+const _: () = prove!(size_of::<EndpointForC>() == 16);
+
 /// What the pointer points to, as far as C can see: nothing of it.
 #[repr(C)]
 #[derive(Drop)]

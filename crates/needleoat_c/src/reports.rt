@@ -2,10 +2,11 @@
 
 ghost use Rattle.std.specs.Prelude.{◌≡◌, IfSome, false, is_some, true};
 ghost use Rattle.mctp_packet.specs.Refusals.{is_eid};
-ghost use Rattle.needleoat_c.specs.Endpoints.{HasNumbers, asking_in, fields_of, no_asking};
+ghost use Rattle.needleoat_c.specs.Endpoints.{HasNumbers, fields_of, handle_in, no_handle};
 
+use crate::kinds::STEP_PERFORM;
 use mctp_packet::{Eid, MAX_PACKETS};
-use pldm_endpoint::Asking;
+use pldm_endpoint::CommandHandle;
 use pldm_requester::MAX_OPEN;
 
 /// A request that was opened, or why none was.
@@ -21,6 +22,9 @@ pub struct OpeningReport {
     /// Its number, counted from 0 over all requests of the requester.
     pub number: u64,
 }
+
+// As in `include/needleoat.h`.
+const _: () = prove!(size_of::<OpeningReport>() == 16);
 
 impl OpeningReport {
     /// No request was opened.
@@ -41,26 +45,32 @@ impl OpeningReport {
 #[derive(Drop)]
 pub struct DueReport {
     /// How many are to be sent again, at most [`MAX_OPEN`].
-    pub again_count: usize,
+    pub again_count: u32,
     /// How many were given up, at most [`MAX_OPEN`].
-    pub given_up_count: usize,
+    pub given_up_count: u32,
     /// Those to be sent again: the first of these.
     pub again: [u64; MAX_OPEN],
     /// Those that were given up: the first of these.
     pub given_up: [u64; MAX_OPEN],
 }
 
+// As in `include/needleoat.h`.
+const _: () = prove!(size_of::<DueReport>() == 136);
+
 /// What becomes of a packet.
 #[repr(C)]
 #[derive(Drop)]
 pub struct PacketReport {
-    /// 0 refused, 1 dropped, 2 partial, 3 the answer to a request.
+    /// One of the kinds `RECEIVING_*`.
     pub kind: u8,
     /// Why it was refused, or the number of the reason to drop it, else 0.
     pub reason: u8,
     /// The number of the request that was answered.
     pub number: u64,
 }
+
+// As in `include/needleoat.h`.
+const _: () = prove!(size_of::<PacketReport>() == 16);
 
 impl PacketReport {
     /// No request was answered.
@@ -80,17 +90,31 @@ impl PacketReport {
 #[repr(C)]
 #[derive(Drop)]
 pub struct StatusReport {
-    /// 0 not remembered, 1 open, 2 answered, 3 given up.
+    /// One of the kinds `STATUS_*`.
     pub kind: u8,
     /// The length of its answer in bytes.
-    pub length: usize,
+    pub length: u32,
 }
 
-/// Under which number a command was asked, and for whose request. No two commands of an endpoint have one number.
+// As in `include/needleoat.h`.
+const _: () = prove!(size_of::<StatusReport>() == 8);
+
+impl StatusReport {
+    /// There is no answer.
+    pub(crate) fn without(kind: u8) -> StatusReport
+        ensures kind { result.kind ≡ kind }
+        ensures length { result.length ≡ 0 }
+    {
+        StatusReport { kind, length: 0 }
+    }
+}
+
+/// The handle of a command that was handed out: its number, and whose request it is of. No two commands of an endpoint
+/// have one number.
 #[repr(C)]
 #[derive(Drop)]
-pub struct AskingFields {
-    /// How many commands were asked before.
+pub struct HandleFields {
+    /// How many commands were handed out before.
     pub number: u64,
     /// The endpoint that the request came from.
     pub source: u8,
@@ -98,37 +122,40 @@ pub struct AskingFields {
     pub instance_id: u8,
 }
 
-impl AskingFields {
+// As in `include/needleoat.h`.
+const _: () = prove!(size_of::<HandleFields>() == 16);
+
+impl HandleFields {
     /// Those of no command.
-    pub(crate) fn none() -> AskingFields
-        ensures { result ≡ no_asking }
+    pub(crate) fn none() -> HandleFields
+        ensures { result ≡ no_handle }
     {
-        AskingFields {
+        HandleFields {
             number: 0,
             source: 0,
             instance_id: 0,
         }
     }
 
-    /// Those of a command that is asked.
-    fn of(asking: &Asking) -> AskingFields
-        ensures value { result ≡ fields_of asking.now }
+    /// Those of a command that is handed out.
+    fn of(handle: &CommandHandle) -> HandleFields
+        ensures value { result ≡ fields_of handle.now }
         ensures source { is_eid result.source ≡ true }
     {
-        AskingFields {
-            number: asking.number,
-            source: asking.source.get(),
-            instance_id: asking.id,
+        HandleFields {
+            number: handle.number,
+            source: handle.source.get(),
+            instance_id: handle.id,
         }
     }
 
-    /// What they say, where the source is an endpoint ID.
-    pub(crate) fn asking(&self) -> Option<Asking>
+    /// The handle that they are, where the source is an endpoint ID.
+    pub(crate) fn handle(&self) -> Option<CommandHandle>
         ensures some { is_some result ≡ is_eid self.now.source }
-        ensures value { IfSome result (λ asking. asking ≡ asking_in self.now) }
+        ensures value { IfSome result (λ handle. handle ≡ handle_in self.now) }
     {
         let source = Eid::new(self.source)?;
-        Some(Asking {
+        Some(CommandHandle {
             source,
             id: self.instance_id,
             number: self.number,
@@ -140,7 +167,7 @@ impl AskingFields {
 #[repr(C)]
 #[derive(Drop)]
 pub struct StepReport {
-    /// 0 refused, 1 dropped, 2 partial, 3 answered, 4 a command is to be performed.
+    /// One of the kinds `STEP_*`.
     pub kind: u8,
     /// Why it was refused, or the number of the reason to drop it, else 0.
     pub reason: u8,
@@ -149,17 +176,20 @@ pub struct StepReport {
     /// Whether it was performed now, is of a command that sets, and was not refused.
     pub changed: bool,
     /// How many packets the answer has, at most [`MAX_PACKETS`].
-    pub count: usize,
+    pub count: u32,
     /// The length of each in bytes.
-    pub lengths: [usize; MAX_PACKETS],
-    /// Under which number the command is to be performed, and for whose request, else zeros.
-    pub asking: AskingFields,
+    pub lengths: [u32; MAX_PACKETS],
+    /// The handle of the command that is to be performed, else zeros.
+    pub handle: HandleFields,
 }
+
+// As in `include/needleoat.h`.
+const _: () = prove!(size_of::<StepReport>() == 48);
 
 impl StepReport {
     /// There are no packets.
     pub(crate) fn without(kind: u8, reason: u8) -> StepReport
-        ensures { HasNumbers kind reason false false 0 no_asking result }
+        ensures { HasNumbers kind reason false false 0 no_handle result }
     {
         StepReport {
             kind,
@@ -168,17 +198,17 @@ impl StepReport {
             changed: false,
             count: 0,
             lengths: [0; MAX_PACKETS],
-            asking: AskingFields::none(),
+            handle: HandleFields::none(),
         }
     }
 
     /// A command is to be performed.
-    pub(crate) fn to_perform(asking: &Asking) -> StepReport
-        ensures numbers { HasNumbers 4 0 false false 0 (fields_of asking.now) result }
-        ensures source { is_eid result.asking.source ≡ true }
+    pub(crate) fn to_perform(handle: &CommandHandle) -> StepReport
+        ensures numbers { HasNumbers STEP_PERFORM 0 false false 0 (fields_of handle.now) result }
+        ensures source { is_eid result.handle.source ≡ true }
     {
-        let mut report = StepReport::without(4, 0);
-        report.asking = AskingFields::of(asking);
+        let mut report = StepReport::without(STEP_PERFORM, 0);
+        report.handle = HandleFields::of(handle);
         report
     }
 }

@@ -1,6 +1,6 @@
 //! The work of each call on the requester behind a handle.
 
-ghost use Rattle.std.specs.Prelude.{◌≡◌, ◌<◌, ◌≤◌, Some, IfSome, is_some, length, take, option_and_then, option_map};
+ghost use Rattle.std.specs.Prelude.{◌≡◌, ◌≢◌, ◌<◌, ◌≤◌, Some, IfSome, is_some, length, take, option_and_then, option_map};
 ghost use Rattle.std.specs.Option.{option_copied};
 ghost use Rattle.pldm_requester.specs.Slots.{held_of};
 ghost use Rattle.pldm_requester.specs.RequestProgress.{progress_in_status};
@@ -8,6 +8,10 @@ ghost use Rattle.pldm_requester.specs.Steps.{IsHeld};
 ghost use Rattle.needleoat_forms.specs.Written.{IsWritten};
 ghost use Rattle.needleoat_c.specs.Requesters.{ReportsDue, ReportsGot, ReportsOpening, ReportsPacketIn, ReportsProgress, command_in, fault_number, fitting, is_next, opened_by, opening_in, packet_of, received_by, refusal_at, progress_of, ticked_by};
 
+use crate::kinds::{
+    RECEIVING_ANSWERED, RECEIVING_DROPPED, RECEIVING_PARTIAL, RECEIVING_REFUSED, STATUS_ANSWERED,
+    STATUS_GAVE_UP, STATUS_OPEN, STATUS_UNKNOWN,
+};
 use crate::refusals::{BAD_MOMENT, ID_IN_USE, NO_COMMAND, NO_MEMORY, TAG_IN_USE};
 use crate::reports::{DueReport, OpeningReport, PacketReport, StatusReport};
 use mctp_packet::{MAX_MESSAGE_BYTES, MAX_PACKET_BYTES, Moment};
@@ -79,6 +83,7 @@ pub(crate) fn open(requester: &mut Requester, now_ms: u64, request: &[u8]) -> Op
 pub(crate) fn tick(requester: &mut Requester, now_ms: u64, due: &mut DueReport) -> u8
     ensures refusal { result ≡ refusal_at now_ms (Some (held_of requester.old)) }
     ensures due { result ≡ 0 → ReportsDue now_ms due.new (Some (held_of requester.old)) }
+    ensures refused { result ≢ 0 → due.new ≡ due.old }
     ensures held { IsHeld (held_of requester.new) (ticked_by now_ms result (held_of requester.old)) }
 {
     let Some(now) = next_moment(requester, now_ms) else {
@@ -91,12 +96,12 @@ pub(crate) fn tick(requester: &mut Requester, now_ms: u64, due: &mut DueReport) 
 }
 
 /// Puts numbers in front, and returns how many there are.
-fn put_numbers(room: &mut [u64; MAX_OPEN], numbers: &[u64]) -> usize
+fn put_numbers(room: &mut [u64; MAX_OPEN], numbers: &[u64]) -> u32
     requires { length numbers.now ≤ MAX_OPEN }
     ensures { take result room.new ≡ numbers.now }
 {
     room[..numbers.len()].copy_from_slice(numbers);
-    numbers.len()
+    numbers.len() as u32
 }
 
 /// Receives the bytes of a packet.
@@ -105,11 +110,11 @@ pub(crate) fn receive(requester: &mut Requester, now_ms: u64, packet: &[u8]) -> 
     ensures held { IsHeld (held_of requester.new) (received_by now_ms packet.now result.kind (held_of requester.old)) }
 {
     let Some(now) = next_moment(requester, now_ms) else {
-        return PacketReport::without(0, BAD_MOMENT);
+        return PacketReport::without(RECEIVING_REFUSED, BAD_MOMENT);
     };
     match requester.receive(now, packet) {
         Ok(got) => report_of(got),
-        Err(_) => PacketReport::without(0, NO_MEMORY),
+        Err(_) => PacketReport::without(RECEIVING_REFUSED, NO_MEMORY),
     }
 }
 
@@ -119,10 +124,10 @@ fn report_of(got: Got) -> PacketReport
     ensures kind { 1 ≤ result.kind }
 {
     match got {
-        Got::Dropped(reason) => PacketReport::without(1, reason.number()),
-        Got::Partial => PacketReport::without(2, 0),
+        Got::Dropped(reason) => PacketReport::without(RECEIVING_DROPPED, reason.number()),
+        Got::Partial => PacketReport::without(RECEIVING_PARTIAL, 0),
         Got::Answered(number) => PacketReport {
-            kind: 3,
+            kind: RECEIVING_ANSWERED,
             reason: 0,
             number,
         },
@@ -130,7 +135,7 @@ fn report_of(got: Got) -> PacketReport
 }
 
 /// Writes the packet of a request that is remembered, and returns its length, else 0.
-pub(crate) fn packet(requester: &Requester, number: u64, out: &mut [u8; MAX_PACKET_BYTES]) -> usize
+pub(crate) fn packet(requester: &Requester, number: u64, out: &mut [u8; MAX_PACKET_BYTES]) -> u32
     ensures { IsWritten (packet_of number (Some (held_of requester.now))) result out.old out.new }
 {
     match requester.packets(number) {
@@ -140,7 +145,7 @@ pub(crate) fn packet(requester: &Requester, number: u64, out: &mut [u8; MAX_PACK
 }
 
 /// Writes a packet, where there is one and it has room.
-fn put_packet(packet: Option<&[u8]>, out: &mut [u8; MAX_PACKET_BYTES]) -> usize
+fn put_packet(packet: Option<&[u8]>, out: &mut [u8; MAX_PACKET_BYTES]) -> u32
     ensures { IsWritten (option_and_then (fitting MAX_PACKET_BYTES) (option_copied packet.entry)) result
         out.old out.new }
 {
@@ -150,15 +155,17 @@ fn put_packet(packet: Option<&[u8]>, out: &mut [u8; MAX_PACKET_BYTES]) -> usize
     }
 }
 
-/// Writes bytes to the front of a room, where they fit, and returns their count, else 0.
-fn put_fitting(room: &mut [u8], bytes: &[u8]) -> usize
+/// Writes bytes to the front of a room, where they fit, and returns their count, else 0. No room that crosses to C has
+/// more bytes than a message.
+fn put_fitting(room: &mut [u8], bytes: &[u8]) -> u32
+    requires { length room.old ≤ MAX_MESSAGE_BYTES }
     ensures { IsWritten (fitting (length room.old) bytes.now) result room.old room.new }
 {
     if bytes.len() > room.len() {
         return 0;
     }
     room[..bytes.len()].copy_from_slice(bytes);
-    bytes.len()
+    bytes.len() as u32
 }
 
 /// Reports how a request stands, and writes the message that answered it.
@@ -177,12 +184,12 @@ fn status_report(status: Option<Status<'_>>, room: &mut [u8; MAX_MESSAGE_BYTES])
     ensures { ReportsProgress (option_map progress_in_status status.entry) result room.old room.new }
 {
     match status {
-        None => StatusReport { kind: 0, length: 0 },
-        Some(Status::Open) => StatusReport { kind: 1, length: 0 },
+        None => StatusReport::without(STATUS_UNKNOWN),
+        Some(Status::Open) => StatusReport::without(STATUS_OPEN),
         Some(Status::Answered(message)) => StatusReport {
-            kind: 2,
+            kind: STATUS_ANSWERED,
             length: put_fitting(room, message),
         },
-        Some(Status::GaveUp) => StatusReport { kind: 3, length: 0 },
+        Some(Status::GaveUp) => StatusReport::without(STATUS_GAVE_UP),
     }
 }

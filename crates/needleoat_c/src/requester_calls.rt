@@ -2,51 +2,47 @@
 
 ghost use Rattle.std.specs.Prelude.{◌≡◌, ◌≢◌, ◌⊎◌, false, true};
 ghost use Rattle.needleoat_forms.specs.Written.{IsWritten};
-ghost use Rattle.needleoat_c.specs.Requesters.{HoldsAfter, IsNew, IsSetup, IsUpheld, MayNeedRoom, ReportsDue, ReportsOpening, ReportsPacket, ReportsProgress, holding, opened_by, opening_at, packet_of, received_by, refusal_at, progress_of, ticked_by, timing, unchanged};
+ghost use Rattle.needleoat_c.specs.Requesters.{HoldsAfter, IsNew, IsSetup, IsUpheld, MayNeedRoom, ReportsDue, ReportsOpening, ReportsPacket, ReportsProgress, holding, opened_by, opening_at, packet_of, received_by, refusal_at, progress_of, ticked_by, unchanged};
 
+use crate::kinds::{RECEIVING_REFUSED, STATUS_UNKNOWN};
 use crate::refusals::{ALREADY_THERE, NO_MEMORY, NOTHING_THERE, OUT_OF_RANGE};
 use crate::reports::{DueReport, OpeningReport, PacketReport, StatusReport};
 use crate::requester;
 use crate::requester_handle::RequesterForC;
+use crate::settings::RequesterSettings;
 use mctp_packet::{Eid, Keep, MAX_MESSAGE_BYTES, MAX_PACKET_BYTES};
 use pldm_requester::{MAX_REMEMBERED, Requester, Timing};
 use std::alloc::Global;
 
-/// Makes a requester at the endpoint `own` for the device at the endpoint `device`: 0, or why not.
+/// Makes a requester with these settings: 0, or why not.
 #[unsafe(no_mangle)]
 pub extern "C" fn needleoat_requester_new(
     alloc: Global,
-    own: u8,
-    device: u8,
-    keep_ms: u32,
-    timeout_ms: u32,
-    tries: u8,
+    settings: &RequesterSettings,
     requester: &mut RequesterForC,
 ) -> u8
     requires { IsUpheld requester.old }
     ensures upheld { IsUpheld requester.new }
     ensures already { requester.old.is_live ≡ true → result ≡ ALREADY_THERE }
-    ensures out_of_range { requester.old.is_live ≡ false → (IsSetup own device (timing keep_ms timeout_ms tries) → ⊥)
-        → result ≡ OUT_OF_RANGE }
-    ensures number { requester.old.is_live ≡ false → IsSetup own device (timing keep_ms timeout_ms tries)
-        → (result ≡ 0) ⊎ (result ≡ NO_MEMORY) }
-    ensures made { result ≡ 0 → IsNew own device (timing keep_ms timeout_ms tries) requester.new.handle.held }
-    ensures refused { result ≢ 0 → HoldsAfter unchanged requester.old.handle.held requester.new.handle.held }
+    ensures out_of_range { requester.old.is_live ≡ false → (IsSetup settings.now → ⊥) → result ≡ OUT_OF_RANGE }
+    ensures number { requester.old.is_live ≡ false → IsSetup settings.now → (result ≡ 0) ⊎ (result ≡ NO_MEMORY) }
+    ensures made { result ≡ 0 → IsNew settings.now requester.new.handle.held }
+    ensures refused { result ≢ 0 → requester.new.handle.held ≡ requester.old.handle.held }
 {
     if requester.is_live {
         return ALREADY_THERE;
     }
     let (Some(own), Some(device), Some(keep)) = (
-        Eid::new(own),
-        Eid::new(device),
-        Keep::new(keep_ms),
+        Eid::new(settings.own),
+        Eid::new(settings.device),
+        Keep::new(settings.keep_ms),
     ) else {
         return OUT_OF_RANGE;
     };
     let timing = Timing {
         keep,
-        timeout: timeout_ms,
-        tries,
+        timeout: settings.timeout_ms,
+        tries: settings.tries,
     };
     let Ok(made) = Requester::new(alloc, own, device, timing) else {
         return OUT_OF_RANGE;
@@ -87,7 +83,7 @@ pub extern "C" fn needleoat_requester_open(
 }
 
 /// Lists the requests that are to be sent again and those that are given up at a moment: 0, or why
-/// not.
+/// not. Where it is not 0, `due` stays as it was.
 #[unsafe(no_mangle)]
 pub extern "C" fn needleoat_requester_tick(
     alloc: Global,
@@ -99,6 +95,7 @@ pub extern "C" fn needleoat_requester_tick(
     ensures upheld { IsUpheld requester.new }
     ensures refusal { result ≡ refusal_at now_ms (holding requester.old.handle.held) }
     ensures due { result ≡ 0 → ReportsDue now_ms due.new (holding requester.old.handle.held) }
+    ensures refused { result ≢ 0 → due.new ≡ due.old }
     ensures held { HoldsAfter (ticked_by now_ms result) requester.old.handle.held requester.new.handle.held }
 {
     if !requester.is_live {
@@ -125,7 +122,7 @@ pub extern "C" fn needleoat_requester_receive(
         requester.old.handle.held requester.new.handle.held }
 {
     if !requester.is_live {
-        return PacketReport::without(0, NOTHING_THERE);
+        return PacketReport::without(RECEIVING_REFUSED, NOTHING_THERE);
     }
     let mut inside = requester.handle.take(alloc);
     let report = requester::receive(&mut inside, now_ms, packet);
@@ -140,7 +137,7 @@ pub extern "C" fn needleoat_requester_packet(
     requester: &mut RequesterForC,
     number: u64,
     out: &mut [u8; MAX_PACKET_BYTES],
-) -> usize
+) -> u32
     requires { IsUpheld requester.old }
     ensures upheld { IsUpheld requester.new }
     ensures packet { IsWritten (packet_of number (holding requester.old.handle.held)) result out.old out.new }
@@ -170,7 +167,7 @@ pub extern "C" fn needleoat_requester_status(
     ensures held { HoldsAfter unchanged requester.old.handle.held requester.new.handle.held }
 {
     if !requester.is_live {
-        return StatusReport { kind: 0, length: 0 };
+        return StatusReport::without(STATUS_UNKNOWN);
     }
     let inside = requester.handle.take(alloc);
     let report = requester::status(&inside, number, message);
