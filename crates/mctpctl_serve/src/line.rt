@@ -201,13 +201,15 @@ fn hear_piece<P: Platform, C: Ticks, L: Watch, W: Write>(
 /// Serves a line until its input ends: each packet whose frame ends is answered at its moment, and the
 /// frames of its answer are written and flushed before more is read. There is no limit of the input.
 /// The watcher is told of each frame that was none, of each packet that came, and of what became of it.
+/// The platform performs the commands of these packets and no others, and the responder's bounds stay.
 ///
 /// # Errors
 ///
 /// `Read` where the read port has failed: the answers to all packets whose frames ended in what was read
-/// have been written. `Write` where the write port has failed; what a failed writer took is not known.
-/// At `Clock` and `Memory` the answers to the packets before have been written. `TooMany` after
-/// `u64::MAX` pieces.
+/// have been written. `Write` where the write port has failed; what a failed writer took is not known, and
+/// nothing is said of the platform then.
+/// At `Clock` and `Memory` the answers to the packets before have been written, and their commands were
+/// performed. `TooMany` after `u64::MAX` pieces.
 pub fn serve<P: Platform, C: Ticks, L: Watch, R: Read, W: Write>(
     line: &mut Line<P, C, L>,
     reader: &mut Port<R>,
