@@ -207,7 +207,7 @@ fn hear_piece<P: Platform, C: Ticks, L: Watch, W: Write>(
 ///
 /// `Read` where the read port has failed: the answers to all packets whose frames ended in what was read
 /// have been written. `Write` where the write port has failed; what a failed writer took is not known, and
-/// nothing is said of the platform then.
+/// nothing is said of the platform and of the responder's bounds then.
 /// At `Clock` and `Memory` the answers to the packets before have been written, and their commands were
 /// performed. `TooMany` after `u64::MAX` pieces.
 pub fn serve<P: Platform, C: Ticks, L: Watch, R: Read, W: Write>(
