@@ -160,7 +160,10 @@ fn refusals(
         if receive(rt, endpoint, 0, &GET_TID)?.is_ok() {
             return Ok(count);
         }
-        assert_eq!(rt; (endpoint.sources(), endpoint.pending(), endpoint.kept()), (0, 0, 0));
+        assert_eq!(rt;
+            (endpoint.sources(), endpoint.pending(), endpoint.kept()),
+            (0, 0, 0)
+        );
         hoard.give(STEP);
     }
     Ok(most)
