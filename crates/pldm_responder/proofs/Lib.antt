@@ -13,6 +13,7 @@ pub mod AnswersFromOutside
 pub mod SourceCounts
 pub mod AskedOnce
 pub mod OpenBounds
+pub mod OpenUnended
 pub mod WorkedLight
 pub mod SameHeld
 pub mod StoredRows

@@ -1,7 +1,7 @@
 -- What contracts see of an answering end: what it holds, and the rows in which answers are kept.
 use Rattle.std.specs.FinMap as map
-use Rattle.std.specs.Prelude.{◌≡◌, ◌≢◌, ℕ, ◌+◌, ◌≤◌, Bool, true, ◌||◌, ◌==◌, None, is_some, if◌then◌else◌, refl}
-use Rattle.std.specs.Coded.{Coded, code_by, coded×, coded_ℕ}
+use Rattle.std.specs.Prelude.{◌≡◌, ◌≢◌, ℕ, ◌+◌, ◌≤◌, Bool, true, ◌||◌, ◌==◌, List, None, is_some, if◌then◌else◌, refl}
+use Rattle.std.specs.Coded.{Coded, code_by, coded×, coded_ℕ, coded_bool, coded_list}
 use Rattle.mctp_assembly.specs.Keys.{IsKey, key_cmp, coded_key}
 use Rattle.mctp_assembly.specs.Opened.{Opened, coded_opened}
 use Rattle.mctp_assembly.specs.declared.key.Key.{Key}
@@ -9,13 +9,16 @@ use Rattle.pldm_responder.specs.Held.{Held}
 use Rattle.pldm_responder.specs.Slots.{Rows, coded_rows, kept_in, row_of, source_count}
 use Rattle.pldm_responder.specs.declared.bounds.Bounds.{Bounds}
 
--- its endpoint ID, keeping time and bounds, what is open on each key, the rows of kept answers, the moment from which
--- it serves, and the last moment
+-- its endpoint ID, keeping time and bounds, whether its oldest open message ends where one more would pass its bound,
+-- what is open on each key, the keys on which messages began, the oldest first, the rows of kept answers, the moment from
+-- which it serves, and the last moment
 pub record End : Type 0 where
   pub own : ℕ
   pub keep : ℕ
   pub bounds : Bounds
+  pub ends_oldest : Bool
   pub open_messages : map.FinMap key_cmp Opened
+  pub begun : List Key
   pub rows : Rows
   pub serves_from : ℕ
   pub last : ℕ
@@ -29,18 +32,20 @@ coded_bounds =
 abbrev pub coded_end : Coded End
 coded_end =
     code_by
-    (ℕ × (ℕ × (Bounds × (map.FinMap key_cmp Opened × (Rows × (ℕ × ℕ))))))
-    (coded× coded_ℕ (coded× coded_ℕ (coded× coded_bounds (coded× (map.code coded_key coded_opened) (coded× coded_rows
-    (coded× coded_ℕ coded_ℕ))))))
-    (λ e. (e.own, (e.keep, (e.bounds, (e.open_messages, (e.rows, (e.serves_from, e.last)))))))
+    (ℕ × (ℕ × (Bounds × (Bool × (map.FinMap key_cmp Opened × (List Key × (Rows × (ℕ × ℕ))))))))
+    (coded× coded_ℕ (coded× coded_ℕ (coded× coded_bounds (coded× coded_bool (coded× (map.code coded_key coded_opened)
+    (coded× (coded_list coded_key) (coded× coded_rows (coded× coded_ℕ coded_ℕ))))))))
+    (λ e. (e.own, (e.keep, (e.bounds, (e.ends_oldest, (e.open_messages, (e.begun, (e.rows, (e.serves_from, e.last)))))))))
     (λ c. record {
       own = c.0;
       keep = c.1.0;
       bounds = c.1.1.0;
-      open_messages = c.1.1.1.0;
-      rows = c.1.1.1.1.0;
-      serves_from = c.1.1.1.1.1.0;
-      last = c.1.1.1.1.1.1;
+      ends_oldest = c.1.1.1.0;
+      open_messages = c.1.1.1.1.0;
+      begun = c.1.1.1.1.1.0;
+      rows = c.1.1.1.1.1.1.0;
+      serves_from = c.1.1.1.1.1.1.1.0;
+      last = c.1.1.1.1.1.1.1.1;
     })
     (λ _. refl)
 

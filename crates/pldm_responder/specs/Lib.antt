@@ -12,6 +12,7 @@ pub mod Slots
 pub mod Ends
 pub mod Stations
 pub mod Requested
+pub mod OpenOrder
 pub mod Looking
 pub mod Reserving
 pub mod Laws

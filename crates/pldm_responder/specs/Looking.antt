@@ -1,19 +1,19 @@
 -- What an answering end makes of a packet by looking at it, and of the request that it completes.
 use Rattle.std.specs.FinMap as map
-use Rattle.std.specs.Prelude.{◌≡◌, ◌≢◌, ℕ, ◌<◌, Bool, true, false, ◌&&◌, not, nat_le, nat_lt, List, length, IfSome, Result, Ok, Err, if◌then◌else◌}
+use Rattle.std.specs.Prelude.{◌≡◌, ◌≢◌, ℕ, ◌<◌, Bool, true, nat_lt, List, length, IfSome, Option, Ok, if◌then◌else◌}
 use Rattle.mctp_packet.specs.Packets.{Packet}
 use Rattle.mctp_packet.specs.declared.packet.Route.{Route}
 use Rattle.mctp_packet.specs.declared.reason.Reason.{Reason}
-use Rattle.mctp_assembly.specs.Keys.{key_of}
 use Rattle.mctp_assembly.specs.Steps as assembly
 use Rattle.mctp_assembly.specs.declared.key.Key.{Key}
 use Rattle.pldm_responder.specs.Arrivals.{Arrival, Drop, Part, Whole, message_of, passed_arrival, request_packet}
 use Rattle.pldm_responder.specs.Ends.{End, held_by}
 use Rattle.pldm_responder.specs.Events.{Message}
 use Rattle.pldm_responder.specs.Held.{Held}
+use Rattle.pldm_responder.specs.OpenOrder.{begun_fed, begun_passed, ended_passed, is_shut_out_passed, open_fed, open_passed}
 use Rattle.pldm_responder.specs.Performing.{busy_reply}
 use Rattle.pldm_responder.specs.Requested.{Requested}
-use Rattle.pldm_responder.specs.Steps.{entry_for, open_after, received_arrival, repeats}
+use Rattle.pldm_responder.specs.Steps.{entry_for, received_arrival, repeats}
 use Rattle.pldm_responder.specs.declared.arriving.Arrived.{Arrived}
 use Rattle.pldm_responder.specs.declared.arriving.Arrived.TheVariants.{Dropped, Partial, Request}
 use Rattle.pldm_responder.specs.declared.arriving.Standing.{Standing}
@@ -33,10 +33,15 @@ arrival_in moment (Dropped reason) = Drop reason
 arrival_in moment Partial = Part
 arrival_in moment (Request r) = Whole (message_at moment r)
 
--- the end once the packet at this moment was taken
+-- the end once this packet was taken
+abbrev pub end_fed : End → ℕ → Packet → End
+end_fed end moment p = record end { open_messages = open_fed end p; begun = begun_fed end p; last = moment }
+
+-- the end once the packet of these bytes was taken
 abbrev pub end_after : End → ℕ → List ℕ → End
 end_after end moment bytes = record end {
-  open_messages = open_after end.open_messages (request_packet end.own bytes);
+  open_messages = open_passed end (request_packet end.own bytes);
+  begun = begun_passed end (request_packet end.own bytes);
   last = moment;
 }
 
@@ -46,10 +51,6 @@ end_finished end moment r = record end {
   open_messages = map.remove end.open_messages (assembly_key r);
   last = moment;
 }
-
--- the end once this packet was taken
-abbrev pub end_fed : End → ℕ → Packet → End
-end_fed end moment p = record end { open_messages = assembly.after end.open_messages p; last = moment }
 
 abbrev pub IsLeftByPacket : End → ℕ → Packet → End → Arrived → Type 0
 IsLeftByPacket old moment p new (Dropped reason) = new ≡ end_fed old moment p
@@ -82,16 +83,13 @@ IsReadBy old moment route bytes new Partial = ⊥
 IsReadBy old moment route bytes new (Request r) =
     (new ≡ old) × (r ≡ record { source = route.source; tag = route.tag; bytes = bytes })
 
--- a packet that passed begins a message of several packets, where as many are open as may be
-abbrev pub opens_past : End → Result Packet Reason → Bool
-opens_past end (Ok p) =
-    p.start && not p.end && not (map.contains_key end.open_messages (key_of p))
-    && nat_le end.bounds.open_messages (map.len end.open_messages)
-opens_past end (Err reason) = false
-
--- so do these bytes
+-- these bytes begin a message for which there is no room
 abbrev pub is_past_open : End → List ℕ → Bool
-is_past_open end bytes = opens_past end (request_packet end.own bytes)
+is_past_open end bytes = is_shut_out_passed end (request_packet end.own bytes)
+
+-- the key whose message ends for these bytes
+abbrev pub ended_by : End → List ℕ → Option Key
+ended_by end bytes = ended_passed end (request_packet end.own bytes)
 
 -- ---- a request is looked at
 module _ {S : Type 0} (held : Held S) (m : Message) where

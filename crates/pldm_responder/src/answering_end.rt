@@ -2,14 +2,15 @@
 //! then it is done what it asks for.
 
 ghost use Rattle.std.specs.FinMap as map;
-ghost use Rattle.std.specs.Prelude.{◌≡◌, ◌≢◌, ◌↔◌, ℕ, [], not, Ok, ◌+◌, ◌*◌, ◌≤◌, ◌<◌, ◌&&◌, ◌==◌, false, true, length, nat_lt, Some, None, IfOk, IfErr, IfSome, IsErrOf, IsSome, OnOk, OnErr, if◌then◌else◌};
+ghost use Rattle.std.specs.Prelude.{◌≡◌, ◌≢◌, ◌↔◌, ℕ, [], Ok, ◌+◌, ◌*◌, ◌≤◌, ◌<◌, ◌&&◌, ◌==◌, false, true, length, nat_lt, Some, None, IfOk, IfErr, IfSome, IsErrOf, IsSome, OnOk, OnErr, if◌then◌else◌};
 ghost use Rattle.mctp_packet.specs.declared.TheConstants.{MAX_MESSAGE_BYTES as most};
 ghost use Rattle.mctp_assembly.specs.declared.key.Key.{Key as KeyValue};
 ghost use Rattle.pldm_responder.specs.Counts.{CountsKept};
 ghost use Rattle.pldm_responder.specs.Ends.{End, GetsRow, IsSameEnd, has_row, held_by};
 ghost use Rattle.pldm_responder.specs.Arrivals.{Part, message_arrival};
-ghost use Rattle.pldm_responder.specs.Looking.{HasArrived, HasComeBy, IsReadBy, IsReply, arrival_in, end_finished, is_past_open, message_at, opens_past, standing};
-ghost use Rattle.mctp_assembly.specs.Keys.{key_of};
+ghost use Rattle.pldm_responder.specs.Looking.{HasArrived, HasComeBy, IsReadBy, IsReply, arrival_in, end_finished, is_past_open, message_at, standing};
+ghost use Rattle.pldm_responder.specs.OpenOrder.{begins, is_shut_out, is_shut_out_on, way_for};
+ghost use Rattle.mctp_assembly.specs.Keys.{IsKey};
 ghost use Rattle.mctp_assembly.specs.Steps.{answer};
 ghost use Rattle.mctp_assembly.specs.declared.fed.Fed.TheVariants.{Partial};
 ghost use Rattle.pldm_responder.specs.Needs.{NeedsMemory};
@@ -22,6 +23,7 @@ ghost use Rattle.pldm_wire.specs.declared.assigned.TheConstants.{INSTANCE_IDS as
 use crate::arriving::{Arrived, Request, RoomRefusal, Standing};
 use crate::bounds::Bounds;
 use crate::kept_answers::{KeptAnswers, Reserved};
+use crate::open_order::{end_message, first_open, put_begun, reserve_begun};
 use crate::performing::refuse;
 use mctp_assembly::{Assembler, FedInto, Key};
 use mctp_packet::{
@@ -54,7 +56,12 @@ pub struct AnsweringEnd {
     last: Moment,
     /// The moment in milliseconds from which it serves: the last restart's and the keeping time.
     serves_from: u64,
+    /// Whether the oldest open message ends where one more would pass its bound.
+    ends_oldest: bool,
     assembler: Assembler,
+    /// The keys on which messages began that are open, the oldest first, where the oldest ends: with keys of messages
+    /// that ended since.
+    begun: Vec<Key>,
     kept: KeptAnswers,
 }
 
@@ -69,7 +76,9 @@ impl Model for AnsweringEnd {
       own = e.own;
       keep = e.keep;
       bounds = e.bounds;
+      ends_oldest = e.ends_oldest;
       open_messages = e.assembler;
+      begun = e.begun.items;
       rows = e.kept;
       serves_from = e.serves_from;
       last = e.last;
@@ -80,12 +89,21 @@ impl Model for AnsweringEnd {
 }
 
 impl AnsweringEnd {
-    /// The endpoint `own`, which keeps each answer for `keep` and at a time no more than `bounds` allow. Nothing is
-    /// open or kept, and its last moment is 0. It takes no memory.
-    pub fn new(alloc: Global, own: Eid, keep: Keep, bounds: Bounds) -> AnsweringEnd
+    /// The endpoint `own`, which keeps each answer for `keep` and at a time no more than `bounds` allow. Where one more
+    /// message would be open than that, the one that began first ends where `ends_oldest`, else the new one is refused.
+    /// Nothing is open or kept, and its last moment is 0. It takes no memory.
+    pub fn new(
+        alloc: Global,
+        own: Eid,
+        keep: Keep,
+        bounds: Bounds,
+        ends_oldest: bool,
+    ) -> AnsweringEnd
         ensures own { result.own ≡ own }
         ensures keep { result.keep ≡ keep }
         ensures bounds { result.bounds ≡ bounds }
+        ensures ends_oldest { result.ends_oldest ≡ ends_oldest }
+        ensures none_begun { result.begun ≡ [] }
         ensures closed { result.open_messages ≡ map.empty }
         ensures none { (source id : ℕ) → kept_in result.rows source id ≡ None }
         ensures no_rows { source_count result.rows ≡ 0 }
@@ -99,7 +117,9 @@ impl AnsweringEnd {
             bounds,
             last: Moment::new(0).unwrap(),
             serves_from: 0,
+            ends_oldest,
             assembler: Assembler::new(alloc),
+            begun: Vec::new(alloc),
             kept: KeptAnswers::new(alloc),
         }
     }
@@ -146,13 +166,16 @@ impl AnsweringEnd {
         ensures own { self.new.own ≡ self.old.own }
         ensures keep { self.new.keep ≡ self.old.keep }
         ensures bounds { self.new.bounds ≡ self.old.bounds }
+        ensures ends_oldest { self.new.ends_oldest ≡ self.old.ends_oldest }
         ensures closed { self.new.open_messages ≡ map.empty }
+        ensures none_begun { self.new.begun ≡ [] }
         ensures none { (source id : ℕ) → kept_in self.new.rows source id ≡ None }
         ensures no_rows { source_count self.new.rows ≡ 0 }
         ensures serves { self.new.serves_from ≡ now + self.old.keep }
         ensures last { self.new.last ≡ now }
     {
         self.assembler = Assembler::new(self.alloc);
+        self.begun.clear();
         self.kept = KeptAnswers::new(self.alloc);
         self.serves_from = now.get() + u64::from(self.keep.get());
         self.last = now;
@@ -164,9 +187,9 @@ impl AnsweringEnd {
     ///
     /// # Errors
     ///
-    /// `OpenMessages` exactly where a packet begins a message of several packets, none is open on its key, and as many
-    /// are open as [`Bounds::open_messages`] allow. `Memory` where a growth was refused, which only a start packet
-    /// that gives `Partial` wants.
+    /// `OpenMessages` exactly where a packet begins a message of several packets, none is open on its key, as many are
+    /// open as [`Bounds::open_messages`] allow, and none of them ends for it. `Memory` where a growth was refused, which
+    /// only a start packet that gives `Partial` wants.
     pub fn take<'a>(
         &mut self,
         now: Moment,
@@ -208,13 +231,12 @@ impl AnsweringEnd {
         ensures ok { IfOk result (HasComeBy self.old now packet.now self.new) }
         ensures err { OnErr result (self.new ≡ self.old) }
         ensures sources { IsErrOf result RoomRefusal.Sources → ⊥ }
-        ensures open_messages { IsErrOf result RoomRefusal.OpenMessages ↔ (opens_past self.old (Ok packet.now) ≡ true) }
+        ensures open_messages { IsErrOf result RoomRefusal.OpenMessages ↔ (is_shut_out self.old packet.now ≡ true) }
         ensures partial { OnErr result (answer self.old.open_messages packet.now ≡ Partial) }
         ensures at_start { OnErr result (packet.now.start ≡ true) }
     {
-        let key = Key::of(packet);
-        if !self.has_room(packet, key) {
-            return Err(RoomRefusal::OpenMessages);
+        if packet.start() && !packet.end() {
+            return self.begin(now, packet);
         }
         if !packet.end() {
             let given = self.assembler.feed_open(packet)?;
@@ -262,16 +284,46 @@ impl AnsweringEnd {
         Arrived::Dropped(reason)
     }
 
-    /// Whether there is room for what a packet leaves open: it begins no message of several packets, or its key is
-    /// open, or the bounds allow one more.
-    fn has_room(&self, packet: &PacketRef<'_>, key: Key) -> bool
-        requires { key ≡ key_of packet.now }
-        ensures { result ≡ not (opens_past self.now (Ok packet.now)) }
+    /// Takes a packet that begins a message of several packets. Where there is no room, the oldest message ends.
+    fn begin<'a>(
+        &mut self,
+        now: Moment,
+        packet: &PacketRef<'_>,
+    ) -> Result<Arrived<'a>, RoomRefusal>
+        requires begins { begins packet.now ≡ true }
+        requires owner { packet.now.route.owner ≡ true }
+        requires other { packet.now.route.source ≢ self.old.own }
+        ensures ok { IfOk result (HasComeBy self.old now packet.now self.new) }
+        ensures err { OnErr result (self.new ≡ self.old) }
+        ensures sources { IsErrOf result RoomRefusal.Sources → ⊥ }
+        ensures open_messages { IsErrOf result RoomRefusal.OpenMessages ↔ (is_shut_out self.old packet.now ≡ true) }
     {
-        if !packet.start() || packet.end() {
-            return true;
+        let ended = self.way_for(Key::of(packet))?;
+        reserve_begun(&mut self.begun, self.ends_oldest)?;
+        self.assembler.feed_open(packet)?;
+        end_message(&mut self.assembler, ended);
+        put_begun(&mut self.begun, self.ends_oldest, Key::of(packet), &self.assembler);
+        self.last = now;
+        Ok(Arrived::Partial)
+    }
+
+    /// The key whose message has to end so that one can begin on this one.
+    fn way_for(&self, key: Key) -> Result<Option<Key>, RoomRefusal>
+        requires { IsKey key }
+        ensures ok { IfOk result (λ ended. ended ≡ way_for self.now key) }
+        ensures err { IfErr result (λ refusal. refusal ≡ RoomRefusal.OpenMessages) }
+        ensures shut_out { IsErrOf result RoomRefusal.OpenMessages ↔ (is_shut_out_on self.now key ≡ true) }
+    {
+        if self.assembler.pending() < self.bounds.open_messages || self.assembler.is_open(key) {
+            return Ok(None);
         }
-        self.assembler.pending() < self.bounds.open_messages || self.assembler.is_open(key)
+        if !self.ends_oldest {
+            return Err(RoomRefusal::OpenMessages);
+        }
+        match first_open(&self.begun, &self.assembler) {
+            Some(oldest) => Ok(Some(oldest)),
+            None => Err(RoomRefusal::OpenMessages),
+        }
     }
 
     /// What a request that came at the moment `now` is. The message that answers one in the busy time, or a copy, is

@@ -8,6 +8,7 @@ mod bounds;
 mod kept_answer;
 mod kept_answers;
 pub mod laws;
+mod open_order;
 mod outcome;
 mod performing;
 mod responder;

@@ -39,6 +39,7 @@ pub struct Responder<P: Platform> {
 }
 
 impl<P: Platform> Model for Responder<P> {
+    ghost use Rattle.std.specs.Prelude.{◌≡◌, false};
     ghost use Rattle.pldm_responder.specs.Stations.{Station, coded_station};
 
     ghost Value = { Station P P.State };
@@ -46,6 +47,8 @@ impl<P: Platform> Model for Responder<P> {
     ghost coded = { coded_station P.code P.State.code };
 
     ghost view = { λ r. record { end = r.end; platform = r.platform; state = P.state r.platform } };
+
+    ghost invariant = { λ r. r.end.ends_oldest ≡ false };
 }
 
 impl<P: Platform> Responder<P> {
@@ -67,7 +70,7 @@ impl<P: Platform> Responder<P> {
     {
         Responder {
             alloc,
-            end: AnsweringEnd::new(alloc, own, keep, bounds),
+            end: AnsweringEnd::new(alloc, own, keep, bounds, false),
             platform,
         }
     }

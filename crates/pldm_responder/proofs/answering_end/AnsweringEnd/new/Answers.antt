@@ -9,6 +9,6 @@ pub invariant_of-result : goal.invariant_of-result
 invariant_of-result c =
     let empty = c.new-2.ensures in (
       rw empty (none_asked c.args.own),
-      λ id. c.new-3.ensures.none c.args.own id,
-      (rw empty (omega (arith, len-empty key_cmp Opened)), omega (arith, c.new-3.ensures.no_rows)),
+      λ id. c.new-4.ensures.none c.args.own id,
+      (rw empty (omega (arith, len-empty key_cmp Opened)), omega (arith, c.new-4.ensures.no_rows)),
     )
