@@ -246,7 +246,7 @@ given_for (Some a) fields = given_to a.command fields
 abbrev pub ReportsGiven : Result Answer ℕ → Option PendingCommand → ℕ → ℕ → StepReport → List (List ℕ) → Type 0
 ReportsGiven (Ok given) None own source r rooms = ⊥
 ReportsGiven (Ok given) (Some a) own source r rooms =
-    ReportsOutcome (outcome_of_answer own source a.tag a.request.items given) r rooms
+    ReportsOutcome (outcome_of_answer own source a.tag a.request given) r rooms
 ReportsGiven (Err number) pending own source r rooms = IsRefused number r
 
 abbrev pub ReportsAnswer : HandleFields → AnswerFields → StepReport → List (List ℕ) → Option Inside → Type 0

@@ -14,7 +14,7 @@ use Rattle.pldm_wire.specs.declared.answer.Answer.{Answer}
 use Rattle.pldm_wire.specs.declared.command.Command.{Command}
 use Rattle.pldm_responder.specs.Arrivals.{Arrival, Drop, Part, Whole, packets_back}
 use Rattle.pldm_responder.specs.Asked.{IsAsGiven, gives, over}
-use Rattle.pldm_responder.specs.Calls.{Call, Received, Restart, outcome}
+use Rattle.pldm_responder.specs.Calls.{Call, Received, Restart, Ended, outcome}
 use Rattle.pldm_responder.specs.Events.{Message, is_of}
 use Rattle.pldm_responder.specs.OutsideAnswers.{message_in, outcome_of_answer}
 use Rattle.pldm_responder.specs.Held.{Entry, Held}
@@ -23,9 +23,9 @@ use Rattle.pldm_responder.specs.Performing.{Rules, after_command, busy_reply, ch
 use Rattle.pldm_responder.specs.Steps.{arrival_commands, arrival_held, arrival_outcome, copied_packets, entry_for, entry_of, message_outcome, performs, received_arrival, received_commands, received_held, received_outcome, repeats, restarted_held, served}
 use Rattle.pldm_responder.specs.declared.outcome.Outcome.TheVariants.{Answered}
 use Rattle.pldm_responder.proofs.AnswersFromOutside.{answer_decides, none_is_asked}
-use Rattle.pldm_responder.proofs.CallsLookBack.{new_looks_back, received_looks_back, restarted_looks_back, same_is_left}
+use Rattle.pldm_responder.proofs.CallsLookBack.{ended_looks_back, new_looks_back, received_looks_back, restarted_looks_back, same_is_left}
 use Rattle.pldm_endpoint.specs.RequestKeys.{PendingCommands, request_key, request_key_cmp, request_key_of}
-use Rattle.pldm_endpoint.specs.Histories.{AnsweredInTurn, AskedLooksBack, IsFree, IsLeftInTurn, NewInTurn, ReceivedInTurn, RestartedInTurn, SameInTurn, TwoStepsAreOne, UnaskedLooksBack, entry_to_be, in_turn, to_be}
+use Rattle.pldm_endpoint.specs.Histories.{AnsweredInTurn, AskedLooksBack, EndedInTurn, IsFree, IsLeftInTurn, NewInTurn, ReceivedInTurn, RestartedInTurn, SameInTurn, TwoStepsAreOne, UnaskedLooksBack, entry_to_be, in_turn, to_be}
 use Rattle.pldm_endpoint.specs.TwoSteps.{command_at, count_after, entry_given, held_after, kept_by, pending_after, pending_by, request_in, stepped, unasked}
 use Rattle.pldm_endpoint.specs.declared.pending_commands.PendingCommand.{PendingCommand}
 use Rattle.pldm_endpoint.proofs.KeyOrder.{request_keys_total}
@@ -374,6 +374,10 @@ restarted_in_turn new own keep answers count pending held calls moment left =
       serves_from = refl;
       last = refl;
     }) (restarted_looks_back (in_turn answers) new own keep 0 (over count (to_be answers pending held)) calls moment left)
+
+pub ended_in_turn : assembly.ForgetLooksBack → EndedInTurn
+ended_in_turn looks own keep answers count pending held calls key left =
+    ended_looks_back (in_turn answers) looks own keep 0 (over count (to_be answers pending held)) calls key left
 
 pub new_in_turn : assembly.NewLooksBack → NewInTurn
 new_in_turn new own keep answers =

@@ -14,24 +14,24 @@ use Rattle.pldm_endpoint.specs.declared.pending_commands.PendingCommand.{Pending
 use Rattle.pldm_endpoint.specs.declared.step.CommandHandle.{CommandHandle}
 
 module _ (handle : CommandHandle) (given : Answer) (a : PendingCommand) (o : Option PendingCommand) (is : o ≡ Some a)
-    (bytes : List ℕ) (bytes_are : bytes ≡ reply (gives given) tt a.request.items) where
+    (bytes : List ℕ) (bytes_are : bytes ≡ reply (gives given) tt a.request) where
   -- what goes out
-  pub goes_out : (own : ℕ) (changed : Bool) → changed ≡ changes (gives given) tt a.request.items
-      → IsAnsweredBy own handle given o (answering bytes (Answered true changed (way_back own (message_of handle.source a.tag 0 a.request.items))))
+  pub goes_out : (own : ℕ) (changed : Bool) → changed ≡ changes (gives given) tt a.request
+      → IsAnsweredBy own handle given o (answering bytes (Answered true changed (way_back own (message_of handle.source a.tag 0 a.request))))
   goes_out own changed changed_is =
-      subst (λ x. IsAnsweredBy own handle given x (answering bytes (Answered true changed (way_back own (message_of handle.source a.tag 0 a.request.items))))) (sym is)
-      (λ i. answering (bytes_are i) (Answered true (changed_is i) (way_back own (message_of handle.source a.tag 0 a.request.items))))
+      subst (λ x. IsAnsweredBy own handle given x (answering bytes (Answered true changed (way_back own (message_of handle.source a.tag 0 a.request))))) (sym is)
+      (λ i. answering (bytes_are i) (Answered true (changed_is i) (way_back own (message_of handle.source a.tag 0 a.request))))
 
   -- what is kept
   pub is_kept : (end new : End) → record new { rows = end.rows } ≡ end
-      → ((source id : ℕ) → kept_in new.rows source id ≡ (if handle.source == source && handle.id == id then Some (record { moment = a.moment; bytes = a.request.items; answer = bytes }) else kept_in end.rows source id))
+      → ((source id : ℕ) → kept_in new.rows source id ≡ (if handle.source == source && handle.id == id then Some (record { moment = a.moment; bytes = a.request; answer = bytes }) else kept_in end.rows source id))
       → IsHeld (held_by new) (answered_held (held_by end) handle given o)
   is_kept end new rest kept =
       subst (λ x. IsHeld (held_by new) (answered_held (held_by end) handle given x)) (sym is) (record {
         own = ap (λ (e : End). e.own) rest;
         keep = ap (λ (e : End). e.keep) rest;
         open_messages = ap (λ (e : End). e.open_messages) rest;
-        kept = λ source id. kept source id ∙ ap (λ answer. if handle.source == source && handle.id == id then Some (record { moment = a.moment; bytes = a.request.items; answer = answer }) else kept_in end.rows source id) bytes_are;
+        kept = λ source id. kept source id ∙ ap (λ answer. if handle.source == source && handle.id == id then Some (record { moment = a.moment; bytes = a.request; answer = answer }) else kept_in end.rows source id) bytes_are;
         state = refl;
         serves_from = ap (λ (e : End). e.serves_from) rest;
         last = ap (λ (e : End). e.last) rest;

@@ -4,6 +4,7 @@ pub mod KeyOrder
 pub mod NumberSearches
 pub mod PendingGlue
 pub mod AnswersGiven
+pub mod EndedMessages
 pub mod HandedOut
 pub mod RefusedRequests
 pub mod AnswersKept

@@ -3,15 +3,17 @@
 -- those before it, and `answers` says what the device answers to it, sooner or later.
 use Rattle.std.specs.FinMap as map
 use Rattle.std.specs.Prelude.{◌≡◌, ℕ, ◌+◌, List, [], ◌∷◌, Option, Some, None, Err}
+use Rattle.mctp_assembly.specs.declared.key.Key.{Key}
 use Rattle.pldm_wire.specs.declared.answer.Answer.{Answer}
 use Rattle.pldm_wire.specs.declared.command.Command.{Command}
 use Rattle.pldm_platform.specs.declared.platform.ReadingFault.TheVariants.{NoSuchSensor}
 use Rattle.pldm_responder.specs.Asked.{gives, over}
-use Rattle.pldm_responder.specs.Calls.{Call, Received, Restart, outcome}
+use Rattle.pldm_responder.specs.Calls.{Call, Received, Restart, Ended, outcome}
 use Rattle.pldm_responder.specs.Events.{Message}
 use Rattle.pldm_responder.specs.OutsideAnswers.{outcome_of_answer}
 use Rattle.pldm_responder.specs.Held.{Entry, Held, IsHeld, held_at_first}
 use Rattle.pldm_responder.specs.Laws.{IsLeftBy}
+use Rattle.pldm_responder.specs.OpenOrder.{ended_held}
 use Rattle.pldm_responder.specs.Performing.{Rules}
 use Rattle.pldm_responder.specs.Steps.{received_commands, received_held, received_outcome, restarted_held}
 use Rattle.pldm_endpoint.specs.RequestKeys.{PendingCommands, pending_at, request_key, request_key_of}
@@ -103,6 +105,14 @@ RestartedInTurn =
     (calls : List (Call ℕ)) (moment : ℕ)
     → IsLeftInTurn own keep answers count pending held calls
     → IsLeftInTurn own keep answers count map.empty (restarted_held held moment) (Restart moment ∷ calls)
+
+-- an open message that ends: to its sender it is a lost packet
+abbrev pub EndedInTurn : Type 0
+EndedInTurn =
+    (own keep : ℕ) (answers : ℕ → Answer) (count : ℕ) (pending : PendingCommands) (held : Held (Unit {0}))
+    (calls : List (Call ℕ)) (key : Key)
+    → IsLeftInTurn own keep answers count pending held calls
+    → IsLeftInTurn own keep answers count pending (ended_held (Some key) held) (Ended key ∷ calls)
 
 -- a new endpoint
 abbrev pub NewInTurn : Type 0

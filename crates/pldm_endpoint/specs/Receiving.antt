@@ -9,8 +9,9 @@ use Rattle.pldm_responder.specs.Arrivals.{Whole}
 use Rattle.pldm_responder.specs.Ends.{AreSameRows, has_row}
 use Rattle.pldm_responder.specs.Slots.{source_count}
 use Rattle.pldm_responder.specs.Held.{IsHeld}
-use Rattle.pldm_responder.specs.Looking.{end_finished, message_at}
+use Rattle.pldm_responder.specs.Looking.{end_finished, ended_by, message_at}
 use Rattle.pldm_responder.specs.Needs.{NeedsMemory}
+use Rattle.pldm_responder.specs.OpenOrder.{ended_held}
 use Rattle.pldm_responder.specs.Requested.{Requested}
 use Rattle.pldm_responder.specs.Rooms.{AreRowsAfter}
 use Rattle.pldm_responder.specs.Steps.{arrival_commands, message_outcome, performs, received_arrival, received_commands}
@@ -38,8 +39,8 @@ pub record HasReceived (old : EndpointView) (moment : ℕ) (bytes : List ℕ) (n
   -- what becomes of them: their command is handed out, or they are done with
   pub step_is : step ≡ received_step (held_in old) moment bytes old.count
   pub command : IsAskedBy step new.pending (received_commands (held_in old) moment bytes)
-  -- what is held and pending then
-  pub held : IsHeld (held_in new) (held_after (held_in old) moment bytes)
+  -- what is held and pending then; where it begins a message for which there was no room, the oldest has ended
+  pub held : IsHeld (held_in new) (ended_held (ended_by old.end bytes) (held_after (held_in old) moment bytes))
   pub pending : new.pending ≡ pending_after (held_in old) moment bytes old.pending old.count
   pub count : new.count ≡ count_after (held_in old) moment bytes old.count
   -- the sources with room for answers

@@ -29,7 +29,7 @@ refused_fresh e m =
 
 -- a request whose source and instance ID have this pending command, or none
 abbrev pub refused_while : EndpointView → Message → Option PendingCommand → Option ReceiveRefusal
-refused_while e m (Some a) = if bytes_eq a.request.items m.bytes then Some BeingPerformed else Some Performing
+refused_while e m (Some a) = if bytes_eq a.request m.bytes then Some BeingPerformed else Some Performing
 refused_while e m None = if performs (held_in e) m then refused_fresh e m else None
 
 abbrev pub refused_request : EndpointView → Option Message → Option ReceiveRefusal

@@ -48,9 +48,9 @@ AnswersItsOrigin =
     (source id : ℕ) (a : PendingCommand) (place : Place ℕ)
     → IsLeftInTurn own keep answers count pending held calls → map.get pending (request_key source id) ≡ Some a
     → origin keep (events own calls) source id ≡ Some place
-    → (reply (gives (answers a.number)) tt a.request.items
+    → (reply (gives (answers a.number)) tt a.request
     ≡ reply_at (in_turn answers) keep 0 place)
-    × (a.request.items ≡ place.message.bytes)
+    × (a.request ≡ place.message.bytes)
 
 -- a copy gets the very answer that the device gave for its origin: that to the asking after those before it
 abbrev pub CopiesAreAnsweredAgain : Type 0

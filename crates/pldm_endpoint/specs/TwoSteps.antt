@@ -52,8 +52,8 @@ held_in e = held_by e.end
 -- the request of a pending command is known, and there is room for its answer
 pub record IsWithDevice (end : End) (count : ℕ) (key : RequestKey) (a : PendingCommand) : Type 0 where
   pub instance : key.id < INSTANCE_IDS
-  pub command : commands_of a.request.items ≡ a.command ∷ []
-  pub id : id_at a.request.items ≡ key.id
+  pub command : commands_of a.request ≡ a.command ∷ []
+  pub id : id_at a.request ≡ key.id
   pub before : a.number < count
   pub room : IsSome (row_of end.rows key.source)
   pub other : key.source ≢ end.own
@@ -86,7 +86,7 @@ command_at m number command = record {
   moment = m.moment;
   number = number;
   command = command;
-  request = record { items = m.bytes };
+  request = m.bytes;
 }
 
 abbrev pub pending_by : PendingCommands → ℕ → Option Message → List Command → PendingCommands
@@ -144,14 +144,14 @@ IsItsAnswer (Some a) given = IsAnswerTo (kind_of a.command) given
 abbrev pub IsAnsweredBy : ℕ → CommandHandle → Answer → Option PendingCommand → Outcome → Type 0
 IsAnsweredBy own handle given None outcome = ⊥
 IsAnsweredBy own handle given (Some a) outcome =
-    outcome ≡ outcome_of_answer own handle.source a.tag a.request.items given
+    outcome ≡ outcome_of_answer own handle.source a.tag a.request given
 
 -- and is kept for that request, from its moment on
 abbrev pub entry_given : PendingCommand → Answer → Entry
 entry_given a given = record {
   moment = a.moment;
-  bytes = a.request.items;
-  answer = reply (gives given) tt a.request.items;
+  bytes = a.request;
+  answer = reply (gives given) tt a.request;
 }
 
 abbrev pub answered_held : {S : Type 0} → Held S → CommandHandle → Answer → Option PendingCommand → Held S

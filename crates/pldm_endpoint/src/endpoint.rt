@@ -17,6 +17,7 @@ ghost use Rattle.pldm_endpoint.specs.Stepping.{StepHasReply, stepping};
 ghost use Rattle.pldm_endpoint.specs.TwoSteps.{IsItsAnswer, held_in};
 
 use crate::pending_commands::{PendingCommand, PendingCommands, RequestKey};
+use crate::request_bytes::RequestBytes;
 use crate::step::{AnswerRefusal, CommandHandle, MessageStep, ReceiveRefusal, Step, is_answer_to};
 use mctp_packet::{Body, Eid, Keep, Moment, Route};
 use pldm_responder::{
@@ -68,7 +69,7 @@ impl Endpoint {
     {
         Endpoint {
             alloc,
-            end: AnsweringEnd::new(alloc, own, keep, bounds),
+            end: AnsweringEnd::new(alloc, own, keep, bounds, true),
             pending: PendingCommands::new(alloc),
             count: 0,
             max_pending,
@@ -240,8 +241,7 @@ impl Endpoint {
         }
         let reserved = self.end.reserve(request)?;
         let (source, id, number) = (request.source(), request.id(), self.count);
-        let mut bytes = Body::new();
-        bytes.try_extend_from_slice(request.bytes()).unwrap();
+        let bytes = RequestBytes::copied(self.alloc, request.bytes())?;
         let pending = PendingCommand {
             tag: request.tag(),
             moment: now,
@@ -347,7 +347,7 @@ impl Endpoint {
             tag: pending.tag,
         };
         self.end
-            .keep(source, id, pending.moment, &pending.request, reply);
+            .keep(source, id, pending.moment, pending.request.as_slice(), reply);
         self.pending.remove(RequestKey { source, id });
         Ok(performed(changed, route))
     }

@@ -1,6 +1,6 @@
 //! Laws of an endpoint over any list of its calls: each function does nothing and ensures its law.
 
-ghost use Rattle.pldm_endpoint.specs.Histories.{AnsweredInTurn, AskedLooksBack, NewInTurn, ReceivedInTurn, RestartedInTurn, SameInTurn, TwoStepsAreOne, UnaskedLooksBack};
+ghost use Rattle.pldm_endpoint.specs.Histories.{AnsweredInTurn, AskedLooksBack, EndedInTurn, NewInTurn, ReceivedInTurn, RestartedInTurn, SameInTurn, TwoStepsAreOne, UnaskedLooksBack};
 ghost use Rattle.pldm_endpoint.specs.Turns.{AnswersItsOrigin, CopiesAreAnsweredAgain, CountsAskings, IsAskedInTurn};
 
 /// What an endpoint returns and holds after any list of calls is what a responder's looking back says whose
@@ -12,6 +12,7 @@ pub fn answers_come_in_turn()
     ensures asked { AskedLooksBack }
     ensures answered { AnsweredInTurn }
     ensures restarted { RestartedInTurn }
+    ensures ended { EndedInTurn }
     ensures new { NewInTurn }
     ensures same { SameInTurn }
     ensures at_once { TwoStepsAreOne }

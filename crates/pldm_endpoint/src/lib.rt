@@ -6,8 +6,10 @@ mod command_list;
 mod endpoint;
 pub mod laws;
 mod pending_commands;
+mod request_bytes;
 mod step;
 
 pub use endpoint::Endpoint;
 pub use pending_commands::{PendingCommand, RequestKey};
+pub use request_bytes::RequestBytes;
 pub use step::{AnswerRefusal, CommandHandle, MessageStep, ReceiveRefusal, Step};

@@ -13,6 +13,7 @@ ghost use Rattle.pldm_responder.specs.Performing.{changes, commands_of, reply as
 ghost use Rattle.pldm_endpoint.specs.RequestKeys.{pending_at, number_of};
 
 use crate::command_list::CommandList;
+use crate::request_bytes::RequestBytes;
 use crate::step::CommandHandle;
 use mctp_packet::{Body, Eid, Memory, Moment, Tag};
 use pldm_responder::succeeded;
@@ -50,19 +51,19 @@ pub struct PendingCommand {
     pub(crate) number: u64,
     pub(crate) command: Command,
     /// The bytes of the request.
-    pub(crate) request: Body,
+    pub(crate) request: RequestBytes,
 }
 
 impl PendingCommand {
     /// Puts the message that answers its request, which has this instance ID, into `reply`, where the device gave this
     /// answer. The result is whether it is of a command that sets, and was not refused.
     pub(crate) fn put_reply(&self, id: u8, answer: &Answer, reply: &mut Body) -> bool
-        requires asked { commands_of self.now.request.items ≡ self.now.command ∷ [] }
-        requires id { id_at self.now.request.items ≡ id }
+        requires asked { commands_of self.now.request ≡ self.now.command ∷ [] }
+        requires id { id_at self.now.request ≡ id }
         requires range { id < INSTANCE_IDS }
         requires its { IsAnswerTo (kind_of self.now.command) answer.now }
-        ensures reply { reply.new.items ≡ reply_of (gives answer.now) tt self.now.request.items }
-        ensures changed { result ≡ changes (gives answer.now) tt self.now.request.items }
+        ensures reply { reply.new.items ≡ reply_of (gives answer.now) tt self.now.request }
+        ensures changed { result ≡ changes (gives answer.now) tt self.now.request }
         ensures some { 0 < length reply.new.items }
         ensures few { length reply.new.items ≤ MAX_MESSAGE_BYTES }
     {

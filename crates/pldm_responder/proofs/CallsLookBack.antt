@@ -12,7 +12,7 @@ use Rattle.pldm_responder.specs.Arrivals.{Arrival, Drop, Part, Whole, fed_arriva
 use Rattle.pldm_responder.specs.Calls as calls
 use Rattle.pldm_responder.specs.Calls.{Call, Received, Sensed, with_packet, fed, looked_back, arrived, with_arrival, events, last_moment, outcome}
 use Rattle.pldm_responder.specs.Events.{Message, Event, Came, Set, Restarted, Changed, Place, busy_until, is_busy, is_of, is_copy_of, origin, is_fresh, has_fresh}
-use Rattle.pldm_responder.specs.Laws.{entry_at, IsLeftBy, ReceivedLooksBack, SensedLooksBack, RestartedLooksBack, UpdatedLooksBack, PutIsUpdated, NewLooksBack, SameIsLeft, KeptWhereFresh}
+use Rattle.pldm_responder.specs.Laws.{entry_at, IsLeftBy, ReceivedLooksBack, SensedLooksBack, RestartedLooksBack, EndedLooksBack, UpdatedLooksBack, PutIsUpdated, NewLooksBack, SameIsLeft, KeptWhereFresh}
 use Rattle.pldm_responder.specs.Performing.{Rules, reply, next, changes, busy_reply, performed, reply_at, answered_by}
 use Rattle.pldm_responder.specs.Held.{Held}
 use Rattle.pldm_responder.specs.Steps.{repeats, copied_packets, open_after, served, message_outcome, entry_of, kept_after, state_after, arrival_outcome, arrival_held, received_outcome, received_held}
@@ -191,6 +191,17 @@ module _ {S : Type 0} (device : Rules S) where
     state = left.state;
     serves_from = ap (λ k. moment + k) left.keeping;
     last = refl;
+  }
+
+  pub ended_looks_back : assembly.ForgetLooksBack → EndedLooksBack device
+  ended_looks_back looks own keep start held before key left = record {
+    endpoint = left.endpoint;
+    keeping = left.keeping;
+    open_messages = looks MAX_PACKETS held.open_messages (fed own before) key left.open_messages;
+    kept = left.kept;
+    state = left.state;
+    serves_from = left.serves_from;
+    last = left.last;
   }
 
   pub new_looks_back : assembly.NewLooksBack → NewLooksBack device

@@ -6,32 +6,35 @@ use Rattle.mctp_assembly.specs.Histories as assembly
 use Rattle.mctp_assembly.specs.Keys.{key_of}
 use Rattle.mctp_assembly.specs.Rows as rows
 use Rattle.mctp_assembly.specs.declared.fed.Fed.{Fed}
+use Rattle.mctp_assembly.specs.declared.key.Key.{Key}
 use Rattle.pldm_responder.specs.Events.{Message, Event, Came, Set, Restarted, Changed, is_busy, is_copy}
 use Rattle.pldm_responder.specs.Performing.{Rules, changes, busy_reply, performed, answered}
 use Rattle.pldm_responder.specs.Arrivals.{Arrival, Drop, Part, Whole, arrival, request_packet, packets_back}
 use Rattle.pldm_responder.specs.declared.outcome.Outcome.{Outcome}
 use Rattle.pldm_responder.specs.declared.outcome.Outcome.TheVariants.{Dropped, Partial, Answered}
 
--- bytes that were received at a moment, a reading that was set, a restart at a moment, or a change from outside that
--- left the platform in a state
+-- bytes that were received at a moment, a reading that was set, a restart at a moment, a change from outside that left
+-- the platform in a state, or an open message that ended so that another had room
 pub data Call (S : Type 0) : Type 0 where
   Received : (moment : ℕ) → (bytes : List ℕ) → Call S
   Sensed : (id : ℕ) → (value : ℤ) → Call S
   Restart : (moment : ℕ) → Call S
   Updated : (state : S) → Call S
+  Ended : (key : Key) → Call S
 
 -- a packet that passes comes to assembly
 abbrev pub with_packet : Result Packet Reason → List assembly.Call → List assembly.Call
 with_packet (Ok p) packets = assembly.feed p ∷ packets
 with_packet (Err reason) packets = packets
 
--- the packets that came to assembly since the last restart
+-- the packets that came to assembly since the last restart, and the keys that were forgotten
 abbrev pub fed : {S : Type 0} → ℕ → List (Call S) → List assembly.Call
 fed own [] = []
 fed own (Received moment bytes ∷ calls) = with_packet (request_packet own bytes) (fed own calls)
 fed own (Sensed id value ∷ calls) = fed own calls
 fed own (Restart moment ∷ calls) = []
 fed own (Updated state ∷ calls) = fed own calls
+fed own (Ended key ∷ calls) = assembly.forget key ∷ fed own calls
 
 -- what a packet gives after those of its key that came before
 abbrev pub looked_back : List assembly.Call → Packet → Fed
@@ -53,6 +56,7 @@ events own (Received moment bytes ∷ calls) = with_arrival (arrived own calls m
 events own (Sensed id value ∷ calls) = Set id value ∷ events own calls
 events own (Restart moment ∷ calls) = Restarted moment ∷ events own calls
 events own (Updated state ∷ calls) = Changed state ∷ events own calls
+events own (Ended key ∷ calls) = events own calls
 
 -- the moment of the last call that had one, 0 where none had
 abbrev pub last_moment : {S : Type 0} → List (Call S) → ℕ
@@ -61,6 +65,7 @@ last_moment (Received moment bytes ∷ calls) = moment
 last_moment (Sensed id value ∷ calls) = last_moment calls
 last_moment (Restart moment ∷ calls) = moment
 last_moment (Updated state ∷ calls) = last_moment calls
+last_moment (Ended key ∷ calls) = last_moment calls
 
 module _ {S : Type 0} (device : Rules S) (own keep : ℕ) (start : S) where
   -- the outcome that is expected to a message after these events: busy, a copy, or fresh

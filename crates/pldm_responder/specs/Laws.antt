@@ -4,15 +4,17 @@ use Rattle.mctp_packet.specs.Packets.{packet, written}
 use Rattle.mctp_packet.specs.Pieces.{packets, written_packets}
 use Rattle.mctp_packet.specs.declared.packet.Route.{Route}
 use Rattle.mctp_assembly.specs.Histories as assembly
+use Rattle.mctp_assembly.specs.declared.key.Key.{Key}
 use Rattle.pldm_wire.specs.Kinds.{TypeAndCommand}
 use Rattle.pldm_wire.specs.Messages.{IsResponse}
 use Rattle.pldm_wire.specs.Requests.{Request, request_of}
 use Rattle.pldm_wire.specs.declared.assigned.TheConstants.{ERROR_NOT_READY}
 use Rattle.pldm_responder.specs.Events.{Place, busy_until, origin, has_fresh}
 use Rattle.pldm_responder.specs.Performing.{Rules, performed, reply_at, busy_reply}
-use Rattle.pldm_responder.specs.Calls.{Call, Received, Sensed, Restart, Updated, fed, events, last_moment, outcome}
+use Rattle.pldm_responder.specs.Calls.{Call, Received, Sensed, Restart, Updated, Ended, fed, events, last_moment, outcome}
 use Rattle.pldm_responder.specs.Held.{Entry, Held, IsHeld, held_at_first}
 use Rattle.pldm_responder.specs.Counts.{CountsKept, CountsPairs}
+use Rattle.pldm_responder.specs.OpenOrder.{ended_held}
 use Rattle.pldm_responder.specs.Stations.{Station, held_of, with_platform}
 use Rattle.pldm_responder.specs.Steps.{received_outcome, received_held, sensed_held, restarted_held, updated_held}
 
@@ -67,6 +69,13 @@ module _ {S : Type 0} (device : Rules S) where
       (own keep : ℕ) (start : S) (held : Held S) (calls : List (Call S)) (moment : ℕ)
       → IsLeftBy device own keep start held calls
       → IsLeftBy device own keep start (restarted_held held moment) (Restart moment ∷ calls)
+
+  -- an open message that ends leaves what the longer list leaves: to its sender it is a lost packet
+  abbrev pub EndedLooksBack : Type 0
+  EndedLooksBack =
+      (own keep : ℕ) (start : S) (held : Held S) (calls : List (Call S)) (key : Key)
+      → IsLeftBy device own keep start held calls
+      → IsLeftBy device own keep start (ended_held (Some key) held) (Ended key ∷ calls)
 
   -- a new responder holds what the empty list leaves
   abbrev pub NewLooksBack : Type 0

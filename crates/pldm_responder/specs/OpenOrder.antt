@@ -7,6 +7,7 @@ use Rattle.mctp_assembly.specs.Keys.{key_of}
 use Rattle.mctp_assembly.specs.Steps as assembly
 use Rattle.mctp_assembly.specs.declared.key.Key.{Key}
 use Rattle.pldm_responder.specs.Ends.{End}
+use Rattle.pldm_responder.specs.Held.{Held}
 
 -- it begins a message of several packets
 abbrev pub begins : Packet → Bool
@@ -41,6 +42,10 @@ ended_for end p = if begins p then way_for end (key_of p) else None
 abbrev pub without : Option Key → assembly.Held → assembly.Held
 without None open_messages = open_messages
 without (Some key) open_messages = map.remove open_messages key
+
+-- the same is held, but for the message that ends
+abbrev pub ended_held : {S : Type 0} → Option Key → Held S → Held S
+ended_held ended held = record held { open_messages = without ended held.open_messages }
 
 -- ---- the order
 abbrev pub is_apart : Key → Key → Bool

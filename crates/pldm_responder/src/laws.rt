@@ -2,7 +2,7 @@
 
 ghost use Rattle.pldm_responder.specs.Asked.{AnswerDecides, NoneIsAsked};
 ghost use Rattle.pldm_responder.specs.Askings.{AskedApart, CommandsLookBack};
-ghost use Rattle.pldm_responder.specs.Laws.{BusyAnswersAreOnePacket, KeptWhereFresh, NewLooksBack, OneCount, PutIsUpdated, ReceivedLooksBack, RestartedLooksBack, SameIsLeft, SensedLooksBack, UpdatedLooksBack};
+ghost use Rattle.pldm_responder.specs.Laws.{BusyAnswersAreOnePacket, EndedLooksBack, KeptWhereFresh, NewLooksBack, OneCount, PutIsUpdated, ReceivedLooksBack, RestartedLooksBack, SameIsLeft, SensedLooksBack, UpdatedLooksBack};
 ghost use Rattle.pldm_responder.specs.Performing.{rules_of};
 
 use pldm_platform::Platform;
@@ -15,6 +15,7 @@ pub fn looks_back<P: Platform>()
     ensures updated { UpdatedLooksBack (rules_of P.answer P.after P.sensed) }
     ensures put { PutIsUpdated P.state }
     ensures restarted { RestartedLooksBack (rules_of P.answer P.after P.sensed) }
+    ensures ended { EndedLooksBack (rules_of P.answer P.after P.sensed) }
     ensures new { NewLooksBack (rules_of P.answer P.after P.sensed) }
     ensures same { SameIsLeft (rules_of P.answer P.after P.sensed) }
     ensures kept { KeptWhereFresh (rules_of P.answer P.after P.sensed) }

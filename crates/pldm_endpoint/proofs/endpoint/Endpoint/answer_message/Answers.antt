@@ -26,7 +26,7 @@ returns-clause-answered c =
     let found : pending_at c.args.self.now.pending c.args.handle.now ≡ Some a = search rules in
     let own_is : own ≡ c.own.result = search rules in
     let stored : (source id : ℕ) → kept_in c.keep.new.self.rows source id
-    ≡ (if c.args.handle.now.source == source && c.args.handle.now.id == id then Some (record { moment = a.moment; bytes = a.request.items; answer = items })
+    ≡ (if c.args.handle.now.source == source && c.args.handle.now.id == id then Some (record { moment = a.moment; bytes = a.request; answer = items })
     else kept_in c.self.inside.end.rows source id) = λ source id. search rules in
     let kept = is_kept c.args.handle.now c.args.answer.now a _ found items c.put_reply-changed.ensures.reply c.self.inside.end c.keep.new.self
     (ap (λ (e : End). record e { rows = c.self.inside.end.rows }) c.keep.ensures.rest) stored in

@@ -1,4 +1,5 @@
 use Rattle.pldm_endpoint.specs.TwoSteps.{EndpointView}
+use Rattle.pldm_endpoint.proofs.EndedMessages.{dropped_is}
 use Rattle.pldm_endpoint.proofs.RefusedRequests.{if_error, refused_packet}
 use Rattle.pldm_endpoint.proofs.endpoint.Endpoint.receive_message.Goals as goal
 
@@ -12,3 +13,10 @@ returns-in-Ok-Request-clause-refused c =
     (λ i. record { end = arrived.ok.left.0 i; pending = c.self.inside.pending; count = c.self.inside.count; max_pending = c.self.inside.max_pending })
     arrived.ok.arrival (λ past. cc (arrived.open_messages.1 past)) h)
     c.serve.ensures.refused
+
+pub returns-in-Ok-Dropped-clause-received : goal.returns-in-Ok-Dropped-clause-received
+returns-in-Ok-Dropped-clause-received c =
+    let arrived = rw c.in-Ok-Dropped.field-0-is at c.in-Ok-Dropped.ensures in
+    let e : EndpointView = record { end = c.self.inside.end; pending = c.self.inside.pending; count = c.self.inside.count; max_pending = c.self.inside.max_pending } in
+    dropped_is e c.args.self.now c.take.new.self c.args.now c.args.bytes.now c.in-Ok-Dropped.reason c.self.view_is
+    arrived.ok.arrival arrived.ok.left (λ past. cc (arrived.open_messages.1 past))
