@@ -7,6 +7,8 @@ use Rattle.pldm_wire.specs.declared.command.Command.{Command}
 use Rattle.pldm_responder.specs.Asked.{gives, listed}
 use Rattle.pldm_responder.specs.Events.{Message}
 use Rattle.pldm_responder.specs.Held.{Held, IsHeld}
+use Rattle.pldm_responder.specs.Looking.{ended_by}
+use Rattle.pldm_responder.specs.OpenOrder.{ended_held, without}
 use Rattle.pldm_responder.specs.Steps.{arrival_held, received_arrival, received_commands, received_held, received_outcome}
 use Rattle.pldm_responder.specs.declared.outcome.Outcome.{Outcome}
 use Rattle.pldm_endpoint.specs.Histories.{TwoStepsAreOne}
@@ -61,15 +63,15 @@ module _ (old : EndpointView) (moment : ℕ) (bytes : List ℕ) (idle : old.pend
     pub served_done : (board : BoardState) → IsServed old board moment bytes new board outcome
     served_done board =
         let same = ap (answer_given board moment) received.command in
-        let left : IsHeld (held_in new) (received_held (gives unasked) held moment bytes) =
+        let left : IsHeld (held_in new) (ended_held (ended_by old.end bytes) (received_held (gives unasked) held moment bytes)) =
         subst (λ (commands : List Command). IsHeld (held_in new) (record (kept_by commands (arrival_held (gives unasked) held (received_arrival held moment bytes)) held) {
-          open_messages = (held_after held moment bytes).open_messages;
+          open_messages = without (ended_by old.end bytes) (held_after held moment bytes).open_messages;
           last = moment;
         })) received.command received.held in
         record {
           returned = done_by (request_in held moment bytes) (received_commands held moment bytes) outcome received.step_is
               ∙ ap (λ g. received_outcome (gives g) held moment bytes) (sym same);
-          left = subst (λ g. IsHeld (held_in new) (received_held (gives g) held moment bytes)) (sym same) left;
+          left = subst (λ g. IsHeld (held_in new) (ended_held (ended_by old.end bytes) (received_held (gives g) held moment bytes))) (sym same) left;
           board_is = sym (ap (board_served board moment) received.command);
         }
 
@@ -134,7 +136,7 @@ module _ (old : EndpointView) (moment : ℕ) (bytes : List ℕ) (idle : old.pend
     served_performed law board board_left new command given outcome told answer after answered =
         let answer_is : given ≡ answer_given board moment (received_commands held moment bytes) =
         answer ∙ ap (board_answer board moment) told ∙ sym (ap (answer_given board moment) is.commands) in
-        let same : held_in middle ≡ held_after held moment bytes = same_held received.held in
+        let same : held_in middle ≡ ended_held (ended_by old.end bytes) (held_after held moment bytes) = same_held received.held in
         let unchanged = ap (λ commands. kept_by commands (arrival_held (gives unasked) held (received_arrival held moment bytes)) held) is.commands in
         let own : middle.end.own ≡ held.own = ap (λ (h : Held (Unit {0})). h.own) same ∙ ap (λ (h : Held (Unit {0})). h.own) unchanged in
         let one = law held moment bytes old.count is.m is.command given is.arrives is.commands in
@@ -145,9 +147,9 @@ module _ (old : EndpointView) (moment : ℕ) (bytes : List ℕ) (idle : old.pend
               (subst (λ o. IsAnsweredBy middle.end.own handle given o outcome) found answered.outcome_is))
               ∙ one.0
               ∙ ap (λ g. received_outcome (gives g) held moment bytes) answer_is;
-          left = subst (λ g. IsHeld (held_in new) (received_held (gives g) held moment bytes)) answer_is
-              (subst (IsHeld (held_in new)) (same_held one.1)
-              (subst (λ h. IsHeld (held_in new) (answered_held (held_after held moment bytes) h given (Some a))) is.handle_is
+          left = subst (λ g. IsHeld (held_in new) (ended_held (ended_by old.end bytes) (received_held (gives g) held moment bytes))) answer_is
+              (subst (λ h. IsHeld (held_in new) (ended_held (ended_by old.end bytes) h)) (same_held one.1)
+              (subst (λ h. IsHeld (held_in new) (answered_held (ended_held (ended_by old.end bytes) (held_after held moment bytes)) h given (Some a))) is.handle_is
               (subst (λ (h : Held (Unit {0})). IsHeld (held_in new) (answered_held h handle given (Some a))) same
               (subst (λ o. IsHeld (held_in new) (answered_held (held_in middle) handle given o)) found answered.held))));
           board_is = after ∙ ap (board_after board moment) told ∙ sym (ap (board_served board moment) is.commands);

@@ -5,6 +5,8 @@ use Rattle.pldm_wire.specs.declared.answer.Answer.{Answer}
 use Rattle.pldm_wire.specs.declared.command.Command.{Command}
 use Rattle.pldm_responder.specs.Asked.{gives}
 use Rattle.pldm_responder.specs.Held.{IsHeld}
+use Rattle.pldm_responder.specs.Looking.{ended_by}
+use Rattle.pldm_responder.specs.OpenOrder.{ended_held}
 use Rattle.pldm_responder.specs.Steps.{received_commands, received_held, received_outcome}
 use Rattle.pldm_responder.specs.declared.outcome.Outcome.{Outcome}
 use Rattle.pldm_endpoint.specs.TwoSteps.{EndpointView, held_in, unasked}
@@ -27,5 +29,7 @@ module _ (old : EndpointView) (board : BoardState) (moment : ℕ) (bytes : List 
 
   pub record IsServed (new : EndpointView) (board_left : BoardState) (outcome : Outcome) : Type 0 where
     pub returned : outcome ≡ received_outcome (gives given) (held_in old) moment bytes
-    pub left : IsHeld (held_in new) (received_held (gives given) (held_in old) moment bytes)
+    pub left :
+        IsHeld (held_in new)
+        (ended_held (ended_by old.end bytes) (received_held (gives given) (held_in old) moment bytes))
     pub board_is : board_left ≡ board_served board moment (received_commands (held_in old) moment bytes)

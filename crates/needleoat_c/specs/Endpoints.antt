@@ -12,6 +12,8 @@ use Rattle.pldm_wire.specs.Kinds.{TypeAndCommand}
 use Rattle.pldm_wire.specs.declared.answer.Answer.{Answer}
 use Rattle.pldm_wire.specs.declared.assigned.TheConstants.{INSTANCE_IDS}
 use Rattle.pldm_wire.specs.declared.command.Command.{Command}
+use Rattle.pldm_responder.specs.Looking.{ended_by}
+use Rattle.pldm_responder.specs.OpenOrder.{ended_held}
 use Rattle.pldm_responder.specs.Answering.{answering}
 use Rattle.pldm_responder.specs.Ends.{has_row}
 use Rattle.pldm_responder.specs.Held.{Held, IsHeld, held_at_first}
@@ -201,9 +203,10 @@ abbrev pub ReportsPacket : ℕ → List ℕ → StepReport → List (List ℕ) �
 ReportsPacket now bytes r rooms None = IsRefused NOTHING_THERE r
 ReportsPacket now bytes r rooms (Some inside) = ReportsPacketIn now bytes r rooms inside
 
--- what an endpoint holds that received a packet, what is pending there, and which sources have room for answers
+-- what an endpoint holds that received a packet, what is pending there, and which sources have room for answers; where the
+-- packet begins a message for which there was no room, the oldest that was open has ended
 pub record IsReceived (now : ℕ) (bytes : List ℕ) (old new : Inside) : Type 0 where
-  pub held : IsHeld (held_in new) (held_after (held_in old) now bytes)
+  pub held : IsHeld (held_in new) (ended_held (ended_by old.end bytes) (held_after (held_in old) now bytes))
   pub pending : new.pending ≡ pending_after (held_in old) now bytes old.pending old.count
   pub count : new.count ≡ count_after (held_in old) now bytes old.count
   pub room : AreRowsAfter (held_in old) old.end.rows (received_arrival (held_in old) now bytes) new.end.rows
