@@ -109,6 +109,7 @@ pub record IsMade (s : EndpointSettings) (now : ℕ) (new : Inside) : Type 0 whe
   pub held : IsHeld (held_in new) (started s.own s.keep_ms s.first_start now)
   pub sources : new.end.bounds.sources ≡ s.sources
   pub open_messages : new.end.bounds.open_messages ≡ s.open_messages
+  pub ends_oldest : new.end.ends_oldest ≡ true
   pub max_pending : new.max_pending ≡ s.pending_commands
   pub idle : new.pending ≡ map.empty
   pub count : new.count ≡ 0

@@ -54,7 +54,7 @@ dropped_is inside old new moment bytes reason view arrives left closed =
         each = λ source. ap (λ (e : End). has_row e.rows source) left;
         sources = ap (λ (e : End). source_count e.rows) left;
       });
-      settings = record { bounds = ap (λ (e : End). e.bounds) left; max_pending = refl };
+      settings = record { bounds = ap (λ (e : End). e.bounds) left; ends_oldest = ap (λ (e : End). e.ends_oldest) left; max_pending = refl };
     })
   where
     plus_none : (n : ℕ) → n ≡ n + 0

@@ -128,7 +128,7 @@ module _ (old new : EndpointView) (moment : ℕ) (r : Requested) (command : Comm
       each = λ source. gets.rows source ∙ sym (ap (λ t. has_row old.end.rows source || t && r.source == source) fresh);
       sources = gets.sources ∙ sym (ap (λ t. if t then count_with old.end.rows r.source else source_count old.end.rows) fresh);
     };
-    settings = record { bounds = ap (λ (e : End). e.bounds) rest; max_pending = most_is };
+    settings = record { bounds = ap (λ (e : End). e.bounds) rest; ends_oldest = ap (λ (e : End). e.ends_oldest) rest; max_pending = most_is };
   }
 
 -- ---- there is room for one command more

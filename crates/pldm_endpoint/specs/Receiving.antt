@@ -30,6 +30,7 @@ use Rattle.pldm_endpoint.specs.declared.step.Step.{Step}
 -- what no call changes
 pub record HasSameSettings (new old : EndpointView) : Type 0 where
   pub bounds : new.end.bounds ≡ old.end.bounds
+  pub ends_oldest : new.end.ends_oldest ≡ old.end.ends_oldest
   pub max_pending : new.max_pending ≡ old.max_pending
 
 -- the bytes of a packet were received at a moment

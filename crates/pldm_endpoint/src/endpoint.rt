@@ -57,11 +57,13 @@ impl Model for Endpoint {
 }
 
 impl Endpoint {
-    /// The endpoint `own`, which keeps each answer for `keep` and at a time no more than `bounds` allow. At most
+    /// The endpoint `own`, which keeps each answer for `keep` and at a time no more than `bounds` allow. Where one more
+    /// message would be open than that, the one that began first ends, as if a packet of it were lost. At most
     /// `max_pending` commands are pending at a time. Its last moment is 0.
     pub fn new(alloc: Global, own: Eid, keep: Keep, bounds: Bounds, max_pending: usize) -> Endpoint
         ensures held { IsHeld (held_in result) (held_at_first own keep tt) }
         ensures bounds { result.end.bounds ≡ bounds }
+        ensures ends_oldest { result.end.ends_oldest ≡ true }
         ensures max_pending { result.max_pending ≡ max_pending }
         ensures idle { result.pending ≡ map.empty }
         ensures count { result.count ≡ 0 }
@@ -148,8 +150,8 @@ impl Endpoint {
     /// `Full` exactly where a command would be pending past [`Endpoint::max_pending`], or 2^64 - 1 were handed out.
     /// `Sources` exactly where a request that is no copy comes from a source without room for its answers, and as
     /// many sources have room as [`Bounds::sources`] allow. `OpenMessages` exactly where a packet begins a message of
-    /// several packets, none is open on its key, and as many are open as [`Bounds::open_messages`] allow. `Memory`
-    /// where none of these holds and a growth was refused. The endpoint is then as before.
+    /// several packets and [`Bounds::open_messages`] is 0. `Memory` where none of these holds and a growth was refused.
+    /// The endpoint is then as before.
     pub fn receive(&mut self, now: Moment, bytes: &[u8]) -> Result<Step, ReceiveRefusal>
         requires { (held_in self.old).last ≤ now }
         ensures received { IfOk result (HasReceived self.old now bytes.now self.new) }
@@ -346,8 +348,8 @@ impl Endpoint {
             owner: false,
             tag: pending.tag,
         };
-        self.end
-            .keep(source, id, pending.moment, pending.request.as_slice(), reply);
+        let (moment, bytes) = (pending.moment, pending.request.as_slice());
+        self.end.keep(source, id, moment, bytes, reply);
         self.pending.remove(RequestKey { source, id });
         Ok(performed(changed, route))
     }

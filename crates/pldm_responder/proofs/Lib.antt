@@ -13,6 +13,8 @@ pub mod AnswersFromOutside
 pub mod SourceCounts
 pub mod AskedOnce
 pub mod OpenBounds
+pub mod OpenOrders
+pub mod OpenRooms
 pub mod OpenUnended
 pub mod WorkedLight
 pub mod SameHeld

@@ -1,9 +1,11 @@
 -- Which open message ends where there is no room for one more: the one that began first.
 use Rattle.std.specs.FinMap as map
-use Rattle.std.specs.Prelude.{Bool, true, false, ◌&&◌, ◌||◌, ◌==◌, not, nat_le, List, [], ◌∷◌, ◌++◌, filter, find, Option, Some, None, is_some, Result, Ok, Err, if◌then◌else◌}
+use Rattle.std.specs.Prelude.{◌≡◌, Bool, true, false, ◌&&◌, ◌||◌, ◌==◌, not, nat_le, List, [], ◌∷◌, ◌++◌, filter, find, Option, Some, None, Result, Ok, Err, if◌then◌else◌}
+use Rattle.std.specs.List.{list_any}
+use Rattle.std.specs.Ordering.{eq_by_cmp}
 use Rattle.mctp_packet.specs.Packets.{Packet}
 use Rattle.mctp_packet.specs.declared.reason.Reason.{Reason}
-use Rattle.mctp_assembly.specs.Keys.{key_of}
+use Rattle.mctp_assembly.specs.Keys.{key_cmp, key_of}
 use Rattle.mctp_assembly.specs.Steps as assembly
 use Rattle.mctp_assembly.specs.declared.key.Key.{Key}
 use Rattle.pldm_responder.specs.Ends.{End}
@@ -27,9 +29,9 @@ abbrev pub way_for : End → Key → Option Key
 way_for end key =
     if is_full_for end key && end.ends_oldest then first_open end.open_messages end.begun else None
 
--- a packet begins a message on this key, and there is no room and no way to have some
+-- a message cannot begin on this key: there is no room, and none ends for it, or none may be open at all
 abbrev pub is_shut_out_on : End → Key → Bool
-is_shut_out_on end key = is_full_for end key && not (is_some (way_for end key))
+is_shut_out_on end key = is_full_for end key && (not end.ends_oldest || end.bounds.open_messages == 0)
 
 abbrev pub is_shut_out : End → Packet → Bool
 is_shut_out end p = begins p && is_shut_out_on end (key_of p)
@@ -50,6 +52,15 @@ ended_held ended held = record held { open_messages = without ended held.open_me
 -- ---- the order
 abbrev pub is_apart : Key → Key → Bool
 is_apart a b = not (a.source == b.source) || not (a.tag == b.tag)
+
+-- each key on which a message is open is among these
+abbrev pub HasAllOpen : assembly.Held → List Key → Type 0
+HasAllOpen open_messages begun =
+    (key : Key) → map.contains_key open_messages key ≡ true → list_any (eq_by_cmp key_cmp key) begun ≡ true
+
+-- where the order is kept, it has them all
+abbrev pub IsOrdered : Bool → assembly.Held → List Key → Type 0
+IsOrdered ends_oldest open_messages begun = ends_oldest ≡ true → HasAllOpen open_messages begun
 
 -- the keys once a message began on this one: of those before, each that is open still, and this one last
 abbrev pub begun_with : assembly.Held → Key → List Key → List Key

@@ -67,6 +67,7 @@ pub struct AnsweringEnd {
 
 impl Model for AnsweringEnd {
     ghost use Rattle.pldm_responder.specs.Ends.{End, coded_end, AreAsked, IsWithin, KeepsForOthers};
+    ghost use Rattle.pldm_responder.specs.OpenOrder.{IsOrdered};
 
     ghost Value = { End };
 
@@ -85,7 +86,8 @@ impl Model for AnsweringEnd {
     } };
 
     ghost invariant = { λ e.
-        AreAsked e.own e.assembler × KeepsForOthers e.own e.kept × IsWithin e.bounds e.assembler e.kept };
+        AreAsked e.own e.assembler × KeepsForOthers e.own e.kept × IsWithin e.bounds e.assembler e.kept
+        × IsOrdered e.ends_oldest e.assembler e.begun.items };
 }
 
 impl AnsweringEnd {
@@ -187,8 +189,8 @@ impl AnsweringEnd {
     ///
     /// # Errors
     ///
-    /// `OpenMessages` exactly where a packet begins a message of several packets, none is open on its key, as many are
-    /// open as [`Bounds::open_messages`] allow, and none of them ends for it. `Memory` where a growth was refused, which
+    /// `OpenMessages` exactly where a packet begins a message of several packets, none is open on its key, and as many
+    /// are open as [`Bounds::open_messages`] allow: where the oldest ends, only if none may be open at all. `Memory` where a growth was refused, which
     /// only a start packet that gives `Partial` wants.
     pub fn take<'a>(
         &mut self,
@@ -285,11 +287,7 @@ impl AnsweringEnd {
     }
 
     /// Takes a packet that begins a message of several packets. Where there is no room, the oldest message ends.
-    fn begin<'a>(
-        &mut self,
-        now: Moment,
-        packet: &PacketRef<'_>,
-    ) -> Result<Arrived<'a>, RoomRefusal>
+    fn begin<'a>(&mut self, now: Moment, packet: &PacketRef<'_>) -> Result<Arrived<'a>, RoomRefusal>
         requires begins { begins packet.now ≡ true }
         requires owner { packet.now.route.owner ≡ true }
         requires other { packet.now.route.source ≢ self.old.own }
@@ -302,7 +300,12 @@ impl AnsweringEnd {
         reserve_begun(&mut self.begun, self.ends_oldest)?;
         self.assembler.feed_open(packet)?;
         end_message(&mut self.assembler, ended);
-        put_begun(&mut self.begun, self.ends_oldest, Key::of(packet), &self.assembler);
+        put_begun(
+            &mut self.begun,
+            self.ends_oldest,
+            Key::of(packet),
+            &self.assembler,
+        );
         self.last = now;
         Ok(Arrived::Partial)
     }
