@@ -1,8 +1,8 @@
 /*
  * More senders than there is room for, as one that forges sources would be: the endpoint 9 has room for the answers to
- * two sources, and for one open message of several packets. What would pass a bound is refused, and counts as lost. The
- * sources that have room go on being served. The bytes in bounds.expected are those of the tables of DSP0236 and
- * DSP0240, written by hand.
+ * two sources, and for one open message of several packets. A source too many is refused, and its packet counts as lost.
+ * The sources that have room go on being served. For an open message too many the oldest one ends, as if a packet of it
+ * were lost. The bytes in bounds.expected are those of the tables of DSP0236 and DSP0240, written by hand.
  */
 #include "needleoat.h"
 #include <stdio.h>
@@ -20,7 +20,7 @@ static struct needleoat_answer perform(const struct needleoat_command *command) 
 
 /*
  * Receives a packet of at most 12 bytes, and prints what comes of it. Where memory was refused it is received again, at
- * most three times. At a bound it is not: that would not help before a restart, or before the open message has ended.
+ * most three times. At a bound it is not: that would not help before a restart.
  */
 static void receive(const char *name, const char *hex) {
     uint8_t packet[12], packets[NEEDLEOAT_PACKETS][NEEDLEOAT_PACKET_BYTES];
@@ -56,11 +56,11 @@ int main(void) {
     receive("a copy from 8", "010908c8" "01800002");
     receive("another from 10", "01090ac9" "01810002");
     receive("first packet from 8", "0109088a" "0182");
-    receive("first packet from 10", "01090a8b" "0183");
-    receive("first packet from 11", "01090b8b" "0183");
     receive("GetTID from 10 meanwhile", "01090acc" "01840002");
     receive("last packet from 8", "0109085a" "0002");
-    receive("first packet from 10 again", "01090a8b" "0183");
+    receive("first packet from 11, that never ends", "01090b8b" "0183");
+    receive("first packet from 10", "01090a8b" "0183");
+    receive("last packet from 11", "01090b5b" "0002");
     receive("last packet from 10", "01090a5b" "0002");
     receive("GetTID from 11 at the end", "01090bc8" "01800002");
     needleoat_endpoint_free(&endpoint);

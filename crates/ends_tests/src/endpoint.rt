@@ -1,6 +1,6 @@
 //! An endpoint over a device that is outside, in two steps.
 
-use mctp_packet::{Eid, Keep, Moment};
+use mctp_packet::{Eid, Keep, Moment, Reason};
 use memory_hoard::Hoard;
 use pldm_endpoint::{AnswerRefusal, CommandHandle, Endpoint, ReceiveRefusal, Step};
 use pldm_responder::{Bounds, Outcome};
@@ -25,15 +25,25 @@ const TID_OF_ANOTHER_IS_6: [u8; 10] = [1, 10, 9, 0xc0, 1, 0, 0, 2, 0, 6];
 const SET_TID: [u8; 9] = [1, 9, 8, 0xc8, 1, 0x80, 0, 1, 7];
 
 /// Endpoint 9, which keeps the answers to so many sources for a second, and has at most so many commands
-/// pending at a time.
-fn endpoint(alloc: Global, sources: usize, commands: usize) -> Result<Endpoint, Fail> {
+/// pending and messages open at a time.
+fn bounded(
+    alloc: Global,
+    sources: usize,
+    commands: usize,
+    open_messages: usize,
+) -> Result<Endpoint, Fail> {
     let own = Eid::new(9).ok_or("no endpoint ID")?;
     let keep = Keep::new(1000).ok_or("no keeping time")?;
     let bounds = Bounds {
         sources,
-        open_messages: 1,
+        open_messages,
     };
     Ok(Endpoint::new(alloc, own, keep, bounds, commands))
+}
+
+/// The same, with at most one message open.
+fn endpoint(alloc: Global, sources: usize, commands: usize) -> Result<Endpoint, Fail> {
+    bounded(alloc, sources, commands, 1)
 }
 
 /// What it makes of a packet at a moment that is not before its last one.
@@ -125,20 +135,47 @@ fn a_second_source_is_refused_until_a_restart(rt: HostRuntime) -> Result<(), Fai
     Ok(())
 }
 
-/// The first packet of a message of two from endpoint 8, and of one from endpoint 10.
-const BEGUN: [u8; 5] = [1, 9, 8, 0x88, 1];
+/// Requests of two packets each: a GetTID of endpoint 8 with instance ID 2, and one of endpoint 10 with instance ID 3.
+const BEGUN: [u8; 6] = [1, 9, 8, 0x8a, 1, 0x82];
 
-const BEGUN_BY_ANOTHER: [u8; 5] = [1, 9, 10, 0x88, 1];
+const LAST: [u8; 6] = [1, 9, 8, 0x5a, 0, 2];
+
+const BEGUN_BY_ANOTHER: [u8; 6] = [1, 9, 10, 0x8b, 1, 0x83];
+
+const LAST_OF_ANOTHER: [u8; 6] = [1, 9, 10, 0x5b, 0, 2];
+
+/// The same of endpoint 11, with instance ID 4.
+const BEGUN_BY_A_THIRD: [u8; 6] = [1, 9, 11, 0x8c, 1, 0x84];
+
+/// Whether the packet is part of a message that is open.
+fn is_part(taken: &Result<Step, ReceiveRefusal>) -> bool {
+    matches!(taken, Ok(Step::Done(Outcome::Partial)))
+}
+
+/// Whether the packet is dropped, since no message that it could go on with is open.
+fn is_stray(taken: &Result<Step, ReceiveRefusal>) -> bool {
+    matches!(taken, Ok(Step::Done(Outcome::Dropped(Reason::UnexpectedMiddleOrEnd))))
+}
 
 #[test]
-fn an_open_message_too_many_is_refused_by_its_name(rt: HostRuntime) -> Result<(), Fail> {
-    let mut endpoint = endpoint(rt.alloc(), 2, 1)?;
-    let begun = receive(&rt, &mut endpoint, 0, &BEGUN)?;
-    assert!(rt; matches!(&begun, Ok(Step::Done(Outcome::Partial))));
-    let refused = receive(&rt, &mut endpoint, 1, &BEGUN_BY_ANOTHER)?;
+fn the_oldest_open_message_ends_for_a_new_one(rt: HostRuntime) -> Result<(), Fail> {
+    let mut endpoint = bounded(rt.alloc(), 2, 2, 2)?;
+    assert!(rt; is_part(&receive(&rt, &mut endpoint, 0, &BEGUN)?));
+    assert!(rt; is_part(&receive(&rt, &mut endpoint, 0, &BEGUN_BY_ANOTHER)?));
+    // Begun once more, that of endpoint 8 is the youngest.
+    assert!(rt; is_part(&receive(&rt, &mut endpoint, 0, &BEGUN)?));
+    assert!(rt; is_part(&receive(&rt, &mut endpoint, 0, &BEGUN_BY_A_THIRD)?));
+    assert!(rt; is_stray(&receive(&rt, &mut endpoint, 0, &LAST_OF_ANOTHER)?));
+    let served = receive(&rt, &mut endpoint, 0, &LAST)?;
+    assert!(rt; matches!(&served, Ok(Step::Perform(_))));
+    Ok(())
+}
+
+#[test]
+fn an_open_message_is_refused_only_where_none_may_be(rt: HostRuntime) -> Result<(), Fail> {
+    let mut endpoint = bounded(rt.alloc(), 2, 1, 0)?;
+    let refused = receive(&rt, &mut endpoint, 0, &BEGUN)?;
     assert!(rt; matches!(&refused, Err(ReceiveRefusal::OpenMessages)));
-    let begun_anew = receive(&rt, &mut endpoint, 2, &BEGUN)?;
-    assert!(rt; matches!(&begun_anew, Ok(Step::Done(Outcome::Partial))));
     let served = receive(&rt, &mut endpoint, 3, &GET_TID_OF_ANOTHER)?;
     assert!(rt; matches!(&served, Ok(Step::Perform(_))));
     Ok(())

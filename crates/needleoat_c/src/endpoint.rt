@@ -19,7 +19,7 @@ use crate::settings::EndpointSettings;
 use mctp_packet::{
     Body, Eid, Keep, MAX_PACKET_BYTES, MAX_PACKETS, Moment, Route, UNIT, packet_at, write,
 };
-use needleoat_forms::{AnswerFields, CommandFields, answer_of};
+use needleoat_forms::{AnswerFields, CommandFields, put_answer_of};
 use pldm_endpoint::{CommandHandle, Endpoint, MessageStep, ReceiveRefusal};
 use pldm_responder::{Bounds, MessageOutcome};
 use pldm_wire::{Answer, Command, INSTANCE_IDS};
@@ -169,7 +169,7 @@ pub(crate) fn report(
 
 /// Puts the answer that these fields are to a command in the place of what `given` holds. An `Err` has the number that
 /// says why they are none.
-// Not inlined: the answer is made here, and no second place for it is left on the caller's stack.
+// Not inlined: what the making of an answer takes of the stack is gone before the answer is handed in.
 #[inline(never)]
 fn put_given(command: &Command, fields: &AnswerFields, given: &mut Answer) -> Result<(), u8>
     ensures answer { OnOk result (given_to command.now fields.now ≡ Ok given.new) }
@@ -179,14 +179,13 @@ fn put_given(command: &Command, fields: &AnswerFields, given: &mut Answer) -> Re
     if fields.instance_id >= INSTANCE_IDS {
         return Err(OUT_OF_RANGE);
     }
-    let Some(answer) = answer_of(fields) else {
+    if put_answer_of(fields, given).is_none() {
         return Err(OUT_OF_RANGE);
-    };
+    }
     let kind = command.kind();
     if fields.pldm_type != kind.pldm_type || fields.command != kind.command {
         return Err(NOT_ITS_ANSWER);
     }
-    *given = answer;
     Ok(())
 }
 

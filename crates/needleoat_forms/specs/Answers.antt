@@ -71,6 +71,12 @@ part_in f None bytes = None
 part_in f (Some flag) None = None
 part_in f (Some flag) (Some bytes) = Some (part flag bytes (checksum_in flag f.transfer_crc))
 
+-- the answer to GetPDR
+abbrev pub part_answer_in : AnswerFields → Option Answer
+part_answer_in f =
+    option_map (λ part. GetPdr f.next_record_handle f.next_data_transfer_handle part)
+    (part_in f (flag_of f.transfer_flag) (bytes_in f))
+
 -- the answers to the commands of platform monitoring and control
 abbrev pub platform_answer_in : AnswerFields → Option Answer
 platform_answer_in f =
@@ -88,9 +94,7 @@ platform_answer_in f =
     else if f.command == GET_PDR_REPOSITORY_INFO then
     Some (GetPdrRepositoryInfo f.repository_state f.update_time f.oem_update_time f.record_count f.repository_size
     f.largest_record_size f.timeout)
-    else if f.command == GET_PDR then
-    option_map (λ part. GetPdr f.next_record_handle f.next_data_transfer_handle part)
-    (part_in f (flag_of f.transfer_flag) (bytes_in f))
+    else if f.command == GET_PDR then part_answer_in f
     else None
 
 -- the answer after SUCCESS

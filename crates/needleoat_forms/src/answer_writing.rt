@@ -1,10 +1,10 @@
-ghost use Rattle.std.specs.Prelude.{◌≡◌, IfSome, option_map};
+ghost use Rattle.std.specs.Prelude.{◌≡◌, OnSome, option_map};
 ghost use Rattle.pldm_wire.specs.Answers.{IsAnswerTo};
 ghost use Rattle.pldm_wire.specs.Crc.{crc};
 ghost use Rattle.pldm_wire.specs.Kinds.{IsKind, of_type};
 ghost use Rattle.pldm_wire.specs.Sizes.{size_of};
 ghost use Rattle.pldm_wire.specs.TransferFlags.{flag_of};
-ghost use Rattle.needleoat_forms.specs.Answers.{answer_in, base_answer_in, bytes_in, checksum_in, effecter_values_in, kind_in, part_in, platform_answer_in, response_in, success_in, version_answer_in};
+ghost use Rattle.needleoat_forms.specs.Answers.{answer_in, base_answer_in, bytes_in, checksum_in, effecter_values_in, kind_in, part_answer_in, platform_answer_in, response_in, success_in, version_answer_in};
 ghost use Rattle.needleoat_forms.specs.Written.{IsWritten};
 
 use crate::AnswerFields;
@@ -35,8 +35,9 @@ pub fn answer_write(fields: &AnswerFields, out: &mut [u8; MAX_MESSAGE_BYTES]) ->
     if fields.instance_id >= INSTANCE_IDS {
         return 0;
     }
-    match answer_of(fields) {
-        Some(answer) => {
+    let mut answer = Answer::SetTid;
+    match put_answer_of(fields, &mut answer) {
+        Some(()) => {
             let kind = Kind {
                 pldm_type: fields.pldm_type,
                 command: fields.command,
@@ -47,63 +48,72 @@ pub fn answer_write(fields: &AnswerFields, out: &mut [u8; MAX_MESSAGE_BYTES]) ->
     }
 }
 
-/// The answer that these fields are, where there is one of this kind and code and they are in range. The instance ID
-/// is not looked at.
+/// Puts the answer that these fields are into `answer`, where there is one of this kind and code and they are in range.
+/// The instance ID is not looked at. Where there is none, what `answer` then holds is not specified.
 #[tactic(auto, unfolding(crate::specs::Answers::answer_in))]
-pub fn answer_of(fields: &AnswerFields) -> Option<Answer>
-    ensures answer { result ≡ answer_in fields.now }
-    ensures kind { IfSome result (λ answer. IsKind (kind_in fields.now) × IsAnswerTo (kind_in fields.now) answer) }
+pub fn put_answer_of(fields: &AnswerFields, answer: &mut Answer) -> Option<()>
+    ensures answer { option_map (λ _. answer.new) result ≡ answer_in fields.now }
+    ensures kind { OnSome result (IsKind (kind_in fields.now) × IsAnswerTo (kind_in fields.now) answer.new) }
 {
     if fields.pldm_type >= PLDM_TYPES {
         return None;
     }
     match Code::new(fields.code) {
-        Some(code) => Some(Answer::Refused(code)),
-        None => success_of(fields),
+        Some(code) => *answer = Answer::Refused(code),
+        None => put_success_of(fields, answer)?,
     }
+    Some(())
 }
 
-/// The answer after SUCCESS.
-fn success_of(fields: &AnswerFields) -> Option<Answer>
-    ensures answer { result ≡ success_in fields.now }
-    ensures kind { IfSome result (λ answer. IsAnswerTo (kind_in fields.now) answer) }
+/// Puts the answer after SUCCESS.
+fn put_success_of(fields: &AnswerFields, answer: &mut Answer) -> Option<()>
+    ensures answer { option_map (λ _. answer.new) result ≡ success_in fields.now }
+    ensures kind { OnSome result (IsAnswerTo (kind_in fields.now) answer.new) }
 {
     match fields.pldm_type {
-        BASE => base_answer_of(fields),
-        PLATFORM => platform_answer_of(fields),
+        BASE => put_base_answer_of(fields, answer),
+        PLATFORM => put_platform_answer_of(fields, answer),
         _ => None,
     }
 }
 
-/// The answer to a command of messaging control and discovery (DSP0240).
-fn base_answer_of(fields: &AnswerFields) -> Option<Answer>
+/// Puts the answer to a command of messaging control and discovery (DSP0240).
+fn put_base_answer_of(fields: &AnswerFields, answer: &mut Answer) -> Option<()>
     requires { fields.now.pldm_type ≡ BASE }
-    ensures answer { result ≡ base_answer_in fields.now }
-    ensures kind { IfSome result (λ answer. IsAnswerTo (kind_in fields.now) answer) }
+    ensures answer { option_map (λ _. answer.new) result ≡ base_answer_in fields.now }
+    ensures kind { OnSome result (IsAnswerTo (kind_in fields.now) answer.new) }
 {
     match fields.command {
-        SET_TID => Some(Answer::SetTid),
-        GET_TID => Some(Answer::GetTid { tid: fields.tid }),
-        GET_PLDM_VERSION => version_answer_of(fields),
-        GET_PLDM_TYPES => Some(Answer::GetPldmTypes {
-            types: fields.types,
-        }),
-        GET_PLDM_COMMANDS => Some(Answer::GetPldmCommands {
-            commands: fields.commands,
-        }),
-        _ => None,
+        SET_TID => *answer = Answer::SetTid,
+        GET_TID => *answer = Answer::GetTid { tid: fields.tid },
+        GET_PLDM_VERSION => put_version_answer_of(fields, answer)?,
+        GET_PLDM_TYPES => {
+            *answer = Answer::GetPldmTypes {
+                types: fields.types,
+            };
+        }
+        GET_PLDM_COMMANDS => {
+            *answer = Answer::GetPldmCommands {
+                commands: fields.commands,
+            };
+        }
+        _ => return None,
     }
+    Some(())
 }
 
-/// The answer to GetPLDMVersion.
-fn version_answer_of(fields: &AnswerFields) -> Option<Answer>
-    ensures answer { result ≡ version_answer_in fields.now (bytes_in fields.now) }
-    ensures kind { IfSome result (λ answer. IsAnswerTo (of_type BASE GET_PLDM_VERSION) answer) }
+/// Puts the answer to GetPLDMVersion.
+// Not inlined: the bytes are made here, and no second place for them is left on the caller's stack.
+#[inline(never)]
+fn put_version_answer_of(fields: &AnswerFields, answer: &mut Answer) -> Option<()>
+    ensures answer { option_map (λ _. answer.new) result ≡ version_answer_in fields.now (bytes_in fields.now) }
+    ensures kind { OnSome result (IsAnswerTo (of_type BASE GET_PLDM_VERSION) answer.new) }
 {
-    Some(Answer::GetPldmVersion {
+    *answer = Answer::GetPldmVersion {
         next_data_transfer_handle: fields.next_data_transfer_handle,
         versions: VersionData::new(bytes_of(fields)?)?,
-    })
+    };
+    Some(())
 }
 
 /// As many bytes as the length says, where there are so many.
@@ -117,13 +127,13 @@ fn bytes_of(fields: &AnswerFields) -> Option<&[u8]>
     Some(&fields.bytes[..length])
 }
 
-/// The answer to a command of platform monitoring and control (DSP0248).
-fn platform_answer_of(fields: &AnswerFields) -> Option<Answer>
+/// Puts the answer to a command of platform monitoring and control (DSP0248).
+fn put_platform_answer_of(fields: &AnswerFields, answer: &mut Answer) -> Option<()>
     requires { fields.now.pldm_type ≡ PLATFORM }
-    ensures answer { result ≡ platform_answer_in fields.now }
-    ensures kind { IfSome result (λ answer. IsAnswerTo (kind_in fields.now) answer) }
+    ensures answer { option_map (λ _. answer.new) result ≡ platform_answer_in fields.now }
+    ensures kind { OnSome result (IsAnswerTo (kind_in fields.now) answer.new) }
 {
-    Some(match fields.command {
+    *answer = match fields.command {
         GET_SENSOR_READING => Answer::GetSensorReading {
             operational: fields.operational,
             sensor_event_message_enable: fields.sensor_event_message_enable,
@@ -153,13 +163,34 @@ fn platform_answer_of(fields: &AnswerFields) -> Option<Answer>
             largest_record_size: fields.largest_record_size,
             timeout: fields.timeout,
         },
-        GET_PDR => Answer::GetPdr {
-            next_record_handle: fields.next_record_handle,
-            next_data_transfer_handle: fields.next_data_transfer_handle,
-            part: part_of(fields)?,
-        },
+        GET_PDR => return put_part_answer_of(fields, answer),
         _ => return None,
-    })
+    };
+    Some(())
+}
+
+/// Puts the answer to GetPDR.
+// Not inlined, as that to GetPLDMVersion.
+#[inline(never)]
+fn put_part_answer_of(fields: &AnswerFields, answer: &mut Answer) -> Option<()>
+    ensures answer { option_map (λ _. answer.new) result ≡ part_answer_in fields.now }
+    ensures kind { OnSome result (IsAnswerTo (of_type PLATFORM GET_PDR) answer.new) }
+{
+    let flag = TransferFlag::new(fields.transfer_flag)?;
+    let bytes = bytes_of(fields)?;
+    // The part is written where it stays, so that it is not moved.
+    *answer = Answer::GetPdr {
+        next_record_handle: fields.next_record_handle,
+        next_data_transfer_handle: fields.next_data_transfer_handle,
+        part: RecordPart::empty(),
+    };
+    match answer {
+        Answer::GetPdr { part, .. } => {
+            part.put(flag, bytes, checksum_of(flag, fields.transfer_crc));
+        }
+        _ => unreachable!(),
+    }
+    Some(())
 }
 
 /// The pending and the present value of GetNumericEffecterValue's answer.
@@ -170,18 +201,6 @@ fn values_of(fields: &AnswerFields) -> Option<EffecterValues>
     let pending = Number::new(size, fields.pending_value)?;
     let present = Number::new(size, fields.value)?;
     EffecterValues::new(pending, present)
-}
-
-/// The part of a record of GetPDR's answer.
-fn part_of(fields: &AnswerFields) -> Option<RecordPart>
-    ensures { result ≡ part_in fields.now (flag_of fields.now.transfer_flag) (bytes_in fields.now) }
-{
-    let flag = TransferFlag::new(fields.transfer_flag)?;
-    RecordPart::new(
-        flag,
-        bytes_of(fields)?,
-        checksum_of(flag, fields.transfer_crc),
-    )
 }
 
 /// The checksum, where it follows a part with this flag.

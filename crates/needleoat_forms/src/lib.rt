@@ -16,7 +16,7 @@ mod states;
 
 pub use answer::AnswerFields;
 pub use answer_reading::{answer_check, answer_read};
-pub use answer_writing::{answer_of, answer_write, record_checksum};
+pub use answer_writing::{answer_write, put_answer_of, record_checksum};
 pub use command::CommandFields;
 pub use command_reading::{CommandReading, command_read};
 pub use command_writing::command_write;
