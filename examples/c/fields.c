@@ -458,7 +458,9 @@ static void steps(void) {
     step_receive("first packet", 6, "0109088d" "0180023101000028");
     step_receive("a second open message", 6, "0109088e" "01800231");
     step_receive("a third open message", 6, "0109088f" "01800231");
+    step_receive("middle of the first", 6, "0109081d" "0000000000000000");
     step_receive("a fourth open message", 6, "01090888" "01800231");
+    step_receive("middle of the first again", 6, "0109082d" "0000000000000000");
     step_receive("another source", 6, "01090ac8" "0180023101000028");
     step_part(PART_OF_8("c9", "81"), 4, 300);
     step_part(PART_OF_8("ca", "82"), 0, 60);

@@ -1,6 +1,6 @@
 /*
  * Prints how many bytes of heap the ends take, and ends with status 1 where some are left at the end, or where an open
- * message that has ended leaves more than its source's entry in a table. Its allocator has the size of each block in
+ * message that has ended leaves more than its source's entry in a table and its place in a list. Its allocator has the size of each block in
  * front of it.
  */
 #include "needleoat.h"
@@ -8,8 +8,9 @@
 #include <stdlib.h>
 
 enum { FRONT = 16, MANY_SOURCES = 4, MANY_COMMANDS = 5 };
-/* the table of the sources of open messages, up to endpoint 14: 16 entries of 24 bytes */
-enum { TABLE = 384 };
+/* the table of the sources of open messages, up to endpoint 14: 16 entries of 24 bytes; and the list of the order in which
+   messages began: 4 keys of 3 bytes */
+enum { TABLE = 384, ORDER = 12 };
 
 static size_t in_use;
 
@@ -91,7 +92,7 @@ int main(void) {
     printf("heap of an endpoint with an open message too %zu\n", in_use);
     if (receive_packet(14, two_packets, sizeof two_packets, 1).kind != NEEDLEOAT_STEP_DROPPED) return 1;
     printf("heap of an endpoint after that message %zu\n", in_use);
-    if (in_use != before + TABLE) return 1;
+    if (in_use != before + TABLE + ORDER) return 1;
     needleoat_endpoint_free(&endpoint);
     needleoat_requester_new(&requester_settings, &requester);
     printf("heap of a requester at first %zu\n", in_use);
