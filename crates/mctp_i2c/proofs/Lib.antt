@@ -1,0 +1,8 @@
+pub mod Passing
+pub mod PecFurther
+pub mod SmbusReadBack
+pub mod I3cReadBack
+pub mod Codewords
+pub mod FirstBytes
+pub mod ChangesSeen
+pub mod OtherTransfers
