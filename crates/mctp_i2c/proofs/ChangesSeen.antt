@@ -1,11 +1,10 @@
 -- A frame of which bits changed is refused, where a multiple of the divisor has no such bits.
-use Rattle.std.proofs.Common.{◌≡◌, ◌≢◌, ℕ, ◌+◌, ◌*◌, ◌/◌, ◌^◌, ◌<◌, ◌≤◌, ◌==◌, not, bit_xor, Bool, true, false, List, [], ◌∷◌, ◌++◌, length, Some, Ok, Err, IsErr, refl, sym, ap, subst, ◌∙◌, arith, lit<}
-use Rattle.std.proofs.lemmas.Nat.{xor_comm, xor_lt}
-use Rattle.std.specs.Int.Bits.{xor_self, xor_zero_r}
+use Rattle.std.proofs.Common.{◌≡◌, ℕ, ◌+◌, ◌*◌, ◌^◌, ◌<◌, ◌≤◌, bit_xor, List, [], ◌∷◌, length, Ok, sym, ap, subst, ◌∙◌, arith, lit<}
+use Rattle.std.specs.Int.Bits.{xor_self}
 use Rattle.pldm_wire.specs.Crc.{crc, number_of}
 use Rattle.pldm_wire.proofs.Checksums.{crc_is_remainder}
 use Rattle.mctp_i2c.specs.Addresses.{IsSmbusAddress, IsDynamicAddress}
-use Rattle.mctp_i2c.specs.Changes.{AreBytes, AreChanged, IsBurst, IsTwoBits}
+use Rattle.mctp_i2c.specs.Changes.{AreBytes, AreChanged}
 use Rattle.mctp_i2c.specs.Packets.{HasFrame}
 use Rattle.mctp_i2c.specs.Pecs.{with_pec}
 use Rattle.mctp_i2c.specs.SmbusFrames as smbus

@@ -1,13 +1,12 @@
 -- Bytes with their PEC are a multiple of the divisor, and changes within eight bits in a row, or of two bits less than
 -- 127 apart, make none of it.
-use Rattle.std.proofs.Common.{◌≡◌, ℕ, zero, suc, ◌+◌, ◌-◌, ◌*◌, ◌/◌, ◌%◌, ◌^◌, ◌<◌, ◌≤◌, Bool, true, false, not, ◌&&◌, eqb, bit_xor, List, [], ◌∷◌, ◌++◌, length, refl, sym, ap, subst, ◌∙◌, arith, lit<, inl, inr}
-use Rattle.std.specs.List.{fold}
-use Rattle.std.proofs.lemmas.Bool.{and_parts, not-false, not-true, eqb-false, cases_lt}
+use Rattle.std.proofs.Common.{◌≡◌, ℕ, zero, suc, ◌+◌, ◌-◌, ◌*◌, ◌/◌, ◌%◌, ◌^◌, ◌<◌, Bool, true, not, ◌&&◌, eqb, bit_xor, List, [], ◌∷◌, refl, sym, ap, subst, ◌∙◌, arith, lit<}
+use Rattle.std.proofs.lemmas.Bool.{and_parts, not-true, eqb-false}
 use Rattle.std.proofs.lemmas.Grind.{fold-append}
-use Rattle.std.proofs.lemmas.Nat.{pow_pos, pow-add, xor_comm, xor_mod}
+use Rattle.std.proofs.lemmas.Nat.{pow-add, xor_comm, xor_mod}
 use Rattle.std.proofs.Math.Nat.{pow-suc}
 use Rattle.std.specs.Int.Bits.{xor_assoc, xor_self, xor_zero_r}
-use Rattle.pldm_wire.specs.Crc.{divisor, times_divisor, IsRemainder, number_of, brought_down, crc}
+use Rattle.pldm_wire.specs.Crc.{times_divisor, IsRemainder, number_of, brought_down, crc}
 use Rattle.pldm_wire.proofs.Checksums.{crc_is_remainder}
 use Rattle.pldm_wire.proofs.Polynomials.{same_from_xor, shift_then, times_divisor-xor, times_divisor-shift, no_low_multiple}
 use Rattle.pldm_wire.proofs.Remainders.{one_remainder, next_bit, added, of_low}

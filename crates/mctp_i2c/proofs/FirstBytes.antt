@@ -1,5 +1,5 @@
 -- The number of bytes of which the first is known apart.
-use Rattle.std.proofs.Common.{◌≡◌, ℕ, zero, suc, ◌+◌, ◌*◌, ◌^◌, ◌<◌, ◌≤◌, bit_xor, List, [], ◌∷◌, length, refl, sym, ap, ◌∙◌, arith, lit<}
+use Rattle.std.proofs.Common.{◌≡◌, ℕ, suc, ◌+◌, ◌*◌, ◌^◌, ◌<◌, ◌≤◌, bit_xor, List, [], ◌∷◌, length, sym, ap, ◌∙◌, arith, lit<}
 use Rattle.std.specs.List.{fold}
 use Rattle.std.proofs.lemmas.Nat.{pow-add, xor_block}
 use Rattle.std.proofs.Math.Nat.{mul-le-mul_right}

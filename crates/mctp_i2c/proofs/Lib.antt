@@ -6,3 +6,5 @@ pub mod Codewords
 pub mod FirstBytes
 pub mod ChangesSeen
 pub mod OtherTransfers
+mod Numbers
+mod WorkedFrames

@@ -1,5 +1,5 @@
 -- A frame on I3C is refused in any other transfer.
-use Rattle.std.proofs.Common.{◌≡◌, ◌≢◌, ℕ, ◌+◌, ◌*◌, ◌^◌, ◌<◌, ◌==◌, nat_lt, not, bit_xor, Bool, true, false, List, [], ◌∷◌, ◌++◌, length, Some, Err, refl, sym, ap, subst, ◌∙◌, arith}
+use Rattle.std.proofs.Common.{◌≡◌, ◌≢◌, ℕ, ◌+◌, ◌*◌, ◌^◌, ◌==◌, bit_xor, false, [], ◌∷◌, ◌++◌, length, refl, sym, ap, subst, ◌∙◌, arith}
 use Rattle.std.proofs.lemmas.Bool.{ne_eqb}
 use Rattle.std.proofs.lemmas.Nat.{xor_lt}
 use Rattle.std.specs.Int.Bits.{xor_self}
@@ -7,9 +7,7 @@ use Rattle.pldm_wire.specs.Crc.{crc, number_of}
 use Rattle.pldm_wire.proofs.Polynomials.{same_from_xor}
 use Rattle.mctp_i2c.specs.Refusals.{front, last}
 use Rattle.mctp_i2c.specs.I3cFrames.{address_byte, frame}
-use Rattle.mctp_i2c.specs.I3cReadings.{refusal, reading}
 use Rattle.mctp_i2c.specs.Laws.{I3cOthersAreRefused}
-use Rattle.mctp_i2c.specs.declared.i3c.FrameFault.TheVariants.{Short, WrongPec}
 use Rattle.mctp_i2c.proofs.Passing.{front-append, last-append}
 use Rattle.mctp_i2c.proofs.Codewords.{IsMultiple, sum_of_multiples, no_burst}
 use Rattle.mctp_i2c.proofs.FirstBytes.{firsts_differ}

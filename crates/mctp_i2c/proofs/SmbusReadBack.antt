@@ -1,5 +1,5 @@
 -- A frame on SMBus is read back, and nothing else is read.
-use Rattle.std.proofs.Common.{◌≡◌, ℕ, ◌+◌, ◌-◌, ◌*◌, ◌/◌, ◌%◌, ◌<◌, ◌≤◌, ◌==◌, nat_lt, nat_le, not, Bool, true, false, List, [], ◌∷◌, ◌++◌, length, take, drop, slice_index, Some, None, is_some, Ok, refl, sym, ap, subst, ◌∙◌, arith, lit<, length-append}
+use Rattle.std.proofs.Common.{◌≡◌, ℕ, ◌+◌, ◌-◌, ◌*◌, ◌/◌, ◌%◌, ◌<◌, ◌≤◌, ◌==◌, nat_lt, not, false, List, [], ◌∷◌, ◌++◌, length, drop, slice_index, Some, is_some, Ok, refl, sym, ap, subst, ◌∙◌, arith, lit<, length-append}
 use Rattle.std.proofs.lemmas.Bool.{eq-eqb, le-ltb, le-leb, ltb-false, eqb-true, not-false}
 use Rattle.std.proofs.lemmas.Bool.Decides.{nat_tests}
 use Rattle.std.proofs.lemmas.List.{length-drop, length-take-le, get_or-take}

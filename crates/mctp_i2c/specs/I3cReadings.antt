@@ -1,5 +1,5 @@
 -- What the bytes of a transfer on I3C are read as.
-use Rattle.std.specs.Prelude.{◌≡◌, ℕ, ◌-◌, ◌≤◌, Bool, not, ◌==◌, nat_lt, List, [], ◌∷◌, length, Option, Result}
+use Rattle.std.specs.Prelude.{◌≡◌, ℕ, ◌≤◌, Bool, not, ◌==◌, nat_lt, List, [], ◌∷◌, length, Option, Result}
 use Rattle.pldm_wire.specs.Crc.{crc}
 use Rattle.mctp_i2c.specs.Refusals.{first_failing, unless, front, last}
 use Rattle.mctp_i2c.specs.I3cFrames.{address_byte, frame}

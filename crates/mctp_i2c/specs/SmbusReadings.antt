@@ -1,5 +1,5 @@
 -- What bytes on SMBus are read as, by a device of the address `own`.
-use Rattle.std.specs.Prelude.{◌≡◌, ℕ, ◌+◌, ◌-◌, ◌*◌, ◌/◌, ◌%◌, ◌≤◌, Bool, not, ◌&&◌, ◌==◌, nat_lt, nat_le, List, [], ◌∷◌, length, drop, slice_index, Option, Some, None, Result, is_some, if◌then◌else◌}
+use Rattle.std.specs.Prelude.{◌≡◌, ℕ, ◌-◌, ◌*◌, ◌/◌, ◌%◌, ◌≤◌, Bool, not, ◌&&◌, ◌==◌, nat_lt, nat_le, List, [], ◌∷◌, length, drop, slice_index, Option, Some, None, Result, is_some, if◌then◌else◌}
 use Rattle.pldm_wire.specs.Crc.{crc}
 use Rattle.mctp_i2c.specs.Addresses.{IsSmbusAddress}
 use Rattle.mctp_i2c.specs.Refusals.{first_failing, unless, front, last}

@@ -1,6 +1,6 @@
 //! The 7-bit addresses of the two buses.
 
-ghost use Rattle.std.specs.Prelude.{◌≡◌, ℕ, ◌↔◌, IsSome, IfSome};
+ghost use Rattle.std.specs.Prelude.{◌≡◌, ℕ, ◌*◌, ◌↔◌, IsSome, IfSome};
 ghost use Rattle.mctp_i2c.specs.Addresses.{IsSmbusAddress, IsDynamicAddress};
 
 use crate::{MAX_DYNAMIC_ADDRESS, MAX_SMBUS_ADDRESS, MIN_SMBUS_ADDRESS};
@@ -43,6 +43,13 @@ impl SmbusAddress {
         ensures range { IsSmbusAddress self }
     {
         self.number
+    }
+
+    /// The byte that a block write to the device begins with: the address, and a bit that is clear.
+    pub fn write_byte(self) -> u8
+        ensures { result ≡ self * 2 }
+    {
+        self.number << 1
     }
 }
 

@@ -103,12 +103,13 @@ pub fn read(
         (λ packet. reading address direction bytes.now ≡ Ok packet.now)
         (λ fault. reading address direction bytes.now ≡ Err fault) }
 {
-    if bytes.len() < MIN_FRAME_BYTES {
+    let [packet @ .., sent] = bytes else {
+        return Err(FrameFault::Short);
+    };
+    if packet.len() < MIN_PACKET_BYTES {
         return Err(FrameFault::Short);
     }
-    let last = bytes.len() - 1;
-    let packet = &bytes[..last];
-    if bytes[last] != pec(address_byte(address, direction), packet) {
+    if *sent != pec(address_byte(address, direction), packet) {
         return Err(FrameFault::WrongPec);
     }
     Ok(packet)

@@ -128,7 +128,7 @@ pub fn frame(
 {
     check_length(packet)?;
     let mut bytes = FrameBytes::new();
-    bytes.push(destination.get() << 1);
+    bytes.push(destination.write_byte());
     bytes.push(COMMAND_CODE);
     bytes.push(packet.len() as u8 + 1);
     bytes.push(source.get() << 1 | 1);
@@ -156,29 +156,28 @@ fn read_in_turn(own: SmbusAddress, bytes: &[u8]) -> Result<Received<'_>, FrameFa
     ensures refused { IfErr result (λ fault. refusal own bytes.now ≡ Some fault) }
     ensures answer { result ≡ reading own bytes.now }
 {
-    if bytes.len() < MIN_FRAME_BYTES {
+    let [destination, command, count, source, packet @ .., pec] = bytes else {
+        return Err(FrameFault::Short);
+    };
+    if packet.is_empty() {
         return Err(FrameFault::Short);
     }
-    if bytes[0] != own.get() << 1 {
+    if *destination != own.write_byte() {
         return Err(FrameFault::NotOurs);
     }
-    if bytes[1] != COMMAND_CODE {
+    if *command != COMMAND_CODE {
         return Err(FrameFault::OtherCommand);
     }
-    let last = bytes.len() - 1;
-    if usize::from(bytes[2]) != last - 3 {
+    if usize::from(*count) != 1 + packet.len() {
         return Err(FrameFault::WrongCount);
     }
-    let Some(source) = source_in(bytes[3]) else {
+    let Some(source) = source_in(*source) else {
         return Err(FrameFault::NotSource);
     };
-    if bytes[last] != crc8(&bytes[..last]) {
+    if *pec != crc8(&bytes[..bytes.len() - 1]) {
         return Err(FrameFault::WrongPec);
     }
-    Ok(Received {
-        source,
-        packet: &bytes[FRAME_HEADER..last],
-    })
+    Ok(Received { source, packet })
 }
 
 /// The source that this byte names: its address, before a bit that is set.

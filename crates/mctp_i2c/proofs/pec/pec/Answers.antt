@@ -1,5 +1,5 @@
 -- At the end the bytes so far are all.
-use Rattle.std.proofs.Common.{◌≡◌, ◌∷◌, arith}
+use Rattle.std.proofs.Common.{◌∷◌, arith}
 use Rattle.std.proofs.lemmas.List.{take_all}
 use Rattle.pldm_wire.proofs.Checksums.{only_crc}
 use Rattle.mctp_i2c.proofs.PecFurther.{first_too, further}

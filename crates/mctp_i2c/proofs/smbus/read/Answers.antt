@@ -1,5 +1,4 @@
 -- Whatever frame the bytes are is read.
-use Rattle.std.proofs.Common.{arith}
 use Rattle.mctp_i2c.proofs.SmbusReadBack.{every}
 use Rattle.mctp_i2c.proofs.smbus.read.Goals as goal
 
