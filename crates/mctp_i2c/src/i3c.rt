@@ -64,10 +64,7 @@ impl FrameFault {
 }
 
 /// The frame of a packet's bytes in a transfer to or from the target of this address, where they are
-/// `MIN_PACKET_BYTES` to `MAX_PACKET_BYTES` (DSP0233).
-///
-/// # Errors
-/// `TooShort` for fewer bytes, and `TooLong` for more.
+/// `MIN_PACKET_BYTES` to `MAX_PACKET_BYTES` (DSP0233); else `TooShort` for fewer bytes, and `TooLong` for more.
 pub fn frame(
     address: DynamicAddress,
     direction: Direction,
@@ -85,11 +82,8 @@ pub fn frame(
 }
 
 /// The packet whose frame these bytes are, in a transfer to or from the target of this address; or the first
-/// reason for which they are none (DSP0233). The packet is the slice of the bytes that were read. It has no
-/// upper limit here.
-///
-/// # Errors
-/// `Short` and `WrongPec`, looked for in this order.
+/// reason for which they are none: `Short`, `WrongPec` (DSP0233). The packet is the slice of the bytes that were
+/// read, and has no upper limit here.
 pub fn read(
     address: DynamicAddress,
     direction: Direction,

@@ -2,9 +2,9 @@
 //!
 //! A frame is all bytes of the block write, from the destination's address byte to the PEC. Some controllers
 //! do not hand the address byte to the program, whether they send or receive. When they send, leave out the
-//! first byte of [`frame`]; when they receive, put twice the own address before the other bytes for [`read`].
+//! first byte of [`frame`]; when they receive, put the own address's `write_byte` before the bytes for [`read`].
 
-ghost use Rattle.std.specs.Prelude.{◌≡◌, ◌↔◌, ◌*◌, ◌+◌, Ok, Some, IsOk, IfOk, IfErr, SomeIff};
+ghost use Rattle.std.specs.Prelude.{◌≡◌, ◌↔◌, Ok, Some, IsOk, IfOk, IfErr};
 ghost use Rattle.mctp_i2c.specs.Packets.{HasFrame, IsLengthFault};
 ghost use Rattle.mctp_i2c.specs.SmbusFrames.{frame};
 ghost use Rattle.mctp_i2c.specs.SmbusReadings.{Received as Reading, IsFrameTo, refusal, reading, source_in};
@@ -96,7 +96,6 @@ impl<'a> Model for Received<'a> {
 
 impl<'a> Received<'a> {
     ghost use Rattle.std.specs.Prelude.{◌≡◌};
-    ghost use Rattle.mctp_i2c.specs.Addresses.{IsSmbusAddress};
 
     /// The address that the frame comes from.
     pub fn source(&self) -> SmbusAddress
@@ -113,9 +112,7 @@ impl<'a> Received<'a> {
     }
 }
 
-/// The frame of a packet's bytes, where they are `MIN_PACKET_BYTES` to `MAX_PACKET_BYTES` (DSP0237).
-///
-/// # Errors
+/// The frame of a packet's bytes, where they are `MIN_PACKET_BYTES` to `MAX_PACKET_BYTES` (DSP0237); else
 /// `TooShort` for fewer bytes, and `TooLong` for more.
 pub fn frame(
     source: SmbusAddress,
@@ -138,10 +135,8 @@ pub fn frame(
 }
 
 /// The packet whose frame to the own address these bytes are, and the address that it comes from; or the
-/// first reason for which they are none (DSP0237).
-///
-/// # Errors
-/// `Short`, `NotOurs`, `OtherCommand`, `WrongCount`, `NotSource` and `WrongPec`, looked for in this order.
+/// first reason for which they are none: `Short`, `NotOurs`, `OtherCommand`, `WrongCount`, `NotSource`,
+/// `WrongPec` (DSP0237; the order is this crate's own).
 pub fn read(own: SmbusAddress, bytes: &[u8]) -> Result<Received<'_>, FrameFault>
     ensures found { IfOk result (λ received. IsFrameTo own received bytes.now) }
     ensures every { (received : Reading) → IsFrameTo own received bytes.now → result ≡ Ok received }
