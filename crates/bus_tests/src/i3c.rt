@@ -121,7 +121,7 @@ fn frame_of_another_transfer(rt: HostRuntime) -> Result<(), Fail> {
 fn each_bit_that_changes_is_seen(rt: HostRuntime) -> Result<(), Fail> {
     let target = address(0x30)?;
     for place in 0..FRAME.len() {
-        for bit in 0..8 {
+        for bit in 0..u8::BITS {
             let mut bytes = FRAME;
             bytes[place] ^= 1 << bit;
             let fault = read(target, Direction::Write, &bytes).err();
