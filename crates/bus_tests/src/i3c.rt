@@ -13,13 +13,8 @@ fn address(number: u8) -> Result<DynamicAddress, Fail> {
 
 #[test]
 fn dynamic_addresses(rt: HostRuntime) {
-    for (number, want) in [
-        (0x00, Some(0x00)),
-        (0x7F, Some(0x7F)),
-        (0x80, None),
-        (0xFF, None),
-    ] {
-        assert_eq!(rt; DynamicAddress::new(number).map(DynamicAddress::get), want);
+    for (number, is_one) in [(0x00, true), (0x7F, true), (0x80, false), (0xFF, false)] {
+        assert_eq!(rt; DynamicAddress::new(number).is_some(), is_one);
     }
 }
 
