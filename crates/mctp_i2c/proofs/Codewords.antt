@@ -1,6 +1,7 @@
 -- Bytes with their PEC are a multiple of the divisor, and changes within eight bits in a row, or of two bits less than
 -- 127 apart, make none of it.
-use Rattle.std.proofs.Common.{◌≡◌, ℕ, zero, suc, ◌+◌, ◌-◌, ◌*◌, ◌/◌, ◌%◌, ◌^◌, ◌<◌, Bool, true, not, ◌&&◌, eqb, bit_xor, List, [], ◌∷◌, refl, sym, ap, subst, ◌∙◌, arith, lit<}
+use Rattle.std.proofs.Common.{◌≡◌, ℕ, zero, suc, ◌+◌, ◌-◌, ◌*◌, ◌/◌, ◌%◌, ◌^◌, ◌<◌, Bool, true, not, ◌&&◌}
+use Rattle.std.proofs.Common.{eqb, bit_xor, List, [], ◌∷◌, refl, sym, ap, subst, ◌∙◌, arith, lit<}
 use Rattle.std.proofs.lemmas.Bool.{and_parts, not-true, eqb-false}
 use Rattle.std.proofs.lemmas.Grind.{fold-append}
 use Rattle.std.proofs.lemmas.Nat.{pow-add, xor_comm, xor_mod}
@@ -8,7 +9,8 @@ use Rattle.std.proofs.Math.Nat.{pow-suc}
 use Rattle.std.specs.Int.Bits.{xor_assoc, xor_self, xor_zero_r}
 use Rattle.pldm_wire.specs.Crc.{times_divisor, IsRemainder, number_of, brought_down, crc}
 use Rattle.pldm_wire.proofs.Checksums.{crc_is_remainder}
-use Rattle.pldm_wire.proofs.Polynomials.{same_from_xor, shift_then, times_divisor-xor, times_divisor-shift, no_low_multiple}
+use Rattle.pldm_wire.proofs.Polynomials.{same_from_xor, shift_then, times_divisor-xor, times_divisor-shift}
+use Rattle.pldm_wire.proofs.Polynomials.{no_low_multiple}
 use Rattle.pldm_wire.proofs.Remainders.{one_remainder, next_bit, added, of_low}
 use Rattle.mctp_i2c.specs.Changes.{AreBytes, IsBurst, IsTwoBits}
 use Rattle.mctp_i2c.specs.Pecs.{with_pec}
@@ -38,14 +40,20 @@ codeword bytes are =
 pub sum_of_multiples : (a b : ℕ) → IsMultiple a → IsMultiple b → IsMultiple (bit_xor a b)
 sum_of_multiples a b h g = record {
   quotient = bit_xor h.quotient g.quotient;
-  is = ap (λ x. bit_xor x b) h.is ∙ ap (bit_xor (times_divisor h.quotient)) g.is ∙ sym (times_divisor-xor h.quotient g.quotient);
+  is = ap (λ x. bit_xor x b) h.is ∙ ap (bit_xor (times_divisor h.quotient)) g.is
+      ∙ sym (times_divisor-xor h.quotient g.quotient);
 }
 
 -- the lowest bit of a multiple is that of the factor
 lowest_bit : (q : ℕ) → times_divisor q % 2 ≡ q % 2
 lowest_bit q =
-    let inner : bit_xor (q * 2) q % 2 ≡ q % 2 = xor_mod (q * 2) q 1 ∙ ap (λ x. bit_xor x (q % 2)) (let e : q * 2 % 2 ≡ 0 = omega arith in e) ∙ xor_comm 0 (q % 2) ∙ xor_zero_r (q % 2) in
-    let outer : bit_xor (q * 2 ^ 8) (q * 2 ^ 2) % 2 ≡ 0 = xor_mod (q * 2 ^ 8) (q * 2 ^ 2) 1 ∙ ap (λ x. bit_xor x (q * 2 ^ 2 % 2)) (let e : q * 2 ^ 8 % 2 ≡ 0 = omega arith in e) ∙ ap (bit_xor 0) (let e : q * 2 ^ 2 % 2 ≡ 0 = omega arith in e) in
+    let inner : bit_xor (q * 2) q % 2 ≡ q % 2 =
+    xor_mod (q * 2) q 1 ∙ ap (λ x. bit_xor x (q % 2)) (let e : q * 2 % 2 ≡ 0 = omega arith in e)
+    ∙ xor_comm 0 (q % 2) ∙ xor_zero_r (q % 2) in
+    let outer : bit_xor (q * 2 ^ 8) (q * 2 ^ 2) % 2 ≡ 0 =
+    xor_mod (q * 2 ^ 8) (q * 2 ^ 2) 1
+    ∙ ap (λ x. bit_xor x (q * 2 ^ 2 % 2)) (let e : q * 2 ^ 8 % 2 ≡ 0 = omega arith in e)
+    ∙ ap (bit_xor 0) (let e : q * 2 ^ 2 % 2 ≡ 0 = omega arith in e) in
     xor_mod (bit_xor (q * 2 ^ 8) (q * 2 ^ 2)) (bit_xor (q * 2) q) 1
     ∙ ap (λ x. bit_xor x (bit_xor (q * 2) q % 2)) outer
     ∙ ap (bit_xor 0) inner
@@ -62,7 +70,8 @@ unshifted (suc place) number h =
     let size : number * 2 ^ suc place ≡ number * 2 ^ place * 2 = ap (λ p. number * p) (pow-suc 2 place) ∙ omega arith in
     let even : q % 2 ≡ 0 = sym (lowest_bit q) ∙ ap (λ x. x % 2) (sym h.is ∙ size) ∙ omega arith in
     let halved : q ≡ q / 2 * 2 ^ 1 = omega arith in
-    let twice : times_divisor q ≡ times_divisor (q / 2) * 2 ^ 1 = ap times_divisor halved ∙ times_divisor-shift (q / 2) 1 in
+    let twice : times_divisor q ≡ times_divisor (q / 2) * 2 ^ 1 =
+    ap times_divisor halved ∙ times_divisor-shift (q / 2) 1 in
     unshifted place number (record { quotient = q / 2; is = omega (arith, h.is, size, twice) })
 
 pub no_burst : (difference : ℕ) → IsMultiple difference → IsBurst difference → ⊥
@@ -76,7 +85,8 @@ zeros_further : ℕ → ℕ → ℕ
 zeros_further zero remainder = remainder
 zeros_further (suc k) remainder = zeros_further k (brought_down remainder 0)
 
-of_power : (k number remainder : ℕ) → IsRemainder number remainder → IsRemainder (number * 2 ^ k) (zeros_further k remainder)
+of_power : (k number remainder : ℕ) → IsRemainder number remainder
+    → IsRemainder (number * 2 ^ k) (zeros_further k remainder)
 unfolding zeros_further
 of_power zero number remainder h =
     let same : number ≡ number * 2 ^ 0 = omega arith in
@@ -112,14 +122,18 @@ not_one apart near h =
     let n = 1 * 2 ^ suc apart in
     let r = zeros_further (suc apart) 1 in
     let left = added n r 1 (lit< tt) (of_power (suc apart) 1 1 (of_low 1 (lit< tt))) in
-    let sum : bit_xor n 1 ≡ 1 + 2 ^ suc apart = sym (shift_then (2 ^ apart) 1 1 (lit< tt) ∙ ap (λ x. bit_xor x 1) (omega (arith, pow-suc 2 apart))) ∙ omega (arith, pow-suc 2 apart) in
-    let none : IsRemainder (bit_xor n 1) 0 = record { below = lit< tt; quotient = h.quotient; divided = sum ∙ h.is ∙ sym (xor_zero_r (times_divisor h.quotient)) } in
+    let sum : bit_xor n 1 ≡ 1 + 2 ^ suc apart =
+    sym (shift_then (2 ^ apart) 1 1 (lit< tt) ∙ ap (λ x. bit_xor x 1) (omega (arith, pow-suc 2 apart)))
+    ∙ omega (arith, pow-suc 2 apart) in
+    let none : IsRemainder (bit_xor n 1) 0 =
+    record { below = lit< tt; quotient = h.quotient; divided = sum ∙ h.is ∙ sym (xor_zero_r (times_divisor h.quotient)) } in
     each_is_not 126 apart 1 order near (same_from_xor r 1 (one_remainder (bit_xor n 1) (bit_xor r 1) 0 left none))
 
 pub no_two_bits : (difference : ℕ) → IsMultiple difference → IsTwoBits difference → ⊥
 no_two_bits difference h t =
     let apart = t.apart - 1 in
     let one_more : t.apart ≡ suc apart = omega arith in
-    let size : 2 ^ t.place + 2 ^ (t.place + t.apart) ≡ (1 + 2 ^ t.apart) * 2 ^ t.place = omega (arith, pow-add 2 t.place t.apart) in
+    let size : 2 ^ t.place + 2 ^ (t.place + t.apart) ≡ (1 + 2 ^ t.apart) * 2 ^ t.place =
+    omega (arith, pow-add 2 t.place t.apart) in
     let low = unshifted t.place (1 + 2 ^ t.apart) (subst IsMultiple (t.placed ∙ size) h) in
     not_one apart (omega arith) (subst (λ (k : ℕ). IsMultiple (1 + 2 ^ k)) one_more low)

@@ -1,6 +1,7 @@
 -- Every constant of the source, told a second time.
 use Rattle.std.proofs.Common.{◌≡◌, refl}
-use Rattle.mctp_i2c.specs.declared.TheConstants.{MIN_SMBUS_ADDRESS, MAX_SMBUS_ADDRESS, MAX_DYNAMIC_ADDRESS, MIN_PACKET_BYTES, MAX_PACKET_BYTES}
+use Rattle.mctp_i2c.specs.declared.TheConstants.{MIN_SMBUS_ADDRESS, MAX_SMBUS_ADDRESS, MAX_DYNAMIC_ADDRESS}
+use Rattle.mctp_i2c.specs.declared.TheConstants.{MIN_PACKET_BYTES, MAX_PACKET_BYTES}
 use Rattle.mctp_i2c.specs.declared.smbus.TheConstants as smbus
 use Rattle.mctp_i2c.specs.declared.i3c.TheConstants as i3c
 

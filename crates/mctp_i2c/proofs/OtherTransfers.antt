@@ -1,5 +1,6 @@
 -- A frame on I3C is refused in any other transfer.
-use Rattle.std.proofs.Common.{◌≡◌, ◌≢◌, ℕ, ◌+◌, ◌*◌, ◌^◌, ◌==◌, bit_xor, false, [], ◌∷◌, ◌++◌, length, refl, sym, ap, subst, ◌∙◌, arith}
+use Rattle.std.proofs.Common.{◌≡◌, ◌≢◌, ℕ, ◌+◌, ◌*◌, ◌^◌, ◌==◌, bit_xor, false, [], ◌∷◌, ◌++◌, length, refl}
+use Rattle.std.proofs.Common.{sym, ap, subst, ◌∙◌, arith}
 use Rattle.std.proofs.lemmas.Bool.{ne_eqb}
 use Rattle.std.proofs.lemmas.Nat.{xor_lt}
 use Rattle.std.specs.Int.Bits.{xor_self}
@@ -27,18 +28,25 @@ others_refused address other direction other_direction packet small other_small 
     let k = 8 * length bytes in
     let apart : crc (second ∷ packet) ≢ sum = λ same.
     let one = with_address address direction packet small are in
-    let two : IsMultiple (number_of (second ∷ bytes)) = subst (λ (n : ℕ). IsMultiple (number_of (second ∷ (packet ++ n ∷ [])))) same (with_address other other_direction packet other_small are) in
+    let two : IsMultiple (number_of (second ∷ bytes)) =
+    subst (λ (n : ℕ). IsMultiple (number_of (second ∷ (packet ++ n ∷ [])))) same
+    (with_address other other_direction packet other_small are) in
     let changed : bit_xor (number_of (first ∷ bytes)) (number_of (second ∷ bytes)) ≡ bit_xor first second * 2 ^ k =
-    firsts_differ first second bytes bytes bytes_are bytes_are refl ∙ none_behind (bit_xor first second * 2 ^ k) (number_of bytes) in
-    no_burst (bit_xor first second * 2 ^ k) (subst IsMultiple changed (sum_of_multiples (number_of (first ∷ bytes)) (number_of (second ∷ bytes)) one two))
+    firsts_differ first second bytes bytes bytes_are bytes_are refl
+    ∙ none_behind (bit_xor first second * 2 ^ k) (number_of bytes) in
+    no_burst (bit_xor first second * 2 ^ k)
+    (subst IsMultiple changed (sum_of_multiples (number_of (first ∷ bytes)) (number_of (second ∷ bytes)) one two))
     (record {
       burst = bit_xor first second;
       place = k;
       some = λ none. differ (same_from_xor first second none);
-      short = xor_lt 8 first second (address_byte_small address direction small) (address_byte_small other other_direction other_small);
+      short = xor_lt 8 first second (address_byte_small address direction small)
+          (address_byte_small other other_direction other_small);
       placed = refl;
     }) in
-    let other_sum : crc (second ∷ front bytes) ≡ crc (second ∷ packet) = ap (λ p. crc (second ∷ p)) (front-append packet sum) in
+    let other_sum : crc (second ∷ front bytes) ≡ crc (second ∷ packet) =
+    ap (λ p. crc (second ∷ p)) (front-append packet sum) in
     let enough = enough_bytes address direction packet framed.0 in
-    let wrong : (last bytes == crc (second ∷ front bytes)) ≡ false = ne_eqb (last bytes) (crc (second ∷ front bytes)) (λ e. apart (sym other_sum ∙ sym e ∙ last-append packet sum)) in
+    let wrong : (last bytes == crc (second ∷ front bytes)) ≡ false =
+    ne_eqb (last bytes) (crc (second ∷ front bytes)) (λ e. apart (sym other_sum ∙ sym e ∙ last-append packet sum)) in
     simp (enough, wrong) refl

@@ -1,5 +1,7 @@
 -- Checks that all pass, and bytes with one more behind them.
-use Rattle.std.proofs.Common.{◌≡◌, ℕ, zero, suc, ◌+◌, ◌-◌, ◌<◌, Bool, true, false, List, [], ◌∷◌, ◌++◌, length, take, slice_index, Option, Some, None, Result, Ok, Err, IsErr, refl, sym, ap, subst, ◌∙◌, arith, inl, inr, length-append}
+use Rattle.std.proofs.Common.{◌≡◌, ℕ, zero, suc, ◌+◌, ◌-◌, ◌<◌, Bool, true, false, List, [], ◌∷◌, ◌++◌}
+use Rattle.std.proofs.Common.{length, take, slice_index, Option, Some, None, Result, Ok, Err, IsErr, refl}
+use Rattle.std.proofs.Common.{sym, ap, subst, ◌∙◌, arith, inl, inr, length-append}
 use Rattle.std.proofs.lemmas.Bool.{cases_lt}
 use Rattle.std.proofs.lemmas.List.{take_more, get_or_append_left, get_or_past}
 use Rattle.std.proofs.Math.Seq.{take-append_seam, take-length, get_or-append_seam}
@@ -42,10 +44,12 @@ before_last : (bytes : List ℕ) (byte : ℕ) → length (bytes ++ byte ∷ []) 
 before_last bytes byte = ap (λ n. n - 1) (length-append bytes (byte ∷ [])) ∙ count_before (length bytes)
 
 pub front-append : (bytes : List ℕ) (byte : ℕ) → front (bytes ++ byte ∷ []) ≡ bytes
-front-append bytes byte = ap (λ n. take n (bytes ++ byte ∷ [])) (before_last bytes byte) ∙ take-append_seam bytes (byte ∷ [])
+front-append bytes byte =
+    ap (λ n. take n (bytes ++ byte ∷ [])) (before_last bytes byte) ∙ take-append_seam bytes (byte ∷ [])
 
 pub last-append : (bytes : List ℕ) (byte : ℕ) → last (bytes ++ byte ∷ []) ≡ byte
-last-append bytes byte = ap (slice_index (bytes ++ byte ∷ [])) (before_last bytes byte) ∙ get_or-append_seam bytes byte [] 0
+last-append bytes byte =
+    ap (slice_index (bytes ++ byte ∷ [])) (before_last bytes byte) ∙ get_or-append_seam bytes byte [] 0
 
 -- a list of some bytes is all but the last, and that one
 pub front_and_last : (bytes : List ℕ) → 0 < length bytes → bytes ≡ front bytes ++ last bytes ∷ []

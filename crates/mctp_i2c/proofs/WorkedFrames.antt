@@ -18,11 +18,13 @@ a_frame : smbus.frame 0x10 0x1D a_packet ≡ 0x3A ∷ 0x0F ∷ 0x09 ∷ 0x21 ∷
 unfolding crc
 a_frame = refl
 
-read_back : smbus_readings.reading 0x1D (0x3A ∷ 0x0F ∷ 0x09 ∷ 0x21 ∷ a_packet ++ 0xCA ∷ []) ≡ Ok (smbus_readings.received 0x10 a_packet)
+read_back : smbus_readings.reading 0x1D (0x3A ∷ 0x0F ∷ 0x09 ∷ 0x21 ∷ a_packet ++ 0xCA ∷ [])
+    ≡ Ok (smbus_readings.received 0x10 a_packet)
 unfolding crc
 read_back = refl
 
-a_packet_of_one_byte : smbus_readings.reading 0x1D (0x3A ∷ 0x0F ∷ 0x02 ∷ 0x21 ∷ 0xAA ∷ 0x6B ∷ []) ≡ Ok (smbus_readings.received 0x10 (0xAA ∷ []))
+a_packet_of_one_byte : smbus_readings.reading 0x1D (0x3A ∷ 0x0F ∷ 0x02 ∷ 0x21 ∷ 0xAA ∷ 0x6B ∷ [])
+    ≡ Ok (smbus_readings.received 0x10 (0xAA ∷ []))
 unfolding crc
 a_packet_of_one_byte = refl
 
@@ -36,22 +38,27 @@ to_another = refl
 a_read : smbus_readings.reading 0x1D (0x3B ∷ 0x0F ∷ 0x09 ∷ 0x21 ∷ a_packet ++ 0xCA ∷ []) ≡ Err faults.NotOurs
 a_read = refl
 
-another_command : smbus_readings.reading 0x1D (0x3A ∷ 0x0E ∷ 0x09 ∷ 0x21 ∷ a_packet ++ 0xD5 ∷ []) ≡ Err faults.OtherCommand
+another_command : smbus_readings.reading 0x1D (0x3A ∷ 0x0E ∷ 0x09 ∷ 0x21 ∷ a_packet ++ 0xD5 ∷ [])
+    ≡ Err faults.OtherCommand
 another_command = refl
 
-a_count_of_one_more : smbus_readings.reading 0x1D (0x3A ∷ 0x0F ∷ 0x0A ∷ 0x21 ∷ a_packet ++ 0x72 ∷ []) ≡ Err faults.WrongCount
+a_count_of_one_more : smbus_readings.reading 0x1D (0x3A ∷ 0x0F ∷ 0x0A ∷ 0x21 ∷ a_packet ++ 0x72 ∷ [])
+    ≡ Err faults.WrongCount
 a_count_of_one_more = refl
 
-a_count_of_one_less : smbus_readings.reading 0x1D (0x3A ∷ 0x0F ∷ 0x08 ∷ 0x21 ∷ a_packet ++ 0xA2 ∷ []) ≡ Err faults.WrongCount
+a_count_of_one_less : smbus_readings.reading 0x1D (0x3A ∷ 0x0F ∷ 0x08 ∷ 0x21 ∷ a_packet ++ 0xA2 ∷ [])
+    ≡ Err faults.WrongCount
 a_count_of_one_less = refl
 
 a_clear_bit : smbus_readings.reading 0x1D (0x3A ∷ 0x0F ∷ 0x09 ∷ 0x20 ∷ a_packet ++ 0xB3 ∷ []) ≡ Err faults.NotSource
 a_clear_bit = refl
 
-a_reserved_source : smbus_readings.reading 0x1D (0x3A ∷ 0x0F ∷ 0x09 ∷ 0x0F ∷ a_packet ++ 0x17 ∷ []) ≡ Err faults.NotSource
+a_reserved_source : smbus_readings.reading 0x1D (0x3A ∷ 0x0F ∷ 0x09 ∷ 0x0F ∷ a_packet ++ 0x17 ∷ [])
+    ≡ Err faults.NotSource
 a_reserved_source = refl
 
-the_pec_without_the_address : smbus_readings.reading 0x1D (0x3A ∷ 0x0F ∷ 0x09 ∷ 0x21 ∷ a_packet ++ 0xCC ∷ []) ≡ Err faults.WrongPec
+the_pec_without_the_address : smbus_readings.reading 0x1D (0x3A ∷ 0x0F ∷ 0x09 ∷ 0x21 ∷ a_packet ++ 0xCC ∷ [])
+    ≡ Err faults.WrongPec
 unfolding crc
 the_pec_without_the_address = refl
 
@@ -71,7 +78,8 @@ the_other_way : i3c_readings.reading 0x30 Read (a_packet ++ 0x2B ∷ []) ≡ Err
 unfolding crc
 the_other_way = refl
 
-a_header_alone : i3c_readings.reading 0x30 Write (0x01 ∷ 0x09 ∷ 0x08 ∷ 0xC8 ∷ 0x5E ∷ []) ≡ Ok (0x01 ∷ 0x09 ∷ 0x08 ∷ 0xC8 ∷ [])
+a_header_alone : i3c_readings.reading 0x30 Write (0x01 ∷ 0x09 ∷ 0x08 ∷ 0xC8 ∷ 0x5E ∷ [])
+    ≡ Ok (0x01 ∷ 0x09 ∷ 0x08 ∷ 0xC8 ∷ [])
 unfolding crc
 a_header_alone = refl
 

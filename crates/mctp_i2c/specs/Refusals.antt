@@ -1,5 +1,6 @@
 -- The first of some checks that fails, and the bytes before a PEC.
-use Rattle.std.specs.Prelude.{ℕ, ◌-◌, Bool, List, [], ◌∷◌, length, take, slice_index, Option, Some, None, Result, Ok, Err, if◌then◌else◌}
+use Rattle.std.specs.Prelude.{ℕ, ◌-◌, Bool, List, [], ◌∷◌, length, take, slice_index, Option, Some, None}
+use Rattle.std.specs.Prelude.{Result, Ok, Err, if◌then◌else◌}
 
 abbrev pub first_failing : {F : Type 0} → List (Bool × F) → Option F
 first_failing [] = None

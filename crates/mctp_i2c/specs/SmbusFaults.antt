@@ -1,7 +1,8 @@
 -- The numbers and names of the faults of a frame on SMBus.
 use Rattle.std.specs.Prelude.{ℕ, List, codes}
 use Rattle.mctp_i2c.specs.declared.smbus.FrameFault.{FrameFault}
-use Rattle.mctp_i2c.specs.declared.smbus.FrameFault.TheVariants.{Short, NotOurs, OtherCommand, WrongCount, NotSource, WrongPec}
+use Rattle.mctp_i2c.specs.declared.smbus.FrameFault.TheVariants.{Short, NotOurs, OtherCommand, WrongCount}
+use Rattle.mctp_i2c.specs.declared.smbus.FrameFault.TheVariants.{NotSource, WrongPec}
 
 abbrev pub number_of : FrameFault → ℕ
 number_of Short = 1

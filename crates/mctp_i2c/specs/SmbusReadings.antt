@@ -1,5 +1,7 @@
 -- What bytes on SMBus are read as, by a device of the address `own`.
-use Rattle.std.specs.Prelude.{◌≡◌, ℕ, ◌-◌, ◌*◌, ◌/◌, ◌%◌, ◌≤◌, Bool, not, ◌&&◌, ◌==◌, nat_lt, nat_le, List, [], ◌∷◌, length, drop, slice_index, Option, Some, None, Result, is_some, if◌then◌else◌}
+use Rattle.std.specs.Prelude.{◌≡◌, ℕ, ◌-◌, ◌*◌, ◌/◌, ◌%◌, ◌≤◌, Bool, not, ◌&&◌, ◌==◌, nat_lt, nat_le, List}
+use Rattle.std.specs.Prelude.{[], ◌∷◌, length, drop, slice_index, Option, Some, None, Result, is_some}
+use Rattle.std.specs.Prelude.{if◌then◌else◌}
 use Rattle.pldm_wire.specs.Crc.{crc}
 use Rattle.mctp_i2c.specs.Addresses.{IsSmbusAddress}
 use Rattle.mctp_i2c.specs.Refusals.{first_failing, unless, front, last}
@@ -7,7 +9,8 @@ use Rattle.mctp_i2c.specs.SmbusFrames.{frame}
 use Rattle.mctp_i2c.specs.declared.TheConstants.{MIN_SMBUS_ADDRESS, MAX_SMBUS_ADDRESS}
 use Rattle.mctp_i2c.specs.declared.smbus.TheConstants.{COMMAND_CODE, FRAME_HEADER, MIN_FRAME_BYTES}
 use Rattle.mctp_i2c.specs.declared.smbus.FrameFault.{FrameFault}
-use Rattle.mctp_i2c.specs.declared.smbus.FrameFault.TheVariants.{Short, NotOurs, OtherCommand, WrongCount, NotSource, WrongPec}
+use Rattle.mctp_i2c.specs.declared.smbus.FrameFault.TheVariants.{Short, NotOurs, OtherCommand, WrongCount}
+use Rattle.mctp_i2c.specs.declared.smbus.FrameFault.TheVariants.{NotSource, WrongPec}
 
 -- where a packet comes from, and its bytes
 pub record Received : Type 0 where

@@ -1,7 +1,9 @@
 //! Laws over the definitions alone: each is the contract of a function that does nothing.
 
-ghost use Rattle.mctp_i2c.specs.Laws.{SmbusReadsBack, SmbusOnlyFramesAreRead, SmbusBurstsAreSeen, SmbusTwoBitsAreSeen};
-ghost use Rattle.mctp_i2c.specs.Laws.{I3cReadsBack, I3cOnlyFramesAreRead, I3cBurstsAreSeen, I3cTwoBitsAreSeen, I3cOthersAreRefused};
+ghost use Rattle.mctp_i2c.specs.Laws.{SmbusReadsBack, SmbusOnlyFramesAreRead, SmbusBurstsAreSeen};
+ghost use Rattle.mctp_i2c.specs.Laws.{SmbusTwoBitsAreSeen};
+ghost use Rattle.mctp_i2c.specs.Laws.{I3cReadsBack, I3cOnlyFramesAreRead, I3cBurstsAreSeen};
+ghost use Rattle.mctp_i2c.specs.Laws.{I3cTwoBitsAreSeen, I3cOthersAreRefused};
 
 /// What is framed on SMBus is read back, by the device that it is framed for, and only frames are read.
 pub fn smbus_frames_read_back()

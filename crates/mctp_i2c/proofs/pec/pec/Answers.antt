@@ -14,4 +14,5 @@ loop-byte-preserved c =
 pub returns : goal.returns
 returns c =
     let whole = rw (take_all c.loop-byte.byte-index c.args.bytes.now c.loop-byte-test.false) at c.loop-byte.invariant in
-    only_crc (c.args.address ∷ c.args.bytes.now) c.loop-byte.checksum (first_too c.args.address c.args.bytes.now (omega arith) (λ i. omega (arith, c.type_inv.bytes i))) whole
+    only_crc (c.args.address ∷ c.args.bytes.now) c.loop-byte.checksum
+    (first_too c.args.address c.args.bytes.now (omega arith) (λ i. omega (arith, c.type_inv.bytes i))) whole
