@@ -1,0 +1,12 @@
+pub mod Addresses
+pub mod Packets
+pub mod Pecs
+pub mod Refusals
+pub mod SmbusFaults
+pub mod SmbusFrames
+pub mod SmbusReadings
+pub mod I3cFaults
+pub mod I3cFrames
+pub mod I3cReadings
+pub mod Changes
+pub mod Laws
