@@ -387,7 +387,7 @@ enum needleoat_refusal {
     NEEDLEOAT_ID_IN_USE = 12,        /* the request 32 before was opened less than twice keep_ms ago */
     NEEDLEOAT_NOT_A_COMMAND = 13,    /* the bytes are no request that carries a command */
     NEEDLEOAT_TOO_MANY_SOURCES = 14, /* of a packet: as many sources have room for answers as may have */
-    NEEDLEOAT_TOO_MANY_OPEN_MESSAGES = 15 /* of a packet: as many messages of several packets are open as may be */
+    NEEDLEOAT_TOO_MANY_OPEN_MESSAGES = 15 /* of a packet: it begins a message of several packets, and none may be open */
 };
 
 /* ---- The answering end ----
@@ -425,7 +425,8 @@ struct needleoat_endpoint_settings {
     bool first_start;          /* true only where this endpoint never ran before */
     uint32_t keep_ms;          /* how long an answer is kept for copies, 1 to 60,000 */
     uint32_t sources;          /* how many other endpoints have room for answers at most, 32 for each */
-    uint32_t open_messages;    /* how many messages of several packets have begun and not ended at most */
+    uint32_t open_messages;    /* how many messages of several packets have begun and not ended at most; for one more the
+                                  oldest ends */
     uint32_t pending_commands; /* how many commands are pending at most; with 0 none is ever performed */
 };
 
@@ -476,7 +477,7 @@ struct needleoat_step {
  *
  *    3  there is nothing behind the handle
  *    2  the moment may not come next
- *   15  the packet begins a message of several, none of its source and tag is open, and `open_messages` are
+ *   15  the packet begins a message of several, and `open_messages` is 0
  *    8  it completes the very request whose command is pending
  *    4  it completes another request of the source and instance ID of a pending command
  *    9  it completes a request that is no copy and has a command, and `pending_commands` are pending (or 2^64 - 1
