@@ -1,0 +1,35 @@
+//! Why bytes are no record.
+
+use thiserror::Error;
+
+/// Why bytes are no record of this crate: the first fault, the header's before the fields' in their order.
+#[derive(Clone, Copy, Debug, PartialEq, Eq, Error)]
+pub enum RecordFault {
+    /// They are fewer than a header's, or the header counts fewer or more after it.
+    #[error("the record has the wrong length")]
+    Length,
+    /// The header's version is not 1.
+    #[error("the record's header has another version")]
+    Version,
+    /// The record's type is none of those that are read here.
+    #[error("the record has a type that is not read")]
+    Type,
+    /// The bytes end before a field does.
+    #[error("the record ends within a field")]
+    Short,
+    /// A byte that says no or yes is neither 0 nor 1.
+    #[error("a flag of the record is neither 0 nor 1")]
+    Flag,
+    /// The terminus is not located by an MCTP endpoint ID of one byte.
+    #[error("the terminus is located by another address")]
+    Locator,
+    /// A data size has no such value.
+    #[error("the record has a data size with a wrong value")]
+    Size,
+    /// A range field format has no such value.
+    #[error("the record has a range field format with a wrong value")]
+    Format,
+    /// Bytes are left over after the last field.
+    #[error("the record has bytes after its last field")]
+    LeftOver,
+}

@@ -1,0 +1,27 @@
+//! Numbers that the standard gives for records.
+
+use pldm_wire::MAX_PART_BYTES;
+
+/// The bytes of a record's header (DSP0248, "Common PDR format").
+pub const RECORD_HEADER: usize = 10;
+
+/// The most bytes of a record: as many as one GetPDR answer carries.
+pub const MAX_RECORD_BYTES: usize = MAX_PART_BYTES;
+
+/// The most bytes of a record after its header.
+pub const MAX_DATA_BYTES: usize = MAX_RECORD_BYTES - RECORD_HEADER;
+
+/// The version of a record's header (DSP0248, "PDRHeaderVersion").
+pub const HEADER_VERSION: u8 = 1;
+
+/// The type of a terminus locator record (DSP0248, "PDR type values").
+pub const TERMINUS_LOCATOR: u8 = 1;
+
+/// The type of a numeric sensor record (DSP0248, "PDR type values").
+pub const NUMERIC_SENSOR: u8 = 2;
+
+/// The locator type of an MCTP endpoint ID (DSP0248, "terminusLocatorType").
+pub const MCTP_EID: u8 = 1;
+
+/// The bytes of the locator value that is an MCTP endpoint ID (DSP0248, "terminusLocatorValueSize").
+pub const EID_BYTES: u8 = 1;
