@@ -4,3 +4,4 @@ pub mod Entities
 pub mod Measures
 pub mod TerminusLocators
 pub mod NumericSensors
+pub mod Records

@@ -1,11 +1,10 @@
 -- The numeric sensor record (DSP0248, "Numeric sensor PDR").
-use Rattle.std.specs.Prelude.{ℕ, Bool, ◌&&◌, IsTrue, List, ◌++◌, Ok}
+use Rattle.std.specs.Prelude.{ℕ, Bool, ◌&&◌, IsTrue, List, [], ◌∷◌, ◌++◌, Ok}
 use Rattle.byteorder.specs.Endian.{little_bytes}
 use Rattle.pldm_wire.specs.Numbers.{IsU8, IsU16, IsU32}
-use Rattle.pldm_wire.specs.Sizes.{fits}
 use Rattle.pldm_pdr.specs.declared.sensor_range.SensorRange.{SensorRange}
 use Rattle.pldm_pdr.specs.declared.numeric_sensor.NumericSensor.{NumericSensor}
-use Rattle.pldm_pdr.specs.Fields.{◌>>=◌, Field, byte, byte_at, flag, flag_at, number_at, sized_bytes, sized_at}
+use Rattle.pldm_pdr.specs.Fields.{◌>>=◌, Field, all_fit, byte, byte_at, flag, flag_at, number_at, sized_bytes, sized_at}
 use Rattle.pldm_pdr.specs.Entities.{entity_bytes, IsEntity, entity_at}
 use Rattle.pldm_pdr.specs.Measures.{units_bytes, IsUnits, units_at, conversion_bytes, IsConversion, conversion_at}
 use Rattle.pldm_pdr.specs.RangeFormats.{bits_size, format_code, format_at}
@@ -23,10 +22,9 @@ sensor_range_bytes range =
 -- whether the fields fit the format
 abbrev pub range_fits : SensorRange → Bool
 range_fits range =
-    let size = bits_size range.format in
-    fits size range.nominal && fits size range.normal_max && fits size range.normal_min
-    && fits size range.warning_high && fits size range.warning_low && fits size range.critical_high
-    && fits size range.critical_low && fits size range.fatal_high && fits size range.fatal_low
+    all_fit (bits_size range.format)
+    (range.nominal ∷ range.normal_max ∷ range.normal_min ∷ range.warning_high ∷ range.warning_low
+    ∷ range.critical_high ∷ range.critical_low ∷ range.fatal_high ∷ range.fatal_low ∷ [])
 
 unfoldable pub sensor_range_at : List ℕ → Field SensorRange
 sensor_range_at bytes = do
@@ -69,8 +67,7 @@ numeric_sensor_bytes sensor =
 -- whether the numbers fit the data size, and the range fields their format
 abbrev pub numeric_sensor_fits : NumericSensor → Bool
 numeric_sensor_fits sensor =
-    let size = sensor.conversion.size in
-    fits size sensor.hysteresis && fits size sensor.max_readable && fits size sensor.min_readable
+    all_fit sensor.conversion.size (sensor.hysteresis ∷ sensor.max_readable ∷ sensor.min_readable ∷ [])
     && range_fits sensor.range
 
 abbrev pub IsNumericSensor : NumericSensor → Type 0

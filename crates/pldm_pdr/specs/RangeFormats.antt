@@ -22,6 +22,6 @@ abbrev pub format_or : Option Size → List ℕ → Field RangeFormat
 format_or None rest = Err Format
 format_or (Some size) rest = Ok (Number size, rest)
 
-abbrev pub format_at : List ℕ → Field RangeFormat
+unfoldable pub format_at : List ℕ → Field RangeFormat
 format_at [] = Err Short
 format_at (b ∷ rest) = if b == 6 then Ok (Real32, rest) else format_or (size_of b) rest

@@ -13,7 +13,7 @@ pub enum RecordFault {
     Version,
     /// The record's type is none of those that are read here.
     #[error("the record has a type that is not read")]
-    Type,
+    OtherType,
     /// The bytes end before a field does.
     #[error("the record ends within a field")]
     Short,

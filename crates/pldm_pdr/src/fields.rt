@@ -12,6 +12,7 @@ use byteorder::{ByteOrder, LittleEndian};
 use pldm_wire::Size;
 
 /// A byte.
+#[tactic(auto, unfolding(crate::specs::Fields::byte_at))]
 pub(crate) fn byte_in(bytes: &[u8]) -> Result<(u8, &[u8]), RecordFault>
     ensures { Gives (λ x. (x.0, x.1.now)) result (byte_at bytes.now) }
 {
@@ -22,6 +23,7 @@ pub(crate) fn byte_in(bytes: &[u8]) -> Result<(u8, &[u8]), RecordFault>
 }
 
 /// A byte in two's complement.
+#[tactic(auto, unfolding(crate::specs::Fields::signed_byte_at))]
 pub(crate) fn signed_byte_in(bytes: &[u8]) -> Result<(i8, &[u8]), RecordFault>
     ensures { Gives (λ x. (x.0, x.1.now)) result (signed_byte_at bytes.now) }
 {
@@ -32,6 +34,7 @@ pub(crate) fn signed_byte_in(bytes: &[u8]) -> Result<(i8, &[u8]), RecordFault>
 }
 
 /// A byte that says no or yes.
+#[tactic(auto, unfolding(crate::specs::Fields::flag_at))]
 pub(crate) fn flag_in(bytes: &[u8]) -> Result<(bool, &[u8]), RecordFault>
     ensures { Gives (λ x. (x.0, x.1.now)) result (flag_at bytes.now) }
 {
@@ -44,6 +47,7 @@ pub(crate) fn flag_in(bytes: &[u8]) -> Result<(bool, &[u8]), RecordFault>
 }
 
 /// A number of two bytes.
+#[tactic(auto, unfolding(crate::specs::Fields::number_at))]
 pub(crate) fn u16_in(bytes: &[u8]) -> Result<(u16, &[u8]), RecordFault>
     ensures { Gives (λ x. (x.0, x.1.now)) result (number_at 2 bytes.now) }
 {
@@ -55,6 +59,7 @@ pub(crate) fn u16_in(bytes: &[u8]) -> Result<(u16, &[u8]), RecordFault>
 }
 
 /// A number of four bytes.
+#[tactic(auto, unfolding(crate::specs::Fields::number_at))]
 pub(crate) fn u32_in(bytes: &[u8]) -> Result<(u32, &[u8]), RecordFault>
     ensures { Gives (λ x. (x.0, x.1.now)) result (number_at 4 bytes.now) }
 {
@@ -66,6 +71,7 @@ pub(crate) fn u32_in(bytes: &[u8]) -> Result<(u32, &[u8]), RecordFault>
 }
 
 /// The byte of a data size.
+#[tactic(auto, unfolding(crate::specs::Fields::size_at))]
 pub(crate) fn size_in(bytes: &[u8]) -> Result<(Size, &[u8]), RecordFault>
     ensures { Gives (λ x. (x.0, x.1.now)) result (size_at bytes.now) }
 {
@@ -79,6 +85,7 @@ pub(crate) fn size_in(bytes: &[u8]) -> Result<(Size, &[u8]), RecordFault>
 }
 
 /// The byte of a range field format.
+#[tactic(auto, unfolding(crate::specs::RangeFormats::format_at))]
 pub(crate) fn format_in(bytes: &[u8]) -> Result<(RangeFormat, &[u8]), RecordFault>
     ensures { Gives (λ x. (x.0, x.1.now)) result (format_at bytes.now) }
 {
@@ -93,6 +100,7 @@ pub(crate) fn format_in(bytes: &[u8]) -> Result<(RangeFormat, &[u8]), RecordFaul
 }
 
 /// What follows a byte that has to have this value, for this fault else.
+#[tactic(auto, unfolding(crate::specs::Fields::constant_at))]
 pub(crate) fn constant_in(
     fault: RecordFault,
     value: u8,
@@ -108,6 +116,7 @@ pub(crate) fn constant_in(
 }
 
 /// A number in the bytes of this data size.
+#[tactic(auto, unfolding(crate::specs::Fields::sized_at))]
 pub(crate) fn sized_in(size: Size, bytes: &[u8]) -> Result<(i64, &[u8]), RecordFault>
     ensures { Gives (λ x. (x.0, x.1.now)) result (sized_at size bytes.now) }
 {

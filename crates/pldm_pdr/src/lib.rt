@@ -2,25 +2,39 @@
 #![tactic(auto)]
 
 mod conversion;
+mod data;
 mod entity;
 mod fault;
 mod fields;
+mod fitting;
 mod limits;
 mod locator;
 mod locator_reading;
+mod locator_writing;
 mod measures_reading;
+mod measures_writing;
 mod numeric_sensor;
 mod numeric_sensor_reading;
+mod numeric_sensor_writing;
+mod pushes;
 mod range_format;
+mod record;
 mod sensor_range;
 mod units;
+mod writing;
 
 pub use conversion::Conversion;
+pub use data::RecordData;
 pub use entity::Entity;
 pub use fault::RecordFault;
 pub use limits::{MAX_RECORD_BYTES, RECORD_HEADER};
 pub use locator::TerminusLocator;
 pub use numeric_sensor::NumericSensor;
 pub use range_format::RangeFormat;
+pub use record::Record;
 pub use sensor_range::SensorRange;
 pub use units::Units;
+pub use writing::write;
+
+/// The bytes of a record.
+pub type RecordBytes = arrayvec::ArrayVec<u8, MAX_RECORD_BYTES>;

@@ -8,7 +8,7 @@ use crate::limits::{EID_BYTES, MCTP_EID};
 use crate::{RecordFault, TerminusLocator};
 
 /// The fields of a terminus locator record.
-#[tactic(auto, unfolding(crate::specs::TerminusLocators::terminus_locator_at))]
+#[tactic(auto, unfolding(crate::specs::Fields::and_then, crate::specs::TerminusLocators::terminus_locator_at))]
 pub(crate) fn terminus_locator_in(bytes: &[u8]) -> Result<(TerminusLocator, &[u8]), RecordFault>
     ensures { Gives (λ x. (x.0, x.1.now)) result (terminus_locator_at bytes.now) }
 {

@@ -8,7 +8,7 @@ use crate::fields::{byte_in, flag_in, signed_byte_in, size_in, u16_in, u32_in};
 use crate::{Conversion, Entity, RecordFault, Units};
 
 /// The entity of a record.
-#[tactic(auto, unfolding(crate::specs::Entities::entity_at))]
+#[tactic(auto, unfolding(crate::specs::Fields::and_then, crate::specs::Entities::entity_at))]
 pub(crate) fn entity_in(bytes: &[u8]) -> Result<(Entity, &[u8]), RecordFault>
     ensures { Gives (λ x. (x.0, x.1.now)) result (entity_at bytes.now) }
 {
@@ -24,7 +24,7 @@ pub(crate) fn entity_in(bytes: &[u8]) -> Result<(Entity, &[u8]), RecordFault>
 }
 
 /// The units of a numeric sensor or effecter.
-#[tactic(auto, unfolding(crate::specs::Measures::units_at))]
+#[tactic(auto, unfolding(crate::specs::Fields::and_then, crate::specs::Measures::units_at))]
 pub(crate) fn units_in(bytes: &[u8]) -> Result<(Units, &[u8]), RecordFault>
     ensures { Gives (λ x. (x.0, x.1.now)) result (units_at bytes.now) }
 {
@@ -48,7 +48,7 @@ pub(crate) fn units_in(bytes: &[u8]) -> Result<(Units, &[u8]), RecordFault>
 }
 
 /// How numbers become values.
-#[tactic(auto, unfolding(crate::specs::Measures::conversion_at))]
+#[tactic(auto, unfolding(crate::specs::Fields::and_then, crate::specs::Measures::conversion_at))]
 pub(crate) fn conversion_in(bytes: &[u8]) -> Result<(Conversion, &[u8]), RecordFault>
     ensures { Gives (λ x. (x.0, x.1.now)) result (conversion_at bytes.now) }
 {

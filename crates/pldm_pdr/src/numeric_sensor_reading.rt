@@ -8,7 +8,7 @@ use crate::measures_reading::{conversion_in, entity_in, units_in};
 use crate::{NumericSensor, RecordFault, SensorRange};
 
 /// The fields of a numeric sensor record.
-#[tactic(auto, unfolding(crate::specs::NumericSensors::numeric_sensor_at))]
+#[tactic(auto, unfolding(crate::specs::Fields::and_then, crate::specs::NumericSensors::numeric_sensor_at))]
 pub(crate) fn numeric_sensor_in(bytes: &[u8]) -> Result<(NumericSensor, &[u8]), RecordFault>
     ensures { Gives (λ x. (x.0, x.1.now)) result (numeric_sensor_at bytes.now) }
 {
@@ -52,7 +52,7 @@ pub(crate) fn numeric_sensor_in(bytes: &[u8]) -> Result<(NumericSensor, &[u8]), 
 }
 
 /// The normal range and the thresholds.
-#[tactic(auto, unfolding(crate::specs::NumericSensors::sensor_range_at))]
+#[tactic(auto, unfolding(crate::specs::Fields::and_then, crate::specs::NumericSensors::sensor_range_at))]
 fn sensor_range_in(bytes: &[u8]) -> Result<(SensorRange, &[u8]), RecordFault>
     ensures { Gives (λ x. (x.0, x.1.now)) result (sensor_range_at bytes.now) }
 {

@@ -1,0 +1,90 @@
+-- A platform data record: a header, and the data that it counts (DSP0248, "Common PDR format").
+use Rattle.std.specs.Prelude.{◌≡◌, ℕ, ◌+◌, ◌==◌, nat_lt, not, Bool, true, IsTrue, List, ◌++◌, length, drop, slice_index}
+use Rattle.std.specs.Prelude.{Result, Ok, Err, if◌then◌else◌}
+use Rattle.byteorder.specs.Endian.{little_bytes}
+use Rattle.pldm_wire.specs.Numbers.{IsU16, IsU32}
+use Rattle.pldm_wire.specs.Places.{u16_at, u32_at}
+use Rattle.pldm_pdr.specs.declared.limits.TheConstants.{HEADER_VERSION, RECORD_HEADER, TERMINUS_LOCATOR, NUMERIC_SENSOR}
+use Rattle.pldm_pdr.specs.declared.fault.RecordFault.{RecordFault}
+use Rattle.pldm_pdr.specs.declared.fault.RecordFault.TheVariants.{Length, Version, OtherType, LeftOver}
+use Rattle.pldm_pdr.specs.declared.data.RecordData.{RecordData}
+use Rattle.pldm_pdr.specs.declared.data.RecordData.TheVariants.{TerminusLocator, NumericSensor}
+use Rattle.pldm_pdr.specs.Fields.{◌>>=◌, Field, byte}
+use Rattle.pldm_pdr.specs.TerminusLocators.{terminus_locator_bytes, IsTerminusLocator, terminus_locator_at}
+use Rattle.pldm_pdr.specs.NumericSensors.{numeric_sensor_bytes, numeric_sensor_fits, IsNumericSensor, numeric_sensor_at}
+
+pub record PlatformRecord : Type 0 where
+  pub handle : ℕ
+  pub change_number : ℕ
+  pub contents : RecordData
+
+abbrev pub platform_record : ℕ → ℕ → RecordData → PlatformRecord
+platform_record handle change_number contents =
+    record { handle = handle; change_number = change_number; contents = contents }
+
+-- the type of a record
+
+abbrev pub type_of : RecordData → ℕ
+type_of (TerminusLocator locator) = TERMINUS_LOCATOR
+type_of (NumericSensor sensor) = NUMERIC_SENSOR
+
+-- the bytes after the header
+
+abbrev pub data_bytes : RecordData → List ℕ
+data_bytes (TerminusLocator locator) = terminus_locator_bytes locator
+data_bytes (NumericSensor sensor) = numeric_sensor_bytes sensor
+
+-- handle, version, type, change number, and how many bytes follow
+abbrev pub header_bytes : ℕ → ℕ → ℕ → ℕ → List ℕ
+header_bytes handle type_number change_number count =
+    little_bytes 4 handle ++ byte HEADER_VERSION ++ byte type_number ++ little_bytes 2 change_number
+    ++ little_bytes 2 count
+
+abbrev pub bytes_of : PlatformRecord → List ℕ
+bytes_of r =
+    header_bytes r.handle (type_of r.contents) r.change_number (length (data_bytes r.contents)) ++ data_bytes r.contents
+
+-- whether what the data's types leave open fits: numbers their sizes
+
+abbrev pub data_fits : RecordData → Bool
+data_fits (TerminusLocator locator) = true
+data_fits (NumericSensor sensor) = numeric_sensor_fits sensor
+
+-- the ranges of a record's fields
+
+abbrev pub IsData : RecordData → Type 0
+IsData (TerminusLocator locator) = IsTerminusLocator locator
+IsData (NumericSensor sensor) = IsNumericSensor sensor
+
+abbrev pub IsRecord : PlatformRecord → Type 0
+IsRecord r = IsU32 r.handle × IsU16 r.change_number × IsData r.contents
+
+-- the bytes spell the record
+abbrev pub IsRead : List ℕ → PlatformRecord → Type 0
+IsRead bytes r = IsRecord r × (bytes ≡ bytes_of r)
+
+-- the data that stands in the bytes after a header with the type
+abbrev pub data_at : ℕ → List ℕ → Field RecordData
+data_at type_number bytes =
+    if type_number == TERMINUS_LOCATOR then (do
+      locator ← terminus_locator_at bytes
+      Ok (TerminusLocator locator.0, locator.1))
+    else if type_number == NUMERIC_SENSOR then (do
+      sensor ← numeric_sensor_at bytes
+      Ok (NumericSensor sensor.0, sensor.1))
+    else Err OtherType
+
+-- all of the bytes
+abbrev pub whole : {A : Type 0} → Field A → Result A RecordFault
+whole field = field >>= λ x. if length x.1 == 0 then Ok x.0 else Err LeftOver
+
+-- The record that the bytes are, or the first fault: of the length, the version and the type, then of the fields in
+-- their order, then of what is left over.
+abbrev pub record_of : List ℕ → Result PlatformRecord RecordFault
+record_of bytes =
+    if nat_lt (length bytes) RECORD_HEADER then Err Length
+    else if not (length bytes == RECORD_HEADER + u16_at 8 bytes) then Err Length
+    else if not (slice_index bytes 4 == HEADER_VERSION) then Err Version
+    else (do
+      contents ← whole (data_at (slice_index bytes 5) (drop RECORD_HEADER bytes))
+      Ok (platform_record (u32_at 0 bytes) (u16_at 6 bytes) contents))
