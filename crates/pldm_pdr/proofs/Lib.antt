@@ -1,1 +1,12 @@
 pub mod Added
+pub mod Steps
+pub mod Numbers
+pub mod FieldsTaken
+pub mod FieldsAgain
+pub mod FittingTests
+pub mod Regrouped
+pub mod Measures
+pub mod TerminusLocators
+pub mod NumericSensors
+pub mod Lengths
+pub mod Records

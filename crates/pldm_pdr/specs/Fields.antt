@@ -18,6 +18,11 @@ infixl 10 ◌>>=◌
 abbrev pub ◌>>=◌ : {A B : Type 0} → Result A RecordFault → (A → Result B RecordFault) → Result B RecordFault
 r >>= f = and_then r f
 
+-- a fault where the test says so
+unfoldable pub refused : {A : Type 0} → Bool → RecordFault → Result A RecordFault → Result A RecordFault
+refused true fault r = Err fault
+refused false fault r = r
+
 -- a field that is read with the bytes after it
 abbrev pub Field : Type 0 → Type 0
 Field A = Result (A × List ℕ) RecordFault

@@ -1,5 +1,5 @@
 -- The numeric sensor record (DSP0248, "Numeric sensor PDR").
-use Rattle.std.specs.Prelude.{ℕ, Bool, ◌&&◌, IsTrue, List, [], ◌∷◌, ◌++◌, Ok}
+use Rattle.std.specs.Prelude.{ℕ, ℤ, Bool, ◌&&◌, IsTrue, List, [], ◌∷◌, ◌++◌, Ok}
 use Rattle.byteorder.specs.Endian.{little_bytes}
 use Rattle.pldm_wire.specs.Numbers.{IsU8, IsU16, IsU32}
 use Rattle.pldm_pdr.specs.declared.sensor_range.SensorRange.{SensorRange}
@@ -19,12 +19,15 @@ sensor_range_bytes range =
     ++ sized_bytes size range.critical_high ++ sized_bytes size range.critical_low
     ++ sized_bytes size range.fatal_high ++ sized_bytes size range.fatal_low
 
--- whether the fields fit the format
+-- the fields in the format, and whether they fit it
+
+abbrev pub range_fields : SensorRange → List ℤ
+range_fields range =
+    range.nominal ∷ range.normal_max ∷ range.normal_min ∷ range.warning_high ∷ range.warning_low
+    ∷ range.critical_high ∷ range.critical_low ∷ range.fatal_high ∷ range.fatal_low ∷ []
+
 abbrev pub range_fits : SensorRange → Bool
-range_fits range =
-    all_fit (bits_size range.format)
-    (range.nominal ∷ range.normal_max ∷ range.normal_min ∷ range.warning_high ∷ range.warning_low
-    ∷ range.critical_high ∷ range.critical_low ∷ range.fatal_high ∷ range.fatal_low ∷ [])
+range_fits range = all_fit (bits_size range.format) (range_fields range)
 
 unfoldable pub sensor_range_at : List ℕ → Field SensorRange
 sensor_range_at bytes = do
@@ -64,11 +67,13 @@ numeric_sensor_bytes sensor =
     ++ little_bytes 4 sensor.update_interval ++ sized_bytes size sensor.max_readable
     ++ sized_bytes size sensor.min_readable ++ sensor_range_bytes sensor.range
 
--- whether the numbers fit the data size, and the range fields their format
+-- the numbers in the data size; whether they fit it, and the range fields their format
+
+abbrev pub readings : NumericSensor → List ℤ
+readings sensor = sensor.hysteresis ∷ sensor.max_readable ∷ sensor.min_readable ∷ []
+
 abbrev pub numeric_sensor_fits : NumericSensor → Bool
-numeric_sensor_fits sensor =
-    all_fit sensor.conversion.size (sensor.hysteresis ∷ sensor.max_readable ∷ sensor.min_readable ∷ [])
-    && range_fits sensor.range
+numeric_sensor_fits sensor = all_fit sensor.conversion.size (readings sensor) && range_fits sensor.range
 
 abbrev pub IsNumericSensor : NumericSensor → Type 0
 IsNumericSensor sensor =

@@ -1,15 +1,14 @@
 -- A platform data record: a header, and the data that it counts (DSP0248, "Common PDR format").
-use Rattle.std.specs.Prelude.{◌≡◌, ℕ, ◌+◌, ◌==◌, nat_lt, not, Bool, true, IsTrue, List, ◌++◌, length, drop, slice_index}
+use Rattle.std.specs.Prelude.{◌≡◌, ℕ, ◌==◌, nat_lt, not, Bool, true, IsTrue, List, ◌++◌, length}
 use Rattle.std.specs.Prelude.{Result, Ok, Err, if◌then◌else◌}
 use Rattle.byteorder.specs.Endian.{little_bytes}
 use Rattle.pldm_wire.specs.Numbers.{IsU16, IsU32}
-use Rattle.pldm_wire.specs.Places.{u16_at, u32_at}
 use Rattle.pldm_pdr.specs.declared.limits.TheConstants.{HEADER_VERSION, RECORD_HEADER, TERMINUS_LOCATOR, NUMERIC_SENSOR}
 use Rattle.pldm_pdr.specs.declared.fault.RecordFault.{RecordFault}
 use Rattle.pldm_pdr.specs.declared.fault.RecordFault.TheVariants.{Length, Version, OtherType, LeftOver}
 use Rattle.pldm_pdr.specs.declared.data.RecordData.{RecordData}
 use Rattle.pldm_pdr.specs.declared.data.RecordData.TheVariants.{TerminusLocator, NumericSensor}
-use Rattle.pldm_pdr.specs.Fields.{◌>>=◌, Field, byte}
+use Rattle.pldm_pdr.specs.Fields.{◌>>=◌, Field, byte, byte_at, number_at, refused}
 use Rattle.pldm_pdr.specs.TerminusLocators.{terminus_locator_bytes, IsTerminusLocator, terminus_locator_at}
 use Rattle.pldm_pdr.specs.NumericSensors.{numeric_sensor_bytes, numeric_sensor_fits, IsNumericSensor, numeric_sensor_at}
 
@@ -63,28 +62,38 @@ IsRecord r = IsU32 r.handle × IsU16 r.change_number × IsData r.contents
 abbrev pub IsRead : List ℕ → PlatformRecord → Type 0
 IsRead bytes r = IsRecord r × (bytes ≡ bytes_of r)
 
--- the data that stands in the bytes after a header with the type
+-- data of one type, where its fields were read
+abbrev pub as_data : {A : Type 0} → (A → RecordData) → Field A → Field RecordData
+as_data variant field = do
+  x ← field
+  Ok (variant x.0, x.1)
+
+-- the data of a record of this type that stands in the bytes
 abbrev pub data_at : ℕ → List ℕ → Field RecordData
 data_at type_number bytes =
-    if type_number == TERMINUS_LOCATOR then (do
-      locator ← terminus_locator_at bytes
-      Ok (TerminusLocator locator.0, locator.1))
-    else if type_number == NUMERIC_SENSOR then (do
-      sensor ← numeric_sensor_at bytes
-      Ok (NumericSensor sensor.0, sensor.1))
+    if type_number == TERMINUS_LOCATOR then as_data (λ locator. TerminusLocator locator) (terminus_locator_at bytes)
+    else if type_number == NUMERIC_SENSOR then as_data (λ sensor. NumericSensor sensor) (numeric_sensor_at bytes)
     else Err OtherType
 
 -- all of the bytes
 abbrev pub whole : {A : Type 0} → Field A → Result A RecordFault
-whole field = field >>= λ x. if length x.1 == 0 then Ok x.0 else Err LeftOver
+whole field = do
+  x ← field
+  refused (not (length x.1 == 0)) LeftOver (Ok x.0)
+
+-- a header and the data that it counts
+abbrev pub header_at : List ℕ → Result PlatformRecord RecordFault
+header_at bytes = do
+  handle ← number_at 4 bytes
+  version ← byte_at handle.1
+  type_number ← byte_at version.1
+  change_number ← number_at 2 type_number.1
+  count ← number_at 2 change_number.1
+  refused (not (length count.1 == count.0)) Length (refused (not (version.0 == HEADER_VERSION)) Version (do
+    contents ← whole (data_at type_number.0 count.1)
+    Ok (platform_record handle.0 change_number.0 contents)))
 
 -- The record that the bytes are, or the first fault: of the length, the version and the type, then of the fields in
 -- their order, then of what is left over.
 abbrev pub record_of : List ℕ → Result PlatformRecord RecordFault
-record_of bytes =
-    if nat_lt (length bytes) RECORD_HEADER then Err Length
-    else if not (length bytes == RECORD_HEADER + u16_at 8 bytes) then Err Length
-    else if not (slice_index bytes 4 == HEADER_VERSION) then Err Version
-    else (do
-      contents ← whole (data_at (slice_index bytes 5) (drop RECORD_HEADER bytes))
-      Ok (platform_record (u32_at 0 bytes) (u16_at 6 bytes) contents))
+record_of bytes = refused (nat_lt (length bytes) RECORD_HEADER) Length (header_at bytes)

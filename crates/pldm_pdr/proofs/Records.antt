@@ -1,0 +1,118 @@
+-- Records: what is read is what the bytes spell, and what they spell is read.
+use Rattle.std.proofs.Common.{◌≡◌, ℕ, ◌+◌, ◌<◌, ◌≤◌, ◌^◌, ◌==◌, not, Bool, true, false, ltb, List, [], ◌∷◌, ◌++◌, length, Result, Ok, Err, if◌then◌else◌, refl, sym, ap, subst, ◌∙◌, arith, eqb-true, IfOk}
+use Rattle.std.proofs.lemmas.Bool.{le-ltb, eq-eqb}
+use Rattle.std.proofs.lemmas.List.{append-nil, nil_from_length, length-append}
+use Rattle.byteorder.specs.Endian.{little_bytes}
+use Rattle.pldm_pdr.specs.declared.limits.TheConstants.{HEADER_VERSION, RECORD_HEADER, TERMINUS_LOCATOR, NUMERIC_SENSOR}
+use Rattle.pldm_pdr.specs.declared.fault.RecordFault.{RecordFault}
+use Rattle.pldm_pdr.specs.declared.fault.RecordFault.TheVariants.{Length, Version, OtherType, LeftOver}
+use Rattle.pldm_pdr.specs.declared.data.RecordData.{RecordData}
+use Rattle.pldm_pdr.specs.declared.data.RecordData.TheVariants.{TerminusLocator, NumericSensor}
+use Rattle.pldm_pdr.specs.Fields.{and_then, Field, byte, byte_at, number_at, refused}
+use Rattle.pldm_pdr.specs.TerminusLocators.{terminus_locator_at}
+use Rattle.pldm_pdr.specs.NumericSensors.{numeric_sensor_at, numeric_sensor_fits}
+use Rattle.pldm_pdr.specs.Records.{PlatformRecord, platform_record, type_of, data_bytes, data_fits, bytes_of, IsData, IsRecord, IsRead, as_data, data_at, whole, header_at, record_of}
+use Rattle.pldm_pdr.proofs.Steps.{IsBytes, stepped, goes_on, ok_is, Takes, with_next}
+use Rattle.pldm_pdr.proofs.FieldsTaken.{byte_taken, number_taken}
+use Rattle.pldm_pdr.proofs.FieldsAgain.{byte_again, number_again}
+use Rattle.pldm_pdr.proofs.Regrouped.{regroup_5}
+use Rattle.pldm_pdr.proofs.TerminusLocators.{terminus_locator_taken, terminus_locator_again}
+use Rattle.pldm_pdr.proofs.NumericSensors.{numeric_sensor_taken, numeric_sensor_again}
+use Rattle.pldm_pdr.proofs.Lengths.{data_most}
+
+-- what data of a type was taken from
+pub record Found (type_number : ℕ) (bytes : List ℕ) (x : RecordData × List ℕ) : Type 0 where
+  pub is_type : type_number ≡ type_of x.0
+  pub takes : Takes bytes (data_bytes x.0) x.1
+  pub is_data : IsData x.0
+
+-- one of two choices by a test
+chosen : {A P : Type 0} (test : Bool) (a b z : A) → (if test then a else b) ≡ z → (test ≡ true → a ≡ z → P) → (test ≡ false → b ≡ z → P) → P
+chosen true a b z e passing failing = passing refl e
+chosen false a b z e passing failing = failing refl e
+
+-- a refusal that did not come
+went_by : {A P : Type 0} {test : Bool} (fault : RecordFault) {z : Result A RecordFault} {y : A} → refused test fault z ≡ Ok y → (test ≡ false → z ≡ Ok y → P) → P
+unfolding refused
+went_by {test = true} fault e next = absurd cc
+went_by {test = false} fault e next = next refl e
+
+goes_by : {A : Type 0} {test : Bool} (fault : RecordFault) {z y : Result A RecordFault} → test ≡ false → z ≡ y → refused test fault z ≡ y
+unfolding refused
+goes_by {test = true} fault h e = absurd cc
+goes_by {test = false} fault h e = e
+
+pub data_taken : (n : ℕ) (bytes : List ℕ) → IsBytes bytes → (x : RecordData × List ℕ) → data_at n bytes ≡ Ok x → Found n bytes x
+data_taken n bytes small x e =
+    chosen (n == TERMINUS_LOCATOR) (as_data (λ l. TerminusLocator l) (terminus_locator_at bytes)) _ (Ok x) e
+    (λ t e1. stepped e1 (terminus_locator_taken bytes small) (λ y said e2.
+    subst (Found n bytes) (ok_is e2) (record { is_type = eqb-true n TERMINUS_LOCATOR t; takes = said.0; is_data = said.1 })))
+    (λ _ r1. chosen (n == NUMERIC_SENSOR) (as_data (λ s. NumericSensor s) (numeric_sensor_at bytes)) _ (Ok x) r1
+    (λ t e1. stepped e1 (numeric_sensor_taken bytes small) (λ y said e2.
+    subst (Found n bytes) (ok_is e2) (record { is_type = eqb-true n NUMERIC_SENSOR t; takes = said.0; is_data = said.1 })))
+    (λ _ r2. absurd cc))
+
+pub data_again : (contents : RecordData) (rest : List ℕ) → IsData contents → data_at (type_of contents) (data_bytes contents ++ rest) ≡ Ok (contents, rest)
+data_again (TerminusLocator locator) rest ok = goes_on _ (terminus_locator_again locator rest ok) refl
+data_again (NumericSensor sensor) rest ok = goes_on _ (numeric_sensor_again sensor rest ok) refl
+
+-- data in its ranges fits
+pub data_in_range : (contents : RecordData) → IsData contents → data_fits contents ≡ true
+data_in_range (TerminusLocator locator) ok = refl
+data_in_range (NumericSensor sensor) ok = ok.13
+
+not_false : (b : Bool) → not b ≡ false → b ≡ true
+not_false true h = refl
+not_false false h = absurd cc
+
+whole_taken : (n : ℕ) (bytes : List ℕ) → IsBytes bytes → (contents : RecordData) → whole (data_at n bytes) ≡ Ok contents
+    → (n ≡ type_of contents) × (bytes ≡ data_bytes contents) × IsData contents
+whole_taken n bytes small contents e =
+    stepped e (data_taken n bytes small) (λ x found e1.
+    went_by _ e1 (λ t e2.
+    let nothing : x.1 ≡ [] = nil_from_length x.1 (eqb-true _ _ (not_false _ t)) in
+    let all : bytes ≡ data_bytes x.0 = found.takes.parts ∙ ap (λ (r : List ℕ). data_bytes x.0 ++ r) nothing ∙ append-nil (data_bytes x.0) in
+    subst (λ (d : RecordData). (n ≡ type_of d) × (bytes ≡ data_bytes d) × IsData d) (ok_is e2) (found.is_type, all, found.is_data)))
+
+whole_again : (contents : RecordData) → IsData contents → whole (data_at (type_of contents) (data_bytes contents)) ≡ Ok contents
+whole_again contents ok =
+    let again : data_at (type_of contents) (data_bytes contents) ≡ Ok (contents, []) =
+    ap (data_at (type_of contents)) (sym (append-nil (data_bytes contents))) ∙ data_again contents [] ok in
+    goes_on _ again (goes_by _ refl refl)
+
+pub found : (bytes : List ℕ) (r : PlatformRecord) → IsBytes bytes → record_of bytes ≡ Ok r → IsRead bytes r
+found bytes r small e =
+    went_by _ e (λ _ e0.
+    stepped e0 (number_taken 4 bytes small) (λ f1 t1 e1.
+    stepped e1 (byte_taken f1.1 t1.0.small) (λ f2 t2 e2.
+    stepped e2 (byte_taken f2.1 t2.0.small) (λ f3 t3 e3.
+    stepped e3 (number_taken 2 f3.1 t3.0.small) (λ f4 t4 e4.
+    stepped e4 (number_taken 2 f4.1 t4.0.small) (λ f5 t5 e5.
+    went_by _ e5 (λ same e6.
+    went_by _ e6 (λ version e7.
+    stepped e7 (whole_taken f3.0 f5.1 t5.0.small) (λ contents said e8.
+    let count : length (data_bytes contents) ≡ f5.0 = ap length (sym said.1) ∙ eqb-true _ _ (not_false _ same) in
+    let header = (with_next (with_next (with_next (with_next t1.0 t2.0) t3.0) t4.0) t5.0).parts in
+    let whole_is : bytes ≡ bytes_of (platform_record f1.0 f4.0 contents) =
+    header ∙ rw (said.1, eqb-true _ _ (not_false _ version), said.0, count) refl in
+    subst (IsRead bytes) (ok_is e8) ((t1.1, t4.1, said.2), whole_is))))))))))
+
+pub only : (bytes : List ℕ) (r : PlatformRecord) → IsRead bytes r → record_of bytes ≡ Ok r
+only bytes r is =
+    let contents = r.contents in
+    let text = data_bytes contents in
+    let count = length text in
+    let most : count < 256 ^ 2 = omega (arith, data_most contents) in
+    let grouped : bytes_of r ≡ little_bytes 4 r.handle ++ (byte HEADER_VERSION ++ (byte (type_of contents) ++ (little_bytes 2 r.change_number ++ (little_bytes 2 count ++ text)))) =
+    regroup_5 (little_bytes 4 r.handle) (byte HEADER_VERSION) (byte (type_of contents)) (little_bytes 2 r.change_number) (little_bytes 2 count) text in
+    let long : ltb (length (bytes_of r)) RECORD_HEADER ≡ false = le-ltb _ _ (omega arith) in
+    ap record_of is.1
+    ∙ goes_by _ long (ap header_at grouped
+    ∙ goes_on _ (number_again 4 r.handle _ is.0.0) (goes_on _ (byte_again HEADER_VERSION _) (goes_on _ (byte_again (type_of contents) _)
+    (goes_on _ (number_again 2 r.change_number _ is.0.1) (goes_on _ (number_again 2 count _ most)
+    (goes_by _ (ap not (eq-eqb count count refl)) (goes_by _ refl
+    (goes_on _ (whole_again contents is.0.2) refl))))))))
+
+pub is_found : (bytes : List ℕ) (result : Result PlatformRecord RecordFault) → IsBytes bytes → result ≡ record_of bytes → IfOk result (λ r. IsRead bytes r)
+is_found bytes (Ok r) small is = found bytes r small (sym is)
+is_found bytes (Err fault) small is = tt
