@@ -9,4 +9,9 @@ pub mod Measures
 pub mod TerminusLocators
 pub mod NumericSensors
 pub mod Lengths
+pub mod StateSets
+pub mod NumericEffecters
+pub mod StateSensors
+pub mod StateEffecters
 pub mod Records
+pub mod SetsRead

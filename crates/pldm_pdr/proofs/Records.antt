@@ -12,7 +12,7 @@ use Rattle.pldm_pdr.specs.Fields.{and_then, Field, byte, byte_at, number_at, ref
 use Rattle.pldm_pdr.specs.TerminusLocators.{terminus_locator_at}
 use Rattle.pldm_pdr.specs.NumericSensors.{numeric_sensor_at, numeric_sensor_fits}
 use Rattle.pldm_pdr.specs.Records.{PlatformRecord, platform_record, type_of, data_bytes, data_fits, bytes_of, IsData, IsRecord, IsRead, as_data, data_at, whole, header_at, record_of}
-use Rattle.pldm_pdr.proofs.Steps.{IsBytes, stepped, goes_on, ok_is, Takes, with_next}
+use Rattle.pldm_pdr.proofs.Steps.{IsBytes, stepped, goes_on, went_by, goes_by, not_false, ok_is, Takes, with_next}
 use Rattle.pldm_pdr.proofs.FieldsTaken.{byte_taken, number_taken}
 use Rattle.pldm_pdr.proofs.FieldsAgain.{byte_again, number_again}
 use Rattle.pldm_pdr.proofs.Regrouped.{regroup_5}
@@ -30,17 +30,6 @@ pub record Found (type_number : ℕ) (bytes : List ℕ) (x : RecordData × List 
 chosen : {A P : Type 0} (test : Bool) (a b z : A) → (if test then a else b) ≡ z → (test ≡ true → a ≡ z → P) → (test ≡ false → b ≡ z → P) → P
 chosen true a b z e passing failing = passing refl e
 chosen false a b z e passing failing = failing refl e
-
--- a refusal that did not come
-went_by : {A P : Type 0} {test : Bool} (fault : RecordFault) {z : Result A RecordFault} {y : A} → refused test fault z ≡ Ok y → (test ≡ false → z ≡ Ok y → P) → P
-unfolding refused
-went_by {test = true} fault e next = absurd cc
-went_by {test = false} fault e next = next refl e
-
-goes_by : {A : Type 0} {test : Bool} (fault : RecordFault) {z y : Result A RecordFault} → test ≡ false → z ≡ y → refused test fault z ≡ y
-unfolding refused
-goes_by {test = true} fault h e = absurd cc
-goes_by {test = false} fault h e = e
 
 pub data_taken : (n : ℕ) (bytes : List ℕ) → IsBytes bytes → (x : RecordData × List ℕ) → data_at n bytes ≡ Ok x → Found n bytes x
 data_taken n bytes small x e =
@@ -60,10 +49,6 @@ data_again (NumericSensor sensor) rest ok = goes_on _ (numeric_sensor_again sens
 pub data_in_range : (contents : RecordData) → IsData contents → data_fits contents ≡ true
 data_in_range (TerminusLocator locator) ok = refl
 data_in_range (NumericSensor sensor) ok = ok.13
-
-not_false : (b : Bool) → not b ≡ false → b ≡ true
-not_false true h = refl
-not_false false h = absurd cc
 
 whole_taken : (n : ℕ) (bytes : List ℕ) → IsBytes bytes → (contents : RecordData) → whole (data_at n bytes) ≡ Ok contents
     → (n ≡ type_of contents) × (bytes ≡ data_bytes contents) × IsData contents

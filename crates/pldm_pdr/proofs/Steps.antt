@@ -1,8 +1,8 @@
 -- Steps of reading: what is read and taken from the front, and what is read again.
-use Rattle.std.proofs.Common.{◌≡◌, ℕ, suc, ◌<◌, ◌+◌, Bool, true, false, List, [], ◌∷◌, ◌++◌, slice_index, drop, Result, Ok, Err, if◌then◌else◌, refl, ap, ◌∙◌, sym, append_assoc}
+use Rattle.std.proofs.Common.{not, ◌≡◌, ℕ, suc, ◌<◌, ◌+◌, Bool, true, false, List, [], ◌∷◌, ◌++◌, slice_index, drop, Result, Ok, Err, if◌then◌else◌, refl, ap, ◌∙◌, sym, append_assoc}
 use Rattle.std.proofs.lemmas.List.{get_or-drop}
 use Rattle.pldm_pdr.specs.declared.fault.RecordFault.{RecordFault}
-use Rattle.pldm_pdr.specs.Fields.{and_then}
+use Rattle.pldm_pdr.specs.Fields.{and_then, refused}
 
 abbrev pub IsBytes : List ℕ → Type 0
 IsBytes bytes = (i : ℕ) → slice_index bytes i < 256
@@ -23,6 +23,21 @@ stepped {r = Err fault} e said next = absurd cc
 pub goes_on : {A B : Type 0} {r : Result A RecordFault} {x : A} {z : Result B RecordFault} (f : A → Result B RecordFault) → r ≡ Ok x → f x ≡ z → and_then r f ≡ z
 unfolding and_then
 goes_on f e next = ap (λ r. and_then r f) e ∙ next
+
+-- a refusal that did not come
+pub went_by : {A P : Type 0} {test : Bool} (fault : RecordFault) {z : Result A RecordFault} {y : A} → refused test fault z ≡ Ok y → (test ≡ false → z ≡ Ok y → P) → P
+unfolding refused
+went_by {test = true} fault e next = absurd cc
+went_by {test = false} fault e next = next refl e
+
+pub goes_by : {A : Type 0} {test : Bool} (fault : RecordFault) {z y : Result A RecordFault} → test ≡ false → z ≡ y → refused test fault z ≡ y
+unfolding refused
+goes_by {test = true} fault h e = absurd cc
+goes_by {test = false} fault h e = e
+
+pub not_false : (b : Bool) → not b ≡ false → b ≡ true
+not_false true h = refl
+not_false false h = absurd cc
 
 -- a choice by a test that did not fail
 pub passed : {A : Type 0} (b : Bool) (fault : RecordFault) (x y : A) → (if b then Err fault else Ok x) ≡ Ok y → (b ≡ false) × (x ≡ y)

@@ -1,5 +1,5 @@
 -- A field that is read is a value and the bytes after it; or the first fault (DSP0240, "Byte ordering").
-use Rattle.std.specs.Prelude.{◌≡◌, ℕ, ℤ, ◌==◌, nat_lt, Bool, ◌&&◌, true, false, List, [], ◌∷◌, ◌++◌, length, drop}
+use Rattle.std.specs.Prelude.{◌≡◌, ℕ, ℤ, ◌==◌, nat_lt, Bool, ◌&&◌, true, false, List, [], ◌∷◌, ◌++◌, length, take, drop}
 use Rattle.std.specs.Prelude.{Option, Some, None, Result, Ok, Err, if◌then◌else◌}
 use Rattle.std.specs.Int.{w8, cast_signed, cast_unsigned}
 use Rattle.byteorder.specs.Endian.{little_number}
@@ -61,6 +61,10 @@ flag_at (b ∷ rest) = if b == 0 then Ok (false, rest) else if b == 1 then Ok (t
 unfoldable pub number_at : ℕ → List ℕ → Field ℕ
 number_at count bytes =
     if nat_lt (length bytes) count then Err Short else Ok (little_number count bytes, drop count bytes)
+
+-- so many bytes
+unfoldable pub list_at : ℕ → List ℕ → Field (List ℕ)
+list_at count bytes = refused (nat_lt (length bytes) count) Short (Ok (take count bytes, drop count bytes))
 
 -- a number in the bytes of a data size
 abbrev pub sized_bytes : Size → ℤ → List ℕ

@@ -4,4 +4,8 @@ pub mod Entities
 pub mod Measures
 pub mod TerminusLocators
 pub mod NumericSensors
+pub mod StateSets
+pub mod StateSensors
+pub mod NumericEffecters
+pub mod StateEffecters
 pub mod Records

@@ -29,6 +29,12 @@ pub enum RecordFault {
     /// A range field format has no such value.
     #[error("the record has a range field format with a wrong value")]
     Format,
+    /// A composite sensor or effecter has none, or more than eight.
+    #[error("the record has a composite count with a wrong value")]
+    Count,
+    /// The possible states are in no byte, or in more than 32.
+    #[error("the record has a size of possible states with a wrong value")]
+    States,
     /// Bytes are left over after the last field.
     #[error("the record has bytes after its last field")]
     LeftOver,

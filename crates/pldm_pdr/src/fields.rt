@@ -1,11 +1,11 @@
 //! Fields of a record, each read from the front of the bytes that are left.
 
-ghost use Rattle.std.specs.Prelude.{◌≡◌, length};
+ghost use Rattle.std.specs.Prelude.{◌≡◌, length, IfOk};
 ghost use Rattle.byteorder.specs.Endian.{little_number};
 ghost use Rattle.pldm_wire.specs.Numbers.{value_of};
 ghost use Rattle.pldm_wire.specs.Sizes.{width};
 ghost use Rattle.pldm_pdr.specs.RangeFormats.{format_at};
-ghost use Rattle.pldm_pdr.specs.Fields.{Gives, byte_at, constant_at, flag_at, number_at, signed_byte_at, size_at, sized_at};
+ghost use Rattle.pldm_pdr.specs.Fields.{Gives, byte_at, constant_at, flag_at, list_at, number_at, signed_byte_at, size_at, sized_at};
 
 use crate::{RangeFormat, RecordFault};
 use byteorder::{ByteOrder, LittleEndian};
@@ -126,6 +126,18 @@ pub(crate) fn sized_in(size: Size, bytes: &[u8]) -> Result<(i64, &[u8]), RecordF
     }
     let (number, rest) = bytes.split_at(width);
     Ok((value_in(size, number), rest))
+}
+
+/// So many bytes.
+#[tactic(auto, unfolding(crate::specs::Fields::list_at, crate::specs::Fields::refused))]
+pub(crate) fn slice_in(count: usize, bytes: &[u8]) -> Result<(&[u8], &[u8]), RecordFault>
+    ensures read { Gives (λ x. (x.0.now, x.1.now)) result (list_at count bytes.now) }
+    ensures len { IfOk result (λ x. length x.0.now ≡ count) }
+{
+    if bytes.len() < count {
+        return Err(RecordFault::Short);
+    }
+    Ok(bytes.split_at(count))
 }
 
 /// The number of this size that these bytes are.

@@ -1,12 +1,11 @@
 //! Numbers that the standard gives for records.
 
-use pldm_wire::MAX_PART_BYTES;
-
 /// The bytes of a record's header (DSP0248, "Common PDR format").
 pub const RECORD_HEADER: usize = 10;
 
-/// The most bytes of a record: as many as one GetPDR answer carries.
-pub const MAX_RECORD_BYTES: usize = MAX_PART_BYTES;
+/// The most bytes of a record of these types: a state effecter of eight sets of states of 32 bytes each. GetPDR carries
+/// records of up to 65,545 bytes, in parts (DSP0248, "GetPDR command").
+pub const MAX_RECORD_BYTES: usize = 305;
 
 /// The most bytes of a record after its header.
 pub const MAX_DATA_BYTES: usize = MAX_RECORD_BYTES - RECORD_HEADER;
@@ -19,6 +18,12 @@ pub const TERMINUS_LOCATOR: u8 = 1;
 
 /// The type of a numeric sensor record (DSP0248, "PDR type values").
 pub const NUMERIC_SENSOR: u8 = 2;
+
+/// The type of a state sensor record (DSP0248, "PDR type values").
+pub const STATE_SENSOR: u8 = 4;
+
+/// The most bytes in which the possible states of one set are told (DSP0248, "possibleStatesSize").
+pub const MAX_STATE_BYTES: usize = 32;
 
 /// The locator type of an MCTP endpoint ID (DSP0248, "terminusLocatorType").
 pub const MCTP_EID: u8 = 1;
