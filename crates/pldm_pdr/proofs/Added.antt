@@ -1,5 +1,5 @@
 -- Fields that were added one after another.
-use Rattle.std.proofs.Common.{◌≡◌, ℕ, List, ◌++◌, ap, ◌∙◌, append_assoc}
+use Rattle.std.proofs.Common.{ℕ, List, ◌++◌, ap, ◌∙◌, append_assoc}
 use Rattle.pldm_pdr.specs.Fields.{Adds}
 
 -- what was added after what was added

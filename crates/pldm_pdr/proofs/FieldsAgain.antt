@@ -1,16 +1,14 @@
 -- Each field in its range is read again from its bytes, whatever follows it.
-use Rattle.std.proofs.Common.{◌≡◌, ℕ, ℤ, ◌^◌, ◌<◌, ◌≤◌, ◌==◌, Bool, true, false, ltb, List, ◌∷◌, ◌++◌, length, drop, Some, Ok, Err, refl, sym, ap, ◌∙◌, arith, w8, FitsSigned}
+use Rattle.std.proofs.Common.{◌≡◌, ℕ, ℤ, ◌^◌, ◌<◌, Bool, true, false, ltb, List, ◌++◌, length, Ok, refl, ap, arith, w8, FitsSigned}
 use Rattle.std.proofs.lemmas.Int.{to_z-of_z}
 use Rattle.std.proofs.lemmas.Bool.{le-ltb, eq-eqb}
 use Rattle.std.proofs.lemmas.List.{length-append, drop_at}
-use Rattle.std.specs.Int.{cast_signed, cast_unsigned}
 use Rattle.byteorder.specs.Endian.{little_number, little_bytes}
 use Rattle.byteorder.specs.Numbers.{little_number-reads_back, little_from-append, length-bytes_low_first}
 use Rattle.pldm_wire.specs.Sizes.{width, size_code, Fits}
-use Rattle.pldm_wire.specs.Numbers.{sized, value_of}
+use Rattle.pldm_wire.specs.Numbers.{sized}
 use Rattle.pldm_wire.specs.declared.size.Size.{Size}
 use Rattle.pldm_wire.specs.declared.size.Size.TheVariants.{Uint8, Sint8, Uint16, Sint16, Uint32, Sint32}
-use Rattle.pldm_wire.proofs.SizeCodes.{size_of-size_code}
 use Rattle.pldm_wire.proofs.WrittenNumbers.{stands_sized}
 use Rattle.pldm_pdr.specs.declared.fault.RecordFault.{RecordFault}
 use Rattle.pldm_pdr.specs.declared.range_format.RangeFormat.{RangeFormat}

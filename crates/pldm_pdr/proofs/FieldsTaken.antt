@@ -1,5 +1,5 @@
 -- Each field that is read was taken from the front of the bytes, and is in its range.
-use Rattle.std.proofs.Common.{◌≡◌, ℕ, suc, ℤ, ◌^◌, ◌<◌, ◌≤◌, ◌==◌, eqb, Bool, true, false, ltb, List, [], ◌∷◌, ◌++◌, length, take, drop, Option, Some, None, Result, Ok, Err, if◌then◌else◌, refl, sym, ap, subst, ◌∙◌, arith, eqb-true, ltb-false, w8, FitsSigned}
+use Rattle.std.proofs.Common.{◌≡◌, ℕ, ℤ, ◌^◌, ◌<◌, ◌≤◌, ◌==◌, Bool, true, false, ltb, List, [], ◌∷◌, length, take, drop, Option, Some, None, Ok, Err, if◌then◌else◌, refl, sym, ap, subst, ◌∙◌, eqb-true, ltb-false, w8, FitsSigned}
 use Rattle.std.proofs.Math.Facts.{sfits_to_z, Fits-bits}
 use Rattle.std.proofs.lemmas.Int.{of_z-to_z}
 use Rattle.std.proofs.lemmas.List.{take-append-drop}
@@ -12,9 +12,9 @@ use Rattle.pldm_wire.specs.declared.size.Size.{Size}
 use Rattle.pldm_wire.proofs.SizeCodes.{code_from_size}
 use Rattle.pldm_wire.proofs.NumberRanges.{value_fits}
 use Rattle.pldm_pdr.specs.declared.fault.RecordFault.{RecordFault}
-use Rattle.pldm_pdr.specs.declared.fault.RecordFault.TheVariants.{Short, Flag, Format}
+use Rattle.pldm_pdr.specs.declared.fault.RecordFault.TheVariants.{Short, Flag}
 use Rattle.pldm_pdr.specs.declared.range_format.RangeFormat.{RangeFormat}
-use Rattle.pldm_pdr.specs.declared.range_format.RangeFormat.TheVariants.{Number, Real32}
+use Rattle.pldm_pdr.specs.declared.range_format.RangeFormat.TheVariants.{Real32}
 use Rattle.pldm_pdr.specs.Fields.{byte, byte_at, signed_byte, signed_byte_at, flag, flag_at, number_at, sized_bytes, sized_at, size_or, size_at, constant_at}
 use Rattle.pldm_pdr.specs.RangeFormats.{format_code, format_or, format_at}
 use Rattle.pldm_pdr.proofs.Steps.{IsBytes, bytes_dropped, bytes_after, passed, allowed, ok_is, Takes}

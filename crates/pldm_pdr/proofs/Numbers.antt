@@ -1,12 +1,12 @@
 -- Numbers as bytes: what is read of bytes is written as them.
-use Rattle.std.proofs.Common.{◌≡◌, ℕ, zero, suc, ◌+◌, ◌*◌, ◌^◌, ◌/◌, ◌%◌, ◌<◌, ◌≤◌, ℤ, pos, ◌-ℤ◌, Bool, true, false, ltb, List, [], ◌∷◌, length, take, drop, slice_index, refl, sym, ap, ◌∙◌, arith, ltb-true, ltb-false, w64}
+use Rattle.std.proofs.Common.{◌≡◌, ℕ, zero, suc, ◌+◌, ◌*◌, ◌^◌, ◌/◌, ◌%◌, ◌<◌, ◌≤◌, pos, ◌-ℤ◌, ltb, List, [], ◌∷◌, length, take, refl, sym, ap, ◌∙◌, arith, ltb-true, ltb-false, w64}
 use Rattle.std.proofs.Math.Nat.{div-div-eq-div-mul, pow-succ'}
 use Rattle.std.proofs.lemmas.Bool.{cond_both}
 use Rattle.std.proofs.lemmas.Int.{ints}
 use Rattle.std.specs.Int.{byte_at, bytes_low_first}
-use Rattle.byteorder.specs.Endian.{little_from, little_number, little_bytes, low_bytes}
+use Rattle.byteorder.specs.Endian.{little_number, little_bytes, low_bytes}
 use Rattle.byteorder.specs.Numbers.{little_from-cons}
-use Rattle.pldm_wire.specs.Sizes.{width, Fits}
+use Rattle.pldm_wire.specs.Sizes.{width}
 use Rattle.pldm_wire.specs.Numbers.{value_of}
 use Rattle.pldm_wire.specs.declared.size.Size.{Size}
 use Rattle.pldm_wire.specs.declared.size.Size.TheVariants.{Uint8, Sint8, Uint16, Sint16, Uint32, Sint32}

@@ -1,16 +1,18 @@
 -- Records: what is read is what the bytes spell, and what they spell is read.
-use Rattle.std.proofs.Common.{◌≡◌, ℕ, ◌+◌, ◌<◌, ◌≤◌, ◌^◌, ◌==◌, not, Bool, true, false, ltb, List, [], ◌∷◌, ◌++◌, length, Result, Ok, Err, if◌then◌else◌, refl, sym, ap, subst, ◌∙◌, arith, eqb-true, IfOk}
+use Rattle.std.proofs.Common.{◌≡◌, ℕ, ◌<◌, ◌≤◌, ◌^◌, ◌==◌, not, Bool, true, false, ltb, List, [], ◌++◌, length, Result, Ok, Err, if◌then◌else◌, refl, sym, ap, subst, ◌∙◌, arith, eqb-true, IfOk}
 use Rattle.std.proofs.lemmas.Bool.{le-ltb, eq-eqb}
-use Rattle.std.proofs.lemmas.List.{append-nil, nil_from_length, length-append}
+use Rattle.std.proofs.lemmas.List.{append-nil, nil_from_length}
 use Rattle.byteorder.specs.Endian.{little_bytes}
-use Rattle.pldm_pdr.specs.declared.limits.TheConstants.{HEADER_VERSION, RECORD_HEADER, TERMINUS_LOCATOR, NUMERIC_SENSOR}
+use Rattle.pldm_pdr.specs.declared.limits.TheConstants.{HEADER_VERSION, RECORD_HEADER, MAX_RECORD_BYTES, TERMINUS_LOCATOR, NUMERIC_SENSOR, STATE_SENSOR, NUMERIC_EFFECTER, STATE_EFFECTER}
 use Rattle.pldm_pdr.specs.declared.fault.RecordFault.{RecordFault}
-use Rattle.pldm_pdr.specs.declared.fault.RecordFault.TheVariants.{Length, Version, OtherType, LeftOver}
 use Rattle.pldm_pdr.specs.declared.data.RecordData.{RecordData}
-use Rattle.pldm_pdr.specs.declared.data.RecordData.TheVariants.{TerminusLocator, NumericSensor}
-use Rattle.pldm_pdr.specs.Fields.{and_then, Field, byte, byte_at, number_at, refused}
+use Rattle.pldm_pdr.specs.declared.data.RecordData.TheVariants.{TerminusLocator, NumericSensor, StateSensor, NumericEffecter, StateEffecter}
+use Rattle.pldm_pdr.specs.Fields.{byte}
 use Rattle.pldm_pdr.specs.TerminusLocators.{terminus_locator_at}
-use Rattle.pldm_pdr.specs.NumericSensors.{numeric_sensor_at, numeric_sensor_fits}
+use Rattle.pldm_pdr.specs.NumericSensors.{numeric_sensor_at}
+use Rattle.pldm_pdr.specs.StateSensors.{state_sensor_at}
+use Rattle.pldm_pdr.specs.NumericEffecters.{numeric_effecter_at}
+use Rattle.pldm_pdr.specs.StateEffecters.{state_effecter_at}
 use Rattle.pldm_pdr.specs.Records.{PlatformRecord, platform_record, type_of, data_bytes, data_fits, bytes_of, IsData, IsRecord, IsRead, as_data, data_at, whole, header_at, record_of}
 use Rattle.pldm_pdr.proofs.Steps.{IsBytes, stepped, goes_on, went_by, goes_by, not_false, ok_is, Takes, with_next}
 use Rattle.pldm_pdr.proofs.FieldsTaken.{byte_taken, number_taken}
@@ -18,6 +20,9 @@ use Rattle.pldm_pdr.proofs.FieldsAgain.{byte_again, number_again}
 use Rattle.pldm_pdr.proofs.Regrouped.{regroup_5}
 use Rattle.pldm_pdr.proofs.TerminusLocators.{terminus_locator_taken, terminus_locator_again}
 use Rattle.pldm_pdr.proofs.NumericSensors.{numeric_sensor_taken, numeric_sensor_again}
+use Rattle.pldm_pdr.proofs.StateSensors.{state_sensor_taken, state_sensor_again}
+use Rattle.pldm_pdr.proofs.NumericEffecters.{numeric_effecter_taken, numeric_effecter_again}
+use Rattle.pldm_pdr.proofs.StateEffecters.{state_effecter_taken, state_effecter_again}
 use Rattle.pldm_pdr.proofs.Lengths.{data_most}
 
 -- what data of a type was taken from
@@ -39,16 +44,31 @@ data_taken n bytes small x e =
     (λ _ r1. chosen (n == NUMERIC_SENSOR) (as_data (λ s. NumericSensor s) (numeric_sensor_at bytes)) _ (Ok x) r1
     (λ t e1. stepped e1 (numeric_sensor_taken bytes small) (λ y said e2.
     subst (Found n bytes) (ok_is e2) (record { is_type = eqb-true n NUMERIC_SENSOR t; takes = said.0; is_data = said.1 })))
-    (λ _ r2. absurd cc))
+    (λ _ r2. chosen (n == STATE_SENSOR) (as_data (λ s. StateSensor s) (state_sensor_at bytes)) _ (Ok x) r2
+    (λ t e1. stepped e1 (state_sensor_taken bytes small) (λ y said e2.
+    subst (Found n bytes) (ok_is e2) (record { is_type = eqb-true n STATE_SENSOR t; takes = said.0; is_data = said.1 })))
+    (λ _ r3. chosen (n == NUMERIC_EFFECTER) (as_data (λ e. NumericEffecter e) (numeric_effecter_at bytes)) _ (Ok x) r3
+    (λ t e1. stepped e1 (numeric_effecter_taken bytes small) (λ y said e2.
+    subst (Found n bytes) (ok_is e2) (record { is_type = eqb-true n NUMERIC_EFFECTER t; takes = said.0; is_data = said.1 })))
+    (λ _ r4. chosen (n == STATE_EFFECTER) (as_data (λ e. StateEffecter e) (state_effecter_at bytes)) _ (Ok x) r4
+    (λ t e1. stepped e1 (state_effecter_taken bytes small) (λ y said e2.
+    subst (Found n bytes) (ok_is e2) (record { is_type = eqb-true n STATE_EFFECTER t; takes = said.0; is_data = said.1 })))
+    (λ _ r5. absurd cc)))))
 
 pub data_again : (contents : RecordData) (rest : List ℕ) → IsData contents → data_at (type_of contents) (data_bytes contents ++ rest) ≡ Ok (contents, rest)
 data_again (TerminusLocator locator) rest ok = goes_on _ (terminus_locator_again locator rest ok) refl
 data_again (NumericSensor sensor) rest ok = goes_on _ (numeric_sensor_again sensor rest ok) refl
+data_again (StateSensor sensor) rest ok = goes_on _ (state_sensor_again sensor rest ok) refl
+data_again (NumericEffecter effecter) rest ok = goes_on _ (numeric_effecter_again effecter rest ok) refl
+data_again (StateEffecter effecter) rest ok = goes_on _ (state_effecter_again effecter rest ok) refl
 
 -- data in its ranges fits
 pub data_in_range : (contents : RecordData) → IsData contents → data_fits contents ≡ true
 data_in_range (TerminusLocator locator) ok = refl
 data_in_range (NumericSensor sensor) ok = ok.13
+data_in_range (StateSensor sensor) ok = ok.4.1
+data_in_range (NumericEffecter effecter) ok = ok.11
+data_in_range (StateEffecter effecter) ok = ok.5.1
 
 whole_taken : (n : ℕ) (bytes : List ℕ) → IsBytes bytes → (contents : RecordData) → whole (data_at n bytes) ≡ Ok contents
     → (n ≡ type_of contents) × (bytes ≡ data_bytes contents) × IsData contents
@@ -87,7 +107,7 @@ only bytes r is =
     let contents = r.contents in
     let text = data_bytes contents in
     let count = length text in
-    let most : count < 256 ^ 2 = omega (arith, data_most contents) in
+    let most : count < 256 ^ 2 = omega (arith, data_most contents (data_in_range contents is.0.2)) in
     let grouped : bytes_of r ≡ little_bytes 4 r.handle ++ (byte HEADER_VERSION ++ (byte (type_of contents) ++ (little_bytes 2 r.change_number ++ (little_bytes 2 count ++ text)))) =
     regroup_5 (little_bytes 4 r.handle) (byte HEADER_VERSION) (byte (type_of contents)) (little_bytes 2 r.change_number) (little_bytes 2 count) text in
     let long : ltb (length (bytes_of r)) RECORD_HEADER ≡ false = le-ltb _ _ (omega arith) in
@@ -101,3 +121,14 @@ only bytes r is =
 pub is_found : (bytes : List ℕ) (result : Result PlatformRecord RecordFault) → IsBytes bytes → result ≡ record_of bytes → IfOk result (λ r. IsRead bytes r)
 is_found bytes (Ok r) small is = found bytes r small (sym is)
 is_found bytes (Err fault) small is = tt
+
+-- no bytes are two records
+pub one : (bytes : List ℕ) (r other : PlatformRecord) → IsRead bytes r → IsRead bytes other → r ≡ other
+one bytes r other is also = ok_is (sym (only bytes r is) ∙ only bytes other also)
+
+-- a record has no more bytes than fit
+pub fitting : (r : PlatformRecord) → IsRecord r → length (bytes_of r) ≤ MAX_RECORD_BYTES
+fitting r is = omega (arith, data_most r.contents (data_in_range r.contents is.2))
+
+pub read_back : (r : PlatformRecord) → IsRecord r → record_of (bytes_of r) ≡ Ok r
+read_back r is = only (bytes_of r) r (is, refl)

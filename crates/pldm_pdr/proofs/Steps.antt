@@ -1,5 +1,5 @@
 -- Steps of reading: what is read and taken from the front, and what is read again.
-use Rattle.std.proofs.Common.{not, ◌≡◌, ℕ, suc, ◌<◌, ◌+◌, Bool, true, false, List, [], ◌∷◌, ◌++◌, slice_index, drop, Result, Ok, Err, if◌then◌else◌, refl, ap, ◌∙◌, sym, append_assoc}
+use Rattle.std.proofs.Common.{not, ◌≡◌, ℕ, suc, ◌<◌, ◌+◌, Bool, true, false, List, ◌∷◌, ◌++◌, slice_index, drop, Result, Ok, Err, if◌then◌else◌, refl, ap, ◌∙◌, sym, append_assoc}
 use Rattle.std.proofs.lemmas.List.{get_or-drop}
 use Rattle.pldm_pdr.specs.declared.fault.RecordFault.{RecordFault}
 use Rattle.pldm_pdr.specs.Fields.{and_then, refused}

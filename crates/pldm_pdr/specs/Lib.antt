@@ -9,3 +9,4 @@ pub mod StateSensors
 pub mod NumericEffecters
 pub mod StateEffecters
 pub mod Records
+pub mod Laws

@@ -29,15 +29,18 @@ units_at bytes = do
   auxiliary ← byte_at oem.1
   auxiliary_modifier ← signed_byte_at auxiliary.1
   auxiliary_rate ← byte_at auxiliary_modifier.1
-  Ok (record {
-    base_unit = base.0;
-    unit_modifier = modifier.0;
-    rate_unit = rate.0;
-    base_oem_unit_handle = oem.0;
-    auxiliary_unit = auxiliary.0;
-    auxiliary_unit_modifier = auxiliary_modifier.0;
-    auxiliary_rate_unit = auxiliary_rate.0;
-  }, auxiliary_rate.1)
+  Ok (
+    record {
+      base_unit = base.0;
+      unit_modifier = modifier.0;
+      rate_unit = rate.0;
+      base_oem_unit_handle = oem.0;
+      auxiliary_unit = auxiliary.0;
+      auxiliary_unit_modifier = auxiliary_modifier.0;
+      auxiliary_rate_unit = auxiliary_rate.0;
+    },
+    auxiliary_rate.1,
+  )
 
 abbrev pub conversion_bytes : Conversion → List ℕ
 conversion_bytes conversion =
@@ -59,12 +62,15 @@ conversion_at bytes = do
   accuracy ← number_at 2 offset.1
   plus ← byte_at accuracy.1
   minus ← byte_at plus.1
-  Ok (record {
-    is_linear = is_linear.0;
-    size = size.0;
-    resolution = resolution.0;
-    offset = offset.0;
-    accuracy = accuracy.0;
-    plus_tolerance = plus.0;
-    minus_tolerance = minus.0;
-  }, minus.1)
+  Ok (
+    record {
+      is_linear = is_linear.0;
+      size = size.0;
+      resolution = resolution.0;
+      offset = offset.0;
+      accuracy = accuracy.0;
+      plus_tolerance = plus.0;
+      minus_tolerance = minus.0;
+    },
+    minus.1,
+  )

@@ -35,15 +35,18 @@ effecter_range_at bytes = do
   normal_min ← sized_at (bits_size format.0) normal_max.1
   rated_max ← sized_at (bits_size format.0) normal_min.1
   rated_min ← sized_at (bits_size format.0) rated_max.1
-  Ok (record {
-    format = format.0;
-    support = support.0;
-    nominal = nominal.0;
-    normal_max = normal_max.0;
-    normal_min = normal_min.0;
-    rated_max = rated_max.0;
-    rated_min = rated_min.0;
-  }, rated_min.1)
+  Ok (
+    record {
+      format = format.0;
+      support = support.0;
+      nominal = nominal.0;
+      normal_max = normal_max.0;
+      normal_min = normal_min.0;
+      rated_max = rated_max.0;
+      rated_min = rated_min.0;
+    },
+    rated_min.1,
+  )
 
 abbrev pub numeric_effecter_bytes : NumericEffecter → List ℕ
 numeric_effecter_bytes effecter =
@@ -87,19 +90,22 @@ numeric_effecter_at bytes = do
   max_settable ← sized_at conversion.0.size transition.1
   min_settable ← sized_at conversion.0.size max_settable.1
   range ← effecter_range_at min_settable.1
-  Ok (record {
-    terminus_handle = handle.0;
-    effecter_id = id.0;
-    entity = entity.0;
-    semantic_id = semantic.0;
-    init = init.0;
-    has_auxiliary_names = names.0;
-    units = units.0;
-    auxiliary_oem_unit_handle = oem.0;
-    conversion = conversion.0;
-    state_transition_interval = state_transition.0;
-    transition_interval = transition.0;
-    max_settable = max_settable.0;
-    min_settable = min_settable.0;
-    range = range.0;
-  }, range.1)
+  Ok (
+    record {
+      terminus_handle = handle.0;
+      effecter_id = id.0;
+      entity = entity.0;
+      semantic_id = semantic.0;
+      init = init.0;
+      has_auxiliary_names = names.0;
+      units = units.0;
+      auxiliary_oem_unit_handle = oem.0;
+      conversion = conversion.0;
+      state_transition_interval = state_transition.0;
+      transition_interval = transition.0;
+      max_settable = max_settable.0;
+      min_settable = min_settable.0;
+      range = range.0;
+    },
+    range.1,
+  )

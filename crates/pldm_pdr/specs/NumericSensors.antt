@@ -42,19 +42,22 @@ sensor_range_at bytes = do
   critical_low ← sized_at (bits_size format.0) critical_high.1
   fatal_high ← sized_at (bits_size format.0) critical_low.1
   fatal_low ← sized_at (bits_size format.0) fatal_high.1
-  Ok (record {
-    format = format.0;
-    support = support.0;
-    nominal = nominal.0;
-    normal_max = normal_max.0;
-    normal_min = normal_min.0;
-    warning_high = warning_high.0;
-    warning_low = warning_low.0;
-    critical_high = critical_high.0;
-    critical_low = critical_low.0;
-    fatal_high = fatal_high.0;
-    fatal_low = fatal_low.0;
-  }, fatal_low.1)
+  Ok (
+    record {
+      format = format.0;
+      support = support.0;
+      nominal = nominal.0;
+      normal_max = normal_max.0;
+      normal_min = normal_min.0;
+      warning_high = warning_high.0;
+      warning_low = warning_low.0;
+      critical_high = critical_high.0;
+      critical_low = critical_low.0;
+      fatal_high = fatal_high.0;
+      fatal_low = fatal_low.0;
+    },
+    fatal_low.1,
+  )
 
 abbrev pub numeric_sensor_bytes : NumericSensor → List ℕ
 numeric_sensor_bytes sensor =
@@ -102,22 +105,25 @@ numeric_sensor_at bytes = do
   max_readable ← sized_at conversion.0.size update.1
   min_readable ← sized_at conversion.0.size max_readable.1
   range ← sensor_range_at min_readable.1
-  Ok (record {
-    terminus_handle = handle.0;
-    sensor_id = id.0;
-    entity = entity.0;
-    init = init.0;
-    has_auxiliary_names = names.0;
-    units = units.0;
-    rel = rel.0;
-    auxiliary_oem_unit_handle = oem.0;
-    conversion = conversion.0;
-    hysteresis = hysteresis.0;
-    supported_thresholds = thresholds.0;
-    threshold_and_hysteresis_volatility = volatility.0;
-    state_transition_interval = transition.0;
-    update_interval = update.0;
-    max_readable = max_readable.0;
-    min_readable = min_readable.0;
-    range = range.0;
-  }, range.1)
+  Ok (
+    record {
+      terminus_handle = handle.0;
+      sensor_id = id.0;
+      entity = entity.0;
+      init = init.0;
+      has_auxiliary_names = names.0;
+      units = units.0;
+      rel = rel.0;
+      auxiliary_oem_unit_handle = oem.0;
+      conversion = conversion.0;
+      hysteresis = hysteresis.0;
+      supported_thresholds = thresholds.0;
+      threshold_and_hysteresis_volatility = volatility.0;
+      state_transition_interval = transition.0;
+      update_interval = update.0;
+      max_readable = max_readable.0;
+      min_readable = min_readable.0;
+      range = range.0;
+    },
+    range.1,
+  )

@@ -1,9 +1,8 @@
 -- The formats of range fields (DSP0248, "rangeFieldFormat").
-use Rattle.std.specs.Prelude.{ℕ, ◌==◌, List, [], ◌∷◌, Option, Some, None, Result, Ok, Err, if◌then◌else◌}
+use Rattle.std.specs.Prelude.{ℕ, ◌==◌, List, [], ◌∷◌, Option, Some, None, Ok, Err, if◌then◌else◌}
 use Rattle.pldm_wire.specs.Sizes.{size_code, size_of}
 use Rattle.pldm_wire.specs.declared.size.Size.{Size}
 use Rattle.pldm_wire.specs.declared.size.Size.TheVariants.{Uint32}
-use Rattle.pldm_pdr.specs.declared.fault.RecordFault.{RecordFault}
 use Rattle.pldm_pdr.specs.declared.fault.RecordFault.TheVariants.{Short, Format}
 use Rattle.pldm_pdr.specs.declared.range_format.RangeFormat.{RangeFormat}
 use Rattle.pldm_pdr.specs.declared.range_format.RangeFormat.TheVariants.{Number, Real32}

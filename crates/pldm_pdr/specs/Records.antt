@@ -1,16 +1,22 @@
 -- A platform data record: a header, and the data that it counts (DSP0248, "Common PDR format").
-use Rattle.std.specs.Prelude.{◌≡◌, ℕ, ◌==◌, nat_lt, not, Bool, true, IsTrue, List, ◌++◌, length}
+use Rattle.std.specs.Prelude.{◌≡◌, ℕ, ◌==◌, nat_lt, not, Bool, true, List, ◌++◌, length}
 use Rattle.std.specs.Prelude.{Result, Ok, Err, if◌then◌else◌}
 use Rattle.byteorder.specs.Endian.{little_bytes}
 use Rattle.pldm_wire.specs.Numbers.{IsU16, IsU32}
 use Rattle.pldm_pdr.specs.declared.limits.TheConstants.{HEADER_VERSION, RECORD_HEADER, TERMINUS_LOCATOR, NUMERIC_SENSOR}
+use Rattle.pldm_pdr.specs.declared.limits.TheConstants.{STATE_SENSOR, NUMERIC_EFFECTER, STATE_EFFECTER}
 use Rattle.pldm_pdr.specs.declared.fault.RecordFault.{RecordFault}
 use Rattle.pldm_pdr.specs.declared.fault.RecordFault.TheVariants.{Length, Version, OtherType, LeftOver}
 use Rattle.pldm_pdr.specs.declared.data.RecordData.{RecordData}
-use Rattle.pldm_pdr.specs.declared.data.RecordData.TheVariants.{TerminusLocator, NumericSensor}
+use Rattle.pldm_pdr.specs.declared.data.RecordData.TheVariants.{TerminusLocator, NumericSensor, StateSensor}
+use Rattle.pldm_pdr.specs.declared.data.RecordData.TheVariants.{NumericEffecter, StateEffecter}
 use Rattle.pldm_pdr.specs.Fields.{◌>>=◌, Field, byte, byte_at, number_at, refused}
 use Rattle.pldm_pdr.specs.TerminusLocators.{terminus_locator_bytes, IsTerminusLocator, terminus_locator_at}
 use Rattle.pldm_pdr.specs.NumericSensors.{numeric_sensor_bytes, numeric_sensor_fits, IsNumericSensor, numeric_sensor_at}
+use Rattle.pldm_pdr.specs.StateSets.{composite_fits}
+use Rattle.pldm_pdr.specs.StateSensors.{state_sensor_bytes, IsStateSensor, state_sensor_at}
+use Rattle.pldm_pdr.specs.NumericEffecters.{numeric_effecter_bytes, numeric_effecter_fits, IsNumericEffecter, numeric_effecter_at}
+use Rattle.pldm_pdr.specs.StateEffecters.{state_effecter_bytes, IsStateEffecter, state_effecter_at}
 
 pub record PlatformRecord : Type 0 where
   pub handle : ℕ
@@ -26,12 +32,18 @@ platform_record handle change_number contents =
 abbrev pub type_of : RecordData → ℕ
 type_of (TerminusLocator locator) = TERMINUS_LOCATOR
 type_of (NumericSensor sensor) = NUMERIC_SENSOR
+type_of (StateSensor sensor) = STATE_SENSOR
+type_of (NumericEffecter effecter) = NUMERIC_EFFECTER
+type_of (StateEffecter effecter) = STATE_EFFECTER
 
 -- the bytes after the header
 
 abbrev pub data_bytes : RecordData → List ℕ
 data_bytes (TerminusLocator locator) = terminus_locator_bytes locator
 data_bytes (NumericSensor sensor) = numeric_sensor_bytes sensor
+data_bytes (StateSensor sensor) = state_sensor_bytes sensor
+data_bytes (NumericEffecter effecter) = numeric_effecter_bytes effecter
+data_bytes (StateEffecter effecter) = state_effecter_bytes effecter
 
 -- handle, version, type, change number, and how many bytes follow
 abbrev pub header_bytes : ℕ → ℕ → ℕ → ℕ → List ℕ
@@ -43,17 +55,23 @@ abbrev pub bytes_of : PlatformRecord → List ℕ
 bytes_of r =
     header_bytes r.handle (type_of r.contents) r.change_number (length (data_bytes r.contents)) ++ data_bytes r.contents
 
--- whether what the data's types leave open fits: numbers their sizes
+-- whether what the data's types leave open fits: numbers their sizes, and how many states there are
 
 abbrev pub data_fits : RecordData → Bool
 data_fits (TerminusLocator locator) = true
 data_fits (NumericSensor sensor) = numeric_sensor_fits sensor
+data_fits (StateSensor sensor) = composite_fits sensor.sets.items
+data_fits (NumericEffecter effecter) = numeric_effecter_fits effecter
+data_fits (StateEffecter effecter) = composite_fits effecter.sets.items
 
 -- the ranges of a record's fields
 
 abbrev pub IsData : RecordData → Type 0
 IsData (TerminusLocator locator) = IsTerminusLocator locator
 IsData (NumericSensor sensor) = IsNumericSensor sensor
+IsData (StateSensor sensor) = IsStateSensor sensor
+IsData (NumericEffecter effecter) = IsNumericEffecter effecter
+IsData (StateEffecter effecter) = IsStateEffecter effecter
 
 abbrev pub IsRecord : PlatformRecord → Type 0
 IsRecord r = IsU32 r.handle × IsU16 r.change_number × IsData r.contents
@@ -73,6 +91,9 @@ abbrev pub data_at : ℕ → List ℕ → Field RecordData
 data_at type_number bytes =
     if type_number == TERMINUS_LOCATOR then as_data (λ locator. TerminusLocator locator) (terminus_locator_at bytes)
     else if type_number == NUMERIC_SENSOR then as_data (λ sensor. NumericSensor sensor) (numeric_sensor_at bytes)
+    else if type_number == STATE_SENSOR then as_data (λ sensor. StateSensor sensor) (state_sensor_at bytes)
+    else if type_number == NUMERIC_EFFECTER then as_data (λ effecter. NumericEffecter effecter) (numeric_effecter_at bytes)
+    else if type_number == STATE_EFFECTER then as_data (λ effecter. StateEffecter effecter) (state_effecter_at bytes)
     else Err OtherType
 
 -- all of the bytes

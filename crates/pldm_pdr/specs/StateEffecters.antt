@@ -27,12 +27,15 @@ state_effecter_at bytes = do
   init ← byte_at semantic.1
   description ← flag_at init.1
   sets ← composite_at description.1
-  Ok (record {
-    terminus_handle = handle.0;
-    effecter_id = id.0;
-    entity = entity.0;
-    semantic_id = semantic.0;
-    init = init.0;
-    has_description = description.0;
-    sets = kept sets.0;
-  }, sets.1)
+  Ok (
+    record {
+      terminus_handle = handle.0;
+      effecter_id = id.0;
+      entity = entity.0;
+      semantic_id = semantic.0;
+      init = init.0;
+      has_description = description.0;
+      sets = kept sets.0;
+    },
+    sets.1,
+  )

@@ -25,11 +25,14 @@ state_sensor_at bytes = do
   init ← byte_at entity.1
   names ← flag_at init.1
   sets ← composite_at names.1
-  Ok (record {
-    terminus_handle = handle.0;
-    sensor_id = id.0;
-    entity = entity.0;
-    init = init.0;
-    has_auxiliary_names = names.0;
-    sets = kept sets.0;
-  }, sets.1)
+  Ok (
+    record {
+      terminus_handle = handle.0;
+      sensor_id = id.0;
+      entity = entity.0;
+      init = init.0;
+      has_auxiliary_names = names.0;
+      sets = kept sets.0;
+    },
+    sets.1,
+  )

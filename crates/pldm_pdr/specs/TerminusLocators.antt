@@ -26,10 +26,13 @@ terminus_locator_at bytes = do
   kind ← constant_at Locator MCTP_EID container.1
   count ← constant_at Locator EID_BYTES kind
   eid ← byte_at count
-  Ok (record {
-    terminus_handle = handle.0;
-    is_valid = is_valid.0;
-    tid = tid.0;
-    container_id = container.0;
-    eid = eid.0;
-  }, eid.1)
+  Ok (
+    record {
+      terminus_handle = handle.0;
+      is_valid = is_valid.0;
+      tid = tid.0;
+      container_id = container.0;
+      eid = eid.0;
+    },
+    eid.1,
+  )

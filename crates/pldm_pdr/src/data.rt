@@ -1,4 +1,4 @@
-use crate::{NumericSensor, TerminusLocator};
+use crate::{NumericEffecter, NumericSensor, StateEffecter, StateSensor, TerminusLocator};
 
 /// What a record tells after its header: one variant for each type of record that is read here (DSP0248, "PDR type
 /// values").
@@ -8,4 +8,10 @@ pub enum RecordData {
     TerminusLocator(TerminusLocator),
     /// 2: a numeric sensor.
     NumericSensor(NumericSensor),
+    /// 4: a state sensor.
+    StateSensor(StateSensor),
+    /// 9: a numeric effecter.
+    NumericEffecter(NumericEffecter),
+    /// 11: a state effecter.
+    StateEffecter(StateEffecter),
 }

@@ -101,11 +101,7 @@ pub(crate) fn format_in(bytes: &[u8]) -> Result<(RangeFormat, &[u8]), RecordFaul
 
 /// What follows a byte that has to have this value, for this fault else.
 #[tactic(auto, unfolding(crate::specs::Fields::constant_at))]
-pub(crate) fn constant_in(
-    fault: RecordFault,
-    value: u8,
-    bytes: &[u8],
-) -> Result<&[u8], RecordFault>
+pub(crate) fn constant_in(fault: RecordFault, value: u8, bytes: &[u8]) -> Result<&[u8], RecordFault>
     ensures { Gives (λ rest. rest.now) result (constant_at fault value bytes.now) }
 {
     match bytes {

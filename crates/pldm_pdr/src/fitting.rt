@@ -3,9 +3,11 @@
 ghost use Rattle.std.specs.Prelude.{◌≡◌};
 ghost use Rattle.pldm_pdr.specs.Fields.{all_fit};
 ghost use Rattle.pldm_pdr.specs.NumericSensors.{numeric_sensor_fits, range_fits};
+ghost use Rattle.pldm_pdr.specs.NumericEffecters.{numeric_effecter_fits};
 ghost use Rattle.pldm_pdr.specs.Records.{data_fits};
 
-use crate::{NumericSensor, RecordData, SensorRange};
+use crate::state_sets::composite_fits;
+use crate::{NumericEffecter, NumericSensor, RecordData, SensorRange};
 use pldm_wire::{Number, Size};
 
 /// Whether the data fits.
@@ -15,6 +17,9 @@ pub(crate) fn data_fits(contents: &RecordData) -> bool
     match contents {
         RecordData::TerminusLocator(_) => true,
         RecordData::NumericSensor(sensor) => numeric_sensor_fits(sensor),
+        RecordData::StateSensor(sensor) => composite_fits(&sensor.sets),
+        RecordData::NumericEffecter(effecter) => numeric_effecter_fits(effecter),
+        RecordData::StateEffecter(effecter) => composite_fits(&effecter.sets),
     }
 }
 
@@ -24,6 +29,22 @@ fn numeric_sensor_fits(sensor: &NumericSensor) -> bool
 {
     let numbers = [sensor.hysteresis, sensor.max_readable, sensor.min_readable];
     all_fit(sensor.conversion.size, &numbers) && range_fits(&sensor.range)
+}
+
+/// Whether the effecter's numbers fit its data size, and the range fields their format.
+fn numeric_effecter_fits(effecter: &NumericEffecter) -> bool
+    ensures { result ≡ numeric_effecter_fits effecter.now }
+{
+    let numbers = [effecter.max_settable, effecter.min_settable];
+    let range = effecter.range;
+    let fields = [
+        range.nominal,
+        range.normal_max,
+        range.normal_min,
+        range.rated_max,
+        range.rated_min,
+    ];
+    all_fit(effecter.conversion.size, &numbers) && all_fit(range.format.bits_size(), &fields)
 }
 
 /// Whether the range fields fit their format.

@@ -8,6 +8,7 @@ mod entity;
 mod fault;
 mod fields;
 mod fitting;
+pub mod laws;
 mod limits;
 mod locator;
 mod locator_reading;

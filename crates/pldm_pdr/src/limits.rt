@@ -22,6 +22,12 @@ pub const NUMERIC_SENSOR: u8 = 2;
 /// The type of a state sensor record (DSP0248, "PDR type values").
 pub const STATE_SENSOR: u8 = 4;
 
+/// The type of a numeric effecter record (DSP0248, "PDR type values").
+pub const NUMERIC_EFFECTER: u8 = 9;
+
+/// The type of a state effecter record (DSP0248, "PDR type values").
+pub const STATE_EFFECTER: u8 = 11;
+
 /// The most bytes in which the possible states of one set are told (DSP0248, "possibleStatesSize").
 pub const MAX_STATE_BYTES: usize = 32;
 

@@ -5,9 +5,15 @@ ghost use Rattle.pldm_pdr.specs.Fields.{Gives};
 ghost use Rattle.pldm_pdr.specs.Records.{IsRead, PlatformRecord, data_at, data_fits, record_of, whole};
 
 use crate::fields::{byte_in, u16_in, u32_in};
-use crate::limits::{HEADER_VERSION, NUMERIC_SENSOR, TERMINUS_LOCATOR};
+use crate::limits::{
+    HEADER_VERSION, NUMERIC_EFFECTER, NUMERIC_SENSOR, STATE_EFFECTER, STATE_SENSOR,
+    TERMINUS_LOCATOR,
+};
 use crate::locator_reading::terminus_locator_in;
+use crate::numeric_effecter_fields::numeric_effecter_in;
 use crate::numeric_sensor_reading::numeric_sensor_in;
+use crate::state_effecter_fields::state_effecter_in;
+use crate::state_sensor_fields::state_sensor_in;
 use crate::{RECORD_HEADER, Record, RecordData, RecordFault};
 
 /// The record that the bytes spell: Length for fewer bytes than a header's, or a header that counts fewer or more after
@@ -72,6 +78,18 @@ fn data_in(type_number: u8, bytes: &[u8]) -> Result<(RecordData, &[u8]), RecordF
         NUMERIC_SENSOR => {
             let (sensor, rest) = numeric_sensor_in(bytes)?;
             Ok((RecordData::NumericSensor(sensor), rest))
+        }
+        STATE_SENSOR => {
+            let (sensor, rest) = state_sensor_in(bytes)?;
+            Ok((RecordData::StateSensor(sensor), rest))
+        }
+        NUMERIC_EFFECTER => {
+            let (effecter, rest) = numeric_effecter_in(bytes)?;
+            Ok((RecordData::NumericEffecter(effecter), rest))
+        }
+        STATE_EFFECTER => {
+            let (effecter, rest) = state_effecter_in(bytes)?;
+            Ok((RecordData::StateEffecter(effecter), rest))
         }
         _ => Err(RecordFault::OtherType),
     }

@@ -5,7 +5,7 @@ use crate::RecordData;
 use crate::fitting::data_fits;
 use std::marker::Model;
 
-/// A platform data record whose data fits: numbers their sizes (DSP0248, "Common PDR format").
+/// A platform data record whose data fits: numbers their sizes, and how many states there are (DSP0248, "Common PDR format").
 #[derive(Debug, PartialEq, Eq, Drop)]
 pub struct Record {
     handle: u32,
@@ -28,7 +28,7 @@ impl Model for Record {
 
 impl Record {
     /// The record of this handle, change number and data, where the data fits: each number its data size, each range
-    /// field its format.
+    /// field its format; a composite sensor or effecter has one to eight sets, each in 1 to 32 bytes.
     pub fn new(handle: u32, change_number: u16, contents: RecordData) -> Option<Record>
         ensures test { is_some result ≡ data_fits contents }
         ensures record { IfSome result (λ made. made ≡ platform_record handle change_number contents) }

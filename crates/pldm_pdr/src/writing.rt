@@ -6,10 +6,16 @@ ghost use Rattle.pldm_wire.specs.Numbers.{IsU16, IsU32};
 ghost use Rattle.pldm_pdr.specs.Records.{IsData, IsRead, bytes_of, data_bytes, data_fits, header_bytes, type_of};
 ghost use Rattle.pldm_pdr.specs.Fields.{Adds};
 
-use crate::limits::{HEADER_VERSION, MAX_DATA_BYTES, NUMERIC_SENSOR, TERMINUS_LOCATOR};
+use crate::limits::{
+    HEADER_VERSION, MAX_DATA_BYTES, NUMERIC_EFFECTER, NUMERIC_SENSOR, STATE_EFFECTER, STATE_SENSOR,
+    TERMINUS_LOCATOR,
+};
 use crate::locator_writing::push_terminus_locator;
+use crate::numeric_effecter_fields::push_numeric_effecter;
 use crate::numeric_sensor_writing::push_numeric_sensor;
 use crate::pushes::{push_byte, push_bytes, push_u16, push_u32};
+use crate::state_effecter_fields::push_state_effecter;
+use crate::state_sensor_fields::push_state_sensor;
 use crate::{MAX_RECORD_BYTES, RECORD_HEADER, Record, RecordBytes, RecordData};
 
 /// The bytes of the record: its header, with the length of its data, and its data (DSP0248, "Common PDR format").
@@ -39,6 +45,9 @@ fn type_of(contents: &RecordData) -> u8
     match contents {
         RecordData::TerminusLocator(_) => TERMINUS_LOCATOR,
         RecordData::NumericSensor(_) => NUMERIC_SENSOR,
+        RecordData::StateSensor(_) => STATE_SENSOR,
+        RecordData::NumericEffecter(_) => NUMERIC_EFFECTER,
+        RecordData::StateEffecter(_) => STATE_EFFECTER,
     }
 }
 
@@ -53,6 +62,9 @@ fn data_of(contents: &RecordData) -> RecordBytes
     match contents {
         RecordData::TerminusLocator(locator) => push_terminus_locator(&mut out, locator),
         RecordData::NumericSensor(sensor) => push_numeric_sensor(&mut out, sensor),
+        RecordData::StateSensor(sensor) => push_state_sensor(&mut out, sensor),
+        RecordData::NumericEffecter(effecter) => push_numeric_effecter(&mut out, effecter),
+        RecordData::StateEffecter(effecter) => push_state_effecter(&mut out, effecter),
     }
     out
 }

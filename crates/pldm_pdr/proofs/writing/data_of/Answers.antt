@@ -3,3 +3,12 @@ use Rattle.pldm_pdr.proofs.writing.data_of.Goals as goal
 
 pub returns-in-NumericSensor-clause-range : goal.returns-in-NumericSensor-clause-range
 returns-in-NumericSensor-clause-range c = rw c.in-NumericSensor.is c.push_numeric_sensor.ensures.range
+
+pub returns-in-NumericEffecter-clause-range : goal.returns-in-NumericEffecter-clause-range
+returns-in-NumericEffecter-clause-range c = rw c.in-NumericEffecter.is c.push_numeric_effecter.ensures.range
+
+pub returns-in-StateSensor-clause-range : goal.returns-in-StateSensor-clause-range
+returns-in-StateSensor-clause-range c = rw c.in-StateSensor.is c.push_state_sensor.ensures.range
+
+pub returns-in-StateEffecter-clause-range : goal.returns-in-StateEffecter-clause-range
+returns-in-StateEffecter-clause-range c = rw c.in-StateEffecter.is c.push_state_effecter.ensures.range

@@ -1,0 +1,23 @@
+//! Laws over the definitions alone. Nothing is computed: each function's contract is its law.
+
+ghost use Rattle.pldm_pdr.specs.Laws.{NumericEffecterReadBack, NumericSensorReadBack, OneRecord, RecordFits, RecordReadBack, StateEffecterReadBack, StateSensorReadBack, TerminusLocatorReadBack};
+
+/// What a record is written as is read as the record, and no bytes are two records.
+pub fn records_are_read_back()
+    ensures read_back { RecordReadBack }
+    ensures one { OneRecord }
+{}
+
+/// The fields of each type are read back from what they are written as, whatever follows.
+pub fn fields_are_read_back()
+    ensures terminus_locator { TerminusLocatorReadBack }
+    ensures numeric_sensor { NumericSensorReadBack }
+    ensures state_sensor { StateSensorReadBack }
+    ensures numeric_effecter { NumericEffecterReadBack }
+    ensures state_effecter { StateEffecterReadBack }
+{}
+
+/// No record has more than [`crate::MAX_RECORD_BYTES`] bytes.
+pub fn records_fit()
+    ensures { RecordFits }
+{}
