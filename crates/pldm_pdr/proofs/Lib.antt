@@ -13,5 +13,8 @@ pub mod StateSets
 pub mod NumericEffecters
 pub mod StateSensors
 pub mod StateEffecters
+pub mod NameLoops
 pub mod Records
 pub mod SetsRead
+pub mod NamesTaken
+pub mod NameRecords

@@ -14,7 +14,7 @@ use Rattle.pldm_pdr.specs.StateSensors.{state_sensor_at}
 use Rattle.pldm_pdr.specs.NumericEffecters.{numeric_effecter_at}
 use Rattle.pldm_pdr.specs.StateEffecters.{state_effecter_at}
 use Rattle.pldm_pdr.specs.Records.{PlatformRecord, platform_record, type_of, data_bytes, data_fits, bytes_of, IsData, IsRecord, IsRead, as_data, data_at, whole, header_at, record_of}
-use Rattle.pldm_pdr.proofs.Steps.{IsBytes, stepped, goes_on, went_by, goes_by, not_false, ok_is, Takes, with_next}
+use Rattle.pldm_pdr.proofs.Steps.{IsBytes, chosen, stepped, goes_on, went_by, goes_by, not_false, ok_is, Takes, with_next}
 use Rattle.pldm_pdr.proofs.FieldsTaken.{byte_taken, number_taken}
 use Rattle.pldm_pdr.proofs.FieldsAgain.{byte_again, number_again}
 use Rattle.pldm_pdr.proofs.Regrouped.{regroup_5}
@@ -30,11 +30,6 @@ pub record Found (type_number : ℕ) (bytes : List ℕ) (x : RecordData × List 
   pub is_type : type_number ≡ type_of x.0
   pub takes : Takes bytes (data_bytes x.0) x.1
   pub is_data : IsData x.0
-
--- one of two choices by a test
-chosen : {A P : Type 0} (test : Bool) (a b z : A) → (if test then a else b) ≡ z → (test ≡ true → a ≡ z → P) → (test ≡ false → b ≡ z → P) → P
-chosen true a b z e passing failing = passing refl e
-chosen false a b z e passing failing = failing refl e
 
 pub data_taken : (n : ℕ) (bytes : List ℕ) → IsBytes bytes → (x : RecordData × List ℕ) → data_at n bytes ≡ Ok x → Found n bytes x
 data_taken n bytes small x e =

@@ -1,6 +1,7 @@
 -- Steps of reading: what is read and taken from the front, and what is read again.
-use Rattle.std.proofs.Common.{not, ◌≡◌, ℕ, suc, ◌<◌, ◌+◌, Bool, true, false, List, ◌∷◌, ◌++◌, slice_index, drop, Result, Ok, Err, if◌then◌else◌, refl, ap, ◌∙◌, sym, append_assoc}
-use Rattle.std.proofs.lemmas.List.{get_or-drop}
+use Rattle.std.proofs.Common.{take, inl, inr, arith, not, ◌≡◌, ℕ, suc, ◌<◌, ◌+◌, Bool, true, false, List, ◌∷◌, ◌++◌, slice_index, drop, Result, Ok, Err, if◌then◌else◌, refl, ap, ◌∙◌, sym, append_assoc}
+use Rattle.std.proofs.lemmas.List.{get_or-drop, get_or-take, get_or_past, length-take}
+use Rattle.std.proofs.lemmas.Bool.{cases_lt}
 use Rattle.pldm_pdr.specs.declared.fault.RecordFault.{RecordFault}
 use Rattle.pldm_pdr.specs.Fields.{and_then, refused}
 
@@ -12,6 +13,13 @@ bytes_dropped n bytes h i = rw get_or-drop (h (n + i))
 
 pub bytes_after : (b : ℕ) (bytes : List ℕ) → IsBytes (b ∷ bytes) → IsBytes bytes
 bytes_after b bytes h i = h (suc i)
+
+pub bytes_first : (n : ℕ) (bytes : List ℕ) → IsBytes bytes → IsBytes (take n bytes)
+bytes_first n bytes h i =
+    elim (cases_lt i n) [
+      | inl lt ↦ rw (get_or-take n bytes i 0 lt) (h i)
+      | inr le ↦ rw (get_or_past (take n bytes) i 0 (omega (arith, length-take n bytes))) (omega arith)
+    ]
 
 -- a step that did not fail: its value has what is said of each that it could have
 pub stepped : {A B : Type 0} {r : Result A RecordFault} {f : A → Result B RecordFault} {y : B} {Q : A → Type 0} {P : Type 0} → and_then r f ≡ Ok y → ((x : A) → r ≡ Ok x → Q x) → ((x : A) → Q x → f x ≡ Ok y → P) → P
@@ -38,6 +46,11 @@ goes_by {test = false} fault h e = e
 pub not_false : (b : Bool) → not b ≡ false → b ≡ true
 not_false true h = refl
 not_false false h = absurd cc
+
+-- one of two choices by a test
+pub chosen : {A P : Type 0} (test : Bool) (a b z : A) → (if test then a else b) ≡ z → (test ≡ true → a ≡ z → P) → (test ≡ false → b ≡ z → P) → P
+chosen true a b z e passing failing = passing refl e
+chosen false a b z e passing failing = failing refl e
 
 -- a choice by a test that did not fail
 pub passed : {A : Type 0} (b : Bool) (fault : RecordFault) (x y : A) → (if b then Err fault else Ok x) ≡ Ok y → (b ≡ false) × (x ≡ y)

@@ -8,5 +8,7 @@ pub mod StateSets
 pub mod StateSensors
 pub mod NumericEffecters
 pub mod StateEffecters
+pub mod Names
+pub mod NameRecords
 pub mod Records
 pub mod Laws

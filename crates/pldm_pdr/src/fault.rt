@@ -35,6 +35,15 @@ pub enum RecordFault {
     /// The possible states are in no byte, or in more than 32.
     #[error("the record has a size of possible states with a wrong value")]
     States,
+    /// Names are shared by several entities.
+    #[error("the record has names that several entities share")]
+    Shared,
+    /// A language tag is not ASCII.
+    #[error("the record has a language tag that is not ASCII")]
+    Tag,
+    /// The names have more bytes than are read here.
+    #[error("the record has names that are too long")]
+    Names,
     /// Bytes are left over after the last field.
     #[error("the record has bytes after its last field")]
     LeftOver,

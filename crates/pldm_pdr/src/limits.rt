@@ -28,6 +28,21 @@ pub const NUMERIC_EFFECTER: u8 = 9;
 /// The type of a state effecter record (DSP0248, "PDR type values").
 pub const STATE_EFFECTER: u8 = 11;
 
+/// The type of a record of a sensor's auxiliary names (DSP0248, "PDR type values").
+pub const SENSOR_NAMES: u8 = 6;
+
+/// The type of a record of an effecter's auxiliary names (DSP0248, "PDR type values").
+pub const EFFECTER_NAMES: u8 = 13;
+
+/// The type of a record of an entity's auxiliary names (DSP0248, "PDR type values").
+pub const ENTITY_NAMES: u8 = 16;
+
+/// The most bytes of a record's auxiliary names: what the longest record of an entity's names has room for.
+pub const MAX_NAME_BYTES: usize = 288;
+
+/// No names are shared by several entities (DSP0248, "sharedNameCount").
+pub const NO_SHARED_NAMES: u8 = 0;
+
 /// The most bytes in which the possible states of one set are told (DSP0248, "possibleStatesSize").
 pub const MAX_STATE_BYTES: usize = 32;
 

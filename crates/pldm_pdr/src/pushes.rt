@@ -6,6 +6,7 @@ ghost use Rattle.byteorder.specs.Endian.{little_bytes};
 ghost use Rattle.pldm_wire.specs.Numbers.{IsU8, IsU16, IsU32};
 ghost use Rattle.std.specs.Prelude.{FitsSigned};
 ghost use Rattle.std.specs.Int.{w8};
+ghost use Rattle.pldm_pdr.specs.NameRecords.{AreBytes};
 ghost use Rattle.pldm_pdr.specs.Fields.{Adds, byte, flag, signed_byte, sized_bytes};
 
 use crate::fields::width;
@@ -83,6 +84,7 @@ pub(crate) fn push_bytes(out: &mut RecordBytes, bytes: &[u8])
     requires { array_vec_len out.old + length bytes.now ≤ MAX_RECORD_BYTES }
     ensures added { Adds out.old.items out.new.items bytes.now }
     ensures len { array_vec_len out.new ≡ array_vec_len out.old + length bytes.now }
+    ensures range { AreBytes bytes.now }
 {
     let _ = out.try_extend_from_slice(bytes); // they fit
 }
