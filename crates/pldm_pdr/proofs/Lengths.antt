@@ -7,7 +7,7 @@ use Rattle.pldm_wire.specs.Sizes.{size_code, width}
 use Rattle.pldm_wire.specs.declared.size.Size.{Size}
 use Rattle.pldm_wire.specs.declared.size.Size.TheVariants.{Uint8, Sint8, Uint16, Sint16, Uint32, Sint32}
 use Rattle.std.proofs.Common.{w64}
-use Rattle.pldm_pdr.specs.declared.limits.TheConstants.{MCTP_EID, EID_BYTES, MAX_DATA_BYTES, MAX_STATE_BYTES}
+use Rattle.pldm_pdr.specs.declared.limits.TheConstants.{MCTP_EID, EID_BYTES, MAX_DATA_BYTES, MAX_STATE_BYTES, MAX_NAME_BYTES, NO_SHARED_NAMES}
 use Rattle.pldm_pdr.specs.declared.entity.Entity.{Entity}
 use Rattle.pldm_pdr.specs.declared.units.Units.{Units}
 use Rattle.pldm_pdr.specs.declared.conversion.Conversion.{Conversion}
@@ -31,6 +31,7 @@ use Rattle.pldm_pdr.specs.NumericEffecters.{effecter_range_bytes, numeric_effect
 use Rattle.pldm_pdr.specs.StateSets.{possible_states_bytes, possible_states_fit, sets_bytes, each_fits, composite_bytes, composite_fits}
 use Rattle.pldm_pdr.specs.StateSensors.{state_sensor_bytes}
 use Rattle.pldm_pdr.specs.StateEffecters.{state_effecter_bytes}
+use Rattle.pldm_pdr.specs.Names.{is_all, names_end, all_names_end}
 use Rattle.pldm_pdr.specs.Records.{data_bytes, data_fits}
 use Rattle.pldm_wire.specs.States.{is_composite}
 use Rattle.pldm_wire.specs.declared.limits.TheConstants.{MAX_STATES}
@@ -129,3 +130,12 @@ data_most (variants.NumericSensor sensor) fit = omega (arith, (numeric_sensor_mo
 data_most (variants.StateSensor sensor) fit = omega (arith, (state_sensor_most sensor fit).is)
 data_most (variants.NumericEffecter effecter) fit = omega (arith, (numeric_effecter_most effecter).is)
 data_most (variants.StateEffecter effecter) fit = omega (arith, (state_effecter_most effecter fit).is)
+data_most (variants.SensorNames names) fit =
+    let few : length names.names.items ≤ MAX_NAME_BYTES = leb-true _ _ (split_and (is_all (all_names_end names.names.items)) (nat_le (length names.names.items) MAX_NAME_BYTES) fit).1 in
+    omega (arith, length-append (little_bytes 2 names.terminus_handle ++ little_bytes 2 names.sensor_id) names.names.items)
+data_most (variants.EffecterNames names) fit =
+    let few : length names.names.items ≤ MAX_NAME_BYTES = leb-true _ _ (split_and (is_all (all_names_end names.names.items)) (nat_le (length names.names.items) MAX_NAME_BYTES) fit).1 in
+    omega (arith, length-append (little_bytes 2 names.terminus_handle ++ little_bytes 2 names.effecter_id) names.names.items)
+data_most (variants.EntityNames names) fit =
+    let few : length names.names.items ≤ MAX_NAME_BYTES = leb-true _ _ (split_and (is_all (names_end names.names.items)) (nat_le (length names.names.items) MAX_NAME_BYTES) fit).1 in
+    omega (arith, length-append (entity_bytes names.entity ++ byte NO_SHARED_NAMES) names.names.items)

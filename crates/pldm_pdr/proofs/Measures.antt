@@ -1,5 +1,5 @@
 -- The entity, the units and the conversion: what is read was taken, and is read again.
-use Rattle.std.proofs.Common.{◌≡◌, ℕ, List, [], ◌∷◌, ◌++◌, Ok, refl, ap, subst, ◌∙◌}
+use Rattle.std.proofs.Common.{◌≡◌, ℕ, List, ◌++◌, Ok, refl, ap, subst, ◌∙◌}
 use Rattle.byteorder.specs.Endian.{little_bytes}
 use Rattle.pldm_wire.specs.Sizes.{size_code}
 use Rattle.pldm_pdr.specs.declared.entity.Entity.{Entity}

@@ -1,5 +1,5 @@
 -- The records of auxiliary names: what is read was taken, and is read again.
-use Rattle.std.proofs.Common.{◌≡◌, ℕ, List, [], ◌∷◌, ◌++◌, Ok, refl, ap, subst, ◌∙◌}
+use Rattle.std.proofs.Common.{◌≡◌, ℕ, List, ◌++◌, Ok, refl, ap, subst, ◌∙◌}
 use Rattle.byteorder.specs.Endian.{little_bytes}
 use Rattle.pldm_pdr.specs.declared.limits.TheConstants.{NO_SHARED_NAMES}
 use Rattle.pldm_pdr.specs.declared.fault.RecordFault.TheVariants.{Shared}

@@ -1,5 +1,5 @@
 -- Auxiliary names: the bytes up to where they end are spelled as names, and what names are spelled as ends there.
-use Rattle.std.proofs.Common.{◌≡◌, ℕ, zero, suc, ◌+◌, ◌-◌, ◌*◌, ◌/◌, ◌%◌, ◌<◌, ◌≤◌, ◌^◌, ◌==◌, nat_lt, nat_le, Bool, true, false, ◌&&◌, List, [], ◌∷◌, ◌++◌, length, take, drop, Result, Ok, Err, if◌then◌else◌, refl, sym, ap, subst, ◌∙◌, append_assoc, arith, eqb-true, ltb-true, ltb-false}
+use Rattle.std.proofs.Common.{◌≡◌, ℕ, zero, suc, ◌+◌, ◌-◌, ◌*◌, ◌/◌, ◌%◌, ◌<◌, ◌≤◌, ◌==◌, nat_lt, nat_le, true, false, ◌&&◌, List, [], ◌∷◌, ◌++◌, length, take, drop, Result, Ok, Err, if◌then◌else◌, refl, sym, ap, subst, ◌∙◌, append_assoc, arith, eqb-true, ltb-true, ltb-false}
 use Rattle.std.proofs.lemmas.Bool.{lt-ltb, le-ltb, ne_eqb, eqb-false, le-leb, leb-true}
 use Rattle.std.proofs.lemmas.List.{append-nil, nil_from_length, length-append, take_at, drop_at}
 use Rattle.pldm_pdr.specs.declared.limits.TheConstants.{MAX_NAME_BYTES}
@@ -7,7 +7,7 @@ use Rattle.pldm_pdr.specs.declared.fault.RecordFault.{RecordFault}
 use Rattle.pldm_pdr.specs.declared.fault.RecordFault.TheVariants.{Tag}
 use Rattle.pldm_pdr.specs.Fields.{byte}
 use Rattle.pldm_pdr.specs.Names.{Name, tag_bytes, text_bytes, name_bytes, each_name_bytes, names_bytes, each_names_bytes, all_names_bytes, IsTag, IsText, EachIsName, AreNames, EachAreNames, AreAllNames, tag_end, text_end, name_end, each_name_end, names_end, each_names_end, all_names_end, text_to, is_all}
-use Rattle.pldm_pdr.proofs.Steps.{IsBytes, bytes_after, bytes_first, chosen, stepped, goes_on, went_by, goes_by, not_false, ok_is, Takes, with_next}
+use Rattle.pldm_pdr.proofs.Steps.{IsBytes, bytes_after, bytes_first, chosen, stepped, goes_on, went_by, goes_by, ok_is, Takes, with_next}
 use Rattle.pldm_pdr.proofs.FieldsTaken.{byte_taken}
 use Rattle.pldm_pdr.proofs.FieldsAgain.{byte_again}
 use Rattle.pldm_pdr.proofs.FittingTests.{join_and, split_and}
@@ -224,3 +224,14 @@ text_read {spell = spell} end ends text rest small good =
     let most : length text ≤ MAX_NAME_BYTES = leb-true _ _ both.1 in
     let few : nat_lt MAX_NAME_BYTES n ≡ false = le-ltb _ _ (omega arith) in
     goes_on _ ended (goes_by _ few (rw (take_at text rest n count, drop_at text rest n count) refl))
+
+pub spelled_so : {A : Type 0} {spell : A → List ℕ} {Is : A → Type 0} (end : List ℕ → Result (List ℕ) RecordFault) → Ends spell Is end
+    → (text : List ℕ) → IsBytes text → AreAll end text → (value : A) × Is value × (text ≡ spell value)
+spelled_so {spell = spell} end ends text small good =
+    let both = split_and (is_all (end text)) (nat_le (length text) MAX_NAME_BYTES) good in
+    let read = ends.taken text small [] (all_of (end text) both.0) in
+    (read.value, read.is, read.takes.parts ∙ append-nil (spell read.value))
+
+pub taken_so : {A : Type 0} {spell : A → List ℕ} {Is : A → Type 0} (end : List ℕ → Result (List ℕ) RecordFault) → Ends spell Is end
+    → (value : A) → Is value → length (spell value) ≤ MAX_NAME_BYTES → AreAll end (spell value)
+taken_so end ends value is few = join_and _ _ (all_again end ends value is) (le-leb _ _ few)

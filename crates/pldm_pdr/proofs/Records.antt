@@ -1,19 +1,20 @@
 -- Records: what is read is what the bytes spell, and what they spell is read.
-use Rattle.std.proofs.Common.{◌≡◌, ℕ, ◌<◌, ◌≤◌, ◌^◌, ◌==◌, not, Bool, true, false, ltb, List, [], ◌++◌, length, Result, Ok, Err, if◌then◌else◌, refl, sym, ap, subst, ◌∙◌, arith, eqb-true, IfOk}
+use Rattle.std.proofs.Common.{◌≡◌, ℕ, ◌<◌, ◌≤◌, ◌^◌, ◌==◌, not, true, false, ltb, List, [], ◌++◌, length, Result, Ok, Err, refl, sym, ap, subst, ◌∙◌, arith, eqb-true, IfOk}
 use Rattle.std.proofs.lemmas.Bool.{le-ltb, eq-eqb}
 use Rattle.std.proofs.lemmas.List.{append-nil, nil_from_length}
 use Rattle.byteorder.specs.Endian.{little_bytes}
-use Rattle.pldm_pdr.specs.declared.limits.TheConstants.{HEADER_VERSION, RECORD_HEADER, MAX_RECORD_BYTES, TERMINUS_LOCATOR, NUMERIC_SENSOR, STATE_SENSOR, NUMERIC_EFFECTER, STATE_EFFECTER}
+use Rattle.pldm_pdr.specs.declared.limits.TheConstants.{HEADER_VERSION, RECORD_HEADER, MAX_RECORD_BYTES, TERMINUS_LOCATOR, NUMERIC_SENSOR, STATE_SENSOR, NUMERIC_EFFECTER, STATE_EFFECTER, SENSOR_NAMES, EFFECTER_NAMES, ENTITY_NAMES}
 use Rattle.pldm_pdr.specs.declared.fault.RecordFault.{RecordFault}
 use Rattle.pldm_pdr.specs.declared.data.RecordData.{RecordData}
-use Rattle.pldm_pdr.specs.declared.data.RecordData.TheVariants.{TerminusLocator, NumericSensor, StateSensor, NumericEffecter, StateEffecter}
+use Rattle.pldm_pdr.specs.declared.data.RecordData.TheVariants.{TerminusLocator, NumericSensor, StateSensor, NumericEffecter, StateEffecter, SensorNames, EffecterNames, EntityNames}
 use Rattle.pldm_pdr.specs.Fields.{byte}
 use Rattle.pldm_pdr.specs.TerminusLocators.{terminus_locator_at}
 use Rattle.pldm_pdr.specs.NumericSensors.{numeric_sensor_at}
 use Rattle.pldm_pdr.specs.StateSensors.{state_sensor_at}
 use Rattle.pldm_pdr.specs.NumericEffecters.{numeric_effecter_at}
 use Rattle.pldm_pdr.specs.StateEffecters.{state_effecter_at}
-use Rattle.pldm_pdr.specs.Records.{PlatformRecord, platform_record, type_of, data_bytes, data_fits, bytes_of, IsData, IsRecord, IsRead, as_data, data_at, whole, header_at, record_of}
+use Rattle.pldm_pdr.specs.NameRecords.{sensor_names_at, effecter_names_at, entity_names_at}
+use Rattle.pldm_pdr.specs.Records.{PlatformRecord, platform_record, type_of, data_bytes, data_fits, bytes_of, IsData, IsRecord, IsRead, as_data, names_data_at, data_at, whole, header_at, record_of}
 use Rattle.pldm_pdr.proofs.Steps.{IsBytes, chosen, stepped, goes_on, went_by, goes_by, not_false, ok_is, Takes, with_next}
 use Rattle.pldm_pdr.proofs.FieldsTaken.{byte_taken, number_taken}
 use Rattle.pldm_pdr.proofs.FieldsAgain.{byte_again, number_again}
@@ -23,6 +24,7 @@ use Rattle.pldm_pdr.proofs.NumericSensors.{numeric_sensor_taken, numeric_sensor_
 use Rattle.pldm_pdr.proofs.StateSensors.{state_sensor_taken, state_sensor_again}
 use Rattle.pldm_pdr.proofs.NumericEffecters.{numeric_effecter_taken, numeric_effecter_again}
 use Rattle.pldm_pdr.proofs.StateEffecters.{state_effecter_taken, state_effecter_again}
+use Rattle.pldm_pdr.proofs.NameRecords.{sensor_names_taken, sensor_names_again, effecter_names_taken, effecter_names_again, entity_names_taken, entity_names_again}
 use Rattle.pldm_pdr.proofs.Lengths.{data_most}
 
 -- what data of a type was taken from
@@ -30,6 +32,19 @@ pub record Found (type_number : ℕ) (bytes : List ℕ) (x : RecordData × List 
   pub is_type : type_number ≡ type_of x.0
   pub takes : Takes bytes (data_bytes x.0) x.1
   pub is_data : IsData x.0
+
+names_data_taken : (n : ℕ) (bytes : List ℕ) → IsBytes bytes → (x : RecordData × List ℕ) → names_data_at n bytes ≡ Ok x → Found n bytes x
+names_data_taken n bytes small x e =
+    chosen (n == SENSOR_NAMES) (as_data (λ s. SensorNames s) (sensor_names_at bytes)) _ (Ok x) e
+    (λ t e1. stepped e1 (sensor_names_taken bytes small) (λ y said e2.
+    subst (Found n bytes) (ok_is e2) (record { is_type = eqb-true n SENSOR_NAMES t; takes = said.0; is_data = said.1 })))
+    (λ _ r1. chosen (n == EFFECTER_NAMES) (as_data (λ e. EffecterNames e) (effecter_names_at bytes)) _ (Ok x) r1
+    (λ t e1. stepped e1 (effecter_names_taken bytes small) (λ y said e2.
+    subst (Found n bytes) (ok_is e2) (record { is_type = eqb-true n EFFECTER_NAMES t; takes = said.0; is_data = said.1 })))
+    (λ _ r2. chosen (n == ENTITY_NAMES) (as_data (λ e. EntityNames e) (entity_names_at bytes)) _ (Ok x) r2
+    (λ t e1. stepped e1 (entity_names_taken bytes small) (λ y said e2.
+    subst (Found n bytes) (ok_is e2) (record { is_type = eqb-true n ENTITY_NAMES t; takes = said.0; is_data = said.1 })))
+    (λ _ r3. absurd cc)))
 
 pub data_taken : (n : ℕ) (bytes : List ℕ) → IsBytes bytes → (x : RecordData × List ℕ) → data_at n bytes ≡ Ok x → Found n bytes x
 data_taken n bytes small x e =
@@ -48,7 +63,7 @@ data_taken n bytes small x e =
     (λ _ r4. chosen (n == STATE_EFFECTER) (as_data (λ e. StateEffecter e) (state_effecter_at bytes)) _ (Ok x) r4
     (λ t e1. stepped e1 (state_effecter_taken bytes small) (λ y said e2.
     subst (Found n bytes) (ok_is e2) (record { is_type = eqb-true n STATE_EFFECTER t; takes = said.0; is_data = said.1 })))
-    (λ _ r5. absurd cc)))))
+    (λ _ r5. names_data_taken n bytes small x r5)))))
 
 pub data_again : (contents : RecordData) (rest : List ℕ) → IsData contents → data_at (type_of contents) (data_bytes contents ++ rest) ≡ Ok (contents, rest)
 data_again (TerminusLocator locator) rest ok = goes_on _ (terminus_locator_again locator rest ok) refl
@@ -56,6 +71,9 @@ data_again (NumericSensor sensor) rest ok = goes_on _ (numeric_sensor_again sens
 data_again (StateSensor sensor) rest ok = goes_on _ (state_sensor_again sensor rest ok) refl
 data_again (NumericEffecter effecter) rest ok = goes_on _ (numeric_effecter_again effecter rest ok) refl
 data_again (StateEffecter effecter) rest ok = goes_on _ (state_effecter_again effecter rest ok) refl
+data_again (SensorNames names) rest ok = goes_on _ (sensor_names_again names rest ok) refl
+data_again (EffecterNames names) rest ok = goes_on _ (effecter_names_again names rest ok) refl
+data_again (EntityNames names) rest ok = goes_on _ (entity_names_again names rest ok) refl
 
 -- data in its ranges fits
 pub data_in_range : (contents : RecordData) → IsData contents → data_fits contents ≡ true
@@ -64,6 +82,9 @@ data_in_range (NumericSensor sensor) ok = ok.13
 data_in_range (StateSensor sensor) ok = ok.4.1
 data_in_range (NumericEffecter effecter) ok = ok.11
 data_in_range (StateEffecter effecter) ok = ok.5.1
+data_in_range (SensorNames names) ok = ok.3
+data_in_range (EffecterNames names) ok = ok.3
+data_in_range (EntityNames names) ok = ok.2
 
 whole_taken : (n : ℕ) (bytes : List ℕ) → IsBytes bytes → (contents : RecordData) → whole (data_at n bytes) ≡ Ok contents
     → (n ≡ type_of contents) × (bytes ≡ data_bytes contents) × IsData contents

@@ -1,5 +1,5 @@
 -- The state sensor: what is read was taken, and is read again.
-use Rattle.std.proofs.Common.{◌≡◌, ℕ, List, [], ◌∷◌, ◌++◌, Ok, refl, ap, subst, ◌∙◌}
+use Rattle.std.proofs.Common.{◌≡◌, ℕ, List, ◌++◌, Ok, refl, ap, subst, ◌∙◌}
 use Rattle.byteorder.specs.Endian.{little_bytes}
 use Rattle.pldm_pdr.specs.declared.state_sensor.StateSensor.{StateSensor}
 use Rattle.pldm_pdr.specs.Fields.{byte, flag}

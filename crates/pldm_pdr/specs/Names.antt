@@ -109,7 +109,7 @@ unfoldable pub text_to : List ℕ → Result (List ℕ) RecordFault → Field (L
 text_to bytes end = do
   rest ← end
   let count = length bytes - length rest in
-    refused (nat_lt MAX_NAME_BYTES count) Names (Ok (take count bytes, drop count bytes))
+      refused (nat_lt MAX_NAME_BYTES count) Names (Ok (take count bytes, drop count bytes))
 
 -- whether the bytes end there, and are not too many
 

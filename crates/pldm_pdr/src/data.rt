@@ -1,4 +1,7 @@
-use crate::{NumericEffecter, NumericSensor, StateEffecter, StateSensor, TerminusLocator};
+use crate::{
+    EffecterNames, EntityNames, NumericEffecter, NumericSensor, SensorNames, StateEffecter,
+    StateSensor, TerminusLocator,
+};
 
 /// What a record tells after its header: one variant for each type of record that is read here (DSP0248, "PDR type
 /// values").
@@ -10,8 +13,14 @@ pub enum RecordData {
     NumericSensor(NumericSensor),
     /// 4: a state sensor.
     StateSensor(StateSensor),
+    /// 6: the auxiliary names of a sensor.
+    SensorNames(SensorNames),
     /// 9: a numeric effecter.
     NumericEffecter(NumericEffecter),
     /// 11: a state effecter.
     StateEffecter(StateEffecter),
+    /// 13: the auxiliary names of an effecter.
+    EffecterNames(EffecterNames),
+    /// 16: the auxiliary names of an entity.
+    EntityNames(EntityNames),
 }

@@ -6,6 +6,7 @@ ghost use Rattle.pldm_pdr.specs.NumericSensors.{numeric_sensor_fits, range_fits}
 ghost use Rattle.pldm_pdr.specs.NumericEffecters.{numeric_effecter_fits};
 ghost use Rattle.pldm_pdr.specs.Records.{data_fits};
 
+use crate::name_text::{are_all_names, are_names};
 use crate::state_sets::composite_fits;
 use crate::{NumericEffecter, NumericSensor, RecordData, SensorRange};
 use pldm_wire::{Number, Size};
@@ -20,6 +21,9 @@ pub(crate) fn data_fits(contents: &RecordData) -> bool
         RecordData::StateSensor(sensor) => composite_fits(&sensor.sets),
         RecordData::NumericEffecter(effecter) => numeric_effecter_fits(effecter),
         RecordData::StateEffecter(effecter) => composite_fits(&effecter.sets),
+        RecordData::SensorNames(names) => are_all_names(&names.names),
+        RecordData::EffecterNames(names) => are_all_names(&names.names),
+        RecordData::EntityNames(names) => are_names(&names.names),
     }
 }
 

@@ -11,9 +11,7 @@ use arrayvec::ArrayVec;
 
 /// The names of one sensor, effecter or entity, and the bytes after them.
 #[tactic(auto, unfolding(crate::specs::Fields::and_then, crate::specs::Fields::refused, crate::specs::Names::text_to))]
-pub(crate) fn names_in(
-    bytes: &[u8],
-) -> Result<(ArrayVec<u8, MAX_NAME_BYTES>, &[u8]), RecordFault>
+pub(crate) fn names_in(bytes: &[u8]) -> Result<(ArrayVec<u8, MAX_NAME_BYTES>, &[u8]), RecordFault>
     ensures { Gives (λ x. (x.0.items, x.1.now)) result (text_to bytes.now (names_end bytes.now)) }
 {
     let rest = names_end(bytes)?;

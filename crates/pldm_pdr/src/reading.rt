@@ -2,14 +2,15 @@
 
 ghost use Rattle.std.specs.Prelude.{◌≡◌, IfOk, IsTrue, Ok};
 ghost use Rattle.pldm_pdr.specs.Fields.{Gives};
-ghost use Rattle.pldm_pdr.specs.Records.{IsRead, PlatformRecord, data_at, data_fits, record_of, whole};
+ghost use Rattle.pldm_pdr.specs.Records.{IsRead, PlatformRecord, data_at, data_fits, names_data_at, record_of, whole};
 
 use crate::fields::{byte_in, u16_in, u32_in};
 use crate::limits::{
-    HEADER_VERSION, NUMERIC_EFFECTER, NUMERIC_SENSOR, STATE_EFFECTER, STATE_SENSOR,
-    TERMINUS_LOCATOR,
+    EFFECTER_NAMES, ENTITY_NAMES, HEADER_VERSION, NUMERIC_EFFECTER, NUMERIC_SENSOR, SENSOR_NAMES,
+    STATE_EFFECTER, STATE_SENSOR, TERMINUS_LOCATOR,
 };
 use crate::locator_reading::terminus_locator_in;
+use crate::name_fields::{effecter_names_in, entity_names_in, sensor_names_in};
 use crate::numeric_effecter_fields::numeric_effecter_in;
 use crate::numeric_sensor_reading::numeric_sensor_in;
 use crate::state_effecter_fields::state_effecter_in;
@@ -90,6 +91,29 @@ fn data_in(type_number: u8, bytes: &[u8]) -> Result<(RecordData, &[u8]), RecordF
         STATE_EFFECTER => {
             let (effecter, rest) = state_effecter_in(bytes)?;
             Ok((RecordData::StateEffecter(effecter), rest))
+        }
+        _ => names_data_in(type_number, bytes),
+    }
+}
+
+/// The names of a record of this type, and the bytes after them.
+#[tactic(auto, unfolding(crate::specs::Fields::and_then))]
+fn names_data_in(type_number: u8, bytes: &[u8]) -> Result<(RecordData, &[u8]), RecordFault>
+    ensures exact { Gives (λ x. (x.0, x.1.now)) result (names_data_at type_number bytes.now) }
+    ensures fits { IfOk result (λ x. IsTrue (data_fits x.0)) }
+{
+    match type_number {
+        SENSOR_NAMES => {
+            let (names, rest) = sensor_names_in(bytes)?;
+            Ok((RecordData::SensorNames(names), rest))
+        }
+        EFFECTER_NAMES => {
+            let (names, rest) = effecter_names_in(bytes)?;
+            Ok((RecordData::EffecterNames(names), rest))
+        }
+        ENTITY_NAMES => {
+            let (names, rest) = entity_names_in(bytes)?;
+            Ok((RecordData::EntityNames(names), rest))
         }
         _ => Err(RecordFault::OtherType),
     }

@@ -5,7 +5,8 @@ use crate::RecordData;
 use crate::fitting::data_fits;
 use std::marker::Model;
 
-/// A platform data record whose data fits: numbers their sizes, and how many states there are (DSP0248, "Common PDR format").
+/// A platform data record whose data fits: numbers their sizes, how many states there are, and whole
+/// names (DSP0248, "Common PDR format").
 #[derive(Debug, PartialEq, Eq, Drop)]
 pub struct Record {
     handle: u32,
@@ -28,7 +29,8 @@ impl Model for Record {
 
 impl Record {
     /// The record of this handle, change number and data, where the data fits: each number its data size, each range
-    /// field its format; a composite sensor or effecter has one to eight sets, each in 1 to 32 bytes.
+    /// field its format; a composite sensor or effecter has one to eight sets, each in 1 to 32 bytes;
+    /// names are whole.
     pub fn new(handle: u32, change_number: u16, contents: RecordData) -> Option<Record>
         ensures test { is_some result ≡ data_fits contents }
         ensures record { IfSome result (λ made. made ≡ platform_record handle change_number contents) }

@@ -7,10 +7,11 @@ ghost use Rattle.pldm_pdr.specs.Records.{IsData, IsRead, bytes_of, data_bytes, d
 ghost use Rattle.pldm_pdr.specs.Fields.{Adds};
 
 use crate::limits::{
-    HEADER_VERSION, MAX_DATA_BYTES, NUMERIC_EFFECTER, NUMERIC_SENSOR, STATE_EFFECTER, STATE_SENSOR,
-    TERMINUS_LOCATOR,
+    EFFECTER_NAMES, ENTITY_NAMES, HEADER_VERSION, MAX_DATA_BYTES, NUMERIC_EFFECTER, NUMERIC_SENSOR,
+    SENSOR_NAMES, STATE_EFFECTER, STATE_SENSOR, TERMINUS_LOCATOR,
 };
 use crate::locator_writing::push_terminus_locator;
+use crate::name_fields::{push_effecter_names, push_entity_names, push_sensor_names};
 use crate::numeric_effecter_fields::push_numeric_effecter;
 use crate::numeric_sensor_writing::push_numeric_sensor;
 use crate::pushes::{push_byte, push_bytes, push_u16, push_u32};
@@ -48,6 +49,9 @@ fn type_of(contents: &RecordData) -> u8
         RecordData::StateSensor(_) => STATE_SENSOR,
         RecordData::NumericEffecter(_) => NUMERIC_EFFECTER,
         RecordData::StateEffecter(_) => STATE_EFFECTER,
+        RecordData::SensorNames(_) => SENSOR_NAMES,
+        RecordData::EffecterNames(_) => EFFECTER_NAMES,
+        RecordData::EntityNames(_) => ENTITY_NAMES,
     }
 }
 
@@ -65,6 +69,9 @@ fn data_of(contents: &RecordData) -> RecordBytes
         RecordData::StateSensor(sensor) => push_state_sensor(&mut out, sensor),
         RecordData::NumericEffecter(effecter) => push_numeric_effecter(&mut out, effecter),
         RecordData::StateEffecter(effecter) => push_state_effecter(&mut out, effecter),
+        RecordData::SensorNames(names) => push_sensor_names(&mut out, names),
+        RecordData::EffecterNames(names) => push_effecter_names(&mut out, names),
+        RecordData::EntityNames(names) => push_entity_names(&mut out, names),
     }
     out
 }

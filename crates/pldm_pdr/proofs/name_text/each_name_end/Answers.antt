@@ -1,7 +1,6 @@
 -- Where they end is found in the bytes that are left.
-use Rattle.std.proofs.Common.{◌≡◌, ◌-◌, ◌∙◌, sym, arith}
+use Rattle.std.proofs.Common.{◌∙◌, sym}
 use Rattle.std.proofs.lemmas.Result.{err_from_is_err_and}
-use Rattle.pldm_pdr.specs.Names.{each_name_end}
 use Rattle.pldm_pdr.proofs.NameLoops.{name_passed, name_failed, no_name_left}
 use Rattle.pldm_pdr.proofs.name_text.each_name_end.Goals as goal
 

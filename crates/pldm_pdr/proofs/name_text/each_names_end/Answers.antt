@@ -1,7 +1,6 @@
 -- Where they end is found in the bytes that are left.
-use Rattle.std.proofs.Common.{◌≡◌, ◌-◌, ◌∙◌, sym, arith}
+use Rattle.std.proofs.Common.{◌∙◌, sym}
 use Rattle.std.proofs.lemmas.Result.{err_from_is_err_and}
-use Rattle.pldm_pdr.specs.Names.{each_names_end}
 use Rattle.pldm_pdr.proofs.NameLoops.{names_passed, names_failed, no_names_left}
 use Rattle.pldm_pdr.proofs.name_text.each_names_end.Goals as goal
 
