@@ -45,4 +45,12 @@ fn faults_of_fields(rt: HostRuntime) {
         1, 0, 0, 0, 1, 4, 0, 0, 16, 0, 1, 0, 10, 0, 64, 0, 1, 0, 100, 0, 0, 0, 1, 1, 0, 0,
     ];
     assert_eq!(rt; read(&no_states).err(), Some(RecordFault::States));
+    let tag = [
+        1, 0, 0, 0, 1, 16, 0, 0, 12, 0, 64, 0, 1, 0, 100, 0, 0, 1, 0xC3, 0, 0, 0,
+    ];
+    assert_eq!(rt; read(&tag).err(), Some(RecordFault::Tag));
+    let shared = [1, 0, 0, 0, 1, 16, 0, 0, 8, 0, 64, 0, 1, 0, 100, 0, 1, 0];
+    assert_eq!(rt; read(&shared).err(), Some(RecordFault::Shared));
+    let half = [1, 0, 0, 0, 1, 13, 0, 0, 9, 0, 1, 0, 6, 0, 1, 1, 0, 0, 84];
+    assert_eq!(rt; read(&half).err(), Some(RecordFault::Short));
 }

@@ -1,9 +1,9 @@
-//! Terminus locators, state sensors and state effecters.
+//! Terminus locators, state sensors, state effecters and names.
 
 use arrayvec::ArrayVec;
 use pldm_pdr::{
-    Entity, PossibleStates, Record, RecordData, StateEffecter, StateSensor, TerminusLocator, read,
-    write,
+    EffecterNames, Entity, EntityNames, PossibleStates, Record, RecordData, SensorNames,
+    StateEffecter, StateSensor, TerminusLocator, read, write,
 };
 use std::test::Fail;
 
@@ -134,4 +134,83 @@ fn a_state_effecter(rt: HostRuntime) -> Result<(), Fail> {
     assert_eq!(rt; write(&made).as_slice(), EFFECTER.as_slice());
     assert_eq!(rt; read(&EFFECTER), Ok(made));
     Ok(())
+}
+
+const NAMES: [u8; 49] = [
+    0x05, 0x00, 0x00, 0x00, // record handle 5
+    0x01, // header version
+    0x06, // sensor auxiliary names
+    0x00, 0x00, // record change number
+    0x27, 0x00, // data length 39
+    0x01, 0x00, // terminus handle
+    0x05, 0x00, // sensor ID 5
+    0x02, // two sensors
+    0x02, // two names of the first
+    0x65, 0x6E, 0x00, // language tag "en"
+    0x00, 0x54, 0x00, 0x31, 0x00, 0x00, // "T1"
+    0x64, 0x65, 0x2D, 0x41, 0x54, 0x00, // language tag "de-AT"
+    0x00, 0xDC, 0x00, 0x00, // "Ü"
+    0x01, // one name of the second
+    0x65, 0x6E, 0x00, // language tag "en"
+    0x00, 0x46, 0x00, 0x61, 0x00, 0x6E, 0x00, 0x31, 0x00, 0x00, // "Fan1"
+];
+
+#[test]
+fn names_of_a_sensor(rt: HostRuntime) -> Result<(), Fail> {
+    let mut names = ArrayVec::new();
+    let _ = names.try_extend_from_slice(&NAMES[14..]);
+    let record = SensorNames {
+        terminus_handle: 1,
+        sensor_id: 5,
+        names,
+    };
+    let made = Record::new(5, 0, RecordData::SensorNames(record)).ok_or("no record")?;
+    assert_eq!(rt; write(&made).as_slice(), NAMES.as_slice());
+    assert_eq!(rt; read(&NAMES), Ok(made));
+    Ok(())
+}
+
+const TERMINUS_NAME: [u8; 31] = [
+    0x06, 0x00, 0x00, 0x00, // record handle 6
+    0x01, // header version
+    0x10, // entity auxiliary names
+    0x00, 0x00, // record change number
+    0x15, 0x00, // data length 21
+    0x40, 0x00, // entity type 64
+    0x01, 0x00, // entity instance
+    0x64, 0x00, // container ID 100
+    0x00, // no shared names
+    0x01, // one name
+    0x65, 0x6E, 0x00, // language tag "en"
+    0x00, 0x66, 0x00, 0x61, 0x00, 0x6E, 0x00, 0x73, 0x00, 0x00, // "fans"
+];
+
+#[test]
+fn the_name_of_a_terminus(rt: HostRuntime) -> Result<(), Fail> {
+    let mut names = ArrayVec::new();
+    let _ = names.try_extend_from_slice(&TERMINUS_NAME[17..]);
+    let record = EntityNames {
+        entity: Entity {
+            entity_type: 64,
+            instance: 1,
+            container_id: 100,
+        },
+        names,
+    };
+    let made = Record::new(6, 0, RecordData::EntityNames(record)).ok_or("no record")?;
+    assert_eq!(rt; write(&made).as_slice(), TERMINUS_NAME.as_slice());
+    assert_eq!(rt; read(&TERMINUS_NAME), Ok(made));
+    Ok(())
+}
+
+#[test]
+fn names_that_are_not_whole(rt: HostRuntime) {
+    let mut names = ArrayVec::new();
+    let _ = names.try_extend_from_slice(&[1, 0x65, 0x6E, 0x00, 0x00, 0x54, 0x00]);
+    let record = EffecterNames {
+        terminus_handle: 1,
+        effecter_id: 6,
+        names,
+    };
+    assert_eq!(rt; Record::new(7, 0, RecordData::EffecterNames(record)), None);
 }
