@@ -18,3 +18,4 @@ pub mod Records
 pub mod SetsRead
 pub mod NamesTaken
 pub mod NameRecords
+pub mod StatesAmong

@@ -1,7 +1,7 @@
 -- The possible states of the sensors or effecters of a composite one (DSP0248, "State sensor PDR" and "State effecter
 -- PDR").
-use Rattle.std.specs.Prelude.{ℕ, zero, suc, ◌/◌, ◌%◌, ◌^◌, ◌==◌, nat_le, Bool, ◌&&◌, true, not, IsTrue, List, [], ◌∷◌, ◌++◌}
-use Rattle.std.specs.Prelude.{length, slice_index, Ok}
+use Rattle.std.specs.Prelude.{ℕ, zero, suc, ◌+◌, ◌*◌, ◌/◌, ◌%◌, ◌^◌, ◌==◌, nat_le, max, Bool, ◌&&◌, ◌||◌, true, false, not, IsTrue, List, [], ◌∷◌, ◌++◌}
+use Rattle.std.specs.Prelude.{length, slice_index, Ok, if◌then◌else◌}
 use Rattle.arrayvec.specs.ArrayVec.{ArrayVec}
 use Rattle.byteorder.specs.Endian.{little_bytes}
 use Rattle.pldm_wire.specs.Numbers.{IsU16}
@@ -15,6 +15,32 @@ use Rattle.pldm_pdr.specs.Fields.{◌>>=◌, Field, byte, byte_at, list_at, numb
 -- state s is bit s mod 8 of byte s / 8
 abbrev pub has_state : List ℕ → ℕ → Bool
 has_state bits state = slice_index bits (state / 8) / 2 ^ (state % 8) % 2 == 1
+
+-- whether a state is among these
+abbrev pub is_among : List ℕ → ℕ → Bool
+is_among [] state = false
+is_among (first ∷ states) state = (first == state) || is_among states state
+
+-- the bits of eight states, from a first one on
+
+abbrev pub bit_of : List ℕ → ℕ → ℕ
+bit_of states state = if is_among states state then 1 else 0
+
+abbrev pub bits_from : List ℕ → ℕ → ℕ
+bits_from states first =
+    bit_of states first + 2 * bit_of states (first + 1) + 4 * bit_of states (first + 2)
+    + 8 * bit_of states (first + 3) + 16 * bit_of states (first + 4) + 32 * bit_of states (first + 5)
+    + 64 * bit_of states (first + 6) + 128 * bit_of states (first + 7)
+
+-- the bits of states in so many bytes
+abbrev pub bits_in : List ℕ → ℕ → List ℕ
+bits_in states zero = []
+bits_in states (suc count) = bits_in states count ++ bits_from states (8 * count) ∷ []
+
+-- the last byte that has a bit of these states
+abbrev pub last_byte : List ℕ → ℕ
+last_byte [] = 0
+last_byte (state ∷ states) = max (state / 8) (last_byte states)
 
 -- these items, as they are kept
 abbrev pub kept : {A : Type 0} → List A → ArrayVec A

@@ -59,16 +59,10 @@ const STATES: [u8; 32] = [
     0x01, 0x02, // states 0 and 9
 ];
 
-fn states(state_set: u16, bytes: &[u8]) -> PossibleStates {
-    let mut bits = ArrayVec::new();
-    let _ = bits.try_extend_from_slice(bytes);
-    PossibleStates { state_set, bits }
-}
-
 #[test]
 fn a_state_sensor(rt: HostRuntime) -> Result<(), Fail> {
-    let first = states(1, &[0x06]);
-    let second = states(258, &[0x01, 0x02]);
+    let first = PossibleStates::of(1, &[2, 1]);
+    let second = PossibleStates::of(258, &[9, 0]);
     assert!(rt; first.has_state(1) && first.has_state(2));
     assert!(rt; !first.has_state(0) && !first.has_state(3) && !first.has_state(10));
     assert!(rt; second.has_state(0) && second.has_state(9) && !second.has_state(8));
@@ -116,7 +110,7 @@ const EFFECTER: [u8; 29] = [
 #[test]
 fn a_state_effecter(rt: HostRuntime) -> Result<(), Fail> {
     let mut sets = ArrayVec::new();
-    let _ = sets.try_push(states(5, &[0x1E]));
+    let _ = sets.try_push(PossibleStates::of(5, &[1, 2, 3, 4]));
     let effecter = StateEffecter {
         terminus_handle: 1,
         effecter_id: 20,
