@@ -1,0 +1,14 @@
+pub mod Fields
+pub mod RangeFormats
+pub mod Entities
+pub mod Measures
+pub mod TerminusLocators
+pub mod NumericSensors
+pub mod StateSets
+pub mod StateSensors
+pub mod NumericEffecters
+pub mod StateEffecters
+pub mod Names
+pub mod NameRecords
+pub mod Records
+pub mod Laws
