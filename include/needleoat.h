@@ -430,7 +430,7 @@ enum needleoat_i3c_fault {
 /* What a frame carries: a packet, which begins at byte 0. Where `fault` is not 0 the length has no meaning. */
 struct needleoat_i3c_frame {
     uint8_t fault;          /* 0, or enum needleoat_i3c_fault */
-    uint32_t packet_length; /* 4 or more bytes; UINT32_MAX where there are more */
+    uint32_t packet_length; /* in bytes, 4 or more; UINT32_MAX where there are more */
 };
 
 /*
