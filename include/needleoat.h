@@ -1,6 +1,6 @@
 /*
  * Needleoat for C: MCTP packets (DSP0236) and PLDM messages (DSP0240, DSP0248) read and written, control
- * messages (DSP0236) answered, and both ends.
+ * messages (DSP0236) answered, the frames of packets on I2C (DSP0237) and I3C (DSP0233), and both ends.
  *
  * libneedleoat_wire_c.a has what stands before the section on the two ends. It takes no memory, keeps
  * nothing between two calls, and needs memcpy and memset alone. libneedleoat_c.a has what comes then.
@@ -69,7 +69,9 @@ enum {
     NEEDLEOAT_MESSAGE_BYTES = 320, /* the most bytes of a message */
     NEEDLEOAT_REQUEST_BYTES = 23,  /* the most bytes of a request that needleoat_command_write writes */
     NEEDLEOAT_PART_BYTES = 303,    /* the most bytes of a record in one GetPDR answer */
-    NEEDLEOAT_STATES = 8           /* the most fields of a state sensor or effecter */
+    NEEDLEOAT_STATES = 8,          /* the most fields of a state sensor or effecter */
+    NEEDLEOAT_I2C_FRAME_BYTES = 259, /* the most bytes of a frame on I2C: 4, a packet of 254, and the PEC */
+    NEEDLEOAT_I3C_FRAME_BYTES = 255  /* the most bytes of a frame on I3C: a packet of 254, and the PEC */
 };
 
 /* Reasons to drop a packet or a message, in the order of the checks, but 18 before 17. 0 is none. */
@@ -359,6 +361,88 @@ struct needleoat_control {
  */
 uint32_t needleoat_control_reply(const struct needleoat_control *fields, uint8_t reason, const uint8_t *packet,
                                  size_t length, uint8_t out[NEEDLEOAT_PACKET_BYTES]);
+
+/* ---- Packets on I2C and I3C ----
+ *
+ * A frame carries one packet, and ends with a PEC: CRC-8 as that of needleoat_crc8, over all bytes before it and the
+ * address byte that the transfer begins with. No packet is looked into: what was read goes to needleoat_packet_read or
+ * to an endpoint, which take 68 bytes at most, though a frame carries up to 254.
+ */
+
+/*
+ * On SMBus and I2C (DSP0237) a frame is a block write of the device that sends it:
+ *
+ *   byte 0       the destination's 7-bit address times 2
+ *   byte 1       the command code 0F
+ *   byte 2       the byte count: 1 and the length of the packet
+ *   byte 3       the source's 7-bit address times 2, and 1
+ *   from byte 4  the packet
+ *   the last     the PEC of all bytes before it
+ *
+ * An address is the number of seven bits here, 0x08 to 0x77. Some controllers keep byte 0 to themselves. Where one
+ * does, leave it out when sending, and put the own address times 2 before the bytes that it hands over.
+ */
+
+/* Why bytes are no frame, in the order of the checks. 0: they are one. */
+enum needleoat_i2c_fault {
+    NEEDLEOAT_I2C_SHORT = 1,             /* fewer than 6 bytes, so not one of a packet */
+    NEEDLEOAT_I2C_NOT_OURS = 2,          /* byte 0 is not the own address times 2 */
+    NEEDLEOAT_I2C_OTHER_COMMAND = 3,     /* byte 1 is not 0F */
+    NEEDLEOAT_I2C_WRONG_COUNT = 4,       /* byte 2 does not count the bytes after it and before the PEC */
+    NEEDLEOAT_I2C_NOT_SOURCE = 5,        /* bit 0 of byte 3 is 0, or the address before it is not 0x08 to 0x77 */
+    NEEDLEOAT_I2C_WRONG_PEC = 6,         /* the PEC is another than that of the bytes before it */
+    NEEDLEOAT_I2C_NOT_AN_ADDRESS = 255   /* the own address is not 0x08 to 0x77, so nothing was read */
+};
+
+/* What a frame carries. Where `fault` is not 0 the others have no meaning. */
+struct needleoat_i2c_frame {
+    uint8_t fault;          /* 0, or enum needleoat_i2c_fault */
+    uint8_t source_address; /* where it comes from, 0x08 to 0x77: an answer to the packet goes there */
+    uint32_t packet_start;  /* the place of the packet's first byte among the bytes: 4 */
+    uint32_t packet_length; /* 1 to 254 bytes */
+};
+
+/*
+ * Writes the frame of a packet to the front of `out`, and returns its length in bytes, 9 to 259. It returns 0 and
+ * leaves `out` as it was where an address is not 0x08 to 0x77, and where the packet has fewer than 4 bytes or more
+ * than 254.
+ */
+uint32_t needleoat_i2c_write(uint8_t source_address, uint8_t destination_address, const uint8_t *packet, size_t length,
+                             uint8_t out[NEEDLEOAT_I2C_FRAME_BYTES]);
+
+/* Reads the bytes of a block write at the device of `own_address`, from its byte 0 to its PEC. */
+struct needleoat_i2c_frame needleoat_i2c_read(uint8_t own_address, const uint8_t *bytes, size_t length);
+
+/*
+ * On I3C (DSP0233) a frame is the packet and its PEC, in a private write to a target or in a private read from it. The
+ * address byte of the transfer is the target's dynamic address times 2, and 1 more in a read. The PEC covers it, and no
+ * controller hands it over: so it is no byte of a frame, and the calls take the address, 0 to 0x7F, and `is_read`. A
+ * frame of another transfer has a wrong PEC.
+ */
+
+/* Why bytes are no frame, in the order of the checks. 0: they are one. */
+enum needleoat_i3c_fault {
+    NEEDLEOAT_I3C_SHORT = 1,           /* fewer than 5 bytes: a packet's header and the PEC */
+    NEEDLEOAT_I3C_WRONG_PEC = 2,       /* the PEC is another than that of the address byte and the bytes before it */
+    NEEDLEOAT_I3C_NOT_AN_ADDRESS = 255 /* the address is above 0x7F, so nothing was read */
+};
+
+/* What a frame carries: a packet, which begins at byte 0. Where `fault` is not 0 the length has no meaning. */
+struct needleoat_i3c_frame {
+    uint8_t fault;          /* 0, or enum needleoat_i3c_fault */
+    uint32_t packet_length; /* in bytes, 4 or more; UINT32_MAX where there are more */
+};
+
+/*
+ * Writes the frame of a packet to the front of `out`, and returns its length in bytes, 5 to 255. It returns 0 and
+ * leaves `out` as it was where `address` is above 0x7F, and where the packet has fewer than 4 bytes or more than
+ * 254.
+ */
+uint32_t needleoat_i3c_write(uint8_t address, bool is_read, const uint8_t *packet, size_t length,
+                             uint8_t out[NEEDLEOAT_I3C_FRAME_BYTES]);
+
+/* Reads the bytes of a transfer to or from the target of this dynamic address, from the packet to the PEC. */
+struct needleoat_i3c_frame needleoat_i3c_read(uint8_t address, bool is_read, const uint8_t *bytes, size_t length);
 
 /* ---- Both ends: libneedleoat_c.a ----
  *
@@ -735,6 +819,14 @@ NEEDLEOAT_AT(needleoat_control, uuid, 1);
 NEEDLEOAT_AT(needleoat_control, base_version, 17);
 NEEDLEOAT_AT(needleoat_control, control_version, 21);
 NEEDLEOAT_AT(needleoat_control, pldm_version, 25);
+NEEDLEOAT_ASSERT(sizeof(struct needleoat_i2c_frame) == 12);
+NEEDLEOAT_AT(needleoat_i2c_frame, fault, 0);
+NEEDLEOAT_AT(needleoat_i2c_frame, source_address, 1);
+NEEDLEOAT_AT(needleoat_i2c_frame, packet_start, 4);
+NEEDLEOAT_AT(needleoat_i2c_frame, packet_length, 8);
+NEEDLEOAT_ASSERT(sizeof(struct needleoat_i3c_frame) == 8);
+NEEDLEOAT_AT(needleoat_i3c_frame, fault, 0);
+NEEDLEOAT_AT(needleoat_i3c_frame, packet_length, 4);
 NEEDLEOAT_ASSERT(sizeof(struct needleoat_endpoint) == 16);
 NEEDLEOAT_AT(needleoat_endpoint, at, 0);
 NEEDLEOAT_AT(needleoat_endpoint, is_live, 8);

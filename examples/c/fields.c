@@ -1,7 +1,7 @@
 /*
  * Passes other values through each field of each struct, and through each number that a call returns. The
- * bytes beside it in fields.expected are those of the tables of DSP0236, DSP0240 and DSP0248, written by
- * hand.
+ * bytes beside it in fields.expected are those of the tables of DSP0236, DSP0240, DSP0248, DSP0237 and DSP0233,
+ * written by hand, the PECs by another program.
  */
 #include "needleoat.h"
 #include <inttypes.h>
@@ -475,6 +475,80 @@ static void steps(void) {
     printf("freed %u\n", needleoat_endpoint_restart(&endpoint, 8));
 }
 
+/* ---- Packets on I2C and I3C ---- */
+
+/* Prints the bytes before a packet and its first four, and the PEC. */
+static void print_frame(uint32_t count, const uint8_t *out, uint32_t front, size_t most) {
+    printf("%" PRIu32 " ", count);
+    print_bytes(out, count < front ? count : front);
+    if (count > 0) printf(" .. %02x", out[count - 1]);
+    printf(" %s\n", rest(out, count, most));
+}
+
+/* The bytes of the packet are 0, 1, 2 .. */
+static void write_frames(uint8_t first, uint8_t second, size_t length) {
+    uint8_t packet[256], out[NEEDLEOAT_I2C_FRAME_BYTES], i3c_out[NEEDLEOAT_I3C_FRAME_BYTES];
+    for (size_t i = 0; i < sizeof packet; i++) packet[i] = (uint8_t)i;
+    memset(out, UNTOUCHED, sizeof out);
+    memset(i3c_out, UNTOUCHED, sizeof i3c_out);
+    printf("I2C from %02x to %02x, %zu bytes: ", first, second, length);
+    print_frame(needleoat_i2c_write(first, second, packet, length, out), out, 8, sizeof out);
+    printf("I3C to %02x, %zu bytes: ", first, length);
+    print_frame(needleoat_i3c_write(first, false, packet, length, i3c_out), i3c_out, 4, sizeof i3c_out);
+    memset(i3c_out, UNTOUCHED, sizeof i3c_out);
+    printf("I3C from %02x, %zu bytes: ", first, length);
+    print_frame(needleoat_i3c_write(first, true, packet, length, i3c_out), i3c_out, 4, sizeof i3c_out);
+}
+
+static void read_i2c(uint8_t own, const char *hex) {
+    uint8_t bytes[NEEDLEOAT_I2C_FRAME_BYTES];
+    struct needleoat_i2c_frame frame = needleoat_i2c_read(own, bytes, from_hex(hex, bytes));
+    printf("I2C at %02x: fault %u", own, frame.fault);
+    if (frame.fault == 0)
+        printf(" source %02x packet at %" PRIu32 " of %" PRIu32, frame.source_address, frame.packet_start,
+               frame.packet_length);
+    printf("\n");
+}
+
+static void read_i3c(uint8_t address, bool is_read, const char *hex) {
+    uint8_t bytes[NEEDLEOAT_I3C_FRAME_BYTES];
+    struct needleoat_i3c_frame frame = needleoat_i3c_read(address, is_read, bytes, from_hex(hex, bytes));
+    printf("I3C %s %02x: fault %u", is_read ? "from" : "to", address, frame.fault);
+    if (frame.fault == 0) printf(" packet of %" PRIu32, frame.packet_length);
+    printf("\n");
+}
+
+static void bus_frames(void) {
+    write_frames(0x10, 0x1d, 4);
+    write_frames(0x08, 0x77, 254);
+    write_frames(0x77, 0x08, 5);
+    write_frames(0x10, 0x1d, 3);
+    write_frames(0x10, 0x1d, 255);
+    write_frames(0x07, 0x1d, 4);
+    write_frames(0x78, 0x1d, 4);
+    write_frames(0x10, 0x07, 4);
+    write_frames(0x10, 0x78, 4);
+    write_frames(0x7f, 0x1d, 4);
+    write_frames(0x80, 0x1d, 4);
+    read_i2c(0x1d, "3a0f0921" "010908c801800002" "ca");
+    read_i2c(0x77, "ee0f0211" "aa" "70");
+    read_i2c(0x1d, "3a0f0121" "80");
+    read_i2c(0x1e, "3a0f0921" "010908c801800002" "ca");
+    read_i2c(0x1d, "3a0e0921" "010908c801800002" "d5");
+    read_i2c(0x1d, "3a0f0a21" "010908c801800002" "72");
+    read_i2c(0x1d, "3a0f0920" "010908c801800002" "b3");
+    read_i2c(0x1d, "3a0f0921" "010908c801800002" "cc");
+    read_i2c(0x07, "0e0f0921" "010908c801800002" "ca");
+    read_i2c(0x78, "f00f0921" "010908c801800002" "ca");
+    read_i3c(0x30, false, "010908c801800002" "2b");
+    read_i3c(0x30, true, "010908c801800002" "52");
+    read_i3c(0x30, true, "010908c801800002" "2b");
+    read_i3c(0x31, false, "010908c801800002" "2b");
+    read_i3c(0x7f, true, "010908c8" "cb");
+    read_i3c(0x30, false, "010908" "00");
+    read_i3c(0x80, false, "010908c801800002" "2b");
+}
+
 int main(void) {
     packets();
     written_packets();
@@ -482,6 +556,7 @@ int main(void) {
     written_commands();
     written_answers();
     controls();
+    bus_frames();
     steps();
     printf("checksum %02x\n", needleoat_crc8((const uint8_t *)"123456789", 9));
     printf("checksum %02x\n", needleoat_crc8((const uint8_t *)"", 0));

@@ -48,6 +48,14 @@ static void request_read(void) { needleoat_request_read(request, request_length)
 static void response_read(void) { needleoat_response_read(response, response_length); }
 static void checksum(void) { needleoat_crc8(response, response_length); }
 
+/* The longest frames. */
+enum { LONGEST_PACKET = 254 };
+static uint8_t i2c_frame[NEEDLEOAT_I2C_FRAME_BYTES], i3c_frame[NEEDLEOAT_I3C_FRAME_BYTES];
+static void i2c_write(void) { needleoat_i2c_write(0x10, 0x1d, response, LONGEST_PACKET, i2c_frame); }
+static void i2c_read(void) { needleoat_i2c_read(0x1d, i2c_frame, sizeof i2c_frame); }
+static void i3c_write(void) { needleoat_i3c_write(0x30, true, response, LONGEST_PACKET, i3c_frame); }
+static void i3c_read(void) { needleoat_i3c_read(0x30, true, i3c_frame, sizeof i3c_frame); }
+
 /* An endpoint whose versions a bus owner asks for. */
 static const struct needleoat_control control = {.eid = 9};
 static void control_reply(void) {
@@ -125,6 +133,8 @@ static const struct {
     {"needleoat_answer_check", answer_check},   {"needleoat_packet_write", packet_write},
     {"needleoat_packet_read", packet_read},     {"needleoat_request_read", request_read},
     {"needleoat_response_read", response_read}, {"needleoat_crc8", checksum},
+    {"needleoat_i2c_write", i2c_write},         {"needleoat_i2c_read", i2c_read},
+    {"needleoat_i3c_write", i3c_write},         {"needleoat_i3c_read", i3c_read},
     {"needleoat_control_reply", control_reply}, {"needleoat_endpoint_new", endpoint_new},
     {"needleoat_endpoint_receive, not ready", receive_busy},
     {"needleoat_endpoint_receive, a command", receive_request},
