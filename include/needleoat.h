@@ -3,7 +3,7 @@
  * messages (DSP0236) answered, the frames of packets on I2C (DSP0237) and I3C (DSP0233), and both ends.
  *
  * libneedleoat_wire_c.a has what stands before the section on the two ends. It takes no memory, keeps
- * nothing between two calls, and needs memcpy and memset alone. libneedleoat_c.a has what comes then.
+ * nothing between two calls, and needs memcpy, memmove and memset alone. libneedleoat_c.a has what comes then.
  * Each call returns, whatever the bytes are. docs/PROTOCOL.md has the protocol whole, docs/C.md says
  * what is proved of these calls and how to build the libraries.
  *
