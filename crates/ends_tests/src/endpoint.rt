@@ -154,10 +154,10 @@ fn is_part(taken: &Result<Step, ReceiveRefusal>) -> bool {
 
 /// Whether the packet is dropped, since no message that it could go on with is open.
 fn is_stray(taken: &Result<Step, ReceiveRefusal>) -> bool {
-    matches!(
-        taken,
-        Ok(Step::Done(Outcome::Dropped(Reason::UnexpectedMiddleOrEnd)))
-    )
+    match taken {
+        Ok(Step::Done(Outcome::Dropped(reason))) => *reason == Reason::UnexpectedMiddleOrEnd,
+        _ => false,
+    }
 }
 
 #[test]
