@@ -7,6 +7,7 @@ mod answer_reading;
 mod answer_writing;
 mod assigned;
 mod base;
+mod busy_time;
 mod code;
 mod command;
 mod command_reading;
@@ -30,6 +31,7 @@ mod size;
 mod state_fields;
 mod transfer_flag;
 mod version_data;
+mod window;
 
 pub use answer::Answer;
 pub use answer_reading::{AnswerFault, read_answer};
@@ -42,6 +44,7 @@ pub use assigned::{
     INSTANCE_IDS, MESSAGE_TYPE, PLATFORM, REQUEST_HEADER, RESPONSE_HEADER,
     SET_NUMERIC_EFFECTER_VALUE, SET_STATE_EFFECTER_STATES, SET_TID, START_AND_END, SUCCESS,
 };
+pub use busy_time::BusyTime;
 pub use code::Code;
 pub use command::Command;
 pub use command_reading::read_command;
@@ -62,3 +65,4 @@ pub use size::Size;
 pub use state_fields::{EffecterStateField, SensorStateField, SetStateField, StateFields};
 pub use transfer_flag::TransferFlag;
 pub use version_data::VersionData;
+pub use window::Window;
