@@ -7,7 +7,7 @@ pub mod CallsLookBack
 pub mod RowsAreOne
 pub mod CopiesJoin
 pub mod NumberLookups
-pub mod NumberCounts
+pub mod NumberSearches
 pub mod NumberPlaces
 pub mod OpenPlaces
 pub mod PacketEnds
@@ -15,4 +15,3 @@ pub mod TakenPackets
 pub mod NumberedMaps
 pub mod KeyNumbers
 mod Numbers
-pub mod OpenBySource

@@ -7,4 +7,3 @@ pub mod Histories
 pub mod Laws
 pub mod NumberLists
 pub mod Numbered
-pub mod BySource

@@ -6,7 +6,7 @@ ghost use Rattle.mctp_assembly.specs.declared.key.Key.{Key};
 ghost use Rattle.mctp_assembly.specs.declared.fed.Fed.TheVariants.{Partial};
 
 use crate::buffer::look_alone;
-use crate::open_messages::OpenMessages;
+use crate::messages::Messages;
 use crate::{Fed, FedInto, Key};
 use mctp_packet::{Body, MAX_EID, MAX_MESSAGE_BYTES, MIN_EID, Memory, PacketRef, TAGS};
 use std::alloc::Global;
@@ -20,7 +20,7 @@ pub const MAX_ASSEMBLIES: usize = (MAX_EID - MIN_EID + 1) as usize * TAGS as usi
 /// each [`Key`].
 #[derive(Debug, Drop)]
 pub struct Assembler {
-    messages: OpenMessages,
+    messages: Messages,
 }
 
 impl Model for Assembler {
@@ -42,7 +42,7 @@ impl Assembler {
         ensures { result ≡ map.empty }
     {
         Assembler {
-            messages: OpenMessages::new(alloc),
+            messages: Messages::new(alloc),
         }
     }
 

@@ -1,11 +1,8 @@
-ghost use Rattle.std.specs.Prelude.{◌≡◌, ◌/◌};
+ghost use Rattle.std.specs.Prelude.{◌≡◌};
 ghost use Rattle.mctp_assembly.specs.Keys.{IsKey, key_of};
-ghost use Rattle.mctp_assembly.specs.Numbered.{IsNumber, KEYS as keys, number_of};
+ghost use Rattle.mctp_assembly.specs.Numbered.{IsNumber, number_of};
 
 use mctp_packet::{Eid, PacketRef, TAGS, Tag};
-
-/// How many keys a source has: one for each tag and each value of the tag owner bit.
-const KEYS: u16 = TAGS as u16 * 2;
 
 /// Whose messages are assembled one at a time: packets of one source, tag and tag owner bit
 /// (DSP0236, "Message assembly").
@@ -43,11 +40,4 @@ impl Key {
         let (source, tag) = (self.source.get(), self.tag.get());
         (u16::from(source) * u16::from(TAGS) + u16::from(tag)) * 2 + u16::from(self.owner)
     }
-}
-
-/// The endpoint ID in the number of a key.
-pub(crate) fn source_of(number: u16) -> usize
-    ensures { result ≡ number / keys }
-{
-    usize::from(number / KEYS)
 }

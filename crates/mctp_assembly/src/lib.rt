@@ -7,7 +7,6 @@ mod fed;
 mod key;
 pub mod laws;
 mod messages;
-mod open_messages;
 
 pub use assembler::{Assembler, MAX_ASSEMBLIES};
 pub use fed::{Fed, FedInto};

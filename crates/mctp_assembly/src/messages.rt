@@ -1,7 +1,7 @@
-ghost use Rattle.std.specs.Prelude.{◌≡◌, ◌≢◌, ◌<◌, ◌≤◌, true, false, ℕ, nat_lt, List, [], length};
+ghost use Rattle.std.specs.Prelude.{◌≡◌, ◌≢◌, ◌<◌, ◌≤◌, true, false, ℕ, List, [], length};
 ghost use Rattle.std.specs.Prelude.{Some, None, IfOk, IfErr, OnOk, OnErr};
 ghost use Rattle.std.specs.Option.{option_copied, option_map};
-ghost use Rattle.std.specs.List.{All, count_by, remove};
+ghost use Rattle.std.specs.List.{All, remove};
 ghost use Rattle.mctp_packet.specs.declared.TheConstants.{MAX_PACKETS};
 ghost use Rattle.mctp_assembly.specs.Fed.{fed_with};
 ghost use Rattle.mctp_assembly.specs.NumberLists.{Changes, IsAt, IsGapFor, Rises, at};
@@ -18,7 +18,7 @@ use mctp_packet::{Body, Memory, PacketRef};
 use std::alloc::Global;
 use std::marker::Model;
 
-/// Open messages by the numbers of their keys, which rise.
+/// The open messages by the numbers of their keys, which rise: a look-up is a binary search.
 #[derive(Debug, Drop)]
 pub(crate) struct Messages {
     alloc: Global,
@@ -53,23 +53,8 @@ impl Messages {
         ensures found { IfOk result (IsAt none_open self.now number) }
         ensures absent { IfErr result (IsGapFor none_open self.now number) }
     {
-        let place = self.smaller(number);
-        if place < self.len() && self.list[place].number() == number {
-            Ok(place)
-        } else {
-            Err(place)
-        }
-    }
-
-    /// How many of the numbers are smaller.
-    fn smaller(&self, number: u16) -> usize
-        ensures { result ≡ count_by (λ entry. nat_lt entry.0 number) self.now }
-    {
-        let mut smaller = 0;
-        for buffer in &self.list {
-            smaller += usize::from(buffer.number() < number);
-        }
-        smaller
+        self.list
+            .binary_search_by_key(&number, |buffer| buffer.number())
     }
 
     /// What is open under this number.
@@ -92,7 +77,31 @@ impl Messages {
         self.list.len()
     }
 
-    /// Takes a packet under this number that is not an end packet, and gives what it gives. The list is searched once.
+    /// Takes a packet under this number, and gives what it gives, with a message that it completes in `message`:
+    /// what is open there is then left as it is. The list is searched once.
+    pub(crate) fn take(
+        &mut self,
+        number: u16,
+        packet: &PacketRef<'_>,
+        message: &mut Body,
+    ) -> Result<FedInto, Memory>
+        requires { IsNumber number }
+        ensures fed { IfOk result (λ given. fed_with message.new.items given
+            ≡ answer_to MAX_PACKETS (at self.old number) packet.now) }
+        ensures ok { OnOk result (Changes self.old self.new number (left_by
+            (answer_to MAX_PACKETS (at self.old number) packet.now) (at self.old number) packet.now)) }
+        ensures memory { OnErr result (answer_to MAX_PACKETS (at self.old number) packet.now ≡ Partial) }
+        ensures at_start { OnErr result (packet.now.start ≡ true) }
+        ensures err { OnErr result (self.new ≡ self.old) }
+    {
+        if packet.end() {
+            Ok(self.take_end(number, packet, message))
+        } else {
+            self.take_open(number, packet)
+        }
+    }
+
+    /// Takes a packet that is not an end packet, as [`Messages::take`] does.
     pub(crate) fn take_open(
         &mut self,
         number: u16,
@@ -112,7 +121,7 @@ impl Messages {
             Ok(place) => {
                 let given = self.list[place].take(packet);
                 if let FedInto::Dropped(_) = given {
-                    end_at(self.alloc, &mut self.list, place);
+                    end_at(&mut self.list, place);
                 }
                 Ok(given)
             }
@@ -127,14 +136,8 @@ impl Messages {
         }
     }
 
-    /// Takes an end packet under this number, and gives what it gives, with a message that it completes in `message`:
-    /// what is open there is then left as it is.
-    pub(crate) fn take_end(
-        &mut self,
-        number: u16,
-        packet: &PacketRef<'_>,
-        message: &mut Body,
-    ) -> FedInto
+    /// Takes an end packet, as [`Messages::take`] does.
+    fn take_end(&mut self, number: u16, packet: &PacketRef<'_>, message: &mut Body) -> FedInto
         requires { packet.now.end ≡ true }
         ensures fed { fed_with message.new.items result ≡ answer_to MAX_PACKETS (at self.old number) packet.now }
         ensures left { Changes self.old self.new number (left_by
@@ -144,7 +147,7 @@ impl Messages {
             Ok(place) => {
                 let given = self.list[place].look_into(packet, message);
                 if let FedInto::Dropped(_) = given {
-                    end_at(self.alloc, &mut self.list, place);
+                    end_at(&mut self.list, place);
                 }
                 given
             }
@@ -157,18 +160,19 @@ impl Messages {
         ensures { Changes self.old self.new number None }
     {
         if let Ok(place) = self.search(number) {
-            end_at(self.alloc, &mut self.list, place);
+            end_at(&mut self.list, place);
         }
     }
 }
 
-/// Ends the message at this place. A list with none left gives its room back.
-fn end_at(alloc: Global, list: &mut Vec<Buffer>, place: usize)
-    requires { place < length list.old.items }
+/// Ends the message at this place. A list of few messages gives room back that was for many, and one of none all of it.
+fn end_at(list: &mut Vec<Buffer>, place: usize)
+    requires there { place < length list.old.items }
+    requires few { length list.old.items ≤ MAX_ASSEMBLIES }
     ensures { list.new.items ≡ remove list.old.items place }
 {
     list.remove(place);
-    if list.is_empty() {
-        *list = Vec::new(alloc);
+    if list.capacity() > 4 * list.len() {
+        list.shrink_to(2 * list.len());
     }
 }

@@ -174,7 +174,7 @@ fn each_growth_is_refused_in_turn(rt: HostRuntime) -> Result<(), Fail> {
     let mut message = [5; 2 * UNIT + 1];
     message[..UNIT].fill(1);
     message[UNIT..2 * UNIT].fill(2);
-    // The start packet takes room for a whole message, a middle packet takes none.
+    // The start packet takes room for a whole message and a place in the list, a middle packet takes none.
     for (at_start, refused) in [(0, true), (320, true), (16_384, false)] {
         let mut assembler = Assembler::new(rt.alloc());
         let first = feed_with(&rt, rt.alloc(), &mut assembler, &begun, at_start)?;
@@ -192,6 +192,23 @@ fn each_growth_is_refused_in_turn(rt: HostRuntime) -> Result<(), Fail> {
             "{again:?}"
         );
     }
+    Ok(())
+}
+
+/// However high the endpoint ID of its source, an open message takes at most 400 bytes.
+#[test]
+fn a_message_of_the_highest_source_takes_few_bytes(rt: HostRuntime) -> Result<(), Fail> {
+    let own = Eid::new(OWN).ok_or("no endpoint ID")?;
+    let begun = [0x01, OWN, 0xfe, 0x88, 0x01, 0x80];
+    let mut assembler = Assembler::new(rt.alloc());
+    let refused = feed_with(
+        &rt,
+        rt.alloc(),
+        &mut assembler,
+        &read_for(own, &begun)?,
+        400,
+    )?;
+    assert!(rt; !refused);
     Ok(())
 }
 

@@ -2,8 +2,11 @@ use Rattle.std.proofs.Common.{None, refl, sym, subst}
 use Rattle.mctp_assembly.specs.NumberLists.{Changes, IsAt}
 use Rattle.mctp_assembly.specs.Numbered.{none_open, AreOpen, Numbered}
 use Rattle.mctp_assembly.proofs.NumberPlaces.{removed_at, none_in_gap, change_of, unchanged}
-use Rattle.mctp_assembly.proofs.OpenPlaces.{open_removed}
+use Rattle.mctp_assembly.proofs.OpenPlaces.{few, open_removed}
 use Rattle.mctp_assembly.proofs.messages.Messages.remove.Goals as goal
+
+pub end_at-requires-clause-few : goal.end_at-requires-clause-few
+end_at-requires-clause-few c = few c.self.inside.list.items c.self.invariant
 
 pub invariant_of-self : goal.invariant_of-self
 invariant_of-self c =

@@ -2,9 +2,12 @@ use Rattle.std.proofs.Common.{refl, sym, subst}
 use Rattle.mctp_assembly.specs.NumberLists.{IsAt}
 use Rattle.mctp_assembly.specs.Numbered.{none_open, AreOpen, Numbered}
 use Rattle.mctp_assembly.proofs.NumberPlaces.{none_in_gap}
-use Rattle.mctp_assembly.proofs.OpenPlaces.{open_removed}
+use Rattle.mctp_assembly.proofs.OpenPlaces.{few, open_removed}
 use Rattle.mctp_assembly.proofs.TakenPackets.{fed_here, kept_here, ended_here, fed_alone, unchanged_at_end}
 use Rattle.mctp_assembly.proofs.messages.Messages.take_end.Goals as goal
+
+pub end_at-requires-clause-few : goal.end_at-requires-clause-few
+end_at-requires-clause-few c = few c.self.inside.list.items c.self.invariant
 
 pub invariant_of-self : goal.invariant_of-self
 invariant_of-self c =

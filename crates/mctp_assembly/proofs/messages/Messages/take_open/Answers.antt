@@ -1,13 +1,17 @@
 use Rattle.std.proofs.Common.{ℕ, Some, ap, sym, subst, ◌∙◌}
+use Rattle.std.proofs.Math.ListN.{length-set}
 use Rattle.mctp_assembly.specs.NumberLists.{IsGapFor, at}
 use Rattle.mctp_assembly.specs.Numbered.{none_open, AreOpen, Numbered}
 use Rattle.mctp_assembly.specs.Opened.{Opened}
 use Rattle.mctp_assembly.specs.Steps.{carried_on}
 use Rattle.mctp_assembly.proofs.NumberPlaces.{none_in_gap}
-use Rattle.mctp_assembly.proofs.OpenPlaces.{open_inserted}
+use Rattle.mctp_assembly.proofs.OpenPlaces.{few, open_inserted}
 use Rattle.mctp_assembly.proofs.PacketEnds.{with_any}
 use Rattle.mctp_assembly.proofs.TakenPackets.{open_taken, open_dropped, fed_here, taken_here, dropped_here, fed_alone, begun_here, unchanged_here}
 use Rattle.mctp_assembly.proofs.messages.Messages.take_open.Goals as goal
+
+pub end_at-requires-clause-few : goal.end_at-requires-clause-few
+end_at-requires-clause-few c = rw length-set (few c.self.inside.list.items c.self.invariant)
 
 pub invariant_of-self : goal.invariant_of-self
 invariant_of-self c =
