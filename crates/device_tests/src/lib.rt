@@ -15,3 +15,5 @@ mod platforms;
 mod recorder;
 #[cfg(test)]
 mod records;
+#[cfg(test)]
+mod settings;

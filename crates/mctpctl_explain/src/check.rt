@@ -82,6 +82,19 @@ pub(crate) fn bytes<'a>(
     }
 }
 
+/// A text that names which requests are refused in the busy time.
+pub(crate) fn busy_time<'a>(alloc: Global, value: &Value, path: Path<'a>) -> Result<(), Stop<'a>> {
+    let allowed = "'all' or 'sets'";
+    let Some(name) = value.as_str() else {
+        return Err(refused(alloc, path, FileFault::WrongKind, value, allowed));
+    };
+    if name == "all" || name == "sets" {
+        Ok(())
+    } else {
+        Err(refused(alloc, path, FileFault::OutOfRange, value, allowed))
+    }
+}
+
 /// The data size that a text names.
 pub(crate) fn size<'a>(alloc: Global, value: &Value, path: Path<'a>) -> Result<Size, Stop<'a>> {
     let allowed = "'uint8', 'sint8', 'uint16', 'sint16', 'uint32' or 'sint32'";

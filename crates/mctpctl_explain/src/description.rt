@@ -1,6 +1,6 @@
 //! What is wrong with a description.
 
-use crate::check::{bytes, number, range_text, refused, value_at};
+use crate::check::{busy_time, bytes, number, range_text, refused, value_at};
 use crate::check_list::{EntryKind, Given, entries_of};
 use crate::finding::{Finding, Path, Stop};
 use crate::key_places::{KeyPlace, key_places};
@@ -102,6 +102,8 @@ fn first_fault(alloc: Global, table: &Table) -> Result<Option<Finding<'static>>,
 fn check(alloc: Global, table: &Table) -> Result<(), Stop<'static>> {
     number_at(alloc, table, "eid", 8, 254)?;
     number_at(alloc, table, "keep_ms", 1, 60_000)?;
+    number_if_there(alloc, table, "window", 1, 32)?;
+    busy_if_there(alloc, table)?;
     number_at(alloc, table, "tid", 0, 254)?;
     versions_at(alloc, table, "version0")?;
     versions_at(alloc, table, "version2")?;
@@ -128,6 +130,28 @@ fn number_at(
     let value = value_at(alloc, table, path, key, allowed.as_str())?;
     number(alloc, value, path, low, high)?;
     Ok(())
+}
+
+/// A number whose key may be missing.
+fn number_if_there(
+    alloc: Global,
+    table: &Table,
+    key: &'static str,
+    low: i64,
+    high: i64,
+) -> Result<(), Stop<'static>> {
+    if let Some(value) = table.get(key) {
+        number(alloc, value, Path::top(key), low, high)?;
+    }
+    Ok(())
+}
+
+/// The busy time, whose key may be missing.
+fn busy_if_there(alloc: Global, table: &Table) -> Result<(), Stop<'static>> {
+    match table.get("busy") {
+        Some(value) => busy_time(alloc, value, Path::top("busy")),
+        None => Ok(()),
+    }
 }
 
 fn versions_at(alloc: Global, table: &Table, key: &'static str) -> Result<(), Stop<'static>> {

@@ -1,9 +1,11 @@
 //! The keys of a description.
 
 /// The keys of the whole description.
-pub(crate) const TOP_KEYS: [&str; 12] = [
+pub(crate) const TOP_KEYS: [&str; 14] = [
     "eid",
     "keep_ms",
+    "window",
+    "busy",
     "tid",
     "version0",
     "version2",

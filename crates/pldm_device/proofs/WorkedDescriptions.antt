@@ -1,6 +1,7 @@
 -- What a few descriptions state, computed from the definitions.
 use Rattle.std.proofs.Common.{◌≡◌, ℕ, pos, List, [], ◌∷◌, ◌++◌, Ok, Err, codes, replicate, refl}
 use Rattle.pldm_wire.specs.Numbers.{sized}
+use Rattle.pldm_wire.specs.declared.busy_time.BusyTime.TheVariants.{All, Sets}
 use Rattle.pldm_wire.specs.declared.size.Size.TheVariants.{Uint8}
 use Rattle.pldm_device.specs.StateEffecters.{fields_of_states}
 use Rattle.pldm_device.specs.declared.description_fault.FileFault.TheVariants.{Toml, MissingKey, WrongKind, OutOfRange, BadHex, BadRecord, Duplicate}
@@ -67,6 +68,26 @@ keeping_times : (stated (codes "eid = 9\nkeep_ms = 0\n") ≡ Err OutOfRange) × 
 unfolding description_on_literals
 keeping_times = (refl, refl, refl, refl)
 
+windows : (stated (codes "eid = 9\nkeep_ms = 1\nwindow = 0\n") ≡ Err OutOfRange) × (stated (codes "eid = 9\nkeep_ms = 1\nwindow = 1\n") ≡ Err MissingKey)
+    × (stated (codes "eid = 9\nkeep_ms = 1\nwindow = 32\n") ≡ Err MissingKey) × (stated (codes "eid = 9\nkeep_ms = 1\nwindow = 33\n") ≡ Err OutOfRange)
+unfolding description_on_literals
+windows = (refl, refl, refl, refl)
+
+text_for_a_window : stated (codes "eid = 9\nkeep_ms = 1\nwindow = '1'\n") ≡ Err WrongKind
+unfolding description_on_literals
+text_for_a_window = refl
+
+busy_times : (stated (codes "eid = 9\nkeep_ms = 1\nbusy = 'all'\n") ≡ Err MissingKey) × (stated (codes "eid = 9\nkeep_ms = 1\nbusy = 'sets'\n") ≡ Err MissingKey)
+    × (stated (codes "eid = 9\nkeep_ms = 1\nbusy = 'none'\n") ≡ Err OutOfRange) × (stated (codes "eid = 9\nkeep_ms = 1\nbusy = 3\n") ≡ Err WrongKind)
+unfolding description_on_literals
+busy_times = (refl, refl, refl, refl)
+
+-- the keeping time is told before the window, that before the busy time, and that before the terminus ID
+order_of_settings : (stated (codes "eid = 9\nkeep_ms = '1'\nwindow = 33\n") ≡ Err WrongKind) × (stated (codes "eid = 9\nkeep_ms = 1\nbusy = 3\nwindow = 33\n") ≡ Err OutOfRange)
+    × (stated (codes "eid = 9\nkeep_ms = 1\ntid = '1'\nbusy = 'none'\n") ≡ Err OutOfRange)
+unfolding description_on_literals
+order_of_settings = (refl, refl, refl)
+
 terminus_ids : (stated (codes "eid = 9\nkeep_ms = 1\ntid = 0\n") ≡ Err MissingKey) × (stated (codes "eid = 9\nkeep_ms = 1\ntid = 254\n") ≡ Err MissingKey)
 unfolding description_on_literals
 terminus_ids = (refl, refl)
@@ -116,6 +137,8 @@ two_records_of_one_handle = refl
 a_whole_description : stated (front ++ codes "[[numeric_sensor]]\nid = 1\nsize = 'uint8'\nstates = [1, 2, 3]\nvalue = 40\n[[state_sensor]]\nid = 3\nfields = [[0, 1, 2, 3]]\n[[numeric_effecter]]\nid = 1\nsize = 'uint8'\nmin = 0\nmax = 100\nvalue = 10\n[[state_effecter]]\nid = 2\nallowed = [[1, 2], [1, 2]]\nvalues = [1, 2]\n[[pdr]]\nhex = '01000000010100000100Ff'\n") ≡ Ok (record {
   eid = 9;
   keep = 1000;
+  window = 32;
+  busy = All;
   device = record {
     tid = 1;
     base_versions = 0x00 ∷ 0xf0 ∷ 0xf0 ∷ 0xf1 ∷ [];
@@ -131,3 +154,25 @@ a_whole_description : stated (front ++ codes "[[numeric_sensor]]\nid = 1\nsize =
 })
 unfolding description_on_literals
 a_whole_description = refl
+
+-- a device with nothing but its versions and times, and an endpoint with settings of its own
+settings_of_its_own : stated (codes "window = 1\nbusy = 'sets'\n" ++ front) ≡ Ok (record {
+  eid = 9;
+  keep = 1000;
+  window = 1;
+  busy = Sets;
+  device = record {
+    tid = 1;
+    base_versions = 0x00 ∷ 0xf0 ∷ 0xf0 ∷ 0xf1 ∷ [];
+    platform_versions = 0x00 ∷ 0xf2 ∷ 0xf1 ∷ 0xf1 ∷ [];
+    update_time = replicate 13 0;
+    oem_update_time = replicate 13 0;
+    numeric_sensors = [];
+    state_sensors = [];
+    numeric_effecters = [];
+    state_effecters = [];
+    records = [];
+  };
+})
+unfolding description_on_literals
+settings_of_its_own = refl

@@ -1,10 +1,12 @@
 -- The device that a description states: its keys are looked at in order, and the first fault is told.
 use Rattle.std.specs.Prelude.{ℕ, List, codes, Result, Ok}
 use Rattle.mctp_packet.specs.Ids.{IsEid, IsKeep}
+use Rattle.pldm_wire.specs.Settings.{IsWindow}
 use Rattle.toml.specs.Data.{Members}
 use Rattle.pldm_device.specs.Devices.{Device}
 use Rattle.pldm_device.specs.Documents.{document_of}
 use Rattle.pldm_device.specs.EffecterEntries.{numeric_effecters_in, state_effecters_in}
+use Rattle.pldm_device.specs.EndpointSettings.{busy_in, window_in}
 use Rattle.pldm_device.specs.HexValues.{time_in, versions_in}
 use Rattle.pldm_device.specs.KeyValues.{◌>>=◌, number_at, value_at}
 use Rattle.pldm_device.specs.RecordEntries.{records_in}
@@ -41,9 +43,11 @@ unfoldable pub description_of : Members → Result Description FileFault
 description_of document = do
   eid ← number_at (codes "eid") 8 254 document
   keep ← number_at (codes "keep_ms") 1 60000 document
+  window ← window_in document
+  busy ← busy_in document
   tid ← number_at (codes "tid") 0 254 document
   device ← device_of tid document
-  Ok (record { eid = eid; keep = keep; device = device })
+  Ok (record { eid = eid; keep = keep; window = window; busy = busy; device = device })
 
 -- the description that some bytes state, or why they state none
 unfoldable pub stated : List ℕ → Result Description FileFault
@@ -51,4 +55,4 @@ stated bytes = document_of bytes >>= description_of
 
 -- the endpoint's values are in their ranges
 abbrev pub IsInRange : Description → Type 0
-IsInRange description = IsEid description.eid × IsKeep description.keep
+IsInRange description = IsEid description.eid × IsKeep description.keep × IsWindow description.window

@@ -6,6 +6,7 @@ pub mod EffecterAnswers
 pub mod DeviceAnswers
 pub mod DeviceLaws
 pub mod ControlTables
+pub mod EndpointSettings
 pub mod Descriptions
 pub mod Documents
 pub mod FileFaults

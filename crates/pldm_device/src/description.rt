@@ -11,12 +11,14 @@ use crate::description_fault::FileFault;
 use crate::device::SimDevice;
 use crate::document::read_document;
 use crate::effecter_entries::{numeric_effecters_in, state_effecters_in};
+use crate::endpoint_settings::{busy_in, window_in};
 use crate::hex_values::{time_in, versions_in};
 use crate::keys::{number_at, value_at};
 use crate::limits::MAX_TID;
 use crate::record_entries::records_in;
 use crate::sensor_entries::{numeric_sensors_in, state_sensors_in};
 use mctp_packet::{Eid, Keep, MAX_EID, MAX_KEEP, MIN_EID};
+use pldm_wire::{BusyTime, Window};
 use std::alloc::Global;
 use toml::Table;
 
@@ -27,6 +29,10 @@ pub struct Description {
     pub eid: Eid,
     /// For how long the endpoint keeps an answer, from the key `keep_ms`.
     pub keep: Keep,
+    /// For how many instance IDs of a source the endpoint keeps answers, from the key `window`.
+    pub window: Window,
+    /// Which requests the endpoint refuses in the busy time after a restart, from the key `busy`.
+    pub busy: BusyTime,
     /// The device behind the endpoint, from the other keys.
     pub device: SimDevice,
 }
@@ -34,8 +40,10 @@ pub struct Description {
 impl Description {
     /// Reads a description: TOML text in UTF-8, with the keys
     ///
-    /// - `eid` (8 to 254), `keep_ms` (1 to 60,000), `tid` (0 to 254; 0 is that of a device that was
-    ///   given none, DSP0240, "GetTID");
+    /// - `eid` (8 to 254) and `keep_ms` (1 to 60,000);
+    /// - `window` (1 to 32) and `busy` (the text "all" or "sets"; another text is `OutOfRange`), which may
+    ///   be missing, and are 32 and "all" then;
+    /// - `tid` (0 to 254; 0 is that of a device that was given none, DSP0240, "GetTID");
     /// - `version0` and `version2`: the versions of PLDM types 0 and 2 as hex text, 4 to 32 bytes, a
     ///   multiple of 4;
     /// - `update_time` and `oem_update_time`: the repository's times as hex text, 13 bytes;
@@ -69,11 +77,15 @@ fn in_document(alloc: Global, table: &Table) -> Result<Description, FileFault>
 {
     let eid = number_at(table, "eid", MIN_EID.into(), MAX_EID.into())?;
     let keep = number_at(table, "keep_ms", 1, MAX_KEEP)?;
+    let window = window_in(table)?;
+    let busy = busy_in(table)?;
     let tid = number_at(table, "tid", 0, MAX_TID)?;
     let device = device_in(alloc, table, tid as u8)?;
     Ok(Description {
         eid: Eid::new(eid as u8).unwrap(),
         keep: Keep::new(keep).unwrap(),
+        window,
+        busy,
         device,
     })
 }

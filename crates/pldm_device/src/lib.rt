@@ -7,6 +7,7 @@ mod description_fault;
 mod device;
 mod document;
 mod effecter_entries;
+mod endpoint_settings;
 mod entries;
 mod hex_values;
 mod keys;

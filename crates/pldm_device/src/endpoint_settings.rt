@@ -1,0 +1,44 @@
+//! What a description says of how its endpoint treats requests.
+
+ghost use Rattle.std.specs.Prelude.{◌≡◌};
+ghost use Rattle.pldm_device.specs.EndpointSettings.{busy_in, busy_of_name, window_in};
+ghost use Rattle.toml.specs.View.{table_view};
+
+use crate::description_fault::FileFault;
+use crate::keys::{number_in, text_in, value_if_any};
+use pldm_wire::{BusyTime, INSTANCE_IDS, Window};
+use toml::Table;
+
+/// For how many instance IDs of a source answers are kept, from the key `window`; for all of them where it is missing.
+pub(crate) fn window_in(table: &Table) -> Result<Window, FileFault>
+    ensures { result ≡ window_in (table_view table.now) }
+{
+    let ids = match value_if_any(table, "window") {
+        Some(value) => number_in(value, 1, INSTANCE_IDS.into())?,
+        None => INSTANCE_IDS.into(),
+    };
+    Ok(Window::new(ids as u8).unwrap())
+}
+
+/// Which requests are refused in the busy time, from the key `busy`; all of them where it is missing.
+pub(crate) fn busy_in(table: &Table) -> Result<BusyTime, FileFault>
+    ensures { result ≡ busy_in (table_view table.now) }
+{
+    match value_if_any(table, "busy") {
+        Some(value) => busy_of_name(text_in(value)?),
+        None => Ok(BusyTime::All),
+    }
+}
+
+/// The busy time of this name; `OutOfRange` where there is none.
+fn busy_of_name(name: &str) -> Result<BusyTime, FileFault>
+    ensures { result ≡ busy_of_name name.now }
+{
+    if name == "all" {
+        Ok(BusyTime::All)
+    } else if name == "sets" {
+        Ok(BusyTime::Sets)
+    } else {
+        Err(FileFault::OutOfRange)
+    }
+}
