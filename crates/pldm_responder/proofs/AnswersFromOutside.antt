@@ -1,5 +1,5 @@
 -- What comes of bytes is decided by the platform's answer to the command that they have it perform.
-use Rattle.std.proofs.Common.{◌≡◌, ℕ, Bool, true, false, not, ◌&&◌, ◌==◌, nat_lt, List, [], ◌∷◌, Option, Some, None, Result, Ok, Err, if◌then◌else◌, refl, sym, ap, subst}
+use Rattle.std.proofs.Common.{◌≡◌, ℕ, Bool, true, false, not, ◌&&◌, ◌==◌, take, List, [], ◌∷◌, Option, Some, None, Result, Ok, Err, if◌then◌else◌, refl, sym, ap, subst}
 use Rattle.mctp_packet.specs.declared.reason.Reason.{Reason}
 use Rattle.pldm_wire.specs.Answers.{answer_message, code_of}
 use Rattle.pldm_wire.specs.Commands.{sets}
@@ -10,10 +10,11 @@ use Rattle.pldm_wire.specs.declared.answer.Answer.{Answer}
 use Rattle.pldm_wire.specs.declared.command.Command.{Command}
 use Rattle.pldm_responder.specs.Arrivals.{Arrival, Drop, Part, Whole, packets_back}
 use Rattle.pldm_responder.specs.Asked.{AnswerDecides, IsAsGiven, IsFresh, NoneIsAsked, gives, over}
-use Rattle.pldm_responder.specs.Events.{Message, is_of}
-use Rattle.pldm_responder.specs.Held.{Entry, Held}
+use Rattle.pldm_responder.specs.Events.{Message}
+use Rattle.pldm_responder.specs.Held.{Entry, Held, id_in}
 use Rattle.pldm_responder.specs.Performing.{Rules, answer_to, busy_reply, changes_at, changes_by, commands_at, commands_in, commands_of, reply_to}
-use Rattle.pldm_responder.specs.Steps.{arrival_commands, arrival_held, arrival_outcome, copied_packets, entry_for, entry_of, performs, received_arrival, received_commands, repeats, served}
+use Rattle.pldm_responder.specs.Steps.{arrival_commands, arrival_held, arrival_outcome, copied_packets, entry_for, entry_of, performs, received_arrival, received_commands, refuses_now, repeats, served}
+use Rattle.pldm_responder.specs.Recency.{renewed}
 use Rattle.pldm_responder.specs.declared.outcome.Outcome.TheVariants.{Answered}
 
 -- the commands are the one whose answer is given, or none
@@ -62,20 +63,21 @@ module _ {S : Type 0} (device : Rules S) (held : Held S) (given : Answer) where
   by_arrival : (a : Arrival) → IsGiven device held.state given (arrival_commands held a) → arrival_outcome device held a ≡ arrival_outcome (gives given) bare a
   by_arrival (Drop reason) is_given = refl
   by_arrival Part is_given = refl
-  by_arrival (Whole m) is_given = by_busy (nat_lt m.moment held.serves_from) m is_given
+  by_arrival (Whole m) is_given = by_busy (refuses_now held m) m is_given
 
   -- performs for t
-  keeps_by : (p t : Bool) (m : Message) (o : Option Entry) → IsGiven device held.state given (if t then commands_of m.bytes else [])
-      → (if p && t then Some (entry_of device held m) else o) ≡ (if p && t then Some (entry_of (gives given) bare m) else o)
-  keeps_by false t m o is_given = refl
-  keeps_by true false m o is_given = refl
-  keeps_by true true m o is_given = λ i. Some (record { moment = m.moment; bytes = m.bytes; answer = replied_at (request_of m.bytes) is_given i })
+  keeps_by : (p t : Bool) (m : Message) (kept : List Entry) → IsGiven device held.state given (if t then commands_of m.bytes else [])
+      → (if p && t then take held.window (renewed id_in (entry_of device held m) kept) else kept) ≡ (if p && t then take held.window (renewed id_in (entry_of (gives given) bare m) kept) else kept)
+  keeps_by false t m kept is_given = refl
+  keeps_by true false m kept is_given = refl
+  keeps_by true true m kept is_given =
+      λ i. take held.window (renewed id_in (record { moment = m.moment; bytes = m.bytes; answer = replied_at (request_of m.bytes) is_given i }) kept)
 
-  keeps : (a : Arrival) → IsGiven device held.state given (arrival_commands held a) → (source id : ℕ)
-      → (arrival_held device held a).kept source id ≡ (arrival_held (gives given) bare a).kept source id
-  keeps (Drop reason) is_given source id = refl
-  keeps Part is_given source id = refl
-  keeps (Whole m) is_given source id = keeps_by (is_of m source id) (performs held m) m (held.kept source id) is_given
+  keeps : (a : Arrival) → IsGiven device held.state given (arrival_commands held a) → (source : ℕ)
+      → (arrival_held device held a).kept source ≡ (arrival_held (gives given) bare a).kept source
+  keeps (Drop reason) is_given source = refl
+  keeps Part is_given source = refl
+  keeps (Whole m) is_given source = keeps_by (m.source == source) (performs held m) m (held.kept source) is_given
 
   stateless : (x y : Unit {0}) → x ≡ y
   stateless x y = refl
@@ -85,6 +87,8 @@ module _ {S : Type 0} (device : Rules S) (held : Held S) (given : Answer) where
     outcome = by_arrival (received_arrival held moment bytes) is_given;
     left = record {
       own = owns (received_arrival held moment bytes);
+      busy = busy_is (received_arrival held moment bytes);
+      window = window_is (received_arrival held moment bytes);
       keep = keep_is (received_arrival held moment bytes);
       open_messages = refl;
       kept = keeps (received_arrival held moment bytes) is_given;
@@ -98,6 +102,16 @@ module _ {S : Type 0} (device : Rules S) (held : Held S) (given : Answer) where
       owns (Drop reason) = refl
       owns Part = refl
       owns (Whole m) = refl
+
+      busy_is : (a : Arrival) → (arrival_held device held a).busy ≡ (arrival_held (gives given) bare a).busy
+      busy_is (Drop reason) = refl
+      busy_is Part = refl
+      busy_is (Whole m) = refl
+
+      window_is : (a : Arrival) → (arrival_held device held a).window ≡ (arrival_held (gives given) bare a).window
+      window_is (Drop reason) = refl
+      window_is Part = refl
+      window_is (Whole m) = refl
 
       keep_is : (a : Arrival) → (arrival_held device held a).keep ≡ (arrival_held (gives given) bare a).keep
       keep_is (Drop reason) = refl
@@ -127,7 +141,7 @@ module _ {S : Type 0} (device : Rules S) (held : Held S) (given : Answer) where
   fresh : (a : Arrival) (command : Command) → arrival_commands held a ≡ command ∷ [] → IsFresh (arrival_outcome device held a)
   fresh (Drop reason) command h = cc
   fresh Part command h = cc
-  fresh (Whole m) command h = fresh_by_busy (nat_lt m.moment held.serves_from) m command h
+  fresh (Whole m) command h = fresh_by_busy (refuses_now held m) m command h
 
 module _ {S : Type 0} (device : Rules S) where
   pub answer_decides : AnswerDecides device

@@ -1,35 +1,40 @@
 -- What the platform is asked, read by looking back; and what stands between two askings of one request.
-use Rattle.std.proofs.Common.{◌≡◌, ℕ, ◌+◌, ◌≤◌, Bool, true, false, not, ◌&&◌, ◌||◌, ◌==◌, nat_lt, ◌⊎◌, inl, inr, List, [], ◌∷◌, ◌++◌, Option, Some, if◌then◌else◌, refl, sym, ap, ◌∙◌, eq-eqb}
+use Rattle.std.proofs.Common.{◌≡◌, ℕ, ◌+◌, ◌≤◌, Bool, true, false, not, ◌&&◌, ◌||◌, ◌==◌, nat_lt, ◌⊎◌, ⊎_elim, inl, inr, List, [], ◌∷◌, ◌++◌, length, Option, Some, if◌then◌else◌, refl, sym, ap, ◌∙◌, eq-eqb}
 use Rattle.std.specs.Prelude.{bytes_eq}
 use borrow.Author.Tests.{ltb-false}
 use Rattle.mctp_assembly.specs.Laws as assembly
 use Rattle.pldm_wire.specs.Headers.{id_at}
+use Rattle.pldm_wire.specs.Requests.{request_of}
+use Rattle.pldm_wire.specs.declared.busy_time.BusyTime.TheVariants.{All, Sets}
 use Rattle.pldm_responder.specs.Arrivals.{Arrival, Drop, Part, Whole, request_packet}
-use Rattle.pldm_responder.specs.Askings.{AskedApart, CommandsLookBack, asked_for, is_renewed}
 use Rattle.pldm_responder.specs.Calls.{arrived, events, fed}
-use Rattle.pldm_responder.specs.Events.{Message, Event, Came, Set, Restarted, Changed, Place, is_busy, is_copy, is_copy_of, is_fresh, is_of, origin}
-use Rattle.pldm_responder.specs.Held.{Held}
+use Rattle.pldm_wire.specs.declared.busy_time.BusyTime.{BusyTime}
+use Rattle.pldm_responder.specs.Events.{Message, Event, Came, Set, Restarted, Changed, Place, busy_until, is_busy, is_copy, is_copy_of, is_fresh, is_of, is_refused, refuses_bytes, sets_in}
 use Rattle.pldm_responder.specs.Performing.{Rules, commands_of}
+use Rattle.pldm_responder.specs.Askings.{AskedApart, CommandsLookBack, SetsAfterBusyTime, asked_for, is_renewed}
+use Rattle.pldm_responder.specs.Held.{Held}
 use Rattle.pldm_responder.specs.Steps.{arrival_commands, received_commands}
-use Rattle.pldm_responder.proofs.CallsLookBack.{held_is, left_by, passed_brings, repeats_origin}
+use Rattle.pldm_responder.specs.TheRule.{latest_fresh, others_since}
+use Rattle.pldm_responder.proofs.CallsLookBack.{held_is, left_by, passed_brings, copies_is}
+use Rattle.pldm_responder.proofs.CopiesByTheRule.{copies_by_the_rule}
 
 -- ---- what is asked is what looking back says
 module _ {S : Type 0} (device : Rules S) where
-  asked_is : (own keep : ℕ) (start : S) (held : Held S) (h : List (Event S)) (a : Arrival)
-      → arrival_commands (left_by device own keep start held.open_messages held.last h) a ≡ asked_for keep h a
-  asked_is own keep start held h (Drop reason) = refl
-  asked_is own keep start held h Part = refl
-  asked_is own keep start held h (Whole m) =
-      ap (λ r. if not (is_busy keep h m.moment) && not r then commands_of m.bytes else [])
-      (repeats_origin device own keep start m (origin keep h m.source (id_at m.bytes)))
+  asked_is : (own : ℕ) (busy : BusyTime) (window keep : ℕ) (start : S) (held : Held S) (h : List (Event S)) (a : Arrival)
+      → arrival_commands (left_by device own busy window keep start held.open_messages held.last h) a ≡ asked_for busy window keep h a
+  asked_is own busy window keep start held h (Drop reason) = refl
+  asked_is own busy window keep start held h Part = refl
+  asked_is own busy window keep start held h (Whole m) =
+      ap (λ r. if not (is_refused busy keep h m) && not r then commands_of m.bytes else [])
+      (copies_is device own busy window keep start h m)
 
   pub commands_look_back : assembly.FeedLooksBack → CommandsLookBack device
-  commands_look_back looks own keep start held calls moment bytes left =
+  commands_look_back looks own busy window keep start held calls moment bytes left =
       let h = events own calls in
-      ap (λ x. received_commands x moment bytes) (held_is device own keep start held calls left)
-      ∙ ap (arrival_commands (left_by device own keep start held.open_messages held.last h))
+      ap (λ x. received_commands x moment bytes) (held_is device own busy window keep start held calls left)
+      ∙ ap (arrival_commands (left_by device own busy window keep start held.open_messages held.last h))
       (passed_brings looks held.open_messages (fed own calls) moment (request_packet own bytes) left.open_messages)
-      ∙ asked_is own keep start held h (arrived own calls moment bytes)
+      ∙ asked_is own busy window keep start held h (arrived own calls moment bytes)
 
 -- ---- between two askings
 where_none : {S : Type 0} (t : Bool) (place : Place S) (rest : Option (Place S)) (more : Bool) → (t || more) ≡ false → (if t then Some place else rest) ≡ rest
@@ -41,14 +46,14 @@ later_none true more h = cc
 later_none false more h = h
 
 -- with nothing to renew it, the origin stays
-origin_stays : {S : Type 0} (keep : ℕ) (before later : List (Event S)) (source id : ℕ) → is_renewed keep before later source id ≡ false → origin keep (later ++ before) source id ≡ origin keep before source id
-origin_stays keep before [] source id h = refl
-origin_stays keep before (Restarted moment ∷ later) source id h = cc
-origin_stays keep before (Set i value ∷ later) source id h = origin_stays keep before later source id h
-origin_stays keep before (Changed state ∷ later) source id h = origin_stays keep before later source id h
-origin_stays keep before (Came m ∷ later) source id h =
-    where_none (is_of m source id && is_fresh keep (later ++ before) m) (record { before = later ++ before; message = m }) (origin keep (later ++ before) source id) (is_renewed keep before later source id) h
-    ∙ origin_stays keep before later source id (later_none (is_of m source id && is_fresh keep (later ++ before) m) (is_renewed keep before later source id) h)
+origin_stays : {S : Type 0} (busy : BusyTime) (window keep : ℕ) (before later : List (Event S)) (source id : ℕ) → is_renewed busy window keep before later source id ≡ false → latest_fresh busy window keep (later ++ before) source id ≡ latest_fresh busy window keep before source id
+origin_stays busy window keep before [] source id h = refl
+origin_stays busy window keep before (Restarted moment ∷ later) source id h = cc
+origin_stays busy window keep before (Set i value ∷ later) source id h = origin_stays busy window keep before later source id h
+origin_stays busy window keep before (Changed state ∷ later) source id h = origin_stays busy window keep before later source id h
+origin_stays busy window keep before (Came m ∷ later) source id h =
+    where_none (is_of m source id && is_fresh busy window keep (later ++ before) m) (record { before = later ++ before; message = m }) (latest_fresh busy window keep (later ++ before) source id) (is_renewed busy window keep before later source id) h
+    ∙ origin_stays busy window keep before later source id (later_none (is_of m source id && is_fresh busy window keep (later ++ before) m) (is_renewed busy window keep before later source id) h)
 
 where_is : {A : Type 0} (t : Bool) (x y : A) → t ≡ true → (if t then x else y) ≡ x
 where_is true x y h = refl
@@ -61,9 +66,9 @@ both_true false b h g = cc
 is_its_own : (m : Message) → is_of m m.source (id_at m.bytes) ≡ true
 is_its_own m = both_true (m.source == m.source) (id_at m.bytes == id_at m.bytes) (eq-eqb m.source m.source refl) (eq-eqb (id_at m.bytes) (id_at m.bytes) refl)
 
-origin_here : {S : Type 0} (keep : ℕ) (before : List (Event S)) (m : Message) → is_fresh keep before m ≡ true → origin keep (Came m ∷ before) m.source (id_at m.bytes) ≡ Some (record { before = before; message = m })
-origin_here keep before m fresh =
-    where_is (is_of m m.source (id_at m.bytes) && is_fresh keep before m) _ _ (both_true (is_of m m.source (id_at m.bytes)) (is_fresh keep before m) (is_its_own m) fresh)
+origin_here : {S : Type 0} (busy : BusyTime) (window keep : ℕ) (before : List (Event S)) (m : Message) → is_fresh busy window keep before m ≡ true → latest_fresh busy window keep (Came m ∷ before) m.source (id_at m.bytes) ≡ Some (record { before = before; message = m })
+origin_here busy window keep before m fresh =
+    where_is (is_of m m.source (id_at m.bytes) && is_fresh busy window keep before m) _ _ (both_true (is_of m m.source (id_at m.bytes)) (is_fresh busy window keep before m) (is_its_own m) fresh)
 
 same_bytes : (bytes : List ℕ) → bytes_eq bytes bytes ≡ true
 same_bytes [] = refl
@@ -78,20 +83,44 @@ second_false : (a b : Bool) → (a && b) ≡ false → a ≡ true → b ≡ fals
 second_false true b h e = h
 second_false false b h e = cc
 
-by_renewal : {S : Type 0} (t : Bool) (keep : ℕ) (before later : List (Event S)) (first again : Message) → is_renewed keep (Came first ∷ before) later first.source (id_at first.bytes) ≡ t
-    → is_fresh keep before first ≡ true → is_fresh keep (later ++ Came first ∷ before) again ≡ true → again.source ≡ first.source → again.bytes ≡ first.bytes
-    → (first.moment + keep ≤ again.moment) ⊎ (t ≡ true)
-by_renewal true keep before later first again renewed fresh once source bytes = inr refl
-by_renewal false keep before later first again renewed fresh once source bytes =
+both_or : (a b : Bool) → (a && b) ≡ false → (a ≡ false) ⊎ (b ≡ false)
+both_or true b h = inr h
+both_or false b h = inl refl
+
+by_renewal : {S : Type 0} (t : Bool) (busy : BusyTime) (window keep : ℕ) (before later : List (Event S)) (first again : Message) → is_renewed busy window keep (Came first ∷ before) later first.source (id_at first.bytes) ≡ t
+    → is_fresh busy window keep before first ≡ true → is_fresh busy window keep (later ++ Came first ∷ before) again ≡ true → again.source ≡ first.source → again.bytes ≡ first.bytes
+    → (first.moment + keep ≤ again.moment) ⊎ (t ≡ true) ⊎ (window ≤ length (others_since busy window keep (later ++ Came first ∷ before) first.source (id_at first.bytes)))
+by_renewal true busy window keep before later first again renewed fresh once source bytes = inr (inl refl)
+by_renewal {S} false busy window keep before later first again renewed fresh once source bytes =
     let h = later ++ Came first ∷ before in
-    let from : origin keep h again.source (id_at again.bytes) ≡ Some (record { before = before; message = first }) =
-    ap (λ s. origin keep h s (id_at again.bytes)) source ∙ ap (λ b. origin keep h first.source (id_at b)) bytes
-    ∙ origin_stays keep (Came first ∷ before) later first.source (id_at first.bytes) renewed ∙ origin_here keep before first fresh in
-    let copy : is_copy_of keep again (Some (record { before = before; message = first })) ≡ false =
-    ap (is_copy_of keep again) (sym from) ∙ no_copy_of (is_busy keep h again.moment) (is_copy keep h again) once in
+    let place : Place S = record { before = before; message = first } in
+    let from : latest_fresh busy window keep h again.source (id_at again.bytes) ≡ Some place =
+    ap (λ s. latest_fresh busy window keep h s (id_at again.bytes)) source ∙ ap (λ b. latest_fresh busy window keep h first.source (id_at b)) bytes
+    ∙ origin_stays busy window keep (Came first ∷ before) later first.source (id_at first.bytes) renewed ∙ origin_here busy window keep before first fresh in
+    let others : others_since busy window keep h again.source (id_at again.bytes) ≡ others_since busy window keep h first.source (id_at first.bytes) = λ i. others_since busy window keep h (source i) (id_at (bytes i)) in
+    let copy : (is_copy_of keep again (Some place) && nat_lt (length (others_since busy window keep h first.source (id_at first.bytes))) window) ≡ false =
+    sym (λ i. is_copy_of keep again (from i) && nat_lt (length (others i)) window) ∙ sym (copies_by_the_rule busy window keep h again) ∙ no_copy_of (is_refused busy keep h again) (is_copy busy window keep h again) once in
     let same : bytes_eq again.bytes first.bytes ≡ true = ap (λ b. bytes_eq b first.bytes) bytes ∙ same_bytes first.bytes in
-    inl (ltb-false again.moment (first.moment + keep) (second_false (bytes_eq again.bytes first.bytes) (nat_lt again.moment (first.moment + keep)) copy same))
+    ⊎_elim
+    (λ (late : is_copy_of keep again (Some place) ≡ false). inl (ltb-false again.moment (first.moment + keep) (second_false (bytes_eq again.bytes first.bytes) (nat_lt again.moment (first.moment + keep)) late same)))
+    (λ (past : nat_lt (length (others_since busy window keep h first.source (id_at first.bytes))) window ≡ false). inr (inr (ltb-false _ window past)))
+    (both_or (is_copy_of keep again (Some place)) _ copy)
 
 pub asked_apart : {S : Type 0} → AskedApart S
-asked_apart keep before later first again fresh once source bytes =
-    by_renewal (is_renewed keep (Came first ∷ before) later first.source (id_at first.bytes)) keep before later first again refl fresh once source bytes
+asked_apart busy window keep before later first again fresh once source bytes =
+    by_renewal (is_renewed busy window keep (Came first ∷ before) later first.source (id_at first.bytes)) busy window keep before later first again refl fresh once source bytes
+
+-- ---- requests that set something
+refused_where_set : (busy : BusyTime) (bytes : List ℕ) → sets_in (request_of bytes) ≡ true → refuses_bytes busy bytes ≡ true
+refused_where_set All bytes sets = refl
+refused_where_set Sets bytes sets = sets
+
+not_busy : (refuses busy copy : Bool) → (not (refuses && busy) && not copy) ≡ true → refuses ≡ true → busy ≡ false
+not_busy true true copy h r = cc
+not_busy true false copy h r = refl
+not_busy false busy copy h r = cc
+
+pub sets_after_busy_time : {S : Type 0} → SetsAfterBusyTime S
+sets_after_busy_time busy window keep h m sets fresh =
+    ltb-false m.moment (busy_until keep h)
+    (not_busy (refuses_bytes busy m.bytes) (is_busy keep h m.moment) (is_copy busy window keep h m) fresh (refused_where_set busy m.bytes sets))

@@ -1,5 +1,8 @@
 -- What a responder holds and gives is what looking back over the list of its calls says.
-use Rattle.std.proofs.Common.{◌≡◌, ℕ, ◌+◌, Bool, true, false, not, ◌&&◌, ◌||◌, List, [], ◌∷◌, Option, Some, None, is_some, Result, Ok, Err, if◌then◌else◌, refl, sym, ap, ◌∙◌, subst, lit≤}
+use Rattle.std.proofs.Common.{◌≡◌, ℕ, ◌+◌, Bool, true, false, List, ◌∷◌, Option, Some, None, Result, Ok, Err, refl, sym, ap, ◌∙◌, subst, lit≤}
+use Rattle.std.specs.Prelude.{not, ◌&&◌, ◌==◌, is_some, map, take, option_map, if◌then◌else◌}
+use Rattle.std.specs.List.{take-map}
+use Rattle.std.proofs.Math.Seq.{take-nil}
 use Rattle.mctp_packet.specs.Packets.{Packet}
 use Rattle.mctp_packet.specs.declared.reason.Reason.{Reason}
 use Rattle.mctp_packet.specs.declared.TheConstants.{MAX_PACKETS}
@@ -7,30 +10,20 @@ use Rattle.mctp_assembly.specs.Histories as histories
 use Rattle.mctp_assembly.specs.Laws as assembly
 use Rattle.mctp_assembly.specs.Steps as steps
 use Rattle.pldm_wire.specs.Headers.{id_at}
+use Rattle.pldm_wire.specs.declared.busy_time.BusyTime.{BusyTime}
 use Rattle.pldm_platform.specs.Changes.{changed_or}
 use Rattle.pldm_responder.specs.Arrivals.{Arrival, Drop, Part, Whole, fed_arrival, passed_arrival, arrival, request_packet, packets_back}
 use Rattle.pldm_responder.specs.Calls as calls
 use Rattle.pldm_responder.specs.Calls.{Call, Received, Sensed, with_packet, fed, looked_back, arrived, with_arrival, events, last_moment, outcome}
-use Rattle.pldm_responder.specs.Events.{Message, Event, Came, Set, Restarted, Changed, Place, busy_until, is_busy, is_of, is_copy_of, origin, is_fresh, has_fresh}
-use Rattle.pldm_responder.specs.Laws.{entry_at, IsLeftBy, ReceivedLooksBack, SensedLooksBack, RestartedLooksBack, EndedLooksBack, UpdatedLooksBack, PutIsUpdated, NewLooksBack, SameIsLeft, KeptWhereFresh}
+use Rattle.pldm_responder.specs.Events.{Message, Event, Came, Place, busy_until, id_of, is_copy_of, is_fresh, is_kept, is_refused, origin, recent}
+use Rattle.pldm_responder.specs.Held.{Entry, Held, id_in}
+use Rattle.pldm_responder.specs.Laws.{entry_at, kept_to, IsLeftBy, ReceivedLooksBack, SensedLooksBack, RestartedLooksBack, EndedLooksBack, UpdatedLooksBack, PutIsUpdated, NewLooksBack, SameIsLeft, KeptWhereFresh}
 use Rattle.pldm_responder.specs.Performing.{Rules, reply, next, changes, busy_reply, performed, reply_at, answered_by}
-use Rattle.pldm_responder.specs.Held.{Held}
-use Rattle.pldm_responder.specs.Steps.{repeats, copied_packets, open_after, served, message_outcome, entry_of, kept_after, state_after, arrival_outcome, arrival_held, received_outcome, received_held}
+use Rattle.pldm_responder.specs.Recency.{of_number, renewed}
+use Rattle.pldm_responder.specs.Steps.{repeats, copied_packets, open_after, kept_for, served, message_outcome, entry_of, kept_after, state_after, arrival_outcome, arrival_held, received_outcome, received_held}
 use Rattle.pldm_responder.specs.declared.outcome.Outcome.TheVariants.{Answered}
-
--- ---- an origin is a fresh message
-either_some : {S : Type 0} (b : Bool) (place : Place S) (o : Option (Place S)) → is_some (if b then Some place else o) ≡ (b || is_some o)
-either_some true place o = refl
-either_some false place o = refl
-
-origin_where_fresh : {S : Type 0} (keep : ℕ) (h : List (Event S)) (source id : ℕ) → is_some (origin keep h source id) ≡ has_fresh keep h source id
-origin_where_fresh keep [] source id = refl
-origin_where_fresh keep (Set _ _ ∷ h) source id = origin_where_fresh keep h source id
-origin_where_fresh keep (Restarted _ ∷ h) source id = refl
-origin_where_fresh keep (Changed _ ∷ h) source id = origin_where_fresh keep h source id
-origin_where_fresh keep (Came m ∷ h) source id =
-    either_some (is_of m source id && is_fresh keep h m) (record { before = h; message = m }) (origin keep h source id)
-    ∙ ap (λ later. is_of m source id && is_fresh keep h m || later) (origin_where_fresh keep h source id)
+use Rattle.pldm_responder.proofs.NoIdFallsOut.{recent_apart}
+use Rattle.pldm_responder.proofs.RecentFirst.{found_in_map, renewed_in_map, front_renewed}
 
 -- ---- what a packet brings
 module _ (looks : assembly.FeedLooksBack) where
@@ -44,93 +37,120 @@ module _ (looks : assembly.FeedLooksBack) where
   passed_opens open_messages packets (Err reason) left = left
 
 -- ---- what a message is answered and leaves
-module _ {S : Type 0} (device : Rules S) (own keep : ℕ) (start : S) where
+module _ {S : Type 0} (device : Rules S) (own : ℕ) (busy : BusyTime) (window keep : ℕ) (start : S) where
   -- what these events leave, with any open messages and last moment
   abbrev pub left_by : steps.Held → ℕ → List (Event S) → Held S
   left_by open_messages last h = record {
     own = own;
+    busy = busy;
     keep = keep;
+    window = window;
     open_messages = open_messages;
-    kept = λ source id. entry_at device keep start (origin keep h source id);
-    state = performed device keep start h;
+    kept = kept_to device busy window keep start h;
+    state = performed device busy window keep start h;
     serves_from = busy_until keep h;
     last = last;
   }
 
-  pub repeats_origin : (m : Message) (o : Option (Place S)) → repeats keep m (entry_at device keep start o) ≡ is_copy_of keep m o
+  -- the answer that is kept where this is the origin
+  abbrev pub entry_if : Option (Place S) → Option Entry
+  entry_if o = option_map (entry_at device busy window keep start) o
+
+  -- the kept answer of an instance ID is that to its origin
+  pub entry_is : (h : List (Event S)) (source id : ℕ) → of_number id_in id (kept_to device busy window keep start h source) ≡ entry_if (origin busy window keep h source id)
+  entry_is h source id = found_in_map id_of id_in (entry_at device busy window keep start) (λ _. refl) id (take window (recent busy window keep h source))
+
+  pub repeats_origin : (m : Message) (o : Option (Place S)) → repeats keep m (entry_if o) ≡ is_copy_of keep m o
   repeats_origin m None = refl
   repeats_origin m (Some place) = refl
 
   -- t for a copy
   served_by : (t : Bool) (open_messages : steps.Held) (last : ℕ) (h : List (Event S)) (m : Message) (first : List ℕ)
       → served device (left_by open_messages last h) m (if t then Some (packets_back own m first) else None)
-      ≡ (if t then Answered false false (packets_back own m (if t then first else reply device (performed device keep start h) m.bytes))
-      else Answered true (changes device (performed device keep start h) m.bytes) (packets_back own m (if t then first else reply device (performed device keep start h) m.bytes)))
+      ≡ (if t then Answered false false (packets_back own m (if t then first else reply device (performed device busy window keep start h) m.bytes))
+      else Answered true (changes device (performed device busy window keep start h) m.bytes) (packets_back own m (if t then first else reply device (performed device busy window keep start h) m.bytes)))
   served_by true open_messages last h m first = refl
   served_by false open_messages last h m first = refl
 
   served_is : (open_messages : steps.Held) (last : ℕ) (h : List (Event S)) (m : Message) (o : Option (Place S))
-      → served device (left_by open_messages last h) m (copied_packets own keep m (entry_at device keep start o))
-      ≡ (if is_copy_of keep m o then Answered false false (packets_back own m (answered_by device keep start h m o))
-      else Answered true (changes device (performed device keep start h) m.bytes) (packets_back own m (answered_by device keep start h m o)))
+      → served device (left_by open_messages last h) m (copied_packets own keep m (entry_if o))
+      ≡ (if is_copy_of keep m o then Answered false false (packets_back own m (answered_by device busy window keep start h m o))
+      else Answered true (changes device (performed device busy window keep start h) m.bytes) (packets_back own m (answered_by device busy window keep start h m o)))
   served_is open_messages last h m None = refl
   served_is open_messages last h m (Some place) =
-      served_by (is_copy_of keep m (Some place)) open_messages last h m (reply_at device keep start place)
+      served_by (is_copy_of keep m (Some place)) open_messages last h m (reply_at device busy window keep start place)
 
-  message_is : (open_messages : steps.Held) (last : ℕ) (h : List (Event S)) (m : Message) → message_outcome device (left_by open_messages last h) m ≡ calls.answer_expected device own keep start h m
+  message_is : (open_messages : steps.Held) (last : ℕ) (h : List (Event S)) (m : Message) → message_outcome device (left_by open_messages last h) m ≡ calls.answer_expected device own busy window keep start h m
   message_is open_messages last h m =
-      ap (λ o. if is_busy keep h m.moment then Answered false false (packets_back own m (busy_reply m.bytes)) else o) (served_is open_messages last h m (origin keep h m.source (id_at m.bytes)))
+      ap (λ o. if is_refused busy keep h m then Answered false false (packets_back own m (busy_reply m.bytes)) else o)
+      (ap (λ e. served device (left_by open_messages last h) m (copied_packets own keep m e)) (entry_is h m.source (id_at m.bytes)) ∙ served_is open_messages last h m (origin busy window keep h m.source (id_at m.bytes)))
 
-  arrival_is : (open_messages : steps.Held) (last : ℕ) (h : List (Event S)) (a : Arrival) → arrival_outcome device (left_by open_messages last h) a ≡ calls.outcome_expected device own keep start h a
+  arrival_is : (open_messages : steps.Held) (last : ℕ) (h : List (Event S)) (a : Arrival) → arrival_outcome device (left_by open_messages last h) a ≡ calls.outcome_expected device own busy window keep start h a
   arrival_is open_messages last h (Drop reason) = refl
   arrival_is open_messages last h Part = refl
   arrival_is open_messages last h (Whole m) = message_is open_messages last h m
 
-  entry_where : (b : Bool) (place : Place S) (o : Option (Place S)) → entry_at device keep start (if b then Some place else o) ≡ (if b then entry_at device keep start (Some place) else entry_at device keep start o)
-  entry_where true place o = refl
-  entry_where false place o = refl
+  -- a message is performed where it is fresh
+  pub copies_is : (h : List (Event S)) (m : Message) → repeats keep m (of_number id_in (id_at m.bytes) (kept_to device busy window keep start h m.source)) ≡ is_copy_of keep m (origin busy window keep h m.source (id_at m.bytes))
+  copies_is h m = ap (repeats keep m) (entry_is h m.source (id_at m.bytes)) ∙ repeats_origin m (origin busy window keep h m.source (id_at m.bytes))
 
-  kept_is : (open_messages : steps.Held) (last : ℕ) (h : List (Event S)) (m : Message) (source id : ℕ)
-      → kept_after device (left_by open_messages last h) m source id ≡ entry_at device keep start (origin keep (Came m ∷ h) source id)
-  kept_is open_messages last h m source id =
-      ap (λ r. if is_of m source id && (not (is_busy keep h m.moment) && not r) then Some (entry_of device (left_by open_messages last h) m) else entry_at device keep start (origin keep h source id)) (repeats_origin m (origin keep h m.source (id_at m.bytes)))
-      ∙ sym (entry_where (is_of m source id && is_fresh keep h m) (record { before = h; message = m }) (origin keep h source id))
+  -- the newest answer is put in front, and what is past the window falls out
+  kept_where : (place : Place S) (h : List (Event S)) (source : ℕ) (b : Bool)
+      → (if b then take window (renewed id_in (entry_at device busy window keep start place) (kept_to device busy window keep start h source)) else kept_to device busy window keep start h source)
+      ≡ map (entry_at device busy window keep start) (take window (if b then renewed id_of place (recent busy window keep h source) else recent busy window keep h source))
+  kept_where place h source false = refl
+  kept_where place h source true =
+      ap (take window) (renewed_in_map id_of id_in (entry_at device busy window keep start) (λ _. refl) place (take window (recent busy window keep h source)))
+      ∙ take-map (entry_at device busy window keep start) window (renewed id_of place (take window (recent busy window keep h source)))
+      ∙ ap (map (entry_at device busy window keep start)) (front_renewed id_of window place (recent busy window keep h source) (recent_apart busy window keep h source))
 
-  state_is : (open_messages : steps.Held) (last : ℕ) (h : List (Event S)) (m : Message) → state_after device (left_by open_messages last h) m ≡ performed device keep start (Came m ∷ h)
+  kept_is : (open_messages : steps.Held) (last : ℕ) (h : List (Event S)) (m : Message) (source : ℕ)
+      → kept_after device (left_by open_messages last h) m source ≡ kept_to device busy window keep start (Came m ∷ h) source
+  kept_is open_messages last h m source =
+      ap (λ r. if m.source == source && (not (is_refused busy keep h m) && not r) then take window (renewed id_in (entry_of device (left_by open_messages last h) m) (kept_to device busy window keep start h source)) else kept_to device busy window keep start h source) (copies_is h m)
+      ∙ kept_where (record { before = h; message = m }) h source (m.source == source && is_fresh busy window keep h m)
+
+  state_is : (open_messages : steps.Held) (last : ℕ) (h : List (Event S)) (m : Message) → state_after device (left_by open_messages last h) m ≡ performed device busy window keep start (Came m ∷ h)
   state_is open_messages last h m =
-      ap (λ r. if not (is_busy keep h m.moment) && not r then next device (performed device keep start h) m.bytes else performed device keep start h) (repeats_origin m (origin keep h m.source (id_at m.bytes)))
+      ap (λ r. if not (is_refused busy keep h m) && not r then next device (performed device busy window keep start h) m.bytes else performed device busy window keep start h) (copies_is h m)
 
   -- what is held but for the open messages and the last moment
   record Leaves (held : Held S) (h : List (Event S)) : Type 0 where
     endpoint : held.own ≡ own
+    refusing : held.busy ≡ busy
     keeping : held.keep ≡ keep
-    kept : (source id : ℕ) → held.kept source id ≡ entry_at device keep start (origin keep h source id)
-    state : held.state ≡ performed device keep start h
+    windows : held.window ≡ window
+    kept : (source : ℕ) → held.kept source ≡ kept_to device busy window keep start h source
+    state : held.state ≡ performed device busy window keep start h
     serves_from : held.serves_from ≡ busy_until keep h
 
   arrival_leaves : (open_messages : steps.Held) (last : ℕ) (h : List (Event S)) (a : Arrival) → Leaves (arrival_held device (left_by open_messages last h) a) (with_arrival a h)
-  arrival_leaves open_messages last h (Drop reason) = record { endpoint = refl; keeping = refl; kept = λ source id. refl; state = refl; serves_from = refl }
-  arrival_leaves open_messages last h Part = record { endpoint = refl; keeping = refl; kept = λ source id. refl; state = refl; serves_from = refl }
+  arrival_leaves open_messages last h (Drop reason) = record { endpoint = refl; refusing = refl; keeping = refl; windows = refl; kept = λ source. refl; state = refl; serves_from = refl }
+  arrival_leaves open_messages last h Part = record { endpoint = refl; refusing = refl; keeping = refl; windows = refl; kept = λ source. refl; state = refl; serves_from = refl }
   arrival_leaves open_messages last h (Whole m) =
-      record { endpoint = refl; keeping = refl; kept = kept_is open_messages last h m; state = state_is open_messages last h m; serves_from = refl }
+      record { endpoint = refl; refusing = refl; keeping = refl; windows = refl; kept = kept_is open_messages last h m; state = state_is open_messages last h m; serves_from = refl }
 
-  pub held_is : (held : Held S) (before : List (Call S)) → IsLeftBy device own keep start held before → held ≡ left_by held.open_messages held.last (events own before)
+  pub held_is : (held : Held S) (before : List (Call S)) → IsLeftBy device own busy window keep start held before → held ≡ left_by held.open_messages held.last (events own before)
   held_is held before left =
       λ i. record {
         own = left.endpoint i;
+        busy = left.refusing i;
         keep = left.keeping i;
+        window = left.windows i;
         open_messages = held.open_messages;
-        kept = λ source id. left.kept source id i;
+        kept = λ source. left.kept source i;
         state = left.state i;
         serves_from = left.serves_from i;
         last = held.last;
       }
 
   with_leaves : (held : Held S) (open_messages : steps.Held) (moment : ℕ) (bytes : List ℕ) (before : List (Call S)) → Leaves held (events own (Received moment bytes ∷ before)) → histories.IsLeftBy open_messages (fed own (Received moment bytes ∷ before))
-      → IsLeftBy device own keep start (record held { open_messages = open_messages; last = moment }) (Received moment bytes ∷ before)
+      → IsLeftBy device own busy window keep start (record held { open_messages = open_messages; last = moment }) (Received moment bytes ∷ before)
   with_leaves held open_messages moment bytes before left opens = record {
     endpoint = left.endpoint;
+    refusing = left.refusing;
     keeping = left.keeping;
+    windows = left.windows;
     open_messages = opens;
     kept = left.kept;
     state = left.state;
@@ -140,8 +160,8 @@ module _ {S : Type 0} (device : Rules S) (own keep : ℕ) (start : S) where
 
   module _ (looks : assembly.FeedLooksBack) where
     left_received : (open_messages : steps.Held) (last : ℕ) (before : List (Call S)) (moment : ℕ) (bytes : List ℕ) → histories.IsLeftBy open_messages (fed own before)
-        → (received_outcome device (left_by open_messages last (events own before)) moment bytes ≡ outcome device own keep start before moment bytes)
-        × IsLeftBy device own keep start (received_held device (left_by open_messages last (events own before)) moment bytes) (Received moment bytes ∷ before)
+        → (received_outcome device (left_by open_messages last (events own before)) moment bytes ≡ outcome device own busy window keep start before moment bytes)
+        × IsLeftBy device own busy window keep start (received_held device (left_by open_messages last (events own before)) moment bytes) (Received moment bytes ∷ before)
     left_received open_messages last before moment bytes left =
         let brings = passed_brings looks open_messages (fed own before) moment (request_packet own bytes) left in
         let h = events own before in (
@@ -153,17 +173,19 @@ module _ {S : Type 0} (device : Rules S) (own keep : ℕ) (start : S) where
 
 module _ {S : Type 0} (device : Rules S) where
   pub received_looks_back : assembly.FeedLooksBack → ReceivedLooksBack device
-  received_looks_back looks own keep start held before moment bytes left =
-      let same = held_is device own keep start held before left in
-      let step = left_received device own keep start looks held.open_messages held.last before moment bytes left.open_messages in (
+  received_looks_back looks own busy window keep start held before moment bytes left =
+      let same = held_is device own busy window keep start held before left in
+      let step = left_received device own busy window keep start looks held.open_messages held.last before moment bytes left.open_messages in (
         ap (λ x. received_outcome device x moment bytes) same ∙ step.0,
-        subst (λ x. IsLeftBy device own keep start (received_held device x moment bytes) (Received moment bytes ∷ before)) (sym same) step.1,
+        subst (λ x. IsLeftBy device own busy window keep start (received_held device x moment bytes) (Received moment bytes ∷ before)) (sym same) step.1,
       )
 
   pub sensed_looks_back : SensedLooksBack device
-  sensed_looks_back own keep start held before id value left = record {
+  sensed_looks_back own busy window keep start held before id value left = record {
     endpoint = left.endpoint;
+    refusing = left.refusing;
     keeping = left.keeping;
+    windows = left.windows;
     open_messages = left.open_messages;
     kept = left.kept;
     state = ap (λ s. changed_or s (device.sensed s id value)) left.state;
@@ -172,9 +194,11 @@ module _ {S : Type 0} (device : Rules S) where
   }
 
   pub updated_looks_back : UpdatedLooksBack device
-  updated_looks_back own keep start held before state left = record {
+  updated_looks_back own busy window keep start held before state left = record {
     endpoint = left.endpoint;
+    refusing = left.refusing;
     keeping = left.keeping;
+    windows = left.windows;
     open_messages = left.open_messages;
     kept = left.kept;
     state = refl;
@@ -183,20 +207,24 @@ module _ {S : Type 0} (device : Rules S) where
   }
 
   pub restarted_looks_back : assembly.NewLooksBack → RestartedLooksBack device
-  restarted_looks_back looks own keep start held before moment left = record {
+  restarted_looks_back looks own busy window keep start held before moment left = record {
     endpoint = left.endpoint;
+    refusing = left.refusing;
     keeping = left.keeping;
+    windows = left.windows;
     open_messages = looks MAX_PACKETS;
-    kept = λ source id. refl;
+    kept = λ source. sym (ap (map (entry_at device busy window keep start)) (take-nil {A = Place S} window));
     state = left.state;
     serves_from = ap (λ k. moment + k) left.keeping;
     last = refl;
   }
 
   pub ended_looks_back : assembly.ForgetLooksBack → EndedLooksBack device
-  ended_looks_back looks own keep start held before key left = record {
+  ended_looks_back looks own busy window keep start held before key left = record {
     endpoint = left.endpoint;
+    refusing = left.refusing;
     keeping = left.keeping;
+    windows = left.windows;
     open_messages = looks MAX_PACKETS held.open_messages (fed own before) key left.open_messages;
     kept = left.kept;
     state = left.state;
@@ -205,43 +233,50 @@ module _ {S : Type 0} (device : Rules S) where
   }
 
   pub new_looks_back : assembly.NewLooksBack → NewLooksBack device
-  new_looks_back looks own keep start = record {
+  new_looks_back looks own busy window keep start = record {
     endpoint = refl;
+    refusing = refl;
     keeping = refl;
+    windows = refl;
     open_messages = looks MAX_PACKETS;
-    kept = λ source id. refl;
+    kept = λ source. sym (ap (map (entry_at device busy window keep start)) (take-nil {A = Place S} window));
     state = refl;
     serves_from = refl;
     last = refl;
   }
 
   pub same_is_left : SameIsLeft device
-  same_is_left own keep start new held before same left = record {
+  same_is_left own busy window keep start new held before same left = record {
     endpoint = same.own ∙ left.endpoint;
+    refusing = same.busy ∙ left.refusing;
     keeping = same.keep ∙ left.keeping;
+    windows = same.window ∙ left.windows;
     open_messages = subst (λ x. histories.IsLeftBy x (fed own before)) (sym same.open_messages) left.open_messages;
-    kept = λ source id. same.kept source id ∙ left.kept source id;
+    kept = λ source. same.kept source ∙ left.kept source;
     state = same.state ∙ left.state;
     serves_from = same.serves_from ∙ left.serves_from;
     last = same.last ∙ left.last;
   }
 
-  entry_some : (keep : ℕ) (start : S) (o : Option (Place S)) → is_some (entry_at device keep start o) ≡ is_some o
-  entry_some keep start None = refl
-  entry_some keep start (Some place) = refl
+  entry_some : {A B : Type 0} (f : A → B) (o : Option A) → is_some (option_map f o) ≡ is_some o
+  entry_some f None = refl
+  entry_some f (Some place) = refl
 
   pub kept_where_fresh : KeptWhereFresh device
-  kept_where_fresh own keep start held before left =
-      let kept : (source id : ℕ) → is_some (held.kept source id) ≡ has_fresh keep (events own before) source id = λ source id. ap is_some (left.kept source id) ∙ entry_some keep start (origin keep (events own before) source id) ∙ origin_where_fresh keep (events own before) source id in
+  kept_where_fresh own busy window keep start held before left =
+      let h = events own before in
+      let kept : (source id : ℕ) → is_some (kept_for held source id) ≡ is_kept busy window keep h source id = λ source id. ap (λ es. is_some (of_number id_in id es)) (left.kept source) ∙ ap is_some (entry_is device own busy window keep start h source id) ∙ entry_some (entry_at device busy window keep start) (origin busy window keep h source id) in
       (kept, λ count counts. record { pairs = counts.pairs; each = λ source id. sym (kept source id) ∙ counts.each source id; once = counts.once; all = counts.all })
 
 -- ---- a platform that is put in the place of another
 pub put_is_updated : {P S : Type 0} (state_of : P → S) → PutIsUpdated state_of
 put_is_updated state_of station platform = record {
   own = refl;
+  busy = refl;
+  window = refl;
   keep = refl;
   open_messages = refl;
-  kept = λ source id. refl;
+  kept = λ source. refl;
   state = refl;
   serves_from = refl;
   last = refl;

@@ -11,7 +11,7 @@ use Rattle.pldm_responder.specs.Counts.{is_pair, CountsPairs}
 pair_turned : (a b c d : ℕ) → (a == b && c == d) ≡ false → (b == a && d == c) ≡ false
 pair_turned a b c d h = grind arith
 
-none_any : (pair : ℕ × ℕ) (pairs : List (ℕ × ℕ)) → false ≡ list_any (λ p. is_pair p pair) pairs → AllByRecursion (λ p. is_pair pair p ≡ false) pairs
+pub none_any : (pair : ℕ × ℕ) (pairs : List (ℕ × ℕ)) → false ≡ list_any (λ p. is_pair p pair) pairs → AllByRecursion (λ p. is_pair pair p ≡ false) pairs
 none_any pair [] h = tt
 none_any pair (p ∷ pairs) h =
     let parts = neither (is_pair p pair) (list_any (λ q. is_pair q pair) pairs) h in

@@ -1,7 +1,8 @@
 -- Every constant of the source, told a second time.
 use Rattle.std.proofs.Common.{◌≡◌, refl}
 use Rattle.pldm_responder.specs.declared.answering_end.TheConstants.{OTHER_ENDPOINTS, MAX_KEPT, MAX_PENDING}
-use Rattle.pldm_responder.specs.declared.row.TheConstants.{MAX_BYTES, SLOT_BYTES}
+use Rattle.pldm_responder.specs.declared.slot.TheConstants.{MAX_BYTES}
+use Rattle.pldm_responder.specs.declared.slot_table.TheConstants.{IDS, NO_SLOT}
 
 other_endpoints : OTHER_ENDPOINTS ≡ 246
 other_endpoints = refl
@@ -12,8 +13,11 @@ kept_answers = refl
 open_messages : MAX_PENDING ≡ 1968
 open_messages = refl
 
-long_messages : MAX_BYTES ≡ 640
-long_messages = refl
+two_messages : MAX_BYTES ≡ 640
+two_messages = refl
 
-short_messages : SLOT_BYTES ≡ 34
-short_messages = refl
+instance_ids : IDS ≡ 32
+instance_ids = refl
+
+no_slot : NO_SLOT ≡ 32
+no_slot = refl

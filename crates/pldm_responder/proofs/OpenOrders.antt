@@ -1,13 +1,12 @@
 -- The order in which the open messages began has each of them, so the oldest is found.
 use Rattle.std.specs.FinMap as finite
-use Rattle.std.proofs.Common.{◌≡◌, ◌<◌, ◌≤◌, ◌≢◌, ℕ, Bool, true, false, cond, not, ◌&&◌, ◌||◌, ◌==◌, eqb, List, [], ◌∷◌, ◌++◌, length, map, Option, Some, None, is_some, if◌then◌else◌, refl, sym, ap, ◌∙◌, subst, arith, eqb-true}
-use Rattle.std.specs.Prelude.{filter, find, nat_le}
+use Rattle.std.proofs.Common.{◌≡◌, ◌<◌, ℕ, Bool, true, false, cond, not, ◌&&◌, ◌||◌, ◌==◌, List, [], ◌∷◌, ◌++◌, length, map, Option, Some, None, is_some, if◌then◌else◌, refl, sym, ap, ◌∙◌, subst, arith, eqb-true}
+use Rattle.std.specs.Prelude.{filter}
 use Rattle.std.specs.List.{list_any}
 use Rattle.std.specs.Cmp.{tied_itself}
 use Rattle.std.specs.Ordering.{eq_by_cmp, is_eq}
 use Rattle.std.specs.declared.cmp.Ordering.{Ordering}
 use Rattle.std.specs.declared.cmp.Ordering.TheVariants.{Less, Equal, Greater}
-use Rattle.std.proofs.lemmas.Bool.{leb-true}
 use Rattle.mctp_packet.specs.Packets.{Packet}
 use Rattle.mctp_assembly.specs.Keys.{key_cmp, key_of}
 use Rattle.mctp_assembly.specs.Opened.{Opened}
@@ -16,8 +15,8 @@ use Rattle.mctp_assembly.specs.declared.fed.Fed.{Fed}
 use Rattle.mctp_assembly.specs.declared.fed.Fed.TheVariants.{Whole, Partial, Dropped}
 use Rattle.mctp_assembly.specs.declared.key.Key.{Key}
 use Rattle.mctp_assembly.proofs.KeyOrder.{keys_exact, keys_total}
-use Rattle.pldm_responder.specs.Ends.{AreAsked, End, IsAsked}
-use Rattle.pldm_responder.specs.OpenOrder.{HasAllOpen, IsOrdered, begins, begun_with, first_open, is_apart, is_full_for, is_shut_out_on, way_for, without}
+use Rattle.pldm_responder.specs.Ends.{AreAsked, IsAsked}
+use Rattle.pldm_responder.specs.OpenOrder.{HasAllOpen, IsOrdered, begins, begun_with, first_open, is_apart, without}
 use Rattle.pldm_responder.proofs.OpenedPackets.{opened_by, still_closed}
 
 same_by : (r : Ordering) → is_eq r ≡ true → r ≡ Equal

@@ -1,5 +1,5 @@
 -- Where the oldest does not end, what is open after a packet is what assembly leaves.
-use Rattle.std.proofs.Common.{◌≡◌, Bool, true, false, ◌&&◌, not, Option, None, Ok, Err, if◌then◌else◌, refl, ap, ◌∙◌}
+use Rattle.std.proofs.Common.{◌≡◌, Bool, true, false, ◌&&◌, Option, None, Ok, Err, if◌then◌else◌, refl, ap}
 use Rattle.std.specs.Prelude.{Result}
 use Rattle.mctp_packet.specs.Packets.{Packet}
 use Rattle.mctp_packet.specs.declared.reason.Reason.{Reason}

@@ -1,21 +1,17 @@
 -- What is open after a packet is of requests from other endpoints, and within the bound.
 use Rattle.std.specs.FinMap as finite
-use Rattle.std.proofs.Common.{◌≡◌, ◌≢◌, ◌+◌, ◌-◌, ◌<◌, ◌≤◌, ◌⊎◌, inl, inr, ℕ, Bool, true, false, cond, not, ◌&&◌, ◌||◌, List, [], ◌∷◌, Option, Some, None, is_some, if◌then◌else◌, refl, sym, ◌∙◌, ap, subst, arith}
-use Rattle.std.specs.Prelude.{nat_le}
-use Rattle.std.specs.Ordering.{eq_by_cmp}
-use Rattle.std.proofs.lemmas.Bool.{leb-false}
+use Rattle.std.proofs.Common.{◌≡◌, ◌≤◌, ℕ, Bool, true, false, cond, not, ◌&&◌, Option, Some, None, is_some, if◌then◌else◌, refl, sym, ◌∙◌, ap, arith}
 use Rattle.std.proofs.lemmas.Grind.{common_steps}
 use Rattle.mctp_packet.specs.Packets.{Packet}
 use Rattle.mctp_packet.specs.declared.TheConstants.{MAX_PACKETS}
-use Rattle.mctp_assembly.specs.Keys.{IsKey, key_cmp, key_of}
+use Rattle.mctp_assembly.specs.Keys.{key_of}
 use Rattle.mctp_assembly.specs.Opened.{Opened}
 use Rattle.mctp_assembly.specs.Steps.{Held, after, after_piece, answer, answer_to, carried_on, stays_open, unless_whole}
 use Rattle.mctp_assembly.specs.declared.fed.Fed.{Fed}
 use Rattle.mctp_assembly.specs.declared.fed.Fed.TheVariants.{Whole, Partial, Dropped}
 use Rattle.mctp_assembly.specs.declared.key.Key.{Key}
-use Rattle.mctp_assembly.proofs.KeyOrder.{keys_total}
-use Rattle.pldm_responder.specs.Ends.{End, IsAsked, AreAsked}
-use Rattle.pldm_responder.specs.OpenOrder.{begins, first_open, is_full_for, is_shut_out_on, way_for, without}
+use Rattle.pldm_responder.specs.Ends.{IsAsked, AreAsked}
+use Rattle.pldm_responder.specs.OpenOrder.{begins}
 use Rattle.pldm_responder.proofs.AskedKeys.{asked_with, asked_without}
 use Rattle.pldm_responder.proofs.OpenBounds.{len_after_piece}
 

@@ -1,6 +1,5 @@
 -- Where memory was refused for a packet, it needed memory, and all is as before.
 use Rattle.std.proofs.Common.{◌≡◌, ℕ, Bool, true, List, [], None, Result, Ok, Err, refl, sym, ap, subst}
-use Rattle.std.specs.Prelude.{option_and_then}
 use Rattle.mctp_packet.specs.Packets.{Packet}
 use Rattle.mctp_packet.specs.declared.reason.Reason.{Reason}
 use Rattle.mctp_assembly.specs.Steps as assembly
@@ -15,10 +14,9 @@ use Rattle.pldm_responder.specs.Receiving.{IsRefusedMemory}
 use Rattle.pldm_responder.specs.Requested.{Requested}
 use Rattle.pldm_responder.specs.Rooms.{ArrivalLacksRow}
 use Rattle.pldm_responder.specs.Serving.{IsNotServed}
-use Rattle.pldm_responder.specs.Slots.{Rows, in_slot, kept_in, row_of}
+use Rattle.pldm_responder.specs.Slots.{Rows, answers_in, kept_in, row_of}
 use Rattle.pldm_responder.specs.Stations.{Station, held_of}
 use Rattle.pldm_responder.specs.Steps.{performs, received_arrival}
-use Rattle.pldm_responder.proofs.RowsAdded.{same_rows_keep}
 
 -- ---- what needs memory over a steady platform does over any
 arrival_needs : {S : Type 0} (held : Held S) (steady start : Bool) (a : Arrival) → ArrivalNeeds held true start a → ArrivalNeeds held steady start a
@@ -41,16 +39,18 @@ whole_needs held steady moment (Err reason) m is fresh none = cc
 pub same_end_holds : {S : Type 0} (state state1 : S) (new old : End) → IsSameEnd new old → state1 ≡ state → IsHeld (held_over state1 new) (held_over state old)
 same_end_holds state state1 new old same is = record {
   own = ap (λ (e : End). e.own) same.same;
+  busy = ap (λ (e : End). e.busy) same.same;
+  window = same.rows.window;
   keep = ap (λ (e : End). e.keep) same.same;
   open_messages = ap (λ (e : End). e.open_messages) same.same;
-  kept = same_rows_keep new.rows old.rows same.rows;
+  kept = λ source. ap answers_in (same.rows.rows source);
   state = is;
   serves_from = ap (λ (e : End). e.serves_from) same.same;
   last = ap (λ (e : End). e.last) same.same;
 }
 
-no_row_keeps_none : (rows : Rows) (source : ℕ) → row_of rows source ≡ None → (id : ℕ) → kept_in rows source id ≡ None
-no_row_keeps_none rows source none id = ap (option_and_then (λ row. in_slot row id)) none
+no_row_keeps_none : (rows : Rows) (source : ℕ) → row_of rows source ≡ None → kept_in rows source ≡ []
+no_row_keeps_none rows source none = ap answers_in none
 
 module _ {P S : Type 0} (performing : P → List Command → P → Type 0) (before old : Station P S) (moment : ℕ) (bytes : List ℕ) (steady : Bool) (view : before ≡ old) where
   -- a part of a message for which there is no room
@@ -59,9 +59,9 @@ module _ {P S : Type 0} (performing : P → List Command → P → Type 0) (befo
   part_before part needs none = record {
     needs = passed_needs (held_of before) steady moment (request_packet before.end.own bytes) needs;
     lacks_row = λ is. subst (ArrivalLacksRow before.end.rows) (sym part) tt;
-    held = record { own = refl; keep = refl; open_messages = refl; kept = λ source id. refl; state = refl; serves_from = refl; last = refl };
+    held = record { own = refl; busy = refl; window = refl; keep = refl; open_messages = refl; kept = λ source. refl; state = refl; serves_from = refl; last = refl };
     none_performed = none;
-    room = record { rows = λ source. refl; sources = refl };
+    room = record { window = refl; rows = λ source. refl; sources = refl };
     bounds = refl;
   }
 

@@ -6,9 +6,11 @@ pub same_held : {S : Type 0} {new held : Held S} → IsHeld new held → new ≡
 same_held same =
     λ i. record {
       own = same.own i;
+      busy = same.busy i;
+      window = same.window i;
       keep = same.keep i;
       open_messages = same.open_messages i;
-      kept = λ source id. same.kept source id i;
+      kept = λ source. same.kept source i;
       state = same.state i;
       serves_from = same.serves_from i;
       last = same.last i;

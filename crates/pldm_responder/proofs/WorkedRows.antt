@@ -2,35 +2,35 @@
 -- numeric effecter is set. Lists of calls have the newest first.
 use Rattle.std.specs.FinMap as map
 use Rattle.std.proofs.Common.{◌≡◌, ℕ, ℤ, pos, true, false, List, [], ◌∷◌, refl}
+use Rattle.std.specs.List.{IsDistinct}
 use Rattle.mctp_packet.specs.declared.reason.Reason.TheVariants.{Short, BadTag, NotRequest}
 use Rattle.mctp_assembly.specs.Keys.{key_cmp}
 use Rattle.pldm_wire.specs.CommandReading.{command_of}
 use Rattle.pldm_wire.specs.Requests.{request_of}
+use Rattle.pldm_wire.specs.declared.busy_time.BusyTime.TheVariants.{All, Sets}
 use Rattle.pldm_wire.specs.declared.command.Command.TheVariants.{GetTid}
 use Rattle.pldm_responder.specs.Arrivals.{Arrival, Whole, message_of}
 use Rattle.pldm_responder.specs.Calls.{Call, Received, Sensed, Restart, Updated, events, outcome}
 use Rattle.pldm_responder.proofs.WorkedLight.{light_answer, light_after, light_sensed}
-use Rattle.pldm_responder.specs.Events.{has_fresh}
+use Rattle.pldm_responder.specs.Events.{is_kept}
 use Rattle.pldm_responder.specs.Counts.{CountsKept}
 use Rattle.pldm_responder.specs.Held.{Held, IsHeld, held_at_first}
 use Rattle.pldm_responder.specs.Laws.{IsLeftBy}
 use Rattle.pldm_responder.specs.Performing.{Rules, rules_of, performed}
-use Rattle.pldm_responder.specs.Slots.{AreKept}
-use Rattle.pldm_responder.specs.Steps.{sensed_held, restarted_held, updated_held, arrival_commands}
+use Rattle.pldm_responder.specs.Steps.{kept_for, sensed_held, restarted_held, updated_held, arrival_commands}
 use Rattle.pldm_responder.specs.Needs.{KeepsNone}
 use Rattle.pldm_responder.specs.declared.outcome.Outcome.{Outcome}
 use Rattle.pldm_responder.specs.declared.outcome.Outcome.TheVariants.{Dropped, Partial, Answered}
 use Rattle.pldm_responder.proofs.CallsLookBack.{sensed_looks_back, updated_looks_back}
-use Rattle.pldm_responder.proofs.KeptCounts.{none_are_kept}
 
 abbrev light : Rules ℤ
 light = rules_of light_answer light_after light_sensed
 
 abbrev outcome_of : List (Call ℤ) → ℕ → List ℕ → Outcome
-outcome_of calls moment bytes = outcome light 9 1000 (pos 0) calls moment bytes
+outcome_of calls moment bytes = outcome light 9 All 32 1000 (pos 0) calls moment bytes
 
 abbrev level : List (Call ℤ) → ℤ
-level calls = performed light 1000 (pos 0) (events 9 calls)
+level calls = performed light All 32 1000 (pos 0) (events 9 calls)
 
 -- GetTID from endpoint 8 with instance ID 0, on tags 0 and 2
 abbrev get_tid : List ℕ
@@ -134,9 +134,25 @@ fresh_one_after_a_change : level (Received 1000 set_40 ∷ Updated (pos 9) ∷ R
 unfolding request_of command_of
 fresh_one_after_a_change = refl
 
-pairs_stay_through_a_change : has_fresh 1000 (events 9 (Updated (pos 9) ∷ Received 0 set_40 ∷ [])) 8 1 ≡ true
+pairs_stay_through_a_change : is_kept All 32 1000 (events 9 (Updated (pos 9) ∷ Received 0 set_40 ∷ [])) 8 1 ≡ true
 unfolding request_of command_of
 pairs_stay_through_a_change = refl
+
+-- with a window of one instance ID, another one that comes between makes a copy a new request; with two it does not
+abbrev outcome_in : ℕ → List (Call ℤ) → ℕ → List ℕ → Outcome
+outcome_in window calls moment bytes = outcome light 9 All window 1000 (pos 0) calls moment bytes
+
+copy_within_two : outcome_in 2 both_set 999 set_40 ≡ Answered false false was_set
+unfolding request_of command_of
+copy_within_two = refl
+
+fresh_past_one : outcome_in 1 both_set 999 set_40 ≡ Answered true true was_set
+unfolding request_of command_of
+fresh_past_one = refl
+
+latest_within_one : outcome_in 1 both_set 999 set_50 ≡ Answered false false ((1 ∷ 8 ∷ 9 ∷ 194 ∷ 1 ∷ 2 ∷ 2 ∷ 49 ∷ 0 ∷ []) ∷ [])
+unfolding request_of command_of
+latest_within_one = refl
 
 -- after a restart every good message is answered with code 4 for the keeping time, and not performed; then the old
 -- answers are gone
@@ -151,62 +167,82 @@ served_again : outcome_of (Received 1099 set_40 ∷ restarted) 1100 set_40 ≡ A
 unfolding request_of command_of
 served_again = refl
 
-restart_forgets_the_pairs : has_fresh 1000 (events 9 restarted) 8 1 ≡ false
+-- where only what sets is refused then, a command that asks is performed, and one that is not known is refused by its code
+outcome_while_busy : List (Call ℤ) → ℕ → List ℕ → Outcome
+outcome_while_busy calls moment bytes = outcome light 9 Sets 32 1000 (pos 0) calls moment bytes
+
+set_is_refused_while_busy : outcome_while_busy restarted 1099 set_40 ≡ Answered false false ((1 ∷ 8 ∷ 9 ∷ 193 ∷ 1 ∷ 1 ∷ 2 ∷ 49 ∷ 4 ∷ []) ∷ [])
+unfolding request_of command_of outcome_while_busy
+set_is_refused_while_busy = refl
+
+read_is_served_while_busy : outcome_while_busy restarted 1099 get_tid ≡ Answered true false ((1 ∷ 8 ∷ 9 ∷ 192 ∷ 1 ∷ 0 ∷ 0 ∷ 2 ∷ 0 ∷ 1 ∷ []) ∷ [])
+unfolding request_of command_of outcome_while_busy
+read_is_served_while_busy = refl
+
+unknown_one_is_refused_while_busy : outcome_while_busy restarted 1099 (1 ∷ 9 ∷ 8 ∷ 200 ∷ 1 ∷ 128 ∷ 5 ∷ 2 ∷ []) ≡ Answered true false ((1 ∷ 8 ∷ 9 ∷ 192 ∷ 1 ∷ 0 ∷ 5 ∷ 2 ∷ 32 ∷ []) ∷ [])
+unfolding request_of command_of outcome_while_busy
+unknown_one_is_refused_while_busy = refl
+
+restart_forgets_the_pairs : is_kept All 32 1000 (events 9 restarted) 8 1 ≡ false
 unfolding request_of command_of
 restart_forgets_the_pairs = refl
 
 -- ---- the premises can be met
 abbrev new_light : Held ℤ
-new_light = held_at_first 9 1000 (pos 0)
+new_light = held_at_first 9 All 32 1000 (pos 0)
 
-new_one_is_left : IsLeftBy light 9 1000 (pos 0) new_light []
+new_one_is_left : IsLeftBy light 9 All 32 1000 (pos 0) new_light []
 new_one_is_left = record {
   endpoint = refl;
+  refusing = refl;
+  windows = refl;
   keeping = refl;
   open_messages = λ key. map.get-empty key_cmp key;
-  kept = λ source id. refl;
+  kept = λ source. refl;
   state = refl;
   serves_from = refl;
   last = refl;
 }
 
-one_with_a_reading_is_left : IsLeftBy light 9 1000 (pos 0) (sensed_held light new_light 1 (pos 7)) (Sensed 1 (pos 7) ∷ [])
-one_with_a_reading_is_left = sensed_looks_back light 9 1000 (pos 0) new_light [] 1 (pos 7) new_one_is_left
+one_with_a_reading_is_left : IsLeftBy light 9 All 32 1000 (pos 0) (sensed_held light new_light 1 (pos 7)) (Sensed 1 (pos 7) ∷ [])
+one_with_a_reading_is_left = sensed_looks_back light 9 All 32 1000 (pos 0) new_light [] 1 (pos 7) new_one_is_left
 
-one_that_was_changed_is_left : IsLeftBy light 9 1000 (pos 0) (updated_held new_light (pos 7)) (Updated (pos 7) ∷ [])
-one_that_was_changed_is_left = updated_looks_back light 9 1000 (pos 0) new_light [] (pos 7) new_one_is_left
+one_that_was_changed_is_left : IsLeftBy light 9 All 32 1000 (pos 0) (updated_held new_light (pos 7)) (Updated (pos 7) ∷ [])
+one_that_was_changed_is_left = updated_looks_back light 9 All 32 1000 (pos 0) new_light [] (pos 7) new_one_is_left
 
 same_as_itself : IsHeld new_light new_light
 same_as_itself = record {
   own = refl;
+  busy = refl;
+  window = refl;
   keep = refl;
   open_messages = refl;
-  kept = λ source id. refl;
+  kept = λ source. refl;
   state = refl;
   serves_from = refl;
   last = refl;
 }
 
-none_is_kept : AreKept [] 0
-none_is_kept = none_are_kept [] (λ source id. refl)
-
-none_is_counted : CountsKept new_light.kept 0
-none_is_counted = none_is_kept.all
+none_is_counted : CountsKept (kept_for new_light) 0
+unfolding IsDistinct
+none_is_counted = record { pairs = []; each = λ source id. refl; once = tt; all = refl }
 
 nothing_of_8_is_kept : KeepsNone new_light true 8
-nothing_of_8_is_kept = λ id. refl
+nothing_of_8_is_kept = refl
 
 -- it restarted at 100 and serves from 1100 on
 restarted_light : Held ℤ
 restarted_light = restarted_held new_light 100
 
-restarted_one_is_left : IsLeftBy light 9 1000 (pos 0) restarted_light (Restart 100 ∷ [])
+restarted_one_is_left : IsLeftBy light 9 All 32 1000 (pos 0) restarted_light (Restart 100 ∷ [])
 unfolding restarted_light
 restarted_one_is_left = record {
   endpoint = refl;
+  refusing = refl;
+  windows = refl;
   keeping = refl;
   open_messages = λ key. map.get-empty key_cmp key;
-  kept = λ source id. refl;
+  kept = λ source. refl;
   state = refl;
   serves_from = refl;
   last = refl;

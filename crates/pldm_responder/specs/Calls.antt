@@ -7,7 +7,8 @@ use Rattle.mctp_assembly.specs.Keys.{key_of}
 use Rattle.mctp_assembly.specs.Rows as rows
 use Rattle.mctp_assembly.specs.declared.fed.Fed.{Fed}
 use Rattle.mctp_assembly.specs.declared.key.Key.{Key}
-use Rattle.pldm_responder.specs.Events.{Message, Event, Came, Set, Restarted, Changed, is_busy, is_copy}
+use Rattle.pldm_wire.specs.declared.busy_time.BusyTime.{BusyTime}
+use Rattle.pldm_responder.specs.Events.{Message, Event, Came, Set, Restarted, Changed, is_copy, is_refused}
 use Rattle.pldm_responder.specs.Performing.{Rules, changes, busy_reply, performed, answered}
 use Rattle.pldm_responder.specs.Arrivals.{Arrival, Drop, Part, Whole, arrival, request_packet, packets_back}
 use Rattle.pldm_responder.specs.declared.outcome.Outcome.{Outcome}
@@ -67,15 +68,15 @@ last_moment (Restart moment ∷ calls) = moment
 last_moment (Updated state ∷ calls) = last_moment calls
 last_moment (Ended key ∷ calls) = last_moment calls
 
-module _ {S : Type 0} (device : Rules S) (own keep : ℕ) (start : S) where
-  -- the outcome that is expected to a message after these events: busy, a copy, or fresh
+module _ {S : Type 0} (device : Rules S) (own : ℕ) (busy : BusyTime) (window keep : ℕ) (start : S) where
+  -- the outcome that is expected to a message after these events: refused as busy, a copy, or fresh
   abbrev pub answer_expected : List (Event S) → Message → Outcome
   answer_expected events m =
-      if is_busy keep events m.moment then Answered false false (packets_back own m (busy_reply m.bytes))
-      else (if is_copy keep events m
-      then Answered false false (packets_back own m (answered device keep start events m))
-      else Answered true (changes device (performed device keep start events) m.bytes)
-      (packets_back own m (answered device keep start events m)))
+      if is_refused busy keep events m then Answered false false (packets_back own m (busy_reply m.bytes))
+      else (if is_copy busy window keep events m
+      then Answered false false (packets_back own m (answered device busy window keep start events m))
+      else Answered true (changes device (performed device busy window keep start events) m.bytes)
+      (packets_back own m (answered device busy window keep start events m)))
 
   -- the same, of what a packet brings
   abbrev pub outcome_expected : List (Event S) → Arrival → Outcome

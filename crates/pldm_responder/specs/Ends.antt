@@ -1,19 +1,23 @@
 -- What contracts see of an answering end: what it holds, and the rows in which answers are kept.
 use Rattle.std.specs.FinMap as map
-use Rattle.std.specs.Prelude.{◌≡◌, ◌≢◌, ℕ, ◌+◌, ◌≤◌, Bool, true, ◌||◌, ◌==◌, List, None, is_some, if◌then◌else◌, refl}
+use Rattle.std.specs.Prelude.{◌≡◌, ◌≢◌, ℕ, ◌+◌, ◌<◌, ◌≤◌, Bool, true, ◌||◌, ◌==◌, List, length, None, is_some, if◌then◌else◌, refl}
+use Rattle.std.specs.List.{All}
 use Rattle.std.specs.Coded.{Coded, code_by, coded×, coded_ℕ, coded_bool, coded_list}
 use Rattle.mctp_assembly.specs.Keys.{IsKey, key_cmp, coded_key}
 use Rattle.mctp_assembly.specs.Opened.{Opened, coded_opened}
 use Rattle.mctp_assembly.specs.declared.key.Key.{Key}
+use Rattle.pldm_wire.specs.contracts.busy_time.BusyTime as busy_type
+use Rattle.pldm_wire.specs.declared.busy_time.BusyTime.{BusyTime}
 use Rattle.pldm_responder.specs.Held.{Held}
 use Rattle.pldm_responder.specs.Slots.{Rows, coded_rows, kept_in, row_of, source_count}
 use Rattle.pldm_responder.specs.declared.bounds.Bounds.{Bounds}
 
--- its endpoint ID, keeping time and bounds, whether its oldest open message ends where one more would pass its bound,
--- what is open on each key, the keys on which messages began, the oldest first, the rows of kept answers, the moment from
--- which it serves, and the last moment
+-- its endpoint ID, what it refuses in the busy time, its keeping time and bounds, whether its oldest open message ends
+-- where one more would pass its bound, what is open on each key, the keys on which messages began, the oldest first, the
+-- rows of kept answers, the moment from which it serves, and the last moment
 pub record End : Type 0 where
   pub own : ℕ
+  pub busy : BusyTime
   pub keep : ℕ
   pub bounds : Bounds
   pub ends_oldest : Bool
@@ -32,20 +36,46 @@ coded_bounds =
 abbrev pub coded_end : Coded End
 coded_end =
     code_by
-    (ℕ × (ℕ × (Bounds × (Bool × (map.FinMap key_cmp Opened × (List Key × (Rows × (ℕ × ℕ))))))))
-    (coded× coded_ℕ (coded× coded_ℕ (coded× coded_bounds (coded× coded_bool (coded× (map.code coded_key coded_opened)
-    (coded× (coded_list coded_key) (coded× coded_rows (coded× coded_ℕ coded_ℕ))))))))
-    (λ e. (e.own, (e.keep, (e.bounds, (e.ends_oldest, (e.open_messages, (e.begun, (e.rows, (e.serves_from, e.last)))))))))
+    (ℕ × (BusyTime × (ℕ × (Bounds × (Bool × (map.FinMap key_cmp Opened × (List Key × (Rows × (ℕ × ℕ)))))))))
+    (coded× coded_ℕ (coded× busy_type.the_row.coded (coded× coded_ℕ (coded× coded_bounds (coded× coded_bool
+    (coded× (map.code coded_key coded_opened) (coded× (coded_list coded_key) (coded× coded_rows
+    (coded× coded_ℕ coded_ℕ)))))))))
+    (λ e. (
+      e.own,
+      (
+        e.busy,
+        (
+          e.keep,
+          (
+            e.bounds,
+            (
+              e.ends_oldest,
+              (
+                e.open_messages,
+                (
+                  e.begun,
+                  (
+                    e.rows,
+                    (e.serves_from, e.last),
+                  ),
+                ),
+              ),
+            ),
+          ),
+        ),
+      ),
+    ))
     (λ c. record {
       own = c.0;
-      keep = c.1.0;
-      bounds = c.1.1.0;
-      ends_oldest = c.1.1.1.0;
-      open_messages = c.1.1.1.1.0;
-      begun = c.1.1.1.1.1.0;
-      rows = c.1.1.1.1.1.1.0;
-      serves_from = c.1.1.1.1.1.1.1.0;
-      last = c.1.1.1.1.1.1.1.1;
+      busy = c.1.0;
+      keep = c.1.1.0;
+      bounds = c.1.1.1.0;
+      ends_oldest = c.1.1.1.1.0;
+      open_messages = c.1.1.1.1.1.0;
+      begun = c.1.1.1.1.1.1.0;
+      rows = c.1.1.1.1.1.1.1.0;
+      serves_from = c.1.1.1.1.1.1.1.1.0;
+      last = c.1.1.1.1.1.1.1.1.1;
     })
     (λ _. refl)
 
@@ -53,6 +83,8 @@ coded_end =
 abbrev pub held_over : {S : Type 0} → S → End → Held S
 held_over state end = record {
   own = end.own;
+  busy = end.busy;
+  window = end.rows.window;
   keep = end.keep;
   open_messages = end.open_messages;
   kept = kept_in end.rows;
@@ -77,7 +109,11 @@ AreAsked own open_messages = (key : Key) → map.contains_key open_messages key 
 
 -- no answer to the endpoint itself is kept
 abbrev pub KeepsForOthers : ℕ → Rows → Type 0
-KeepsForOthers own rows = (id : ℕ) → kept_in rows own id ≡ None
+KeepsForOthers own rows = row_of rows own ≡ None
+
+-- none that is kept is still to come
+abbrev pub AreAnswered : Rows → Type 0
+AreAnswered rows = (source : ℕ) → All (λ entry. 0 < length entry.answer) (kept_in rows source)
 
 -- no bound is passed
 abbrev pub IsWithin : Bounds → map.FinMap key_cmp Opened → Rows → Type 0
@@ -94,12 +130,14 @@ count_with rows source = if has_row rows source then source_count rows else sour
 
 -- the same answers are kept, for the same sources
 pub record AreSameRows (new old : Rows) : Type 0 where
+  pub window : new.window ≡ old.window
   pub rows : (source : ℕ) → row_of new source ≡ row_of old source
   pub sources : source_count new ≡ source_count old
 
 -- the same answers are kept, and this source has a row now
 pub record GetsRow (source : ℕ) (new old : Rows) : Type 0 where
-  pub kept : (other id : ℕ) → kept_in new other id ≡ kept_in old other id
+  pub window : new.window ≡ old.window
+  pub kept : (other : ℕ) → kept_in new other ≡ kept_in old other
   pub rows : (other : ℕ) → has_row new other ≡ (has_row old other || source == other)
   pub sources : source_count new ≡ count_with old source
 

@@ -1,8 +1,16 @@
 -- What reached a responder, the newest first, and which message of it repeats which: the instance ID tells a new
--- request from a retry (DSP0240, "PLDM message fields"). A message is a copy where the latest fresh one of its
--- source and instance ID has the same bytes and came less than the keeping time before; else it is fresh.
-use Rattle.std.specs.Prelude.{ℕ, ◌+◌, ℤ, List, [], ◌∷◌, Bool, false, ◌&&◌, ◌||◌, not, ◌==◌, nat_lt, bytes_eq, Option, Some, None, if◌then◌else◌}
+-- request from a retry (DSP0240, "PLDM message fields"). A message is a copy where the latest fresh one of its source
+-- and instance ID has the same bytes and came less than the keeping time before, and fewer than `window` other instance
+-- IDs of that source had a fresh one since; else it is fresh.
+use Rattle.std.specs.Prelude.{ℕ, ◌+◌, ℤ, List, [], ◌∷◌, take, Bool, true, false, ◌&&◌, not, ◌==◌, nat_lt, bytes_eq, Option, Some, None, is_some, Result, Ok, Err, if◌then◌else◌}
+use Rattle.mctp_packet.specs.declared.reason.Reason.{Reason}
+use Rattle.pldm_wire.specs.CommandReading.{command_of}
 use Rattle.pldm_wire.specs.Headers.{id_at}
+use Rattle.pldm_wire.specs.Requests.{Request, request_of}
+use Rattle.pldm_wire.specs.Settings.{refuses}
+use Rattle.pldm_wire.specs.declared.busy_time.BusyTime.{BusyTime}
+use Rattle.pldm_wire.specs.declared.busy_time.BusyTime.TheVariants.{All, Sets}
+use Rattle.pldm_responder.specs.Recency.{of_number, renewed}
 
 -- a whole message with a good header: the endpoint that it came from, the tag of its packets, the moment of the last of
 -- them in milliseconds, and its bytes
@@ -24,6 +32,8 @@ pub record Place (S : Type 0) : Type 0 where
   pub before : List (Event S)
   pub message : Message
 
+-- ---- the busy time after a restart
+
 -- the moment from which the responder serves again after its last restart, 0 where it never restarted
 abbrev pub busy_until : {S : Type 0} → ℕ → List (Event S) → ℕ
 busy_until keep [] = 0
@@ -35,39 +45,59 @@ busy_until keep (Changed state ∷ events) = busy_until keep events
 abbrev pub is_busy : {S : Type 0} → ℕ → List (Event S) → ℕ → Bool
 is_busy keep events moment = nat_lt moment (busy_until keep events)
 
+-- whether a request is refused in the busy time
+abbrev pub sets_in : Result Request Reason → Bool
+sets_in (Ok request) = refuses Sets (command_of request.kind request.rest)
+sets_in (Err reason) = false
+
+abbrev pub refuses_bytes : BusyTime → List ℕ → Bool
+refuses_bytes All bytes = true
+refuses_bytes Sets bytes = sets_in (request_of bytes)
+
+-- m is answered with ERROR_NOT_READY
+abbrev pub is_refused : {S : Type 0} → BusyTime → ℕ → List (Event S) → Message → Bool
+is_refused busy keep events m = refuses_bytes busy m.bytes && is_busy keep events m.moment
+
+-- ---- copies
+
 -- m has this source and this instance ID
 abbrev pub is_of : Message → ℕ → ℕ → Bool
 is_of m source id = m.source == source && id_at m.bytes == id
+
+-- the instance ID of the message at a place
+abbrev pub id_of : {S : Type 0} → Place S → ℕ
+id_of place = id_at place.message.bytes
 
 -- m repeats the message at this place within the keeping time
 abbrev pub is_copy_of : {S : Type 0} → ℕ → Message → Option (Place S) → Bool
 is_copy_of keep m None = false
 is_copy_of keep m (Some place) = bytes_eq m.bytes place.message.bytes && nat_lt m.moment (place.message.moment + keep)
 
--- the latest fresh message of a source and an instance ID since the last restart
-abbrev pub origin : {S : Type 0} → ℕ → List (Event S) → ℕ → ℕ → Option (Place S)
-origin keep [] source id = None
-origin keep (Set _ _ ∷ events) source id = origin keep events source id
-origin keep (Restarted _ ∷ events) source id = None
-origin keep (Changed _ ∷ events) source id = origin keep events source id
-origin keep (Came m ∷ events) source id =
-    if is_of m source id
-    && (not (is_busy keep events m.moment) && not (is_copy_of keep m (origin keep events m.source (id_at m.bytes))))
-    then Some (record { before = events; message = m })
-    else origin keep events source id
+module _ {S : Type 0} (busy : BusyTime) (window keep : ℕ) where
+  -- the fresh messages of a source since the last restart, of each instance ID the latest, the newest first
+  abbrev pub recent : List (Event S) → ℕ → List (Place S)
+  recent [] source = []
+  recent (Set _ _ ∷ events) source = recent events source
+  recent (Restarted _ ∷ events) source = []
+  recent (Changed _ ∷ events) source = recent events source
+  recent (Came m ∷ events) source =
+      if m.source == source
+      && (not (is_refused busy keep events m)
+      && not (is_copy_of keep m (of_number id_of (id_at m.bytes) (take window (recent events m.source)))))
+      then renewed id_of (record { before = events; message = m }) (recent events source)
+      else recent events source
 
-abbrev pub is_copy : {S : Type 0} → ℕ → List (Event S) → Message → Bool
-is_copy keep events m = is_copy_of keep m (origin keep events m.source (id_at m.bytes))
+  -- the latest fresh message of a source and an instance ID, if that is among the source's `window` latest
+  abbrev pub origin : List (Event S) → ℕ → ℕ → Option (Place S)
+  origin events source id = of_number id_of id (take window (recent events source))
 
--- neither busy nor a copy
-abbrev pub is_fresh : {S : Type 0} → ℕ → List (Event S) → Message → Bool
-is_fresh keep events m = not (is_busy keep events m.moment) && not (is_copy keep events m)
+  abbrev pub is_copy : List (Event S) → Message → Bool
+  is_copy events m = is_copy_of keep m (origin events m.source (id_at m.bytes))
 
--- whether a fresh message of this source and this instance ID came since the last restart
-abbrev pub has_fresh : {S : Type 0} → ℕ → List (Event S) → ℕ → ℕ → Bool
-has_fresh keep [] source id = false
-has_fresh keep (Set _ _ ∷ events) source id = has_fresh keep events source id
-has_fresh keep (Restarted _ ∷ events) source id = false
-has_fresh keep (Changed _ ∷ events) source id = has_fresh keep events source id
-has_fresh keep (Came m ∷ events) source id =
-    is_of m source id && is_fresh keep events m || has_fresh keep events source id
+  -- neither refused in the busy time nor a copy
+  abbrev pub is_fresh : List (Event S) → Message → Bool
+  is_fresh events m = not (is_refused busy keep events m) && not (is_copy events m)
+
+  -- whether an answer is kept for this source and this instance ID: whether it has an origin
+  abbrev pub is_kept : List (Event S) → ℕ → ℕ → Bool
+  is_kept events source id = is_some (origin events source id)

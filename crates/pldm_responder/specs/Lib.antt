@@ -1,14 +1,19 @@
+pub mod Recency
 pub mod Events
 pub mod Performing
 pub mod Arrivals
 pub mod Calls
 pub mod Held
+pub mod EachId
 pub mod Steps
 pub mod Answering
 pub mod Fitting
 pub mod Needs
 pub mod Counts
 pub mod Slots
+pub mod SlotBytes
+pub mod Orders
+pub mod SourceAnswers
 pub mod Ends
 pub mod Stations
 pub mod Requested
@@ -19,6 +24,7 @@ pub mod Laws
 pub mod Asked
 pub mod Rooms
 pub mod Receiving
+pub mod TheRule
 pub mod Askings
 pub mod OutsideAnswers
 pub mod Serving

@@ -1,9 +1,8 @@
 -- What an answering end makes of a packet by looking at it, and of the request that it completes.
 use Rattle.std.specs.FinMap as map
-use Rattle.std.specs.Prelude.{◌≡◌, ◌≢◌, ℕ, ◌<◌, Bool, true, nat_lt, List, length, IfSome, Option, Ok, if◌then◌else◌}
+use Rattle.std.specs.Prelude.{◌≡◌, ◌≢◌, ℕ, ◌<◌, Bool, true, List, length, IfSome, Option, Ok, if◌then◌else◌}
 use Rattle.mctp_packet.specs.Packets.{Packet}
 use Rattle.mctp_packet.specs.declared.packet.Route.{Route}
-use Rattle.mctp_packet.specs.declared.reason.Reason.{Reason}
 use Rattle.mctp_assembly.specs.Steps as assembly
 use Rattle.mctp_assembly.specs.declared.key.Key.{Key}
 use Rattle.pldm_responder.specs.Arrivals.{Arrival, Drop, Part, Whole, message_of, passed_arrival, request_packet}
@@ -13,7 +12,7 @@ use Rattle.pldm_responder.specs.Held.{Held}
 use Rattle.pldm_responder.specs.OpenOrder.{begun_fed, begun_passed, ended_passed, is_shut_out_passed, open_fed, open_passed}
 use Rattle.pldm_responder.specs.Performing.{busy_reply}
 use Rattle.pldm_responder.specs.Requested.{Requested}
-use Rattle.pldm_responder.specs.Steps.{entry_for, received_arrival, repeats}
+use Rattle.pldm_responder.specs.Steps.{entry_for, received_arrival, refuses_now, repeats}
 use Rattle.pldm_responder.specs.declared.arriving.Arrived.{Arrived}
 use Rattle.pldm_responder.specs.declared.arriving.Arrived.TheVariants.{Dropped, Partial, Request}
 use Rattle.pldm_responder.specs.declared.arriving.Standing.{Standing}
@@ -95,11 +94,11 @@ ended_by end bytes = ended_passed end (request_packet end.own bytes)
 module _ {S : Type 0} (held : Held S) (m : Message) where
   abbrev pub standing : Standing
   standing =
-      if nat_lt m.moment held.serves_from then Busy
+      if refuses_now held m then Busy
       else (if repeats held.keep m (entry_for held m) then Copy else Fresh)
 
   -- `reply` is the message that answers it, where there is one already
   abbrev pub IsReply : List ℕ → Standing → Type 0
   IsReply reply Busy = (reply ≡ busy_reply m.bytes) × (0 < length reply)
-  IsReply reply Copy = IfSome (entry_for held m) (λ e. reply ≡ e.answer) × (0 < length reply)
+  IsReply reply Copy = IfSome (entry_for held m) (λ e. reply ≡ e.answer)
   IsReply reply Fresh = Unit {0}

@@ -1,5 +1,5 @@
 -- What of all that reaches a responder needs memory.
-use Rattle.std.specs.Prelude.{◌≡◌, ℕ, Bool, true, List, None, Result, Ok, Err}
+use Rattle.std.specs.Prelude.{◌≡◌, ℕ, Bool, true, List, [], Result, Ok, Err}
 use Rattle.mctp_packet.specs.Packets.{Packet}
 use Rattle.mctp_packet.specs.declared.reason.Reason.{Reason}
 use Rattle.mctp_assembly.specs.Steps as assembly
@@ -8,9 +8,9 @@ use Rattle.pldm_responder.specs.Held.{Held}
 use Rattle.pldm_responder.specs.Steps.{performs}
 
 module _ {S : Type 0} (held : Held S) (steady : Bool) where
-  -- no answer is kept for this source, for any instance ID
+  -- no answer is kept for this source
   abbrev pub KeepsNone : ℕ → Type 0
-  KeepsNone source = (id : ℕ) → held.kept source id ≡ None
+  KeepsNone source = held.kept source ≡ []
 
   -- `start` is SOM. A start packet that gives Partial needs memory, and a fresh message of whose source no answer is
   -- kept or, over a platform that is not steady, any fresh one

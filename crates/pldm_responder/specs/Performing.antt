@@ -8,6 +8,7 @@ use Rattle.pldm_wire.specs.Requests.{Request, request_of}
 use Rattle.pldm_wire.specs.declared.answer.Answer.{Answer}
 use Rattle.pldm_wire.specs.declared.answer.Answer.TheVariants.{Refused}
 use Rattle.pldm_wire.specs.declared.assigned.TheConstants.{ERROR_NOT_READY, SUCCESS}
+use Rattle.pldm_wire.specs.declared.busy_time.BusyTime.{BusyTime}
 use Rattle.pldm_wire.specs.declared.command.Command.{Command}
 use Rattle.pldm_platform.specs.Changes.{changed_or}
 use Rattle.pldm_platform.specs.declared.platform.ReadingFault.{ReadingFault}
@@ -83,13 +84,13 @@ commands_of bytes = commands_at (request_of bytes)
 abbrev pub busy_reply : List ℕ → List ℕ
 busy_reply bytes = busy_reply_to (request_of bytes)
 
-module _ {S : Type 0} (device : Rules S) (keep : ℕ) (start : S) where
+module _ {S : Type 0} (device : Rules S) (busy : BusyTime) (window keep : ℕ) (start : S) where
   -- the platform's state: each fresh message is performed once, each reading set, and each change from outside put, in
   -- order
   abbrev pub performed : List (Event S) → S
   performed [] = start
   performed (Came m ∷ events) =
-      if is_fresh keep events m then next device (performed events) m.bytes else performed events
+      if is_fresh busy window keep events m then next device (performed events) m.bytes else performed events
   performed (Set id value ∷ events) = changed_or (performed events) (device.sensed (performed events) id value)
   performed (Restarted _ ∷ events) = performed events
   performed (Changed state ∷ events) = state
@@ -105,4 +106,4 @@ module _ {S : Type 0} (device : Rules S) (keep : ℕ) (start : S) where
 
   -- what a message is answered while the responder serves: its own reply where it is fresh, else its origin's
   abbrev pub answered : List (Event S) → Message → List ℕ
-  answered events m = answered_by events m (origin keep events m.source (id_at m.bytes))
+  answered events m = answered_by events m (origin busy window keep events m.source (id_at m.bytes))

@@ -1,19 +1,21 @@
 -- Room for the answers to a source, before it is used: a row of empty slots, where the source has none yet.
 use Rattle.std.specs.FinMap as map
-use Rattle.std.specs.Prelude.{◌≡◌, ℕ, ◌<◌, ◌≤◌, Bool, ◌&&◌, not, nat_le, length, Option, Some, None, IsSome}
+use Rattle.std.specs.Prelude.{◌≡◌, ℕ, ◌<◌, ◌≤◌, Bool, ◌&&◌, not, nat_le, [], Option, Some, None, IsSome}
 use Rattle.pldm_responder.specs.Ends.{End, has_row}
-use Rattle.pldm_responder.specs.Slots.{Row, Rows, in_slot, row_of, source_count}
+use Rattle.pldm_responder.specs.Slots.{Answers, Rows, row_of, source_count}
 use Rattle.pldm_responder.specs.declared.arriving.RoomRefusal.{RoomRefusal}
 use Rattle.pldm_responder.specs.declared.arriving.RoomRefusal.TheVariants.{Sources, OpenMessages, Memory}
 
--- the source has a row, or gets this one
-abbrev pub IsRoomFor : Rows → ℕ → Option Row → Type 0
+-- the source has a row, or gets this one, for which there is a place
+abbrev pub IsRoomFor : Rows → ℕ → Option Answers → Type 0
 IsRoomFor rows source None = IsSome (row_of rows source)
-IsRoomFor rows source (Some row) =
-    (row_of rows source ≡ None) × ((id : ℕ) → in_slot row id ≡ None) × (source < length rows)
+IsRoomFor rows source (Some answers) =
+    (row_of rows source ≡ None)
+    × (answers ≡ record { window = rows.window; kept = [] })
+    × (source_count rows < rows.places)
 
 -- a row more is within the bound
-abbrev pub IsWithinSources : Rows → ℕ → Option Row → Type 0
+abbrev pub IsWithinSources : Rows → ℕ → Option Answers → Type 0
 IsWithinSources rows max None = Unit {0}
 IsWithinSources rows max (Some row) = source_count rows < max
 

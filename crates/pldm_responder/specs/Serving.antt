@@ -1,15 +1,15 @@
 -- What a responder makes of a request: it is served, and a fresh one performed. `performing` holds of a platform,
 -- commands, and the platform once they were performed.
-use Rattle.std.specs.Prelude.{◌≡◌, ℕ, Bool, true, ◌&&◌, ◌||◌, ◌==◌, List, [], Some, None, if◌then◌else◌}
-use Rattle.pldm_wire.specs.Headers.{id_at}
+use Rattle.std.specs.Prelude.{◌≡◌, ℕ, Bool, true, ◌||◌, ◌==◌, List, [], take, None, if◌then◌else◌}
 use Rattle.pldm_wire.specs.declared.command.Command.{Command}
 use Rattle.pldm_responder.specs.Answering.{HasReply, answering}
 use Rattle.pldm_responder.specs.Arrivals.{Whole}
 use Rattle.pldm_responder.specs.Ends.{IsSameEnd, count_with, has_row}
 use Rattle.pldm_responder.specs.Fitting.{AnswerFits, Fits}
-use Rattle.pldm_responder.specs.Held.{IsHeld}
+use Rattle.pldm_responder.specs.Held.{IsHeld, id_in}
 use Rattle.pldm_responder.specs.Performing.{Rules, changes, commands_of, next, reply}
 use Rattle.pldm_responder.specs.Looking.{end_finished, message_at}
+use Rattle.pldm_responder.specs.Recency.{renewed}
 use Rattle.pldm_responder.specs.Requested.{Requested}
 use Rattle.pldm_responder.specs.Rooms.{AreRowsAfter}
 use Rattle.pldm_responder.specs.Slots.{kept_in, row_of, source_count}
@@ -43,9 +43,12 @@ module _ {P S : Type 0} (performing : P → List Command → P → Type 0) (old 
     pub state : new.state ≡ next device old.state r.bytes
     pub performed : performing old.platform (commands_of r.bytes) new.platform
     pub kept :
-        (other id : ℕ) → kept_in new.end.rows other id
-        ≡ (if r.source == other && id_at r.bytes == id then Some (entry_of device (held_of old) (message_at moment r))
-        else kept_in old.end.rows other id)
+        (other : ℕ) → kept_in new.end.rows other
+        ≡ (if r.source == other
+        then take old.end.rows.window
+        (renewed id_in (entry_of device (held_of old) (message_at moment r)) (kept_in old.end.rows other))
+        else kept_in old.end.rows other)
+    pub window : new.end.rows.window ≡ old.end.rows.window
     pub rows : (other : ℕ) → has_row new.end.rows other ≡ (has_row old.end.rows other || r.source == other)
     pub sources : source_count new.end.rows ≡ count_with old.end.rows r.source
     pub rest : record new.end { rows = old.end.rows } ≡ old.end

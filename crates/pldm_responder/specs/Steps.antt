@@ -1,16 +1,17 @@
 -- One call of a responder over what it holds.
 use Rattle.std.specs.FinMap as map
-use Rattle.std.specs.Prelude.{ℕ, ◌+◌, ℤ, List, [], Bool, true, false, ◌&&◌, not, nat_lt, bytes_eq, Option, Some, None, Result, Ok, Err, if◌then◌else◌}
+use Rattle.std.specs.Prelude.{ℕ, ◌+◌, ℤ, List, [], take, Bool, true, false, ◌&&◌, ◌==◌, not, nat_lt, bytes_eq, Option, Some, None, Result, Ok, Err, if◌then◌else◌}
 use Rattle.mctp_packet.specs.Packets.{Packet}
 use Rattle.mctp_packet.specs.declared.reason.Reason.{Reason}
 use Rattle.mctp_assembly.specs.Steps as assembly
 use Rattle.pldm_wire.specs.Headers.{id_at}
 use Rattle.pldm_wire.specs.declared.command.Command.{Command}
 use Rattle.pldm_platform.specs.Changes.{changed_or}
-use Rattle.pldm_responder.specs.Events.{Message, is_of}
-use Rattle.pldm_responder.specs.Held.{Entry, Held}
+use Rattle.pldm_responder.specs.Events.{Message, refuses_bytes}
+use Rattle.pldm_responder.specs.Held.{Entry, Held, id_in}
 use Rattle.pldm_responder.specs.Performing.{Rules, reply, next, changes, busy_reply, commands_of}
 use Rattle.pldm_responder.specs.Arrivals.{Arrival, Drop, Part, Whole, arrival, passed_arrival, request_packet, packets_back}
+use Rattle.pldm_responder.specs.Recency.{of_number, renewed}
 use Rattle.pldm_responder.specs.declared.outcome.Outcome.{Outcome}
 use Rattle.pldm_responder.specs.declared.outcome.Outcome.TheVariants.{Dropped, Partial, Answered}
 
@@ -26,13 +27,21 @@ copied_packets own keep m (Some e) =
     if repeats keep m (Some e) then Some (packets_back own m e.answer) else None
 
 module _ {S : Type 0} (held : Held S) where
+  -- the answer that is kept for a source and an instance ID
+  abbrev pub kept_for : ℕ → ℕ → Option Entry
+  kept_for source id = of_number id_in id (held.kept source)
+
   -- the kept answer of m's source and instance ID
   abbrev pub entry_for : Message → Option Entry
-  entry_for m = held.kept m.source (id_at m.bytes)
+  entry_for m = kept_for m.source (id_at m.bytes)
 
-  -- m is performed: the responder serves, and m is no copy
+  -- m is refused in the busy time
+  abbrev pub refuses_now : Message → Bool
+  refuses_now m = refuses_bytes held.busy m.bytes && nat_lt m.moment held.serves_from
+
+  -- m is performed: it is not refused in the busy time, and no copy
   abbrev pub performs : Message → Bool
-  performs m = not (nat_lt m.moment held.serves_from) && not (repeats held.keep m (entry_for m))
+  performs m = not (refuses_now m) && not (repeats held.keep m (entry_for m))
 
   -- what these bytes bring
   abbrev pub received_arrival : ℕ → List ℕ → Arrival
@@ -52,7 +61,7 @@ module _ {S : Type 0} (held : Held S) where
   abbrev pub restarted_held : ℕ → Held S
   restarted_held moment = record held {
     open_messages = map.empty;
-    kept = λ source id. None;
+    kept = λ source. [];
     serves_from = moment + held.keep;
     last = moment;
   }
@@ -76,16 +85,18 @@ module _ {S : Type 0} (device : Rules S) (held : Held S) where
   -- the outcome of a message: busy, a copy, or fresh
   abbrev pub message_outcome : Message → Outcome
   message_outcome m =
-      if nat_lt m.moment held.serves_from then Answered false false (packets_back held.own m (busy_reply m.bytes))
+      if refuses_now held m then Answered false false (packets_back held.own m (busy_reply m.bytes))
       else served m (copied_packets held.own held.keep m (entry_for held m))
 
   abbrev pub entry_of : Message → Entry
   entry_of m = record { moment = m.moment; bytes = m.bytes; answer = reply device held.state m.bytes }
 
-  -- what is kept for each source and instance ID after m
-  abbrev pub kept_after : Message → ℕ → ℕ → Option Entry
-  kept_after m source id =
-      if is_of m source id && performs held m then Some (entry_of m) else held.kept source id
+  -- what is kept for each source after m: a fresh one's answer comes first, and what is past the window falls out
+  abbrev pub kept_after : Message → ℕ → List Entry
+  kept_after m source =
+      if m.source == source && performs held m
+      then take held.window (renewed id_in (entry_of m) (held.kept source))
+      else held.kept source
 
   abbrev pub state_after : Message → S
   state_after m = if performs held m then next device held.state m.bytes else held.state

@@ -2,7 +2,7 @@
 //! then it is done what it asks for.
 
 ghost use Rattle.std.specs.FinMap as map;
-ghost use Rattle.std.specs.Prelude.{◌≡◌, ◌≢◌, ◌↔◌, ℕ, [], Ok, ◌+◌, ◌*◌, ◌≤◌, ◌<◌, ◌&&◌, ◌==◌, false, true, length, nat_lt, Some, None, IfOk, IfErr, IfSome, IsErrOf, IsSome, OnOk, OnErr, if◌then◌else◌};
+ghost use Rattle.std.specs.Prelude.{◌≡◌, ◌≢◌, ◌↔◌, ℕ, [], Ok, ◌+◌, ◌*◌, ◌≤◌, ◌<◌, ◌==◌, false, true, length, take, nat_lt, IfOk, IfErr, IfSome, IsErrOf, IsSome, OnOk, OnErr, if◌then◌else◌};
 ghost use Rattle.mctp_packet.specs.declared.TheConstants.{MAX_MESSAGE_BYTES as most};
 ghost use Rattle.mctp_assembly.specs.declared.key.Key.{Key as KeyValue};
 ghost use Rattle.pldm_responder.specs.Counts.{CountsKept};
@@ -15,13 +15,16 @@ ghost use Rattle.mctp_assembly.specs.Steps.{answer};
 ghost use Rattle.mctp_assembly.specs.declared.fed.Fed.TheVariants.{Partial};
 ghost use Rattle.pldm_responder.specs.Needs.{NeedsMemory};
 ghost use Rattle.pldm_responder.specs.Reserving.{IsRoomFor, IsWhyNoRow, IsWithinSources};
-ghost use Rattle.pldm_responder.specs.Slots.{kept_in, row_of, source_count};
+ghost use Rattle.pldm_responder.specs.Held.{id_in};
+ghost use Rattle.pldm_responder.specs.Recency.{renewed, replaced};
+ghost use Rattle.pldm_responder.specs.Slots.{entry_in, kept_in, row_of, source_count};
 ghost use Rattle.pldm_responder.specs.Steps.{received_arrival};
 ghost use Rattle.pldm_wire.specs.Headers.{id_at};
 ghost use Rattle.pldm_wire.specs.declared.assigned.TheConstants.{INSTANCE_IDS as ids};
 
 use crate::arriving::{Arrived, Request, RoomRefusal, Standing};
 use crate::bounds::Bounds;
+use crate::keeping::Keeping;
 use crate::kept_answers::{KeptAnswers, Reserved};
 use crate::open_order::{end_message, first_open, put_begun, reserve_begun};
 use crate::performing::refuse;
@@ -30,7 +33,7 @@ use mctp_packet::{
     Body, Eid, Keep, MAX_EID, MAX_MESSAGE_BYTES, MIN_EID, Memory, Moment, PacketRef, Reason, Route,
     TAGS, Tag, read_for,
 };
-use pldm_wire::{Code, INSTANCE_IDS, read_request};
+use pldm_wire::{BusyTime, Code, INSTANCE_IDS, read_request};
 use std::alloc::Global;
 use std::marker::Model;
 
@@ -52,6 +55,7 @@ pub struct AnsweringEnd {
     alloc: Global,
     own: Eid,
     keep: Keep,
+    busy: BusyTime,
     bounds: Bounds,
     last: Moment,
     /// The moment in milliseconds from which it serves: the last restart's and the keeping time.
@@ -75,6 +79,7 @@ impl Model for AnsweringEnd {
 
     ghost view = { λ e. record {
       own = e.own;
+      busy = e.busy;
       keep = e.keep;
       bounds = e.bounds;
       ends_oldest = e.ends_oldest;
@@ -91,38 +96,40 @@ impl Model for AnsweringEnd {
 }
 
 impl AnsweringEnd {
-    /// The endpoint `own`, which keeps each answer for `keep` and at a time no more than `bounds` allow. Where one more
-    /// message would be open than that, the one that began first ends where `ends_oldest`, else the new one is refused.
-    /// Nothing is open or kept, and its last moment is 0. It takes no memory.
+    /// The endpoint `own`, which keeps answers so, and at a time no more than `bounds` allow. Where one more message
+    /// would be open than that, the one that began first ends where `ends_oldest`, else the new one is refused. Nothing
+    /// is open or kept, and its last moment is 0. It takes no memory.
     pub fn new(
         alloc: Global,
         own: Eid,
-        keep: Keep,
+        keeping: Keeping,
         bounds: Bounds,
         ends_oldest: bool,
     ) -> AnsweringEnd
         ensures own { result.own ≡ own }
-        ensures keep { result.keep ≡ keep }
+        ensures busy { result.busy ≡ keeping.busy }
+        ensures keep { result.keep ≡ keeping.keep }
         ensures bounds { result.bounds ≡ bounds }
         ensures ends_oldest { result.ends_oldest ≡ ends_oldest }
         ensures none_begun { result.begun ≡ [] }
         ensures closed { result.open_messages ≡ map.empty }
-        ensures none { (source id : ℕ) → kept_in result.rows source id ≡ None }
-        ensures no_rows { source_count result.rows ≡ 0 }
+        ensures none { result.rows ≡ record { window = keeping.window; places = 0; list = [] } }
         ensures serves { result.serves_from ≡ 0 }
         ensures last { result.last ≡ 0 }
     {
+        let Keeping { keep, window, busy } = keeping;
         AnsweringEnd {
             alloc,
             own,
             keep,
+            busy,
             bounds,
             last: Moment::new(0).unwrap(),
             serves_from: 0,
             ends_oldest,
             assembler: Assembler::new(alloc),
             begun: Vec::new(alloc),
-            kept: KeptAnswers::new(alloc),
+            kept: KeptAnswers::new(alloc, window),
         }
     }
 
@@ -166,19 +173,19 @@ impl AnsweringEnd {
     /// time from then on it is busy.
     pub fn restart(&mut self, now: Moment)
         ensures own { self.new.own ≡ self.old.own }
+        ensures busy { self.new.busy ≡ self.old.busy }
         ensures keep { self.new.keep ≡ self.old.keep }
         ensures bounds { self.new.bounds ≡ self.old.bounds }
         ensures ends_oldest { self.new.ends_oldest ≡ self.old.ends_oldest }
         ensures closed { self.new.open_messages ≡ map.empty }
         ensures none_begun { self.new.begun ≡ [] }
-        ensures none { (source id : ℕ) → kept_in self.new.rows source id ≡ None }
-        ensures no_rows { source_count self.new.rows ≡ 0 }
+        ensures none { self.new.rows ≡ record { window = self.old.rows.window; places = 0; list = [] } }
         ensures serves { self.new.serves_from ≡ now + self.old.keep }
         ensures last { self.new.last ≡ now }
     {
         self.assembler = Assembler::new(self.alloc);
         self.begun.clear();
-        self.kept = KeptAnswers::new(self.alloc);
+        self.kept = KeptAnswers::new(self.alloc, self.kept.window());
         self.serves_from = now.get() + u64::from(self.keep.get());
         self.last = now;
     }
@@ -190,8 +197,8 @@ impl AnsweringEnd {
     /// # Errors
     ///
     /// `OpenMessages` exactly where a packet begins a message of several packets, none is open on its key, and as many
-    /// are open as [`Bounds::open_messages`] allow: where the oldest ends, only if none may be open at all. `Memory` where a growth was refused, which
-    /// only a start packet that gives `Partial` wants.
+    /// are open as [`Bounds::open_messages`] allow: where the oldest ends, only if none may be open at all. `Memory`
+    /// where a growth was refused, which only a start packet that gives `Partial` wants.
     pub fn take<'a>(
         &mut self,
         now: Moment,
@@ -329,13 +336,14 @@ impl AnsweringEnd {
         }
     }
 
-    /// What a request that came at the moment `now` is. The message that answers one in the busy time, or a copy, is
-    /// put into `reply`; for a fresh one what `reply` then holds is not specified.
+    /// What a request that came at the moment `now` is. The message that answers one that is refused in the busy time,
+    /// or a copy, is put into `reply`: nothing where the answer is still to come. For a fresh one what `reply` then holds
+    /// is not specified.
     pub fn standing(&self, now: Moment, request: &Request<'_>, reply: &mut Body) -> Standing
         ensures standing { result ≡ standing (held_by self.now) (message_at now request.now) }
         ensures reply { IsReply (held_by self.now) (message_at now request.now) reply.new.items result }
     {
-        if self.is_busy(now) {
+        if self.is_busy(now) && self.busy.refuses(request.read()) {
             refuse(request.read(), Code::ERROR_NOT_READY, reply);
             return Standing::Busy;
         }
@@ -376,24 +384,45 @@ impl AnsweringEnd {
         self.kept.put_row(request.source(), reserved);
     }
 
-    /// Keeps the answer to a request of this source, instance ID, moment and bytes, in the place of the one that is
-    /// kept for that instance ID. There has to be room for it. It takes no memory.
-    pub fn keep(&mut self, source: Eid, id: u8, moment: Moment, bytes: &[u8], answer: &[u8])
-        requires other { source ≢ self.old.own }
-        requires room { IsSome (row_of self.old.rows source) }
-        requires id { id < ids }
-        requires bytes { length bytes.now ≤ most }
-        requires some { 0 < length answer.now }
+    /// Keeps the answer to a request, which came at the moment `now`, in the place of the one that is kept for its
+    /// instance ID; an empty one is still to come. Where the window has no more room, the answer for the instance ID of
+    /// the oldest request falls out. There has to be room for the source. It takes no memory.
+    pub fn keep(&mut self, now: Moment, request: &Request<'_>, answer: &[u8])
+        requires room { IsSome (row_of self.old.rows request.now.source) }
         requires few { length answer.now ≤ most }
-        ensures kept { (other i : ℕ) → kept_in self.new.rows other i ≡
-            (if source == other && id == i
-            then Some (record { moment = moment; bytes = bytes.now; answer = answer.now })
-            else kept_in self.old.rows other i) }
+        ensures kept { (other : ℕ) → kept_in self.new.rows other ≡
+            (if request.now.source == other
+            then take self.old.rows.window
+            (renewed id_in (record { moment = now; bytes = request.now.bytes; answer = answer.now })
+            (kept_in self.old.rows other))
+            else kept_in self.old.rows other) }
+        ensures window { self.new.rows.window ≡ self.old.rows.window }
         ensures rows { (other : ℕ) → has_row self.new.rows other ≡ has_row self.old.rows other }
         ensures sources { source_count self.new.rows ≡ source_count self.old.rows }
         ensures rest { self.new ≡ record self.old { rows = self.new.rows } }
     {
-        self.kept.put(source, id, moment, bytes, answer);
+        let (source, id) = (request.source(), request.id());
+        self.kept.put(source, id, now, request.bytes(), answer);
+    }
+
+    /// Keeps the answer to a request of this source, instance ID, moment and bytes that came later than it: it takes the
+    /// request's place in the order, and where that fell out of the window it is not kept. It takes no memory.
+    pub fn keep_late(&mut self, source: Eid, id: u8, moment: Moment, bytes: &[u8], answer: &[u8])
+        requires id { id_at bytes.now ≡ id }
+        requires small { id < ids }
+        requires bytes { length bytes.now ≤ most }
+        requires few { length answer.now ≤ most }
+        ensures kept { (other : ℕ) → kept_in self.new.rows other ≡
+            (if source == other
+            then replaced id_in (record { moment = moment; bytes = bytes.now; answer = answer.now })
+            (kept_in self.old.rows other)
+            else kept_in self.old.rows other) }
+        ensures window { self.new.rows.window ≡ self.old.rows.window }
+        ensures rows { (other : ℕ) → has_row self.new.rows other ≡ has_row self.old.rows other }
+        ensures sources { source_count self.new.rows ≡ source_count self.old.rows }
+        ensures rest { self.new ≡ record self.old { rows = self.new.rows } }
+    {
+        self.kept.replace(source, id, moment, bytes, answer);
     }
 
     /// Ends a request, which came at the moment `now`: its packets are no longer open, and it is the last that was done
@@ -419,10 +448,10 @@ impl AnsweringEnd {
     /// How many pairs of a source and an instance ID have a kept answer: at most [`MAX_KEPT`], each of
     /// at most [`MAX_MESSAGE_BYTES`] bytes.
     pub fn kept(&self) -> usize
-        ensures value { CountsKept (kept_in self.now.rows) result }
+        ensures value { CountsKept (entry_in self.now.rows) result }
         ensures few { result ≤ MAX_KEPT }
-        ensures bounded { result ≤ INSTANCE_IDS * self.now.bounds.sources }
-        ensures small { (source id : ℕ) → IfSome (kept_in self.now.rows source id)
+        ensures bounded { result ≤ self.now.rows.window * self.now.bounds.sources }
+        ensures small { (source id : ℕ) → IfSome (entry_in self.now.rows source id)
             (λ entry. length entry.answer ≤ MAX_MESSAGE_BYTES) }
     {
         let _range = self.own.get(); // for the proof: an endpoint ID

@@ -1,90 +1,149 @@
-ghost use Rattle.std.specs.Prelude.{◌≡◌, ℕ, ◌*◌, ◌≤◌, ◌<◌, ◌&&◌, ◌==◌, length, Some, None, is_some, if◌then◌else◌, IfOk, IfErr, IfSome, IsSome, OnOk};
+//! The answers that are kept, by the source of the request.
+
+ghost use Rattle.std.specs.Prelude.{◌≡◌, ℕ, ◌*◌, ◌≤◌, ◌<◌, ◌==◌, length, take, [], None, if◌then◌else◌, IfOk, IfErr, OnOk, IsSome};
 ghost use Rattle.std.specs.Option.{option_copied};
-ghost use Rattle.mctp_packet.specs.Ids.{IsEid};
+ghost use Rattle.std.specs.List.{insert};
+ghost use Rattle.std.specs.Vec.{vec_capacity, vec_len};
 ghost use Rattle.mctp_packet.specs.declared.TheConstants.{MAX_MESSAGE_BYTES};
+ghost use Rattle.mctp_assembly.specs.NumberLists.{IsAt, IsGapFor};
+ghost use Rattle.pldm_wire.specs.Headers.{id_at};
 ghost use Rattle.pldm_wire.specs.declared.assigned.TheConstants.{INSTANCE_IDS};
 ghost use Rattle.pldm_responder.specs.Counts.{CountsKept};
 ghost use Rattle.pldm_responder.specs.Ends.{AreSameRows, GetsRow, has_row};
+ghost use Rattle.pldm_responder.specs.Held.{id_in};
+ghost use Rattle.pldm_responder.specs.Recency.{renewed, replaced};
 ghost use Rattle.pldm_responder.specs.Reserving.{IsRoomFor, IsWhyNoRow, IsWithinSources};
-ghost use Rattle.pldm_responder.specs.Slots.{IsKept, kept_in, row_of, source_count};
+ghost use Rattle.pldm_responder.specs.Slots.{AreKept, entry_in, kept_in, no_answers, row_of, source_count};
 
+use crate::answering_end::OTHER_ENDPOINTS;
 use crate::arriving::RoomRefusal;
 use crate::kept_answer::KeptAnswer;
 use crate::row::Row;
 use mctp_packet::{Eid, Memory, Moment};
+use pldm_wire::Window;
 use std::alloc::Global;
 use std::marker::Model;
 
-/// The answers that are kept, by the source of the request and its instance ID.
+/// A row in a place of its own, so that the list of them is short and moves fast.
+#[derive(Debug, Drop)]
+struct Place {
+    row: Box<Row>,
+}
+
+impl Model for Place {
+    ghost use Rattle.std.specs.Prelude.{box_value};
+    ghost use Rattle.pldm_responder.specs.Slots.{Answers, coded_answers};
+
+    ghost Value = { Answers };
+
+    ghost coded = { coded_answers };
+
+    ghost view = { λ p. box_value p.row };
+}
+
+impl Place {
+    /// A row of no answers.
+    fn new(alloc: Global, window: Window) -> Result<Place, Memory>
+        ensures { IfOk result (λ place. place ≡ record { window = window; kept = [] }) }
+    {
+        let row = Row::new(alloc, window)?;
+        Ok(Place {
+            row: Box::new(alloc, row)?,
+        })
+    }
+
+    /// The row.
+    fn row(&self) -> &Row
+        ensures { result.now ≡ self.now }
+    {
+        &self.row
+    }
+}
+
+/// The answers that are kept, in a row for each source, by the endpoint IDs of the sources, which rise: a look-up is a
+/// binary search.
 #[derive(Debug, Drop)]
 pub(crate) struct KeptAnswers {
     alloc: Global,
-    /// By endpoint ID, a row for each source of which a fresh message came.
-    rows: Vec<Option<Row>>,
-    /// How many slots hold an answer.
-    count: usize,
-    /// How many sources have a row.
-    sources: usize,
+    window: Window,
+    rows: Vec<(u8, Place)>,
 }
 
 impl Model for KeptAnswers {
-    ghost use Rattle.std.specs.Prelude.{◌≡◌};
-    ghost use Rattle.pldm_responder.specs.Slots.{Rows, coded_rows, source_count, AreKept};
+    ghost use Rattle.std.specs.Vec.{vec_capacity};
+    ghost use Rattle.pldm_responder.specs.Slots.{AreKept, Rows, coded_rows};
 
     ghost Value = { Rows };
 
     ghost coded = { coded_rows };
 
-    ghost view = { λ k. k.rows.items };
+    ghost view = { λ k. record { window = k.window; places = vec_capacity k.rows; list = k.rows.items } };
 
-    ghost invariant = { λ k. AreKept k.rows.items k.count × (k.sources ≡ source_count k.rows.items) };
+    ghost invariant = { λ k. AreKept (record { window = k.window; places = vec_capacity k.rows; list = k.rows.items }) };
 }
 
 /// Room for the answers to a source: a row where the source has none yet. It is given back where it is not put in.
 #[derive(Debug, Drop)]
 pub struct Reserved {
-    row: Option<Row>,
+    row: Option<Place>,
 }
 
 impl Model for Reserved {
     ghost use Rattle.std.specs.Coded.{coded_option};
     ghost use Rattle.std.specs.Prelude.{Option};
-    ghost use Rattle.pldm_responder.specs.Slots.{Row as Slots, coded_row};
+    ghost use Rattle.pldm_responder.specs.Slots.{Answers, coded_answers};
 
-    ghost Value = { Option Slots };
+    ghost Value = { Option Answers };
 
-    ghost coded = { coded_option coded_row };
+    ghost coded = { coded_option coded_answers };
 
     ghost view = { λ r. r.row };
 }
 
 impl KeptAnswers {
-    /// No answers. It takes no memory.
-    pub(crate) fn new(alloc: Global) -> KeptAnswers
-        ensures none { (source id : ℕ) → kept_in result source id ≡ None }
-        ensures no_rows { source_count result ≡ 0 }
+    /// No answers, of at most this many instance IDs of a source. It takes no memory.
+    pub(crate) fn new(alloc: Global, window: Window) -> KeptAnswers
+        ensures { result ≡ record { window = window; places = 0; list = [] } }
     {
         KeptAnswers {
             alloc,
+            window,
             rows: Vec::new(alloc),
-            count: 0,
-            sources: 0,
         }
+    }
+
+    /// How many instance IDs of a source answers are kept for.
+    pub(crate) fn window(&self) -> Window
+        ensures { result ≡ self.now.window }
+    {
+        self.window
     }
 
     /// The answer that is kept for a source and an instance ID.
     pub(crate) fn get(&self, source: Eid, id: u8) -> Option<KeptAnswer<'_>>
         requires { id < INSTANCE_IDS }
-        ensures { result ≡ kept_in self.now source id }
+        ensures { result ≡ entry_in self.now source id }
     {
         self.row(source)?.get(id)
+    }
+
+    /// Where the row of a source stands, or where it would go.
+    fn search(&self, source: Eid) -> Result<usize, usize>
+        ensures found { IfOk result (IsAt no_answers self.now.list source) }
+        ensures absent { IfErr result (IsGapFor no_answers self.now.list source) }
+    {
+        let source = source.get();
+        self.rows.binary_search_by_key(&source, |(other, _)| *other)
     }
 
     /// The row of a source.
     fn row(&self, source: Eid) -> Option<&Row>
         ensures { option_copied result ≡ row_of self.now source }
     {
-        self.rows.get(usize::from(source.get()))?.as_ref()
+        match self.search(source) {
+            Ok(place) => Some(self.rows[place].1.row()),
+            Err(_) => None,
+        }
     }
 
     /// Takes the room for the answers to a source, where it has none yet and fewer than `max` sources have. It counts
@@ -98,12 +157,23 @@ impl KeptAnswers {
         if self.row(source).is_some() {
             return Ok(Reserved { row: None });
         }
-        if self.sources >= max {
+        if self.rows.len() >= max {
             return Err(RoomRefusal::Sources);
         }
-        let row = Row::new(self.alloc)?;
-        make_place(&mut self.rows, source)?;
+        let row = Place::new(self.alloc, self.window)?;
+        self.make_place(max)?;
         Ok(Reserved { row: Some(row) })
+    }
+
+    /// Makes a place for one more row: at the first, one for each that there may be, so that the list grows once.
+    fn make_place(&mut self, max: usize) -> Result<(), Memory>
+        ensures window { self.new.window ≡ self.old.window }
+        ensures same { self.new.list ≡ self.old.list }
+        ensures room { OnOk result (source_count self.new < self.new.places) }
+    {
+        let missing = max.min(OTHER_ENDPOINTS).saturating_sub(self.rows.len());
+        self.rows.reserve_exact(missing.max(1))?;
+        Ok(())
     }
 
     /// Puts the room for the answers to a source in, where it has none yet.
@@ -112,33 +182,59 @@ impl KeptAnswers {
         ensures gets { GetsRow source self.new self.old }
         ensures some { IsSome (row_of self.new source) }
     {
-        if let Some(row) = reserved.row {
-            self.rows[usize::from(source.get())] = Some(row);
-            self.sources += 1;
+        let Some(row) = reserved.row else {
+            return;
+        };
+        if let Err(place) = self.search(source) {
+            insert_reserved(&mut self.rows, place, (source.get(), row));
         }
     }
 
-    /// Puts an answer in the place of its source's and instance ID's. There has to be room for it.
+    /// Puts an answer in front of those to its source. There has to be room for it.
     pub(crate) fn put(&mut self, source: Eid, id: u8, moment: Moment, bytes: &[u8], answer: &[u8])
         requires room { IsSome (row_of self.old source) }
-        requires id { id < INSTANCE_IDS }
+        requires id { id_at bytes.now ≡ id }
+        requires small { id < INSTANCE_IDS }
         requires bytes { length bytes.now ≤ MAX_MESSAGE_BYTES }
-        requires some { 0 < length answer.now }
         requires few { length answer.now ≤ MAX_MESSAGE_BYTES }
-        ensures kept { (other i : ℕ) → kept_in self.new other i ≡
-            (if source == other && id == i
-            then Some (record { moment = moment; bytes = bytes.now; answer = answer.now })
-            else kept_in self.old other i) }
+        ensures kept { (other : ℕ) → kept_in self.new other ≡
+            (if source == other
+            then take self.old.window
+            (renewed id_in (record { moment = moment; bytes = bytes.now; answer = answer.now }) (kept_in self.old other))
+            else kept_in self.old other) }
+        ensures window { self.new.window ≡ self.old.window }
         ensures sources { source_count self.new ≡ source_count self.old }
         ensures rows { (other : ℕ) → has_row self.new other ≡ has_row self.old other }
     {
-        let _range = source.get(); // for the proof: an endpoint ID
-        let is_first = match &mut self.rows[usize::from(source.get())] {
-            Some(row) => row.put(id, moment, bytes, answer),
-            None => unreachable!(),
-        };
-        if is_first {
-            self.count += 1;
+        if let Ok(place) = self.search(source) {
+            self.rows[place].1.row.put(id, moment, bytes, answer);
+        }
+    }
+
+    /// Puts an answer in the place of the one of its source and instance ID, where one is kept.
+    pub(crate) fn replace(
+        &mut self,
+        source: Eid,
+        id: u8,
+        moment: Moment,
+        bytes: &[u8],
+        answer: &[u8],
+    )
+        requires id { id_at bytes.now ≡ id }
+        requires small { id < INSTANCE_IDS }
+        requires bytes { length bytes.now ≤ MAX_MESSAGE_BYTES }
+        requires few { length answer.now ≤ MAX_MESSAGE_BYTES }
+        ensures kept { (other : ℕ) → kept_in self.new other ≡
+            (if source == other
+            then replaced id_in (record { moment = moment; bytes = bytes.now; answer = answer.now })
+            (kept_in self.old other)
+            else kept_in self.old other) }
+        ensures window { self.new.window ≡ self.old.window }
+        ensures sources { source_count self.new ≡ source_count self.old }
+        ensures rows { (other : ℕ) → has_row self.new other ≡ has_row self.old other }
+    {
+        if let Ok(place) = self.search(source) {
+            self.rows[place].1.row.replace(id, moment, bytes, answer);
         }
     }
 
@@ -146,28 +242,27 @@ impl KeptAnswers {
     pub(crate) fn sources(&self) -> usize
         ensures { result ≡ source_count self.now }
     {
-        self.sources
+        self.rows.len()
     }
 
-    /// How many there are.
+    /// How many answers there are.
     pub(crate) fn count(&self) -> usize
-        ensures value { CountsKept (kept_in self.now) result }
-        ensures few { result ≤ INSTANCE_IDS * source_count self.now }
-        ensures each { (source id : ℕ) → IfSome (kept_in self.now source id) (IsKept source id) }
+        ensures value { CountsKept (entry_in self.now) result }
+        ensures few { result ≤ self.now.window * source_count self.now }
+        ensures kept { AreKept self.now }
     {
-        self.count
+        self.rows.iter().map(|(_, place)| place.row.len()).sum()
     }
 }
 
-/// Makes a place for the row of a source, where there is none yet.
-fn make_place(rows: &mut Vec<Option<Row>>, source: Eid) -> Result<(), Memory>
-    ensures same { (other : ℕ) → row_of rows.new.items other ≡ row_of rows.old.items other }
-    ensures sources { source_count rows.new.items ≡ source_count rows.old.items }
-    ensures ok { OnOk result (source < length rows.new.items) }
+/// Puts a row in at a place of the list, which has room for it.
+fn insert_reserved(rows: &mut Vec<(u8, Place)>, place: usize, row: (u8, Place))
+    requires place { place ≤ vec_len rows.old }
+    requires room { vec_len rows.old < vec_capacity rows.old }
+    ensures { rows.new.items ≡ insert rows.old.items place row }
 {
-    let places = usize::from(source.get()) + 1;
-    for _ in rows.len()..places {
-        rows.push(None)?;
+    let inserted = rows.insert(place, row);
+    if inserted.is_err() {
+        unreachable!(); // there is room
     }
-    Ok(())
 }

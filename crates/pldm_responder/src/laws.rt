@@ -1,9 +1,10 @@
 //! Laws of a responder, over the definitions alone: each function does nothing and ensures its law.
 
 ghost use Rattle.pldm_responder.specs.Asked.{AnswerDecides, NoneIsAsked};
-ghost use Rattle.pldm_responder.specs.Askings.{AskedApart, CommandsLookBack};
-ghost use Rattle.pldm_responder.specs.Laws.{BusyAnswersAreOnePacket, EndedLooksBack, KeptWhereFresh, NewLooksBack, OneCount, PutIsUpdated, ReceivedLooksBack, RestartedLooksBack, SameIsLeft, SensedLooksBack, UpdatedLooksBack};
+ghost use Rattle.pldm_responder.specs.Askings.{AskedApart, CommandsLookBack, SetsAfterBusyTime};
+ghost use Rattle.pldm_responder.specs.Laws.{AllIdsAreNoWindow, AllIdsPerformAlike, BusyAnswersAreOnePacket, EndedLooksBack, KeptWhereFresh, NewLooksBack, OneCount, PutIsUpdated, ReceivedLooksBack, RestartedLooksBack, SameIsLeft, SensedLooksBack, UpdatedLooksBack};
 ghost use Rattle.pldm_responder.specs.Performing.{rules_of};
+ghost use Rattle.pldm_responder.specs.TheRule.{CopiesByTheRule, FreshPastTheWindow};
 
 use pldm_platform::Platform;
 
@@ -40,12 +41,29 @@ pub fn answers_come_from_outside<P: Platform>()
     ensures none { NoneIsAsked (rules_of P.answer P.after P.sensed) }
 {}
 
+/// With a window of all instance IDs none falls out: what is a copy, what is fresh, what is kept, performed and answered
+/// is what it is where an answer is kept for each instance ID.
+pub fn no_id_falls_out<P: Platform>()
+    ensures same { AllIdsAreNoWindow P.State }
+    ensures alike { AllIdsPerformAlike (rules_of P.answer P.after P.sensed) }
+{}
+
+/// A request is a copy exactly where it repeats the latest fresh one of its source and instance ID within the keeping
+/// time, and fewer other instance IDs of that source than the window has had a fresh one since. Where more had, it is
+/// performed or refused anew, whatever its source.
+pub fn copies_by_the_rule<P: Platform>()
+    ensures rule { CopiesByTheRule P.State }
+    ensures past { FreshPastTheWindow P.State }
+{}
+
 /// Which commands the platform is asked to perform is read by looking back over the list of calls: those of the
 /// fresh requests. Between two askings of one source, instance ID and bytes there is a keeping time, a restart,
-/// or another fresh request of that source and instance ID.
+/// another fresh request of that source and instance ID, or a window of others. A request that sets something is
+/// performed or refused a keeping time after the last restart, whatever is served in the busy time.
 pub fn commands_are_asked_once<P: Platform>()
     ensures looks_back { CommandsLookBack (rules_of P.answer P.after P.sensed) }
     ensures apart { AskedApart P.State }
+    ensures settings { SetsAfterBusyTime P.State }
 {
     mctp_assembly::laws::looks_back();
 }

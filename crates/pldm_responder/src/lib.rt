@@ -5,19 +5,24 @@
 mod answering_end;
 mod arriving;
 mod bounds;
+mod keeping;
 mod kept_answer;
 mod kept_answers;
 pub mod laws;
 mod open_order;
+mod order;
 mod outcome;
 mod performing;
 mod responder;
 mod routes;
 mod row;
+mod slot;
+mod slot_table;
 
 pub use answering_end::{AnsweringEnd, MAX_KEPT, MAX_PENDING};
 pub use arriving::{Arrived, Request, RoomRefusal, Standing};
 pub use bounds::Bounds;
+pub use keeping::Keeping;
 pub use kept_answers::Reserved;
 pub use outcome::{MessageOutcome, Outcome};
 pub use performing::{refuse, succeeded};

@@ -3,6 +3,8 @@ ghost use Rattle.std.specs.FinMap as map;
 ghost use Rattle.std.specs.Prelude.{◌≡◌, ◌≢◌, ℕ, ◌*◌, ◌≤◌, ◌<◌, [], length, nat_lt, IfOk, IfSome, OnErr};
 ghost use Rattle.mctp_assembly.specs.declared.key.Key.{Key as KeyValue};
 ghost use Rattle.pldm_platform.specs.Changes.{made_of};
+ghost use Rattle.pldm_wire.specs.declared.assigned.TheConstants.{INSTANCE_IDS};
+ghost use Rattle.pldm_wire.specs.declared.busy_time.BusyTime.TheVariants.{All};
 ghost use Rattle.pldm_responder.specs.Answering.{HasReply, answering};
 ghost use Rattle.pldm_responder.specs.Counts.{CountsKept};
 ghost use Rattle.pldm_responder.specs.Held.{IsHeld, held_at_first};
@@ -13,19 +15,19 @@ ghost use Rattle.pldm_responder.specs.Serving.{IsNotPerformed, IsNotServed, IsPe
 ghost use Rattle.pldm_responder.specs.Reserving.{IsWhyNoRoom};
 ghost use Rattle.pldm_responder.specs.Slots.{source_count};
 ghost use Rattle.pldm_responder.specs.Stations.{held_of, with_platform};
-ghost use Rattle.pldm_responder.specs.Steps.{restarted_held, sensed_held, updated_held};
+ghost use Rattle.pldm_responder.specs.Steps.{kept_for, restarted_held, sensed_held, updated_held};
 ghost use Rattle.pldm_responder.specs.Ends.{unreached};
 ghost use Rattle.pldm_responder.specs.contracts.responder.Responder.{the_row};
 
 use crate::answering_end::{AnsweringEnd, MAX_KEPT, MAX_PENDING};
 use crate::arriving::{Arrived, Request, RoomRefusal, Standing};
 use crate::bounds::Bounds;
+use crate::keeping::Keeping;
 use crate::outcome::{MessageOutcome, Outcome};
 use crate::performing::perform;
 use crate::routes::{not_performed, performed};
 use mctp_packet::{Body, Eid, Keep, MAX_MESSAGE_BYTES, Memory, Moment};
 use pldm_platform::{Platform, ReadingFault};
-use pldm_wire::INSTANCE_IDS;
 use std::alloc::Global;
 use std::marker::Model;
 
@@ -40,6 +42,7 @@ pub struct Responder<P: Platform> {
 
 impl<P: Platform> Model for Responder<P> {
     ghost use Rattle.std.specs.Prelude.{◌≡◌, false};
+    ghost use Rattle.pldm_responder.specs.Ends.{AreAnswered};
     ghost use Rattle.pldm_responder.specs.Stations.{Station, coded_station};
 
     ghost Value = { Station P P.State };
@@ -48,29 +51,43 @@ impl<P: Platform> Model for Responder<P> {
 
     ghost view = { λ r. record { end = r.end; platform = r.platform; state = P.state r.platform } };
 
-    ghost invariant = { λ r. r.end.ends_oldest ≡ false };
+    ghost invariant = { λ r. (r.end.ends_oldest ≡ false) × AreAnswered r.end.rows };
 }
 
 impl<P: Platform> Responder<P> {
     /// The endpoint `own` with this platform behind it. It keeps each answer for `keep`, and its last
     /// moment is 0.
     pub fn new(alloc: Global, own: Eid, keep: Keep, platform: P) -> Responder<P>
-        ensures held { IsHeld (held_of result) (held_at_first own keep (P.state platform)) }
+        ensures held { IsHeld (held_of result) (held_at_first own All INSTANCE_IDS keep (P.state platform)) }
         ensures bounds { result.end.bounds ≡ unreached }
         ensures platform { result.platform ≡ platform }
     {
-        Responder::bounded(alloc, own, keep, Bounds::UNREACHED, platform)
+        Responder::bounded(
+            alloc,
+            own,
+            Keeping::each_for(keep),
+            Bounds::UNREACHED,
+            platform,
+        )
     }
 
-    /// As [`Responder::new`], with these bounds on what it keeps at a time.
-    pub fn bounded(alloc: Global, own: Eid, keep: Keep, bounds: Bounds, platform: P) -> Responder<P>
-        ensures held { IsHeld (held_of result) (held_at_first own keep (P.state platform)) }
+    /// The endpoint `own` with this platform behind it, which keeps answers so, and at a time no more than `bounds`
+    /// allow.
+    pub fn bounded(
+        alloc: Global,
+        own: Eid,
+        keeping: Keeping,
+        bounds: Bounds,
+        platform: P,
+    ) -> Responder<P>
+        ensures held { IsHeld (held_of result)
+            (held_at_first own keeping.busy keeping.window keeping.keep (P.state platform)) }
         ensures bounds { result.end.bounds ≡ bounds }
         ensures platform { result.platform ≡ platform }
     {
         Responder {
             alloc,
-            end: AnsweringEnd::new(alloc, own, keep, bounds, false),
+            end: AnsweringEnd::new(alloc, own, keeping, bounds, false),
             platform,
         }
     }
@@ -176,10 +193,11 @@ impl<P: Platform> Responder<P> {
     /// A packet that is addressed to the endpoint by another one, with TO 1, is assembled. A request
     /// that is whole is a copy where the latest one of its source and instance ID that was performed
     /// or refused since the last restart has the same bytes, and came less than the keeping time
-    /// before: then it gets that one's answer. Else it is performed, and its answer is kept, a refusal
+    /// before, and fewer other instance IDs of its source than the window has had such a request since:
+    /// then it gets that one's answer. Else it is performed, and its answer is kept, a refusal
     /// too (DSP0240, "PLDM message fields", the instance ID). While the responder is busy, each
-    /// request is answered with ERROR_NOT_READY, and neither performed nor kept. The answer goes back
-    /// to the source, with TO 0 and the tag of the packets that just came.
+    /// request that [`Keeping::busy`] names is answered with ERROR_NOT_READY, and neither performed nor
+    /// kept. The answer goes back to the source, with TO 0 and the tag of the packets that just came.
     ///
     /// # Errors
     ///
@@ -266,8 +284,7 @@ impl<P: Platform> Responder<P> {
         };
         let changed = perform(self.alloc, &mut self.platform, request.read(), reply)?;
         self.end.put_room(request, reserved);
-        let (source, id) = (request.source(), request.id());
-        self.end.keep(source, id, now, request.bytes(), reply);
+        self.end.keep(now, request, reply);
         Ok(changed)
     }
 
@@ -288,10 +305,10 @@ impl<P: Platform> Responder<P> {
     /// How many pairs of a source and an instance ID have a kept answer: at most [`MAX_KEPT`], each of
     /// at most [`MAX_MESSAGE_BYTES`] bytes.
     pub fn kept(&self) -> usize
-        ensures value { CountsKept (held_of self.now).kept result }
+        ensures value { CountsKept (kept_for (held_of self.now)) result }
         ensures few { result ≤ MAX_KEPT }
-        ensures bounded { result ≤ INSTANCE_IDS * self.now.end.bounds.sources }
-        ensures small { (source id : ℕ) → IfSome ((held_of self.now).kept source id)
+        ensures bounded { result ≤ self.now.end.rows.window * self.now.end.bounds.sources }
+        ensures small { (source id : ℕ) → IfSome (kept_for (held_of self.now) source id)
             (λ entry. length entry.answer ≤ MAX_MESSAGE_BYTES) }
     {
         self.end.kept()

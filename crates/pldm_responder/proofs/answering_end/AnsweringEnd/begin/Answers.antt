@@ -1,4 +1,4 @@
-use Rattle.std.proofs.Common.{◌∙◌, ap, sym, if◌then◌else◌}
+use Rattle.std.proofs.Common.{◌∙◌, ap, if◌then◌else◌}
 use Rattle.mctp_assembly.specs.Steps.{Held}
 use Rattle.pldm_responder.specs.Ends.{End}
 use Rattle.pldm_responder.specs.OpenOrder.{begun_with, without}

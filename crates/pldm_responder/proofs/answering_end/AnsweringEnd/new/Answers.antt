@@ -1,7 +1,8 @@
-use Rattle.std.proofs.Common.{arith}
+use Rattle.std.proofs.Common.{ap, arith}
 use Rattle.std.specs.FinMap.{len-empty}
 use Rattle.mctp_assembly.specs.Keys.{key_cmp}
 use Rattle.mctp_assembly.specs.Opened.{Opened}
+use Rattle.pldm_responder.specs.Slots.{row_of, source_count}
 use Rattle.pldm_responder.proofs.AskedKeys.{none_asked}
 use Rattle.pldm_responder.proofs.OpenOrders.{none_ordered}
 use Rattle.pldm_responder.proofs.answering_end.AnsweringEnd.new.Goals as goal
@@ -10,7 +11,7 @@ pub invariant_of-result : goal.invariant_of-result
 invariant_of-result c =
     let empty = c.new-2.ensures in (
       rw empty (none_asked c.args.own),
-      λ id. c.new-4.ensures.none c.args.own id,
-      (rw empty (omega (arith, len-empty key_cmp Opened)), omega (arith, c.new-4.ensures.no_rows)),
+      ap (λ rows. row_of rows c.args.own) c.new-4.ensures,
+      (rw empty (omega (arith, len-empty key_cmp Opened)), omega (arith, ap source_count c.new-4.ensures)),
       rw empty (none_ordered _ _),
     )

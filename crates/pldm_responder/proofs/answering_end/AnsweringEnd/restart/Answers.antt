@@ -1,7 +1,8 @@
-use Rattle.std.proofs.Common.{arith}
+use Rattle.std.proofs.Common.{ap, arith}
 use Rattle.std.specs.FinMap.{len-empty}
 use Rattle.mctp_assembly.specs.Keys.{key_cmp}
 use Rattle.mctp_assembly.specs.Opened.{Opened}
+use Rattle.pldm_responder.specs.Slots.{row_of, source_count}
 use Rattle.pldm_responder.proofs.AskedKeys.{none_asked}
 use Rattle.pldm_responder.proofs.OpenOrders.{none_ordered}
 use Rattle.pldm_responder.proofs.answering_end.AnsweringEnd.restart.Goals as goal
@@ -10,7 +11,7 @@ pub invariant_of-self : goal.invariant_of-self
 invariant_of-self c =
     let empty = c.new.ensures in (
       rw empty (none_asked c.self.inside.own),
-      λ id. c.new-2.ensures.none c.self.inside.own id,
-      (rw empty (omega (arith, len-empty key_cmp Opened)), omega (arith, c.new-2.ensures.no_rows)),
+      ap (λ rows. row_of rows c.self.inside.own) c.new-2.ensures,
+      (rw empty (omega (arith, len-empty key_cmp Opened)), omega (arith, ap source_count c.new-2.ensures)),
       rw empty (none_ordered _ _),
     )

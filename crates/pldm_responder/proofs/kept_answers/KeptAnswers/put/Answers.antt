@@ -1,52 +1,75 @@
-use Rattle.std.proofs.Common.{◌≡◌, IsSome, ◌+◌, Bool, Some, true, false, not, is_some, refl, ap, sym, subst, ◌∙◌, arith}
-use Rattle.std.specs.Prelude.{option_and_then, slice_index_or, slice_set}
-use Rattle.pldm_responder.specs.Slots.{AreKept, in_slot, row_of, source_count}
-use Rattle.pldm_responder.proofs.KeptCounts.{few_fit, one_more_is_kept, as_many_are_kept}
-use Rattle.pldm_responder.proofs.SourceCounts.{sources_replaced}
-use Rattle.pldm_responder.proofs.SlotLookups.{found_row, kept_in-put}
+use Rattle.std.proofs.Common.{◌≡◌, ℕ, Some, ap, sym, subst, ◌∙◌, take, List, if◌then◌else◌, ◌==◌, arith, is_some, true, false}
+use Rattle.std.specs.Prelude.{slice_set}
+use Rattle.mctp_assembly.specs.NumberLists.{NumberList, Changes, IsAt, Rises, at}
+use Rattle.mctp_assembly.proofs.NumberPlaces.{here, none_in_gap, read_at, rises_changed, written_at}
+use Rattle.pldm_responder.specs.Ends.{has_row}
+use Rattle.pldm_responder.specs.Held.{Entry, id_in}
+use Rattle.pldm_responder.specs.Recency.{renewed}
+use Rattle.pldm_responder.specs.Slots.{Answers, AreKeptTo, IsKept, Rows, answers_in, kept_in, no_answers}
+use Rattle.pldm_responder.proofs.KeptRows.{each_after, kept_after, kept_at, put_to, rows_after}
 use Rattle.pldm_responder.proofs.kept_answers.KeptAnswers.put.Goals as goal
 
-first : (t : Bool) → not t ≡ true → t ≡ false
-first true h = cc
-first false h = refl
+abbrev with_entry : Entry → ℕ → List Entry → List Entry
+with_entry e window kept = take window (renewed id_in e kept)
 
-not_first : (t : Bool) → not t ≡ false → t ≡ true
-not_first true h = refl
-not_first false h = cc
+-- the row that was there, and the one in its place
+module _ (c : goal.After-self-1) where
+  abbrev entry : Entry
+  entry = record { moment = c.args.moment; bytes = c.args.bytes.now; answer = c.args.answer.now }
 
-pub overflow_add-self : goal.overflow_add-self
-overflow_add-self c = omega (arith, few_fit c.self.inside.rows.items c.self.invariant.0.each c.self.inside.count c.self.invariant.0.all)
+  abbrev list : NumberList Answers
+  list = c.self.inside.rows.items
+
+  abbrev new_list : NumberList Answers
+  new_list = slice_set list c.in-Ok.place (c.behind-self.inside.0.0, c.put.new.self)
+
+  abbrev before : Answers
+  before = c.index_mut.result.now.1
+
+  is : IsAt no_answers list c.args.source c.in-Ok.place
+  is = subst (λ (rows : Rows). IsAt no_answers rows.list c.args.source c.in-Ok.place) (sym c.self.view_is) c.in-Ok.ensures.found
+
+  before_is : at list c.args.source ≡ Some before
+  before_is = read_at no_answers list c.self.invariant.rises c.args.source c.in-Ok.place is c.index_mut.result.now c.index_mut.ensures.value
+
+  changes : Changes list new_list c.args.source (Some c.put.new.self)
+  changes =
+      subst (λ n. Changes list (slice_set list c.in-Ok.place (n, c.put.new.self)) c.args.source (Some c.put.new.self)) (sym (ap (λ p. p.0) c.behind-self.view_is))
+      (written_at no_answers list c.self.invariant.rises c.args.source c.in-Ok.place is c.index_mut.result.now c.put.new.self c.index_mut.ensures.value)
+
+  was_kept : AreKeptTo c.self.inside.window c.args.source before
+  was_kept = kept_at c.self.inside.window list c.args.source before c.self.invariant.each before_is
+
+  after_is : c.put.new.self ≡ record { window = before.window; kept = with_entry entry before.window before.kept }
+  after_is =
+      c.put.ensures
+      ∙ ap (λ (row : Answers). record { window = row.window; kept = with_entry entry row.window row.kept }) (c.deref_mut.ensures.value ∙ ap (λ p. p.1) c.behind-self.view_is)
+
+  is_kept : IsKept entry
+  is_kept = record { instance = omega (arith, c.requires.id, c.requires.small); few = c.requires.few }
 
 pub invariant_of-self : goal.invariant_of-self
-invariant_of-self c =
-    let rows = c.self.inside.rows.items in
-    let with_it = c.put-is_first.new.self in
-    let place = c.from.ensures ∙ c.get.ensures.value in
-    let found = found_row rows c.args.source c.index_mut.result.now c.in-Some.row
-    (subst (λ rows. IsSome (row_of rows c.args.source)) (sym c.self.view_is) c.requires.room)
-    (subst (λ n. c.index_mut.result.now ≡ slice_index_or rows n c.index_mut.result.now) place c.index_mut.ensures.value) c.in-Some.is in
-    let still = sources_replaced rows c.args.source with_it (rw found refl) in
-    subst (λ n. AreKept (slice_set rows n (Some with_it)) (c.self.inside.count + 1) × (c.self.inside.sources ≡ source_count (slice_set rows n (Some with_it)))) (sym place) (
-      one_more_is_kept rows _ c.self.inside.count c.args.source c.args.id _ c.self.invariant.0
-          (record { endpoint = c.get-range.ensures.range; instance = c.requires.id; few = c.requires.few })
-          (ap (λ row. is_some (option_and_then (λ r. in_slot r c.args.id) row)) found ∙ first _ (sym c.put-is_first.ensures.first ∙ c.if-is_first.true))
-          (kept_in-put rows c.args.source c.args.id _ c.in-Some.row with_it found c.put-is_first.ensures.room c.put-is_first.ensures.slots),
-      c.self.invariant.1 ∙ sym still,
-    )
+invariant_of-self c = record {
+  window = c.self.invariant.window;
+  rises = subst (λ n. Rises no_answers (slice_set (list c) c.in-Ok.place (n, c.put.new.self)))
+      (sym (ap (λ p. p.0) c.behind-self.view_is ∙ here no_answers (list c) c.self.invariant.rises c.args.source c.in-Ok.place (is c) c.index_mut.result.now c.index_mut.ensures.value))
+      (rises_changed no_answers (list c) c.self.invariant.rises c.args.source c.in-Ok.place (is c) c.put.new.self);
+  each = each_after c.self.inside.window (list c) (new_list c) c.args.source c.put.new.self (changes c)
+      (put_to c.self.inside.window c.args.source (before c) c.put.new.self (entry c) (was_kept c) (is_kept c) (after_is c)) c.self.invariant.each;
+}
 
-pub invariant_of-self-else-is_first : goal.invariant_of-self-else-is_first
-invariant_of-self-else-is_first c =
-    let rows = c.self.inside.rows.items in
-    let with_it = c.put-is_first.new.self in
-    let place = c.from.ensures ∙ c.get.ensures.value in
-    let found = found_row rows c.args.source c.index_mut.result.now c.in-Some.row
-    (subst (λ rows. IsSome (row_of rows c.args.source)) (sym c.self.view_is) c.requires.room)
-    (subst (λ n. c.index_mut.result.now ≡ slice_index_or rows n c.index_mut.result.now) place c.index_mut.ensures.value) c.in-Some.is in
-    let still = sources_replaced rows c.args.source with_it (rw found refl) in
-    subst (λ n. AreKept (slice_set rows n (Some with_it)) c.self.inside.count × (c.self.inside.sources ≡ source_count (slice_set rows n (Some with_it)))) (sym place) (
-      as_many_are_kept rows _ c.self.inside.count c.args.source c.args.id _ c.self.invariant.0
-          (record { endpoint = c.get-range.ensures.range; instance = c.requires.id; few = c.requires.few })
-          (ap (λ row. is_some (option_and_then (λ r. in_slot r c.args.id) row)) found ∙ not_first _ (sym c.put-is_first.ensures.first ∙ c.if-is_first.false))
-          (kept_in-put rows c.args.source c.args.id _ c.in-Some.row with_it found c.put-is_first.ensures.room c.put-is_first.ensures.slots),
-      c.self.invariant.1 ∙ sym still,
-    )
+pub returns-in-Ok-clause-kept : goal.returns-in-Ok-clause-kept
+returns-in-Ok-clause-kept c =
+    subst (λ (rows : Rows). (other : ℕ) → answers_in (at (new_list c) other) ≡ (if c.args.source == other then with_entry (entry c) rows.window (kept_in rows other) else kept_in rows other)) c.self.view_is
+    (kept_after (list c) (new_list c) c.args.source (before c) c.put.new.self (before_is c) (changes c) (with_entry (entry c) c.self.inside.window)
+    (ap (λ (row : Answers). row.kept) (after_is c) ∙ ap (λ w. with_entry (entry c) w (before c).kept) (was_kept c).windows))
+
+pub returns-in-Ok-clause-rows : goal.returns-in-Ok-clause-rows
+returns-in-Ok-clause-rows c =
+    subst (λ (rows : Rows). (other : ℕ) → is_some (at (new_list c) other) ≡ has_row rows other) c.self.view_is
+    (rows_after (list c) (new_list c) c.args.source (before c) c.put.new.self (before_is c) (changes c))
+
+pub returns-in_default-clause-kept : goal.returns-in_default-clause-kept
+returns-in_default-clause-kept c =
+    let none = none_in_gap no_answers c.args.self.now.list c.args.source _ c.in_default.ensures.absent in
+    absurd (let wrong : false ≡ true = ap is_some (sym none) ∙ c.requires.room in cc)

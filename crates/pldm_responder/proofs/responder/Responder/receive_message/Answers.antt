@@ -24,17 +24,17 @@ returns-in-Err-clause-refused g c =
     (search rules)
 
 pub returns-in-Ok-Dropped-clause-received : goal.returns-in-Ok-Dropped-clause-received
-returns-in-Ok-Dropped-clause-received g c = search (rules, open_unended c.self.inside.end (request_packet c.self.inside.end.own c.args.bytes.now) c.self.invariant)
+returns-in-Ok-Dropped-clause-received g c = search (rules, open_unended c.self.inside.end (request_packet c.self.inside.end.own c.args.bytes.now) c.self.invariant.0)
 
 pub returns-in-Ok-Partial-clause-received : goal.returns-in-Ok-Partial-clause-received
-returns-in-Ok-Partial-clause-received g c = search (rules, open_unended c.self.inside.end (request_packet c.self.inside.end.own c.args.bytes.now) c.self.invariant)
+returns-in-Ok-Partial-clause-received g c = search (rules, open_unended c.self.inside.end (request_packet c.self.inside.end.own c.args.bytes.now) c.self.invariant.0)
 
 pub returns-in-Ok-Request-clause-received : goal.returns-in-Ok-Request-clause-received
 returns-in-Ok-Request-clause-received g c =
     let arrived = rw c.in-Ok-Request.field-0-is at c.in-Ok-Request.ensures in
     let open_messages =
     ap (λ (e : End). e.open_messages) arrived.ok.left.2
-    ∙ open_unended c.self.inside.end (request_packet c.self.inside.end.own c.args.bytes.now) c.self.invariant in
+    ∙ open_unended c.self.inside.end (request_packet c.self.inside.end.own c.args.bytes.now) c.self.invariant.0 in
     on_ok c.serve.result
     (λ taken served. received_where_served g.P.Platform.performed _ _ c.args.self.now c.args.now c.args.bytes.now c.serve.new.self (rules_of g.P.Platform.answer g.P.Platform.after g.P.Platform.sensed)
     c.in-Ok-Request.request c.serve.new.reply.items taken
