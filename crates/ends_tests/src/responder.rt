@@ -258,7 +258,12 @@ fn copies_and_drops_allocate_nothing(rt: HostRuntime) -> Result<(), Fail> {
 /// The device of the example behind its responder.
 fn example(alloc: Global) -> Result<Responder<SimDevice>, Fail> {
     let text = description(alloc)?;
-    let Description { eid, keep, device } = Description::read(alloc, text.as_bytes())?;
+    let Description {
+        eid,
+        keep,
+        device,
+        ..
+    } = Description::read(alloc, text.as_bytes())?;
     Ok(Responder::new(alloc, eid, keep, device))
 }
 

@@ -4,17 +4,18 @@ use Rattle.std.proofs.Common.{◌≡◌, ℕ, cond, Bool, true, false, List, [],
 use Rattle.std.specs.Ordering.{eq_by_cmp}
 use Rattle.pldm_wire.specs.declared.answer.Answer.{Answer}
 use Rattle.pldm_wire.specs.declared.command.Command.{Command}
+use Rattle.pldm_responder.specs.Arrivals.{Arrival, Drop, Part, Whole}
 use Rattle.pldm_responder.specs.Asked.{gives, listed}
 use Rattle.pldm_responder.specs.Events.{Message}
 use Rattle.pldm_responder.specs.Held.{Held, IsHeld}
 use Rattle.pldm_responder.specs.Looking.{ended_by}
 use Rattle.pldm_responder.specs.OpenOrder.{ended_held, without}
-use Rattle.pldm_responder.specs.Steps.{arrival_held, received_arrival, received_commands, received_held, received_outcome}
+use Rattle.pldm_responder.specs.Steps.{arrival_commands, arrival_held, received_arrival, received_commands, received_held, received_outcome}
 use Rattle.pldm_responder.specs.declared.outcome.Outcome.{Outcome}
 use Rattle.pldm_endpoint.specs.Histories.{TwoStepsAreOne}
 use Rattle.pldm_endpoint.specs.Receiving.{HasAnswered, HasReceived}
 use Rattle.pldm_endpoint.specs.RequestKeys.{PendingCommands, pending_at, request_key, request_key_cmp, request_key_of}
-use Rattle.pldm_endpoint.specs.TwoSteps.{EndpointView, IsAnsweredBy, answered_held, command_at, handle_of, held_after, held_in, kept_by, pending_by, request_in, step_by, unasked}
+use Rattle.pldm_endpoint.specs.TwoSteps.{EndpointView, IsAnsweredBy, answered_held, command_at, handle_of, held_after, held_in, kept_by, pending_by, request_in, step_by, stepped, unasked}
 use Rattle.pldm_endpoint.specs.declared.pending_commands.PendingCommand.{PendingCommand}
 use Rattle.pldm_endpoint.specs.declared.pending_commands.RequestKey.{RequestKey}
 use Rattle.pldm_endpoint.specs.declared.step.CommandHandle.{CommandHandle}
@@ -43,6 +44,22 @@ abbrev handle_in : CommandHandle → Step → CommandHandle
 handle_in other (Perform handle) = handle
 handle_in other (Done outcome) = other
 
+module _ (held : Held (Unit {0})) where
+  -- an arrival that has nothing performed leaves what a responder leaves
+  stepped_done : (a : Arrival) → arrival_commands held a ≡ [] → stepped held a ≡ arrival_held (gives unasked) held a
+  stepped_done (Drop reason) none = refl
+  stepped_done Part none = refl
+  stepped_done (Whole m) none = ap (λ commands. kept_by commands m (arrival_held (gives unasked) held (Whole m)) held) none
+
+  own_stepped : (a : Arrival) → (stepped held a).own ≡ held.own
+  own_stepped (Drop reason) = refl
+  own_stepped Part = refl
+  own_stepped (Whole m) = of_commands (arrival_commands held (Whole m))
+    where
+      of_commands : (commands : List Command) → (kept_by commands m (arrival_held (gives unasked) held (Whole m)) held).own ≡ held.own
+      of_commands [] = refl
+      of_commands (command ∷ commands) = refl
+
 module _ (old : EndpointView) (moment : ℕ) (bytes : List ℕ) (idle : old.pending ≡ map.empty) where
   abbrev held : Held (Unit {0})
   held = held_in old
@@ -64,10 +81,10 @@ module _ (old : EndpointView) (moment : ℕ) (bytes : List ℕ) (idle : old.pend
     served_done board =
         let same = ap (answer_given board moment) received.command in
         let left : IsHeld (held_in new) (ended_held (ended_by old.end bytes) (received_held (gives unasked) held moment bytes)) =
-        subst (λ (commands : List Command). IsHeld (held_in new) (record (kept_by commands (arrival_held (gives unasked) held (received_arrival held moment bytes)) held) {
+        subst (λ (h : Held (Unit {0})). IsHeld (held_in new) (record h {
           open_messages = without (ended_by old.end bytes) (held_after held moment bytes).open_messages;
           last = moment;
-        })) received.command received.held in
+        })) (stepped_done held (received_arrival held moment bytes) received.command) received.held in
         record {
           returned = done_by (request_in held moment bytes) (received_commands held moment bytes) outcome received.step_is
               ∙ ap (λ g. received_outcome (gives g) held moment bytes) (sym same);
@@ -137,8 +154,7 @@ module _ (old : EndpointView) (moment : ℕ) (bytes : List ℕ) (idle : old.pend
         let answer_is : given ≡ answer_given board moment (received_commands held moment bytes) =
         answer ∙ ap (board_answer board moment) told ∙ sym (ap (answer_given board moment) is.commands) in
         let same : held_in middle ≡ ended_held (ended_by old.end bytes) (held_after held moment bytes) = same_held received.held in
-        let unchanged = ap (λ commands. kept_by commands (arrival_held (gives unasked) held (received_arrival held moment bytes)) held) is.commands in
-        let own : middle.end.own ≡ held.own = ap (λ (h : Held (Unit {0})). h.own) same ∙ ap (λ (h : Held (Unit {0})). h.own) unchanged in
+        let own : middle.end.own ≡ held.own = ap (λ (h : Held (Unit {0})). h.own) same ∙ own_stepped held (received_arrival held moment bytes) in
         let one = law held moment bytes old.count is.m is.command given is.arrives is.commands in
         record {
           returned =

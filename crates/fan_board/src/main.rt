@@ -8,6 +8,8 @@ mod service;
 
 ghost use Rattle.std.specs.FinMap as map;
 ghost use Rattle.std.specs.Prelude.{◌≡◌};
+ghost use Rattle.pldm_wire.specs.declared.assigned.TheConstants.{INSTANCE_IDS};
+ghost use Rattle.pldm_wire.specs.declared.busy_time.BusyTime.TheVariants.{All};
 ghost use Rattle.pldm_endpoint.specs.TwoSteps.{held_in};
 ghost use Rattle.pldm_responder.specs.Held.{IsHeld, held_at_first};
 
@@ -16,7 +18,7 @@ use crate::packet_line::{LineFault, TimedPacket, read_line};
 use crate::service::serve;
 use mctp_packet::{Eid, Keep};
 use pldm_endpoint::Endpoint;
-use pldm_responder::{Bounds, Outcome};
+use pldm_responder::{Bounds, Keeping, Outcome};
 use std::alloc::Global;
 
 /// The endpoint ID of the board.
@@ -48,7 +50,7 @@ fn main(rt: HostRuntime) -> anyhow::Result<()> {
 
 /// The endpoint in front of the board.
 fn new_endpoint(alloc: Global) -> Endpoint
-    ensures held { IsHeld (held_in result) (held_at_first OWN KEEP tt) }
+    ensures held { IsHeld (held_in result) (held_at_first OWN All INSTANCE_IDS KEEP tt) }
     ensures bounds { result.end.bounds ≡ BOUNDS }
     ensures max_pending { result.max_pending ≡ COMMANDS }
     ensures idle { result.pending ≡ map.empty }
@@ -56,7 +58,7 @@ fn new_endpoint(alloc: Global) -> Endpoint
     let (Some(own), Some(keep)) = (Eid::new(OWN), Keep::new(KEEP)) else {
         unreachable!();
     };
-    Endpoint::new(alloc, own, keep, BOUNDS, COMMANDS)
+    Endpoint::new(alloc, own, Keeping::each_for(keep), BOUNDS, COMMANDS)
 }
 
 /// Serves a packet and writes what becomes of it: `drop NAME`, `partial`, `lost` where there was no room for it, or

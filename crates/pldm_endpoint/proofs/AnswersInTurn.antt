@@ -1,8 +1,11 @@
 -- An endpoint over any list of calls is a responder whose platform gives the answers that the device gave, once the device
 -- has answered all that it performs.
 use Rattle.std.specs.FinMap as map
-use Rattle.std.proofs.Common.{◌≡◌, ℕ, ◌+◌, ◌⊎◌, inl, inr, Bool, true, false, cond, not, nat_lt, ◌&&◌, ◌==◌, List, [], ◌∷◌, length, Option, Some, None, Result, Ok, Err, if◌then◌else◌, refl, sym, ap, ◌∙◌, subst, arith}
-use Rattle.std.proofs.lemmas.Bool.{and_parts, both_ways, eq-eqb, eqb-true, not-true}
+use Rattle.std.proofs.Common.{◌≡◌, ℕ, ◌+◌, ◌⊎◌, inl, inr, Bool, true, false, cond, not, ◌&&◌, ◌==◌, List, [], ◌∷◌, length, Option, Some, None, IfSome, Result, Ok, Err, if◌then◌else◌, refl, sym, ap, ◌∙◌, subst, arith}
+use Rattle.std.specs.Prelude.{map as list_map, option_map, take}
+use Rattle.std.specs.List.{take-map}
+use Rattle.std.proofs.lemmas.List.{map-id as list_map-id}
+use Rattle.std.proofs.lemmas.Bool.{eq-eqb, eqb-false, eqb-true}
 use Rattle.std.specs.Cmp.{eq_by_cmp_equiv}
 use Rattle.std.specs.Ordering.{eq_by_cmp}
 use Rattle.mctp_packet.specs.declared.reason.Reason.{Reason}
@@ -11,25 +14,31 @@ use Rattle.pldm_wire.specs.CommandReading.{command_of}
 use Rattle.pldm_wire.specs.Headers.{id_at}
 use Rattle.pldm_wire.specs.Requests.{Request, request_of}
 use Rattle.pldm_wire.specs.declared.answer.Answer.{Answer}
+use Rattle.pldm_wire.specs.declared.busy_time.BusyTime.{BusyTime}
 use Rattle.pldm_wire.specs.declared.command.Command.{Command}
 use Rattle.pldm_responder.specs.Arrivals.{Arrival, Drop, Part, Whole, packets_back}
 use Rattle.pldm_responder.specs.Asked.{IsAsGiven, gives, over}
 use Rattle.pldm_responder.specs.Calls.{Call, Received, Restart, Ended, outcome}
-use Rattle.pldm_responder.specs.Events.{Message, is_of}
+use Rattle.pldm_responder.specs.Events.{Message}
 use Rattle.pldm_responder.specs.OutsideAnswers.{message_in, outcome_of_answer}
-use Rattle.pldm_responder.specs.Held.{Entry, Held}
+use Rattle.pldm_responder.specs.Held.{Entry, Held, id_in}
 use Rattle.pldm_responder.specs.Laws.{IsLeftBy}
-use Rattle.pldm_responder.specs.Performing.{Rules, after_command, busy_reply, changes, commands_at, commands_in, commands_of, next_after, reply}
-use Rattle.pldm_responder.specs.Steps.{arrival_commands, arrival_held, arrival_outcome, copied_packets, entry_for, entry_of, message_outcome, performs, received_arrival, received_commands, received_held, received_outcome, repeats, restarted_held, served}
+use Rattle.pldm_responder.specs.Performing.{Rules, after_command, busy_reply, commands_at, commands_in, commands_of, next_after, reply}
+use Rattle.pldm_responder.specs.Recency.{of_number, renewed, replaced, without}
+use Rattle.pldm_responder.specs.Steps.{arrival_commands, arrival_held, arrival_outcome, copied_packets, entry_for, entry_of, performs, received_arrival, received_commands, received_held, received_outcome, refuses_now, repeats, restarted_held, served}
 use Rattle.pldm_responder.specs.declared.outcome.Outcome.TheVariants.{Answered}
 use Rattle.pldm_responder.proofs.AnswersFromOutside.{answer_decides, none_is_asked}
 use Rattle.pldm_responder.proofs.CallsLookBack.{ended_looks_back, new_looks_back, received_looks_back, restarted_looks_back, same_is_left}
+use Rattle.pldm_responder.proofs.KeptEntries.{found_holds}
+use Rattle.pldm_responder.proofs.RecentFirst.{by_test, dropped, found_in_map, renewed_in_map, stays, without_in_map}
+use Rattle.pldm_responder.proofs.ServedRequests.{performed_outcome}
 use Rattle.pldm_endpoint.specs.RequestKeys.{PendingCommands, request_key, request_key_cmp, request_key_of}
-use Rattle.pldm_endpoint.specs.Histories.{AnsweredInTurn, AskedLooksBack, EndedInTurn, IsFree, IsLeftInTurn, NewInTurn, ReceivedInTurn, RestartedInTurn, SameInTurn, TwoStepsAreOne, UnaskedLooksBack, entry_to_be, in_turn, to_be}
-use Rattle.pldm_endpoint.specs.TwoSteps.{command_at, count_after, entry_given, held_after, kept_by, pending_after, pending_by, request_in, stepped, unasked}
+use Rattle.pldm_endpoint.specs.Histories.{AnsweredInTurn, AreUnderTheirIds, AskedLooksBack, EndedInTurn, IsFree, IsLeftInTurn, NewInTurn, ReceivedInTurn, RestartedInTurn, SameInTurn, TwoStepsAreOne, UnaskedLooksBack, entry_to_be, in_turn, to_be}
+use Rattle.pldm_endpoint.specs.TwoSteps.{command_at, count_after, entry_given, held_after, kept_by, pending_after, pending_by, request_in, stepped, unasked, waiting, with_waiting}
 use Rattle.pldm_endpoint.specs.declared.pending_commands.PendingCommand.{PendingCommand}
+use Rattle.pldm_endpoint.specs.declared.pending_commands.RequestKey.{RequestKey}
 use Rattle.pldm_endpoint.proofs.KeyOrder.{request_keys_total}
-use Rattle.pldm_endpoint.proofs.PendingGlue.{numbered_is, one_key, same_key, whole_is}
+use Rattle.pldm_endpoint.proofs.PendingGlue.{numbered_is, one_key, whole_is}
 
 -- ---- each command is counted
 by_command : (answers : ℕ → Answer) (count : ℕ) (r : Result Command ℕ) → after_command (in_turn answers) count r ≡ count + length (commands_in r)
@@ -50,16 +59,63 @@ by_arrival answers held (Drop reason) = omega arith
 by_arrival answers held Part = omega arith
 by_arrival answers held (Whole m) = by_performing answers (performs held m) held.state (request_of m.bytes)
 
+-- ---- keys that are not one
+not_one : (a b : RequestKey) → (a ≡ b → ⊥) → eq_by_cmp request_key_cmp a b ≡ false
+not_one a b apart = by (eq_by_cmp request_key_cmp a b) refl
+  where
+    by : (t : Bool) → eq_by_cmp request_key_cmp a b ≡ t → t ≡ false
+    by true is = absurd (apart (one_key a b is))
+    by false is = refl
+
+-- ---- what is kept, once the device has answered
+number_by : (answers : ℕ → Answer) (o : Option PendingCommand) (e : Entry) → IfSome o (λ a. id_at a.request ≡ id_in e) → id_in (entry_to_be answers o e) ≡ id_in e
+number_by answers None e is = refl
+number_by answers (Some a) e is = is
+
+same_lists : {A B : Type 0} (f g : A → B) (xs : List A) → ((x : A) → f x ≡ g x) → list_map f xs ≡ list_map g xs
+same_lists f g xs same = λ i. list_map (λ x. same x i) xs
+
+map_map : {A B C : Type 0} (f : B → C) (g : A → B) (xs : List A) → list_map f (list_map g xs) ≡ list_map (λ x. f (g x)) xs
+map_map f g [] = refl
+map_map f g (x ∷ xs) = ap (λ ys. f (g x) ∷ ys) (map_map f g xs)
+
+-- a change of those of one number alone is none of the others
+map_without : {B : Type 0} (f g : Entry → B) (n : ℕ) (xs : List Entry) → ((x : Entry) → (id_in x ≡ n → ⊥) → f x ≡ g x) → list_map f (without id_in n xs) ≡ list_map g (without id_in n xs)
+map_without f g n [] same = refl
+map_without f g n (x ∷ xs) same =
+    by_test (id_in x == n)
+    (λ (gone : (id_in x == n) ≡ true). ap (list_map f) (dropped id_in n x xs gone) ∙ map_without f g n xs same ∙ sym (ap (list_map g) (dropped id_in n x xs gone)))
+    (λ (other : (id_in x == n) ≡ false).
+    ap (list_map f) (stays id_in n x xs other)
+    ∙ (λ i. same x (eqb-false (id_in x) n other) i ∷ map_without f g n xs same i)
+    ∙ sym (ap (list_map g) (stays id_in n x xs other)))
+
 -- ---- what is held once all is answered has the same entry where a request comes
-module _ (answers : ℕ → Answer) (count : ℕ) (pending : PendingCommands) (held : Held (Unit {0})) where
+module _ (answers : ℕ → Answer) (count : ℕ) (pending : PendingCommands) (held : Held (Unit {0})) (ids : AreUnderTheirIds pending) where
   abbrev later : Held (Unit {0})
   later = to_be answers pending held
 
+  abbrev pub comes : ℕ → Entry → Entry
+  comes source e = entry_to_be answers (map.get pending (request_key source (id_in e))) e
+
+  comes_alike : (source : ℕ) (e : Entry) → id_in (comes source e) ≡ id_in e
+  comes_alike source e = number_by answers (map.get pending (request_key source (id_in e))) e (ids source (id_in e))
+
+  pub found_later : (source id : ℕ) → of_number id_in id (later.kept source) ≡ option_map (comes source) (of_number id_in id (held.kept source))
+  found_later source id = found_in_map id_in id_in (comes source) (comes_alike source) id (held.kept source)
+
+  free_stays : (source id : ℕ) (o : Option Entry) → map.get pending (request_key source id) ≡ None → IfSome o (λ e. Unit {0} × (id_in e ≡ id)) → option_map (comes source) o ≡ o
+  free_stays source id None free is = refl
+  free_stays source id (Some e) free is =
+      ap (λ n. Some (entry_to_be answers (map.get pending (request_key source n)) e)) is.1 ∙ ap (λ o. Some (entry_to_be answers o e)) free
+
   same_entry : (m : Message) → map.get pending (request_key_of m) ≡ None → entry_for later m ≡ entry_for held m
-  same_entry m free = ap (λ o. entry_to_be answers o (entry_for held m)) free
+  same_entry m free =
+      found_later m.source (id_at m.bytes)
+      ∙ free_stays m.source (id_at m.bytes) (entry_for held m) free (found_holds (λ _. Unit {0}) (id_at m.bytes) (held.kept m.source) (λ k d below. tt))
 
   same_performs : (m : Message) → map.get pending (request_key_of m) ≡ None → performs later m ≡ performs held m
-  same_performs m free = ap (λ e. not (nat_lt m.moment held.serves_from) && not (repeats held.keep m e)) (same_entry m free)
+  same_performs m free = ap (λ e. not (refuses_now held m) && not (repeats held.keep m e)) (same_entry m free)
 
   pub same_commands : (a : Arrival) → IsFree pending (message_in a) → arrival_commands later a ≡ arrival_commands held a
   same_commands (Drop reason) free = refl
@@ -70,67 +126,95 @@ module _ (answers : ℕ → Answer) (count : ℕ) (pending : PendingCommands) (h
   same_outcome device (Drop reason) free = refl
   same_outcome device Part free = refl
   same_outcome device (Whole m) free =
-      ap (λ e. if nat_lt m.moment held.serves_from then Answered false false (packets_back held.own m (busy_reply m.bytes))
+      ap (λ e. if refuses_now held m then Answered false false (packets_back held.own m (busy_reply m.bytes))
       else served device held m (copied_packets held.own held.keep m e)) (same_entry m free)
 
   -- ---- what is kept
-  at_asker : (m : Message) (source id : ℕ) → is_of m source id ≡ true → map.get pending (request_key_of m) ≡ None → map.get pending (request_key source id) ≡ None
-  at_asker m source id is free = ap (map.get pending) (sym (same_key m (request_key source id) is)) ∙ free
+  -- one that nothing is pending for is put in front
+  in_front_later : (source : ℕ) (x : Entry) → comes source x ≡ x → list_map (comes source) (take held.window (renewed id_in x (held.kept source))) ≡ take held.window (renewed id_in x (later.kept source))
+  in_front_later source x same =
+      sym (take-map (comes source) held.window (renewed id_in x (held.kept source)))
+      ∙ ap (take held.window) (sym (renewed_in_map id_in id_in (comes source) (comes_alike source) x (held.kept source)))
+      ∙ ap (λ y. take held.window (renewed id_in y (later.kept source))) same
 
-  kept_where_none : (m : Message) (source id : ℕ) (p of : Bool) → is_of m source id ≡ of → map.get pending (request_key_of m) ≡ None
-      → entry_to_be answers (map.get pending (request_key source id)) (if of && p then Some (entry_of (gives unasked) held m) else held.kept source id)
-      ≡ (if of && p then Some (entry_of (gives unasked) later m) else entry_to_be answers (map.get pending (request_key source id)) (held.kept source id))
-  kept_where_none m source id p false is free = refl
-  kept_where_none m source id false true is free = refl
-  kept_where_none m source id true true is free = ap (λ o. entry_to_be answers o (Some (entry_of (gives unasked) held m))) (at_asker m source id is free)
+  kept_where_none : (m : Message) (source : ℕ) (p of : Bool) → (m.source == source) ≡ of → map.get pending (request_key_of m) ≡ None
+      → list_map (comes source) (if of && p then take held.window (renewed id_in (entry_of (gives unasked) held m) (held.kept source)) else held.kept source)
+      ≡ (if of && p then take held.window (renewed id_in (entry_of (gives unasked) later m) (later.kept source)) else later.kept source)
+  kept_where_none m source p false is free = refl
+  kept_where_none m source false true is free = refl
+  kept_where_none m source true true is free =
+      in_front_later source (entry_of (gives unasked) held m)
+      (ap (λ o. entry_to_be answers o (entry_of (gives unasked) held m)) (ap (λ s. map.get pending (request_key s (id_at m.bytes))) (sym (eqb-true m.source source is)) ∙ free))
 
+  kept_none : (a : Arrival) → IsFree pending (message_in a) → (source : ℕ)
+      → list_map (comes source) ((arrival_held (gives unasked) held a).kept source) ≡ (arrival_held (gives unasked) later a).kept source
+  kept_none (Drop reason) free source = refl
+  kept_none Part free source = refl
+  kept_none (Whole m) free source =
+      kept_where_none m source (performs held m) (m.source == source) refl free
+      ∙ ap (λ p. if m.source == source && p then take held.window (renewed id_in (entry_of (gives unasked) later m) (later.kept source)) else later.kept source) (sym (same_performs m free))
+
+  -- one that is asked for now
   abbrev now_asked : Message → Command → PendingCommand
   now_asked m command = command_at m count command
 
-  inserted_at : (m : Message) (command : Command) (source id : ℕ) (of : Bool) → is_of m source id ≡ of
-      → map.get (map.insert pending (request_key_of m) (now_asked m command)) (request_key source id) ≡ cond of (Some (now_asked m command)) (map.get pending (request_key source id))
-  inserted_at m command source id true is =
-      map.get-insert request_keys_total pending (request_key_of m) (now_asked m command) (request_key source id)
-      ∙ ap (λ t. cond t (Some (now_asked m command)) (map.get pending (request_key source id)))
-      (ap (λ k. eq_by_cmp request_key_cmp (request_key source id) k) (same_key m (request_key source id) is) ∙ (eq_by_cmp_equiv request_keys_total).refl (request_key source id))
-  inserted_at m command source id false is =
-      map.get-insert request_keys_total pending (request_key_of m) (now_asked m command) (request_key source id)
-      ∙ ap (λ t. cond t (Some (now_asked m command)) (map.get pending (request_key source id))) (not_at (eq_by_cmp request_key_cmp (request_key source id) (request_key_of m)) refl)
+  abbrev with_it : Message → Command → PendingCommands
+  with_it m command = map.insert pending (request_key_of m) (now_asked m command)
+
+  abbrev comes_with : Message → Command → ℕ → Entry → Entry
+  comes_with m command source e = entry_to_be answers (map.get (with_it m command) (request_key source (id_in e))) e
+
+  inserted_here : (m : Message) (command : Command) → map.get (with_it m command) (request_key_of m) ≡ Some (now_asked m command)
+  inserted_here m command =
+      map.get-insert request_keys_total pending (request_key_of m) (now_asked m command) (request_key_of m)
+      ∙ ap (λ t. cond t (Some (now_asked m command)) (map.get pending (request_key_of m))) ((eq_by_cmp_equiv request_keys_total).refl (request_key_of m))
+
+  inserted_there : (m : Message) (command : Command) (key : RequestKey) → (key ≡ request_key_of m → ⊥) → map.get (with_it m command) key ≡ map.get pending key
+  inserted_there m command key apart =
+      map.get-insert request_keys_total pending (request_key_of m) (now_asked m command) key
+      ∙ ap (λ t. cond t (Some (now_asked m command)) (map.get pending key)) (not_one key (request_key_of m) apart)
+
+  pub ids_with : (m : Message) (command : Command) → AreUnderTheirIds (with_it m command)
+  ids_with m command source id =
+      subst (λ o. IfSome o (λ a. id_at a.request ≡ id)) (sym (map.get-insert request_keys_total pending (request_key_of m) (now_asked m command) (request_key source id)))
+      (by_key (eq_by_cmp request_key_cmp (request_key source id) (request_key_of m)) refl)
     where
-      of_its : (by : _) → by ≡ request_key_of m → is_of m by.source by.id ≡ true
-      of_its by same = subst (λ k. is_of m k.source k.id ≡ true) (sym same) (ap (λ t. t && (id_at m.bytes == id_at m.bytes)) (eq-eqb m.source m.source refl) ∙ eq-eqb (id_at m.bytes) (id_at m.bytes) refl)
+      by_key : (t : Bool) → eq_by_cmp request_key_cmp (request_key source id) (request_key_of m) ≡ t → IfSome (cond t (Some (now_asked m command)) (map.get pending (request_key source id))) (λ a. id_at a.request ≡ id)
+      by_key true is = sym (ap (λ (k : RequestKey). k.id) (one_key (request_key source id) (request_key_of m) is))
+      by_key false is = ids source id
 
-      not_at : (t : Bool) → eq_by_cmp request_key_cmp (request_key source id) (request_key_of m) ≡ t → t ≡ false
-      not_at false h = refl
-      not_at true h = absurd (both_ways (is_of m source id) is (of_its (request_key source id) (one_key (request_key source id) (request_key_of m) h)))
-
-  kept_where_asked : (m : Message) (command : Command) (source id : ℕ) (of : Bool) → is_of m source id ≡ of
-      → entry_to_be answers (cond of (Some (now_asked m command)) (map.get pending (request_key source id))) (held.kept source id)
-      ≡ (if of && true then Some (entry_of (gives (answers count)) later m) else entry_to_be answers (map.get pending (request_key source id)) (held.kept source id))
-  kept_where_asked m command source id true is = refl
-  kept_where_asked m command source id false is = refl
-
-  kept_none : (a : Arrival) → IsFree pending (message_in a) → (source id : ℕ)
-      → entry_to_be answers (map.get pending (request_key source id)) ((arrival_held (gives unasked) held a).kept source id) ≡ (arrival_held (gives unasked) later a).kept source id
-  kept_none (Drop reason) free source id = refl
-  kept_none Part free source id = refl
-  kept_none (Whole m) free source id =
-      kept_where_none m source id (performs held m) (is_of m source id) refl free
-      ∙ ap (λ p. if is_of m source id && p then Some (entry_of (gives unasked) later m) else later.kept source id) (sym (same_performs m free))
+  kept_where_asked : (m : Message) (command : Command) (source : ℕ) (of : Bool) → (m.source == source) ≡ of
+      → list_map (comes_with m command source) (if of then take held.window (renewed id_in (waiting m) (held.kept source)) else held.kept source)
+      ≡ (if of then take held.window (renewed id_in (entry_of (gives (answers count)) later m) (later.kept source)) else later.kept source)
+  kept_where_asked m command source false is =
+      same_lists (comes_with m command source) (comes source) (held.kept source)
+      (λ e. ap (λ o. entry_to_be answers o e) (inserted_there m command (request_key source (id_in e)) (λ same. absurd (eqb-false m.source source is (sym (ap (λ (k : RequestKey). k.source) same))))))
+  kept_where_asked m command source true is =
+      let n = id_at m.bytes in
+      let here : comes_with m command source (waiting m) ≡ entry_of (gives (answers count)) later m =
+      ap (λ o. entry_to_be answers o (waiting m)) (ap (λ s. map.get (with_it m command) (request_key s n)) (sym (eqb-true m.source source is)) ∙ inserted_here m command) in
+      let others : list_map (comes_with m command source) (without id_in n (held.kept source)) ≡ without id_in n (later.kept source) =
+      map_without (comes_with m command source) (comes source) n (held.kept source)
+      (λ e apart. ap (λ o. entry_to_be answers o e) (inserted_there m command (request_key source (id_in e)) (λ same. apart (ap (λ (k : RequestKey). k.id) same))))
+      ∙ sym (without_in_map id_in id_in (comes source) (comes_alike source) n (held.kept source)) in
+      sym (take-map (comes_with m command source) held.window (renewed id_in (waiting m) (held.kept source)))
+      ∙ ap (take held.window) (λ i. here i ∷ others i)
 
   performed_by : (t : Bool) (commands : List Command) (command : Command) → (if t then commands else []) ≡ command ∷ [] → t ≡ true
   performed_by true commands command h = refl
   performed_by false commands command h = cc
 
-  kept_asked : (m : Message) (command : Command) → map.get pending (request_key_of m) ≡ None → arrival_commands held (Whole m) ≡ command ∷ [] → (source id : ℕ)
-      → entry_to_be answers (map.get (map.insert pending (request_key_of m) (now_asked m command)) (request_key source id)) (held.kept source id)
-      ≡ (arrival_held (gives (answers count)) later (Whole m)).kept source id
-  kept_asked m command free asked source id =
-      let of = is_of m source id in
+  where_done : {A : Type 0} (of p : Bool) (x y : A) → p ≡ true → (if of then x else y) ≡ (if of && p then x else y)
+  where_done true true x y h = refl
+  where_done false p x y h = refl
+  where_done true false x y h = cc
+
+  kept_asked : (m : Message) (command : Command) → map.get pending (request_key_of m) ≡ None → arrival_commands held (Whole m) ≡ command ∷ [] → (source : ℕ)
+      → list_map (comes_with m command source) ((with_waiting held m).kept source) ≡ (arrival_held (gives (answers count)) later (Whole m)).kept source
+  kept_asked m command free asked source =
       let done : performs held m ≡ true = performed_by (performs held m) (commands_of m.bytes) command asked in
-      ap (λ o. entry_to_be answers o (held.kept source id)) (inserted_at m command source id of refl)
-      ∙ kept_where_asked m command source id of refl
-      ∙ ap (λ p. if of && p then Some (entry_of (gives (answers count)) later m) else later.kept source id) (sym (same_performs m free ∙ done))
+      kept_where_asked m command source (m.source == source) refl
+      ∙ where_done (m.source == source) (performs later m) _ _ (same_performs m free ∙ done)
 
   -- ---- an arrival has at most one command
   one_in : (r : Result Command ℕ) → (commands_in r ≡ []) ⊎ ((command : Command) × (commands_in r ≡ command ∷ []))
@@ -160,93 +244,166 @@ performed_where true commands command h = refl
 performed_where false commands command h = cc
 
 -- ---- what an arrival does not change
-own_is : {S : Type 0} (device : Rules S) (held : Held S) (a : Arrival) → (arrival_held device held a).own ≡ held.own
-own_is device held (Drop reason) = refl
-own_is device held Part = refl
-own_is device held (Whole m) = refl
+module _ {S : Type 0} (device : Rules S) (held : Held S) where
+  own_is : (a : Arrival) → (arrival_held device held a).own ≡ held.own
+  own_is (Drop reason) = refl
+  own_is Part = refl
+  own_is (Whole m) = refl
 
-keep_is : {S : Type 0} (device : Rules S) (held : Held S) (a : Arrival) → (arrival_held device held a).keep ≡ held.keep
-keep_is device held (Drop reason) = refl
-keep_is device held Part = refl
-keep_is device held (Whole m) = refl
+  busy_is : (a : Arrival) → (arrival_held device held a).busy ≡ held.busy
+  busy_is (Drop reason) = refl
+  busy_is Part = refl
+  busy_is (Whole m) = refl
 
-from_is : {S : Type 0} (device : Rules S) (held : Held S) (a : Arrival) → (arrival_held device held a).serves_from ≡ held.serves_from
-from_is device held (Drop reason) = refl
-from_is device held Part = refl
-from_is device held (Whole m) = refl
+  window_is : (a : Arrival) → (arrival_held device held a).window ≡ held.window
+  window_is (Drop reason) = refl
+  window_is Part = refl
+  window_is (Whole m) = refl
+
+  keep_is : (a : Arrival) → (arrival_held device held a).keep ≡ held.keep
+  keep_is (Drop reason) = refl
+  keep_is Part = refl
+  keep_is (Whole m) = refl
+
+  from_is : (a : Arrival) → (arrival_held device held a).serves_from ≡ held.serves_from
+  from_is (Drop reason) = refl
+  from_is Part = refl
+  from_is (Whole m) = refl
 
 -- what is held after an arrival differs only by what is kept
-own_stepped : (commands : List Command) (x y : Held (Unit {0})) → x.own ≡ y.own → (kept_by commands x y).own ≡ y.own
-own_stepped [] x y h = h
-own_stepped (command ∷ commands) x y h = refl
+module _ (held : Held (Unit {0})) where
+  own_stepped : (a : Arrival) → (stepped held a).own ≡ held.own
+  own_stepped (Drop reason) = refl
+  own_stepped Part = refl
+  own_stepped (Whole m) = by (arrival_commands held (Whole m))
+    where
+      by : (commands : List Command) → (kept_by commands m (arrival_held (gives unasked) held (Whole m)) held).own ≡ held.own
+      by [] = refl
+      by (command ∷ commands) = refl
 
-keep_stepped : (commands : List Command) (x y : Held (Unit {0})) → x.keep ≡ y.keep → (kept_by commands x y).keep ≡ y.keep
-keep_stepped [] x y h = h
-keep_stepped (command ∷ commands) x y h = refl
+  busy_stepped : (a : Arrival) → (stepped held a).busy ≡ held.busy
+  busy_stepped (Drop reason) = refl
+  busy_stepped Part = refl
+  busy_stepped (Whole m) = by (arrival_commands held (Whole m))
+    where
+      by : (commands : List Command) → (kept_by commands m (arrival_held (gives unasked) held (Whole m)) held).busy ≡ held.busy
+      by [] = refl
+      by (command ∷ commands) = refl
 
-from_stepped : (commands : List Command) (x y : Held (Unit {0})) → x.serves_from ≡ y.serves_from → (kept_by commands x y).serves_from ≡ y.serves_from
-from_stepped [] x y h = h
-from_stepped (command ∷ commands) x y h = refl
+  window_stepped : (a : Arrival) → (stepped held a).window ≡ held.window
+  window_stepped (Drop reason) = refl
+  window_stepped Part = refl
+  window_stepped (Whole m) = by (arrival_commands held (Whole m))
+    where
+      by : (commands : List Command) → (kept_by commands m (arrival_held (gives unasked) held (Whole m)) held).window ≡ held.window
+      by [] = refl
+      by (command ∷ commands) = refl
+
+  keep_stepped : (a : Arrival) → (stepped held a).keep ≡ held.keep
+  keep_stepped (Drop reason) = refl
+  keep_stepped Part = refl
+  keep_stepped (Whole m) = by (arrival_commands held (Whole m))
+    where
+      by : (commands : List Command) → (kept_by commands m (arrival_held (gives unasked) held (Whole m)) held).keep ≡ held.keep
+      by [] = refl
+      by (command ∷ commands) = refl
+
+  from_stepped : (a : Arrival) → (stepped held a).serves_from ≡ held.serves_from
+  from_stepped (Drop reason) = refl
+  from_stepped Part = refl
+  from_stepped (Whole m) = by (arrival_commands held (Whole m))
+    where
+      by : (commands : List Command) → (kept_by commands m (arrival_held (gives unasked) held (Whole m)) held).serves_from ≡ held.serves_from
+      by [] = refl
+      by (command ∷ commands) = refl
+
+  -- and that by its commands
+  kept_stepped : (a : Arrival) → arrival_commands held a ≡ [] → (source : ℕ) → (stepped held a).kept source ≡ (arrival_held (gives unasked) held a).kept source
+  kept_stepped (Drop reason) none source = refl
+  kept_stepped Part none source = refl
+  kept_stepped (Whole m) none source = ap (λ commands. (kept_by commands m (arrival_held (gives unasked) held (Whole m)) held).kept source) none
+
+  waits_stepped : (m : Message) (command : Command) → arrival_commands held (Whole m) ≡ command ∷ [] → (source : ℕ) → (stepped held (Whole m)).kept source ≡ (with_waiting held m).kept source
+  waits_stepped m command asked source = ap (λ commands. (kept_by commands m (arrival_held (gives unasked) held (Whole m)) held).kept source) asked
 
 pending_where_none : (pending : PendingCommands) (count : ℕ) (request : Option Message) (commands : List Command) → commands ≡ [] → pending_by pending count request commands ≡ pending
 pending_where_none pending count None commands is = refl
 pending_where_none pending count (Some m) commands is = ap (pending_by pending count (Some m)) is
 
--- ---- a request that is performed is answered so
-no_packets : (own keep : ℕ) (m : Message) (e : Option Entry) → repeats keep m e ≡ false → copied_packets own keep m e ≡ None
-no_packets own keep m None h = refl
-no_packets own keep m (Some e) h = ap (λ t. if t then Some (packets_back own m e.answer) else None) h
-
-performed_outcome : {S : Type 0} (device : Rules S) (held : Held S) (m : Message) → performs held m ≡ true
-    → message_outcome device held m ≡ Answered true (changes device held.state m.bytes) (packets_back held.own m (reply device held.state m.bytes))
-performed_outcome device held m done =
-    let parts = and_parts (not (nat_lt m.moment held.serves_from)) (not (repeats held.keep m (entry_for held m))) done in
-    ap (λ t. if t then Answered false false (packets_back held.own m (busy_reply m.bytes)) else served device held m (copied_packets held.own held.keep m (entry_for held m)))
-    (not-true (nat_lt m.moment held.serves_from) parts.0)
-    ∙ ap (served device held m) (no_packets held.own held.keep m (entry_for held m) (not-true (repeats held.keep m (entry_for held m)) parts.1))
-
 -- ---- both steps at once
-where_done : {A : Type 0} (of p : Bool) (x y : A) → p ≡ true → (if of then x else y) ≡ (if of && p then x else y)
-where_done true true x y h = refl
-where_done false p x y h = refl
-where_done true false x y h = cc
+-- what waits is answered in its place
+answered_by : (m : Message) (window : ℕ) (kept : List Entry) (answer : List ℕ) → replaced id_in (record { moment = m.moment; bytes = m.bytes; answer = answer }) (take window (renewed id_in (waiting m) kept))
+    ≡ take window (renewed id_in (record { moment = m.moment; bytes = m.bytes; answer = answer }) kept)
+answered_by m window kept answer =
+    let n = id_at m.bytes in
+    let x : Entry = record { moment = m.moment; bytes = m.bytes; answer = answer } in
+    let f : Entry → Entry = λ y. if id_in y == n then x else y in
+    let here : f (waiting m) ≡ x = ap (λ t. if t then x else waiting m) (eq-eqb n n refl) in
+    let others : list_map f (without id_in n kept) ≡ without id_in n kept =
+    map_without f (λ y. y) n kept (λ y apart. ap (λ t. if t then x else y) (not_same (id_in y) n apart)) ∙ map_id (without id_in n kept) in
+    sym (take-map f window (renewed id_in (waiting m) kept)) ∙ ap (take window) (λ i. here i ∷ others i)
+  where
+    map_id : {A : Type 0} (xs : List A) → list_map (λ y. y) xs ≡ xs
+    map_id xs = list_map-id xs
+
+    not_same : (a b : ℕ) → (a ≡ b → ⊥) → (a == b) ≡ false
+    not_same a b apart = by (a == b) refl
+      where
+        by : (t : Bool) → (a == b) ≡ t → t ≡ false
+        by true is = absurd (apart (eqb-true a b is))
+        by false is = refl
 
 pub two_steps_are_one : TwoStepsAreOne
 two_steps_are_one held moment bytes count m command given arrives asked =
     let a = received_arrival held moment bytes in
     let is : a ≡ Whole m = whole_is a m arrives in
-    let done = performed_where (performs held m) (commands_of m.bytes) command (ap (arrival_commands held) (sym is) ∙ asked) in
-    let unchanged : stepped held a ≡ held = ap (λ commands. kept_by commands (arrival_held (gives unasked) held a) held) asked in (
+    let asks = ap (arrival_commands held) (sym is) ∙ asked in
+    let done = performed_where (performs held m) (commands_of m.bytes) command asks in (
       sym (performed_outcome (gives given) held m done) ∙ ap (arrival_outcome (gives given) held) (sym is),
       record {
-        own = ap (λ (h : Held (Unit {0})). h.own) unchanged ∙ sym (own_is (gives given) held a);
-        keep = ap (λ (h : Held (Unit {0})). h.keep) unchanged ∙ sym (keep_is (gives given) held a);
+        own = own_stepped held a ∙ sym (own_is (gives given) held a);
+        busy = busy_stepped held a ∙ sym (busy_is (gives given) held a);
+        window = window_stepped held a ∙ sym (window_is (gives given) held a);
+        keep = keep_stepped held a ∙ sym (keep_is (gives given) held a);
         open_messages = refl;
-        kept = λ source id.
-            ap (λ (h : Held (Unit {0})). if is_of m source id then Some (entry_given (command_at m count command) given) else h.kept source id) unchanged
-            ∙ where_done (is_of m source id) (performs held m) (Some (entry_given (command_at m count command) given)) (held.kept source id) done
-            ∙ ap (λ x. (arrival_held (gives given) held x).kept source id) (sym is);
+        kept = λ source.
+            ap (λ x. if m.source == source then replaced id_in (entry_given (command_at m count command) given) ((stepped held x).kept source) else (stepped held x).kept source) is
+            ∙ ap (λ (kept : List Entry). if m.source == source then replaced id_in (entry_given (command_at m count command) given) kept else kept) (waits_stepped held m command asks source)
+            ∙ in_place source (m.source == source)
+            ∙ where_it_is (m.source == source) (performs held m) _ _ done
+            ∙ ap (λ x. (arrival_held (gives given) held x).kept source) (sym is);
         state = refl;
-        serves_from = ap (λ (h : Held (Unit {0})). h.serves_from) unchanged ∙ sym (from_is (gives given) held a);
+        serves_from = from_stepped held a ∙ sym (from_is (gives given) held a);
         last = refl;
       },
     )
+  where
+    where_it_is : {A : Type 0} (of p : Bool) (x y : A) → p ≡ true → (if of then x else y) ≡ (if of && p then x else y)
+    where_it_is true true x y h = refl
+    where_it_is false p x y h = refl
+    where_it_is true false x y h = cc
+
+    in_place : (source : ℕ) (t : Bool)
+        → (if t then replaced id_in (entry_given (command_at m count command) given) (if t then take held.window (renewed id_in (waiting m) (held.kept source)) else held.kept source) else (if t then take held.window (renewed id_in (waiting m) (held.kept source)) else held.kept source))
+        ≡ (if t then take held.window (renewed id_in (entry_given (command_at m count command) given) (held.kept source)) else held.kept source)
+    in_place source true = answered_by m held.window (held.kept source) (reply (gives given) tt m.bytes)
+    in_place source false = refl
 
 -- ---- the laws
-module _ (own keep : ℕ) (answers : ℕ → Answer) (count : ℕ) (pending : PendingCommands) (held : Held (Unit {0})) (calls : List (Call ℕ)) (moment : ℕ) (bytes : List ℕ)
-    (looks : assembly.FeedLooksBack) (left : IsLeftInTurn own keep answers count pending held calls) (free : IsFree pending (request_in held moment bytes)) where
+module _ (own : ℕ) (busy : BusyTime) (window keep : ℕ) (answers : ℕ → Answer) (count : ℕ) (pending : PendingCommands) (held : Held (Unit {0})) (calls : List (Call ℕ)) (moment : ℕ) (bytes : List ℕ)
+    (looks : assembly.FeedLooksBack) (left : IsLeftInTurn own busy window keep answers count pending held calls) (free : IsFree pending (request_in held moment bytes)) where
   abbrev full : Held ℕ
   full = over count (to_be answers pending held)
 
   abbrev a : Arrival
   a = received_arrival held moment bytes
 
-  step : (received_outcome (in_turn answers) full moment bytes ≡ outcome (in_turn answers) own keep 0 calls moment bytes)
-      × IsLeftBy (in_turn answers) own keep 0 (received_held (in_turn answers) full moment bytes) (Received moment bytes ∷ calls)
-  step = received_looks_back (in_turn answers) looks own keep 0 full calls moment bytes left
+  step : (received_outcome (in_turn answers) full moment bytes ≡ outcome (in_turn answers) own busy window keep 0 calls moment bytes)
+      × IsLeftBy (in_turn answers) own busy window keep 0 (received_held (in_turn answers) full moment bytes) (Received moment bytes ∷ calls)
+  step = received_looks_back (in_turn answers) looks own busy window keep 0 full calls moment bytes left.left
 
   full_commands : received_commands full moment bytes ≡ received_commands held moment bytes
-  full_commands = same_commands answers count pending held a free
+  full_commands = same_commands answers count pending held left.ids a free
 
   given_none : received_commands held moment bytes ≡ [] → IsAsGiven (in_turn answers) full moment bytes unasked
   given_none none = none_is_asked (in_turn answers) full moment bytes unasked (full_commands ∙ none)
@@ -254,151 +411,208 @@ module _ (own keep : ℕ) (answers : ℕ → Answer) (count : ℕ) (pending : Pe
   given_asked : (command : Command) → received_commands held moment bytes ≡ command ∷ [] → IsAsGiven (in_turn answers) full moment bytes (answers count)
   given_asked command asked = (answer_decides (in_turn answers) full moment bytes command (answers count) (full_commands ∙ asked) refl).0
 
-  left_same : (given : Answer) → IsAsGiven (in_turn answers) full moment bytes given
-      → ((source id : ℕ) → entry_to_be answers (map.get (pending_after held moment bytes pending count) (request_key source id)) ((held_after held moment bytes).kept source id)
-      ≡ (received_held (gives given) (to_be answers pending held) moment bytes).kept source id)
-      → IsLeftInTurn own keep answers (count_after held moment bytes count) (pending_after held moment bytes pending count) (held_after held moment bytes) (Received moment bytes ∷ calls)
-  left_same given as_given kept =
-      same_is_left (in_turn answers) own keep 0 _ _ (Received moment bytes ∷ calls) (record {
-        own = own_stepped (arrival_commands held a) (arrival_held (gives unasked) held a) held (own_is (gives unasked) held a) ∙ sym (own_is (gives given) (to_be answers pending held) a) ∙ sym as_given.left.own;
-        keep = keep_stepped (arrival_commands held a) (arrival_held (gives unasked) held a) held (keep_is (gives unasked) held a) ∙ sym (keep_is (gives given) (to_be answers pending held) a) ∙ sym as_given.left.keep;
-        open_messages = sym as_given.left.open_messages;
-        kept = λ source id. kept source id ∙ sym (as_given.left.kept source id);
-        state = sym (by_arrival answers full a ∙ ap (λ commands. count + length commands) full_commands);
-        serves_from = from_stepped (arrival_commands held a) (arrival_held (gives unasked) held a) held (from_is (gives unasked) held a) ∙ sym (from_is (gives given) (to_be answers pending held) a) ∙ sym as_given.left.serves_from;
-        last = sym as_given.left.last;
-      }) step.1
+  left_same : (given : Answer) → IsAsGiven (in_turn answers) full moment bytes given → AreUnderTheirIds (pending_after held moment bytes pending count)
+      → ((source : ℕ) → (to_be answers (pending_after held moment bytes pending count) (stepped held a)).kept source ≡ (received_held (gives given) (to_be answers pending held) moment bytes).kept source)
+      → IsLeftInTurn own busy window keep answers (count_after held moment bytes count) (pending_after held moment bytes pending count) (held_after held moment bytes) (Received moment bytes ∷ calls)
+  left_same given as_given ids kept = record {
+    ids = ids;
+    left = same_is_left (in_turn answers) own busy window keep 0 _ _ (Received moment bytes ∷ calls) (record {
+      own = own_stepped held a ∙ sym (own_is (gives given) (to_be answers pending held) a) ∙ sym as_given.left.own;
+      busy = busy_stepped held a ∙ sym (busy_is (gives given) (to_be answers pending held) a) ∙ sym as_given.left.busy;
+      window = window_stepped held a ∙ sym (window_is (gives given) (to_be answers pending held) a) ∙ sym as_given.left.window;
+      keep = keep_stepped held a ∙ sym (keep_is (gives given) (to_be answers pending held) a) ∙ sym as_given.left.keep;
+      open_messages = sym as_given.left.open_messages;
+      kept = λ source. kept source ∙ sym (as_given.left.kept source);
+      state = sym (by_arrival answers full a ∙ ap (λ commands. count + length commands) full_commands);
+      serves_from = from_stepped held a ∙ sym (from_is (gives given) (to_be answers pending held) a) ∙ sym as_given.left.serves_from;
+      last = sym as_given.left.last;
+    }) step.1;
+  }
 
   left_none : received_commands held moment bytes ≡ []
-      → IsLeftInTurn own keep answers (count_after held moment bytes count) (pending_after held moment bytes pending count) (held_after held moment bytes) (Received moment bytes ∷ calls)
+      → IsLeftInTurn own busy window keep answers (count_after held moment bytes count) (pending_after held moment bytes pending count) (held_after held moment bytes) (Received moment bytes ∷ calls)
   left_none none =
-      left_same unasked (given_none none)
-      (λ source id.
-      ap (λ commands. entry_to_be answers (map.get (pending_by pending count (message_in a) commands) (request_key source id)) ((kept_by commands (arrival_held (gives unasked) held a) held).kept source id)) none
-      ∙ ap (λ p. entry_to_be answers (map.get p (request_key source id)) ((arrival_held (gives unasked) held a).kept source id)) (pending_where_none pending count (message_in a) [] refl)
-      ∙ kept_none answers count pending held a free source id)
+      let same : pending_after held moment bytes pending count ≡ pending = pending_where_none pending count (message_in a) (arrival_commands held a) none in
+      left_same unasked (given_none none) (subst AreUnderTheirIds (sym same) left.ids)
+      (λ source.
+      ap (λ p. (to_be answers p (stepped held a)).kept source) same
+      ∙ ap (list_map (comes answers count pending held left.ids source)) (kept_stepped held a none source)
+      ∙ kept_none answers count pending held left.ids a free source)
 
   left_asked : (m : Message) (command : Command) → a ≡ Whole m → received_commands held moment bytes ≡ command ∷ []
-      → IsLeftInTurn own keep answers (count_after held moment bytes count) (pending_after held moment bytes pending count) (held_after held moment bytes) (Received moment bytes ∷ calls)
+      → IsLeftInTurn own busy window keep answers (count_after held moment bytes count) (pending_after held moment bytes pending count) (held_after held moment bytes) (Received moment bytes ∷ calls)
   left_asked m command is asked =
-      left_same (answers count) (given_asked command asked)
-      (λ source id.
-      ap (λ commands. entry_to_be answers (map.get (pending_by pending count (message_in a) commands) (request_key source id)) ((kept_by commands (arrival_held (gives unasked) held a) held).kept source id)) asked
-      ∙ ap (λ x. entry_to_be answers (map.get (pending_by pending count (message_in x) (command ∷ [])) (request_key source id)) (held.kept source id)) is
-      ∙ kept_asked answers count pending held m command (subst (λ x. IsFree pending (message_in x)) is free) (ap (arrival_commands held) (sym is) ∙ asked) source id
-      ∙ ap (λ x. (arrival_held (gives (answers count)) (to_be answers pending held) x).kept source id) (sym is))
+      let asks = ap (arrival_commands held) (sym is) ∙ asked in
+      let more : pending_after held moment bytes pending count ≡ with_it answers count pending held left.ids m command =
+      ap (pending_by pending count (message_in a)) asked ∙ ap (λ x. pending_by pending count (message_in x) (command ∷ [])) is in
+      left_same (answers count) (given_asked command asked) (subst AreUnderTheirIds (sym more) (ids_with answers count pending held left.ids m command))
+      (λ source.
+      ap (λ p. (to_be answers p (stepped held a)).kept source) more
+      ∙ ap (λ x. list_map (comes_with answers count pending held left.ids m command source) ((stepped held x).kept source)) is
+      ∙ ap (list_map (comes_with answers count pending held left.ids m command source)) (waits_stepped held m command asks source)
+      ∙ kept_asked answers count pending held left.ids m command (subst (λ x. IsFree pending (message_in x)) is free) asks source
+      ∙ ap (λ x. (arrival_held (gives (answers count)) (to_be answers pending held) x).kept source) (sym is))
 
-  pub received : IsLeftInTurn own keep answers (count_after held moment bytes count) (pending_after held moment bytes pending count) (held_after held moment bytes) (Received moment bytes ∷ calls)
-  received = by_commands (one_asked answers count pending held a)
+  pub received : IsLeftInTurn own busy window keep answers (count_after held moment bytes count) (pending_after held moment bytes pending count) (held_after held moment bytes) (Received moment bytes ∷ calls)
+  received = by_commands (one_asked answers count pending held left.ids a)
     where
       by_commands : (received_commands held moment bytes ≡ []) ⊎ ((command : Command) × (received_commands held moment bytes ≡ command ∷ []))
-          → IsLeftInTurn own keep answers (count_after held moment bytes count) (pending_after held moment bytes pending count) (held_after held moment bytes) (Received moment bytes ∷ calls)
+          → IsLeftInTurn own busy window keep answers (count_after held moment bytes count) (pending_after held moment bytes pending count) (held_after held moment bytes) (Received moment bytes ∷ calls)
       by_commands (inl none) = left_none none
       by_commands (inr one) =
-          let whole = message_of_asked answers count pending held a one.0 one.1 in
+          let whole = message_of_asked answers count pending held left.ids a one.0 one.1 in
           left_asked whole.0 one.0 whole.1 one.1
 
-  pub unasked_outcome : received_commands held moment bytes ≡ [] → received_outcome (gives unasked) held moment bytes ≡ outcome (in_turn answers) own keep 0 calls moment bytes
+  pub unasked_outcome : received_commands held moment bytes ≡ [] → received_outcome (gives unasked) held moment bytes ≡ outcome (in_turn answers) own busy window keep 0 calls moment bytes
   unasked_outcome none =
-      sym (same_outcome answers count pending held (gives unasked) a free) ∙ sym (given_none none).outcome ∙ step.0
+      sym (same_outcome answers count pending held left.ids (gives unasked) a free) ∙ sym (given_none none).outcome ∙ step.0
 
   pub asked_outcome : (m : Message) (command : Command) → request_in held moment bytes ≡ Some m → received_commands held moment bytes ≡ command ∷ []
-      → outcome_of_answer held.own m.source m.tag m.bytes (answers count) ≡ outcome (in_turn answers) own keep 0 calls moment bytes
+      → outcome_of_answer held.own m.source m.tag m.bytes (answers count) ≡ outcome (in_turn answers) own busy window keep 0 calls moment bytes
   asked_outcome m command arrives asked =
       let is = whole_is a m arrives in
-      let done = performed_by answers count pending held (performs held m) (commands_of m.bytes) command (ap (arrival_commands held) (sym is) ∙ asked) in
+      let done = performed_where (performs held m) (commands_of m.bytes) command (ap (arrival_commands held) (sym is) ∙ asked) in
       sym (performed_outcome (gives (answers count)) held m done)
       ∙ ap (arrival_outcome (gives (answers count)) held) (sym is)
-      ∙ sym (same_outcome answers count pending held (gives (answers count)) a free) ∙ sym (given_asked command asked).outcome ∙ step.0
+      ∙ sym (same_outcome answers count pending held left.ids (gives (answers count)) a free) ∙ sym (given_asked command asked).outcome ∙ step.0
 
 pub received_in_turn : assembly.FeedLooksBack → ReceivedInTurn
-received_in_turn looks own keep answers count pending held calls moment bytes left free = received own keep answers count pending held calls moment bytes looks left free
+received_in_turn looks own busy window keep answers count pending held calls moment bytes left free = received own busy window keep answers count pending held calls moment bytes looks left free
 
 pub unasked_looks_back : assembly.FeedLooksBack → UnaskedLooksBack
-unasked_looks_back looks own keep answers count pending held calls moment bytes left free none = unasked_outcome own keep answers count pending held calls moment bytes looks left free none
+unasked_looks_back looks own busy window keep answers count pending held calls moment bytes left free none = unasked_outcome own busy window keep answers count pending held calls moment bytes looks left free none
 
 pub asked_looks_back : assembly.FeedLooksBack → AskedLooksBack
-asked_looks_back looks own keep answers count pending held calls moment bytes m command left free arrives asked = asked_outcome own keep answers count pending held calls moment bytes looks left free m command arrives asked
+asked_looks_back looks own busy window keep answers count pending held calls moment bytes m command left free arrives asked = asked_outcome own busy window keep answers count pending held calls moment bytes looks left free m command arrives asked
 
 -- ---- an answer
-module _ (answers : ℕ → Answer) (pending : PendingCommands) (held : Held (Unit {0})) (source id number : ℕ) (a : PendingCommand)
+module _ (answers : ℕ → Answer) (pending : PendingCommands) (held : Held (Unit {0})) (ids : AreUnderTheirIds pending) (source id number : ℕ) (a : PendingCommand)
     (is : map.get pending (request_key source id) ≡ Some a) (number_is : a.number ≡ number) where
-  kept_answered : (other i : ℕ) (t : Bool) → (source == other && id == i) ≡ t
-      → entry_to_be answers (map.get (map.remove pending (request_key source id)) (request_key other i)) (if t then Some (entry_given a (answers number)) else held.kept other i)
-      ≡ entry_to_be answers (map.get pending (request_key other i)) (held.kept other i)
-  kept_answered other i true here =
-      let both = and_parts (source == other) (id == i) here in
-      let same = ap (λ s. request_key s i) (sym (eqb-true source other both.0)) ∙ ap (λ n. request_key source n) (sym (eqb-true id i both.1)) in
-      ap (λ o. entry_to_be answers o (Some (entry_given a (answers number))))
-      (map.get-remove request_keys_total pending (request_key source id) (request_key other i)
-      ∙ ap (λ t. cond t None (map.get pending (request_key other i))) (ap (λ k. eq_by_cmp request_key_cmp k (request_key source id)) same ∙ (eq_by_cmp_equiv request_keys_total).refl (request_key source id)))
-      ∙ ap (λ n. Some (entry_given a (answers n))) (sym number_is)
-      ∙ sym (ap (λ o. entry_to_be answers o (held.kept other i)) (ap (map.get pending) same ∙ is))
-  kept_answered other i false there =
-      ap (λ o. entry_to_be answers o (held.kept other i))
-      (map.get-remove request_keys_total pending (request_key source id) (request_key other i)
-      ∙ ap (λ t. cond t None (map.get pending (request_key other i))) (not_at (eq_by_cmp request_key_cmp (request_key other i) (request_key source id)) refl))
+  abbrev without_it : PendingCommands
+  without_it = map.remove pending (request_key source id)
+
+  abbrev given_entry : Entry
+  given_entry = entry_given a (answers number)
+
+  id_is : id_at a.request ≡ id
+  id_is = subst (λ o. IfSome o (λ b. id_at b.request ≡ id)) is (ids source id)
+
+  removed_there : (key : RequestKey) → (key ≡ request_key source id → ⊥) → map.get without_it key ≡ map.get pending key
+  removed_there key apart =
+      map.get-remove request_keys_total pending (request_key source id) key
+      ∙ ap (λ t. cond t None (map.get pending key)) (not_one key (request_key source id) apart)
+
+  removed_here : map.get without_it (request_key source id) ≡ None
+  removed_here =
+      map.get-remove request_keys_total pending (request_key source id) (request_key source id)
+      ∙ ap (λ t. cond t None (map.get pending (request_key source id))) ((eq_by_cmp_equiv request_keys_total).refl (request_key source id))
+
+  pub ids_without : AreUnderTheirIds without_it
+  ids_without other i =
+      subst (λ o. IfSome o (λ b. id_at b.request ≡ i)) (sym (map.get-remove request_keys_total pending (request_key source id) (request_key other i)))
+      (by_key (eq_by_cmp request_key_cmp (request_key other i) (request_key source id)))
     where
-      not_at : (t : Bool) → eq_by_cmp request_key_cmp (request_key other i) (request_key source id) ≡ t → t ≡ false
-      not_at false h = refl
-      not_at true h =
-          let same = one_key (request_key other i) (request_key source id) h in
-          absurd (both_ways (source == other && id == i) there
-          (subst (λ k. (source == k.source && id == k.id) ≡ true) (sym same) (ap (λ t. t && (id == id)) (eq-eqb source source refl) ∙ eq-eqb id id refl)))
+      by_key : (t : Bool) → IfSome (cond t None (map.get pending (request_key other i))) (λ b. id_at b.request ≡ i)
+      by_key true = tt
+      by_key false = ids other i
+
+  -- what comes of an entry then
+  each_answered : (e : Entry) (t : Bool) → (id_in e == id_at a.request) ≡ t
+      → entry_to_be answers (map.get without_it (request_key source (id_in (if t then given_entry else e)))) (if t then given_entry else e)
+      ≡ entry_to_be answers (map.get pending (request_key source (id_in e))) e
+  each_answered e true same =
+      ap (λ n. entry_to_be answers (map.get without_it (request_key source n)) given_entry) id_is
+      ∙ ap (λ o. entry_to_be answers o given_entry) removed_here
+      ∙ ap (λ n. entry_given a (answers n)) (sym number_is)
+      ∙ sym (ap (λ n. entry_to_be answers (map.get pending (request_key source n)) e) (eqb-true (id_in e) (id_at a.request) same ∙ id_is) ∙ ap (λ o. entry_to_be answers o e) is)
+  each_answered e false other =
+      ap (λ o. entry_to_be answers o e) (removed_there (request_key source (id_in e)) (λ same. absurd (eqb-false (id_in e) (id_at a.request) other (ap (λ (k : RequestKey). k.id) same ∙ sym id_is))))
+
+  kept_answered : (other : ℕ) (t : Bool) → (source == other) ≡ t
+      → list_map (λ e. entry_to_be answers (map.get without_it (request_key other (id_in e))) e) (if t then replaced id_in given_entry (held.kept other) else held.kept other)
+      ≡ list_map (λ e. entry_to_be answers (map.get pending (request_key other (id_in e))) e) (held.kept other)
+  kept_answered other true here =
+      map_map (λ e. entry_to_be answers (map.get without_it (request_key other (id_in e))) e) (λ e. if id_in e == id_at a.request then given_entry else e) (held.kept other)
+      ∙ same_lists _ _ (held.kept other) (λ e.
+      subst (λ s. entry_to_be answers (map.get without_it (request_key s (id_in (if id_in e == id_at a.request then given_entry else e)))) (if id_in e == id_at a.request then given_entry else e)
+      ≡ entry_to_be answers (map.get pending (request_key s (id_in e))) e) (eqb-true source other here)
+      (each_answered e (id_in e == id_at a.request) refl))
+  kept_answered other false there =
+      same_lists _ _ (held.kept other) (λ e.
+      ap (λ o. entry_to_be answers o e) (removed_there (request_key other (id_in e)) (λ same. absurd (eqb-false source other there (sym (ap (λ (k : RequestKey). k.source) same))))))
 
 pub answered_in_turn : AnsweredInTurn
-answered_in_turn own keep answers count pending held calls handle a left asked =
+answered_in_turn own busy window keep answers count pending held calls handle a left asked =
     let found = numbered_is handle.number (map.get pending (request_key handle.source handle.id)) a asked in
-    same_is_left (in_turn answers) own keep 0 _ (over count (to_be answers pending held)) calls (record {
-      own = refl;
-      keep = refl;
-      open_messages = refl;
-      kept = λ source id. kept_answered answers pending held handle.source handle.id handle.number a found.0 found.1 source id (handle.source == source && handle.id == id) refl;
-      state = refl;
-      serves_from = refl;
-      last = refl;
-    }) left
+    record {
+      ids = ids_without answers pending held left.ids handle.source handle.id handle.number a found.0 found.1;
+      left = same_is_left (in_turn answers) own busy window keep 0 _ (over count (to_be answers pending held)) calls (record {
+        own = refl;
+        busy = refl;
+        window = refl;
+        keep = refl;
+        open_messages = refl;
+        kept = λ source. kept_answered answers pending held left.ids handle.source handle.id handle.number a found.0 found.1 source (handle.source == source) refl;
+        state = refl;
+        serves_from = refl;
+        last = refl;
+      }) left.left;
+    }
 
 -- ---- a restart, and a new endpoint
-nothing_to_be : (answers : ℕ → Answer) (source id : ℕ) → entry_to_be answers (map.get {R = request_key_cmp} map.empty (request_key source id)) None ≡ None
-nothing_to_be answers source id = ap (λ o. entry_to_be answers o None) (map.get-empty request_key_cmp (request_key source id))
+none_under_ids : AreUnderTheirIds map.empty
+none_under_ids source id = subst (λ o. IfSome o (λ a. id_at a.request ≡ id)) (sym (map.get-empty request_key_cmp (request_key source id))) tt
 
 pub restarted_in_turn : assembly.NewLooksBack → RestartedInTurn
-restarted_in_turn new own keep answers count pending held calls moment left =
-    same_is_left (in_turn answers) own keep 0 _ (restarted_held (over count (to_be answers pending held)) moment) (Restart moment ∷ calls) (record {
-      own = refl;
-      keep = refl;
-      open_messages = refl;
-      kept = λ source id. nothing_to_be answers source id;
-      state = refl;
-      serves_from = refl;
-      last = refl;
-    }) (restarted_looks_back (in_turn answers) new own keep 0 (over count (to_be answers pending held)) calls moment left)
+restarted_in_turn new own busy window keep answers count pending held calls moment left = record {
+  ids = none_under_ids;
+  left = same_is_left (in_turn answers) own busy window keep 0 _ (restarted_held (over count (to_be answers pending held)) moment) (Restart moment ∷ calls) (record {
+    own = refl;
+    busy = refl;
+    window = refl;
+    keep = refl;
+    open_messages = refl;
+    kept = λ source. refl;
+    state = refl;
+    serves_from = refl;
+    last = refl;
+  }) (restarted_looks_back (in_turn answers) new own busy window keep 0 (over count (to_be answers pending held)) calls moment left.left);
+}
 
 pub ended_in_turn : assembly.ForgetLooksBack → EndedInTurn
-ended_in_turn looks own keep answers count pending held calls key left =
-    ended_looks_back (in_turn answers) looks own keep 0 (over count (to_be answers pending held)) calls key left
+ended_in_turn looks own busy window keep answers count pending held calls key left = record {
+  ids = left.ids;
+  left = ended_looks_back (in_turn answers) looks own busy window keep 0 (over count (to_be answers pending held)) calls key left.left;
+}
 
 pub new_in_turn : assembly.NewLooksBack → NewInTurn
-new_in_turn new own keep answers =
-    same_is_left (in_turn answers) own keep 0 _ _ [] (record {
-      own = refl;
-      keep = refl;
-      open_messages = refl;
-      kept = λ source id. nothing_to_be answers source id;
-      state = refl;
-      serves_from = refl;
-      last = refl;
-    }) (new_looks_back (in_turn answers) new own keep 0)
+new_in_turn new own busy window keep answers = record {
+  ids = none_under_ids;
+  left = same_is_left (in_turn answers) own busy window keep 0 _ _ [] (record {
+    own = refl;
+    busy = refl;
+    window = refl;
+    keep = refl;
+    open_messages = refl;
+    kept = λ source. refl;
+    state = refl;
+    serves_from = refl;
+    last = refl;
+  }) (new_looks_back (in_turn answers) new own busy window keep 0);
+}
 
 pub same_in_turn : SameInTurn
-same_in_turn own keep answers count pending new held calls same left =
-    same_is_left (in_turn answers) own keep 0 _ (over count (to_be answers pending held)) calls (record {
-      own = same.own;
-      keep = same.keep;
-      open_messages = same.open_messages;
-      kept = λ source id. ap (entry_to_be answers (map.get pending (request_key source id))) (same.kept source id);
-      state = refl;
-      serves_from = same.serves_from;
-      last = same.last;
-    }) left
+same_in_turn own busy window keep answers count pending new held calls same left = record {
+  ids = left.ids;
+  left = same_is_left (in_turn answers) own busy window keep 0 _ (over count (to_be answers pending held)) calls (record {
+    own = same.own;
+    busy = same.busy;
+    window = same.window;
+    keep = same.keep;
+    open_messages = same.open_messages;
+    kept = λ source. ap (list_map (λ e. entry_to_be answers (map.get pending (request_key source (id_in e))) e)) (same.kept source);
+    state = refl;
+    serves_from = same.serves_from;
+    last = same.last;
+  }) left.left;
+}

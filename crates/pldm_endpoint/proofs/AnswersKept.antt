@@ -5,8 +5,9 @@ use Rattle.pldm_responder.specs.Answering.{answering}
 use Rattle.pldm_responder.specs.Arrivals.{message_of, way_back}
 use Rattle.pldm_responder.specs.Asked.{gives}
 use Rattle.pldm_responder.specs.Ends.{End, held_by}
-use Rattle.pldm_responder.specs.Held.{IsHeld}
+use Rattle.pldm_responder.specs.Held.{IsHeld, id_in}
 use Rattle.pldm_responder.specs.Performing.{changes, reply}
+use Rattle.pldm_responder.specs.Recency.{replaced}
 use Rattle.pldm_responder.specs.Slots.{kept_in}
 use Rattle.pldm_responder.specs.declared.outcome.MessageOutcome.TheVariants.{Answered}
 use Rattle.pldm_endpoint.specs.TwoSteps.{IsAnsweredBy, answered_held}
@@ -23,15 +24,17 @@ module _ (handle : CommandHandle) (given : Answer) (a : PendingCommand) (o : Opt
       (λ i. answering (bytes_are i) (Answered true (changed_is i) (way_back own (message_of handle.source a.tag 0 a.request))))
 
   -- what is kept
-  pub is_kept : (end new : End) → record new { rows = end.rows } ≡ end
-      → ((source id : ℕ) → kept_in new.rows source id ≡ (if handle.source == source && handle.id == id then Some (record { moment = a.moment; bytes = a.request; answer = bytes }) else kept_in end.rows source id))
+  pub is_kept : (end new : End) → record new { rows = end.rows } ≡ end → new.rows.window ≡ end.rows.window
+      → ((source : ℕ) → kept_in new.rows source ≡ (if handle.source == source then replaced id_in (record { moment = a.moment; bytes = a.request; answer = bytes }) (kept_in end.rows source) else kept_in end.rows source))
       → IsHeld (held_by new) (answered_held (held_by end) handle given o)
-  is_kept end new rest kept =
+  is_kept end new rest window kept =
       subst (λ x. IsHeld (held_by new) (answered_held (held_by end) handle given x)) (sym is) (record {
         own = ap (λ (e : End). e.own) rest;
+        busy = ap (λ (e : End). e.busy) rest;
+        window = window;
         keep = ap (λ (e : End). e.keep) rest;
         open_messages = ap (λ (e : End). e.open_messages) rest;
-        kept = λ source id. kept source id ∙ ap (λ answer. if handle.source == source && handle.id == id then Some (record { moment = a.moment; bytes = a.request; answer = answer }) else kept_in end.rows source id) bytes_are;
+        kept = λ source. kept source ∙ ap (λ answer. if handle.source == source then replaced id_in (record { moment = a.moment; bytes = a.request; answer = answer }) (kept_in end.rows source) else kept_in end.rows source) bytes_are;
         state = refl;
         serves_from = ap (λ (e : End). e.serves_from) rest;
         last = ap (λ (e : End). e.last) rest;

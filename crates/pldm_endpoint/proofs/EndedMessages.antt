@@ -23,7 +23,7 @@ pub open_is : (end : End) (read : Result Packet Reason) → open_passed end read
 open_is end (Ok p) = refl
 open_is end (Err reason) = refl
 
-not_true : (t : Bool) → (t ≡ true → ⊥) → t ≡ false
+pub not_true : (t : Bool) → (t ≡ true → ⊥) → t ≡ false
 not_true true h = absurd (h refl)
 not_true false h = refl
 
@@ -41,9 +41,11 @@ dropped_is inside old new moment bytes reason view arrives left closed =
       command = ap (arrival_commands held) (sym arrives);
       held = record {
         own = ap (λ (e : End). e.own) left ∙ ap (λ a. (stepped held a).own) arrives;
+        busy = ap (λ (e : End). e.busy) left ∙ ap (λ a. (stepped held a).busy) arrives;
+        window = ap (λ (e : End). e.rows.window) left ∙ ap (λ a. (stepped held a).window) arrives;
         keep = ap (λ (e : End). e.keep) left ∙ ap (λ a. (stepped held a).keep) arrives;
         open_messages = ap (λ (e : End). e.open_messages) left ∙ open_is inside.end (request_packet inside.end.own bytes);
-        kept = λ source id. ap (λ (e : End). kept_in e.rows source id) left ∙ ap (λ a. (stepped held a).kept source id) arrives;
+        kept = λ source. ap (λ (e : End). kept_in e.rows source) left ∙ ap (λ a. (stepped held a).kept source) arrives;
         state = refl;
         serves_from = ap (λ (e : End). e.serves_from) left ∙ ap (λ a. (stepped held a).serves_from) arrives;
         last = ap (λ (e : End). e.last) left;

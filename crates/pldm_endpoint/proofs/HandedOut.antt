@@ -1,6 +1,7 @@
 -- What an endpoint is after the command of a fresh request was handed out.
 use Rattle.std.specs.FinMap as map
-use Rattle.std.proofs.Common.{◌≡◌, ◌≢◌, ℕ, ◌+◌, Bool, true, false, cond, not, ◌<◌, nat_le, ◌&&◌, ◌||◌, ◌==◌, List, [], ◌∷◌, length, Option, Some, None, is_some, option_map, IsSome, if◌then◌else◌, refl, sym, ap, ◌∙◌, subst, arith}
+use Rattle.std.proofs.Common.{◌≡◌, ℕ, ◌+◌, Bool, true, false, cond, not, ◌<◌, nat_le, ◌&&◌, ◌||◌, ◌==◌, List, [], ◌∷◌, length, Option, Some, None, is_some, option_map, IsSome, if◌then◌else◌, refl, sym, ap, ◌∙◌, subst, arith}
+use Rattle.std.specs.Prelude.{take}
 use Rattle.std.proofs.lemmas.Bool.{leb-false, leb-true}
 use Rattle.pldm_wire.specs.Headers.{id_at}
 use Rattle.pldm_wire.specs.declared.assigned.TheConstants.{INSTANCE_IDS}
@@ -9,43 +10,63 @@ use Rattle.pldm_responder.specs.Arrivals.{Whole}
 use Rattle.pldm_responder.specs.Asked.{gives, listed}
 use Rattle.pldm_responder.specs.Ends.{AreSameRows, End, GetsRow, IsSameEnd, count_with, has_row}
 use Rattle.pldm_responder.specs.Events.{Message}
-use Rattle.pldm_responder.specs.Held.{Held, IsHeld}
+use Rattle.pldm_responder.specs.Held.{Entry, Held, IsHeld, id_in}
 use Rattle.pldm_responder.specs.Looking.{end_finished, message_at}
 use Rattle.pldm_responder.specs.Performing.{commands_of}
+use Rattle.pldm_responder.specs.Recency.{renewed}
 use Rattle.pldm_responder.specs.Requested.{Requested}
 use Rattle.pldm_responder.specs.Reserving.{IsRoomFor, IsWithinSources, is_past_sources}
-use Rattle.pldm_responder.specs.Slots.{Row, Rows, row_of, source_count}
+use Rattle.pldm_responder.specs.Slots.{Answers, Rows, answers_in, kept_in, row_of, source_count}
 use Rattle.pldm_responder.specs.Steps.{arrival_commands, arrival_held, message_outcome, performs}
-use Rattle.pldm_responder.proofs.RowsAdded.{same_rows_keep}
 use Rattle.pldm_endpoint.specs.Receiving.{HasServed}
 use Rattle.pldm_endpoint.specs.Refusing.{is_full, refused_fresh, refused_while}
 use Rattle.pldm_endpoint.specs.RequestKeys.{numbered, request_key_of}
-use Rattle.pldm_endpoint.specs.TwoSteps.{ArePending, EndpointView, command_at, handle_of, held_in, kept_by, pending_by, step_by, unasked}
+use Rattle.pldm_endpoint.specs.TwoSteps.{ArePending, EndpointView, command_at, handle_of, held_in, kept_by, pending_by, step_by, unasked, waiting}
 use Rattle.pldm_endpoint.specs.declared.pending_commands.PendingCommand.{PendingCommand}
 use Rattle.pldm_endpoint.specs.declared.step.ReceiveRefusal.{ReceiveRefusal}
 use Rattle.pldm_endpoint.specs.declared.step.MessageStep.TheVariants.{Perform}
-use Rattle.pldm_endpoint.proofs.PendingGlue.{just_put, more_rows_pending, pending_with}
+use Rattle.pldm_endpoint.proofs.PendingGlue.{just_put, pending_with}
 
--- ---- the end gets room for the source, and the request is ended
-module _ (old reserved with_room finished : End) (moment : ℕ) (r : Requested) (same : IsSameEnd reserved old)
+-- ---- the end gets room for the source, an answer is kept in front, and the request is ended
+module _ (old reserved with_room kept finished : End) (moment : ℕ) (r : Requested) (entry : Entry) (same : IsSameEnd reserved old)
     (gets : GetsRow r.source with_room.rows reserved.rows) (rest : with_room ≡ record reserved { rows = with_room.rows })
-    (done : finished ≡ end_finished with_room moment r) where
-  rows_are : finished.rows ≡ with_room.rows
+    (front : (other : ℕ) → kept_in kept.rows other ≡ (if r.source == other then take with_room.rows.window (renewed id_in entry (kept_in with_room.rows other)) else kept_in with_room.rows other))
+    (window : kept.rows.window ≡ with_room.rows.window) (has : (other : ℕ) → has_row kept.rows other ≡ has_row with_room.rows other) (count : source_count kept.rows ≡ source_count with_room.rows)
+    (rest_kept : kept ≡ record with_room { rows = kept.rows }) (done : finished ≡ end_finished kept moment r) where
+  rows_are : finished.rows ≡ kept.rows
   rows_are = ap (λ (e : End). e.rows) done
 
-  pub gets_row : GetsRow r.source finished.rows old.rows
-  gets_row = subst (λ rows. GetsRow r.source rows old.rows) (sym rows_are) (record {
-    kept = λ other id. gets.kept other id ∙ same_rows_keep reserved.rows old.rows same.rows other id;
-    rows = λ other. gets.rows other ∙ ap (λ t. is_some t || r.source == other) (same.rows.rows other);
-    sources =
-        gets.sources
-        ∙ ap (λ t. cond (is_some t) (source_count reserved.rows) (source_count reserved.rows + 1)) (same.rows.rows r.source)
-        ∙ ap (λ n. cond (has_row old.rows r.source) n (n + 1)) same.rows.sources;
-  })
+  window_was : with_room.rows.window ≡ old.rows.window
+  window_was = gets.window ∙ same.rows.window
+
+  kept_was : (other : ℕ) → kept_in with_room.rows other ≡ kept_in old.rows other
+  kept_was other = gets.kept other ∙ ap answers_in (same.rows.rows other)
+
+  pub is_in_front : (other : ℕ) → kept_in finished.rows other ≡ (if r.source == other then take old.rows.window (renewed id_in entry (kept_in old.rows other)) else kept_in old.rows other)
+  is_in_front other =
+      ap (λ rows. kept_in rows other) rows_are
+      ∙ front other
+      ∙ (λ i. if r.source == other then take (window_was i) (renewed id_in entry (kept_was other i)) else kept_was other i)
+
+  pub window_is : finished.rows.window ≡ old.rows.window
+  window_is = ap (λ (rows : Rows). rows.window) rows_are ∙ window ∙ window_was
+
+  pub has_rows : (other : ℕ) → has_row finished.rows other ≡ (has_row old.rows other || r.source == other)
+  has_rows other =
+      ap (λ rows. has_row rows other) rows_are ∙ has other ∙ gets.rows other
+      ∙ ap (λ t. is_some t || r.source == other) (same.rows.rows other)
+
+  pub sources_are : source_count finished.rows ≡ count_with old.rows r.source
+  sources_are =
+      ap source_count rows_are ∙ count
+      ∙ gets.sources
+      ∙ ap (λ t. cond (is_some t) (source_count reserved.rows) (source_count reserved.rows + 1)) (same.rows.rows r.source)
+      ∙ ap (λ n. cond (has_row old.rows r.source) n (n + 1)) same.rows.sources
 
   pub finished_is : record finished { rows = old.rows } ≡ end_finished old moment r
   finished_is =
       ap (λ (e : End). record e { rows = old.rows }) done
+      ∙ ap (λ (e : End). end_finished (record e { rows = old.rows }) moment r) rest_kept
       ∙ ap (λ (e : End). end_finished (record e { rows = old.rows }) moment r) rest
       ∙ ap (λ (e : End). end_finished e moment r) same.same
 
@@ -54,7 +75,7 @@ room_by : (full past : Bool) → past ≡ false → (full && past) ≡ false
 room_by true past h = h
 room_by false past h = refl
 
-not_past : (rows : Rows) (max source : ℕ) (row : Option Row) → IsRoomFor rows source row → IsWithinSources rows max row → is_past_sources rows max source ≡ false
+not_past : (rows : Rows) (max source : ℕ) (row : Option Answers) → IsRoomFor rows source row → IsWithinSources rows max row → is_past_sources rows max source ≡ false
 not_past rows max source None some within = ap (λ t. not t && nat_le max (source_count rows)) some
 not_past rows max source (Some row) room within = room_by (not (has_row rows source)) (nat_le max (source_count rows)) (beyond max (source_count rows) within)
   where
@@ -65,7 +86,7 @@ not_past rows max source (Some row) room within = room_by (not (has_row rows sou
         by_test false h = refl
         by_test true h = absurd (omega (arith, lt, leb-true max count h))
 
-pub room_is_within : (new old : Rows) (max source : ℕ) (row : Option Row) → AreSameRows new old → IsRoomFor new source row → IsWithinSources new max row → is_past_sources old max source ≡ false
+pub room_is_within : (new old : Rows) (max source : ℕ) (row : Option Answers) → AreSameRows new old → IsRoomFor new source row → IsWithinSources new max row → is_past_sources old max source ≡ false
 room_is_within new old max source row same room within =
     ap (λ r. not (is_some r) && nat_le max (source_count old)) (sym (same.rows source))
     ∙ ap (λ n. not (has_row new source) && nat_le max n) (sym same.sources)
@@ -85,7 +106,9 @@ module _ (old new : EndpointView) (moment : ℕ) (r : Requested) (command : Comm
     (free : map.get old.pending (request_key_of (message_at moment r)) ≡ None)
     (fresh : performs (held_in old) (message_at moment r) ≡ true) (asked : commands_of r.bytes ≡ command ∷ [])
     (vacant : is_full old ≡ false) (within : is_past_sources old.end.rows old.end.bounds.sources r.source ≡ false)
-    (gets : GetsRow r.source new.end.rows old.end.rows) (rest : record new.end { rows = old.end.rows } ≡ end_finished old.end moment r)
+    (front : (source : ℕ) → kept_in new.end.rows source ≡ (if r.source == source then take old.end.rows.window (renewed id_in (waiting (message_at moment r)) (kept_in old.end.rows source)) else kept_in old.end.rows source))
+    (window : new.end.rows.window ≡ old.end.rows.window) (has : (source : ℕ) → has_row new.end.rows source ≡ (has_row old.end.rows source || r.source == source))
+    (sources : source_count new.end.rows ≡ count_with old.end.rows r.source) (rest : record new.end { rows = old.end.rows } ≡ end_finished old.end moment r)
     (pending_is : new.pending ≡ map.insert old.pending (request_key_of (message_at moment r)) (command_at (message_at moment r) old.count command))
     (count_is : new.count ≡ old.count + 1) (most_is : new.max_pending ≡ old.max_pending) where
   abbrev m : Message
@@ -113,11 +136,13 @@ module _ (old new : EndpointView) (moment : ℕ) (r : Requested) (command : Comm
     some = tt;
     command = found;
     held = subst (λ (h : Held (Unit {0})). IsHeld (held_in new) (record h { open_messages = (end_finished old.end moment r).open_messages; last = moment }))
-        (sym (ap (λ commands. kept_by commands (arrival_held (gives unasked) (held_in old) (Whole m)) (held_in old)) commands_are)) (record {
+        (sym (ap (λ commands. kept_by commands m (arrival_held (gives unasked) (held_in old) (Whole m)) (held_in old)) commands_are)) (record {
           own = ap (λ (e : End). e.own) rest;
+          busy = ap (λ (e : End). e.busy) rest;
+          window = window;
           keep = ap (λ (e : End). e.keep) rest;
           open_messages = ap (λ (e : End). e.open_messages) rest;
-          kept = gets.kept;
+          kept = front;
           state = refl;
           serves_from = ap (λ (e : End). e.serves_from) rest;
           last = ap (λ (e : End). e.last) rest;
@@ -125,8 +150,8 @@ module _ (old new : EndpointView) (moment : ℕ) (r : Requested) (command : Comm
     pending = pending_is ∙ sym (ap (pending_by old.pending old.count (Some m)) commands_are);
     count = count_is ∙ sym (ap (λ (commands : List Command). old.count + length commands) commands_are);
     room = record {
-      each = λ source. gets.rows source ∙ sym (ap (λ t. has_row old.end.rows source || t && r.source == source) fresh);
-      sources = gets.sources ∙ sym (ap (λ t. if t then count_with old.end.rows r.source else source_count old.end.rows) fresh);
+      each = λ source. has source ∙ sym (ap (λ t. has_row old.end.rows source || t && r.source == source) fresh);
+      sources = sources ∙ sym (ap (λ t. if t then count_with old.end.rows r.source else source_count old.end.rows) fresh);
     };
     settings = record { bounds = ap (λ (e : End). e.bounds) rest; ends_oldest = ap (λ (e : End). e.ends_oldest) rest; max_pending = most_is };
   }
@@ -139,13 +164,13 @@ or_parts false b h = refl
 pub room_for_one : (e : EndpointView) → is_full e ≡ false → map.len e.pending < e.max_pending
 room_for_one e vacant = leb-false e.max_pending (map.len e.pending) (or_parts (nat_le e.max_pending (map.len e.pending)) _ vacant)
 
-pub pending_out : (old : EndpointView) (new : End) (moment : ℕ) (r : Requested) (command : Command) → new.own ≡ old.end.own → r.source ≢ old.end.own
+pub pending_out : (old : EndpointView) (new : End) (moment : ℕ) (r : Requested) (command : Command)
     → commands_of r.bytes ≡ command ∷ [] → id_at r.bytes < INSTANCE_IDS → map.get old.pending (request_key_of (message_at moment r)) ≡ None → is_full old ≡ false
-    → GetsRow r.source new.rows old.end.rows → IsSome (row_of new.rows r.source) → ArePending old.end old.pending old.count old.max_pending
+    → ((source : ℕ) → kept_in new.rows source ≡ (if r.source == source then take old.end.rows.window (renewed id_in (waiting (message_at moment r)) (kept_in old.end.rows source)) else kept_in old.end.rows source))
+    → ArePending old.end old.pending old.count old.max_pending
     → ArePending new (map.insert old.pending (request_key_of (message_at moment r)) (command_at (message_at moment r) old.count command)) (old.count + 1) old.max_pending
-pending_out old new moment r command own other asked range free vacant gets some are =
+pending_out old new moment r command asked range free vacant front are =
     let m = message_at moment r in
-    pending_with new old.pending (old.count + 1) old.max_pending (request_key_of m) (command_at m old.count command)
-    (record { instance = range; command = asked; id = refl; before = omega arith; room = some; other = λ same. other (same ∙ own) })
-    free (room_for_one old vacant)
-    (more_rows_pending new old.end old.pending old.count (old.count + 1) old.max_pending r.source own gets (omega arith) are)
+    pending_with old.end new old.pending old.count old.max_pending old.end.rows.window (request_key_of m) (command_at m old.count command) (waiting m)
+    (record { instance = range; command = asked; id = refl; before = omega arith }) refl
+    free (room_for_one old vacant) front are

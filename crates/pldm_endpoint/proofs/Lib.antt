@@ -1,10 +1,11 @@
 pub mod AnswersInTurn
 pub mod AskedInTurn
 pub mod KeyOrder
-pub mod NumberSearches
 pub mod PendingGlue
 pub mod AnswersGiven
 pub mod EndedMessages
 pub mod HandedOut
 pub mod RefusedRequests
 pub mod AnswersKept
+pub mod QuietRequests
+pub mod RoundRobin

@@ -48,7 +48,7 @@ module _ (old new : EndpointView) (moment : ℕ) (bytes : List ℕ) (r : Request
       by_reason (inl of_memory) = inl of_memory
       by_reason (inr because) = inr (sym same_reason ∙ because)
 
-      by_room : performs (held_in old) (message_at moment r) ≡ true → ((id : ℕ) → (held_in old).kept r.source id ≡ None) ⊎ ((command : Command) × (commands_of r.bytes ≡ command ∷ [])) → NeedsMemory (held_in old) true moment bytes ⊎ IsCommanded old moment bytes
+      by_room : performs (held_in old) (message_at moment r) ≡ true → ((held_in old).kept r.source ≡ []) ⊎ ((command : Command) × (commands_of r.bytes ≡ command ∷ [])) → NeedsMemory (held_in old) true moment bytes ⊎ IsCommanded old moment bytes
       by_room fresh (inl none) = inl (whole_needs (held_in old) true moment (request_packet old.end.own bytes) (message_at moment r) is fresh (λ steady. none))
       by_room fresh (inr asked) = inr (asked.0, commanded fresh asked.0 asked.1)
 

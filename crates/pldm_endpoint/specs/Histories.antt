@@ -2,16 +2,19 @@
 -- that the device gave, each to the command that it was asked for. Each command that is handed out has a number, that of
 -- those before it, and `answers` says what the device answers to it, sooner or later.
 use Rattle.std.specs.FinMap as map
-use Rattle.std.specs.Prelude.{◌≡◌, ℕ, ◌+◌, List, [], ◌∷◌, Option, Some, None, Err}
+use Rattle.std.specs.Prelude.{◌≡◌, ℕ, ◌+◌, List, [], ◌∷◌, Option, Some, None, IfSome, Err}
+use Rattle.std.specs.Prelude.{map as list_map}
 use Rattle.mctp_assembly.specs.declared.key.Key.{Key}
+use Rattle.pldm_wire.specs.Headers.{id_at}
 use Rattle.pldm_wire.specs.declared.answer.Answer.{Answer}
+use Rattle.pldm_wire.specs.declared.busy_time.BusyTime.{BusyTime}
 use Rattle.pldm_wire.specs.declared.command.Command.{Command}
 use Rattle.pldm_platform.specs.declared.platform.ReadingFault.TheVariants.{NoSuchSensor}
 use Rattle.pldm_responder.specs.Asked.{gives, over}
 use Rattle.pldm_responder.specs.Calls.{Call, Received, Restart, Ended, outcome}
 use Rattle.pldm_responder.specs.Events.{Message}
 use Rattle.pldm_responder.specs.OutsideAnswers.{outcome_of_answer}
-use Rattle.pldm_responder.specs.Held.{Entry, Held, IsHeld, held_at_first}
+use Rattle.pldm_responder.specs.Held.{Entry, Held, IsHeld, held_at_first, id_in}
 use Rattle.pldm_responder.specs.Laws.{IsLeftBy}
 use Rattle.pldm_responder.specs.OpenOrder.{ended_held}
 use Rattle.pldm_responder.specs.Performing.{Rules}
@@ -30,20 +33,28 @@ in_turn answers = record {
 }
 
 -- what is kept for a request that the device performs, once it has answered
-abbrev pub entry_to_be : (ℕ → Answer) → Option PendingCommand → Option Entry → Option Entry
+abbrev pub entry_to_be : (ℕ → Answer) → Option PendingCommand → Entry → Entry
 entry_to_be answers None entry = entry
-entry_to_be answers (Some a) entry = Some (entry_given a (answers a.number))
+entry_to_be answers (Some a) entry = entry_given a (answers a.number)
 
 -- what is held, once the device has answered all that it performs
 abbrev pub to_be : (ℕ → Answer) → PendingCommands → Held (Unit {0}) → Held (Unit {0})
 to_be answers pending held = record held {
-  kept = λ source id. entry_to_be answers (map.get pending (request_key source id)) (held.kept source id);
+  kept = λ source.
+      list_map (λ entry. entry_to_be answers (map.get pending (request_key source (id_in entry))) entry)
+      (held.kept source);
 }
 
+-- each command is pending under the instance ID of its request
+abbrev pub AreUnderTheirIds : PendingCommands → Type 0
+AreUnderTheirIds pending =
+    (source id : ℕ) → IfSome (map.get pending (request_key source id)) (λ a. id_at a.request ≡ id)
+
 -- what is held is what the calls leave, but for the answers to what the device performs
-abbrev pub IsLeftInTurn : ℕ → ℕ → (ℕ → Answer) → ℕ → PendingCommands → Held (Unit {0}) → List (Call ℕ) → Type 0
-IsLeftInTurn own keep answers count pending held calls =
-    IsLeftBy (in_turn answers) own keep 0 (over count (to_be answers pending held)) calls
+pub record IsLeftInTurn (own : ℕ) (busy : BusyTime) (window keep : ℕ) (answers : ℕ → Answer) (count : ℕ)
+    (pending : PendingCommands) (held : Held (Unit {0})) (calls : List (Call ℕ)) : Type 0 where
+  pub ids : AreUnderTheirIds pending
+  pub left : IsLeftBy (in_turn answers) own busy window keep 0 (over count (to_be answers pending held)) calls
 
 -- no command of this request's source and instance ID is with the device
 abbrev pub IsFree : PendingCommands → Option Message → Type 0
@@ -53,30 +64,30 @@ IsFree pending (Some m) = map.get pending (request_key_of m) ≡ None
 -- bytes that are not refused leave what the longer list leaves, whether a command is asked for them or not
 abbrev pub ReceivedInTurn : Type 0
 ReceivedInTurn =
-    (own keep : ℕ) (answers : ℕ → Answer) (count : ℕ) (pending : PendingCommands) (held : Held (Unit {0}))
+    (own : ℕ) (busy : BusyTime) (window keep : ℕ) (answers : ℕ → Answer) (count : ℕ) (pending : PendingCommands) (held : Held (Unit {0}))
     (calls : List (Call ℕ)) (moment : ℕ) (bytes : List ℕ)
-    → IsLeftInTurn own keep answers count pending held calls → IsFree pending (request_in held moment bytes)
-    → IsLeftInTurn own keep answers (count_after held moment bytes count) (pending_after held moment bytes pending count)
+    → IsLeftInTurn own busy window keep answers count pending held calls → IsFree pending (request_in held moment bytes)
+    → IsLeftInTurn own busy window keep answers (count_after held moment bytes count) (pending_after held moment bytes pending count)
     (held_after held moment bytes) (Received moment bytes ∷ calls)
 
 -- where none is asked, they return what looking back over all calls says
 abbrev pub UnaskedLooksBack : Type 0
 UnaskedLooksBack =
-    (own keep : ℕ) (answers : ℕ → Answer) (count : ℕ) (pending : PendingCommands) (held : Held (Unit {0}))
+    (own : ℕ) (busy : BusyTime) (window keep : ℕ) (answers : ℕ → Answer) (count : ℕ) (pending : PendingCommands) (held : Held (Unit {0}))
     (calls : List (Call ℕ)) (moment : ℕ) (bytes : List ℕ)
-    → IsLeftInTurn own keep answers count pending held calls → IsFree pending (request_in held moment bytes)
+    → IsLeftInTurn own busy window keep answers count pending held calls → IsFree pending (request_in held moment bytes)
     → received_commands held moment bytes ≡ []
-    → received_outcome (gives unasked) held moment bytes ≡ outcome (in_turn answers) own keep 0 calls moment bytes
+    → received_outcome (gives unasked) held moment bytes ≡ outcome (in_turn answers) own busy window keep 0 calls moment bytes
 
 -- where one is, its answer is what looking back says that these bytes return
 abbrev pub AskedLooksBack : Type 0
 AskedLooksBack =
-    (own keep : ℕ) (answers : ℕ → Answer) (count : ℕ) (pending : PendingCommands) (held : Held (Unit {0}))
+    (own : ℕ) (busy : BusyTime) (window keep : ℕ) (answers : ℕ → Answer) (count : ℕ) (pending : PendingCommands) (held : Held (Unit {0}))
     (calls : List (Call ℕ)) (moment : ℕ) (bytes : List ℕ) (m : Message) (command : Command)
-    → IsLeftInTurn own keep answers count pending held calls → IsFree pending (request_in held moment bytes)
+    → IsLeftInTurn own busy window keep answers count pending held calls → IsFree pending (request_in held moment bytes)
     → request_in held moment bytes ≡ Some m → received_commands held moment bytes ≡ command ∷ []
     → outcome_of_answer held.own m.source m.tag m.bytes (answers count)
-    ≡ outcome (in_turn answers) own keep 0 calls moment bytes
+    ≡ outcome (in_turn answers) own busy window keep 0 calls moment bytes
 
 -- the two steps, one right after the other, are what a responder does whose platform gives this answer
 abbrev pub TwoStepsAreOne : Type 0
@@ -92,38 +103,38 @@ TwoStepsAreOne =
 -- an answer of the device leaves what the calls before leave: it changes no more than that it is there
 abbrev pub AnsweredInTurn : Type 0
 AnsweredInTurn =
-    (own keep : ℕ) (answers : ℕ → Answer) (count : ℕ) (pending : PendingCommands) (held : Held (Unit {0}))
+    (own : ℕ) (busy : BusyTime) (window keep : ℕ) (answers : ℕ → Answer) (count : ℕ) (pending : PendingCommands) (held : Held (Unit {0}))
     (calls : List (Call ℕ)) (handle : CommandHandle) (a : PendingCommand)
-    → IsLeftInTurn own keep answers count pending held calls → pending_at pending handle ≡ Some a
-    → IsLeftInTurn own keep answers count (map.remove pending (request_key handle.source handle.id))
+    → IsLeftInTurn own busy window keep answers count pending held calls → pending_at pending handle ≡ Some a
+    → IsLeftInTurn own busy window keep answers count (map.remove pending (request_key handle.source handle.id))
     (answered_held held handle (answers handle.number) (Some a)) calls
 
 -- a restart: the commands that are pending count as performed, with answers that nobody got
 abbrev pub RestartedInTurn : Type 0
 RestartedInTurn =
-    (own keep : ℕ) (answers : ℕ → Answer) (count : ℕ) (pending : PendingCommands) (held : Held (Unit {0}))
+    (own : ℕ) (busy : BusyTime) (window keep : ℕ) (answers : ℕ → Answer) (count : ℕ) (pending : PendingCommands) (held : Held (Unit {0}))
     (calls : List (Call ℕ)) (moment : ℕ)
-    → IsLeftInTurn own keep answers count pending held calls
-    → IsLeftInTurn own keep answers count map.empty (restarted_held held moment) (Restart moment ∷ calls)
+    → IsLeftInTurn own busy window keep answers count pending held calls
+    → IsLeftInTurn own busy window keep answers count map.empty (restarted_held held moment) (Restart moment ∷ calls)
 
 -- an open message that ends: to its sender it is a lost packet
 abbrev pub EndedInTurn : Type 0
 EndedInTurn =
-    (own keep : ℕ) (answers : ℕ → Answer) (count : ℕ) (pending : PendingCommands) (held : Held (Unit {0}))
+    (own : ℕ) (busy : BusyTime) (window keep : ℕ) (answers : ℕ → Answer) (count : ℕ) (pending : PendingCommands) (held : Held (Unit {0}))
     (calls : List (Call ℕ)) (key : Key)
-    → IsLeftInTurn own keep answers count pending held calls
-    → IsLeftInTurn own keep answers count pending (ended_held (Some key) held) (Ended key ∷ calls)
+    → IsLeftInTurn own busy window keep answers count pending held calls
+    → IsLeftInTurn own busy window keep answers count pending (ended_held (Some key) held) (Ended key ∷ calls)
 
 -- a new endpoint
 abbrev pub NewInTurn : Type 0
 NewInTurn =
-    (own keep : ℕ) (answers : ℕ → Answer)
-    → IsLeftInTurn own keep answers 0 map.empty (held_at_first own keep tt) []
+    (own : ℕ) (busy : BusyTime) (window keep : ℕ) (answers : ℕ → Answer)
+    → IsLeftInTurn own busy window keep answers 0 map.empty (held_at_first own busy window keep tt) []
 
 -- what holds the same is left by the same calls
 abbrev pub SameInTurn : Type 0
 SameInTurn =
-    (own keep : ℕ) (answers : ℕ → Answer) (count : ℕ) (pending : PendingCommands) (new held : Held (Unit {0}))
+    (own : ℕ) (busy : BusyTime) (window keep : ℕ) (answers : ℕ → Answer) (count : ℕ) (pending : PendingCommands) (new held : Held (Unit {0}))
     (calls : List (Call ℕ))
-    → IsHeld new held → IsLeftInTurn own keep answers count pending held calls
-    → IsLeftInTurn own keep answers count pending new calls
+    → IsHeld new held → IsLeftInTurn own busy window keep answers count pending held calls
+    → IsLeftInTurn own busy window keep answers count pending new calls

@@ -6,3 +6,4 @@ pub mod RefusalNames
 pub mod Receiving
 pub mod Histories
 pub mod Turns
+pub mod RoundRobin

@@ -112,7 +112,7 @@ module _ (old : EndpointView) (moment : ℕ) (r : Requested) (new : EndpointView
         IsOfMemory refusal
         → (refused_while old (message_at moment r) (map.get old.pending (request_key_of (message_at moment r))) ≡ None)
         × (performs (held_in old) (message_at moment r) ≡ true)
-        × (((id : ℕ) → (held_in old).kept r.source id ≡ None)
+        × (((held_in old).kept r.source ≡ [])
         ⊎ ((command : Command) × (commands_of r.bytes ≡ command ∷ [])))
     pub same : IsAsBefore new old
 

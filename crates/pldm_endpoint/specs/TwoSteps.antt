@@ -2,7 +2,8 @@
 -- out and pending; the answer of the device then takes the place of what is kept for the request's source and instance
 -- ID.
 use Rattle.std.specs.FinMap as map
-use Rattle.std.specs.Prelude.{◌≡◌, ◌≢◌, ℕ, ◌+◌, ◌<◌, ◌≤◌, ◌&&◌, ◌==◌, List, [], ◌∷◌, length, Option, Some, None, IsSome, IfSome, option_map, if◌then◌else◌, refl}
+use Rattle.std.specs.Prelude.{◌≡◌, ℕ, ◌+◌, ◌<◌, ◌≤◌, ◌==◌, List, [], ◌∷◌, length, take, Option, Some, None, IfSome, option_map, if◌then◌else◌, refl}
+use Rattle.std.specs.List.{All}
 use Rattle.std.specs.Coded.{Coded, code_by, coded×, coded_ℕ}
 use Rattle.pldm_wire.specs.Answers.{IsAnswerTo}
 use Rattle.pldm_wire.specs.Commands.{kind_of}
@@ -11,17 +12,18 @@ use Rattle.pldm_wire.specs.declared.answer.Answer.{Answer}
 use Rattle.pldm_wire.specs.declared.answer.Answer.TheVariants.{Refused}
 use Rattle.pldm_wire.specs.declared.assigned.TheConstants.{ERROR_NOT_READY, INSTANCE_IDS}
 use Rattle.pldm_wire.specs.declared.command.Command.{Command}
-use Rattle.pldm_responder.specs.Arrivals.{Arrival, request_packet}
+use Rattle.pldm_responder.specs.Arrivals.{Arrival, Drop, Part, Whole, request_packet}
 use Rattle.pldm_responder.specs.Asked.{gives, listed}
 use Rattle.pldm_responder.specs.Ends.{End, coded_end, held_by}
 use Rattle.pldm_responder.specs.Events.{Message}
-use Rattle.pldm_responder.specs.Held.{Entry, Held}
+use Rattle.pldm_responder.specs.Held.{Entry, Held, id_in}
 use Rattle.pldm_responder.specs.OutsideAnswers.{message_in, outcome_of_answer}
 use Rattle.pldm_responder.specs.Performing.{commands_of, reply}
-use Rattle.pldm_responder.specs.Slots.{row_of}
+use Rattle.pldm_responder.specs.Recency.{renewed, replaced}
+use Rattle.pldm_responder.specs.Slots.{kept_in}
 use Rattle.pldm_responder.specs.Steps.{arrival_commands, arrival_held, open_after, received_arrival, received_commands, received_outcome}
 use Rattle.pldm_responder.specs.declared.outcome.Outcome.{Outcome}
-use Rattle.pldm_endpoint.specs.RequestKeys.{PendingCommands, coded_request_key, pending_at, request_key_of}
+use Rattle.pldm_endpoint.specs.RequestKeys.{PendingCommands, coded_request_key, pending_at, request_key, request_key_of}
 use Rattle.pldm_endpoint.specs.contracts.pending_commands.PendingCommand as command_type
 use Rattle.pldm_endpoint.specs.declared.pending_commands.PendingCommand.{PendingCommand}
 use Rattle.pldm_endpoint.specs.declared.pending_commands.RequestKey.{RequestKey}
@@ -49,19 +51,23 @@ coded_endpoint =
 abbrev pub held_in : EndpointView → Held (Unit {0})
 held_in e = held_by e.end
 
--- the request of a pending command is known, and there is room for its answer
-pub record IsWithDevice (end : End) (count : ℕ) (key : RequestKey) (a : PendingCommand) : Type 0 where
+-- the request of a pending command is known
+pub record IsWithDevice (count : ℕ) (key : RequestKey) (a : PendingCommand) : Type 0 where
   pub instance : key.id < INSTANCE_IDS
   pub command : commands_of a.request ≡ a.command ∷ []
   pub id : id_at a.request ≡ key.id
   pub before : a.number < count
-  pub room : IsSome (row_of end.rows key.source)
-  pub other : key.source ≢ end.own
+
+-- a kept answer is there, or its command is pending
+abbrev pub IsThereOrPending : PendingCommands → ℕ → Entry → Type 0
+IsThereOrPending pending source entry =
+    map.get pending (request_key source (id_in entry)) ≡ None → 0 < length entry.answer
 
 -- that is so of all, and they are no more than there may be
 pub record ArePending (end : End) (pending : PendingCommands) (count max_pending : ℕ) : Type 0 where
-  pub each : (key : RequestKey) → IfSome (map.get pending key) (IsWithDevice end count key)
+  pub each : (key : RequestKey) → IfSome (map.get pending key) (IsWithDevice count key)
   pub few : map.len pending ≤ max_pending
+  pub kept : (source : ℕ) → All (IsThereOrPending pending source) (kept_in end.rows source)
 
 -- ---- a packet that comes
 
@@ -95,15 +101,28 @@ pending_by pending count (Some m) [] = pending
 pending_by pending count (Some m) (command ∷ commands) =
     map.insert pending (request_key_of m) (command_at m count command)
 
--- nothing is kept for it until the device has answered
-abbrev pub kept_by : {S : Type 0} → List Command → Held S → Held S → Held S
-kept_by [] answered held = answered
-kept_by (command ∷ commands) answered held = held
+-- its place among what is kept for its source is taken, and the answer is to come
+abbrev pub waiting : Message → Entry
+waiting m = record { moment = m.moment; bytes = m.bytes; answer = [] }
+
+abbrev pub with_waiting : {S : Type 0} → Held S → Message → Held S
+with_waiting held m = record held {
+  kept = λ source.
+      if m.source == source then take held.window (renewed id_in (waiting m) (held.kept source))
+      else held.kept source;
+}
+
+-- `answered` is what is held where the request was answered at once
+abbrev pub kept_by : {S : Type 0} → List Command → Message → (answered held : Held S) → Held S
+kept_by [] m answered held = answered
+kept_by (command ∷ commands) m answered held = with_waiting held m
 
 module _ (held : Held (Unit {0})) where
   -- what is held after an arrival, but for the open messages and the moment
   abbrev pub stepped : Arrival → Held (Unit {0})
-  stepped a = kept_by (arrival_commands held a) (arrival_held (gives unasked) held a) held
+  stepped (Drop reason) = held
+  stepped Part = held
+  stepped (Whole m) = kept_by (arrival_commands held (Whole m)) m (arrival_held (gives unasked) held (Whole m)) held
 
   module _ (moment : ℕ) (bytes : List ℕ) where
     -- the request that the bytes complete
@@ -146,7 +165,7 @@ IsAnsweredBy own handle given None outcome = ⊥
 IsAnsweredBy own handle given (Some a) outcome =
     outcome ≡ outcome_of_answer own handle.source a.tag a.request given
 
--- and is kept for that request, from its moment on
+-- and is kept for that request, from its moment on, in the place that the request took, if that is kept still
 abbrev pub entry_given : PendingCommand → Answer → Entry
 entry_given a given = record {
   moment = a.moment;
@@ -157,6 +176,6 @@ entry_given a given = record {
 abbrev pub answered_held : {S : Type 0} → Held S → CommandHandle → Answer → Option PendingCommand → Held S
 answered_held held handle given None = held
 answered_held held handle given (Some a) = record held {
-  kept = λ source id.
-      if handle.source == source && handle.id == id then Some (entry_given a given) else held.kept source id;
+  kept = λ source.
+      if handle.source == source then replaced id_in (entry_given a given) (held.kept source) else held.kept source;
 }

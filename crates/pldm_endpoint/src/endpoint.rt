@@ -2,14 +2,13 @@
 
 ghost use Rattle.std.specs.FinMap as map;
 ghost use Rattle.std.specs.Prelude.{◌≡◌, ◌≢◌, ◌≤◌, ◌*◌, ℕ, true, List, [], ◌∷◌, Ok, None, option_map, IfOk, IfErr, IsErrOf, IsSome, OnErr};
-ghost use Rattle.pldm_wire.specs.declared.assigned.TheConstants.{INSTANCE_IDS};
 ghost use Rattle.pldm_responder.specs.Answering.{HasReply, answering};
 ghost use Rattle.pldm_responder.specs.Counts.{CountsKept};
 ghost use Rattle.pldm_responder.specs.Held.{IsHeld, held_at_first};
 ghost use Rattle.pldm_responder.specs.Looking.{message_at};
 ghost use Rattle.pldm_responder.specs.Performing.{commands_of};
 ghost use Rattle.pldm_responder.specs.Slots.{source_count};
-ghost use Rattle.pldm_responder.specs.Steps.{performs, restarted_held};
+ghost use Rattle.pldm_responder.specs.Steps.{kept_for, performs, restarted_held};
 ghost use Rattle.pldm_endpoint.specs.Receiving.{HasAnswered, HasReceived, HasSameSettings, HasServed, IsNotServed, IsRefused, IsRefusedBy};
 ghost use Rattle.pldm_endpoint.specs.Refusing.{is_full};
 ghost use Rattle.pldm_endpoint.specs.RequestKeys.{pending_at, request_key_of};
@@ -19,10 +18,10 @@ ghost use Rattle.pldm_endpoint.specs.TwoSteps.{IsItsAnswer, held_in};
 use crate::pending_commands::{PendingCommand, PendingCommands, RequestKey};
 use crate::request_bytes::RequestBytes;
 use crate::step::{AnswerRefusal, CommandHandle, MessageStep, ReceiveRefusal, Step, is_answer_to};
-use mctp_packet::{Body, Eid, Keep, Moment, Route};
+use mctp_packet::{Body, Eid, Moment, Route};
 use pldm_responder::{
-    AnsweringEnd, Arrived, Bounds, MessageOutcome, Outcome, Request, Standing, not_performed,
-    performed, refuse,
+    AnsweringEnd, Arrived, Bounds, Keeping, MessageOutcome, Outcome, Request, Standing,
+    not_performed, performed, refuse,
 };
 use pldm_wire::{Answer, Code, Command, read_command};
 use std::alloc::Global;
@@ -57,11 +56,17 @@ impl Model for Endpoint {
 }
 
 impl Endpoint {
-    /// The endpoint `own`, which keeps each answer for `keep` and at a time no more than `bounds` allow. Where one more
-    /// message would be open than that, the one that began first ends, as if a packet of it were lost. At most
-    /// `max_pending` commands are pending at a time. Its last moment is 0.
-    pub fn new(alloc: Global, own: Eid, keep: Keep, bounds: Bounds, max_pending: usize) -> Endpoint
-        ensures held { IsHeld (held_in result) (held_at_first own keep tt) }
+    /// The endpoint `own`, which keeps answers so, and at a time no more than `bounds` allow. Where one more message would
+    /// be open than that, the one that began first ends, as if a packet of it were lost. At most `max_pending` commands
+    /// are pending at a time. Its last moment is 0.
+    pub fn new(
+        alloc: Global,
+        own: Eid,
+        keeping: Keeping,
+        bounds: Bounds,
+        max_pending: usize,
+    ) -> Endpoint
+        ensures held { IsHeld (held_in result) (held_at_first own keeping.busy keeping.window keeping.keep tt) }
         ensures bounds { result.end.bounds ≡ bounds }
         ensures ends_oldest { result.end.ends_oldest ≡ true }
         ensures max_pending { result.max_pending ≡ max_pending }
@@ -71,7 +76,7 @@ impl Endpoint {
     {
         Endpoint {
             alloc,
-            end: AnsweringEnd::new(alloc, own, keep, bounds, true),
+            end: AnsweringEnd::new(alloc, own, keeping, bounds, true),
             pending: PendingCommands::new(alloc),
             count: 0,
             max_pending,
@@ -93,11 +98,11 @@ impl Endpoint {
         self.end.bounds()
     }
 
-    /// How many pairs of a source and an instance ID have a kept answer: at most 32 for each source that
-    /// [`Endpoint::bounds`] allow.
+    /// How many pairs of a source and an instance ID have a kept answer, or a command that is pending: at most the window
+    /// for each source that [`Endpoint::bounds`] allow.
     pub fn kept(&self) -> usize
-        ensures value { CountsKept (held_in self.now).kept result }
-        ensures bounded { result ≤ INSTANCE_IDS * self.now.end.bounds.sources }
+        ensures value { CountsKept (kept_for (held_in self.now)) result }
+        ensures bounded { result ≤ self.now.end.rows.window * self.now.end.bounds.sources }
     {
         self.end.kept()
     }
@@ -253,6 +258,7 @@ impl Endpoint {
         };
         self.pending.insert(RequestKey { source, id }, pending)?;
         self.end.put_room(request, reserved);
+        self.end.keep(now, request, &[]); // its answer is to come
         self.end.finish(now, request);
         self.count = number + 1;
         Ok(MessageStep::Perform(CommandHandle { source, id, number }))
@@ -276,8 +282,7 @@ impl Endpoint {
         let reserved = self.end.reserve(request)?;
         refuse(request.read(), code, reply);
         self.end.put_room(request, reserved);
-        let (source, id) = (request.source(), request.id());
-        self.end.keep(source, id, now, request.bytes(), reply);
+        self.end.keep(now, request, reply);
         self.end.finish(now, request);
         let route = request.way_back(self.end.own());
         Ok(MessageStep::Done(performed(false, route)))
@@ -292,7 +297,7 @@ impl Endpoint {
 
     /// Takes the device's answer to the command that is pending under this handle, and gives the packets of it. They
     /// go to the source of the request that had it performed, on the tag of its packets, and the answer is kept as if
-    /// it had come at that request's moment. It takes no memory.
+    /// it had come at that request's moment: not where the request fell out of the window. It takes no memory.
     ///
     /// # Errors
     ///
@@ -349,7 +354,7 @@ impl Endpoint {
             tag: pending.tag,
         };
         let (moment, bytes) = (pending.moment, pending.request.as_slice());
-        self.end.keep(source, id, moment, bytes, reply);
+        self.end.keep_late(source, id, moment, bytes, reply);
         self.pending.remove(RequestKey { source, id });
         Ok(performed(changed, route))
     }

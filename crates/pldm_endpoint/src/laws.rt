@@ -1,7 +1,10 @@
 //! Laws of an endpoint over any list of its calls: each function does nothing and ensures its law.
 
 ghost use Rattle.pldm_endpoint.specs.Histories.{AnsweredInTurn, AskedLooksBack, EndedInTurn, NewInTurn, ReceivedInTurn, RestartedInTurn, SameInTurn, TwoStepsAreOne, UnaskedLooksBack};
+ghost use Rattle.pldm_endpoint.specs.RoundRobin.{NewInTurnIsFresh};
 ghost use Rattle.pldm_endpoint.specs.Turns.{AnswersItsOrigin, CopiesAreAnsweredAgain, CountsAskings, IsAskedInTurn};
+
+use pldm_platform::Platform;
 
 /// What an endpoint returns and holds after any list of calls is what a responder's looking back says whose
 /// platform gives the answers that the device gave, each to the command that it was asked for; what is held is
@@ -32,3 +35,10 @@ pub fn each_answer_is_to_its_asking()
 {
     mctp_assembly::laws::looks_back();
 }
+
+/// A requester that uses the instance IDs in turn, so that request number n has the instance ID n modulo 32, never gets
+/// for a new request the answer to an earlier one with its instance ID, where at most 31 less the window of the 31
+/// requests before it were lost: the new one is performed, or refused by its code, or refused in the busy time.
+pub fn new_requests_in_turn_are_fresh<P: Platform>()
+    ensures { NewInTurnIsFresh P.State }
+{}

@@ -1,7 +1,7 @@
 use Rattle.std.proofs.Common.{rules}
 use Rattle.std.proofs.lemmas.List.Sorted.{answers_always}
 use Rattle.pldm_endpoint.specs.RequestKeys.{no_command}
-use Rattle.pldm_endpoint.proofs.NumberSearches.{found_by, absent_by}
+use Rattle.pldm_responder.proofs.NumberSearches.{found_by, absent_by}
 use Rattle.pldm_endpoint.proofs.command_list.CommandList.search.Goals as goal
 
 pub returns-clause-found : goal.returns-clause-found

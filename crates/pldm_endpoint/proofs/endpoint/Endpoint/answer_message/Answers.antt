@@ -1,21 +1,25 @@
 use Rattle.std.proofs.Common.{◌≡◌, ℕ, ◌&&◌, ◌==◌, true, false, Some, if◌then◌else◌, ap, sym, subst, ◌∙◌, rules, arith}
 use Rattle.pldm_responder.specs.Answering.{answering}
 use Rattle.pldm_responder.specs.Ends.{End, held_by}
-use Rattle.pldm_responder.specs.Held.{IsHeld}
+use Rattle.pldm_responder.specs.Held.{Entry, IsHeld, id_in}
+use Rattle.pldm_responder.specs.Recency.{replaced}
 use Rattle.pldm_responder.specs.Slots.{kept_in}
 use Rattle.pldm_responder.specs.declared.outcome.MessageOutcome.TheVariants.{Answered}
 use Rattle.pldm_endpoint.specs.RequestKeys.{PendingCommands, pending_at}
 use Rattle.pldm_endpoint.specs.TwoSteps.{ArePending, EndpointView, IsAnsweredBy, answered_held}
 use Rattle.pldm_endpoint.proofs.AnswersKept.{goes_out, is_kept}
-use Rattle.pldm_endpoint.proofs.PendingGlue.{pending_over, pending_without}
+use Rattle.pldm_endpoint.proofs.PendingGlue.{pending_without}
 use Rattle.pldm_endpoint.proofs.endpoint.Endpoint.answer_message.Goals as goal
 
 pub invariant_of-self : goal.invariant_of-self
 invariant_of-self c =
-    subst (λ (pending : PendingCommands). ArePending c.keep.new.self pending c.self.inside.count c.self.inside.max_pending) (sym c.remove.ensures)
-    (pending_without c.keep.new.self c.self.inside.pending c.self.inside.count c.self.inside.max_pending _
-    (pending_over c.self.inside.end c.keep.new.self c.self.inside.pending c.self.inside.count c.self.inside.count c.self.inside.max_pending
-    (ap (λ (e : End). e.own) c.keep.ensures.rest) (λ s some. c.keep.ensures.rows s ∙ some) (omega arith) c.self.invariant))
+    let a = c.in-Some.pending.now in
+    let entry : Entry = record { moment = a.moment; bytes = a.request; answer = c.put_reply-changed.new.reply.items } in
+    let stored : (source : ℕ) → kept_in c.keep_late.new.self.rows source
+    ≡ (if c.args.handle.now.source == source then replaced id_in entry (kept_in c.self.inside.end.rows source) else kept_in c.self.inside.end.rows source) = λ source. search rules in
+    subst (λ (pending : PendingCommands). ArePending c.keep_late.new.self pending c.self.inside.count c.self.inside.max_pending) (sym c.remove.ensures)
+    (pending_without c.self.inside.end c.keep_late.new.self c.self.inside.pending c.self.inside.count c.self.inside.max_pending _ entry
+    (search rules) c.put_reply-changed.ensures.some stored c.self.invariant)
 
 pub returns-clause-answered : goal.returns-clause-answered
 returns-clause-answered c =
@@ -25,11 +29,12 @@ returns-clause-answered c =
     let own = c.args.self.now.end.own in
     let found : pending_at c.args.self.now.pending c.args.handle.now ≡ Some a = search rules in
     let own_is : own ≡ c.own.result = search rules in
-    let stored : (source id : ℕ) → kept_in c.keep.new.self.rows source id
-    ≡ (if c.args.handle.now.source == source && c.args.handle.now.id == id then Some (record { moment = a.moment; bytes = a.request; answer = items })
-    else kept_in c.self.inside.end.rows source id) = λ source id. search rules in
-    let kept = is_kept c.args.handle.now c.args.answer.now a _ found items c.put_reply-changed.ensures.reply c.self.inside.end c.keep.new.self
-    (ap (λ (e : End). record e { rows = c.self.inside.end.rows }) c.keep.ensures.rest) stored in
+    let stored : (source : ℕ) → kept_in c.keep_late.new.self.rows source
+    ≡ (if c.args.handle.now.source == source then replaced id_in (record { moment = a.moment; bytes = a.request; answer = items })
+    (kept_in c.self.inside.end.rows source)
+    else kept_in c.self.inside.end.rows source) = λ source. search rules in
+    let kept = is_kept c.args.handle.now c.args.answer.now a _ found items c.put_reply-changed.ensures.reply c.self.inside.end c.keep_late.new.self
+    (ap (λ (e : End). record e { rows = c.self.inside.end.rows }) c.keep_late.ensures.rest) c.keep_late.ensures.window stored in
     record {
       its_answer = search rules;
       outcome_is =
@@ -38,7 +43,7 @@ returns-clause-answered c =
           (answering items (Answered true changed (record { destination = c.args.handle.now.source; source = source; owner = false; tag = a.tag })))) own_is
           (goes_out c.args.handle.now c.args.answer.now a _ found items c.put_reply-changed.ensures.reply own changed c.put_reply-changed.ensures.changed));
       held =
-          subst (λ (e : EndpointView). IsHeld (held_by c.keep.new.self) (answered_held (held_by e.end) c.args.handle.now c.args.answer.now (pending_at c.args.self.now.pending c.args.handle.now))) c.self.view_is kept;
+          subst (λ (e : EndpointView). IsHeld (held_by c.keep_late.new.self) (answered_held (held_by e.end) c.args.handle.now c.args.answer.now (pending_at c.args.self.now.pending c.args.handle.now))) c.self.view_is kept;
       pending = search rules;
       count = search rules;
       room = search rules;

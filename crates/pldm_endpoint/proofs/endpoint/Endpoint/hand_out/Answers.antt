@@ -1,18 +1,17 @@
 use Rattle.std.specs.FinMap as map
-use Rattle.std.proofs.Common.{◌≡◌, ◌≢◌, ◌+◌, true, false, None, IsSome, rules, sym, ap, ◌∙◌, subst, refl}
+use Rattle.std.proofs.Common.{◌≡◌, ◌+◌, true, false, None, rules, sym, ap, ◌∙◌, subst, refl}
 use Rattle.pldm_responder.specs.Ends.{End}
 use Rattle.pldm_responder.specs.Events.{Message}
 use Rattle.pldm_responder.specs.Reserving.{IsWithinSources}
-use Rattle.pldm_responder.specs.Slots.{row_of}
 use Rattle.pldm_responder.specs.Looking.{message_at}
 use Rattle.pldm_responder.specs.Steps.{performs}
 use Rattle.pldm_endpoint.specs.Receiving.{HasServed}
 use Rattle.pldm_endpoint.specs.Refusing.{is_full}
 use Rattle.pldm_endpoint.specs.RequestKeys.{PendingCommands, request_key_of}
-use Rattle.pldm_endpoint.specs.TwoSteps.{ArePending, EndpointView, command_at, held_in}
+use Rattle.pldm_endpoint.specs.TwoSteps.{ArePending, EndpointView, command_at, held_in, waiting}
 use Rattle.pldm_endpoint.specs.declared.step.CommandHandle.{CommandHandle}
 use Rattle.pldm_endpoint.specs.declared.step.MessageStep.TheVariants.{Perform}
-use Rattle.pldm_endpoint.proofs.HandedOut.{finished_is, gets_row, handed_out, pending_out, room_is_within}
+use Rattle.pldm_endpoint.proofs.HandedOut.{finished_is, handed_out, has_rows, is_in_front, pending_out, room_is_within, sources_are, window_is}
 use Rattle.pldm_endpoint.proofs.endpoint.Endpoint.hand_out.Goals as goal
 
 pub invariant_of-self-2 : goal.invariant_of-self-2
@@ -21,15 +20,13 @@ invariant_of-self-2 c =
     let m : Message = message_at c.args.now r in
     let e : EndpointView = record { end = c.self.inside.end; pending = c.self.inside.pending; count = c.self.inside.count; max_pending = c.self.inside.max_pending } in
     let back = sym c.self.view_is in
-    let gets = gets_row e.end c.reserve.new.self c.put_room.new.self c.finish.new.self c.args.now r c.reserve.ensures.same c.put_room.ensures.gets c.put_room.ensures.rest c.finish.ensures in
-    let rest = finished_is e.end c.reserve.new.self c.put_room.new.self c.finish.new.self c.args.now r c.reserve.ensures.same c.put_room.ensures.gets c.put_room.ensures.rest c.finish.ensures in
+    let front = is_in_front e.end c.reserve.new.self c.put_room.new.self c.keep.new.self c.finish.new.self c.args.now r (waiting m) c.reserve.ensures.same c.put_room.ensures.gets c.put_room.ensures.rest c.keep.ensures.kept c.keep.ensures.window c.keep.ensures.rows c.keep.ensures.sources c.keep.ensures.rest c.finish.ensures in
+    let rest = finished_is e.end c.reserve.new.self c.put_room.new.self c.keep.new.self c.finish.new.self c.args.now r (waiting m) c.reserve.ensures.same c.put_room.ensures.gets c.put_room.ensures.rest c.keep.ensures.kept c.keep.ensures.window c.keep.ensures.rows c.keep.ensures.sources c.keep.ensures.rest c.finish.ensures in
     let pending_is : c.insert.new.self ≡ map.insert e.pending (request_key_of m) (command_at m e.count c.args.command) = search rules in
-    let some = subst (λ rows. IsSome (row_of rows r.source)) (sym (ap (λ (x : End). x.rows) c.finish.ensures)) c.put_room.ensures.some in
     subst (λ (pending : PendingCommands). ArePending c.finish.new.self pending (e.count + 1) e.max_pending) (sym pending_is)
-    (pending_out e c.finish.new.self c.args.now r c.args.command (ap (λ (x : End). x.own) rest)
-    (subst (λ (x : EndpointView). r.source ≢ x.end.own) back c.requires.other) c.requires.asked c.id-id.ensures.range
+    (pending_out e c.finish.new.self c.args.now r c.args.command c.requires.asked c.id-id.ensures.range
     (subst (λ (x : EndpointView). map.get x.pending (request_key_of m) ≡ None) back c.requires.free)
-    (subst (λ (x : EndpointView). is_full x ≡ false) back (sym c.is_full.ensures ∙ c.if-is_full.false)) gets some c.self.invariant)
+    (subst (λ (x : EndpointView). is_full x ≡ false) back (sym c.is_full.ensures ∙ c.if-is_full.false)) front c.self.invariant)
 
 pub returns-clause-served : goal.returns-clause-served
 returns-clause-served c = λ reply.
@@ -39,8 +36,8 @@ returns-clause-served c = λ reply.
     let new : EndpointView = record { end = c.finish.new.self; pending = c.insert.new.self; count = c.self.inside.count + 1; max_pending = c.self.inside.max_pending } in
     let handle : CommandHandle = record { source = c.source-source.result; id = c.id-id.result; number = c.self.inside.count } in
     let back = sym c.self.view_is in
-    let gets = gets_row e.end c.reserve.new.self c.put_room.new.self c.finish.new.self c.args.now r c.reserve.ensures.same c.put_room.ensures.gets c.put_room.ensures.rest c.finish.ensures in
-    let rest = finished_is e.end c.reserve.new.self c.put_room.new.self c.finish.new.self c.args.now r c.reserve.ensures.same c.put_room.ensures.gets c.put_room.ensures.rest c.finish.ensures in
+    let front = is_in_front e.end c.reserve.new.self c.put_room.new.self c.keep.new.self c.finish.new.self c.args.now r (waiting m) c.reserve.ensures.same c.put_room.ensures.gets c.put_room.ensures.rest c.keep.ensures.kept c.keep.ensures.window c.keep.ensures.rows c.keep.ensures.sources c.keep.ensures.rest c.finish.ensures in
+    let rest = finished_is e.end c.reserve.new.self c.put_room.new.self c.keep.new.self c.finish.new.self c.args.now r (waiting m) c.reserve.ensures.same c.put_room.ensures.gets c.put_room.ensures.rest c.keep.ensures.kept c.keep.ensures.window c.keep.ensures.rows c.keep.ensures.sources c.keep.ensures.rest c.finish.ensures in
     let pending_is : c.insert.new.self ≡ map.insert e.pending (request_key_of m) (command_at m e.count c.args.command) = search rules in
     let bound = ap (λ (x : End). x.bounds.sources) c.reserve.ensures.same.same in
     let served = handed_out e new c.args.now r c.args.command reply
@@ -50,6 +47,8 @@ returns-clause-served c = λ reply.
     (subst (λ (x : EndpointView). is_full x ≡ false) back (sym c.is_full.ensures ∙ c.if-is_full.false))
     (room_is_within c.reserve.new.self.rows e.end.rows e.end.bounds.sources r.source c.in_ok-reserved.reserved c.reserve.ensures.same.rows c.in_ok-reserved.ensures.ok
     (subst (λ max. IsWithinSources c.reserve.new.self.rows max c.in_ok-reserved.reserved) bound c.in_ok-reserved.ensures.few))
-    gets rest pending_is refl refl in
+    front (window_is e.end c.reserve.new.self c.put_room.new.self c.keep.new.self c.finish.new.self c.args.now r (waiting m) c.reserve.ensures.same c.put_room.ensures.gets c.put_room.ensures.rest c.keep.ensures.kept c.keep.ensures.window c.keep.ensures.rows c.keep.ensures.sources c.keep.ensures.rest c.finish.ensures)
+    (has_rows e.end c.reserve.new.self c.put_room.new.self c.keep.new.self c.finish.new.self c.args.now r (waiting m) c.reserve.ensures.same c.put_room.ensures.gets c.put_room.ensures.rest c.keep.ensures.kept c.keep.ensures.window c.keep.ensures.rows c.keep.ensures.sources c.keep.ensures.rest c.finish.ensures)
+    (sources_are e.end c.reserve.new.self c.put_room.new.self c.keep.new.self c.finish.new.self c.args.now r (waiting m) c.reserve.ensures.same c.put_room.ensures.gets c.put_room.ensures.rest c.keep.ensures.kept c.keep.ensures.window c.keep.ensures.rows c.keep.ensures.sources c.keep.ensures.rest c.finish.ensures) rest pending_is refl refl in
     subst (λ (x : EndpointView). HasServed x c.args.now r new reply (Perform handle)) c.self.view_is
     (subst (λ (h : CommandHandle). HasServed e c.args.now r new reply (Perform h)) (λ i. record { source = sym c.source-source.ensures i; id = sym c.id-id.ensures.value i; number = c.self.inside.count }) served)
