@@ -5,14 +5,26 @@ use mctp_packet::{Eid, Keep};
 use mctp_schedule::{LineFaultKind, RunFault, Schedule, Setup, run};
 use pldm_device::{Description, SimDevice};
 use pldm_requester::TimingFault;
+use pldm_wire::Window;
 use std::alloc::{AllocError, Global};
 use std::test::Fail;
 
-/// The example device at endpoint 9, with a keeping time of a second.
+/// The example device at endpoint 9, with a keeping time of a second and a window of all instance IDs.
 pub fn example(alloc: Global) -> Result<Setup<SimDevice>, Fail> {
     let text = description(alloc)?;
-    let Description { eid, keep, device } = Description::read(alloc, text.as_bytes())?;
-    Ok(Setup { eid, keep, device })
+    let Description {
+        eid,
+        keep,
+        window,
+        device,
+        ..
+    } = Description::read(alloc, text.as_bytes())?;
+    Ok(Setup {
+        eid,
+        keep,
+        window,
+        device,
+    })
 }
 
 /// What a run of the example device over a schedule tells, with its sensor and its numeric effecter at
@@ -141,6 +153,40 @@ fn runs_report_what_came_of_their_steps(rt: HostRuntime) -> Result<(), Fail> {
     Ok(())
 }
 
+/// A request that sets effecter 1 to 40, and 31 others, 25 ms apart and each answered, of which one sets it to
+/// 50; then a repeat of the first, 800 ms after it was opened.
+fn late_repeat(alloc: Global) -> Result<String, Fail> {
+    let mut text = String::from_str(alloc, "requester 8 timeout 200 tries 3\n")?;
+    for number in 0..32u64 {
+        let command = match number {
+            0 => "setnum 1 uint8 40",
+            15 => "setnum 1 uint8 50",
+            _ => "gettid",
+        };
+        let moment = number * 25;
+        text.push_str(format!(in alloc;
+            "at {moment} open 8 {command}\nat {moment} req {number}\nat {moment} rep {number} 0\n"
+        )?.as_str())?;
+    }
+    text.push_str("at 800 req 0\n")?;
+    Ok(text)
+}
+
+#[test]
+fn repeats_past_the_window_are_performed_and_not_timely(rt: HostRuntime) -> Result<(), Fail> {
+    let text = late_repeat(rt.alloc())?;
+    let schedule = Schedule::read(rt.alloc(), text.as_bytes())?;
+    // All other instance IDs had a first arrival since.
+    for (ids, value, timely) in [(16, 40, false), (31, 40, false), (32, 50, true)] {
+        let mut setup = example(rt.alloc())?;
+        setup.window = Window::new(ids).ok_or("no window")?;
+        let report = run(rt.alloc(), setup, &schedule)?;
+        assert_eq!(rt; report.device.numeric(0), Some((1, value)));
+        assert_eq!(rt; report.timely, timely);
+    }
+    Ok(())
+}
+
 #[test]
 fn two_requesters_number_their_own_requests(rt: HostRuntime) -> Result<(), Fail> {
     let text = b"requester 8 timeout 200 tries 3\nrequester 10 timeout 200 tries 3\n\
@@ -181,6 +227,7 @@ fn another_platform_is_run(rt: HostRuntime) -> Result<(), Fail> {
     let setup = Setup {
         eid: Eid::new(20).ok_or("no endpoint ID")?,
         keep: Keep::new(600).ok_or("no keeping time")?,
+        window: Window::new(32).ok_or("no window")?,
         device: Lamp::new(5).ok_or("no level")?,
     };
     let report = run(rt.alloc(), setup, &schedule)?;

@@ -16,6 +16,7 @@ use Rattle.mctp_schedule.specs.OncePerformed.{AreRequests, RepliesFit}
 use Rattle.mctp_schedule.specs.Places.{side_at}
 use Rattle.mctp_schedule.specs.Requests.{Request}
 use Rattle.mctp_schedule.specs.Running.{IsCarried, IsDevice, IsOpened, IsRunning, IsSide}
+use Rattle.mctp_schedule.specs.Timely.{ids_arrived}
 use Rattle.schedule_text.specs.Schedules.{has_requester}
 use Rattle.mctp_schedule.specs.Worlds.{Setting, World, is_timely, requests_of, time_now, timing_of, with_call, world}
 use Rattle.mctp_schedule.specs.declared.entry.Entry.{Entry}
@@ -35,7 +36,14 @@ or_within (y ∷ xs) (suc i) x e = let l = or_within xs i x e in omega (arith, l
 
 -- what is held when the requester at an endpoint and what is written down have changed
 abbrev pub with_side : {P S : Type 0} → HeldRun P S → ℕ → Side → Journal → HeldRun P S
-with_side run e new journal = record { keep = run.keep; responder = run.responder; places = slice_set run.places e (Some new); journal = journal }
+with_side run e new journal = record {
+  keep = run.keep;
+  window = run.window;
+  responder = run.responder;
+  places = slice_set run.places e (Some new);
+  journal = journal;
+  arrivals = run.arrivals;
+}
 
 -- what is written down besides the requests stays, but for one more entry
 pub record Writes (old new : Journal) (x : Entry) : Type 0 where
@@ -56,6 +64,7 @@ module _ {P S : Type 0} (setting : Setting S) (past : List Step) (run : HeldRun 
       let back : w ≡ world setting steps = sym same in
       record {
         times = running.times;
+        window = running.window;
         device = subst (λ v. IsDevice setting v moment run.responder) back (still_device setting w w (time_now past) moment run.responder refl later running.device);
         sides = λ e has.
             let s = running.sides e has in
@@ -68,14 +77,15 @@ module _ {P S : Type 0} (setting : Setting S) (past : List Step) (run : HeldRun 
               t.0,
               ap (λ ts. slice_get ts k) enters.traffic ∙ t.1,
               subst (λ v. IsCarried setting v journal.entries k r t.0) back
-                  (subst (λ es. IsCarried setting w es k r t.0) (sym enters.entries) (still_carried setting w w run.journal.entries (entry_of setting w moment a) k r t.0 refl refl t.2)),
+                  (subst (λ es. IsCarried setting w es k r t.0) (sym enters.entries) (still_carried setting w w run.journal.entries (entry_of setting w moment a) k r t.0 refl refl refl t.2)),
             );
         carried = ap (λ (ts : List Carried). length ts) enters.traffic ∙ running.carried ∙ ap (λ (v : World). count_of v.log) back;
         entries = enters.entries ∙ ap (λ es. es ++ entry_of setting w moment a ∷ []) running.entries;
-        order = enters.order ∙ running.order ∙ ap (λ (v : World). order S setting.keep v.log) back;
+        order = enters.order ∙ running.order ∙ ap (λ (v : World). order S setting.window setting.keep v.log) back;
+        arrived = λ source. running.arrived source ∙ ap (λ (v : World). ids_arrived S setting.keep v.log source) back;
         timely = enters.timely ∙ running.timely ∙ sym timely;
         sent = subst (λ (v : World). AreRequests v.log) back running.sent;
-        fit = subst (λ (v : World). RepliesFit setting.device setting.keep setting.start v.log) back running.fit;
+        fit = subst (λ (v : World). RepliesFit setting.device setting.window setting.keep setting.start v.log) back running.fit;
       }
 
   -- ---- the requester at the endpoint e was called once more
@@ -145,6 +155,7 @@ module _ {P S : Type 0} (setting : Setting S) (past : List Step) (run : HeldRun 
         go : v ≡ world setting steps → IsRunning setting steps (with_side run e new journal)
         go back = record {
           times = running.times;
+          window = running.window;
           device = subst (λ u. IsDevice setting u moment run.responder) back (still_device setting w v (time_now past) moment run.responder refl later running.device);
           sides = λ d known. let s = side_in d known in (s.0, s.1, subst (λ u. IsSide setting u moment d s.0) back s.2);
           opened = λ k r is. subst (λ u. IsOpened setting u k r) back (still_opened setting w v k r (grows r.source) (λ here. here) (running.opened k r (ap (λ (u : World). asked_at u.log k) back ∙ is)));
@@ -155,14 +166,15 @@ module _ {P S : Type 0} (setting : Setting S) (past : List Step) (run : HeldRun 
                 t.0,
                 ap (λ ts. slice_get ts k) c.writes.traffic ∙ t.1,
                 subst (λ u. IsCarried setting u journal.entries k r t.0) back
-                    (subst (λ es. IsCarried setting v es k r t.0) (sym c.writes.entries) (still_carried setting w v run.journal.entries x k r t.0 refl refl t.2)),
+                    (subst (λ es. IsCarried setting v es k r t.0) (sym c.writes.entries) (still_carried setting w v run.journal.entries x k r t.0 refl refl refl t.2)),
               );
           carried = ap (λ (ts : List Carried). length ts) c.writes.traffic ∙ running.carried ∙ ap (λ (u : World). count_of u.log) back;
           entries = c.writes.entries ∙ ap (λ es. es ++ x ∷ []) running.entries ∙ ap (λ y. entries setting past ++ y ∷ []) c.is_entry;
-          order = c.writes.order ∙ running.order ∙ ap (λ (u : World). order S setting.keep u.log) back;
+          order = c.writes.order ∙ running.order ∙ ap (λ (u : World). order S setting.window setting.keep u.log) back;
+          arrived = λ source. running.arrived source ∙ ap (λ (u : World). ids_arrived S setting.keep u.log source) back;
           timely = c.timely;
           sent = subst (λ (u : World). AreRequests u.log) back running.sent;
-          fit = subst (λ (u : World). RepliesFit setting.device setting.keep setting.start u.log) back running.fit;
+          fit = subst (λ (u : World). RepliesFit setting.device setting.window setting.keep setting.start u.log) back running.fit;
         }
 
 -- what stands in a place, however it is read

@@ -1,7 +1,9 @@
 -- The packet of a request comes to the device: what a run holds then.
 use Rattle.std.proofs.Common.{◌≡◌, ◌⊎◌, ℕ, ◌+◌, ◌<◌, ◌≤◌, Bool, true, false, List, [], ◌∷◌, ◌++◌, length, Option, Some, None, refl, sym, ap, subst, ◌∙◌, inl, inr, arith, eq-eqb}
-use Rattle.std.specs.Prelude.{not, ◌&&◌, ◌==◌, nat_lt, option_and_then, option_map, slice_get, if◌then◌else◌}
+use Rattle.std.specs.List.{list_any}
+use Rattle.std.specs.Prelude.{not, ◌&&◌, ◌||◌, ◌==◌, nat_lt, take, option_and_then, option_map, slice_get, if◌then◌else◌}
 use Rattle.std.proofs.lemmas.Bool.{cases_eq, cond-true, cond-false, ne_eqb}
+use Rattle.pldm_wire.specs.declared.busy_time.BusyTime.TheVariants.{All}
 use Rattle.mctp_packet.specs.Laws.{SpelledIsReadFor, WrittenSpells}
 use Rattle.mctp_packet.specs.Packets.{Packet}
 use Rattle.mctp_assembly.specs.Steps as assembly
@@ -11,9 +13,10 @@ use Rattle.pldm_wire.specs.Headers.{id_at}
 use Rattle.pldm_responder.specs.Arrivals.{Whole, arrival, packets_back}
 use Rattle.pldm_responder.specs.Calls.{answer_expected, events, fed, looked_back, outcome_expected, with_arrival}
 use Rattle.pldm_responder.specs.Calls as responder
-use Rattle.pldm_responder.specs.Events.{Message, Event, Came, Place, is_busy, is_copy, is_copy_of, is_fresh, origin}
+use Rattle.pldm_responder.specs.Events.{Message, Event, Came, Place, is_busy, id_of, is_copy, is_copy_of, is_fresh, origin, recent, refuses_bytes}
 use Rattle.pldm_responder.specs.Fitting.{ArrivalFits, Fits, ReceivedFits}
-use Rattle.pldm_responder.specs.Held.{Held, IsHeld}
+use Rattle.pldm_responder.specs.Held.{Held, IsHeld, id_in}
+use Rattle.pldm_responder.specs.Recency.{of_number, renewed}
 use Rattle.pldm_responder.specs.Laws.{IsLeftBy, ReceivedLooksBack, SameIsLeft, entry_at}
 use Rattle.pldm_responder.specs.Performing.{Rules, answered, busy_reply, changes, performed, reply}
 use Rattle.pldm_responder.specs.Stations.{Station, held_of}
@@ -22,65 +25,82 @@ use Rattle.pldm_responder.specs.declared.outcome.Outcome.{Outcome}
 use Rattle.pldm_responder.specs.declared.outcome.Outcome.TheVariants.{Answered}
 use Rattle.mctp_schedule.specs.Askers.{packet_bytes}
 use Rattle.mctp_schedule.specs.Entries.{as_it_stands, delivery_entry, entries}
-use Rattle.mctp_schedule.specs.FirstArrivals.{fresh_of, order}
+use Rattle.mctp_schedule.specs.ArrivedIds.{ids_at}
+use Rattle.mctp_schedule.specs.FirstArrivals.{first, fresh_of, has_arrived, is_first, order}
 use Rattle.mctp_schedule.specs.Deliveries.{packets_of_outcome}
 use Rattle.mctp_schedule.specs.EntryColumns.{outcomes_in, outcomes_in_entry}
 use Rattle.mctp_schedule.specs.HeldRuns.{HeldRun}
-use Rattle.mctp_schedule.specs.Journals.{Carried, answers_at, fresh_numbers, packet_of_request, packets_in}
+use Rattle.mctp_schedule.specs.Journals.{Carried, answers_at, fresh_numbers, is_replied, packet_of_request, packets_in}
 use Rattle.mctp_schedule.specs.Logs.{Asked, asked_at, message_at, told, told_of}
 use Rattle.mctp_schedule.specs.OncePerformed.{FitsPackets}
 use Rattle.mctp_schedule.specs.Requests.{Request}
 use Rattle.mctp_schedule.specs.Running.{IsCarried, IsOpened, IsRunning, busy_packets, device_calls, received}
 use Rattle.mctp_schedule.specs.Worlds.{Setting, World, answer_packets, comes_in_time, is_timely, time_now, world}
+use Rattle.mctp_schedule.specs.Timely.{ids_arrived, with_first}
+use Rattle.mctp_schedule.specs.declared.arrivals.Arrivals.{Arrivals}
 use Rattle.mctp_schedule.specs.declared.entry.Entry.{Entry}
 use Rattle.mctp_schedule.specs.declared.entry.Entry.TheVariants as entry
 use Rattle.mctp_schedule.specs.declared.journal.Journal.{Journal}
 use Rattle.schedule_text.specs.declared.step.Action.TheVariants as actions
 use Rattle.schedule_text.specs.declared.step.Step.{Step}
-use Rattle.mctp_schedule.proofs.DeliveryChanges.{brings_message, packet_for, busy_here, busy_none, busy_other, busy_served, given_busy, given_here, given_none, given_other, held_whole, looked_whole}
+use Rattle.pldm_responder.proofs.RecentFirst.{found_in_map}
+use Rattle.mctp_schedule.proofs.FirstPerformed.{is_first_of}
+use Rattle.mctp_schedule.proofs.DeliveryChanges.{arrived_busy, arrived_here, arrived_none, arrived_other, brings_message, packet_for, busy_here, busy_none, busy_other, busy_served, given_busy, given_here, given_none, given_other, held_whole, looked_whole}
 use Rattle.mctp_schedule.proofs.ListPlaces.{get_last, length_pushed}
 use Rattle.mctp_schedule.proofs.AfterReadingOrRestart.{Enters, with_responder}
 use Rattle.mctp_schedule.proofs.EntriesSpelled.{column_more}
 use Rattle.mctp_schedule.proofs.KeptByAStep.{before_more, packets_stay, still_carried, still_opened, still_side}
 
 -- ---- what is expected to a message, by its packets and whether it is fresh
-module _ {S : Type 0} (device : Rules S) (own keep : ℕ) (start : S) (es : List (Event S)) (m : Message) where
+module _ {S : Type 0} (device : Rules S) (own window keep : ℕ) (start : S) (es : List (Event S)) (m : Message) where
   abbrev expected : Bool → Bool → Outcome
   expected busy copy =
       if busy then Answered false false (packets_back own m (busy_reply m.bytes))
-      else (if copy then Answered false false (packets_back own m (answered device keep start es m))
-      else Answered true (changes device (performed device keep start es) m.bytes) (packets_back own m (answered device keep start es m)))
+      else (if copy then Answered false false (packets_back own m (answered device All window keep start es m))
+      else Answered true (changes device (performed device All window keep start es) m.bytes) (packets_back own m (answered device All window keep start es m)))
 
-  pub expected_busy : is_busy keep es m.moment ≡ true → packets_of_outcome (answer_expected device own keep start es m) ≡ Some (packets_back own m (busy_reply m.bytes))
-  expected_busy on = ap (λ b. packets_of_outcome (expected b (is_copy keep es m))) on
+  pub expected_busy : is_busy keep es m.moment ≡ true → packets_of_outcome (answer_expected device own All window keep start es m) ≡ Some (packets_back own m (busy_reply m.bytes))
+  expected_busy on = ap (λ b. packets_of_outcome (expected b (is_copy All window keep es m))) on
 
-  pub expected_served : is_busy keep es m.moment ≡ false → packets_of_outcome (answer_expected device own keep start es m) ≡ Some (packets_back own m (answered device keep start es m))
-  expected_served off = ap (λ b. packets_of_outcome (expected b (is_copy keep es m))) off ∙ go (is_copy keep es m)
+  pub expected_served : is_busy keep es m.moment ≡ false → packets_of_outcome (answer_expected device own All window keep start es m) ≡ Some (packets_back own m (answered device All window keep start es m))
+  expected_served off = ap (λ b. packets_of_outcome (expected b (is_copy All window keep es m))) off ∙ go (is_copy All window keep es m)
     where
-      go : (copy : Bool) → packets_of_outcome (expected false copy) ≡ Some (packets_back own m (answered device keep start es m))
+      go : (copy : Bool) → packets_of_outcome (expected false copy) ≡ Some (packets_back own m (answered device All window keep start es m))
       go true = refl
       go false = refl
 
-  pub expected_fresh : (n : ℕ) → fresh_numbers n (answer_expected device own keep start es m) ≡ (if is_fresh keep es m then n ∷ [] else [])
-  expected_fresh n = go (is_busy keep es m.moment) (is_copy keep es m)
+  pub expected_fresh : (n : ℕ) → fresh_numbers n (answer_expected device own All window keep start es m) ≡ (if is_fresh All window keep es m then n ∷ [] else [])
+  expected_fresh n = go (is_busy keep es m.moment) (is_copy All window keep es m)
     where
       go : (busy copy : Bool) → fresh_numbers n (expected busy copy) ≡ (if not busy && not copy then n ∷ [] else [])
       go true copy = refl
       go false true = refl
       go false false = refl
 
+-- what is held when the responder, what is written down and the instance IDs that arrived have changed
+abbrev pub with_delivery : {P S : Type 0} → HeldRun P S → Station P S → Journal → Arrivals → HeldRun P S
+with_delivery run new journal arrivals = record {
+  keep = run.keep;
+  window = run.window;
+  responder = new;
+  places = run.places;
+  journal = journal;
+  arrivals = arrivals;
+}
+
 -- ---- a message is performed exactly where it is fresh
-module _ {S : Type 0} (device : Rules S) (own keep : ℕ) (start : S) (held : Held S) (calls : List (responder.Call S)) (left : IsLeftBy device own keep start held calls) where
-  repeats_is : (m : Message) (place : Option (Place S)) → repeats keep m (entry_at device keep start place) ≡ is_copy_of keep m place
+module _ {S : Type 0} (device : Rules S) (own window keep : ℕ) (start : S) (held : Held S) (calls : List (responder.Call S)) (left : IsLeftBy device own All window keep start held calls) where
+  repeats_is : (m : Message) (place : Option (Place S)) → repeats keep m (option_map (entry_at device All window keep start) place) ≡ is_copy_of keep m place
   repeats_is m None = refl
   repeats_is m (Some place) = refl
 
-  pub performs_is : (m : Message) → performs held m ≡ is_fresh keep (events own calls) m
+  pub performs_is : (m : Message) → performs held m ≡ is_fresh All window keep (events own calls) m
   performs_is m =
-      ap (λ from. not (nat_lt m.moment from) && not (repeats held.keep m (held.kept m.source (id_at m.bytes)))) left.serves_from
-      ∙ ap (λ k. not (is_busy keep (events own calls) m.moment) && not (repeats k m (held.kept m.source (id_at m.bytes)))) left.keeping
-      ∙ ap (λ kept. not (is_busy keep (events own calls) m.moment) && not (repeats keep m kept)) (left.kept m.source (id_at m.bytes))
-      ∙ ap (λ b. not (is_busy keep (events own calls) m.moment) && not b) (repeats_is m (origin keep (events own calls) m.source (id_at m.bytes)))
+      (λ i. not (refuses_bytes (left.refusing i) m.bytes && nat_lt m.moment (left.serves_from i))
+      && not (repeats (left.keeping i) m (of_number id_in (id_at m.bytes) (left.kept m.source i))))
+      ∙ ap (λ kept. not (is_busy keep (events own calls) m.moment) && not (repeats keep m kept))
+      (found_in_map id_of id_in (entry_at device All window keep start) (λ _. refl) (id_at m.bytes) (take window (recent All window keep (events own calls) m.source)))
+      ∙ ap (λ b. not (is_busy keep (events own calls) m.moment) && not b) (repeats_is m (origin All window keep (events own calls) m.source (id_at m.bytes)))
 
 append_none : (xs : List ℕ) → xs ++ [] ≡ xs
 append_none [] = refl
@@ -113,9 +133,10 @@ module _ {P S : Type 0} (setting : Setting S) (past : List Step) (run : HeldRun 
   pub never_opened : asked_at w.log n ≡ None → Enters run.journal journal entry.Nothing → IsRunning setting (record { moment = moment; action = actions.Request n } ∷ past) (with_responder run run.responder journal)
   never_opened none enters = record {
     times = running.times;
+    window = running.window;
     device = record {
       endpoint = running.device.endpoint;
-      left = subst (IsLeftBy setting.device setting.eid setting.keep setting.start (held_of run.responder)) (sym (ap (λ o. received setting.eid moment o (device_calls setting.eid w.log)) none)) running.device.left;
+      left = subst (IsLeftBy setting.device setting.eid All setting.window setting.keep setting.start (held_of run.responder)) (sym (ap (λ o. received setting.eid moment o (device_calls setting.eid w.log)) none)) running.device.left;
       events = ap (λ o. events setting.eid (received setting.eid moment o (device_calls setting.eid w.log))) none ∙ running.device.events ∙ sym (ap (λ o. told_of moment o (told {S = S} w.log)) none);
       called = let x = running.device.called in omega (arith, x, later);
     };
@@ -128,18 +149,19 @@ module _ {P S : Type 0} (setting : Setting S) (past : List Step) (run : HeldRun 
           t.0,
           ap (λ ts. slice_get ts k) enters.traffic ∙ t.1,
           subst (λ es. IsCarried setting v es k r t.0) (sym enters.entries)
-              (still_carried setting w v run.journal.entries entry.Nothing k r t.0 (given_none setting.device setting.keep setting.start w.log moment n none k) (busy_none setting.device setting.keep setting.start w.log moment n none k) t.2),
+              (still_carried setting w v run.journal.entries entry.Nothing k r t.0 (given_none setting.device setting.window setting.keep setting.start w.log moment n none k) (busy_none setting.device setting.window setting.keep setting.start w.log moment n none k) (arrived_none S setting.keep w.log moment n none k) t.2),
         );
     carried = ap (λ (ts : List Carried). length ts) enters.traffic ∙ running.carried;
     entries = enters.entries ∙ ap (λ es. es ++ entry.Nothing ∷ []) running.entries ∙ ap (λ o. entries setting past ++ delivery_entry setting w.log moment o ∷ []) (sym none);
-    order = enters.order ∙ running.order ∙ sym (cond-false (fresh_of setting.keep (told {S = S} w.log) moment (asked_at w.log n)) _ _ (ap (fresh_of setting.keep (told {S = S} w.log) moment) none));
-    timely = enters.timely ∙ running.timely ∙ ap (λ o. comes_in_time setting moment o && is_timely setting past) (sym none);
+    order = enters.order ∙ running.order ∙ sym (cond-false (fresh_of setting.window setting.keep (told {S = S} w.log) moment (asked_at w.log n)) _ _ (ap (fresh_of setting.window setting.keep (told {S = S} w.log) moment) none));
+    arrived = λ s. running.arrived s ∙ ap (λ o. with_first (is_first S setting.keep w.log moment n) o s (ids_arrived S setting.keep w.log s)) (sym none);
+    timely = enters.timely ∙ running.timely ∙ ap (λ o. comes_in_time setting w.log moment n o && is_timely setting past) (sym none);
     sent = running.sent;
     fit = (λ r is fresh. let wrong : ◌≡◌ {A = Option Asked} None (Some r) = sym none ∙ is in absurd (cc), running.fit);
   }
 
   -- ---- a request that was opened
-  module _ (r : Asked) (is : asked_at w.log n ≡ Some r) (new : Station P S) (bytes : List ℕ) (outcome : Outcome) (busy in_time : Bool) where
+  module _ (r : Asked) (is : asked_at w.log n ≡ Some r) (new : Station P S) (arrivals : Arrivals) (bytes : List ℕ) (outcome : Outcome) (arrived busy in_time : Bool) where
     abbrev m : Message
     m = message_at moment r
 
@@ -152,7 +174,9 @@ module _ {P S : Type 0} (setting : Setting S) (past : List Step) (run : HeldRun 
       pub given_outcome : outcome ≡ received_outcome setting.device (held_of run.responder) moment bytes
       pub given_fits : ReceivedFits setting.device (held_of run.responder) moment bytes
       pub given_busy : busy ≡ nat_lt moment (held_of run.responder).serves_from
-      pub given_in_time : in_time ≡ nat_lt moment (r.opening + setting.keep)
+      pub given_arrived : arrived ≡ is_replied (slice_get run.journal.traffic.items n)
+      pub given_in_time : in_time ≡ (nat_lt moment (r.opening + setting.keep) && (not arrived || list_any (λ other. other == id_at r.message) (take run.window (ids_at run.arrivals r.source))))
+      pub new_arrivals : (s : ℕ) → ids_at arrivals s ≡ (if r.source == s && (not arrived && not busy) then renewed (λ id. id) (id_at r.message) (ids_at run.arrivals s) else ids_at run.arrivals s)
       pub new_entries : journal.entries ≡ run.journal.entries ++ entry.Delivered busy outcome ∷ []
       pub new_requests : journal.requests.items ≡ run.journal.requests.items
       pub same_count : length journal.traffic.items ≡ length run.journal.traffic.items
@@ -173,19 +197,19 @@ module _ {P S : Type 0} (setting : Setting S) (past : List Step) (run : HeldRun 
       arrives_here : responder.arrived setting.eid calls moment bytes ≡ Whole m
       arrives_here = brings (looked_back (fed setting.eid calls)) (looked_whole (fed setting.eid calls) setting.eid r)
 
-      looked : (received_outcome setting.device (held_of run.responder) moment bytes ≡ responder.outcome setting.device setting.eid setting.keep setting.start calls moment bytes)
-          × IsLeftBy setting.device setting.eid setting.keep setting.start (received_held setting.device (held_of run.responder) moment bytes) (responder.Received moment bytes ∷ calls)
-      looked = looks setting.eid setting.keep setting.start (held_of run.responder) calls moment bytes running.device.left
+      looked : (received_outcome setting.device (held_of run.responder) moment bytes ≡ responder.outcome setting.device setting.eid All setting.window setting.keep setting.start calls moment bytes)
+          × IsLeftBy setting.device setting.eid All setting.window setting.keep setting.start (received_held setting.device (held_of run.responder) moment bytes) (responder.Received moment bytes ∷ calls)
+      looked = looks setting.eid All setting.window setting.keep setting.start (held_of run.responder) calls moment bytes running.device.left
 
       busy_is : busy ≡ is_busy setting.keep (told {S = S} w.log) moment
       busy_is =
           d.given_busy ∙ ap (nat_lt moment) running.device.left.serves_from ∙ ap (λ es. is_busy setting.keep es moment) running.device.events
 
-      outcome_is : outcome ≡ answer_expected setting.device setting.eid setting.keep setting.start (told w.log) m
+      outcome_is : outcome ≡ answer_expected setting.device setting.eid All setting.window setting.keep setting.start (told w.log) m
       outcome_is =
           d.given_outcome ∙ looked.0
-          ∙ ap (outcome_expected setting.device setting.eid setting.keep setting.start (events setting.eid calls)) arrives_here
-          ∙ ap (λ es. answer_expected setting.device setting.eid setting.keep setting.start es m) running.device.events
+          ∙ ap (outcome_expected setting.device setting.eid All setting.window setting.keep setting.start (events setting.eid calls)) arrives_here
+          ∙ ap (λ es. answer_expected setting.device setting.eid All setting.window setting.keep setting.start es m) running.device.events
 
       called_with : received setting.eid moment (asked_at w.log n) calls ≡ responder.Received moment bytes ∷ calls
       called_with = ap (λ o. received setting.eid moment o calls) is ∙ ap (λ b. responder.Received moment b ∷ calls) (sym d.packet_is)
@@ -213,8 +237,9 @@ module _ {P S : Type 0} (setting : Setting S) (past : List Step) (run : HeldRun 
               let up = sym busy_is ∙ on in
               record {
                 packet = t.packet;
-                reply = packets_stay run.journal.entries x c.reply t.reply_place ∙ t.reply ∙ ap (option_map (answer_packets setting.eid r)) (sym (given_busy setting.device setting.keep setting.start w.log moment n r is up));
-                busy = at_place ∙ ap packets_of_outcome outcome_is ∙ expected_busy setting.device setting.eid setting.keep setting.start (told {S = S} w.log) m up ∙ ap (busy_packets setting.eid r) (sym (busy_here setting.device setting.keep setting.start w.log moment n r is up));
+                reply = packets_stay run.journal.entries x c.reply t.reply_place ∙ t.reply ∙ ap (option_map (answer_packets setting.eid r)) (sym (given_busy setting.device setting.window setting.keep setting.start w.log moment n r is up));
+                busy = at_place ∙ ap packets_of_outcome outcome_is ∙ expected_busy setting.device setting.eid setting.window setting.keep setting.start (told {S = S} w.log) m up ∙ ap (busy_packets setting.eid r) (sym (busy_here setting.device setting.window setting.keep setting.start w.log moment n r is up));
+                arrived = t.arrived ∙ sym (arrived_busy S setting.keep w.log moment n up n);
                 reply_place = before_more run.journal.entries x c.reply t.reply_place;
                 busy_place = below;
               }
@@ -222,8 +247,9 @@ module _ {P S : Type 0} (setting : Setting S) (past : List Step) (run : HeldRun 
               let up = sym busy_is ∙ off in
               record {
                 packet = t.packet;
-                reply = at_place ∙ ap packets_of_outcome outcome_is ∙ expected_served setting.device setting.eid setting.keep setting.start (told {S = S} w.log) m up ∙ ap (option_map (answer_packets setting.eid r)) (sym (given_here setting.device setting.keep setting.start w.log moment n r is up));
-                busy = packets_stay run.journal.entries x c.busy t.busy_place ∙ t.busy ∙ ap (busy_packets setting.eid r) (sym (busy_served setting.device setting.keep setting.start w.log moment n r is up));
+                reply = at_place ∙ ap packets_of_outcome outcome_is ∙ expected_served setting.device setting.eid setting.window setting.keep setting.start (told {S = S} w.log) m up ∙ ap (option_map (answer_packets setting.eid r)) (sym (given_here setting.device setting.window setting.keep setting.start w.log moment n r is up));
+                busy = packets_stay run.journal.entries x c.busy t.busy_place ∙ t.busy ∙ ap (busy_packets setting.eid r) (sym (busy_served setting.device setting.window setting.keep setting.start w.log moment n r is up));
+                arrived = sym (arrived_here S setting.keep w.log moment n r is up);
                 reply_place = below;
                 busy_place = before_more run.journal.entries x c.busy t.busy_place;
               }
@@ -252,10 +278,10 @@ module _ {P S : Type 0} (setting : Setting S) (past : List Step) (run : HeldRun 
             t.0,
             moved ∙ ap Some (cond-false (k == n) _ _ (ne_eqb k n other)),
             subst (λ es. IsCarried setting v es k q t.0) (sym d.new_entries)
-                (still_carried setting w v run.journal.entries x k q t.0 (given_other setting.device setting.keep setting.start w.log moment n k (λ e. other (sym e))) (busy_other setting.device setting.keep setting.start w.log moment n k (λ e. other (sym e))) t.2),
+                (still_carried setting w v run.journal.entries x k q t.0 (given_other setting.device setting.window setting.keep setting.start w.log moment n k (λ e. other (sym e))) (busy_other setting.device setting.window setting.keep setting.start w.log moment n k (λ e. other (sym e))) (arrived_other S setting.keep w.log moment n k (λ e. other (sym e))) t.2),
           )
 
-      fits_here : (q : Asked) → asked_at w.log n ≡ Some q → is_fresh setting.keep (told {S = S} w.log) (message_at moment q) ≡ true → FitsPackets (reply setting.device (performed setting.device setting.keep setting.start (told w.log)) q.message)
+      fits_here : (q : Asked) → asked_at w.log n ≡ Some q → is_fresh All setting.window setting.keep (told {S = S} w.log) (message_at moment q) ≡ true → FitsPackets (reply setting.device (performed setting.device All setting.window setting.keep setting.start (told w.log)) q.message)
       fits_here q asked fresh =
           let same_request : r ≡ q = let both : Some r ≡ Some q = sym is ∙ asked in cc in
           let held = held_of run.responder in
@@ -263,19 +289,39 @@ module _ {P S : Type 0} (setting : Setting S) (past : List Step) (run : HeldRun 
           ap (λ own. arrival (assembly.answer held.open_messages) own moment bytes) running.device.left.endpoint ∙ brings (assembly.answer held.open_messages) (held_whole held.open_messages setting.eid r) in
           let fits : performs held m ≡ true → Fits (reply setting.device held.state m.bytes) = subst (ArrivalFits setting.device held) arrival_is d.given_fits in
           let on : performs held m ≡ true =
-          performs_is setting.device setting.eid setting.keep setting.start held calls running.device.left m ∙ ap (λ es. is_fresh setting.keep es m) running.device.events ∙ subst (λ a. is_fresh setting.keep (told {S = S} w.log) (message_at moment a) ≡ true) (sym same_request) fresh in
+          performs_is setting.device setting.eid setting.window setting.keep setting.start held calls running.device.left m ∙ ap (λ es. is_fresh All setting.window setting.keep es m) running.device.events ∙ subst (λ a. is_fresh All setting.window setting.keep (told {S = S} w.log) (message_at moment a) ≡ true) (sym same_request) fresh in
           let both = fits on in
-          let state = running.device.left.state ∙ ap (performed setting.device setting.keep setting.start) running.device.events in
-          subst (λ (a : Asked). FitsPackets (reply setting.device (performed setting.device setting.keep setting.start (told w.log)) a.message)) same_request
+          let state = running.device.left.state ∙ ap (performed setting.device All setting.window setting.keep setting.start) running.device.events in
+          subst (λ (a : Asked). FitsPackets (reply setting.device (performed setting.device All setting.window setting.keep setting.start (told w.log)) a.message)) same_request
           (subst (λ s. FitsPackets (reply setting.device s r.message)) state (record { some = both.0; few = both.1 }))
 
-      pub delivered_runs : IsRunning setting (record { moment = moment; action = actions.Request n } ∷ past) (with_responder run new journal)
+      arrived_is : arrived ≡ has_arrived S setting.keep w.log n
+      arrived_is = let t = running.traffic n r is in d.given_arrived ∙ ap is_replied t.1 ∙ t.2.arrived
+
+      in_time_is : in_time ≡ comes_in_time setting w.log moment n (Some r)
+      in_time_is =
+          d.given_in_time
+          ∙ (λ i. nat_lt moment (r.opening + setting.keep)
+          && (not (arrived_is i) || list_any (λ other. other == id_at r.message) (take (running.window i) (running.arrived r.source i))))
+
+      -- the delivery is the first arrival where it is said so
+      first_is : (not arrived && not busy) ≡ is_first S setting.keep w.log moment n
+      first_is = (λ i. not (arrived_is i) && not (busy_is i)) ∙ ap (λ o. is_first_of o (first S setting.keep w.log n) (is_busy setting.keep (told {S = S} w.log) moment)) (sym is)
+
+      ids_now : (s : ℕ) → ids_at arrivals s ≡ ids_arrived S setting.keep v.log s
+      ids_now s =
+          d.new_arrivals s
+          ∙ (λ i. if r.source == s && first_is i then renewed (λ id. id) (id_at r.message) (running.arrived s i) else running.arrived s i)
+          ∙ ap (λ o. with_first (is_first S setting.keep w.log moment n) o s (ids_arrived S setting.keep w.log s)) (sym is)
+
+      pub delivered_runs : IsRunning setting (record { moment = moment; action = actions.Request n } ∷ past) (with_delivery run new journal arrivals)
       delivered_runs = record {
         times = running.times;
+        window = running.window;
         device = record {
           endpoint = running.device.endpoint;
-          left = same setting.eid setting.keep setting.start (held_of new) (received_held setting.device (held_of run.responder) moment bytes) (device_calls setting.eid v.log) d.new_held
-              (subst (IsLeftBy setting.device setting.eid setting.keep setting.start (received_held setting.device (held_of run.responder) moment bytes)) (sym called_with) looked.1);
+          left = same setting.eid All setting.window setting.keep setting.start (held_of new) (received_held setting.device (held_of run.responder) moment bytes) (device_calls setting.eid v.log) d.new_held
+              (subst (IsLeftBy setting.device setting.eid All setting.window setting.keep setting.start (received_held setting.device (held_of run.responder) moment bytes)) (sym called_with) looked.1);
           events = ap (events setting.eid) called_with ∙ ap (λ a. with_arrival a (events setting.eid calls)) arrives_here ∙ ap (λ es. Came m ∷ es) running.device.events ∙ sym (ap (λ o. told_of moment o (told {S = S} w.log)) is);
           called = let y = d.new_held.last in omega (arith, y);
         };
@@ -288,11 +334,12 @@ module _ {P S : Type 0} (setting : Setting S) (past : List Step) (run : HeldRun 
         entries = d.new_entries ∙ ap (λ es. es ++ x ∷ []) running.entries
             ∙ ap (λ y. entries setting past ++ y ∷ []) (ap (λ b. entry.Delivered b outcome) busy_is ∙ ap (entry.Delivered (is_busy setting.keep (told {S = S} w.log) moment)) outcome_is ∙ sym (ap (delivery_entry setting w.log moment) is));
         order = d.new_order ∙ ap (λ xs. xs ++ fresh_numbers n outcome) running.order
-            ∙ ap (λ o. order S setting.keep w.log ++ fresh_numbers n o) outcome_is
-            ∙ ap (λ xs. order S setting.keep w.log ++ xs) (expected_fresh setting.device setting.eid setting.keep setting.start (told {S = S} w.log) m n)
-            ∙ listed (is_fresh setting.keep (told {S = S} w.log) m) (order S setting.keep w.log) n
-            ∙ ap (λ o. if fresh_of setting.keep (told {S = S} w.log) moment o then order S setting.keep w.log ++ n ∷ [] else order S setting.keep w.log) (sym is);
-        timely = d.new_timely ∙ ap (λ b. b && run.journal.timely) d.given_in_time ∙ ap (λ b. nat_lt moment (r.opening + setting.keep) && b) running.timely ∙ ap (λ o. comes_in_time setting moment o && is_timely setting past) (sym is);
+            ∙ ap (λ o. order S setting.window setting.keep w.log ++ fresh_numbers n o) outcome_is
+            ∙ ap (λ xs. order S setting.window setting.keep w.log ++ xs) (expected_fresh setting.device setting.eid setting.window setting.keep setting.start (told {S = S} w.log) m n)
+            ∙ listed (is_fresh All setting.window setting.keep (told {S = S} w.log) m) (order S setting.window setting.keep w.log) n
+            ∙ ap (λ o. if fresh_of setting.window setting.keep (told {S = S} w.log) moment o then order S setting.window setting.keep w.log ++ n ∷ [] else order S setting.window setting.keep w.log) (sym is);
+        arrived = λ s. ids_now s;
+        timely = d.new_timely ∙ (λ i. in_time_is i && running.timely i) ∙ ap (λ o. comes_in_time setting w.log moment n o && is_timely setting past) (sym is);
         sent = running.sent;
         fit = (fits_here, running.fit);
       }

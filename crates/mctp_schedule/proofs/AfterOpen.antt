@@ -1,6 +1,6 @@
 -- A requester is asked to open a request: what a run holds then.
 use Rattle.std.proofs.Common.{◌≡◌, ◌⊎◌, ℕ, suc, ◌<◌, ◌≤◌, Bool, true, false, List, [], ◌∷◌, ◌++◌, length, Option, Some, None, Ok, Err, refl, sym, ap, subst, ◌∙◌, inl, inr, arith, eq-eqb}
-use Rattle.std.specs.Prelude.{◌&&◌, ◌||◌, ◌==◌, ◌%◌, nat_lt, not, option_map, slice_get, slice_set}
+use Rattle.std.specs.Prelude.{◌&&◌, ◌||◌, ◌==◌, ◌%◌, nat_lt, not, option_map, slice_get, slice_set, is_some}
 use Rattle.std.proofs.lemmas.Bool.{and_right, cases_Bool, cases_eq, cond-true, cond-false, ltb-false, ltb-true, ne_eqb}
 use Rattle.pldm_wire.specs.Laws.{WrittenCommandReadBack}
 use Rattle.pldm_wire.specs.MessageSizes.{CommandFitsOnePacket}
@@ -19,7 +19,7 @@ use Rattle.pldm_requester.specs.declared.results.OpenFault.{OpenFault}
 use Rattle.pldm_requester.specs.declared.timing.Timing.{Timing}
 use Rattle.mctp_schedule.specs.Askers.{IsSent, Side, packet_bytes}
 use Rattle.mctp_schedule.specs.Entries.{as_it_stands, entries, entry_of, numbers_of, open_entry}
-use Rattle.mctp_schedule.specs.FirstArrivals.{arrives, is_answered_busy, order}
+use Rattle.mctp_schedule.specs.FirstArrivals.{arrives, is_answered_busy, order, first, has_arrived}
 use Rattle.mctp_schedule.specs.HeldRuns.{HeldRun}
 use Rattle.mctp_schedule.specs.Journals.{Carried}
 use Rattle.mctp_schedule.specs.Logs.{Asked, Happening, Opened, Delivered, Sensed, WentDown, asked_at, count_of, told}
@@ -37,6 +37,8 @@ use Rattle.schedule_text.specs.declared.step.Step.{Step}
 use Rattle.mctp_schedule.proofs.LoggedRequests.{asked_before, asked_below, asked_here, none_past}
 use Rattle.mctp_schedule.proofs.AfterCall.{with_side, Writes, called_runs, new_side, or_within}
 use Rattle.mctp_schedule.proofs.ListPlaces.{get_front, get_last, get_past, get_pushed, get_within, length_pushed, or_set_at, or_set_other}
+use Rattle.mctp_schedule.specs.Timely.{ids_arrived}
+use Rattle.mctp_schedule.proofs.FirstPerformed.{first_below}
 use Rattle.mctp_schedule.proofs.KeptByAStep.{call_here, call_other, still_carried, still_opened, still_side}
 
 -- ---- an open is accepted or not
@@ -51,8 +53,8 @@ accepted_is false true n opened e = absurd (cc)
 accepted_is false false n opened e = refl
 
 -- ---- nothing was given to a request that is not opened yet
-module _ {S : Type 0} (device : Rules S) (keep : ℕ) (start : S) where
-  pub none_given : (log : List Happening) (k : ℕ) → count_of log ≤ k → given device keep start log k ≡ None
+module _ {S : Type 0} (device : Rules S) (window keep : ℕ) (start : S) where
+  pub none_given : (log : List Happening) (k : ℕ) → count_of log ≤ k → given device window keep start log k ≡ None
   none_given [] k l = refl
   none_given (Opened r ∷ past) k l = none_given past k (omega arith)
   none_given (Sensed _ _ _ ∷ past) k l = none_given past k l
@@ -70,6 +72,13 @@ module _ (S : Type 0) where
   never_busy keep (Delivered t j ∷ past) k l =
       ap (λ b. b || was_busy S keep past k) (and_right (j == k) _ (ap (λ o. is_answered_busy o (is_busy keep (told {S = S} past) t)) (none_past past k l)))
       ∙ never_busy keep past k l
+
+  pub never_arrived : (keep : ℕ) (log : List Happening) (k : ℕ) → count_of log ≤ k → has_arrived S keep log k ≡ false
+  never_arrived keep log k l = go (first S keep log k) refl
+    where
+      go : (f : Option (List Happening)) → first S keep log k ≡ f → is_some f ≡ false
+      go None is = refl
+      go (Some place) is = absurd (let below = first_below S keep log k place is in omega (arith, below, l))
 
 module _ {P S : Type 0} (setting : Setting S) (past : List Step) (run : HeldRun P S) (journal : Journal) (running : IsRunning setting past run) (moment : ℕ) (later : time_now past ≤ moment) (e : ℕ) (has : has_requester setting.requesters e ≡ true) (command : Command) (new : Side) (looks : OpenLooksBack) (same : SameIsLeft) where
   abbrev w : World
@@ -301,8 +310,9 @@ module _ {P S : Type 0} (setting : Setting S) (past : List Step) (run : HeldRun 
       packet = ap (λ m. sent.header ++ m) (sym message_is) ∙ x.is_sent.packet ∙ ap (λ own. packet_bytes own (held_of side.station).device (held_of side.station).count (message_of (held_of side.station).count command)) s.left.endpoint
           ∙ ap (λ peer. packet_bytes e peer (held_of side.station).count (message_of (held_of side.station).count command)) s.left.peer
           ∙ ap (λ n. packet_bytes e setting.eid n (message_of n command)) s.left.count;
-      reply = sym (ap (option_map (answer_packets setting.eid q)) (none_given setting.device setting.keep setting.start w.log count (omega arith)));
+      reply = sym (ap (option_map (answer_packets setting.eid q)) (none_given setting.device setting.window setting.keep setting.start w.log count (omega arith)));
       busy = sym (ap (busy_packets setting.eid q) (never_busy S setting.keep w.log count (omega arith)));
+      arrived = sym (never_arrived S setting.keep w.log count (omega arith));
       reply_place = tt;
       busy_place = tt;
     }
@@ -322,7 +332,7 @@ module _ {P S : Type 0} (setting : Setting S) (past : List Step) (run : HeldRun 
             let all = running.carried in (
               t.0,
               ap (λ ts. slice_get ts k) x.new_traffic ∙ get_front run.journal.traffic.items carried_new k (omega (arith, low, all)) ∙ t.1,
-              subst (λ es. IsCarried setting v es k r t.0) (sym x.new_entries) (still_carried setting w v run.journal.entries (entry.Opened (length run.journal.requests.items)) k r t.0 refl refl t.2),
+              subst (λ es. IsCarried setting v es k r t.0) (sym x.new_entries) (still_carried setting w v run.journal.entries (entry.Opened (length run.journal.requests.items)) k r t.0 refl refl refl t.2),
             )
 
     side_in : (d : ℕ) → has_requester setting.requesters d ≡ true → (y : Side) × (side_at (slice_set run.places e (Some new)) d ≡ Some y) × IsSide setting v moment d y
@@ -351,6 +361,7 @@ module _ {P S : Type 0} (setting : Setting S) (past : List Step) (run : HeldRun 
         let back : v ≡ world setting steps = sym after in
         record {
           times = running.times;
+          window = running.window;
           device = subst (λ u. IsDevice setting u moment run.responder) back
               (record { endpoint = running.device.endpoint; left = running.device.left; events = running.device.events; called = let y = running.device.called in omega (arith, y, later) });
           sides = λ d known. let y = side_in d known in (y.0, y.1, subst (λ u. IsSide setting u moment d y.0) back y.2);
@@ -362,10 +373,11 @@ module _ {P S : Type 0} (setting : Setting S) (past : List Step) (run : HeldRun 
               (t.0, t.1, subst (λ u. IsCarried setting u journal.entries k r t.0) back t.2);
           carried = ap (λ (ts : List Carried). length ts) x.new_traffic ∙ length_pushed run.journal.traffic.items carried_new ∙ ap suc running.carried ∙ ap (λ (u : World). count_of u.log) back;
           entries = x.new_entries ∙ ap (λ es. es ++ entry.Opened (length run.journal.requests.items) ∷ []) running.entries ∙ ap (λ y. entries setting past ++ y ∷ []) entry_now;
-          order = x.new_order ∙ running.order ∙ ap (λ (u : World). order S setting.keep u.log) back;
+          order = x.new_order ∙ running.order ∙ ap (λ (u : World). order S setting.window setting.keep u.log) back;
+          arrived = λ source. running.arrived source ∙ ap (λ (u : World). ids_arrived S setting.keep u.log source) back;
           timely = x.timely ∙ running.timely;
           sent = subst (λ (u : World). AreRequests u.log) back (is_opened.readable, running.sent);
-          fit = subst (λ (u : World). RepliesFit setting.device setting.keep setting.start u.log) back running.fit;
+          fit = subst (λ (u : World). RepliesFit setting.device setting.window setting.keep setting.start u.log) back running.fit;
         }
       where
         opened_at : (k : ℕ) (r : Asked) → v ≡ world setting steps → ((k ≡ count) × (r ≡ q)) ⊎ (asked_at w.log k ≡ Some r) → IsOpened setting (world setting steps) k r

@@ -1,6 +1,7 @@
 -- A reading that is set, and a restart: they leave all requests as they were.
 use Rattle.std.proofs.Common.{◌≡◌, ℕ, ◌≤◌, List, [], ◌∷◌, ◌++◌, refl, sym, ap, subst, ◌∙◌, arith}
 use Rattle.std.specs.Prelude.{ℤ, length, slice_get}
+use Rattle.pldm_wire.specs.declared.busy_time.BusyTime.TheVariants.{All}
 use Rattle.pldm_responder.specs.Held.{IsHeld}
 use Rattle.pldm_responder.specs.Laws.{RestartedLooksBack, SameIsLeft, SensedLooksBack}
 use Rattle.pldm_responder.specs.Events.{Set, Restarted}
@@ -20,7 +21,14 @@ use Rattle.mctp_schedule.proofs.KeptByAStep.{still_carried, still_opened, still_
 
 -- what is held when the responder and what is written down have changed
 abbrev pub with_responder : {P S : Type 0} → HeldRun P S → Station P S → Journal → HeldRun P S
-with_responder run new journal = record { keep = run.keep; responder = new; places = run.places; journal = journal }
+with_responder run new journal = record {
+  keep = run.keep;
+  window = run.window;
+  responder = new;
+  places = run.places;
+  journal = journal;
+  arrivals = run.arrivals;
+}
 
 -- one more entry, and nothing else
 pub record Enters (old new : Journal) (entry : Entry) : Type 0 where
@@ -40,10 +48,11 @@ module _ {P S : Type 0} (setting : Setting S) (past : List Step) (run : HeldRun 
       let v = world setting (record { moment = moment; action = actions.Sense id value } ∷ past) in
       record {
         times = running.times;
+        window = running.window;
         device = record {
           endpoint = running.device.endpoint;
-          left = same setting.eid setting.keep setting.start (held_of new) (sensed_held setting.device (held_of run.responder) id value) (device_calls setting.eid v.log) held
-              (looks setting.eid setting.keep setting.start (held_of run.responder) (device_calls setting.eid w.log) id value running.device.left);
+          left = same setting.eid All setting.window setting.keep setting.start (held_of new) (sensed_held setting.device (held_of run.responder) id value) (device_calls setting.eid v.log) held
+              (looks setting.eid All setting.window setting.keep setting.start (held_of run.responder) (device_calls setting.eid w.log) id value running.device.left);
           events = ap (λ es. Set id value ∷ es) running.device.events;
           called = let x = held.last in let y = running.device.called in omega (arith, x, y, later);
         };
@@ -53,10 +62,11 @@ module _ {P S : Type 0} (setting : Setting S) (past : List Step) (run : HeldRun 
         counted = ap (λ (rs : List Request). length rs) enters.requests ∙ running.counted;
         traffic = λ k r is.
             let t = running.traffic k r is in
-            (t.0, ap (λ ts. slice_get ts k) enters.traffic ∙ t.1, subst (λ es. IsCarried setting v es k r t.0) (sym enters.entries) (still_carried setting w v run.journal.entries (entry_of setting w moment (actions.Sense id value)) k r t.0 refl refl t.2));
+            (t.0, ap (λ ts. slice_get ts k) enters.traffic ∙ t.1, subst (λ es. IsCarried setting v es k r t.0) (sym enters.entries) (still_carried setting w v run.journal.entries (entry_of setting w moment (actions.Sense id value)) k r t.0 refl refl refl t.2));
         carried = ap (λ (ts : List Carried). length ts) enters.traffic ∙ running.carried;
         entries = enters.entries ∙ ap (λ es. es ++ entry_of setting w moment (actions.Sense id value) ∷ []) running.entries;
         order = enters.order ∙ running.order;
+        arrived = running.arrived;
         timely = enters.timely ∙ running.timely;
         sent = running.sent;
         fit = running.fit;
@@ -68,10 +78,11 @@ module _ {P S : Type 0} (setting : Setting S) (past : List Step) (run : HeldRun 
       let v = world setting (record { moment = moment; action = actions.Restart } ∷ past) in
       record {
         times = running.times;
+        window = running.window;
         device = record {
           endpoint = running.device.endpoint;
-          left = same setting.eid setting.keep setting.start (held_of new) (restarted_held (held_of run.responder) moment) (device_calls setting.eid v.log) held
-              (looks setting.eid setting.keep setting.start (held_of run.responder) (device_calls setting.eid w.log) moment running.device.left);
+          left = same setting.eid All setting.window setting.keep setting.start (held_of new) (restarted_held (held_of run.responder) moment) (device_calls setting.eid v.log) held
+              (looks setting.eid All setting.window setting.keep setting.start (held_of run.responder) (device_calls setting.eid w.log) moment running.device.left);
           events = ap (λ es. Restarted moment ∷ es) running.device.events;
           called = let x = held.last in omega (arith, x);
         };
@@ -81,10 +92,11 @@ module _ {P S : Type 0} (setting : Setting S) (past : List Step) (run : HeldRun 
         counted = ap (λ (rs : List Request). length rs) enters.requests ∙ running.counted;
         traffic = λ k r is.
             let t = running.traffic k r is in
-            (t.0, ap (λ ts. slice_get ts k) enters.traffic ∙ t.1, subst (λ es. IsCarried setting v es k r t.0) (sym enters.entries) (still_carried setting w v run.journal.entries (entry_of setting w moment actions.Restart) k r t.0 refl refl t.2));
+            (t.0, ap (λ ts. slice_get ts k) enters.traffic ∙ t.1, subst (λ es. IsCarried setting v es k r t.0) (sym enters.entries) (still_carried setting w v run.journal.entries (entry_of setting w moment actions.Restart) k r t.0 refl refl refl t.2));
         carried = ap (λ (ts : List Carried). length ts) enters.traffic ∙ running.carried;
         entries = enters.entries ∙ ap (λ es. es ++ entry_of setting w moment actions.Restart ∷ []) running.entries;
         order = enters.order ∙ running.order;
+        arrived = running.arrived;
         timely = enters.timely ∙ running.timely;
         sent = running.sent;
         fit = running.fit;

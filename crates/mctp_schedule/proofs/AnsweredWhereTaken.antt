@@ -13,7 +13,8 @@ use Rattle.pldm_responder.specs.Performing.{busy_reply}
 use Rattle.pldm_requester.specs.Arrivals.{Arrival, Drop, fed_arrival}
 use Rattle.pldm_requester.specs.Calls.{Receive, Request, accepts, arrived, is_from_device, new_request}
 use Rattle.pldm_requester.specs.Courses.{Course, Progress, Answered, answered, is_open}
-use Rattle.mctp_schedule.specs.Logs.{Asked, Happening, IsTimelyLog, Opened, asked_at, count_of}
+use Rattle.mctp_schedule.specs.Logs.{Asked, Happening, Opened, asked_at, count_of}
+use Rattle.mctp_schedule.specs.Timely.{IsTimelyLog}
 use Rattle.mctp_schedule.specs.FirstArrivals.{first}
 use Rattle.mctp_schedule.specs.OncePerformed.{RepliesFit, given, was_busy}
 use Rattle.mctp_schedule.specs.RequesterHalf.{IsSound, ProgressIs}
@@ -150,7 +151,7 @@ module _ {S : Type 0} (setting : Setting S) where
       holds_log step past h (λ k. ap (λ (w : World). asked_at w.log k) same) (λ r. ap (λ w. (requests_of setting w r.source).each r.own) same) rs ts
 
   -- a packet of an answer to request i is handed to its requester
-  module _ (lower : Lower) (past : List Step) (h : AllHold past) (timely : IsTimelyLog setting.keep (world setting past).log) (sound : IsSound setting past) (step : Step) (moment i : ℕ) (q : Asked) (is : asked_at (world setting past).log i ≡ Some q) (own : TagIsOwn setting (world setting past) i) (message : List ℕ) (j : ℕ) (bytes : List ℕ) (sent : slice_get (answer_packets setting.eid q message) j ≡ Some bytes) (now_is : world setting (step ∷ past) ≡ called setting (world setting past) (world setting past).log q.source (Receive moment bytes)) (arrival : Arrival) (is_own : IsOf q.own arrival) (brings : is_waiting setting (world setting past) q ≡ true → fed_arrival (mine setting lower past timely sound i q is) q.own (next (Stands setting past q).fed (packet_at (way_to setting q) message j)) ≡ arrival) where
+  module _ (lower : Lower) (past : List Step) (h : AllHold past) (timely : IsTimelyLog S setting.window setting.keep (world setting past).log) (sound : IsSound setting past) (step : Step) (moment i : ℕ) (q : Asked) (is : asked_at (world setting past).log i ≡ Some q) (own : TagIsOwn setting (world setting past) i) (message : List ℕ) (j : ℕ) (bytes : List ℕ) (sent : slice_get (answer_packets setting.eid q message) j ≡ Some bytes) (now_is : world setting (step ∷ past) ≡ called setting (world setting past) (world setting past).log q.source (Receive moment bytes)) (arrival : Arrival) (is_own : IsOf q.own arrival) (brings : is_waiting setting (world setting past) q ≡ true → fed_arrival (mine setting lower past timely sound i q is) q.own (next (Stands setting past q).fed (packet_at (way_to setting q) message j)) ≡ arrival) where
     abbrev p : Packet
     p = packet_at (way_to setting q) message j
 
@@ -197,11 +198,11 @@ module _ {S : Type 0} (setting : Setting S) where
             (cases_eq k i)
 
   -- ---- a packet of a reply
-  no_reply : (past : List Step) (timely : IsTimelyLog setting.keep (world setting past).log) (sound : IsSound setting past) (lower : Lower) (i j : ℕ) → part_count setting (world setting past) i ≤ j → reply_packet setting (world setting past) i j ≡ None
+  no_reply : (past : List Step) (timely : IsTimelyLog S setting.window setting.keep (world setting past).log) (sound : IsSound setting past) (lower : Lower) (i j : ℕ) → part_count setting (world setting past) i ≤ j → reply_packet setting (world setting past) i j ≡ None
   no_reply past timely sound lower i j l = go (asked_at (Log past) i) refl
     where
       go : (o : Option Asked) → asked_at (Log past) i ≡ o → reply_packet setting (world setting past) i j ≡ None
-      go None e = ap (λ o. packet_of setting o (given setting.device setting.keep setting.start (Log past) i) j) e
+      go None e = ap (λ o. packet_of setting o (given setting.device setting.window setting.keep setting.start (Log past) i) j) e
       go (Some q) e = packet_is setting lower past timely sound i q e j ∙ packet_past (way_to setting q) (reply_of setting (world setting past) i) j l
 
   none_completes : (past : List Step) (i j : ℕ) → part_count setting (world setting past) i ≤ j → completes setting past i j ≡ false
@@ -211,7 +212,7 @@ module _ {S : Type 0} (setting : Setting S) where
       go None = refl
       go (Some q) = and_left (nat_lt j (part_count setting (world setting past) i)) _ (le-ltb j (part_count setting (world setting past) i) l)
 
-  module _ (lower : Lower) (past : List Step) (h : AllHold past) (timely : IsTimelyLog setting.keep (world setting past).log) (sound : IsSound setting past) (moment i j : ℕ) where
+  module _ (lower : Lower) (past : List Step) (h : AllHold past) (timely : IsTimelyLog S setting.window setting.keep (world setting past).log) (sound : IsSound setting past) (moment i j : ℕ) where
     abbrev replying : Step
     replying = record { moment = moment; action = actions.Reply j i }
 
@@ -327,7 +328,7 @@ module _ {S : Type 0} (setting : Setting S) where
   no_busy None = refl
   no_busy (Some q) = refl
 
-  module _ (lower : Lower) (past : List Step) (h : AllHold past) (timely : IsTimelyLog setting.keep (world setting past).log) (sound : IsSound setting past) (moment i : ℕ) where
+  module _ (lower : Lower) (past : List Step) (h : AllHold past) (timely : IsTimelyLog S setting.window setting.keep (world setting past).log) (sound : IsSound setting past) (moment i : ℕ) where
     abbrev busying : Step
     busying = record { moment = moment; action = actions.Busy i }
 
@@ -402,7 +403,7 @@ module _ {S : Type 0} (setting : Setting S) where
         go (inr off) = holds_no_busy off
 
   -- ---- any step
-  holds_done : (lower : Lower) (past : List Step) → AllHold past → IsTimelyLog setting.keep (world setting past).log → IsSound setting past → (moment : ℕ) (action : Action) → IsTimelyAction setting (world setting past) moment action → AllHold (record { moment = moment; action = action } ∷ past)
+  holds_done : (lower : Lower) (past : List Step) → AllHold past → IsTimelyLog S setting.window setting.keep (world setting past).log → IsSound setting past → (moment : ℕ) (action : Action) → IsTimelyAction setting (world setting past) moment action → AllHold (record { moment = moment; action = action } ∷ past)
   holds_done lower past h timely sound moment (actions.Open e command) own = holds_open past h moment e command
   holds_done lower past h timely sound moment (actions.Tick e) own =
       let ticking : Step = record { moment = moment; action = actions.Tick e } in
@@ -419,7 +420,7 @@ module _ {S : Type 0} (setting : Setting S) where
   sound_before step past s = record {
     device = s.device;
     sources = λ k r is. s.sources k r (asked_stays_done setting (world setting past) step.moment step.action k r is);
-    fit = held_before setting (RepliesFit setting.device setting.keep setting.start) (fits_before setting.device setting.keep setting.start) (world setting past) step.moment step.action s.fit;
+    fit = held_before setting (RepliesFit setting.device setting.window setting.keep setting.start) (fits_before setting.device setting.window setting.keep setting.start) (world setting past) step.moment step.action s.fit;
   }
 
   pub all_hold : Lower → (steps : List Step) → NeverWentBack steps → IsTimely setting steps → IsSound setting steps → AllHold steps

@@ -2,6 +2,7 @@
 -- log that is each request's command once, at its first arrival.
 use Rattle.std.proofs.Common.{◌≡◌, ℕ, Bool, true, false, List, [], ◌∷◌, ◌++◌, Option, Some, None, refl, sym, ap, ◌∙◌}
 use Rattle.std.specs.Prelude.{not, ◌&&◌, if◌then◌else◌}
+use Rattle.pldm_wire.specs.declared.busy_time.BusyTime.TheVariants.{All}
 use Rattle.mctp_packet.specs.Laws.{SpelledIsReadFor, WrittenSpells}
 use Rattle.mctp_assembly.specs.Steps as assembly
 use Rattle.pldm_responder.specs.Arrivals.{Whole, arrival}
@@ -14,7 +15,8 @@ use Rattle.mctp_schedule.specs.Askers.{packet_bytes}
 use Rattle.mctp_schedule.specs.DeviceHalf.{FreshWhereFirst}
 use Rattle.mctp_schedule.specs.FirstArrivals.{first, fresh_of}
 use Rattle.mctp_schedule.specs.HeldRuns.{HeldRun}
-use Rattle.mctp_schedule.specs.Logs.{Asked, Happening, Opened, Delivered, Sensed, WentDown, IsTimelyLog, asked_at, message_at, told}
+use Rattle.mctp_schedule.specs.Logs.{Asked, Happening, Opened, Delivered, Sensed, WentDown, asked_at, message_at, told}
+use Rattle.mctp_schedule.specs.Timely.{IsTimelyLog}
 use Rattle.mctp_schedule.specs.PerformedCommands.{commands_at_delivery, commands_at_step, commands_if, commands_once, commands_performed}
 use Rattle.mctp_schedule.specs.Running.{IsRunning, answer_action, device_calls}
 use Rattle.mctp_schedule.specs.Worlds.{Setting, World, done, handed, world}
@@ -26,10 +28,10 @@ use Rattle.mctp_schedule.proofs.AfterDelivery.{performs_is}
 use Rattle.mctp_schedule.proofs.FirstPerformed.{is_first_of}
 
 -- ---- a step adds its commands
-opened_or_not : (S : Type 0) (keep : ℕ) (accepted : Bool) (r : Asked) (log : List Happening)
-    → commands_performed S keep (if accepted then Opened r ∷ log else log) ≡ commands_performed S keep log
-opened_or_not S keep true r log = refl
-opened_or_not S keep false r log = refl
+opened_or_not : (S : Type 0) (window keep : ℕ) (accepted : Bool) (r : Asked) (log : List Happening)
+    → commands_performed S window keep (if accepted then Opened r ∷ log else log) ≡ commands_performed S window keep log
+opened_or_not S window keep true r log = refl
+opened_or_not S window keep false r log = refl
 
 handed_log : {S : Type 0} (setting : Setting S) (w : World) (moment e : ℕ) (packet : Option (List ℕ))
     → (handed setting w moment e packet).log ≡ w.log
@@ -38,20 +40,20 @@ handed_log setting w moment e (Some bytes) = refl
 
 module _ {S : Type 0} (setting : Setting S) where
   pub commands_added : (w : World) (moment : ℕ) (action : Action)
-      → commands_performed S setting.keep (done setting w moment action).log
-      ≡ commands_at_step S setting.keep w.log moment action ++ commands_performed S setting.keep w.log
-  commands_added w moment (actions.Open e command) = opened_or_not S setting.keep _ _ w.log
+      → commands_performed S setting.window setting.keep (done setting w moment action).log
+      ≡ commands_at_step S setting.window setting.keep w.log moment action ++ commands_performed S setting.window setting.keep w.log
+  commands_added w moment (actions.Open e command) = opened_or_not S setting.window setting.keep _ _ w.log
   commands_added w moment (actions.Tick e) = refl
   commands_added w moment (actions.Request k) = refl
-  commands_added w moment (actions.Reply j k) = ap (commands_performed S setting.keep) (handed_log setting w moment _ _)
+  commands_added w moment (actions.Reply j k) = ap (commands_performed S setting.window setting.keep) (handed_log setting w moment _ _)
   commands_added w moment (actions.Sense id value) = refl
   commands_added w moment actions.Restart = refl
-  commands_added w moment (actions.Busy k) = ap (commands_performed S setting.keep) (handed_log setting w moment _ _)
+  commands_added w moment (actions.Busy k) = ap (commands_performed S setting.window setting.keep) (handed_log setting w moment _ _)
 
-pub answers_perform_none : (S : Type 0) (keep : ℕ) (log : List Happening) (moment k packet : ℕ) (busy : Bool)
-    → commands_at_step S keep log moment (answer_action busy k packet) ≡ []
-answers_perform_none S keep log moment k packet true = refl
-answers_perform_none S keep log moment k packet false = refl
+pub answers_perform_none : (S : Type 0) (window keep : ℕ) (log : List Happening) (moment k packet : ℕ) (busy : Bool)
+    → commands_at_step S window keep log moment (answer_action busy k packet) ≡ []
+answers_perform_none S window keep log moment k packet true = refl
+answers_perform_none S window keep log moment k packet false = refl
 
 -- ---- a delivery performs what is fresh
 chosen : (b : Bool) (r : Asked) → (if b then commands_of r.message else []) ≡ commands_if b (Some r)
@@ -74,39 +76,39 @@ module _ {P S : Type 0} (setting : Setting S) (past : List Step) (run : HeldRun 
         ∙ ap (arrival (assembly.answer held.open_messages) setting.eid moment) packet_is
         ∙ brings_message spells read_for (assembly.answer held.open_messages) setting.eid moment r opened.readable.0 running.device.endpoint side.2.endpoint side.2.other opened.some opened.few opened.readable.1 (held_whole held.open_messages setting.eid r)
 
-    fresh_is : performs held (message_at moment r) ≡ is_fresh setting.keep (told {S = S} log) (message_at moment r)
+    fresh_is : performs held (message_at moment r) ≡ is_fresh All setting.window setting.keep (told {S = S} log) (message_at moment r)
     fresh_is =
-        performs_is setting.device setting.eid setting.keep setting.start held (device_calls setting.eid log) running.device.left (message_at moment r)
-        ∙ ap (λ es. is_fresh setting.keep es (message_at moment r)) running.device.events
+        performs_is setting.device setting.eid setting.window setting.keep setting.start held (device_calls setting.eid log) running.device.left (message_at moment r)
+        ∙ ap (λ es. is_fresh All setting.window setting.keep es (message_at moment r)) running.device.events
 
-    pub delivery_performs : received_commands held moment bytes ≡ commands_at_delivery S setting.keep log moment n
+    pub delivery_performs : received_commands held moment bytes ≡ commands_at_delivery S setting.window setting.keep log moment n
     delivery_performs =
         ap (arrival_commands held) arrival_is
         ∙ ap (λ b. if b then commands_of r.message else []) fresh_is
-        ∙ chosen (is_fresh setting.keep (told {S = S} log) (message_at moment r)) r
-        ∙ sym (ap (λ o. commands_if (fresh_of setting.keep (told {S = S} log) moment o) o) is)
+        ∙ chosen (is_fresh All setting.window setting.keep (told {S = S} log) (message_at moment r)) r
+        ∙ sym (ap (λ o. commands_if (fresh_of setting.window setting.keep (told {S = S} log) moment o) o) is)
 
 -- ---- over a timely log what is fresh is a first arrival
-module _ {S : Type 0} (laws : FreshWhereFirst S) (keep : ℕ) where
+module _ {S : Type 0} (laws : FreshWhereFirst S) (window keep : ℕ) where
   none_while_busy : (r : Asked) (place : Option (List Happening)) → is_first_of (Some r) place true ≡ false
   none_while_busy r None = refl
   none_while_busy r (Some place) = refl
 
-  fresh_is_first : (past : List Happening) (moment k : ℕ) → IsTimelyLog keep (Delivered moment k ∷ past) → (o : Option Asked) → asked_at past k ≡ o
-      → commands_if (fresh_of keep (told {S = S} past) moment o) o ≡ commands_if (is_first_of o (first S keep past k) (is_busy keep (told {S = S} past) moment)) o
+  fresh_is_first : (past : List Happening) (moment k : ℕ) → IsTimelyLog S window keep (Delivered moment k ∷ past) → (o : Option Asked) → asked_at past k ≡ o
+      → commands_if (fresh_of window keep (told {S = S} past) moment o) o ≡ commands_if (is_first_of o (first S keep past k) (is_busy keep (told {S = S} past) moment)) o
   fresh_is_first past moment k timely None is = refl
   fresh_is_first past moment k timely (Some r) is = ap (λ b. commands_if b (Some r)) (go (is_busy keep (told {S = S} past) moment) refl)
     where
-      go : (busy : Bool) → is_busy keep (told {S = S} past) moment ≡ busy → is_fresh keep (told {S = S} past) (message_at moment r) ≡ is_first_of (Some r) (first S keep past k) (is_busy keep (told {S = S} past) moment)
+      go : (busy : Bool) → is_busy keep (told {S = S} past) moment ≡ busy → is_fresh All window keep (told {S = S} past) (message_at moment r) ≡ is_first_of (Some r) (first S keep past k) (is_busy keep (told {S = S} past) moment)
       go true on =
-          ap (λ b. not b && not (is_copy keep (told {S = S} past) (message_at moment r))) on
+          ap (λ b. not b && not (is_copy All window keep (told {S = S} past) (message_at moment r))) on
           ∙ sym (none_while_busy r (first S keep past k))
           ∙ sym (ap (is_first_of (Some r) (first S keep past k)) on)
       go false off =
-          (laws keep past moment k r timely is off).0
+          (laws window keep past moment k r timely is off).0
           ∙ ap (λ o. is_first_of o (first S keep past k) (is_busy keep (told {S = S} past) moment)) is
 
-  pub performed_once_each : (log : List Happening) → IsTimelyLog keep log → commands_performed S keep log ≡ commands_once S keep log
+  pub performed_once_each : (log : List Happening) → IsTimelyLog S window keep log → commands_performed S window keep log ≡ commands_once S keep log
   performed_once_each [] t = refl
   performed_once_each (Opened r ∷ past) t =
       performed_once_each past (record { order = t.order.1; apart = t.apart.1; in_time = t.in_time })
@@ -115,6 +117,6 @@ module _ {S : Type 0} (laws : FreshWhereFirst S) (keep : ℕ) where
   performed_once_each (WentDown moment ∷ past) t =
       performed_once_each past (record { order = t.order.1; apart = t.apart; in_time = t.in_time })
   performed_once_each (Delivered moment k ∷ past) t =
-      ap (λ cs. commands_at_delivery S keep past moment k ++ cs)
+      ap (λ cs. commands_at_delivery S window keep past moment k ++ cs)
       (performed_once_each past (record { order = t.order.1; apart = t.apart; in_time = t.in_time.1 }))
       ∙ ap (λ cs. cs ++ commands_once S keep past) (fresh_is_first past moment k t (asked_at past k) refl)

@@ -36,6 +36,7 @@ with_tries eight ten = record {
   start = with_values (pos 40) (pos 10);
   eid = 9;
   keep = 1000;
+  window = 32;
   requesters = record { eid = 8; timeout = 200; tries = eight } ∷ record { eid = 10; timeout = 200; tries = ten } ∷ [];
 }
 

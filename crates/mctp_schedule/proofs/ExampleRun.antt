@@ -4,6 +4,7 @@
 use Rattle.std.proofs.Common.{◌≡◌, ◌≢◌, ℕ, zero, suc, ◌+◌, pos, List, [], ◌∷◌, ◌++◌, map, replicate, reverse, Some, true, false, refl, arith}
 use Rattle.std.specs.Prelude.{option_map}
 use Rattle.std.specs.List.{range_with_len}
+use Rattle.pldm_wire.specs.declared.busy_time.BusyTime.TheVariants.{All}
 use Rattle.mctp_packet.specs.Ids.{IsEid}
 use Rattle.pldm_wire.specs.CommandReading.{command_of}
 use Rattle.pldm_wire.specs.Requests.{request_of}
@@ -14,7 +15,8 @@ use Rattle.pldm_requester.specs.Courses.{Answered, GaveUp}
 use Rattle.pldm_responder.specs.Performing.{performed}
 use Rattle.mctp_schedule.specs.FirstArrivals.{firsts}
 use Rattle.mctp_schedule.specs.Headline.{state_once}
-use Rattle.mctp_schedule.specs.Logs.{Asked, IsTimelyLog, asked_at, told}
+use Rattle.mctp_schedule.specs.Logs.{Asked, asked_at, told}
+use Rattle.mctp_schedule.specs.Timely.{IsTimelyLog}
 use Rattle.mctp_schedule.specs.OncePerformed.{AreRequests}
 use Rattle.mctp_schedule.specs.RequesterHalf.{IsTimelySchedule}
 use Rattle.mctp_schedule.specs.Runs.{newest_first}
@@ -139,7 +141,7 @@ timely_here : is_timely setting steps ≡ true
 unfolding request_of command_of response_of
 timely_here = refl
 
-fit_here : all_fit setting.device 1000 setting.start (world setting steps).log ≡ true
+fit_here : all_fit setting.device 32 1000 setting.start (world setting steps).log ≡ true
 unfolding request_of command_of response_of
 fit_here = refl
 
@@ -152,7 +154,7 @@ timely_schedule = record {
     sources =
         sources_of setting IsOther steps
         (each_known_opens_at IsOther setting.requesters (is_eight, (is_ten, tt)) steps (each_is_known setting.requesters steps known_here));
-    fit = replies_fit setting.device 1000 setting.start (world setting steps).log fit_here;
+    fit = replies_fit setting.device 32 1000 setting.start (world setting steps).log fit_here;
   };
 }
 
@@ -164,12 +166,12 @@ apart_here : apart 1000 (world setting steps).log ≡ true
 unfolding request_of command_of response_of
 apart_here = refl
 
-in_time_here : in_time 1000 (world setting steps).log ≡ true
+in_time_here : in_time Device 32 1000 (world setting steps).log ≡ true
 unfolding request_of command_of response_of
 in_time_here = refl
 
-pub timely_link : IsTimelyLog 1000 (world setting steps).log
-timely_link = timely_log 1000 (world setting steps).log in_order_here apart_here in_time_here
+pub timely_link : IsTimelyLog Device 32 1000 (world setting steps).log
+timely_link = timely_log Device 32 1000 (world setting steps).log in_order_here apart_here in_time_here
 
 read_here : all_read (world setting steps).log ≡ true
 unfolding request_of command_of response_of
@@ -179,5 +181,5 @@ pub requests_read : AreRequests (world setting steps).log
 requests_read = are_requests (world setting steps).log read_here
 
 -- ---- a law on it: the responder's state is that of performing each request once
-pub performed_once : performed setting.device 1000 setting.start (told (world setting steps).log) ≡ state_once setting steps
-performed_once = state_is_once setting.device 1000 setting.start (world setting steps).log timely_link
+pub performed_once : performed setting.device All 32 1000 setting.start (told (world setting steps).log) ≡ state_once setting steps
+performed_once = state_is_once setting.device 32 1000 setting.start (world setting steps).log timely_link

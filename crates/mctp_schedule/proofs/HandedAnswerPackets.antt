@@ -33,7 +33,7 @@ module _ {S : Type 0} (setting : Setting S) (w : World) where
 
   pub none_delivered : (busy : Bool) (k packet : ℕ) → asked_at w.log k ≡ None → delivered busy k packet ≡ None
   none_delivered true k packet none = ap (λ o. busy_from setting o (was_busy S setting.keep w.log k)) none
-  none_delivered false k packet none = ap (λ o. packet_of setting o (given setting.device setting.keep setting.start w.log k) packet) none
+  none_delivered false k packet none = ap (λ o. packet_of setting o (given setting.device setting.window setting.keep setting.start w.log k) packet) none
 
 -- as it is written down
 reply_in : {S : Type 0} (setting : Setting S) (r : Asked) (message : Option (List ℕ)) (packet : ℕ) → option_and_then (λ packets. slice_get packets packet) (option_map (answer_packets setting.eid r) message) ≡ packet_of setting (Some r) message packet
@@ -63,8 +63,8 @@ module _ {P S : Type 0} (setting : Setting S) (past : List Step) (run : HeldRun 
           let t = running.traffic k r is in
           ap (packet_at run.journal.entries packet false) t.1
           ∙ ap (option_and_then (λ packets. slice_get packets packet)) t.2.reply
-          ∙ reply_in setting r (given setting.device setting.keep setting.start (world setting past).log k) packet
-          ∙ ap (λ o. packet_of setting o (given setting.device setting.keep setting.start (world setting past).log k) packet) (sym is)
+          ∙ reply_in setting r (given setting.device setting.window setting.keep setting.start (world setting past).log k) packet
+          ∙ ap (λ o. packet_of setting o (given setting.device setting.window setting.keep setting.start (world setting past).log k) packet) (sym is)
 
       go : (o : Option Asked) → asked_at (world setting past).log k ≡ o → packet_at run.journal.entries packet busy (slice_get run.journal.traffic.items k) ≡ delivered setting (world setting past) busy k packet
       go None none =

@@ -1,6 +1,7 @@
 -- What a run tells of a timely schedule is the headline.
 use Rattle.std.proofs.Common.{◌≡◌, ℕ, true, List, [], ◌∷◌, ◌++◌, Option, Some, None, refl, sym, ap, subst, ◌∙◌}
 use Rattle.std.specs.Prelude.{option_map, slice_get}
+use Rattle.pldm_wire.specs.declared.busy_time.BusyTime.TheVariants.{All}
 use Rattle.pldm_platform.specs.Changes.{made_of}
 use Rattle.pldm_responder.specs.Events.{is_busy}
 use Rattle.pldm_responder.specs.Performing.{performed}
@@ -12,7 +13,8 @@ use Rattle.mctp_schedule.specs.FirstArrivals.{order}
 use Rattle.mctp_schedule.specs.Headline.{Headline, delivery_owes, entries_expected, entry_owes}
 use Rattle.mctp_schedule.specs.HeldRuns.{HeldRun}
 use Rattle.mctp_schedule.specs.Laws.{LogIsTimely, TimelyIsTested}
-use Rattle.mctp_schedule.specs.Logs.{Asked, IsTimelyLog, asked_at, told}
+use Rattle.mctp_schedule.specs.Logs.{Asked, asked_at, told}
+use Rattle.mctp_schedule.specs.Timely.{IsTimelyLog}
 use Rattle.mctp_schedule.specs.RequesterHalf.{AnsweredWasPerformed, AnsweredWhereTaken, BusyIsExpected, IsSound, IsTimelySchedule, ReplyIsExpected}
 use Rattle.mctp_schedule.specs.PerformedCommands.{commands_performed}
 use Rattle.mctp_schedule.specs.Requests.{Request as EndedRequest}
@@ -39,7 +41,7 @@ pub record Halves {S : Type 0} (setting : Setting S) : Type 0 where
   pub performed : AnsweredWasPerformed setting
 
 module _ {S : Type 0} (setting : Setting S) (laws : Halves setting) where
-  log_of : (steps : List Step) → IsTimelySchedule setting steps → IsTimelyLog setting.keep (world setting steps).log
+  log_of : (steps : List Step) → IsTimelySchedule setting steps → IsTimelyLog S setting.window setting.keep (world setting steps).log
   log_of steps s = laws.log steps s.order s.timely
 
   before : (step : Step) (past : List Step) → IsTimelySchedule setting (step ∷ past) → IsTimelySchedule setting past
@@ -50,7 +52,7 @@ module _ {S : Type 0} (setting : Setting S) (laws : Halves setting) where
   delivery_is past moment k s None is = refl
   delivery_is past moment k s (Some r) is =
       ap (Delivered (is_busy setting.keep (told {S = S} (world setting past).log) moment))
-      (laws.delivery setting.eid setting.keep setting.start (world setting past).log moment k r (log_of (record { moment = moment; action = actions.Request k } ∷ past) s) is)
+      (laws.delivery setting.eid setting.window setting.keep setting.start (world setting past).log moment k r (log_of (record { moment = moment; action = actions.Request k } ∷ past) s) is)
 
   entry_is : (past : List Step) (moment : ℕ) (action : Action) → IsTimelySchedule setting (record { moment = moment; action = action } ∷ past) → entry_of setting (world setting past) moment action ≡ entry_owes setting past moment action
   entry_is past moment (actions.Open e command) s = refl
@@ -61,7 +63,7 @@ module _ {S : Type 0} (setting : Setting S) (laws : Halves setting) where
   entry_is past moment (actions.Busy k) s = ap got_entry (laws.busy past moment k (before (record { moment = moment; action = actions.Busy k }) past s) s.timely.0)
   entry_is past moment (actions.Sense id value) s =
       ap (λ state. Sensed (made_of (λ _. tt) (setting.device.sensed state id value)))
-      (laws.state setting.keep setting.start (world setting past).log (log_of past (before (record { moment = moment; action = actions.Sense id value }) past s)))
+      (laws.state setting.window setting.keep setting.start (world setting past).log (log_of past (before (record { moment = moment; action = actions.Sense id value }) past s)))
 
   entries_are : (steps : List Step) → IsTimelySchedule setting steps → entries setting steps ≡ entries_expected setting steps
   entries_are [] s = refl
@@ -69,8 +71,8 @@ module _ {S : Type 0} (setting : Setting S) (laws : Halves setting) where
       ap (λ es. es ++ entry_of setting (world setting past) step.moment step.action ∷ []) (entries_are past (before step past s))
       ∙ ap (λ x. entries_expected setting past ++ x ∷ []) (entry_is past step.moment step.action s)
 
-  pub headline_holds : (Performed : List Command → Type 0) (steps : List Step) (requests : List EndedRequest) → Performed (commands_performed S setting.keep (world setting steps).log) → IsTimelySchedule setting steps → ((k : ℕ) → slice_get requests k ≡ option_map (as_it_stands setting (world setting steps)) (asked_at (world setting steps).log k))
-      → Headline setting steps (entries setting steps) requests (order S setting.keep (world setting steps).log) (performed setting.device setting.keep setting.start (told (world setting steps).log)) Performed
+  pub headline_holds : (Performed : List Command → Type 0) (steps : List Step) (requests : List EndedRequest) → Performed (commands_performed S setting.window setting.keep (world setting steps).log) → IsTimelySchedule setting steps → ((k : ℕ) → slice_get requests k ≡ option_map (as_it_stands setting (world setting steps)) (asked_at (world setting steps).log k))
+      → Headline setting steps (entries setting steps) requests (order S setting.window setting.keep (world setting steps).log) (performed setting.device All setting.window setting.keep setting.start (told (world setting steps).log)) Performed
   headline_holds Performed steps requests given s each = record {
     each_step = entries_are steps s;
     each_request = λ k r is. record {
@@ -79,9 +81,9 @@ module _ {S : Type 0} (setting : Setting S) (laws : Halves setting) where
       stands = laws.answered steps k r s is;
       performed = λ message e. laws.performed steps k r message s is e;
     };
-    performed_in_order = laws.order setting.keep (world setting steps).log (log_of steps s);
-    performed_once = laws.state setting.keep setting.start (world setting steps).log (log_of steps s);
-    each_command_once = subst Performed (performed_once_each laws.fresh setting.keep (world setting steps).log (log_of steps s)) given;
+    performed_in_order = laws.order setting.window setting.keep (world setting steps).log (log_of steps s);
+    performed_once = laws.state setting.window setting.keep setting.start (world setting steps).log (log_of steps s);
+    each_command_once = subst Performed (performed_once_each laws.fresh setting.window setting.keep (world setting steps).log (log_of steps s)) given;
   }
 
 -- ---- a run discharges the premises
@@ -93,12 +95,12 @@ module _ {P S : Type 0} (setting : Setting S) (past : List Step) (run : HeldRun 
     fit = running.fit;
   }
 
-  pub run_is_headline : Halves setting → (Performed : List Command → Type 0) → Performed (commands_performed S setting.keep (world setting past).log) → NeverWentBack past → run.journal.timely ≡ true
+  pub run_is_headline : Halves setting → (Performed : List Command → Type 0) → Performed (commands_performed S setting.window setting.keep (world setting past).log) → NeverWentBack past → run.journal.timely ≡ true
       → Headline setting past run.journal.entries run.journal.requests.items run.journal.order.items (responder_stations.held_of run.responder).state Performed
   run_is_headline laws Performed given in_order timely =
       let schedule : IsTimelySchedule setting past = record { order = in_order; timely = (laws.tested past).0 (sym running.timely ∙ timely); sound = is_sound } in
-      let state = running.device.left.state ∙ ap (performed setting.device setting.keep setting.start) running.device.events in
+      let state = running.device.left.state ∙ ap (performed setting.device All setting.window setting.keep setting.start) running.device.events in
       subst (λ s. Headline setting past run.journal.entries run.journal.requests.items run.journal.order.items s Performed) (sym state)
-      (subst (λ os. Headline setting past run.journal.entries run.journal.requests.items os (performed setting.device setting.keep setting.start (told (world setting past).log)) Performed) (sym running.order)
-      (subst (λ es. Headline setting past es run.journal.requests.items (order S setting.keep (world setting past).log) (performed setting.device setting.keep setting.start (told (world setting past).log)) Performed) (sym running.entries)
+      (subst (λ os. Headline setting past run.journal.entries run.journal.requests.items os (performed setting.device All setting.window setting.keep setting.start (told (world setting past).log)) Performed) (sym running.order)
+      (subst (λ es. Headline setting past es run.journal.requests.items (order S setting.window setting.keep (world setting past).log) (performed setting.device All setting.window setting.keep setting.start (told (world setting past).log)) Performed) (sym running.entries)
       (headline_holds setting laws Performed past run.journal.requests.items given schedule running.requests)))

@@ -12,6 +12,7 @@ use Rattle.mctp_schedule.specs.Askers.{Side}
 use Rattle.mctp_schedule.specs.Entries.{numbers_of}
 use Rattle.mctp_schedule.specs.Deliveries.{packets_of_outcome}
 use Rattle.mctp_schedule.specs.EntryColumns.{outcomes_in, outcomes_in_entry}
+use Rattle.mctp_schedule.specs.FirstArrivals.{has_arrived}
 use Rattle.mctp_schedule.specs.Journals.{Carried, packets_in}
 use Rattle.mctp_schedule.specs.Logs.{Asked, asked_at}
 use Rattle.mctp_schedule.specs.OncePerformed.{given, was_busy}
@@ -66,12 +67,13 @@ module _ {S : Type 0} (setting : Setting S) where
     called = let x = s.called in omega (arith, x, later);
   }
 
-  pub still_carried : (w v : World) (entries : List Entry) (x : Entry) (k : ℕ) (r : Asked) (c : Carried) → given setting.device setting.keep setting.start v.log k ≡ given setting.device setting.keep setting.start w.log k
-      → was_busy S setting.keep v.log k ≡ was_busy S setting.keep w.log k → IsCarried setting w entries k r c → IsCarried setting v (entries ++ x ∷ []) k r c
-  still_carried w v entries x k r c gives busy s = record {
+  pub still_carried : (w v : World) (entries : List Entry) (x : Entry) (k : ℕ) (r : Asked) (c : Carried) → given setting.device setting.window setting.keep setting.start v.log k ≡ given setting.device setting.window setting.keep setting.start w.log k
+      → was_busy S setting.keep v.log k ≡ was_busy S setting.keep w.log k → has_arrived S setting.keep v.log k ≡ has_arrived S setting.keep w.log k → IsCarried setting w entries k r c → IsCarried setting v (entries ++ x ∷ []) k r c
+  still_carried w v entries x k r c gives busy came s = record {
     packet = s.packet;
     reply = packets_stay entries x c.reply s.reply_place ∙ s.reply ∙ ap (option_map (answer_packets setting.eid r)) (sym gives);
     busy = packets_stay entries x c.busy s.busy_place ∙ s.busy ∙ ap (busy_packets setting.eid r) (sym busy);
+    arrived = s.arrived ∙ sym came;
     reply_place = before_more entries x c.reply s.reply_place;
     busy_place = before_more entries x c.busy s.busy_place;
   }

@@ -4,6 +4,7 @@ pub mod AfterDelivery
 pub mod AfterOpen
 pub mod AfterReadingOrRestart
 pub mod AfterTick
+pub mod AllIdsInTime
 pub mod AnswerPacketOutcomes
 pub mod AnswerPacketsAtRequester
 pub mod AnsweredWhereTaken
@@ -22,6 +23,8 @@ pub mod FreshOrder
 pub mod GivenUpRequests
 pub mod HandedAnswerPackets
 pub mod HeadlineHolds
+pub mod IdsArrived
+pub mod InWindowByTheRule
 pub mod KeptByAStep
 pub mod KnownRequests
 pub mod LatestFreshMessages
@@ -38,6 +41,7 @@ pub mod ReportedRequests
 pub mod RowsOfReplies
 pub mod RunsBegin
 pub mod SameOverAnyState
+pub mod SameWorlds
 pub mod SourcesOfRequests
 pub mod StepsOnRequests
 pub mod TimelyLogs
@@ -45,5 +49,6 @@ pub mod TimelyTests
 pub mod UntouchedRequests
 pub mod WorkedRequesterHalf
 pub mod WorkedRuns
+pub mod WorkedWindows
 pub mod WorkedWorlds
 pub mod WrittenPlaces

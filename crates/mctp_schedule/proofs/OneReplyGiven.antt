@@ -4,7 +4,8 @@ use Rattle.std.specs.Prelude.{◌&&◌, ◌||◌, ◌==◌, option_map, if◌the
 use Rattle.std.proofs.lemmas.Bool.{and_parts, and_right, not-true, cases_Bool, cond-true, cond-false}
 use Rattle.pldm_responder.specs.Events.{is_busy}
 use Rattle.pldm_responder.specs.Performing.{Rules}
-use Rattle.mctp_schedule.specs.Logs.{Asked, Happening, Opened, Delivered, Sensed, WentDown, count_of, asked_at, told, InOrder, Apart, InTime}
+use Rattle.mctp_schedule.specs.Logs.{Asked, Happening, Opened, Delivered, Sensed, WentDown, count_of, asked_at, told, InOrder, Apart}
+use Rattle.mctp_schedule.specs.Timely.{InTime}
 use Rattle.mctp_schedule.specs.FirstArrivals.{arrives, earlier, first, is_answered_busy}
 use Rattle.mctp_schedule.specs.OncePerformed.{bytes_of, reply_from, the_reply, answered_to, given, given_once, was_busy}
 use Rattle.mctp_schedule.proofs.FirstPerformed.{request_older, first_below, first_here, first_stays, entry}
@@ -13,12 +14,12 @@ use Rattle.mctp_schedule.proofs.FirstPerformed.{request_older, first_below, firs
 abbrev pub reply_at_first : {S : Type 0} → Rules S → ℕ → S → List Happening → ℕ → Option (List Happening) → Option (List ℕ)
 reply_at_first device keep start log k place = option_map (λ _. the_reply device keep start log k) place
 
-module _ {S : Type 0} (device : Rules S) (keep : ℕ) (start : S) where
+module _ {S : Type 0} (device : Rules S) (window keep : ℕ) (start : S) where
   abbrev pub Reply : List Happening → ℕ → List ℕ
   Reply log k = the_reply device keep start log k
 
   -- one more delivery
-  step : (past : List Happening) (moment i k : ℕ) → InOrder (Delivered moment i ∷ past) → Apart keep past → InTime keep (Delivered moment i ∷ past) → given device keep start past k ≡ reply_at_first device keep start past k (first S keep past k) → given device keep start (Delivered moment i ∷ past) k ≡ reply_at_first device keep start (Delivered moment i ∷ past) k (first S keep (Delivered moment i ∷ past) k)
+  step : (past : List Happening) (moment i k : ℕ) → InOrder (Delivered moment i ∷ past) → Apart keep past → InTime S window keep (Delivered moment i ∷ past) → given device window keep start past k ≡ reply_at_first device keep start past k (first S keep past k) → given device window keep start (Delivered moment i ∷ past) k ≡ reply_at_first device keep start (Delivered moment i ∷ past) k (first S keep (Delivered moment i ∷ past) k)
   step past moment i k o a it ih = go (cases_Bool test)
     where
       busy : Bool
@@ -41,12 +42,12 @@ module _ {S : Type 0} (device : Rules S) (keep : ℕ) (start : S) where
       grown None e off = refl
       grown (Some p) e off = ap (λ f. Some (reply_from device keep start (bytes_of (asked_at past k)) f)) (sym (old off))
 
-      here : (o : Option Asked) → asked_at past k ≡ o → arrives o busy ≡ true → i ≡ k → Some (answered_to device keep start moment past o) ≡ reply_at_first device keep start log k (first S keep log k)
+      here : (o : Option Asked) → asked_at past k ≡ o → arrives o busy ≡ true → i ≡ k → Some (answered_to device window keep start moment past o) ≡ reply_at_first device keep start log k (first S keep log k)
       here None e on same = absurd (cc)
       here (Some r) e on same =
           let idle : busy ≡ false = not-true busy on in
-          let it' = subst (λ n. InTime keep (Delivered moment n ∷ past)) same it in
-          let x = entry device keep start past moment k r o a it' e idle in
+          let it' = subst (λ n. InTime S window keep (Delivered moment n ∷ past)) same it in
+          let x = entry device window keep start past moment k r o a it' e idle in
           ap Some x.1
           ∙ ap (λ n. Some (the_reply device keep start (Delivered moment n ∷ past) k)) (sym same)
           ∙ came (first S keep past k) refl
@@ -55,11 +56,11 @@ module _ {S : Type 0} (device : Rules S) (keep : ℕ) (start : S) where
           came (Some p) e = ap (reply_at_first device keep start log k) (sym (first_stays S keep past moment i k p e ∙ e))
           came None none = ap (reply_at_first device keep start log k) (sym (subst (λ (n : ℕ). first S keep (Delivered moment n ∷ past) k ≡ Some past) (sym same) (first_here S keep past moment k r e (not-true busy on) none)))
 
-      go : (test ≡ true) ⊎ (test ≡ false) → given device keep start log k ≡ reply_at_first device keep start log k (first S keep log k)
+      go : (test ≡ true) ⊎ (test ≡ false) → given device window keep start log k ≡ reply_at_first device keep start log k (first S keep log k)
       go (inr off) = cond-false test _ _ off ∙ ih ∙ grown (first S keep past k) refl off ∙ ap (reply_at_first device keep start log k) (sym (old off))
       go (inl on) = let p = and_parts (i == k) (arrives (asked_at past k) busy) on in cond-true test _ _ on ∙ here (asked_at past k) refl p.1 (eqb-true i k p.0)
 
-  pub given_is : (log : List Happening) → InOrder log → Apart keep log → InTime keep log → (k : ℕ) → given device keep start log k ≡ reply_at_first device keep start log k (first S keep log k)
+  pub given_is : (log : List Happening) → InOrder log → Apart keep log → InTime S window keep log → (k : ℕ) → given device window keep start log k ≡ reply_at_first device keep start log k (first S keep log k)
   given_is [] o a i k = refl
   given_is (Delivered moment n ∷ past) o a i k = step past moment n k o a i (given_is past o.1 a i.1 k)
   given_is (Sensed m x v ∷ past) o a i k = given_is past o.1 a i k ∙ same (first S keep past k)
@@ -78,6 +79,7 @@ module _ {S : Type 0} (device : Rules S) (keep : ℕ) (start : S) where
       same None e = refl
       same (Some p) e = ap (λ (x : Option Asked). Some (reply_from device keep start (bytes_of x) (first S keep past k))) (sym (request_older q past k (first_below S keep past k p e)))
 
+module _ {S : Type 0} (device : Rules S) (keep : ℕ) (start : S) where
   -- the one reply stays
   pub once_stays : (h : Happening) (log : List Happening) (k : ℕ) (m : List ℕ) → given_once device keep start log k ≡ Some m → given_once device keep start (h ∷ log) k ≡ Some m
   once_stays (Sensed a b c) log k m e = go (first S keep log k) e

@@ -19,7 +19,8 @@ use Rattle.pldm_requester.specs.declared.results.Got.TheVariants as got
 use Rattle.pldm_requester.specs.declared.timing.Timing.{Timing}
 use Rattle.mctp_schedule.specs.HandedPackets.{got_from, got_of_busy, got_of_reply}
 use Rattle.mctp_schedule.specs.FirstArrivals.{order}
-use Rattle.mctp_schedule.specs.Logs.{Asked, IsTimelyLog, asked_at}
+use Rattle.mctp_schedule.specs.Logs.{Asked, asked_at}
+use Rattle.mctp_schedule.specs.Timely.{IsTimelyLog}
 use Rattle.mctp_schedule.specs.OncePerformed.{given, was_busy}
 use Rattle.mctp_schedule.specs.RequesterHalf.{AnsweredWasPerformed, AnsweredWhereTaken, BusyIsExpected, IsTimelySchedule, OwnAssembly, OwnDeliveries, ReplyIsExpected, ProgressIs, TakenOnce}
 use Rattle.mctp_schedule.specs.Taken.{brought, busy_expected, busy_expected_to, came, completes, completes_for, got_by, if_waiting, is_waiting, part_count, reply_of, reply_expected, reply_expected_to, taken, way_to}
@@ -53,7 +54,7 @@ module _ {S : Type 0} (setting : Setting S) (lower : Lower) where
   all_of : (steps : List Step) → IsTimelySchedule setting steps → AllHold setting steps
   all_of steps s = all_hold setting lower steps s.order s.timely s.sound
 
-  log_of : (steps : List Step) → IsTimelySchedule setting steps → IsTimelyLog setting.keep (world setting steps).log
+  log_of : (steps : List Step) → IsTimelySchedule setting steps → IsTimelyLog S setting.window setting.keep (world setting steps).log
   log_of steps s = log_is_timely setting lower.apart steps s.order s.timely
 
   pub own_deliveries : OwnDeliveries setting
@@ -89,8 +90,8 @@ module _ {S : Type 0} (setting : Setting S) (lower : Lower) where
       let h = all_of steps s k r is in
       let took = taken_of steps k message (Stands setting steps r).course.progress stands h.progress in
       let came_in = h.arrived took.0 in
-      let listing = fresh_in_order_of_firsts setting.keep (world setting steps).log (log_of steps s) in
-      let at = listed_at k (order S setting.keep (world setting steps).log) (listing.has k ∙ ap is_some came_in.1) in
+      let listing = fresh_in_order_of_firsts setting.window setting.keep (world setting steps).log (log_of steps s) in
+      let at = listed_at k (order S setting.window setting.keep (world setting steps).log) (listing.has k ∙ ap is_some came_in.1) in
       record {
         place = came_in.0;
         arrived = came_in.1;
@@ -183,7 +184,7 @@ module _ {S : Type 0} (setting : Setting S) (lower : Lower) where
 
     expected_to : (o : Option Asked) → asked_at w.log k ≡ o → got_of_reply setting w k j ≡ reply_expected setting past k j
     expected_to None off =
-        (λ i. got_from setting w (source_of (off i)) (packet_of setting (off i) (given setting.device setting.keep setting.start w.log k) j))
+        (λ i. got_from setting w (source_of (off i)) (packet_of setting (off i) (given setting.device setting.window setting.keep setting.start w.log k) j))
         ∙ sym (ap (reply_expected_to setting past k j) off)
     expected_to (Some r) is =
         ap (λ o. got_from setting w (source_of o) (reply_packet setting w k j)) is

@@ -1,5 +1,5 @@
 -- Tests of the premises of the laws, so that a schedule that is written out meets them by computing.
-use Rattle.std.proofs.Common.{◌≡◌, ◌≢◌, ℕ, ◌+◌, ◌*◌, ◌<◌, ◌≤◌, List, [], ◌∷◌, length, Option, Some, None, Ok, Err, Bool, true, false, refl, ap, ◌∙◌, subst, ⊎_elim, eq-eqb}
+use Rattle.std.proofs.Common.{◌≡◌, ◌≢◌, ℕ, ◌+◌, ◌*◌, ◌≤◌, List, [], ◌∷◌, length, Option, Some, None, Ok, Err, Bool, true, false, refl, ap, ◌∙◌, subst, ⊎_elim, eq-eqb}
 use Rattle.std.specs.Prelude.{Result, not, ◌&&◌, ◌||◌, ◌==◌, is_ok, nat_le, nat_lt}
 use Rattle.std.specs.List.{AllByRecursion}
 use Rattle.std.proofs.lemmas.Bool.{and_parts, and_from, leb-true, ltb-true}
@@ -7,9 +7,12 @@ use Rattle.mctp_packet.specs.declared.TheConstants.{MAX_MESSAGE_BYTES}
 use Rattle.mctp_packet.specs.declared.reason.Reason.{Reason}
 use Rattle.pldm_wire.specs.Headers.{id_at}
 use Rattle.pldm_wire.specs.Requests as requests
+use Rattle.pldm_wire.specs.declared.busy_time.BusyTime.TheVariants.{All}
 use Rattle.pldm_responder.specs.Performing.{Rules, performed, reply}
 use Rattle.pldm_responder.specs.Events.{is_fresh}
-use Rattle.mctp_schedule.specs.Logs.{Asked, Happening, Opened, Delivered, Sensed, WentDown, Apart, ComesLate, InOrder, InTime, IsTimelyLog, asked_at, count_of, last_of, message_at, moment_of, told}
+use Rattle.mctp_schedule.specs.Logs.{Asked, Happening, Opened, Delivered, Sensed, WentDown, Apart, ComesLate, InOrder, asked_at, count_of, last_of, message_at, moment_of, told}
+use Rattle.mctp_schedule.specs.Timely.{ComesInTime, InTime, IsTimelyLog, is_in_window}
+use Rattle.mctp_schedule.specs.FirstArrivals.{has_arrived}
 use Rattle.mctp_schedule.specs.OncePerformed.{AreRequests, FitsPackets, RepliesFit}
 use Rattle.schedule_text.specs.Schedules.{AreDistinct, AreKnown, IsSchedule, NeverGoBack, is_known}
 use Rattle.mctp_schedule.specs.Worlds.{NeverWentBack, time_now}
@@ -123,36 +126,42 @@ are_apart keep (Delivered _ _ ∷ past) t = are_apart keep past t
 are_apart keep (Sensed _ _ _ ∷ past) t = are_apart keep past t
 are_apart keep (WentDown _ ∷ past) t = are_apart keep past t
 
-abbrev comes_in_time : ℕ → ℕ → Option Asked → Bool
-comes_in_time keep moment None = true
-comes_in_time keep moment (Some r) = nat_lt moment (r.opening + keep)
+-- over a device with states S
+module _ (S : Type 0) (window keep : ℕ) where
+  abbrev comes_in_time : List Happening → ℕ → ℕ → Option Asked → Bool
+  comes_in_time past moment k None = true
+  comes_in_time past moment k (Some r) =
+      nat_lt moment (r.opening + keep) && (not (has_arrived S keep past k) || is_in_window S window keep past r)
 
-abbrev pub in_time : ℕ → List Happening → Bool
-in_time keep [] = true
-in_time keep (Opened _ ∷ past) = in_time keep past
-in_time keep (Sensed _ _ _ ∷ past) = in_time keep past
-in_time keep (WentDown _ ∷ past) = in_time keep past
-in_time keep (Delivered moment k ∷ past) = comes_in_time keep moment (asked_at past k) && in_time keep past
+  abbrev pub in_time : List Happening → Bool
+  in_time [] = true
+  in_time (Opened _ ∷ past) = in_time past
+  in_time (Sensed _ _ _ ∷ past) = in_time past
+  in_time (WentDown _ ∷ past) = in_time past
+  in_time (Delivered moment k ∷ past) = comes_in_time past moment k (asked_at past k) && in_time past
 
-came_in_time : (keep moment : ℕ) (o : Option Asked) → comes_in_time keep moment o ≡ true → (r : Asked) → o ≡ Some r → moment < r.opening + keep
-came_in_time keep moment None t r e = absurd (cc)
-came_in_time keep moment (Some q) t r e = same (λ r. moment < r.opening + keep) q (ltb-true moment (q.opening + keep) t) r e
+  came_in_time : (past : List Happening) (moment k : ℕ) (o : Option Asked) → comes_in_time past moment k o ≡ true → (r : Asked) → o ≡ Some r → ComesInTime S window keep past moment k r
+  came_in_time past moment k None t r e = absurd (cc)
+  came_in_time past moment k (Some q) t r e =
+      let parts = and_parts (nat_lt moment (q.opening + keep)) (not (has_arrived S keep past k) || is_in_window S window keep past q) t in
+      same (ComesInTime S window keep past moment k) q
+      (record { soon = ltb-true moment (q.opening + keep) parts.0; in_window = then_so (has_arrived S keep past k) (is_in_window S window keep past q) parts.1 }) r e
 
-is_in_time : (keep : ℕ) (log : List Happening) → in_time keep log ≡ true → InTime keep log
-is_in_time keep [] t = tt
-is_in_time keep (Opened _ ∷ past) t = is_in_time keep past t
-is_in_time keep (Sensed _ _ _ ∷ past) t = is_in_time keep past t
-is_in_time keep (WentDown _ ∷ past) t = is_in_time keep past t
-is_in_time keep (Delivered moment k ∷ past) t =
-    let parts = and_parts (comes_in_time keep moment (asked_at past k)) (in_time keep past) t in
-    (came_in_time keep moment (asked_at past k) parts.0, is_in_time keep past parts.1)
+  is_in_time : (log : List Happening) → in_time log ≡ true → InTime S window keep log
+  is_in_time [] t = tt
+  is_in_time (Opened _ ∷ past) t = is_in_time past t
+  is_in_time (Sensed _ _ _ ∷ past) t = is_in_time past t
+  is_in_time (WentDown _ ∷ past) t = is_in_time past t
+  is_in_time (Delivered moment k ∷ past) t =
+      let parts = and_parts (comes_in_time past moment k (asked_at past k)) (in_time past) t in
+      (came_in_time past moment k (asked_at past k) parts.0, is_in_time past parts.1)
 
-pub timely_log : (keep : ℕ) (log : List Happening) → in_order log ≡ true → apart keep log ≡ true → in_time keep log ≡ true → IsTimelyLog keep log
-timely_log keep log o a i = record {
-  order = is_in_order log o;
-  apart = are_apart keep log a;
-  in_time = is_in_time keep log i;
-}
+  pub timely_log : (log : List Happening) → in_order log ≡ true → apart keep log ≡ true → in_time log ≡ true → IsTimelyLog S window keep log
+  timely_log log o a i = record {
+    order = is_in_order log o;
+    apart = are_apart keep log a;
+    in_time = is_in_time log i;
+  }
 
 -- ---- of the requests
 read_as : (read : Result requests.Request Reason) → is_ok read ≡ true → (request : requests.Request) × (read ≡ Ok request)
@@ -184,12 +193,12 @@ fits_packets bytes t =
     let parts = and_parts (nat_lt 0 (length bytes)) (nat_le (length bytes) MAX_MESSAGE_BYTES) t in
     record { some = ltb-true 0 (length bytes) parts.0; few = leb-true (length bytes) MAX_MESSAGE_BYTES parts.1 }
 
-module _ {S : Type 0} (device : Rules S) (keep : ℕ) (start : S) where
+module _ {S : Type 0} (device : Rules S) (window keep : ℕ) (start : S) where
   abbrev reply_fits : ℕ → List Happening → Option Asked → Bool
   reply_fits moment past None = true
   reply_fits moment past (Some r) =
-      not (is_fresh keep (told {S = S} past) (message_at moment r))
-      || fits (reply device (performed device keep start (told past)) r.message)
+      not (is_fresh All window keep (told {S = S} past) (message_at moment r))
+      || fits (reply device (performed device All window keep start (told past)) r.message)
 
   abbrev pub all_fit : List Happening → Bool
   all_fit [] = true
@@ -198,13 +207,13 @@ module _ {S : Type 0} (device : Rules S) (keep : ℕ) (start : S) where
   all_fit (WentDown _ ∷ past) = all_fit past
   all_fit (Delivered moment k ∷ past) = reply_fits moment past (asked_at past k) && all_fit past
 
-  one_fits : (moment : ℕ) (past : List Happening) (o : Option Asked) → reply_fits moment past o ≡ true → (r : Asked) → o ≡ Some r → is_fresh keep (told {S = S} past) (message_at moment r) ≡ true → FitsPackets (reply device (performed device keep start (told past)) r.message)
+  one_fits : (moment : ℕ) (past : List Happening) (o : Option Asked) → reply_fits moment past o ≡ true → (r : Asked) → o ≡ Some r → is_fresh All window keep (told {S = S} past) (message_at moment r) ≡ true → FitsPackets (reply device (performed device All window keep start (told past)) r.message)
   one_fits moment past None t r e = absurd (cc)
   one_fits moment past (Some q) t r e =
-      same (λ r. is_fresh keep (told {S = S} past) (message_at moment r) ≡ true → FitsPackets (reply device (performed device keep start (told past)) r.message))
-      q (λ fresh. fits_packets (reply device (performed device keep start (told past)) q.message) (then_so _ _ t fresh)) r e
+      same (λ r. is_fresh All window keep (told {S = S} past) (message_at moment r) ≡ true → FitsPackets (reply device (performed device All window keep start (told past)) r.message))
+      q (λ fresh. fits_packets (reply device (performed device All window keep start (told past)) q.message) (then_so _ _ t fresh)) r e
 
-  pub replies_fit : (log : List Happening) → all_fit log ≡ true → RepliesFit device keep start log
+  pub replies_fit : (log : List Happening) → all_fit log ≡ true → RepliesFit device window keep start log
   replies_fit [] t = tt
   replies_fit (Opened _ ∷ past) t = replies_fit past t
   replies_fit (Sensed _ _ _ ∷ past) t = replies_fit past t

@@ -2,6 +2,7 @@
 use Rattle.std.proofs.Common.{◌≡◌, ℕ, ◌≤◌, true, List, [], ◌∷◌, ◌++◌, length, refl, ap, subst, ◌∙◌, arith}
 use Rattle.std.specs.Prelude.{reverse, slice_get}
 use Rattle.std.proofs.lemmas.List.{reverse-append}
+use Rattle.pldm_wire.specs.declared.busy_time.BusyTime.TheVariants.{All}
 use Rattle.mctp_packet.specs.Ids.{IsEid}
 use Rattle.pldm_responder.specs.Held as device_held
 use Rattle.pldm_responder.specs.Laws as device_laws
@@ -9,6 +10,7 @@ use Rattle.pldm_responder.specs.Stations as responder_stations
 use Rattle.pldm_requester.specs.Laws.{NewLooksBack, SameIsLeft}
 use Rattle.pldm_requester.specs.Slots.{held_of}
 use Rattle.pldm_requester.specs.Steps.{held_at_first}
+use Rattle.mctp_schedule.specs.ArrivedIds.{ids_at}
 use Rattle.mctp_schedule.specs.Askers.{Side}
 use Rattle.mctp_schedule.specs.HeldRuns.{HeldRun}
 use Rattle.mctp_schedule.specs.Places.{BeginEach, Begins}
@@ -27,14 +29,15 @@ pub record IsEmpty (journal : Journal) : Type 0 where
   pub order : journal.order.items ≡ []
   pub timely : journal.timely ≡ true
 
-pub begins : {P S : Type 0} (setting : Setting S) (run : HeldRun P S) → run.keep ≡ setting.keep → IsEid setting.eid → device_laws.NewLooksBack setting.device → device_laws.SameIsLeft setting.device
-    → NewLooksBack → SameIsLeft → device_held.IsHeld (responder_stations.held_of run.responder) (device_held.held_at_first setting.eid setting.keep setting.start) → BeginEach setting.eid setting.keep setting.requesters run.places → IsEmpty run.journal
+pub begins : {P S : Type 0} (setting : Setting S) (run : HeldRun P S) → run.keep ≡ setting.keep → run.window ≡ setting.window → IsEid setting.eid → device_laws.NewLooksBack setting.device → device_laws.SameIsLeft setting.device
+    → NewLooksBack → SameIsLeft → device_held.IsHeld (responder_stations.held_of run.responder) (device_held.held_at_first setting.eid All setting.window setting.keep setting.start) → BeginEach setting.eid setting.keep setting.requesters run.places → IsEmpty run.journal → ((source : ℕ) → ids_at run.arrivals source ≡ [])
     → IsRunning setting [] run
-begins setting run times eid device_new device_same new same held each empty = record {
+begins setting run times window eid device_new device_same new same held each empty none_arrived = record {
   times = times;
+  window = window;
   device = record {
     endpoint = eid;
-    left = device_same setting.eid setting.keep setting.start (responder_stations.held_of run.responder) (device_held.held_at_first setting.eid setting.keep setting.start) [] held (device_new setting.eid setting.keep setting.start);
+    left = device_same setting.eid All setting.window setting.keep setting.start (responder_stations.held_of run.responder) (device_held.held_at_first setting.eid All setting.window setting.keep setting.start) [] held (device_new setting.eid All setting.window setting.keep setting.start);
     events = refl;
     called = let l = held.last in omega (arith, l);
   };
@@ -46,6 +49,7 @@ begins setting run times eid device_new device_same new same held each empty = r
   carried = ap (λ xs. length xs) empty.traffic;
   entries = empty.entries;
   order = empty.order;
+  arrived = none_arrived;
   timely = empty.timely;
   sent = tt;
   fit = tt;

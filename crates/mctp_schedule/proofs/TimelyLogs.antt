@@ -9,8 +9,9 @@ use Rattle.pldm_requester.specs.Laws.{IdsApart, IsInOrder, moment_of}
 use Rattle.pldm_requester.specs.Numbering.{id_of, message_of}
 use Rattle.mctp_schedule.specs.Laws.{LogIsTimely}
 use Rattle.mctp_schedule.specs.Logs as logs
-use Rattle.mctp_schedule.specs.Logs.{Asked, Happening, Opened, Delivered, Sensed, WentDown, Apart, ComesLate, InOrder, InTime, asked_at, count_of, last_of}
-use Rattle.mctp_schedule.specs.Worlds.{IsTimely, IsTimelyAction, NeverWentBack, Setting, World, asked_by, busy_packet, done, handed, log_opened, reply_packet, requests_of, source_of, time_now, timing_from, timing_of, with_call, world}
+use Rattle.mctp_schedule.specs.Logs.{Asked, Happening, Opened, Delivered, Sensed, WentDown, Apart, ComesLate, InOrder, asked_at, count_of, last_of}
+use Rattle.mctp_schedule.specs.Worlds.{NeverWentBack, Setting, World, asked_by, busy_packet, handed, log_opened, requests_of, source_of, time_now, timing_from, timing_of, with_call, IsTimely, IsTimelyAction, done, reply_packet, world}
+use Rattle.mctp_schedule.specs.Timely.{InTime}
 use Rattle.schedule_text.specs.declared.step.RequesterLine.{RequesterLine}
 use Rattle.schedule_text.specs.declared.step.Step.{Step}
 use Rattle.schedule_text.specs.declared.step.Action.{Action}
@@ -43,7 +44,7 @@ module _ {S : Type 0} (setting : Setting S) where
     pub called : (e : ℕ) → last_moment e setting.eid (timing_of setting e) (w.calls e) ≤ now
     pub matches : (k : ℕ) (r : Asked) → asked_at w.log k ≡ Some r → Matches w r
     pub apart : Apart setting.keep w.log
-    pub in_time : InTime setting.keep w.log
+    pub in_time : InTime S setting.window setting.keep w.log
 
   joined_later : (w : World) (now moment : ℕ) → Joined w now → now ≤ moment → Joined w moment
   joined_later w now moment j later = record {
@@ -108,7 +109,7 @@ module _ {S : Type 0} (setting : Setting S) where
 
   -- something happens on the link that opens no request
   joined_happened : (w : World) (now : ℕ) (h : Happening) → ((k : ℕ) (r : Asked) → asked_at (h ∷ w.log) k ≡ Some r → asked_at w.log k ≡ Some r)
-      → Apart setting.keep (h ∷ w.log) → InTime setting.keep (h ∷ w.log) → Joined w now → now ≤ logs.moment_of h → Joined (record { calls = w.calls; log = h ∷ w.log }) (logs.moment_of h)
+      → Apart setting.keep (h ∷ w.log) → InTime S setting.window setting.keep (h ∷ w.log) → Joined w now → now ≤ logs.moment_of h → Joined (record { calls = w.calls; log = h ∷ w.log }) (logs.moment_of h)
   joined_happened w now h asked apart in_time j later = record {
     order = (let x = j.last in omega (arith, x, later), j.order);
     last = omega arith;

@@ -1,11 +1,13 @@
 -- The test of a timely schedule tells just that.
-use Rattle.std.proofs.Common.{◌≡◌, ℕ, ◌+◌, ◌<◌, ◌≤◌, List, [], ◌∷◌, Option, Some, None, true, refl, subst}
+use Rattle.std.proofs.Common.{◌≡◌, ℕ, ◌+◌, ◌≤◌, List, [], ◌∷◌, Option, Some, None, Bool, true, false, refl, subst}
 use Rattle.std.specs.Prelude.{◌||◌, not, is_some}
 use Rattle.std.proofs.lemmas.Bool.{and_parts, and_from, ltb-true, lt-ltb, leb-true, le-leb}
 use Rattle.mctp_packet.specs.declared.TheConstants.{TAGS}
 use Rattle.mctp_schedule.specs.Laws.{TimelyIsTested}
-use Rattle.mctp_schedule.specs.Logs.{Asked, asked_at}
-use Rattle.mctp_schedule.specs.Worlds.{IsTimely, IsTimelyAction, Setting, TagIsOwn, World, busy_packet, comes_in_time, is_timely, is_timely_action, reply_packet, requests_of, tag_is_own, world}
+use Rattle.mctp_schedule.specs.FirstArrivals.{has_arrived}
+use Rattle.mctp_schedule.specs.Logs.{Asked, Happening, asked_at}
+use Rattle.mctp_schedule.specs.Worlds.{Setting, TagIsOwn, World, busy_packet, requests_of, tag_is_own, IsTimely, IsTimelyAction, comes_in_time, is_timely, is_timely_action, reply_packet, world}
+use Rattle.mctp_schedule.specs.Timely.{ComesInTime, is_in_window}
 use Rattle.schedule_text.specs.declared.step.Action.{Action}
 use Rattle.schedule_text.specs.declared.step.Action.TheVariants.{Open, Tick, Request, Reply, Sense, Restart, Busy}
 use Rattle.schedule_text.specs.declared.step.Step.{Step}
@@ -14,13 +16,29 @@ same : (P : Asked → Type 0) (q : Asked) → P q → (r : Asked) → Some q ≡
 same P q x r e = subst P (let y : q ≡ r = cc in y) x
 
 module _ {S : Type 0} (setting : Setting S) where
-  in_time_told : (moment : ℕ) (o : Option Asked) → comes_in_time setting moment o ≡ true → (r : Asked) → o ≡ Some r → moment < r.opening + setting.keep
-  in_time_told moment None t r e = absurd (cc)
-  in_time_told moment (Some q) t r e = same (λ r. moment < r.opening + setting.keep) q (ltb-true moment (q.opening + setting.keep) t) r e
+  within_told : (came within : Bool) → (not came || within) ≡ true → came ≡ true → within ≡ true
+  within_told true within t c = t
+  within_told false within t c = absurd (cc)
 
-  in_time_tested : (moment : ℕ) (o : Option Asked) → ((r : Asked) → o ≡ Some r → moment < r.opening + setting.keep) → comes_in_time setting moment o ≡ true
-  in_time_tested moment None h = refl
-  in_time_tested moment (Some q) h = lt-ltb moment (q.opening + setting.keep) (h q refl)
+  within_tested : (came within : Bool) → (came ≡ true → within ≡ true) → (not came || within) ≡ true
+  within_tested true within h = h refl
+  within_tested false within h = refl
+
+  in_time_told : (log : List Happening) (moment k : ℕ) (o : Option Asked) → comes_in_time setting log moment k o ≡ true → (r : Asked) → o ≡ Some r → ComesInTime S setting.window setting.keep log moment k r
+  in_time_told log moment k None t r e = absurd (cc)
+  in_time_told log moment k (Some q) t r e =
+      let parts = and_parts _ _ t in
+      same (ComesInTime S setting.window setting.keep log moment k) q
+      (record {
+        soon = ltb-true moment (q.opening + setting.keep) parts.0;
+        in_window = within_told (has_arrived S setting.keep log k) (is_in_window S setting.window setting.keep log q) parts.1;
+      }) r e
+
+  in_time_tested : (log : List Happening) (moment k : ℕ) (o : Option Asked) → ((r : Asked) → o ≡ Some r → ComesInTime S setting.window setting.keep log moment k r) → comes_in_time setting log moment k o ≡ true
+  in_time_tested log moment k None h = refl
+  in_time_tested log moment k (Some q) h =
+      and_from _ _ (lt-ltb moment (q.opening + setting.keep) (h q refl).soon)
+      (within_tested (has_arrived S setting.keep log k) (is_in_window S setting.window setting.keep log q) (h q refl).in_window)
 
   own_told : (w : World) (o : Option Asked) → tag_is_own setting w o ≡ true → (r : Asked) → o ≡ Some r → (requests_of setting w r.source).count ≤ r.own + TAGS
   own_told w None t r e = absurd (cc)
@@ -39,7 +57,7 @@ module _ {S : Type 0} (setting : Setting S) where
   packet_tested w k (Some packet) h = own_tested w (asked_at w.log k) (h packet refl)
 
   action_told : (w : World) (moment : ℕ) (action : Action) → is_timely_action setting w moment action ≡ true → IsTimelyAction setting w moment action
-  action_told w moment (Request k) t = in_time_told moment (asked_at w.log k) t
+  action_told w moment (Request k) t = in_time_told w.log moment k (asked_at w.log k) t
   action_told w moment (Reply j k) t = packet_told w k (reply_packet setting w k j) t
   action_told w moment (Busy k) t = packet_told w k (busy_packet setting w k) t
   action_told w moment (Open e command) t = tt
@@ -48,7 +66,7 @@ module _ {S : Type 0} (setting : Setting S) where
   action_told w moment Restart t = tt
 
   action_tested : (w : World) (moment : ℕ) (action : Action) → IsTimelyAction setting w moment action → is_timely_action setting w moment action ≡ true
-  action_tested w moment (Request k) h = in_time_tested moment (asked_at w.log k) h
+  action_tested w moment (Request k) h = in_time_tested w.log moment k (asked_at w.log k) h
   action_tested w moment (Reply j k) h = packet_tested w k (reply_packet setting w k j) h
   action_tested w moment (Busy k) h = packet_tested w k (busy_packet setting w k) h
   action_tested w moment (Open e command) h = refl

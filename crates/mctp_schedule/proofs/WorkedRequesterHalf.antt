@@ -42,6 +42,7 @@ long = record {
   start = 0;
   eid = 9;
   keep = 1000;
+  window = 32;
   requesters = record { eid = 8; timeout = 200; tries = 3 } ∷ [];
 }
 
@@ -124,6 +125,7 @@ light = record {
   start = pos 10;
   eid = 9;
   keep = 1000;
+  window = 32;
   requesters = record { eid = 8; timeout = 200; tries = 5 } ∷ [];
 }
 
@@ -212,6 +214,7 @@ gauge = record {
   start = pos 40;
   eid = 9;
   keep = 1000;
+  window = 32;
   requesters = record { eid = 8; timeout = 200; tries = 3 } ∷ [];
 }
 

@@ -2,6 +2,7 @@
 -- in the order of their first arrivals, the device's state and the one reply of a request. One that is not timely is
 -- computed from the definitions of both ends. The newest step stands first.
 use Rattle.std.proofs.Common.{◌≡◌, ℕ, pos, List, [], ◌∷◌, ◌++◌, map, Some, None, true, false, Bool, Ok, ◌+◌, replicate, refl}
+use Rattle.pldm_wire.specs.declared.busy_time.BusyTime.TheVariants.{All}
 use Rattle.mctp_packet.specs.declared.reason.Reason.TheVariants.{UnexpectedMiddleOrEnd, BadTag, NotReady}
 use Rattle.pldm_wire.specs.CommandReading.{command_of}
 use Rattle.pldm_wire.specs.Requests.{request_of}
@@ -237,11 +238,11 @@ untimely_requests : map (λ (r : EndedRequest). r.progress) (requests_after sett
 unfolding request_of command_of response_of
 untimely_requests = refl
 
-untimely_order : order Device 1000 (world setting untimely).log ≡ 0 ∷ 0 ∷ []
+untimely_order : order Device 32 1000 (world setting untimely).log ≡ 0 ∷ 0 ∷ []
 unfolding request_of command_of response_of
 untimely_order = refl
 
-untimely_state : performed setting.device 1000 setting.start (told (world setting untimely).log) ≡ with_values (pos 40) (pos 40)
+untimely_state : performed setting.device All 32 1000 setting.start (told (world setting untimely).log) ≡ with_values (pos 40) (pos 40)
 unfolding request_of command_of response_of
 untimely_state = refl
 

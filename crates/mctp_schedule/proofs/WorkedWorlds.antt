@@ -29,6 +29,7 @@ setting = record {
   start = pos 10;
   eid = 9;
   keep = 1000;
+  window = 32;
   requesters = record { eid = 8; timeout = 200; tries = 5 } ∷ [];
 }
 
@@ -39,14 +40,14 @@ abbrev progress : List Step → Progress
 progress steps = ((requests_of setting (world setting steps) 8).each 0).course.progress
 
 abbrev performed_in : List Step → List ℕ
-performed_in steps = order ℤ 1000 (world setting steps).log
+performed_in steps = order ℤ 32 1000 (world setting steps).log
 
 abbrev level : List Step → ℤ
 level steps = once (setting.device) 1000 (pos 10) (world setting steps).log
 
 -- the commands that the platform performs, the newest first, and those of the first arrivals
 abbrev commands_in : List Step → List Command
-commands_in steps = commands_performed ℤ 1000 (world setting steps).log
+commands_in steps = commands_performed ℤ 32 1000 (world setting steps).log
 
 abbrev first_commands : List Step → List Command
 first_commands steps = commands_once ℤ 1000 (world setting steps).log

@@ -1,5 +1,6 @@
 -- What came of each step: what both ends answered to it.
 use Rattle.std.specs.Prelude.{ℕ, ℤ, List, [], ◌∷◌, ◌++◌, ◌==◌, map, slice_index, Option, Some, None, Result, Ok, Err, if◌then◌else◌}
+use Rattle.pldm_wire.specs.declared.busy_time.BusyTime.TheVariants.{All}
 use Rattle.pldm_platform.specs.Changes.{made_of}
 use Rattle.pldm_responder.specs.Calls.{answer_expected}
 use Rattle.pldm_responder.specs.Events.{is_busy}
@@ -63,11 +64,12 @@ module _ {S : Type 0} (setting : Setting S) where
   delivery_entry log moment None = Nothing
   delivery_entry log moment (Some r) =
       Delivered (is_busy setting.keep (told {S = S} log) moment)
-      (answer_expected setting.device setting.eid setting.keep setting.start (told log) (message_at moment r))
+      (answer_expected setting.device setting.eid All setting.window setting.keep setting.start (told log)
+      (message_at moment r))
 
   abbrev pub reading_entry : List Happening → ℕ → ℤ → Entry
   reading_entry log id value =
-      let state = performed setting.device setting.keep setting.start (told log) in
+      let state = performed setting.device All setting.window setting.keep setting.start (told log) in
       Sensed (made_of (λ _. tt) (setting.device.sensed state id value))
 
   -- what comes of an action in a world

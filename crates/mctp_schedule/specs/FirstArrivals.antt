@@ -2,6 +2,7 @@
 use Rattle.std.specs.Prelude.{◌≡◌, ℕ, ◌<◌, List, [], ◌∷◌, ◌++◌, length, slice_get, Bool, false, ◌&&◌, not, ◌==◌, Option, Some, None, IsSomeAnd, is_some, if◌then◌else◌}
 use Rattle.std.specs.List.{list_any}
 use Rattle.std.specs.Option.{option_or}
+use Rattle.pldm_wire.specs.declared.busy_time.BusyTime.TheVariants.{All}
 use Rattle.pldm_responder.specs.Events.{Event, is_busy, is_fresh}
 use Rattle.mctp_schedule.specs.Logs.{Asked, Happening, Delivered, asked_at, message_at, told}
 
@@ -20,9 +21,9 @@ abbrev pub earlier : Option (List Happening) → Bool → List Happening → Opt
 earlier place here past = option_or place (if here then Some past else None)
 
 -- a delivery of this request is fresh at the responder
-abbrev pub fresh_of : {S : Type 0} → ℕ → List (Event S) → ℕ → Option Asked → Bool
-fresh_of keep events moment None = false
-fresh_of keep events moment (Some r) = is_fresh keep events (message_at moment r)
+abbrev pub fresh_of : {S : Type 0} → (window keep : ℕ) → List (Event S) → ℕ → Option Asked → Bool
+fresh_of window keep events moment None = false
+fresh_of window keep events moment (Some r) = is_fresh All window keep events (message_at moment r)
 
 -- over a device with states S
 module _ (S : Type 0) where
@@ -50,11 +51,12 @@ module _ (S : Type 0) where
   is_first keep past moment k = not (has_arrived keep past k) && arrives_at keep past moment k
 
   -- the requests whose deliveries were fresh at the responder, the oldest first
-  abbrev pub order : ℕ → List Happening → List ℕ
-  order keep [] = []
-  order keep (Delivered moment k ∷ past) =
-      if fresh_of keep (told {S = S} past) moment (asked_at past k) then order keep past ++ k ∷ [] else order keep past
-  order keep (_ ∷ past) = order keep past
+  abbrev pub order : (window keep : ℕ) → List Happening → List ℕ
+  order window keep [] = []
+  order window keep (Delivered moment k ∷ past) =
+      if fresh_of window keep (told {S = S} past) moment (asked_at past k) then order window keep past ++ k ∷ []
+      else order window keep past
+  order window keep (_ ∷ past) = order window keep past
 
   -- the requests that arrived, each at its first arrival, the oldest first
   abbrev pub firsts : ℕ → List Happening → List ℕ

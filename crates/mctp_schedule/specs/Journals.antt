@@ -1,5 +1,5 @@
 -- What a run writes down of its requests and their answers.
-use Rattle.std.specs.Prelude.{ℕ, Bool, true, false, List, [], ◌∷◌, ◌++◌, ◌==◌, Option, Some, None, option_and_then, slice_get, if◌then◌else◌, refl}
+use Rattle.std.specs.Prelude.{ℕ, Bool, true, false, List, [], ◌∷◌, ◌++◌, ◌==◌, Option, Some, None, option_and_then, is_some, slice_get, if◌then◌else◌, refl}
 use Rattle.std.specs.List.{list_any}
 use Rattle.std.specs.Coded.{Coded, code_by, coded×, coded_ℕ, coded_list, coded_option}
 use Rattle.pldm_requester.specs.Courses as courses
@@ -36,6 +36,11 @@ answers_at place false carried = record { header = carried.header; reply = Some 
 abbrev pub packet_of_request : Option Carried → Option Request → Option (List ℕ)
 packet_of_request (Some carried) (Some request) = Some (carried.header ++ request.asked.message)
 packet_of_request carried request = None
+
+-- a request has a latest reply
+abbrev pub is_replied : Option Carried → Bool
+is_replied None = false
+is_replied (Some carried) = is_some carried.reply
 
 -- the packets of the answer at this place among the deliveries of these entries
 abbrev pub packets_in : List Entry → Option ℕ → Option (List (List ℕ))

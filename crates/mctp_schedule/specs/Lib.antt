@@ -1,14 +1,17 @@
+pub mod ArrivedIds
 pub mod Askers
 pub mod Deliveries
 pub mod DeliveryPlaces
 pub mod DeviceHalf
 pub mod DueNumbers
+pub mod EachId
 pub mod Entries
 pub mod EntryColumns
 pub mod FirstArrivals
 pub mod HandedPackets
 pub mod Headline
 pub mod HeldRuns
+pub mod InWindow
 pub mod Journals
 pub mod Laws
 pub mod Logs
@@ -22,4 +25,5 @@ pub mod RunFaults
 pub mod Running
 pub mod Runs
 pub mod Taken
+pub mod Timely
 pub mod Worlds

@@ -1,5 +1,5 @@
 -- What happened on the link between requesters and a device, the newest first, and what of it reached the responder.
-use Rattle.std.specs.Prelude.{◌≡◌, ℕ, suc, ◌+◌, ◌*◌, ◌%◌, ◌<◌, ◌≤◌, ℤ, List, [], ◌∷◌, ◌==◌, Option, Some, None, if◌then◌else◌}
+use Rattle.std.specs.Prelude.{◌≡◌, ℕ, suc, ◌+◌, ◌*◌, ◌%◌, ◌≤◌, ℤ, List, [], ◌∷◌, ◌==◌, Option, Some, None, if◌then◌else◌}
 use Rattle.mctp_packet.specs.declared.TheConstants.{TAGS}
 use Rattle.pldm_wire.specs.Headers.{id_at}
 use Rattle.pldm_responder.specs.Events.{Message, Event, Came, Set, Restarted}
@@ -78,16 +78,3 @@ abbrev pub Apart : ℕ → List Happening → Type 0
 Apart keep [] = Unit {0}
 Apart keep (Opened r ∷ past) = ComesLate keep r past × Apart keep past
 Apart keep (_ ∷ past) = Apart keep past
-
--- each request is delivered less than the keeping time after it was opened
-abbrev pub InTime : ℕ → List Happening → Type 0
-InTime keep [] = Unit {0}
-InTime keep (Delivered moment k ∷ past) =
-    ((r : Asked) → asked_at past k ≡ Some r → moment < r.opening + keep) × InTime keep past
-InTime keep (_ ∷ past) = InTime keep past
-
--- all three
-pub record IsTimelyLog (keep : ℕ) (log : List Happening) : Type 0 where
-  pub order : InOrder log
-  pub apart : Apart keep log
-  pub in_time : InTime keep log

@@ -2,6 +2,7 @@
 use Rattle.std.specs.Prelude.{◌≡◌, ℕ, ◌<◌, ◌≤◌, true, false, List, [], ◌∷◌, length, Bool, ◌&&◌, ◌||◌, ◌==◌, Option, Some, None, Ok, option_map, if◌then◌else◌}
 use Rattle.mctp_packet.specs.declared.TheConstants.{MAX_MESSAGE_BYTES}
 use Rattle.pldm_wire.specs.Requests as requests
+use Rattle.pldm_wire.specs.declared.busy_time.BusyTime.TheVariants.{All}
 use Rattle.pldm_platform.specs.Changes.{changed_or}
 use Rattle.pldm_responder.specs.Events.{is_busy, is_fresh}
 use Rattle.pldm_responder.specs.Performing.{Rules, reply, next, changes, busy_reply, performed, answered}
@@ -49,28 +50,6 @@ module _ {S : Type 0} (device : Rules S) (keep : ℕ) (start : S) where
   abbrev pub the_reply : List Happening → ℕ → List ℕ
   the_reply log k = reply_from (bytes_of (asked_at log k)) (first S keep log k)
 
-  -- each reply that the device made fits packets: those to fresh deliveries, in the states that it was in
-  abbrev pub RepliesFit : List Happening → Type 0
-  RepliesFit [] = Unit {0}
-  RepliesFit (Delivered moment k ∷ past) =
-      ((r : Asked) → asked_at past k ≡ Some r → is_fresh keep (told {S = S} past) (message_at moment r) ≡ true
-      → FitsPackets (reply device (performed device keep start (told past)) r.message))
-      × RepliesFit past
-  RepliesFit (_ ∷ past) = RepliesFit past
-
-  abbrev pub answered_to : ℕ → List Happening → Option Asked → List ℕ
-  answered_to moment past None = []
-  answered_to moment past (Some r) = answered device keep start (told past) (message_at moment r)
-
-  -- the latest reply that the responder gave to request k, busy answers aside; `None` where it gave none yet
-  abbrev pub given : List Happening → ℕ → Option (List ℕ)
-  given [] k = None
-  given (Delivered moment j ∷ past) k =
-      if j == k && arrives_at S keep past moment k
-      then Some (answered_to moment past (asked_at past k))
-      else given past k
-  given (_ ∷ past) k = given past k
-
   -- the one reply of request k, where it has arrived
   abbrev pub given_once : List Happening → ℕ → Option (List ℕ)
   given_once log k = option_map (λ place. the_reply log k) (first S keep log k)
@@ -85,6 +64,31 @@ module _ {S : Type 0} (device : Rules S) (keep : ℕ) (start : S) where
       then Answered true (changes device (once past) r.message)
       (packets_back own (message_at moment r) (the_reply (Delivered moment k ∷ past) k))
       else Answered false false (packets_back own (message_at moment r) (the_reply (Delivered moment k ∷ past) k))
+
+-- what a responder with a window gave; in the busy time it refuses each request
+module _ {S : Type 0} (device : Rules S) (window keep : ℕ) (start : S) where
+  -- each reply that the device made fits packets: those to fresh deliveries, in the states that it was in
+  abbrev pub RepliesFit : List Happening → Type 0
+  RepliesFit [] = Unit {0}
+  RepliesFit (Delivered moment k ∷ past) =
+      ((r : Asked) → asked_at past k ≡ Some r
+      → is_fresh All window keep (told {S = S} past) (message_at moment r) ≡ true
+      → FitsPackets (reply device (performed device All window keep start (told past)) r.message))
+      × RepliesFit past
+  RepliesFit (_ ∷ past) = RepliesFit past
+
+  abbrev pub answered_to : ℕ → List Happening → Option Asked → List ℕ
+  answered_to moment past None = []
+  answered_to moment past (Some r) = answered device All window keep start (told past) (message_at moment r)
+
+  -- the latest reply that the responder gave to request k, busy answers aside; `None` where it gave none yet
+  abbrev pub given : List Happening → ℕ → Option (List ℕ)
+  given [] k = None
+  given (Delivered moment j ∷ past) k =
+      if j == k && arrives_at S keep past moment k
+      then Some (answered_to moment past (asked_at past k))
+      else given past k
+  given (_ ∷ past) k = given past k
 
 -- over a device with states S
 module _ (S : Type 0) where

@@ -16,16 +16,16 @@ commands_if performed (Some r) = if performed then commands_of r.message else []
 -- over a device with states S
 module _ (S : Type 0) where
   -- the commands that the device performs at a delivery of request k
-  abbrev pub commands_at_delivery : ℕ → List Happening → ℕ → ℕ → List Command
-  commands_at_delivery keep past moment k =
-      commands_if (fresh_of keep (told {S = S} past) moment (asked_at past k)) (asked_at past k)
+  abbrev pub commands_at_delivery : (window keep : ℕ) → List Happening → ℕ → ℕ → List Command
+  commands_at_delivery window keep past moment k =
+      commands_if (fresh_of window keep (told {S = S} past) moment (asked_at past k)) (asked_at past k)
 
   -- all that it performed
-  abbrev pub commands_performed : ℕ → List Happening → List Command
-  commands_performed keep [] = []
-  commands_performed keep (Delivered moment k ∷ past) =
-      commands_at_delivery keep past moment k ++ commands_performed keep past
-  commands_performed keep (_ ∷ past) = commands_performed keep past
+  abbrev pub commands_performed : (window keep : ℕ) → List Happening → List Command
+  commands_performed window keep [] = []
+  commands_performed window keep (Delivered moment k ∷ past) =
+      commands_at_delivery window keep past moment k ++ commands_performed window keep past
+  commands_performed window keep (_ ∷ past) = commands_performed window keep past
 
   -- what it performs where each request that arrived is performed once, at its first arrival
   abbrev pub commands_once : ℕ → List Happening → List Command
@@ -35,11 +35,11 @@ module _ (S : Type 0) where
   commands_once keep (_ ∷ past) = commands_once keep past
 
   -- the commands that a step has performed after what happened on the link: a delivery alone performs any
-  abbrev pub commands_at_step : ℕ → List Happening → ℕ → Action → List Command
-  commands_at_step keep log moment (Request k) = commands_at_delivery keep log moment k
-  commands_at_step keep log moment (Open e command) = []
-  commands_at_step keep log moment (Tick e) = []
-  commands_at_step keep log moment (Reply j k) = []
-  commands_at_step keep log moment (Sense id value) = []
-  commands_at_step keep log moment Restart = []
-  commands_at_step keep log moment (Busy k) = []
+  abbrev pub commands_at_step : (window keep : ℕ) → List Happening → ℕ → Action → List Command
+  commands_at_step window keep log moment (Request k) = commands_at_delivery window keep log moment k
+  commands_at_step window keep log moment (Open e command) = []
+  commands_at_step window keep log moment (Tick e) = []
+  commands_at_step window keep log moment (Reply j k) = []
+  commands_at_step window keep log moment (Sense id value) = []
+  commands_at_step window keep log moment Restart = []
+  commands_at_step window keep log moment (Busy k) = []

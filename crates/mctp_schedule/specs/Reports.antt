@@ -1,6 +1,7 @@
 -- What a report says of a run: one fact for each of its parts, and the headline where the schedule was timely.
 use Rattle.std.specs.Prelude.{◌≡◌, ℕ, List, Bool, true}
 use Rattle.pldm_responder.specs.Performing.{performed}
+use Rattle.pldm_wire.specs.declared.busy_time.BusyTime.TheVariants.{All}
 use Rattle.pldm_wire.specs.declared.command.Command.{Command}
 use Rattle.mctp_schedule.specs.Entries.{entries, requests_after}
 use Rattle.mctp_schedule.specs.FirstArrivals.{order}
@@ -29,11 +30,12 @@ pub record IsReport {S : Type 0}
   -- each request that was opened, and how it ended
   pub each_request : report.requests ≡ requests_after setting (world setting steps)
   -- the requests that were performed, in their order
-  pub in_order : report.order ≡ order S setting.keep (world setting steps).log
+  pub in_order : report.order ≡ order S setting.window setting.keep (world setting steps).log
   -- the state that performing them leaves
-  pub state : report.device ≡ performed setting.device setting.keep setting.start (told (world setting steps).log)
+  pub state : report.device
+      ≡ performed setting.device All setting.window setting.keep setting.start (told (world setting steps).log)
   -- their commands, and no others, were performed on the platform itself
-  pub commands : has_performed (commands_performed S setting.keep (world setting steps).log)
+  pub commands : has_performed (commands_performed S setting.window setting.keep (world setting steps).log)
   -- whether the schedule was timely
   pub tested : report.timely ≡ is_timely setting steps
   -- the headline

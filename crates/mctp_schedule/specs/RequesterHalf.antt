@@ -23,7 +23,7 @@ pub record IsSound {S : Type 0} (setting : Setting S) (steps : List Step) : Type
   pub sources :
       (k : ℕ) (r : Asked) → asked_at (world setting steps).log k ≡ Some r
       → IsEid r.source × (r.source ≢ setting.eid)
-  pub fit : RepliesFit setting.device setting.keep setting.start (world setting steps).log
+  pub fit : RepliesFit setting.device setting.window setting.keep setting.start (world setting steps).log
 
 -- a timely schedule of such requesters and such replies
 pub record IsTimelySchedule {S : Type 0} (setting : Setting S) (steps : List Step) : Type 0 where
@@ -38,8 +38,8 @@ pub record WasPerformedOnce {S : Type 0}
   pub arrived : first S setting.keep (world setting steps).log k ≡ Some place
   pub answer : message ≡ reply setting.device (once setting.device setting.keep setting.start place) r.message
   pub index : ℕ
-  pub listed : slice_get (order S setting.keep (world setting steps).log) index ≡ Some k
-  pub only : (i : ℕ) → slice_get (order S setting.keep (world setting steps).log) i ≡ Some k → i ≡ index
+  pub listed : slice_get (order S setting.window setting.keep (world setting steps).log) index ≡ Some k
+  pub only : (i : ℕ) → slice_get (order S setting.window setting.keep (world setting steps).log) i ≡ Some k → i ≡ index
 
 module _ {S : Type 0} (setting : Setting S) where
   -- what came to an open request are the packets that were delivered to it: of its one reply, and busy answers

@@ -1,24 +1,27 @@
 -- What a run holds after some steps, the newest first: both ends, and what is written down of them.
-use Rattle.std.specs.Prelude.{◌≡◌, ◌≢◌, ℕ, ◌<◌, ◌≤◌, true, false, List, [], ◌∷◌, ◌++◌, length, Option, Some, None, IfSome, option_map, slice_get, Bool}
+use Rattle.std.specs.Prelude.{◌≡◌, ◌≢◌, ℕ, ◌<◌, ◌≤◌, true, false, List, [], ◌∷◌, ◌++◌, length, Option, Some, None, IfSome, is_some, option_map, slice_get, Bool}
 use Rattle.mctp_packet.specs.Ids.{IsEid}
 use Rattle.mctp_packet.specs.declared.TheConstants.{UNIT}
 use Rattle.pldm_responder.specs.Calls as responder
 use Rattle.pldm_responder.specs.Laws as responder_laws
 use Rattle.pldm_responder.specs.Performing.{Rules, busy_reply}
 use Rattle.pldm_responder.specs.Stations as responder_stations
+use Rattle.pldm_wire.specs.declared.busy_time.BusyTime.TheVariants.{All}
 use Rattle.pldm_wire.specs.declared.command.Command.{Command}
 use Rattle.pldm_requester.specs.Laws as requester_laws
 use Rattle.pldm_requester.specs.Slots.{held_of}
 use Rattle.mctp_schedule.specs.Askers.{Side, packet_bytes}
 use Rattle.mctp_schedule.specs.Entries.{as_it_stands, entries, numbers_of}
 use Rattle.mctp_schedule.specs.EntryColumns.{outcomes_in}
-use Rattle.mctp_schedule.specs.FirstArrivals.{order}
+use Rattle.mctp_schedule.specs.ArrivedIds.{ids_at}
+use Rattle.mctp_schedule.specs.FirstArrivals.{has_arrived, order}
 use Rattle.mctp_schedule.specs.HeldRuns.{HeldRun}
 use Rattle.mctp_schedule.specs.Journals.{Carried, packets_in}
 use Rattle.mctp_schedule.specs.Logs.{Asked, Happening, Opened, Delivered, Sensed, WentDown, asked_at, count_of, told}
 use Rattle.mctp_schedule.specs.OncePerformed.{AreRequests, IsReadable, RepliesFit, given, was_busy}
 use Rattle.mctp_schedule.specs.PerformedCommands.{commands_at_step}
 use Rattle.mctp_schedule.specs.Places.{side_at}
+use Rattle.mctp_schedule.specs.Timely.{ids_arrived}
 use Rattle.schedule_text.specs.Schedules.{has_requester, is_known}
 use Rattle.mctp_schedule.specs.Worlds.{Setting, World, answer_packets, is_timely, requests_of, time_now, timing_of, world}
 use Rattle.mctp_schedule.specs.declared.entry.Entry.{Entry}
@@ -66,7 +69,7 @@ pub record IsDevice {P S : Type 0}
     (setting : Setting S) (w : World) (now : ℕ) (station : responder_stations.Station P S) : Type 0 where
   pub endpoint : IsEid setting.eid
   pub left :
-      responder_laws.IsLeftBy setting.device setting.eid setting.keep setting.start
+      responder_laws.IsLeftBy setting.device setting.eid All setting.window setting.keep setting.start
       (responder_stations.held_of station) (device_calls setting.eid w.log)
   pub events : responder.events setting.eid (device_calls setting.eid w.log) ≡ told {S = S} w.log
   pub called : (responder_stations.held_of station).last ≤ now
@@ -84,14 +87,17 @@ pub record IsCarried {S : Type 0}
     (setting : Setting S) (w : World) (entries : List Entry) (k : ℕ) (r : Asked) (carried : Carried) : Type 0 where
   pub packet : carried.header ++ r.message ≡ packet_bytes r.source setting.eid r.own r.message
   pub reply : packets_in entries carried.reply
-      ≡ option_map (answer_packets setting.eid r) (given setting.device setting.keep setting.start w.log k)
+      ≡ option_map (answer_packets setting.eid r)
+      (given setting.device setting.window setting.keep setting.start w.log k)
   pub busy : packets_in entries carried.busy ≡ busy_packets setting.eid r (was_busy S setting.keep w.log k)
+  pub arrived : is_some carried.reply ≡ has_arrived S setting.keep w.log k
   pub reply_place : IsBefore (length (outcomes_in entries)) carried.reply
   pub busy_place : IsBefore (length (outcomes_in entries)) carried.busy
 
 -- this is what a run holds after these steps
 pub record IsRunning {P S : Type 0} (setting : Setting S) (past : List Step) (run : HeldRun P S) : Type 0 where
   pub times : run.keep ≡ setting.keep
+  pub window : run.window ≡ setting.window
   pub device : IsDevice setting (world setting past) (time_now past) run.responder
   pub sides : (e : ℕ) → has_requester setting.requesters e ≡ true
       → (side : Side) × (side_at run.places e ≡ Some side) × IsSide setting (world setting past) (time_now past) e side
@@ -105,16 +111,19 @@ pub record IsRunning {P S : Type 0} (setting : Setting S) (past : List Step) (ru
       × IsCarried setting (world setting past) run.journal.entries k r carried
   pub carried : length run.journal.traffic.items ≡ count_of (world setting past).log
   pub entries : run.journal.entries ≡ entries setting past
-  pub order : run.journal.order.items ≡ order S setting.keep (world setting past).log
+  pub order : run.journal.order.items ≡ order S setting.window setting.keep (world setting past).log
+  pub arrived : (source : ℕ)
+      → ids_at run.arrivals source ≡ ids_arrived S setting.keep (world setting past).log source
   pub timely : run.journal.timely ≡ is_timely setting past
   pub sent : AreRequests (world setting past).log
-  pub fit : RepliesFit setting.device setting.keep setting.start (world setting past).log
+  pub fit : RepliesFit setting.device setting.window setting.keep setting.start (world setting past).log
 
--- what a run is about: the device's first state and endpoint ID, the keeping time, and the requesters
+-- what a run is about: the device's first state and endpoint ID, the keeping time, the window, and the requesters
 pub record Terms (S : Type 0) : Type 0 where
   pub start : S
   pub eid : ℕ
   pub keep : ℕ
+  pub window : ℕ
   pub requesters : List RequesterLine
 
 abbrev pub setting_of : {S : Type 0} → Rules S → Terms S → Setting S
@@ -123,6 +132,7 @@ setting_of device terms = record {
   start = terms.start;
   eid = terms.eid;
   keep = terms.keep;
+  window = terms.window;
   requesters = terms.requesters;
 }
 
@@ -161,7 +171,7 @@ module _ {P S : Type 0} (device : Rules S) where
       (terms : Terms S) (past : List Step)
       → IsRunning (setting_of device terms) past old → MayCome terms.requesters past step
       → performed old.responder.platform
-      (commands_at_step S terms.keep (world (setting_of device terms) past).log step.moment step.action)
+      (commands_at_step S terms.window terms.keep (world (setting_of device terms) past).log step.moment step.action)
       new.responder.platform
 
   -- a run has done this step

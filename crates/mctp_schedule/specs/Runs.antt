@@ -1,18 +1,20 @@
 -- A run of a device and the requesters of a schedule: what it is about, and the world at its end.
 use Rattle.std.specs.Prelude.{ℕ, List, reverse}
+use Rattle.pldm_wire.specs.declared.busy_time.BusyTime.TheVariants.{All}
 use Rattle.pldm_responder.specs.Performing.{Rules, performed}
 use Rattle.mctp_schedule.specs.Logs.{told}
 use Rattle.schedule_text.specs.Schedules.{Spelled}
 use Rattle.mctp_schedule.specs.Worlds.{Setting, World, world}
 use Rattle.schedule_text.specs.declared.step.Step.{Step}
 
--- a device with these rules, in its first state, at the endpoint `eid`; both ends keep for `keep`
-abbrev pub setting_of_run : {S : Type 0} → Rules S → S → ℕ → ℕ → Spelled → Setting S
-setting_of_run device start eid keep schedule = record {
+-- a device with these rules and this window, in its first state, at the endpoint `eid`; both ends keep for `keep`
+abbrev pub setting_of_run : {S : Type 0} → Rules S → S → (eid keep window : ℕ) → Spelled → Setting S
+setting_of_run device start eid keep window schedule = record {
   device = device;
   start = start;
   eid = eid;
   keep = keep;
+  window = window;
   requesters = schedule.requesters;
 }
 
@@ -27,4 +29,4 @@ final_world setting schedule = world setting (newest_first schedule)
 -- the responder's state after all steps
 abbrev pub final_state : {S : Type 0} → Setting S → Spelled → S
 final_state setting schedule =
-    performed setting.device setting.keep setting.start (told (final_world setting schedule).log)
+    performed setting.device All setting.window setting.keep setting.start (told (final_world setting schedule).log)

@@ -1,6 +1,6 @@
 -- Both ends over a schedule, the newest step first: what each requester is called with, and what happens on the link.
 -- A reply that a step delivers is a packet of what the device gave.
-use Rattle.std.specs.Prelude.{◌≡◌, ℕ, ◌+◌, ◌<◌, ◌≤◌, ◌==◌, ◌&&◌, ◌||◌, not, nat_lt, nat_le, is_some, Bool, true, List, [], ◌∷◌, find, slice_get, Option, Some, None, option_and_then, if◌then◌else◌}
+use Rattle.std.specs.Prelude.{◌≡◌, ℕ, ◌+◌, ◌≤◌, ◌==◌, ◌&&◌, ◌||◌, not, nat_lt, nat_le, is_some, Bool, true, List, [], ◌∷◌, find, slice_get, Option, Some, None, option_and_then, if◌then◌else◌}
 use Rattle.mctp_packet.specs.declared.TheConstants.{TAGS}
 use Rattle.pldm_wire.specs.declared.command.Command.{Command}
 use Rattle.pldm_responder.specs.Arrivals.{packets_back}
@@ -9,8 +9,10 @@ use Rattle.pldm_requester.specs.Calls as requester
 use Rattle.pldm_requester.specs.Calls.{accepts, requests}
 use Rattle.pldm_requester.specs.Numbering.{message_of}
 use Rattle.pldm_requester.specs.declared.timing.Timing.{Timing}
+use Rattle.mctp_schedule.specs.FirstArrivals.{has_arrived}
 use Rattle.mctp_schedule.specs.Logs.{Asked, Happening, Opened, Delivered, Sensed, WentDown, asked_at, message_at}
 use Rattle.mctp_schedule.specs.OncePerformed.{given, was_busy}
+use Rattle.mctp_schedule.specs.Timely.{ComesInTime, is_in_window}
 use Rattle.schedule_text.specs.Schedules.{is_requester}
 use Rattle.schedule_text.specs.declared.step.RequesterLine.{RequesterLine}
 use Rattle.schedule_text.specs.declared.step.Action.{Action}
@@ -23,12 +25,13 @@ pub record World : Type 0 where
   pub log : List Happening
 
 -- what both ends are made of: the device's rules, its first state and its endpoint ID, the keeping time of both ends,
--- and the requesters of the schedule
+-- the device's window of instance IDs, and the requesters of the schedule
 pub record Setting (S : Type 0) : Type 0 where
   pub device : Rules S
   pub start : S
   pub eid : ℕ
   pub keep : ℕ
+  pub window : ℕ
   pub requesters : List RequesterLine
 
 abbrev pub timing_from : ℕ → Option RequesterLine → Timing
@@ -77,7 +80,7 @@ module _ {S : Type 0} (setting : Setting S) where
   -- packet j of the latest reply that the device gave to request k, busy answers aside; `None` where there is none
   abbrev pub reply_packet : World → ℕ → ℕ → Option (List ℕ)
   reply_packet world k j =
-      packet_of (asked_at world.log k) (given setting.device setting.keep setting.start world.log k) j
+      packet_of (asked_at world.log k) (given setting.device setting.window setting.keep setting.start world.log k) j
 
   -- the one packet of the busy answer to a request, where it was given
   abbrev pub busy_from : Option Asked → Bool → Option (List ℕ)
@@ -120,11 +123,10 @@ module _ {S : Type 0} (setting : Setting S) where
   TagIsOwn world k =
       (r : Asked) → asked_at world.log k ≡ Some r → (requests_of world r.source).count ≤ r.own + TAGS
 
-  -- a request comes less than the keeping time after it was opened, and a packet of an answer while its tag was not
-  -- used again
+  -- a request comes in time, and a packet of an answer while its tag was not used again
   abbrev pub IsTimelyAction : World → ℕ → Action → Type 0
   IsTimelyAction world moment (Request k) =
-      (r : Asked) → asked_at world.log k ≡ Some r → moment < r.opening + setting.keep
+      (r : Asked) → asked_at world.log k ≡ Some r → ComesInTime S setting.window setting.keep world.log moment k r
   IsTimelyAction world moment (Reply j k) = (bytes : List ℕ) → reply_packet world k j ≡ Some bytes → TagIsOwn world k
   IsTimelyAction world moment (Busy k) = (bytes : List ℕ) → busy_packet world k ≡ Some bytes → TagIsOwn world k
   IsTimelyAction world moment (Open e command) = Unit {0}
@@ -150,16 +152,18 @@ NeverWentBack (step ∷ past) = (time_now past ≤ step.moment) × NeverWentBack
 module _ {S : Type 0} (setting : Setting S) where
   -- the tests that tell the same
 
-  abbrev pub comes_in_time : ℕ → Option Asked → Bool
-  comes_in_time moment None = true
-  comes_in_time moment (Some r) = nat_lt moment (r.opening + setting.keep)
+  abbrev pub comes_in_time : List Happening → ℕ → ℕ → Option Asked → Bool
+  comes_in_time log moment k None = true
+  comes_in_time log moment k (Some r) =
+      nat_lt moment (r.opening + setting.keep)
+      && (not (has_arrived S setting.keep log k) || is_in_window S setting.window setting.keep log r)
 
   abbrev pub tag_is_own : World → Option Asked → Bool
   tag_is_own world None = true
   tag_is_own world (Some r) = nat_le (requests_of setting world r.source).count (r.own + TAGS)
 
   abbrev pub is_timely_action : World → ℕ → Action → Bool
-  is_timely_action world moment (Request k) = comes_in_time moment (asked_at world.log k)
+  is_timely_action world moment (Request k) = comes_in_time world.log moment k (asked_at world.log k)
   is_timely_action world moment (Reply j k) =
       not (is_some (reply_packet setting world k j)) || tag_is_own world (asked_at world.log k)
   is_timely_action world moment (Busy k) =

@@ -2,7 +2,10 @@
 
 ghost use Rattle.std.specs.Prelude.{◌≡◌, ◌⊎◌, true, None, Some, IfOk, IfErr, OnOk};
 ghost use Rattle.mctp_packet.specs.Memories.{out_of_memory};
+ghost use Rattle.pldm_wire.specs.declared.busy_time.BusyTime.TheVariants.{All};
+ghost use Rattle.pldm_responder.specs.Held.{IsHeld, held_at_first};
 ghost use Rattle.pldm_responder.specs.Performing.{rules_of};
+ghost use Rattle.pldm_responder.specs.Stations.{held_of};
 ghost use Rattle.mctp_schedule.specs.Reports.{IsReport};
 ghost use Rattle.mctp_schedule.specs.RunFaults.{refusal};
 ghost use Rattle.mctp_schedule.specs.HeldRuns.{held_by};
@@ -11,6 +14,7 @@ ghost use Rattle.mctp_schedule.specs.Runs.{newest_first, setting_of_run};
 ghost use Rattle.schedule_text.specs.StepColumns.{borrowed_step};
 ghost use Rattle.schedule_text.specs.declared.step.Action.TheVariants as actions;
 
+use crate::arrivals::{Arrivals, instance_id};
 use crate::askers::MAX_REQUEST_PACKET_BYTES;
 use crate::journal::Journal;
 use crate::laws::{
@@ -21,8 +25,8 @@ use crate::{ActionRef, Entries, Entry, OpenedRequest, RunFault, Schedule, StepRe
 use arrayvec::ArrayVec;
 use mctp_packet::{Body, Eid, Keep, Memory, Moment, TAGS};
 use pldm_platform::Platform;
-use pldm_responder::Responder;
-use pldm_wire::Command;
+use pldm_responder::{Bounds, Keeping, Responder};
+use pldm_wire::{BusyTime, Command, Window};
 use std::alloc::Global;
 
 /// A device at an endpoint.
@@ -32,6 +36,8 @@ pub struct Setup<P: Platform> {
     pub eid: Eid,
     /// The keeping time, one for both ends.
     pub keep: Keep,
+    /// For how many instance IDs of a source the device keeps answers.
+    pub window: Window,
     /// The platform behind it.
     pub device: P,
 }
@@ -48,8 +54,9 @@ pub struct Report<P: Platform> {
     /// The platform at the end.
     pub device: P,
     /// Whether the schedule was timely: each request came to the device less than the keeping time
-    /// after it was opened, and no packet of an answer came after its requester had used the
-    /// request's tag again.
+    /// after it was opened, and again only while fewer other instance IDs of its source than the
+    /// window has had a first arrival since its own; and no packet of an answer came after its
+    /// requester had used the request's tag again.
     pub timely: bool,
 }
 
@@ -75,7 +82,8 @@ pub fn run<P: Platform>(
     ensures err { IfErr result (λ fault. (fault ≡ RunFault.Memory out_of_memory) ⊎ (refusal setup.eid setup.keep
         schedule.now.requesters ≡ Some fault)) }
     ensures report { IfOk result (λ report. IsReport
-        (setting_of_run (rules_of P.answer P.after P.sensed) (P.state setup.device) setup.eid setup.keep schedule.now)
+        (setting_of_run (rules_of P.answer P.after P.sensed) (P.state setup.device) setup.eid setup.keep setup.window
+        schedule.now)
         (newest_first schedule.now) (λ commands. P.performed setup.device commands report.device)
         (record {
           entries = report.entries;
@@ -92,13 +100,20 @@ pub fn run<P: Platform>(
     performs_once::<P>();
     logs_are_timely::<P>();
     requesters_take_the_one_reply::<P>();
-    let Setup { eid, keep, device } = setup;
+    let Setup {
+        eid,
+        keep,
+        window,
+        device,
+    } = setup;
     let _range = eid.get(); // for the proof: an endpoint ID
     let mut ends = Ends {
         keep,
-        responder: Responder::new(alloc, eid, keep, device),
+        window,
+        responder: begin_device(alloc, eid, keep, window, device),
         places: begin_requesters(alloc, eid, keep, schedule.requesters())?,
         journal: Journal::new(alloc),
+        arrivals: Arrivals::new(alloc),
         packet: ArrayVec::new(),
         reply: Body::new(),
     };
@@ -127,13 +142,34 @@ pub fn run<P: Platform>(
     })
 }
 
+/// The device, which refuses each request in its busy time.
+fn begin_device<P: Platform>(
+    alloc: Global,
+    eid: Eid,
+    keep: Keep,
+    window: Window,
+    device: P,
+) -> Responder<P>
+    ensures held { IsHeld (held_of result) (held_at_first eid All window keep (P.state device)) }
+    ensures platform { result.platform ≡ device }
+{
+    let keeping = Keeping {
+        keep,
+        window,
+        busy: BusyTime::All,
+    };
+    Responder::bounded(alloc, eid, keeping, Bounds::UNREACHED, device)
+}
+
 /// Both ends, and what is written down of them.
 #[derive(Drop)]
 struct Ends<P: Platform> {
     keep: Keep,
+    window: Window,
     responder: Responder<P>,
     places: Places,
     journal: Journal,
+    arrivals: Arrivals,
     /// Where the packet of a request is put that comes to the device. There is one room for the whole run, as for
     /// the reply.
     packet: ArrayVec<u8, MAX_REQUEST_PACKET_BYTES>,
@@ -213,14 +249,20 @@ impl<P: Platform> Ends<P> {
             self.journal.enter(Entry::Nothing)?;
             return Ok(());
         }
-        let opening = self.journal.requests[number as usize].opening();
-        let in_time = now.get() < opening.get() + u64::from(self.keep.get());
+        let request = &self.journal.requests[number as usize];
+        let (source, id) = (request.requester(), instance_id(request.message()));
+        let soon = now.get() < request.opening().get() + u64::from(self.keep.get());
+        let arrived = self.journal.has_arrived(number);
+        let in_time = self
+            .arrivals
+            .is_in_time(soon, arrived, source, id, self.window);
         // Asked before the packet comes, since the entry tells a busy answer from a copy by it.
         let busy = self.responder.busy(now);
         self.journal.write_request_packet(number, &mut self.packet);
         let taken = self
             .responder
             .receive_message(now, self.packet.as_slice(), &mut self.reply)?;
+        self.arrivals.note(arrived, busy, source, id)?;
         self.journal
             .enter_delivered(number, in_time, busy, taken, &self.reply)?;
         Ok(())

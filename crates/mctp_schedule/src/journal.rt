@@ -7,7 +7,7 @@ ghost use Rattle.pldm_responder.specs.Answering.{answering};
 ghost use Rattle.mctp_schedule.specs.Deliveries.{packets_of_outcome};
 ghost use Rattle.mctp_schedule.specs.Entries.{due_over_all, numbered};
 ghost use Rattle.mctp_schedule.specs.EntryColumns.{outcomes_in};
-ghost use Rattle.mctp_schedule.specs.Journals.{answered_as, answers_at, fresh_numbers, latest_packets, packet_at, packet_of_request, place_of, progress_after};
+ghost use Rattle.mctp_schedule.specs.Journals.{answered_as, answers_at, fresh_numbers, is_replied, latest_packets, packet_at, packet_of_request, place_of, progress_after};
 ghost use Rattle.mctp_schedule.specs.Requests.{begun};
 
 use crate::askers::{AnsweredRequest, MAX_REQUEST_PACKET_BYTES, SentRequest, over_all};
@@ -132,6 +132,14 @@ impl Journal {
     {
         let header = self.traffic[number as usize].header();
         self.requests[number as usize].write_packet(header, packet);
+    }
+
+    /// Whether a request arrived: whether an answer to it, a busy one aside, is written down.
+    pub(crate) fn has_arrived(&self, number: u64) -> bool
+        requires { number < length self.now.traffic.items }
+        ensures { result ≡ is_replied (slice_get self.now.traffic.items number) }
+    {
+        self.traffic[number as usize].latest_place(false).is_some()
     }
 
     /// A packet of the latest answer to a request, a busy one or not.

@@ -1,7 +1,8 @@
 //! Laws of both ends, over the definitions alone: each function does nothing and ensures its law.
 
 ghost use Rattle.pldm_responder.specs.Performing.{rules_of};
-ghost use Rattle.mctp_schedule.specs.Laws.{LogIsTimely, TimelyIsTested};
+ghost use Rattle.mctp_schedule.specs.InWindow.{InWindowByTheRule};
+ghost use Rattle.mctp_schedule.specs.Laws.{AllIdsAreInTime, AllIdsAreNoWindow, LogIsTimely, TimelyIsTested};
 ghost use Rattle.mctp_schedule.specs.Worlds.{Setting};
 ghost use Rattle.mctp_schedule.specs.RequesterHalf.{AnsweredWasPerformed, AnsweredWhereTaken, BusyIsExpected, OwnAssembly, OwnDeliveries, ReplyIsExpected, TakenOnce};
 ghost use Rattle.mctp_schedule.specs.DeviceHalf.{DeliveryIsExpected, FreshInOrderOfFirsts, FreshWhereFirst, GivenIsTheReply, NoneOpenedSince, NotPerformedAgain, StateIsOnce, TheReplyFits};
@@ -12,7 +13,7 @@ pub use schedule_text::laws::lines_are_read_as_spelled;
 /// Over a timely log a request's deliveries end before its instance ID is used again, each is fresh
 /// exactly where it is the first, and the fresh ones come in the order of first arrivals.
 pub fn fresh_deliveries_are_first<P: Platform>()
-    ensures none_since { NoneOpenedSince }
+    ensures none_since { NoneOpenedSince P.State }
     ensures fresh { FreshWhereFirst P.State }
     ensures order { FreshInOrderOfFirsts P.State }
 {}
@@ -36,6 +37,19 @@ pub fn logs_are_timely<P: Platform>()
 {
     pldm_requester::laws::instance_ids_are_apart();
 }
+
+/// With a window of all instance IDs what is timely is what is timely where the device keeps an answer for each
+/// instance ID of a source.
+pub fn all_ids_are_in_time<P: Platform>()
+    ensures logs { AllIdsAreInTime P.State }
+    ensures schedules { (setting : Setting P.State) → AllIdsAreNoWindow setting }
+{}
+
+/// A request that has arrived is in the window where fewer other instance IDs of its source than the window has
+/// had a first arrival since its own.
+pub fn in_window_by_the_rule<P: Platform>()
+    ensures { InWindowByTheRule P.State }
+{}
 
 /// Over a timely schedule an open request is fed the packets of its one reply and its busy answers alone,
 /// each packet of an answer gives what is expected to it, and a request is answered exactly where it was

@@ -1,6 +1,7 @@
 //! Both ends of a link: requesters and a device over one schedule of what is delivered between them.
 #![tactic(auto)]
 
+mod arrivals;
 mod askers;
 mod both_ends;
 mod delivery;

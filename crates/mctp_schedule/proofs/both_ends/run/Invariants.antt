@@ -15,11 +15,11 @@ invariant-loop-step g l = record {
   done : List Step;
   all : l.fn.schedule.steps ≡ done ++ l.step-iterator;
   in_order : NeverWentBack (reverse done);
-  runs : IsRunning (setting_of_run (rules_of g.P.Platform.answer g.P.Platform.after g.P.Platform.sensed) (g.P.Platform.state l.fn.setup.device) l.fn.setup.eid l.fn.setup.keep l.fn.schedule)
+  runs : IsRunning (setting_of_run (rules_of g.P.Platform.answer g.P.Platform.after g.P.Platform.sensed) (g.P.Platform.state l.fn.setup.device) l.fn.setup.eid l.fn.setup.keep l.fn.setup.window l.fn.schedule)
       (reverse done) (held_by l.ends);
   performed : g.P.Platform.performed l.fn.setup.device
-      (commands_performed g.row.P-State.Denot l.fn.setup.keep
-      (world (setting_of_run (rules_of g.P.Platform.answer g.P.Platform.after g.P.Platform.sensed) (g.P.Platform.state l.fn.setup.device) l.fn.setup.eid l.fn.setup.keep l.fn.schedule)
+      (commands_performed g.row.P-State.Denot l.fn.setup.window l.fn.setup.keep
+      (world (setting_of_run (rules_of g.P.Platform.answer g.P.Platform.after g.P.Platform.sensed) (g.P.Platform.state l.fn.setup.device) l.fn.setup.eid l.fn.setup.keep l.fn.setup.window l.fn.schedule)
       (reverse done)).log)
       l.ends.responder.platform;
 }

@@ -47,7 +47,7 @@ returns-in_default g c = record {
   performs = λ terms past running may.
       let platform = c.args.self.now.responder.platform in
       let log = (world (setting_of (rules_of g.P.Platform.answer g.P.Platform.after g.P.Platform.sensed) terms) past).log in
-      subst (λ (cs : List Command). g.P.Platform.performed platform cs platform) (sym (answers_perform_none g.row.P-State.Denot terms.keep log c.args.now c.args.number c.args.packet c.args.busy))
+      subst (λ (cs : List Command). g.P.Platform.performed platform cs platform) (sym (answers_perform_none g.row.P-State.Denot terms.window terms.keep log c.args.now c.args.number c.args.packet c.args.busy))
       (g.met.P.Platform.none_performed platform);
 }
 
@@ -172,6 +172,6 @@ returns g c = record {
   performs = λ terms past running may.
       let platform = c.args.self.now.responder.platform in
       let log = (world (setting_of (rules_of g.P.Platform.answer g.P.Platform.after g.P.Platform.sensed) terms) past).log in
-      subst (λ (cs : List Command). g.P.Platform.performed platform cs platform) (sym (answers_perform_none g.row.P-State.Denot terms.keep log c.args.now c.args.number c.args.packet c.args.busy))
+      subst (λ (cs : List Command). g.P.Platform.performed platform cs platform) (sym (answers_perform_none g.row.P-State.Denot terms.window terms.keep log c.args.now c.args.number c.args.packet c.args.busy))
       (g.met.P.Platform.none_performed platform);
 }

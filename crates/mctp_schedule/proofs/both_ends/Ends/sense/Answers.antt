@@ -1,6 +1,7 @@
 -- A reading is one more call of the responder.
 use Rattle.std.proofs.Common.{rules, ◌≡◌, ◌∷◌, [], ap, subst, ◌++◌, ◌∙◌, w64, to_z, of_z}
 use Rattle.std.proofs.lemmas.Int.{to_z-of_z}
+use Rattle.pldm_wire.specs.declared.busy_time.BusyTime.TheVariants.{All}
 use Rattle.pldm_responder.specs.Held.{IsHeld}
 use Rattle.pldm_responder.specs.Stations.{held_of}
 use Rattle.pldm_responder.specs.Steps.{sensed_held}
@@ -19,7 +20,7 @@ returns g c = record {
       let setting = setting_of device terms in
       let entered = c.in_ok-enter.ensures in
       let same : to_z w64 (of_z w64 c.args.value) ≡ c.args.value = search (rules, to_z-of_z) in
-      let state = running.device.left.state ∙ ap (performed device terms.keep terms.start) running.device.events in
+      let state = running.device.left.state ∙ ap (performed device All terms.window terms.keep terms.start) running.device.events in
       sensed_runs setting past (held_by c.args.self.now) c.set_reading-result.new.self c.enter.new.self running c.args.now may.later c.args.sensor c.args.value
       c.looks_back.ensures.sensed c.looks_back.ensures.same (subst (λ z. IsHeld (held_of c.set_reading-result.new.self) (sensed_held device (held_of c.args.self.now.responder) c.args.sensor z)) same c.set_reading-result.ensures.held)
       (record {

@@ -1,0 +1,105 @@
+//! Which instance IDs of each source arrived last, for the test of a timely schedule.
+
+ghost use Rattle.std.specs.Prelude.{◌≡◌, ◌≤◌, ◌&&◌, ◌||◌, ◌==◌, not, ℕ, [], OnOk, length, take, if◌then◌else◌};
+ghost use Rattle.std.specs.List.{list_any};
+ghost use Rattle.pldm_wire.specs.Headers.{id_at};
+ghost use Rattle.pldm_responder.specs.Recency.{renewed};
+ghost use Rattle.mctp_schedule.specs.ArrivedIds.{ids_at};
+
+use mctp_packet::{Eid, Memory};
+use pldm_wire::{INSTANCE_IDS, Window};
+use std::alloc::Global;
+
+/// Of each source the instance IDs of its requests by their latest first arrival, the newest first. A restart of
+/// the device changes nothing of them.
+#[derive(Debug, Drop)]
+pub(crate) struct Arrivals {
+    alloc: Global,
+    /// By endpoint ID, as far as one had a first arrival.
+    sources: Vec<Vec<u8>>,
+}
+
+impl Arrivals {
+    /// Nothing arrived yet.
+    pub(crate) fn new(alloc: Global) -> Arrivals
+        ensures { (source : ℕ) → ids_at result source ≡ [] }
+    {
+        Arrivals {
+            alloc,
+            sources: Vec::new(alloc),
+        }
+    }
+
+    /// Whether this instance ID of a source is among the `window` that arrived last.
+    fn is_in_window(&self, source: Eid, id: u8, window: Window) -> bool
+        ensures { result ≡ list_any (λ other. other == id) (take window (ids_at self.now source)) }
+    {
+        let Some(ids) = self.sources.get(usize::from(source.get())) else {
+            return false;
+        };
+        let count = ids.len().min(usize::from(window.get()));
+        ids[..count].contains(&id)
+    }
+
+    /// Whether a request of this source and instance ID comes in time: soon enough after it was opened and, where
+    /// it arrived before, in the window.
+    pub(crate) fn is_in_time(
+        &self,
+        soon: bool,
+        arrived: bool,
+        source: Eid,
+        id: u8,
+        window: Window,
+    ) -> bool
+        ensures { result ≡ (soon
+            && (not arrived || list_any (λ other. other == id) (take window (ids_at self.now source)))) }
+    {
+        soon && (!arrived || self.is_in_window(source, id, window))
+    }
+
+    /// A request of this source and instance ID came. It arrives where it did not before and the device is not busy.
+    pub(crate) fn note(
+        &mut self,
+        arrived: bool,
+        busy: bool,
+        source: Eid,
+        id: u8,
+    ) -> Result<(), Memory>
+        ensures { OnOk result ((other : ℕ) → ids_at self.new other ≡ (if source == other && (not arrived && not busy)
+            then renewed (λ id. id) id (ids_at self.old other) else ids_at self.old other)) }
+    {
+        if !arrived && !busy {
+            let place = usize::from(source.get());
+            self.make_places(place + 1)?;
+            renew(&mut self.sources[place], id)?;
+        }
+        Ok(())
+    }
+
+    /// Makes the places below this one, where they are not made yet.
+    fn make_places(&mut self, end: usize) -> Result<(), Memory>
+        ensures made { OnOk result (end ≤ length self.new.sources.items) }
+        ensures same { OnOk result ((source : ℕ) → ids_at self.new source ≡ ids_at self.old source) }
+    {
+        for _ in self.sources.len()..end {
+            self.sources.push(Vec::new(self.alloc))?;
+        }
+        Ok(())
+    }
+}
+
+/// The instance ID of a request with this message (DSP0240, "PLDM message fields").
+pub(crate) fn instance_id(message: &[u8]) -> u8
+    ensures { result ≡ id_at message.now }
+{
+    message.get(1).copied().unwrap_or(0) % INSTANCE_IDS
+}
+
+/// Puts an instance ID in front.
+fn renew(ids: &mut Vec<u8>, id: u8) -> Result<(), Memory>
+    ensures { OnOk result (ids.new.items ≡ renewed (λ id. id) id ids.old.items) }
+{
+    ids.retain(|other| *other != id);
+    ids.insert(0, id)?;
+    Ok(())
+}
