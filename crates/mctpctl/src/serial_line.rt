@@ -8,7 +8,7 @@ use mctp_serial::FrameReader;
 use mctpctl_input::{EngineFault, Port};
 use mctpctl_serve::{Line, Log, SystemTicks, serve};
 use pldm_device::{ControlTable, Description};
-use pldm_responder::Responder;
+use pldm_responder::{Bounds, Keeping, Responder};
 use std::alloc::AllocError;
 use std::fs::File;
 use std::io::{ErrorKind, Stderr};
@@ -63,14 +63,21 @@ fn file_failed(rt: &HostRuntime, name: &str, error: &io::Error) -> u8 {
 fn run(rt: &HostRuntime, service: &Service<'_>) -> Result<(), ServiceFault> {
     let alloc = rt.alloc();
     let (description, table) = described(rt, service.device)?;
-    let Description { eid, keep, device } = description;
+    let Description {
+        eid,
+        keep,
+        window,
+        busy,
+        device,
+    } = description;
+    let keeping = Keeping { keep, window, busy };
     let watch = watcher(rt, service)?;
     let Ok(ticks) = SystemTicks::new(rt) else {
         return Err(ServiceFault::Clock);
     };
     let mut line = Line {
         frames: FrameReader::new(),
-        responder: Responder::new(alloc, eid, keep, device),
+        responder: Responder::bounded(alloc, eid, keeping, Bounds::UNREACHED, device),
         control: control_endpoint(eid, &table),
         ticks,
         watch,

@@ -9,6 +9,7 @@ use Rattle.pldm_device.specs.declared.description.Description.{Description}
 use Rattle.pldm_device.proofs.DescriptionLiterals.{description_on_literals}
 use Rattle.pldm_wire.specs.CommandReading.{command_of}
 use Rattle.pldm_wire.specs.Requests.{request_of}
+use Rattle.pldm_wire.specs.declared.busy_time.BusyTime.TheVariants.{All}
 use Rattle.pldm_wire.specs.declared.size.Size.TheVariants.{Uint8}
 
 -- device 9, without its record: sensor 1 at 40, numeric effecter 1 at 10 of 0 to 100, state effecter 2 of two fields at 1 and 1
@@ -16,6 +17,8 @@ abbrev example : Description
 example = record {
   eid = 9;
   keep = 1000;
+  window = 32;
+  busy = All;
   device = record {
     tid = 1;
     base_versions = 0 ∷ 240 ∷ 240 ∷ 241 ∷ [];

@@ -21,22 +21,22 @@ use Rattle.pldm_responder.specs.Steps.{received_outcome, received_held}
 
 -- what is held is what the calls of the described device's responder leave
 abbrev IsLeft : Description → Held Device → List (Call Device) → Type 0
-IsLeft d held calls = IsLeftBy simulated d.eid d.keep d.device held calls
+IsLeft d held calls = IsLeftBy simulated d.eid d.busy d.window d.keep d.device held calls
 
 module _ (received : ReceivedLooksBack simulated) where
   same_step : (d : Description) (held : Held Device) (calls : List (Call Device)) (line : List ℕ) → IsLeft d held calls → SameStep (IsLeft d) (held_step held line) (called_step d calls line)
   same_step d =
       same_capture_step (λ held. held.last) (λ held moment bytes. outcome_text (received_outcome simulated held moment bytes)) (received_held simulated)
-      last_moment (λ calls moment bytes. outcome_text (outcome simulated d.eid d.keep d.device calls moment bytes)) with_packet (IsLeft d) (record {
+      last_moment (λ calls moment bytes. outcome_text (outcome simulated d.eid d.busy d.window d.keep d.device calls moment bytes)) with_packet (IsLeft d) (record {
         last = λ held calls left. left.last;
-        gives = λ held calls moment bytes left. ap outcome_text (received d.eid d.keep d.device held calls moment bytes left).0;
-        with = λ held calls moment bytes left. (received d.eid d.keep d.device held calls moment bytes left).1;
+        gives = λ held calls moment bytes left. ap outcome_text (received d.eid d.busy d.window d.keep d.device held calls moment bytes left).0;
+        with = λ held calls moment bytes left. (received d.eid d.busy d.window d.keep d.device held calls moment bytes left).1;
       })
 
   module _ (new : NewLooksBack simulated) where
     same_lines : (d : Description) (is_cut : Bool) (lines : List (List ℕ)) → held_run d is_cut lines ≡ called_run d is_cut lines
     same_lines d is_cut lines =
-        same_run held_step (called_step d) (IsLeft d) (same_step d) is_cut 1 (held_at_first d.eid d.keep d.device) [] lines (new d.eid d.keep d.device)
+        same_run held_step (called_step d) (IsLeft d) (same_step d) is_cut 1 (held_at_first d.eid d.busy d.window d.keep d.device) [] lines (new d.eid d.busy d.window d.keep d.device)
 
     same_described : (is_cut : Bool) (lines : List (List ℕ)) (said : Result Description FileFault) → described_run held_run is_cut lines said ≡ described_run called_run is_cut lines said
     same_described is_cut lines (Err fault) = refl

@@ -54,7 +54,9 @@ with_packet calls moment bytes = Received moment bytes ∷ calls
 -- what one line gives, by looking back over all packets that came
 abbrev pub called_step : Description → List (Call Device) → List ℕ → Result (List ℕ × List (Call Device)) LineKind
 called_step description =
-    step last_moment (outcome simulated description.eid description.keep description.device) with_packet
+    step last_moment
+    (outcome simulated description.eid description.busy description.window description.keep description.device)
+    with_packet
 
 -- what the lines of a capture give: before the first, no packet has come
 abbrev pub called_run : Description → Bool → List (List ℕ) → Written

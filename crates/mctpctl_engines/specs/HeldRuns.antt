@@ -15,4 +15,5 @@ held_step = step (λ held. held.last) (received_outcome simulated) (received_hel
 -- what the lines give: before the first, the responder is new
 abbrev pub held_run : Description → Bool → List (List ℕ) → Written
 held_run description is_cut lines =
-    lines_written held_step is_cut 1 (held_at_first description.eid description.keep description.device) lines
+    lines_written held_step is_cut 1 (held_at_first description.eid description.busy description.window description.keep description.device)
+    lines

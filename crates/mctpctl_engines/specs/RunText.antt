@@ -41,7 +41,7 @@ stop_of_run (runs.Memory refused) = no_memory
 -- what the schedule is about: the described device, in the state that is described
 abbrev pub setting_of : Description → Spelled → Setting Device
 setting_of description schedule =
-    setting_of_run simulated description.device description.eid description.keep schedule
+    setting_of_run simulated description.device description.eid description.keep description.window schedule
 
 -- the text of a run: what came of each step, and how the requests and the device stand at the end
 abbrev pub text_of : Description → Spelled → List ℕ
@@ -49,7 +49,7 @@ text_of description schedule =
     let setting = setting_of description schedule in
     report_text schedule.steps (entries setting (newest_first schedule))
     (requests_after setting (final_world setting schedule))
-    (order Device description.keep (final_world setting schedule).log)
+    (order Device description.window description.keep (final_world setting schedule).log)
     (device_text (final_state setting schedule)) (is_timely setting (newest_first schedule))
 
 -- a run is not begun where a requester is refused

@@ -18,7 +18,7 @@ use mctp_packet::Moment;
 use mctpctl_input::{CaptureFault, CaptureLine, EngineFault, Port, read_capture_line, run_to_end};
 use mctpctl_texts::push_outcome;
 use pldm_device::{Description, SimDevice};
-use pldm_responder::{Responder, laws};
+use pldm_responder::{Bounds, Keeping, Responder, laws};
 use std::alloc::Global;
 use std::io::{Read, Write};
 
@@ -61,8 +61,16 @@ impl Described for LineRun<Responder<SimDevice>> {
 
     /// The run over a capture, by a responder of the described device.
     fn begin(alloc: Global, description: Description) -> LineRun<Responder<SimDevice>> {
-        let Description { eid, keep, device } = description;
-        LineRun::new(alloc, Responder::new(alloc, eid, keep, device))
+        let Description {
+            eid,
+            keep,
+            window,
+            busy,
+            device,
+        } = description;
+        let keeping = Keeping { keep, window, busy };
+        let responder = Responder::bounded(alloc, eid, keeping, Bounds::UNREACHED, device);
+        LineRun::new(alloc, responder)
     }
 
     ghost blank_line = { blank_capture };
@@ -73,7 +81,7 @@ impl Described for LineRun<Responder<SimDevice>> {
 /// Answers a capture as the described device would, as it comes: what the lines of a piece of input
 /// give is written before more is asked for. It writes the text of each packet's outcome: `drop NAME`,
 /// `partial`, or the answer's packets in lower-case hex, one a line. A request that comes again within
-/// the described keeping time is not performed again, and has the answer that it had.
+/// the described keeping time and window is not performed again, and has the answer that it had.
 ///
 /// At `Line` and `TooLarge` the text of the lines that ended before has been written, and at
 /// `Device` and `NoDivider` nothing. `Read` is for a read port that has failed: the text of the lines

@@ -41,8 +41,19 @@ pub fn run_schedule(
     ensures read { result ≢ Err EngineFault.Read }
     ensures write { result ≢ Err EngineFault.Write }
 {
-    let Description { eid, keep, device } = description;
-    let setup = Setup { eid, keep, device };
+    let Description {
+        eid,
+        keep,
+        window,
+        device,
+        ..
+    } = description;
+    let setup = Setup {
+        eid,
+        keep,
+        window,
+        device,
+    };
     let report = match run(alloc, setup, &schedule) {
         Ok(report) => report,
         Err(fault) => return Err(stop_of_run(fault)),

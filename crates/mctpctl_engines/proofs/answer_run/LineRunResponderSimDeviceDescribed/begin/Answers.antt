@@ -13,9 +13,11 @@ use Rattle.mctpctl_engines.proofs.answer_run.LineRunResponderSimDeviceDescribed.
 same_held : {S : Type 0} (new held : Held S) → IsHeld new held → new ≡ held
 same_held new held same = λ i. record {
   own = same.own i;
+  busy = same.busy i;
+  window = same.window i;
   keep = same.keep i;
   open_messages = same.open_messages i;
-  kept = λ source id. same.kept source id i;
+  kept = λ source. same.kept source i;
   state = same.state i;
   serves_from = same.serves_from i;
   last = same.last i;
@@ -23,8 +25,8 @@ same_held new held same = λ i. record {
 
 pub returns-clause-gives : goal.returns-clause-gives
 returns-clause-gives c = λ is_cut bytes.
-    ap (λ n. line_gives held_step (n + 1) (held_of c.new-2.result.task) c.new-2.result.kept.items is_cut bytes) c.new-2.ensures.ended
-    ∙ ap (λ t. line_gives held_step 1 (held_of t) c.new-2.result.kept.items is_cut bytes) c.new-2.ensures.task
-    ∙ ap (λ k. line_gives held_step 1 (held_of c.new.result) k is_cut bytes) c.new-2.ensures.kept
-    ∙ ap (lines_written held_step is_cut 1 (held_of c.new.result)) (glued_nil (lines_of bytes) (some_line bytes))
-    ∙ ap (λ h. lines_written held_step is_cut 1 h (lines_of bytes)) (same_held _ _ c.new.ensures.held)
+    ap (λ n. line_gives held_step (n + 1) (held_of c.new.result.task) c.new.result.kept.items is_cut bytes) c.new.ensures.ended
+    ∙ ap (λ t. line_gives held_step 1 (held_of t) c.new.result.kept.items is_cut bytes) c.new.ensures.task
+    ∙ ap (λ k. line_gives held_step 1 (held_of c.bounded-responder.result) k is_cut bytes) c.new.ensures.kept
+    ∙ ap (lines_written held_step is_cut 1 (held_of c.bounded-responder.result)) (glued_nil (lines_of bytes) (some_line bytes))
+    ∙ ap (λ h. lines_written held_step is_cut 1 h (lines_of bytes)) (same_held _ _ c.bounded-responder.ensures.held)
