@@ -498,28 +498,47 @@ struct needleoat_endpoint {
 #define NEEDLEOAT_ENDPOINT_NONE {0, false}
 
 /*
- * What an endpoint is made with. Fill it by the names of its fields: later settings will be further fields.
+ * Which requests are answered with ERROR_NOT_READY in the busy time, and neither performed nor kept. The busy time is
+ * `keep_ms` from a restart on, and from a start that is not the first.
+ */
+enum needleoat_busy {
+    NEEDLEOAT_BUSY_ALL = 0, /* each one with a good header */
+    NEEDLEOAT_BUSY_SETS = 1 /* those with a good header whose command sets: SetTID, SetNumericEffecterValue,
+                               SetStateEffecterStates. A command that only asks is performed, also where it was performed
+                               before the restart */
+};
+
+/*
+ * What an endpoint is made with. Fill it by the names of its fields: later settings will be further fields, and 0 in
+ * one of them will mean what was so without it.
  *
  * What would pass one of the three bounds is refused before anything is performed, and nothing that is kept
  * makes room for it. A source has room for its answers from its first request that is no copy until a restart;
- * a request in the busy time gives none.
+ * a request that is refused in the busy time gives none.
+ *
+ * A request is a copy where it repeats, byte for byte and less than `keep_ms` later, the latest fresh request of its
+ * source and instance ID since the last restart, and fewer than `window` other instance IDs of that source had a fresh
+ * request after that one. It is fresh where it is no copy and is not refused in the busy time. docs/C.md says which
+ * window is right for which requester.
  */
 struct needleoat_endpoint_settings {
     uint8_t own;               /* its endpoint ID, 8 to 254 */
     bool first_start;          /* true only where this endpoint never ran before */
     uint32_t keep_ms;          /* how long an answer is kept for copies, 1 to 60,000 */
-    uint32_t sources;          /* how many other endpoints have room for answers at most, 32 for each */
+    uint32_t sources;          /* how many other endpoints have room for answers at most, `window` for each */
     uint32_t open_messages;    /* how many messages of several packets have begun and not ended at most; for one more the
                                   oldest ends */
     uint32_t pending_commands; /* how many commands are pending at most; with 0 none is ever performed */
+    uint32_t window;           /* for how many instance IDs of a source answers are kept, 1 to 32; 0 stands for all 32 */
+    uint32_t busy;             /* enum needleoat_busy */
 };
 
 /*
- * Makes an endpoint: 0, or enum needleoat_refusal: 7, else 6 where `own` is not 8 to 254 or `keep_ms` is
- * not 1 to 60,000; else 2 where `now_ms` is past the last moment; else 1. After a reset of the processor
- * `first_start` is false: a request that was performed before could come once more, so for `keep_ms` from
- * `now_ms` on each request with a good header is answered with ERROR_NOT_READY and nothing is performed. At
- * any start `now_ms` is the moment of a call that was accepted, so no moment before it may come then.
+ * Makes an endpoint: 0, or enum needleoat_refusal: 7, else 6 where `own` is not 8 to 254, `keep_ms` is not 1 to 60,000,
+ * `window` is above 32 or `busy` is neither kind; else 2 where `now_ms` is past the last moment; else 1. After a reset
+ * of the processor `first_start` is false: a request that was performed before could come once more, so the busy time
+ * begins at `now_ms`. At any start `now_ms` is the moment of a call that was accepted, so no moment before it may come
+ * then.
  */
 uint8_t needleoat_endpoint_new(const struct needleoat_endpoint_settings *settings, uint64_t now_ms,
                                struct needleoat_endpoint *endpoint);
@@ -569,8 +588,7 @@ struct needleoat_step {
  *   14  it completes a request that is no copy, its source has no room for answers, and `sources` others have
  *    1  a growth of memory was refused
  *
- * 9 and 14 do not come while nothing is performed: for `keep_ms` from a restart on, or from a start that is not
- * the first.
+ * 9 and 14 do not come for a request that is refused in the busy time.
  *
  * Where a command is to be performed, its fields are in `command`, with the instance ID 0, and `handle` of the
  * step is its handle; otherwise `command` is as it was. Where the packet is answered, packet i of the answer is
@@ -589,7 +607,8 @@ struct needleoat_step needleoat_endpoint_receive(struct needleoat_endpoint *endp
  * restart. The answer is the one that needleoat_answer_write writes: 6 comes exactly where that call writes
  * nothing, 5 where `pldm_type` or `command` is another than the command's, also where `code` is not 0. The
  * instance ID in `answer` is not looked at beyond that; the request's is sent. It takes no memory. Where it is
- * refused with 6 or 5, the command is still pending.
+ * refused with 6 or 5, the command is still pending. Where `window` other instance IDs of the source had fresh
+ * requests since, the packets are the same, and the answer is not kept.
  */
 struct needleoat_step needleoat_endpoint_answer(struct needleoat_endpoint *endpoint,
                                                 const struct needleoat_command_handle *handle,
@@ -598,8 +617,9 @@ struct needleoat_step needleoat_endpoint_answer(struct needleoat_endpoint *endpo
 
 /*
  * Restarts at a moment: 0, or 3 or 2 of enum needleoat_refusal. The kept answers, the messages that have
- * begun and the pending commands are forgotten, and for the keeping time from then on nothing is performed.
- * An answer to one of those commands is refused with 10 from then on.
+ * begun and the pending commands are forgotten, and the busy time begins: for the keeping time from then on nothing is
+ * performed, or nothing that sets, as `busy` of the settings says. An answer to one of those commands is refused with
+ * 10 from then on.
  */
 uint8_t needleoat_endpoint_restart(struct needleoat_endpoint *endpoint, uint64_t now_ms);
 
@@ -830,13 +850,15 @@ NEEDLEOAT_AT(needleoat_i3c_frame, packet_length, 4);
 NEEDLEOAT_ASSERT(sizeof(struct needleoat_endpoint) == 16);
 NEEDLEOAT_AT(needleoat_endpoint, at, 0);
 NEEDLEOAT_AT(needleoat_endpoint, is_live, 8);
-NEEDLEOAT_ASSERT(sizeof(struct needleoat_endpoint_settings) == 20);
+NEEDLEOAT_ASSERT(sizeof(struct needleoat_endpoint_settings) == 28);
 NEEDLEOAT_AT(needleoat_endpoint_settings, own, 0);
 NEEDLEOAT_AT(needleoat_endpoint_settings, first_start, 1);
 NEEDLEOAT_AT(needleoat_endpoint_settings, keep_ms, 4);
 NEEDLEOAT_AT(needleoat_endpoint_settings, sources, 8);
 NEEDLEOAT_AT(needleoat_endpoint_settings, open_messages, 12);
 NEEDLEOAT_AT(needleoat_endpoint_settings, pending_commands, 16);
+NEEDLEOAT_AT(needleoat_endpoint_settings, window, 20);
+NEEDLEOAT_AT(needleoat_endpoint_settings, busy, 24);
 NEEDLEOAT_ASSERT(sizeof(struct needleoat_command_handle) == 16);
 NEEDLEOAT_AT(needleoat_command_handle, number, 0);
 NEEDLEOAT_AT(needleoat_command_handle, source, 8);

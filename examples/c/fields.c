@@ -475,6 +475,25 @@ static void steps(void) {
     printf("freed %u\n", needleoat_endpoint_restart(&endpoint, 8));
 }
 
+/* The numbers of a window and of a busy time, whole, and each in its own field. */
+static void made_with(uint32_t window, uint32_t busy) {
+    const struct needleoat_endpoint_settings settings = {.own = 9, .keep_ms = 1000, .window = window, .busy = busy};
+    printf("window %" PRIu32 " busy %" PRIu32 ": %u\n", window, busy, needleoat_endpoint_new(&settings, 4, &endpoint));
+    needleoat_endpoint_free(&endpoint);
+}
+
+static void windows(void) {
+    made_with(0, NEEDLEOAT_BUSY_ALL);
+    made_with(1, NEEDLEOAT_BUSY_SETS);
+    made_with(32, NEEDLEOAT_BUSY_SETS);
+    made_with(33, NEEDLEOAT_BUSY_ALL);
+    made_with(0x101, NEEDLEOAT_BUSY_ALL);
+    made_with(UINT32_MAX, NEEDLEOAT_BUSY_ALL);
+    made_with(1, 2);
+    made_with(32, 0x100);
+    made_with(32, 0x10000);
+}
+
 /* ---- Packets on I2C and I3C ---- */
 
 /* Prints the bytes before a packet and its first four, and the PEC. */
@@ -558,6 +577,7 @@ int main(void) {
     controls();
     bus_frames();
     steps();
+    windows();
     printf("checksum %02x\n", needleoat_crc8((const uint8_t *)"123456789", 9));
     printf("checksum %02x\n", needleoat_crc8((const uint8_t *)"", 0));
     return 0;

@@ -1,45 +1,42 @@
 /*
- * Prints how many bytes of heap the ends take, and ends with status 1 where some are left at the end, or where an open
- * message that has ended leaves more than its source's entry in a table and its place in a list. Its allocator has the size of each block in
- * front of it.
+ * Prints how many bytes of heap the ends take, and ends with status 1 where an endpoint takes more than docs/C.md says,
+ * where an open message that has ended leaves more than its place in a list, or where some are left at the end. Its
+ * allocator has the size of each block in front of it. It copies a block that grows, so for a moment both count.
  */
 #include "needleoat.h"
 #include <stdio.h>
 #include <stdlib.h>
+#include <string.h>
 
 enum { FRONT = 16, MANY_SOURCES = 4, MANY_COMMANDS = 5 };
-/* the table of the sources of open messages, up to endpoint 14: 16 entries of 24 bytes; and the list of the order in which
-   messages began: 4 keys of 3 bytes */
-enum { TABLE = 384, ORDER = 12 };
+/* the list of the order in which messages began: 4 keys of 3 bytes */
+enum { ORDER = 12 };
 
-static size_t in_use;
+static size_t in_use, most;
 
-static struct needleoat_block block(uint8_t *at, size_t size) {
+struct needleoat_block rattle_alloc(size_t size, size_t align) {
     static uint8_t some_byte;
+    uint8_t *at = malloc(FRONT + size);
+    (void)align; /* malloc aligns to 16 */
     if (!at) return (struct needleoat_block){false, &some_byte};
     *(size_t *)(void *)at = size;
     in_use += size;
+    if (in_use > most) most = in_use;
     return (struct needleoat_block){true, at + FRONT};
 }
 
-static size_t size_of(uint8_t *at) { return *(size_t *)(void *)(at - FRONT); }
-
-struct needleoat_block rattle_alloc(size_t size, size_t align) {
-    (void)align; /* malloc aligns to 16 */
-    return block(malloc(FRONT + size), size);
+void rattle_dealloc(uint8_t *old) {
+    in_use -= *(size_t *)(void *)(old - FRONT);
+    free(old - FRONT);
 }
 
 struct needleoat_block rattle_realloc(uint8_t *old, size_t kept, size_t size, size_t align) {
-    size_t before = size_of(old);
-    (void)kept, (void)align;
-    struct needleoat_block next = block(realloc(old - FRONT, FRONT + size), size);
-    if (next.is_there) in_use -= before;
+    struct needleoat_block next = rattle_alloc(size, align);
+    if (next.is_there) {
+        memcpy(next.at, old, kept);
+        rattle_dealloc(old);
+    }
     return next;
-}
-
-void rattle_dealloc(uint8_t *old) {
-    in_use -= size_of(old);
-    free(old - FRONT);
 }
 
 static const struct needleoat_endpoint_settings settings = {.own = 9,
@@ -54,14 +51,18 @@ static struct needleoat_endpoint endpoint = NEEDLEOAT_ENDPOINT_NONE;
 static struct needleoat_requester requester = NEEDLEOAT_REQUESTER_NONE;
 static uint8_t packet[NEEDLEOAT_PACKET_BYTES], packets[NEEDLEOAT_PACKETS][NEEDLEOAT_PACKET_BYTES];
 
-static struct needleoat_step receive_packet(uint8_t source, const uint8_t *message, size_t length, uint32_t index) {
+/* A message of two packets. */
+static const uint8_t two_packets[100] = {1};
+
+static struct needleoat_step receive_packet(uint8_t source, uint8_t tag, const uint8_t *message, size_t length,
+                                            uint32_t index) {
     struct needleoat_command command;
-    uint32_t count = needleoat_packet_write(9, source, true, 0, message, length, index, packet);
+    uint32_t count = needleoat_packet_write(9, source, true, tag, message, length, index, packet);
     return needleoat_endpoint_receive(&endpoint, 0, packet, count, &command, packets);
 }
 
 static struct needleoat_step receive(uint8_t source, const uint8_t *message, size_t length) {
-    return receive_packet(source, message, length, 0);
+    return receive_packet(source, 0, message, length, 0);
 }
 
 static struct needleoat_step get_tid(uint8_t source, uint8_t instance_id) {
@@ -69,33 +70,130 @@ static struct needleoat_step get_tid(uint8_t source, uint8_t instance_id) {
     return receive(source, message, sizeof message);
 }
 
-int main(void) {
-    static const uint8_t two_packets[100] = {1};
+/* An endpoint with a window and three bounds, all of which are reached, from the highest endpoint IDs. */
+struct load {
+    uint32_t window, sources, open_messages, commands;
+};
+static const struct load loads[] = {{4, 1, 1, 1},  {1, 1, 1, 1},    {1, 200, 1, 1},   {2, 100, 1, 1},
+                                    {8, 2, 2, 1},  {8, 20, 40, 60}, {16, 50, 300, 9}, {32, 8, 4, 100},
+                                    {4, 9, 65, 8}, {32, 1, 8, 32}};
+
+/* The most bytes of the first of these, a small device with one requester; and those of an open message. */
+enum { SMALL_MOST = 3600, OPEN_MESSAGE = 400 };
+
+/* What docs/C.md says. */
+static size_t bound_of(const struct load *load) {
+    return 256 + load->sources * (700 * load->window + 64) + OPEN_MESSAGE * load->open_messages + 420 * load->commands;
+}
+
+/* Each source sends a request with each instance ID, which is refused by its code and kept. */
+static bool fill(uint32_t sources) {
+    for (uint32_t i = 0; i < 32 * sources; i++) {
+        const uint8_t message[] = {1, (uint8_t)(0x80 | i % 32), NEEDLEOAT_BASE, 0x3f};
+        struct needleoat_step step = receive((uint8_t)(254 - i / 32), message, sizeof message);
+        if (step.kind != NEEDLEOAT_STEP_ANSWERED || !step.fresh) return false;
+    }
+    return true;
+}
+
+/* Message i of several packets begins. */
+static bool begin(uint32_t i) {
+    return receive_packet((uint8_t)(254 - i / 8), i % 8, two_packets, sizeof two_packets, 0).kind ==
+           NEEDLEOAT_STEP_PARTIAL;
+}
+
+static bool begin_all(uint32_t open_messages) {
+    for (uint32_t i = 0; i < open_messages; i++)
+        if (!begin(i)) return false;
+    return true;
+}
+
+/* Commands of the longest requests are pending: eight states of effecter 1 are to be set. */
+static bool hand_out(uint32_t commands) {
+    uint8_t message[23] = {1, 0, NEEDLEOAT_PLATFORM, NEEDLEOAT_SET_STATE_EFFECTER_STATES, 1, 0, 8};
+    for (uint32_t i = 0; i < commands; i++) {
+        message[1] = (uint8_t)(0x80 | i % 32);
+        if (receive((uint8_t)(254 - i / 32), message, sizeof message).kind != NEEDLEOAT_STEP_PERFORM) return false;
+    }
+    return true;
+}
+
+/*
+ * Whether an endpoint takes at most what is said, and that of an open message more while one begins that ends the
+ * oldest. It leaves none.
+ */
+static bool is_within(const struct load *load, size_t bound) {
+    const struct needleoat_endpoint_settings loaded = {.own = 9,
+                                                       .first_start = true,
+                                                       .keep_ms = 6000,
+                                                       .sources = load->sources,
+                                                       .open_messages = load->open_messages,
+                                                       .pending_commands = load->commands,
+                                                       .window = load->window,
+                                                       .busy = NEEDLEOAT_BUSY_SETS};
+    most = 0;
+    needleoat_endpoint_new(&loaded, 0, &endpoint);
+    bool well = fill(load->sources) && hand_out(load->commands) && begin_all(load->open_messages);
+    size_t full = most;
+    well = begin(load->open_messages) && well;
+    needleoat_endpoint_free(&endpoint);
+    printf("heap with window %u, sources %u, open messages %u, commands %u: ", (unsigned)load->window,
+           (unsigned)load->sources, (unsigned)load->open_messages, (unsigned)load->commands);
+    printf("%zu of %zu; %zu while the oldest message ends\n", full, bound, most);
+    return well && full <= bound && most <= bound + OPEN_MESSAGE && in_use == 0;
+}
+
+/* Prints what an endpoint takes step by step. */
+static bool print_steps(void) {
     static const struct needleoat_answer tid = {.pldm_type = NEEDLEOAT_BASE, .command = NEEDLEOAT_GET_TID, .tid = 7};
     needleoat_endpoint_new(&settings, 0, &endpoint);
     printf("heap of an endpoint at first %zu\n", in_use);
     for (uint8_t i = 0; i < MANY_SOURCES; i++) {
         struct needleoat_step step = get_tid(10 + i, 0);
-        if (step.kind != NEEDLEOAT_STEP_PERFORM) return 1;
+        if (step.kind != NEEDLEOAT_STEP_PERFORM) return false;
         step = needleoat_endpoint_answer(&endpoint, &step.handle, &tid, packets);
-        if (step.kind != NEEDLEOAT_STEP_ANSWERED) return 1;
+        if (step.kind != NEEDLEOAT_STEP_ANSWERED) return false;
         printf("heap of an endpoint with answers for %d sources %zu\n", i + 1, in_use);
     }
     for (uint8_t i = 1; i <= MANY_COMMANDS; i++) {
-        if (get_tid(10, i).kind != NEEDLEOAT_STEP_PERFORM) return 1;
+        if (get_tid(10, i).kind != NEEDLEOAT_STEP_PERFORM) return false;
         printf("heap of an endpoint with %d commands too %zu\n", i, in_use);
     }
-    if (get_tid(10, MANY_COMMANDS + 1).reason != NEEDLEOAT_TOO_MANY_COMMANDS) return 1;
-    if (get_tid(14, 0).reason != NEEDLEOAT_TOO_MANY_COMMANDS) return 1;
+    if (get_tid(10, MANY_COMMANDS + 1).reason != NEEDLEOAT_TOO_MANY_COMMANDS) return false;
+    if (get_tid(14, 0).reason != NEEDLEOAT_TOO_MANY_COMMANDS) return false;
     size_t before = in_use;
-    if (receive(14, two_packets, sizeof two_packets).kind != NEEDLEOAT_STEP_PARTIAL) return 1;
+    if (receive(14, two_packets, sizeof two_packets).kind != NEEDLEOAT_STEP_PARTIAL) return false;
     printf("heap of an endpoint with an open message too %zu\n", in_use);
-    if (receive_packet(14, two_packets, sizeof two_packets, 1).kind != NEEDLEOAT_STEP_DROPPED) return 1;
+    if (receive_packet(14, 0, two_packets, sizeof two_packets, 1).kind != NEEDLEOAT_STEP_DROPPED) return false;
     printf("heap of an endpoint after that message %zu\n", in_use);
-    if (in_use != before + TABLE + ORDER) return 1;
+    if (in_use != before + ORDER) return false;
     needleoat_endpoint_free(&endpoint);
+    return true;
+}
+
+/* Prints what a source with answers takes, by the window. */
+static bool print_windows(void) {
+    static const uint32_t windows[] = {1, 2, 4, 8, 16, 32};
+    bool well = true;
+    for (size_t i = 0; i < sizeof windows / sizeof windows[0]; i++) {
+        const struct needleoat_endpoint_settings one_source = {
+            .own = 9, .first_start = true, .keep_ms = 1000, .sources = 1, .window = windows[i]};
+        needleoat_endpoint_new(&one_source, 0, &endpoint);
+        size_t before = in_use;
+        well = fill(1) && well;
+        printf("heap of a source at a window of %u %zu\n", (unsigned)windows[i], in_use - before);
+        needleoat_endpoint_free(&endpoint);
+    }
+    return well;
+}
+
+int main(void) {
+    bool well = print_steps();
+    well = print_windows() && well;
+    for (size_t i = 0; i < sizeof loads / sizeof loads[0]; i++)
+        well = is_within(&loads[i], i == 0 ? SMALL_MOST : bound_of(&loads[i])) && well;
     needleoat_requester_new(&requester_settings, &requester);
     printf("heap of a requester at first %zu\n", in_use);
     needleoat_requester_free(&requester);
-    return in_use != 0;
+    return !well || in_use != 0;
 }

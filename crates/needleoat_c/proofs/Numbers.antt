@@ -1,12 +1,18 @@
 -- The numbers of kinds and of refusals, written a second time.
 use Rattle.std.proofs.Common.{◌≡◌, refl}
-use Rattle.needleoat_c.specs.declared.kinds.TheConstants.{RECEIVING_ANSWERED, RECEIVING_DROPPED, RECEIVING_PARTIAL}
+use Rattle.needleoat_c.specs.declared.kinds.TheConstants.{BUSY_ALL, BUSY_SETS, RECEIVING_ANSWERED, RECEIVING_DROPPED, RECEIVING_PARTIAL}
 use Rattle.needleoat_c.specs.declared.kinds.TheConstants.{RECEIVING_REFUSED, STATUS_ANSWERED, STATUS_GAVE_UP, STATUS_OPEN}
 use Rattle.needleoat_c.specs.declared.kinds.TheConstants.{STATUS_UNKNOWN, STEP_ANSWERED, STEP_DROPPED, STEP_PARTIAL}
 use Rattle.needleoat_c.specs.declared.kinds.TheConstants.{STEP_PERFORM, STEP_REFUSED}
 use Rattle.needleoat_c.specs.declared.refusals.TheConstants.{ALREADY_THERE, BAD_MOMENT, BEING_PERFORMED, ID_IN_USE, NOTHING_THERE}
 use Rattle.needleoat_c.specs.declared.refusals.TheConstants.{NO_COMMAND, NO_MEMORY, NOT_ITS_ANSWER, NOT_PENDING, OUT_OF_RANGE}
 use Rattle.needleoat_c.specs.declared.refusals.TheConstants.{OUT_OF_TURN, TAG_IN_USE, TOO_MANY_COMMANDS, TOO_MANY_OPEN_MESSAGES, TOO_MANY_SOURCES}
+
+busy_all : BUSY_ALL ≡ 0
+busy_all = refl
+
+busy_sets : BUSY_SETS ≡ 1
+busy_sets = refl
 
 step_refused : STEP_REFUSED ≡ 0
 step_refused = refl

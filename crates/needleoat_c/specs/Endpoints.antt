@@ -1,6 +1,6 @@
 -- The calls of an endpoint behind a handle: what they report to C, and what is behind the handle then.
 use Rattle.std.specs.FinMap as map
-use Rattle.std.specs.Prelude.{◌≡◌, ℕ, ◌==◌, nat_le, nat_lt, ◌&&◌, Bool, true, false, MatchBool, List, [], length, take, slice_get}
+use Rattle.std.specs.Prelude.{◌≡◌, ℕ, ◌≤◌, ◌==◌, nat_le, nat_lt, ◌&&◌, Bool, true, false, MatchBool, List, [], length, take, slice_get}
 use Rattle.std.specs.Prelude.{slice_index_or, Option, Some, None, IsSome, option_and_then, Result, Ok, Err, ◌⊎◌}
 use Rattle.std.specs.Prelude.{if◌then◌else◌}
 use Rattle.mctp_packet.specs.Ids.{IsEid, IsKeep}
@@ -11,6 +11,8 @@ use Rattle.pldm_wire.specs.Commands.{kind_of}
 use Rattle.pldm_wire.specs.Kinds.{TypeAndCommand}
 use Rattle.pldm_wire.specs.declared.answer.Answer.{Answer}
 use Rattle.pldm_wire.specs.declared.assigned.TheConstants.{INSTANCE_IDS}
+use Rattle.pldm_wire.specs.declared.busy_time.BusyTime.{BusyTime}
+use Rattle.pldm_wire.specs.declared.busy_time.BusyTime.TheVariants.{All, Sets}
 use Rattle.pldm_wire.specs.declared.command.Command.{Command}
 use Rattle.pldm_responder.specs.Looking.{ended_by}
 use Rattle.pldm_responder.specs.OpenOrder.{ended_held}
@@ -22,6 +24,7 @@ use Rattle.pldm_responder.specs.OutsideAnswers.{outcome_of_answer}
 use Rattle.pldm_responder.specs.Rooms.{AreRowsAfter}
 use Rattle.pldm_responder.specs.Slots.{source_count}
 use Rattle.pldm_responder.specs.Steps.{received_arrival, restarted_held}
+use Rattle.pldm_responder.specs.declared.keeping.Keeping.{Keeping}
 use Rattle.pldm_responder.specs.declared.outcome.Outcome.{Outcome}
 use Rattle.pldm_responder.specs.declared.outcome.MessageOutcome.{MessageOutcome}
 use Rattle.pldm_responder.specs.declared.outcome.Outcome.TheVariants.{Dropped, Partial, Answered}
@@ -40,7 +43,7 @@ use Rattle.needleoat_forms.specs.Commands.{command_in}
 use Rattle.needleoat_forms.specs.declared.answer.AnswerFields.{AnswerFields}
 use Rattle.needleoat_forms.specs.declared.command.CommandFields.{CommandFields}
 use Rattle.needleoat_c.specs.EndpointHandles.{Inside}
-use Rattle.needleoat_c.specs.declared.kinds.TheConstants.{STEP_ANSWERED, STEP_DROPPED, STEP_PARTIAL, STEP_PERFORM, STEP_REFUSED}
+use Rattle.needleoat_c.specs.declared.kinds.TheConstants.{BUSY_ALL, BUSY_SETS, STEP_ANSWERED, STEP_DROPPED, STEP_PARTIAL, STEP_PERFORM, STEP_REFUSED}
 use Rattle.needleoat_c.specs.declared.refusals.TheConstants.{BAD_MOMENT, BEING_PERFORMED, NOTHING_THERE, NOT_ITS_ANSWER, NOT_PENDING}
 use Rattle.needleoat_c.specs.declared.refusals.TheConstants.{NO_MEMORY, OUT_OF_RANGE, OUT_OF_TURN, TOO_MANY_COMMANDS}
 use Rattle.needleoat_c.specs.declared.refusals.TheConstants.{TOO_MANY_OPEN_MESSAGES, TOO_MANY_SOURCES}
@@ -94,19 +97,37 @@ refusal_at now (Some inside) = if is_next now inside then 0 else BAD_MOMENT
 
 -- ---- making ----
 
--- an endpoint ID and a keeping time
+-- the two kinds of busy time
+abbrev pub IsBusyKind : ℕ → Type 0
+IsBusyKind busy = (busy ≡ BUSY_ALL) ⊎ (busy ≡ BUSY_SETS)
+
+-- a keeping time, a window of no more than all instance IDs, and a kind of busy time
+abbrev pub IsKeeping : EndpointSettings → Type 0
+IsKeeping s = IsKeep s.keep_ms × (s.window ≤ INSTANCE_IDS) × IsBusyKind s.busy
+
+-- an endpoint ID, and how answers are kept
 abbrev pub IsSetup : EndpointSettings → Type 0
-IsSetup s = IsEid s.own × IsKeep s.keep_ms
+IsSetup s = IsEid s.own × IsKeeping s
+
+-- a window of 0 stands for all instance IDs
+abbrev pub window_in : ℕ → ℕ
+window_in window = if window == 0 then INSTANCE_IDS else window
+
+abbrev pub busy_in : ℕ → BusyTime
+busy_in busy = if busy == BUSY_SETS then Sets else All
+
+abbrev pub keeping_in : EndpointSettings → Keeping
+keeping_in s = record { keep = s.keep_ms; window = window_in s.window; busy = busy_in s.busy }
 
 -- what it holds: at the first start that of a new one, whose last moment is this one; else that of one which restarts
 -- at this moment
-abbrev pub started : ℕ → ℕ → Bool → ℕ → Held (Unit {0})
-started own keep true now = record (held_at_first own keep tt) { last = now }
-started own keep false now = restarted_held (held_at_first own keep tt) now
+abbrev pub started : ℕ → Keeping → Bool → ℕ → Held (Unit {0})
+started own k true now = record (held_at_first own k.busy k.window k.keep tt) { last = now }
+started own k false now = restarted_held (held_at_first own k.busy k.window k.keep tt) now
 
 -- it was made with these settings at a moment: no command is pending, and no source has room for answers
 pub record IsMade (s : EndpointSettings) (now : ℕ) (new : Inside) : Type 0 where
-  pub held : IsHeld (held_in new) (started s.own s.keep_ms s.first_start now)
+  pub held : IsHeld (held_in new) (started s.own (keeping_in s) s.first_start now)
   pub sources : new.end.bounds.sources ≡ s.sources
   pub open_messages : new.end.bounds.open_messages ≡ s.open_messages
   pub ends_oldest : new.end.ends_oldest ≡ true

@@ -7,7 +7,7 @@ ghost use Rattle.pldm_wire.specs.Commands.{kind_of};
 ghost use Rattle.pldm_responder.specs.Answering.{answering};
 ghost use Rattle.pldm_endpoint.specs.RequestKeys.{pending_at};
 ghost use Rattle.pldm_endpoint.specs.TwoSteps.{held_in};
-ghost use Rattle.needleoat_c.specs.Endpoints.{AreOf, ArePackets, HasCommand, IsInFront, IsLeftByAnswer, IsLeftByPacket, IsLeftByRestart, IsMade, IsReportedSo, ReportsHandedIn, ReportsOutcome, ReportsPacketIn, given_to, is_next, number_of_refusal, pending_under, refusal_at};
+ghost use Rattle.needleoat_c.specs.Endpoints.{AreOf, ArePackets, HasCommand, IsInFront, IsLeftByAnswer, IsLeftByPacket, IsLeftByRestart, IsMade, IsReportedSo, ReportsHandedIn, ReportsOutcome, ReportsPacketIn, given_to, is_next, keeping_in, number_of_refusal, pending_under, refusal_at};
 
 use crate::kinds::{STEP_ANSWERED, STEP_DROPPED, STEP_PARTIAL, STEP_REFUSED};
 use crate::refusals::{
@@ -17,25 +17,25 @@ use crate::refusals::{
 use crate::reports::{HandleFields, StepReport};
 use crate::settings::EndpointSettings;
 use mctp_packet::{
-    Body, Eid, Keep, MAX_PACKET_BYTES, MAX_PACKETS, Moment, Route, UNIT, packet_at, write,
+    Body, Eid, MAX_PACKET_BYTES, MAX_PACKETS, Moment, Route, UNIT, packet_at, write,
 };
 use needleoat_forms::{AnswerFields, CommandFields, put_answer_of};
 use pldm_endpoint::{CommandHandle, Endpoint, MessageStep, ReceiveRefusal};
-use pldm_responder::{Bounds, MessageOutcome};
+use pldm_responder::{Bounds, Keeping, MessageOutcome};
 use pldm_wire::{Answer, Command, INSTANCE_IDS};
 use std::alloc::Global;
 
-/// A new endpoint with these settings, whose endpoint ID and keeping time they are. At any start but the first it
-/// performs nothing for the keeping time.
+/// A new endpoint with these settings, whose endpoint ID and way of keeping answers they are. At any start but the
+/// first it is busy for the keeping time.
 pub(crate) fn start(
     alloc: Global,
     own: Eid,
-    keep: Keep,
+    keeping: Keeping,
     settings: &EndpointSettings,
     now: Moment,
 ) -> Endpoint
     requires own { own ≡ settings.now.own }
-    requires keep { keep ≡ settings.now.keep_ms }
+    requires keeping { keeping ≡ keeping_in settings.now }
     ensures { IsMade settings.now now result }
 {
     let bounds = Bounds {
@@ -43,7 +43,7 @@ pub(crate) fn start(
         open_messages: settings.open_messages as usize,
     };
     let max_pending = settings.pending_commands as usize;
-    let mut endpoint = Endpoint::new(alloc, own, keep, bounds, max_pending);
+    let mut endpoint = Endpoint::new(alloc, own, keeping, bounds, max_pending);
     if settings.first_start {
         endpoint.pass_time(now);
     } else {

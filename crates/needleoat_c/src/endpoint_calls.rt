@@ -10,13 +10,13 @@ use crate::kinds::STEP_REFUSED;
 use crate::refusals::{ALREADY_THERE, BAD_MOMENT, NO_MEMORY, NOTHING_THERE, OUT_OF_RANGE};
 use crate::reports::{HandleFields, StepReport};
 use crate::settings::EndpointSettings;
-use mctp_packet::{Body, Eid, Keep, MAX_PACKET_BYTES, MAX_PACKETS, Moment};
+use mctp_packet::{Body, Eid, MAX_PACKET_BYTES, MAX_PACKETS, Moment};
 use needleoat_forms::{AnswerFields, CommandFields};
 use std::alloc::Global;
 
-/// Makes an endpoint with these settings: 0, or why not. No moment before `now_ms` may come then. It performs nothing
-/// for the keeping time from `now_ms` on, unless this is the first start ever: a processor that was reset may have
-/// performed a request before.
+/// Makes an endpoint with these settings: 0, or why not. No moment before `now_ms` may come then. It is busy for the
+/// keeping time from `now_ms` on, unless this is the first start ever: a processor that was reset may have performed a
+/// request before. In the busy time it performs nothing, or nothing that sets, as the settings say.
 #[unsafe(no_mangle)]
 pub extern "C" fn needleoat_endpoint_new(
     alloc: Global,
@@ -38,13 +38,13 @@ pub extern "C" fn needleoat_endpoint_new(
     if endpoint.is_live {
         return ALREADY_THERE;
     }
-    let (Some(own), Some(keep)) = (Eid::new(settings.own), Keep::new(settings.keep_ms)) else {
+    let (Some(own), Some(keeping)) = (Eid::new(settings.own), settings.keeping()) else {
         return OUT_OF_RANGE;
     };
     let Some(now) = Moment::new(now_ms) else {
         return BAD_MOMENT;
     };
-    match Box::new(alloc, endpoint::start(alloc, own, keep, settings, now)) {
+    match Box::new(alloc, endpoint::start(alloc, own, keeping, settings, now)) {
         Ok(inside) => {
             endpoint.handle.put(inside);
             endpoint.is_live = true;
@@ -108,7 +108,7 @@ pub extern "C" fn needleoat_endpoint_answer(
 }
 
 /// Restarts the endpoint at a moment: 0, or why not. The kept answers, the messages that have begun and the pending
-/// commands are forgotten, and nothing is performed for the keeping time from then on.
+/// commands are forgotten, and the endpoint is busy for the keeping time from then on.
 #[unsafe(no_mangle)]
 pub extern "C" fn needleoat_endpoint_restart(
     alloc: Global,

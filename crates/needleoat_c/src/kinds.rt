@@ -1,4 +1,10 @@
-//! The kinds of reports, as the numbers that C is given.
+//! The kinds of reports, as the numbers that C is given, and those of busy times, as the numbers that C gives.
+
+/// In the busy time each request is refused.
+pub const BUSY_ALL: u32 = 0;
+
+/// In the busy time those requests are refused whose command sets something.
+pub const BUSY_SETS: u32 = 1;
 
 /// It was refused, and all is as before.
 pub const STEP_REFUSED: u8 = 0;

@@ -1,5 +1,14 @@
 //! The settings with which C makes an end.
 
+ghost use Rattle.std.specs.Prelude.{◌≡◌, ◌≤◌, ◌↔◌, IsSome, IfSome};
+ghost use Rattle.pldm_wire.specs.declared.assigned.TheConstants.{INSTANCE_IDS};
+ghost use Rattle.needleoat_c.specs.Endpoints.{IsBusyKind, IsKeeping, busy_in, keeping_in, window_in};
+
+use crate::kinds::{BUSY_ALL, BUSY_SETS};
+use mctp_packet::Keep;
+use pldm_responder::Keeping;
+use pldm_wire::{BusyTime, INSTANCE_IDS, Window};
+
 /// What an endpoint is made with.
 #[repr(C)]
 #[derive(Drop)]
@@ -16,10 +25,53 @@ pub struct EndpointSettings {
     pub open_messages: u32,
     /// How many commands are pending at most.
     pub pending_commands: u32,
+    /// For how many instance IDs of a source answers are kept, 1 to 32; 0 stands for all 32.
+    pub window: u32,
+    /// Which requests are refused in the busy time, as `BUSY_ALL` or `BUSY_SETS`.
+    pub busy: u32,
 }
 
 // As in `include/needleoat.h`.
-const _: () = prove!(size_of::<EndpointSettings>() == 20);
+const _: () = prove!(size_of::<EndpointSettings>() == 28);
+
+impl EndpointSettings {
+    /// How it keeps answers, and what it refuses in the busy time, where these settings are in range.
+    pub(crate) fn keeping(&self) -> Option<Keeping>
+        ensures some { IsSome result ↔ IsKeeping self.now }
+        ensures value { IfSome result (λ keeping. keeping ≡ keeping_in self.now) }
+    {
+        let keep = Keep::new(self.keep_ms)?;
+        let window = window_of(self.window)?;
+        let busy = busy_of(self.busy)?;
+        Some(Keeping { keep, window, busy })
+    }
+}
+
+/// The window that this number says.
+fn window_of(number: u32) -> Option<Window>
+    ensures some { IsSome result ↔ (number ≤ INSTANCE_IDS) }
+    ensures value { IfSome result (λ window. window ≡ window_in number) }
+{
+    if number > u32::from(INSTANCE_IDS) {
+        return None;
+    }
+    if number == 0 {
+        return Some(Window::ALL);
+    }
+    Window::new(number as u8)
+}
+
+/// The kind of busy time that this number says.
+fn busy_of(number: u32) -> Option<BusyTime>
+    ensures some { IsSome result ↔ IsBusyKind number }
+    ensures value { IfSome result (λ busy. busy ≡ busy_in number) }
+{
+    match number {
+        BUSY_ALL => Some(BusyTime::All),
+        BUSY_SETS => Some(BusyTime::Sets),
+        _ => None,
+    }
+}
 
 /// What a requester is made with.
 #[repr(C)]
