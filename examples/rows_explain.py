@@ -30,6 +30,16 @@ DESCRIPTIONS = [
     ("eid = 9", 'eid = "9"', "WrongKind", "line 1, column 1: eid: found '9', allowed is an integer from 8 to 254"),
     ("keep_ms = 1000", "keep_ms = 60001", "OutOfRange", "line 2, column 1: keep_ms: found 60001, allowed is an integer from 1 to 60000"),
     ("keep_ms = 1000", "keep_ms = 1.5", "WrongKind", "line 2, column 1: keep_ms: found a float, allowed is an integer from 1 to 60000"),
+    ("tid = 1", "window = 0\ntid = 1", "OutOfRange", "line 3, column 1: window: found 0, allowed is an integer from 1 to 32"),
+    ("tid = 1", "window = 33\ntid = 1", "OutOfRange", "line 3, column 1: window: found 33, allowed is an integer from 1 to 32"),
+    ("tid = 1", "window = '1'\ntid = 1", "WrongKind", "line 3, column 1: window: found '1', allowed is an integer from 1 to 32"),
+    ("tid = 1", "window = 'x'\ntid = 1", "WrongKind", "line 3, column 1: window: found 'x', allowed is an integer from 1 to 32"),
+    ("tid = 1", "busy = 'none'\ntid = 1", "OutOfRange", "line 3, column 1: busy: found 'none', allowed is 'all' or 'sets'"),
+    ("tid = 1", "busy = 3\ntid = 1", "WrongKind", "line 3, column 1: busy: found 3, allowed is 'all' or 'sets'"),
+    # the keys are looked at in their order, wherever they stand: keep_ms, window, busy, tid
+    ("keep_ms = 1000", "window = 'x'\nkeep_ms = 0", "OutOfRange", "line 3, column 1: keep_ms: found 0, allowed is an integer from 1 to 60000"),
+    ("tid = 1", "busy = 3\nwindow = 0\ntid = 1", "OutOfRange", "line 4, column 1: window: found 0, allowed is an integer from 1 to 32"),
+    ("tid = 1", "tid = true\nbusy = ''", "OutOfRange", "line 4, column 1: busy: found '', allowed is 'all' or 'sets'"),
     ("tid = 1", "tid = true", "WrongKind", "line 3, column 1: tid: found a boolean, allowed is an integer from 0 to 254"),
     ('"00f0f0f1"', '"00f0f0f"', "BadHex", "line 4, column 1: version0: found '00f0f0f', allowed is hex text of 1 to 8 versions of 4 bytes"),
     ('"00f2f1f1"', '"00f2f1"', "OutOfRange", "line 5, column 1: version2: found '00f2f1', allowed is hex text of 1 to 8 versions of 4 bytes"),
@@ -150,6 +160,7 @@ TIMINGS = [
 # a part of a description, what stands in its place, and its warnings
 WARNINGS = [
     ("tid = 1", "tid = 1\nname = 'fan'", ["line 4, column 1: 'name' is no key of a description, and is ignored"]),
+    ("tid = 1", "windows = 8\ntid = 1", ["line 3, column 1: 'windows' is no key of a description, and is ignored; did you mean 'window'?"]),
     (
         "[[numeric_sensor]]",
         "[[numeric_sensors]]",

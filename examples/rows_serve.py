@@ -247,6 +247,18 @@ def copies_in_turn(rows, place):
     served.communicate(timeout=SECONDS)
 
 
+def windows(rows, place):
+    """The description's window is that of the answers; a program that starts is not busy, whatever `busy` says."""
+    with open(place.device) as file:
+        text = file.read()
+    keys = (("window = 1", ASK_AGAIN, AT_40), ("window = 2", ASK, AT_50), ('busy = "sets"', ASK, AT_50))
+    for line, ask, told_at in keys:
+        device = place.write("window.toml", text.replace("keep_ms = 1000\n", f"keep_ms = 1000\n{line}\n"))
+        ran = place.run(b"".join(map(frame, (SET_40, SET_50, SET_40, ask))), device=device)
+        want = (0, b"".join(map(frame, (DONE_40, DONE_50, DONE_40, told_at))), b"")
+        rows.check(f"served: 40, 50 and 40 again, {line}", ran == want, repr(ran))
+
+
 def refusals(rows, place):
     """Command lines, descriptions and files that are refused; nothing of the line is read or written."""
     refused = ([], ["--verbose"], ["--log", "a"], ["--device"], ["--device", "a", "b"], ["--device", "a", "--explain"])
@@ -436,8 +448,8 @@ def described_control(rows, place):
     rows.check("control: `answer` ignores the table", (ran.returncode, ran.stdout, ran.stderr) == want, repr(ran))
 
 
-PARTS = (large, no_frames, escapes, open_pipe, terminal, terminal_of_the_help, copies, copies_in_turn, refusals)
-PARTS += (broken_line, watched, control, described_control)
+PARTS = (large, no_frames, escapes, open_pipe, terminal, terminal_of_the_help, copies, copies_in_turn, windows)
+PARTS += (refusals, broken_line, watched, control, described_control)
 
 
 def check(rows, program, here, device):
