@@ -53,11 +53,12 @@ class LossyLine:
 
 
 def converse(device, requester, one_in, seed, seconds=120):
-    """Runs `device`, a list of words, with one end of a line as its standard input and output, and `requester`, a list
-    of words in which LINE is the name of the other end, until the requester ends. Returns its status, what it wrote,
-    and how many bytes were lost."""
+    """Runs `device` with one end of a line as its standard input and output, and `requester` until it ends: lists of
+    words, in which LINE is the name of the end that is theirs. Returns the requester's status, what it wrote, and how
+    many bytes were lost."""
     with LossyLine(one_in, seed) as line:
-        server = subprocess.Popen(device, stdin=line.ends[0], stdout=line.ends[0], stderr=subprocess.DEVNULL)
+        named = [line.name(0) if word == "LINE" else word for word in device]
+        server = subprocess.Popen(named, stdin=line.ends[0], stdout=line.ends[0], stderr=subprocess.DEVNULL)
         try:
             words = [line.name(1) if word == "LINE" else word for word in requester]
             ran = subprocess.run(words, stdout=subprocess.PIPE, stderr=subprocess.PIPE, timeout=seconds)

@@ -26,6 +26,16 @@ def examples_in(text):
     return [re.sub(r"^  ", "", run.strip("\n"), flags=re.M) + "\n" for run in runs]
 
 
+def options_of(texts, subcommand):
+    """The options of a subcommand that takes a text, in a column as wide as the longest."""
+    found = [("--explain", texts["EXPLAIN"])]
+    if subcommand == "show":
+        found += [("--decode", texts["DECODE"]), (f"--binding <{texts['BINDINGS']}>", texts["BINDING"])]
+    width = 2 + max(len(option) for option, _ in found)
+    lines = "".join(f"      {option:<{width}}{about}\n" for option, about in found)
+    return f"Options:\n{lines}  -h, {'--help':<{width}}Print help\n"
+
+
 def whole(texts):
     """Each command line that asks for help, and all that is to be written for it."""
     commands = "".join(f"  {name:<8}{about}\n" for name, about in (*ABOUT.items(), ("serve", SERVES)))
@@ -37,10 +47,8 @@ def whole(texts):
     yield ["--help"], top
     yield ["-h"], top
     yield ["help"], top
-    explain, decode = (f"      --{name:<9}{texts[name.upper()]}\n" for name in ("explain", "decode"))
-    options = f"Options:\n{explain}{{0}}  -h, --help     Print help\n"
     for name, about in ABOUT.items():
-        flags = options.format(decode if name == "show" else "")
+        flags = options_of(texts, name)
         page = f"{about}\n\nUsage: mctpctl {name} [OPTIONS]\n\n{flags}\n{texts[name.upper()]}\n"
         yield [name, "--help"], page
         yield ["help", name], page

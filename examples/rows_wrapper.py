@@ -46,6 +46,12 @@ def files(rows, top):
     rows.check("a capture as a file", ran.returncode == 0 and "request 0 GetTID - ok" in ran.stdout, repr(ran))
     ran = call([wrapper, "show", "--decode", capture])
     rows.check("a flag and a capture as a file", ran.returncode == 0 and "  request 0 GetTID\n" in ran.stdout, repr(ran))
+    framed = os.path.join(top, "framed")
+    with open(framed, "w") as capture_of_frames:
+        capture_of_frames.write("0 3a0f0921010908c801800002ca\n")
+    for words in (["--binding", "i2c"], ["--binding=i2c"]):
+        ran = call([wrapper, "show", *words, "--decode", framed])
+        rows.check(f"{words} and a capture as a file", ran.returncode == 0 and "  request 0 GetTID\n" in ran.stdout, repr(ran))
     ran = call([wrapper, "run", "--explain", device, capture])
     rows.check("a flag and two files", ran.returncode == 1 and "input line 26: '0' begins no line" in ran.stderr, repr(ran))
     ran = call([wrapper, "answer", device, os.path.join(top, "none")])

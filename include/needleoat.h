@@ -40,14 +40,14 @@
  *     where it gives another one; where it gives none, the old block is as it was. Where two threads
  *     call this library, the three functions are safe for two threads: they are over malloc
  *     (examples/c/heap.c), and are not over an array without a lock (examples/c/pool_heap.c).
- *   - While a command is pending, its endpoint is restarted and never freed and made anew: the
- *     numbers of a new endpoint begin at 0, so a handle of the old one could be taken for that of
- *     another command, and the answer would go to that one.
+ *   - While a command or a request is pending, its endpoint is restarted and never freed and made
+ *     anew: the numbers of a new endpoint begin at 0, so a handle of the old one could be taken for
+ *     that of another command, and the answer would go to that one.
  *
  * Numbers in structs are in the byte order of the processor. A `length` or `count` is in bytes where
- * nothing else is said. In the structs and the results it is a uint32_t, on every processor; the
- * length that goes with a pointer is a size_t. Where a call says that it leaves something as it was,
- * no byte of it changed.
+ * nothing else is said. In the structs and the results it is a uint32_t, and the length that goes
+ * with a pointer is a uint64_t, on every processor. Where a call says that it leaves something as it
+ * was, no byte of it changed.
  */
 #ifndef NEEDLEOAT_H
 #define NEEDLEOAT_H
@@ -58,9 +58,11 @@
 
 #ifdef __cplusplus
 #define NEEDLEOAT_ASSERT(fact) static_assert(fact, #fact)
+#define NEEDLEOAT_ALIGNED alignas(8)
 extern "C" {
 #else
 #define NEEDLEOAT_ASSERT(fact) _Static_assert(fact, #fact)
+#define NEEDLEOAT_ALIGNED _Alignas(8)
 #endif
 
 enum {
@@ -68,6 +70,8 @@ enum {
     NEEDLEOAT_PACKETS = 5,         /* the most packets of a message */
     NEEDLEOAT_MESSAGE_BYTES = 320, /* the most bytes of a message */
     NEEDLEOAT_REQUEST_BYTES = 23,  /* the most bytes of a request that needleoat_command_write writes */
+    NEEDLEOAT_REQUEST_DATA = 316,  /* the most bytes of a request's data: a message without its header */
+    NEEDLEOAT_RESPONSE_DATA = 315, /* the most bytes of a response's data: a message without its header and code */
     NEEDLEOAT_PART_BYTES = 303,    /* the most bytes of a record in one GetPDR answer */
     NEEDLEOAT_STATES = 8,          /* the most fields of a state sensor or effecter */
     NEEDLEOAT_I2C_FRAME_BYTES = 259, /* the most bytes of a frame on I2C: 4, a packet of 254, and the PEC */
@@ -115,7 +119,7 @@ struct needleoat_packet {
 };
 
 /* Reads a packet at the endpoint `own`. */
-struct needleoat_packet needleoat_packet_read(uint8_t own, const uint8_t *bytes, size_t length);
+struct needleoat_packet needleoat_packet_read(uint8_t own, const uint8_t *bytes, uint64_t length);
 
 /* How many packets a message of so many bytes has: 1 to 5, and 0 of no bytes or of more than 320. */
 uint32_t needleoat_packet_count(uint32_t message_length);
@@ -127,7 +131,7 @@ uint32_t needleoat_packet_count(uint32_t message_length);
  * below needleoat_packet_count of its length. `owner` is true in a request and false in a response.
  */
 uint32_t needleoat_packet_write(uint8_t destination, uint8_t source, bool owner, uint8_t tag, const uint8_t *message,
-                                size_t length, uint32_t index, uint8_t out[NEEDLEOAT_PACKET_BYTES]);
+                                uint64_t length, uint32_t index, uint8_t out[NEEDLEOAT_PACKET_BYTES]);
 
 /* ---- Messages ---- */
 
@@ -144,8 +148,8 @@ struct needleoat_message {
     uint32_t data_length; /* in bytes; UINT32_MAX where there are more */
 };
 
-struct needleoat_message needleoat_request_read(const uint8_t *message, size_t length);
-struct needleoat_message needleoat_response_read(const uint8_t *message, size_t length);
+struct needleoat_message needleoat_request_read(const uint8_t *message, uint64_t length);
+struct needleoat_message needleoat_response_read(const uint8_t *message, uint64_t length);
 
 /* ---- Commands ---- */
 
@@ -219,7 +223,7 @@ struct needleoat_command_reading {
  * Reads a message as a request and its command into `fields`. Where either number that it returns is
  * not 0, `fields` is left as it was.
  */
-struct needleoat_command_reading needleoat_command_read(const uint8_t *message, size_t length,
+struct needleoat_command_reading needleoat_command_read(const uint8_t *message, uint64_t length,
                                                         struct needleoat_command *fields);
 
 /*
@@ -303,12 +307,12 @@ enum needleoat_answer_fault {
  * `code`. Whether the packets came from the device that was asked, and with the tag of the request,
  * is for the caller to see.
  */
-uint8_t needleoat_answer_read(const uint8_t *request, size_t request_length, const uint8_t *response,
-                              size_t response_length, struct needleoat_answer *fields);
+uint8_t needleoat_answer_read(const uint8_t *request, uint64_t request_length, const uint8_t *response,
+                              uint64_t response_length, struct needleoat_answer *fields);
 
 /* The number that needleoat_answer_read returns, without the fields. */
-uint8_t needleoat_answer_check(const uint8_t *request, size_t request_length, const uint8_t *response,
-                               size_t response_length);
+uint8_t needleoat_answer_check(const uint8_t *request, uint64_t request_length, const uint8_t *response,
+                               uint64_t response_length);
 
 /*
  * Writes the response of an answer to the front of `out`, and returns its length in bytes, 5 to 320.
@@ -324,7 +328,7 @@ uint32_t needleoat_answer_write(const struct needleoat_answer *fields, uint8_t o
  * The checksum of a whole record, as the last part of a GetPDR answer carries it: CRC-8 by
  * x^8 + x^2 + x + 1, from 0, the highest bit first.
  */
-uint8_t needleoat_crc8(const uint8_t *bytes, size_t length);
+uint8_t needleoat_crc8(const uint8_t *bytes, uint64_t length);
 
 /* ---- Control messages ----
  *
@@ -360,7 +364,7 @@ struct needleoat_control {
  * whole message, that of needleoat_request_read.
  */
 uint32_t needleoat_control_reply(const struct needleoat_control *fields, uint8_t reason, const uint8_t *packet,
-                                 size_t length, uint8_t out[NEEDLEOAT_PACKET_BYTES]);
+                                 uint64_t length, uint8_t out[NEEDLEOAT_PACKET_BYTES]);
 
 /* ---- Packets on I2C and I3C ----
  *
@@ -407,11 +411,11 @@ struct needleoat_i2c_frame {
  * leaves `out` as it was where an address is not 0x08 to 0x77, and where the packet has fewer than 4 bytes or more
  * than 254.
  */
-uint32_t needleoat_i2c_write(uint8_t source_address, uint8_t destination_address, const uint8_t *packet, size_t length,
-                             uint8_t out[NEEDLEOAT_I2C_FRAME_BYTES]);
+uint32_t needleoat_i2c_write(uint8_t source_address, uint8_t destination_address, const uint8_t *packet,
+                             uint64_t length, uint8_t out[NEEDLEOAT_I2C_FRAME_BYTES]);
 
 /* Reads the bytes of a block write at the device of `own_address`, from its byte 0 to its PEC. */
-struct needleoat_i2c_frame needleoat_i2c_read(uint8_t own_address, const uint8_t *bytes, size_t length);
+struct needleoat_i2c_frame needleoat_i2c_read(uint8_t own_address, const uint8_t *bytes, uint64_t length);
 
 /*
  * On I3C (DSP0233) a frame is the packet and its PEC, in a private write to a target or in a private read from it. The
@@ -438,11 +442,11 @@ struct needleoat_i3c_frame {
  * leaves `out` as it was where `address` is above 0x7F, and where the packet has fewer than 4 bytes or more than
  * 254.
  */
-uint32_t needleoat_i3c_write(uint8_t address, bool is_read, const uint8_t *packet, size_t length,
+uint32_t needleoat_i3c_write(uint8_t address, bool is_read, const uint8_t *packet, uint64_t length,
                              uint8_t out[NEEDLEOAT_I3C_FRAME_BYTES]);
 
 /* Reads the bytes of a transfer to or from the target of this dynamic address, from the packet to the PEC. */
-struct needleoat_i3c_frame needleoat_i3c_read(uint8_t address, bool is_read, const uint8_t *bytes, size_t length);
+struct needleoat_i3c_frame needleoat_i3c_read(uint8_t address, bool is_read, const uint8_t *bytes, uint64_t length);
 
 /* ---- Both ends: libneedleoat_c.a ----
  *
@@ -461,7 +465,8 @@ enum needleoat_refusal {
     NEEDLEOAT_BAD_MOMENT = 2,        /* the moment is past the last one, or before that of the last accepted call */
     NEEDLEOAT_NOTHING_THERE = 3,     /* there is nothing behind the handle */
     NEEDLEOAT_OUT_OF_TURN = 4,       /* of a packet: another command of its source and instance ID is pending */
-    NEEDLEOAT_NOT_ITS_ANSWER = 5,    /* it is the answer to another command */
+    NEEDLEOAT_NOT_ITS_ANSWER = 5,    /* it is the answer to another command; or one of the two ways to answer, where the
+                                        other is the right one */
     NEEDLEOAT_OUT_OF_RANGE = 6,      /* a number is out of its range */
     NEEDLEOAT_ALREADY_THERE = 7,     /* there is something behind the handle */
     NEEDLEOAT_BEING_PERFORMED = 8,   /* of a packet: the command of this very request is pending */
@@ -482,6 +487,10 @@ enum needleoat_refusal {
  * hands its answer to needleoat_endpoint_answer, with the `handle` of that step: it tells for which command
  * the answer is.
  *
+ * A request of a PLDM type that the settings name comes out as bytes instead, and is pending in the same way: all that
+ * is said here of commands holds of it. needleoat_endpoint_request has its bytes, and needleoat_endpoint_answer_bytes
+ * takes the response. So a device has FRU data, firmware update, events or OEM commands.
+ *
  * Meanwhile all other packets are received as ever, and more commands may have to be performed, up to the
  * number of the settings; they may be answered in any order. Refused for their sake are only: the very request
  * whose command is pending, byte for byte, in whatever packets and whenever it comes
@@ -492,7 +501,7 @@ enum needleoat_refusal {
  * answer.
  */
 struct needleoat_endpoint {
-    void *at;
+    uint64_t at; /* an address */
     bool is_live;
 };
 #define NEEDLEOAT_ENDPOINT_NONE {0, false}
@@ -504,8 +513,8 @@ struct needleoat_endpoint {
 enum needleoat_busy {
     NEEDLEOAT_BUSY_ALL = 0, /* each one with a good header */
     NEEDLEOAT_BUSY_SETS = 1 /* those with a good header whose command sets: SetTID, SetNumericEffecterValue,
-                               SetStateEffecterStates. A command that only asks is performed, also where it was performed
-                               before the restart */
+                               SetStateEffecterStates; and those that are handed on as bytes. A command that only asks is
+                               performed, also where it was performed before the restart */
 };
 
 /*
@@ -531,6 +540,10 @@ struct needleoat_endpoint_settings {
     uint32_t pending_commands; /* how many commands are pending at most; with 0 none is ever performed */
     uint32_t window;           /* for how many instance IDs of a source answers are kept, 1 to 32; 0 stands for all 32 */
     uint32_t busy;             /* enum needleoat_busy */
+    bool unknown_commands;     /* whether of PLDM types 0 and 2 the requests are handed on as bytes whose command is none
+                                  of this profile; else they are refused with code 0x05 */
+    uint64_t pldm_types;       /* the PLDM types of which each request is handed on as bytes: bit t stands for type t.
+                                  Those of the others are refused with code 0x20; the bits of 0 and 2 stand for nothing */
 };
 
 /*
@@ -560,7 +573,8 @@ enum needleoat_step_kind {
     NEEDLEOAT_STEP_DROPPED = 1,  /* the packet is dropped */
     NEEDLEOAT_STEP_PARTIAL = 2,  /* the packet begins a message of several, or goes on with one */
     NEEDLEOAT_STEP_ANSWERED = 3, /* it is answered: the packets of the answer are to be sent */
-    NEEDLEOAT_STEP_PERFORM = 4   /* the command of a request is to be performed, once */
+    NEEDLEOAT_STEP_PERFORM = 4,  /* the command of a request is to be performed, once */
+    NEEDLEOAT_STEP_RESPOND = 5   /* a request that is handed on as bytes is to be responded to, once */
 };
 
 struct needleoat_step {
@@ -571,7 +585,8 @@ struct needleoat_step {
     bool changed;   /* ANSWERED: it is fresh, of a command that sets, and was not refused */
     uint32_t count; /* ANSWERED: how many packets the answer has, 1 to 5; else 0 */
     uint32_t lengths[NEEDLEOAT_PACKETS];    /* the length of each in bytes, 5 to 68 */
-    struct needleoat_command_handle handle; /* PERFORM: for needleoat_endpoint_answer; else zeros */
+    struct needleoat_command_handle handle; /* PERFORM: for needleoat_endpoint_answer; RESPOND: for
+                                               needleoat_endpoint_request and _answer_bytes; else zeros */
 };
 
 /*
@@ -583,28 +598,29 @@ struct needleoat_step {
  *   15  the packet begins a message of several, and `open_messages` is 0
  *    8  it completes the very request whose command is pending
  *    4  it completes another request of the source and instance ID of a pending command
- *    9  it completes a request that is no copy and has a command, and `pending_commands` are pending (or 2^64 - 1
- *       were handed out)
+ *    9  it completes a request that is no copy and has a command or is handed on as bytes, and `pending_commands` are
+ *       pending (or 2^64 - 1 were handed out)
  *   14  it completes a request that is no copy, its source has no room for answers, and `sources` others have
  *    1  a growth of memory was refused
  *
  * 9 and 14 do not come for a request that is refused in the busy time.
  *
  * Where a command is to be performed, its fields are in `command`, with the instance ID 0, and `handle` of the
- * step is its handle; otherwise `command` is as it was. Where the packet is answered, packet i of the answer is
+ * step is its handle; otherwise `command` is as it was. Where a request is to be responded to, `handle` of the step is
+ * its handle. Where the packet is answered, packet i of the answer is
  * in front of `packets[i]`. It goes to the source of the request. What else is in `packets` has no meaning.
  * Where the packet was dropped, it may be a control message: hand it on to needleoat_control_reply.
  */
 struct needleoat_step needleoat_endpoint_receive(struct needleoat_endpoint *endpoint, uint64_t now_ms,
-                                                 const uint8_t *packet, size_t length,
+                                                 const uint8_t *packet, uint64_t length,
                                                  struct needleoat_command *command,
                                                  uint8_t packets[NEEDLEOAT_PACKETS][NEEDLEOAT_PACKET_BYTES]);
 
 /*
  * Hands in the answer to the command that is pending under this handle, and gives the packets of it:
  * NEEDLEOAT_STEP_ANSWERED, or refused with the first of 3, 10, 6 and 5. They go to `handle->source`. 10 comes
- * exactly where no command is pending under the three numbers of the handle: it was answered, or forgotten by a
- * restart. The answer is the one that needleoat_answer_write writes: 6 comes exactly where that call writes
+ * exactly where nothing is pending under the three numbers of the handle: it was answered, or forgotten by a
+ * restart. 5 comes for each answer where a request is pending there that was handed on as bytes. The answer is the one that needleoat_answer_write writes: 6 comes exactly where that call writes
  * nothing, 5 where `pldm_type` or `command` is another than the command's, also where `code` is not 0. The
  * instance ID in `answer` is not looked at beyond that; the request's is sent. It takes no memory. Where it is
  * refused with 6 or 5, the command is still pending. Where `window` other instance IDs of the source had fresh
@@ -614,6 +630,33 @@ struct needleoat_step needleoat_endpoint_answer(struct needleoat_endpoint *endpo
                                                 const struct needleoat_command_handle *handle,
                                                 const struct needleoat_answer *answer,
                                                 uint8_t packets[NEEDLEOAT_PACKETS][NEEDLEOAT_PACKET_BYTES]);
+
+/* A request that was handed on as bytes. */
+struct needleoat_request {
+    uint8_t pldm_type; /* 0 to 63 */
+    uint8_t command;   /* its command's number in that type */
+    uint32_t length;   /* how many bytes of data it has, at most 316 */
+    uint8_t data[NEEDLEOAT_REQUEST_DATA]; /* its data: the first of these. What follows is as it was */
+};
+
+/*
+ * Puts the request that is pending under this handle into `request`, and returns true; false, with `request` as it was,
+ * where none is. It takes no memory.
+ */
+bool needleoat_endpoint_request(struct needleoat_endpoint *endpoint, const struct needleoat_command_handle *handle,
+                                struct needleoat_request *request);
+
+/*
+ * Hands in the response to the request that is pending under this handle, which was handed on as bytes: any completion
+ * code, and `length` bytes of data. It gives the packets of the response as needleoat_endpoint_answer does:
+ * NEEDLEOAT_STEP_ANSWERED, or refused with the first of 3, 10, 5 (the pending one is a command, for that call) and 6
+ * (there are more than 315 bytes). It counts as one that sets something (`changed`) where the code is 0. It takes no
+ * memory. Where it is refused with 5 or 6, what was pending still is.
+ */
+struct needleoat_step needleoat_endpoint_answer_bytes(struct needleoat_endpoint *endpoint,
+                                                      const struct needleoat_command_handle *handle, uint8_t code,
+                                                      const uint8_t *data, uint64_t length,
+                                                      uint8_t packets[NEEDLEOAT_PACKETS][NEEDLEOAT_PACKET_BYTES]);
 
 /*
  * Restarts at a moment: 0, or 3 or 2 of enum needleoat_refusal. The kept answers, the messages that have
@@ -632,7 +675,7 @@ void needleoat_endpoint_free(struct needleoat_endpoint *endpoint);
  * requests are to be sent again or are given up, and finds the answer to a request among packets.
  */
 struct needleoat_requester {
-    void *at;
+    uint64_t at; /* an address */
     bool is_live;
 };
 #define NEEDLEOAT_REQUESTER_NONE {0, false}
@@ -667,7 +710,7 @@ struct needleoat_opening {
  * instance ID is not looked at. Its packet is to be sent at that moment. Only the first 32 want memory.
  */
 struct needleoat_opening needleoat_requester_open(struct needleoat_requester *requester, uint64_t now_ms,
-                                                  const uint8_t *request, size_t length);
+                                                  const uint8_t *request, uint64_t length);
 
 /* The requests that are due, by their numbers. */
 struct needleoat_due {
@@ -700,7 +743,7 @@ struct needleoat_receiving {
 
 /* Receives the bytes of a packet that came at a moment. */
 struct needleoat_receiving needleoat_requester_receive(struct needleoat_requester *requester, uint64_t now_ms,
-                                                       const uint8_t *packet, size_t length);
+                                                       const uint8_t *packet, uint64_t length);
 
 /*
  * Writes the packet of a request to the front of `out`, and returns its length in bytes; 0, with `out` as
@@ -734,20 +777,21 @@ void needleoat_requester_free(struct needleoat_requester *requester);
 
 /*
  * The memory that the library asks for; the head of this file says what these functions have to keep. `size`
- * may be 0. A block is aligned to `align`, a power of two up to 16. Where `is_there` is false, `at` points to
- * some byte all the same, and nothing else changed.
+ * may be 0, and it may be more than a size_t holds: such a block is refused. A block is aligned to `align`, a
+ * power of two up to 16. Where `is_there` is false, `at` points to some byte all the same, and nothing else
+ * changed.
  */
 struct needleoat_block {
     bool is_there;
-    uint8_t *at;
+    NEEDLEOAT_ALIGNED uint8_t *at;
 };
-struct needleoat_block rattle_alloc(size_t size, size_t align);
-struct needleoat_block rattle_realloc(uint8_t *block, size_t kept, size_t size, size_t align);
+struct needleoat_block rattle_alloc(uint64_t size, uint64_t align);
+struct needleoat_block rattle_realloc(uint8_t *block, uint64_t kept, uint64_t size, uint64_t align);
 void rattle_dealloc(uint8_t *block);
 
 /*
- * The structs lie in memory as the library has them, on x86-64 and on aarch64 alike: where one of these
- * facts fails, the library is not for the target.
+ * The structs lie in memory as the library has them, alike on every processor: where one of these facts fails,
+ * the library is not for the target.
  */
 #define NEEDLEOAT_AT(type, field, place) NEEDLEOAT_ASSERT(offsetof(struct type, field) == place)
 NEEDLEOAT_ASSERT(sizeof(struct needleoat_packet) == 12);
@@ -850,7 +894,7 @@ NEEDLEOAT_AT(needleoat_i3c_frame, packet_length, 4);
 NEEDLEOAT_ASSERT(sizeof(struct needleoat_endpoint) == 16);
 NEEDLEOAT_AT(needleoat_endpoint, at, 0);
 NEEDLEOAT_AT(needleoat_endpoint, is_live, 8);
-NEEDLEOAT_ASSERT(sizeof(struct needleoat_endpoint_settings) == 28);
+NEEDLEOAT_ASSERT(sizeof(struct needleoat_endpoint_settings) == 40);
 NEEDLEOAT_AT(needleoat_endpoint_settings, own, 0);
 NEEDLEOAT_AT(needleoat_endpoint_settings, first_start, 1);
 NEEDLEOAT_AT(needleoat_endpoint_settings, keep_ms, 4);
@@ -859,6 +903,13 @@ NEEDLEOAT_AT(needleoat_endpoint_settings, open_messages, 12);
 NEEDLEOAT_AT(needleoat_endpoint_settings, pending_commands, 16);
 NEEDLEOAT_AT(needleoat_endpoint_settings, window, 20);
 NEEDLEOAT_AT(needleoat_endpoint_settings, busy, 24);
+NEEDLEOAT_AT(needleoat_endpoint_settings, unknown_commands, 28);
+NEEDLEOAT_AT(needleoat_endpoint_settings, pldm_types, 32);
+NEEDLEOAT_ASSERT(sizeof(struct needleoat_request) == 324);
+NEEDLEOAT_AT(needleoat_request, pldm_type, 0);
+NEEDLEOAT_AT(needleoat_request, command, 1);
+NEEDLEOAT_AT(needleoat_request, length, 4);
+NEEDLEOAT_AT(needleoat_request, data, 8);
 NEEDLEOAT_ASSERT(sizeof(struct needleoat_command_handle) == 16);
 NEEDLEOAT_AT(needleoat_command_handle, number, 0);
 NEEDLEOAT_AT(needleoat_command_handle, source, 8);
@@ -902,6 +953,7 @@ NEEDLEOAT_AT(needleoat_block, is_there, 0);
 NEEDLEOAT_AT(needleoat_block, at, 8);
 #undef NEEDLEOAT_AT
 #undef NEEDLEOAT_ASSERT
+#undef NEEDLEOAT_ALIGNED
 
 #ifdef __cplusplus
 }

@@ -1,15 +1,21 @@
 /*
  * The whole user land of the guest: a client of Linux's own MCTP stack (AF_MCTP sockets) that does what the host says.
- * It puts the line discipline N_MCTP on the serial line that leads to the device, and then reads commands from a second
- * serial line, one a line, and writes one line for each. Numbers are decimal, bytes are in hex.
+ * It puts the line discipline N_MCTP on the serial line that leads to the device. With `binding=i2c` on the kernel's
+ * command line it loads the module i2c_adapter.ko instead, attaches mctp-i2c to its bus, and passes the bus's transfers
+ * over the serial line, each as a line of hex. Then it reads commands from a second serial line, one a line, and writes
+ * one line for each. Numbers are decimal, bytes are in hex.
  *
  *   address EID                    our endpoint ID                               ok
+ *   neighbour EID ADDRESS          the address on I2C of an endpoint             ok
+ *   unneighbour EID                                                              ok
  *   route EID MTU                  a way to an endpoint; MTU 0 is the line's     ok
  *   unroute EID                                                                  ok
  *   tag EID                        a tag that is kept for this endpoint          tag N
  *   untag EID TAG                                                                ok
  *   send EID TYPE TAG BYTES        a message; TAG 8 is one that the kernel picks ok
- *   physical EID TYPE BYTES        the same without a route, by the line alone   ok
+ *   physical EID TYPE ADDRESS BYTES
+ *                                  the same without a route, by the line alone, to an address on I2C; 0 for none
+ *                                                                                ok
  *   receive MS                     the next message                              message EID TYPE TAG BYTES, or nothing
  *   ask EID TYPE TAG MS BYTES      send, then receive
  *   statistics                     the counters of the line                      NAME N ..
@@ -34,10 +40,12 @@
 #include <sys/reboot.h>
 #include <sys/socket.h>
 #include <sys/stat.h>
+#include <sys/syscall.h>
 #include <termios.h>
 #include <unistd.h>
 #include <linux/if_addr.h>
 #include <linux/mctp.h>
+#include <linux/neighbour.h>
 #include <linux/netlink.h>
 #include <linux/rtnetlink.h>
 
@@ -47,11 +55,19 @@
 
 #define DEVICE_LINE "/dev/ttyS0"
 #define COMMAND_LINE "/dev/ttyS1"
-#define INTERFACE "mctpserial0"
+#define SERIAL_INTERFACE "mctpserial0"
 
-enum { MAX_BYTES = 70000, MAX_WORDS = 8 };
+/* The adapter is the first of the guest; 0x1000 says that the address is the guest's own, as a slave. */
+#define I2C_MODULE "/i2c_adapter.ko"
+#define I2C_BUS "/dev/i2c_bus"
+#define I2C_ADAPTER "/sys/bus/i2c/devices/i2c-0/new_device"
+#define I2C_CLIENT "mctp-i2c-interface 0x1008"
+#define I2C_INTERFACE "mctpi2c0"
+
+enum { MAX_BYTES = 70000, MAX_WORDS = 8, TRANSFER_BYTES = 512 };
 
 static FILE *answers;
+static const char *interface;
 static int interface_index, message_socket, physical_socket;
 static char *words[MAX_WORDS];
 static uint8_t bytes[MAX_BYTES];
@@ -160,21 +176,108 @@ static int open_device_line(void)
 	return terminal;
 }
 
+static void attach_serial(void)
+{
+	int discipline = N_MCTP;
+
+	if (ioctl(open_device_line(), TIOCSETD, &discipline))
+		fail("N_MCTP");
+	interface = SERIAL_INTERFACE;
+}
+
+/* ---- The I2C bus ---- */
+
+/* Writes a transfer to the line, as a line of hex. */
+static void tell_transfer(FILE *line, const uint8_t *transfer, size_t count)
+{
+	for (size_t i = 0; i < count; i++)
+		fprintf(line, "%02x", transfer[i]);
+	fputc('\n', line);
+	fflush(line);
+}
+
+/* The bytes of a line of hex, up to its end, and how many they are. */
+static size_t read_transfer(const char *text, uint8_t transfer[TRANSFER_BYTES])
+{
+	size_t count = 0;
+
+	while (count < TRANSFER_BYTES && sscanf(text + 2 * count, "%2hhx", &transfer[count]) == 1)
+		count++;
+	return count;
+}
+
+/* Makes transfers of the lines of a process of its own, for ever. One that nobody acknowledges is lost. */
+static void make_transfers(int bus, FILE *line)
+{
+	static char text[4 * TRANSFER_BYTES];
+	uint8_t transfer[TRANSFER_BYTES];
+
+	while (fgets(text, sizeof text, line))
+		if (write(bus, transfer, read_transfer(text, transfer)) < 0 && errno != ENXIO)
+			_exit(1);
+	_exit(0);
+}
+
+/* Tells of the transfers of this machine, for ever. */
+static void tell_transfers(int bus, FILE *line)
+{
+	uint8_t transfer[TRANSFER_BYTES];
+	ssize_t count;
+
+	while ((count = read(bus, transfer, sizeof transfer)) > 0)
+		tell_transfer(line, transfer, count);
+	_exit(1);
+}
+
+/* Passes transfers between the bus and the serial line, by a process for each way. */
+static void pass_transfers(void)
+{
+	int line = open_raw(DEVICE_LINE), bus = open(I2C_BUS, O_RDWR);
+
+	if (bus < 0)
+		fail(I2C_BUS);
+	for (int way = 0; way < 2; way++) {
+		switch (fork()) {
+		case -1:
+			fail("fork");
+			break;
+		case 0:
+			if (way)
+				make_transfers(bus, fdopen(line, "r"));
+			else
+				tell_transfers(bus, fdopen(line, "w"));
+		}
+	}
+}
+
+static void attach_i2c(void)
+{
+	int module = open(I2C_MODULE, O_RDONLY), adapter;
+
+	if (module < 0 || syscall(SYS_finit_module, module, "", 0))
+		fail(I2C_MODULE);
+	pass_transfers();
+	adapter = open(I2C_ADAPTER, O_WRONLY);
+	if (adapter < 0 || write(adapter, I2C_CLIENT, strlen(I2C_CLIENT)) < 0)
+		fail(I2C_ADAPTER);
+	interface = I2C_INTERFACE;
+}
+
+/* ---- The interface ---- */
+
 static void start_interface(void)
 {
-	struct ifreq request = {.ifr_name = INTERFACE};
-	int discipline = N_MCTP, terminal = open_device_line();
+	struct ifreq request = {0};
 	int any = socket(AF_UNIX, SOCK_DGRAM, 0);
 
-	if (ioctl(terminal, TIOCSETD, &discipline))
-		fail("N_MCTP");
+	strcpy(request.ifr_name, interface);
 	if (any < 0 || ioctl(any, SIOCGIFFLAGS, &request))
 		fail("SIOCGIFFLAGS");
 	request.ifr_flags |= IFF_UP;
 	if (ioctl(any, SIOCSIFFLAGS, &request))
 		fail("SIOCSIFFLAGS");
 	close(any);
-	interface_index = if_nametoindex(INTERFACE);
+	interface_index = if_nametoindex(interface);
 }
 
 static void open_sockets(void)
@@ -195,6 +298,7 @@ struct netlink_request {
 	struct nlmsghdr header;
 	union {
 		struct ifaddrmsg address;
+		struct ndmsg neighbour;
 		struct rtmsg route;
 	};
 	char attributes[64];
@@ -238,6 +342,19 @@ static int add_address(uint8_t eid)
 	};
 
 	add_attribute(&request, IFA_LOCAL, &eid, sizeof eid);
+	return exchange(&request);
+}
+
+static int change_neighbour(int type, uint8_t eid, uint8_t address)
+{
+	struct netlink_request request = {
+		.header = {.nlmsg_len = NLMSG_LENGTH(sizeof request.neighbour), .nlmsg_type = type},
+		.neighbour = {.ndm_family = AF_MCTP, .ndm_ifindex = interface_index},
+	};
+
+	add_attribute(&request, NDA_DST, &eid, sizeof eid);
+	if (type == RTM_NEWNEIGH)
+		add_attribute(&request, NDA_LLADDR, &address, sizeof address);
 	return exchange(&request);
 }
 
@@ -294,8 +411,8 @@ static int send_message(uint8_t eid, uint8_t type, uint8_t tag, size_t count)
 }
 
 /* By extended addressing: the interface is named, so that no route is needed, and an endpoint that has no endpoint ID
- * yet is reached at the null one. The serial line has no address of its own. */
-static int send_physical(uint8_t eid, uint8_t type, size_t count)
+ * yet is reached at the null one. The serial line has no address of its own: 0. */
+static int send_physical(uint8_t eid, uint8_t type, uint8_t address, size_t count)
 {
 	struct sockaddr_mctp_ext to = {
 		.smctp_base = {
@@ -306,6 +423,8 @@ static int send_physical(uint8_t eid, uint8_t type, size_t count)
 			.smctp_tag = MCTP_TAG_OWNER,
 		},
 		.smctp_ifindex = interface_index,
+		.smctp_halen = address ? 1 : 0,
+		.smctp_haddr = {address},
 	};
 
 	return sendto(physical_socket, bytes, count, 0, (void *)&to, sizeof to);
@@ -356,12 +475,13 @@ static void keep_tag(bool keep)
 
 static void tell_statistics(void)
 {
-	static const char *const names[] = {"tx_packets", "tx_dropped", "rx_packets", "rx_dropped", "rx_crc_errors"};
+	static const char *const names[] = {"tx_packets", "tx_dropped", "tx_errors", "rx_packets",
+					    "rx_dropped", "rx_crc_errors", "rx_length_errors"};
 
 	for (size_t i = 0; i < sizeof names / sizeof *names; i++) {
 		char path[120];
 		unsigned long value = 0;
-		snprintf(path, sizeof path, "/sys/class/net/" INTERFACE "/statistics/%s", names[i]);
+		snprintf(path, sizeof path, "/sys/class/net/%s/statistics/%s", interface, names[i]);
 		FILE *file = fopen(path, "r");
 		if (!file || fscanf(file, "%lu", &value) != 1)
 			fail(path);
@@ -380,6 +500,10 @@ static bool obey(void)
 
 	if (!strcmp(what, "address"))
 		answer_status(add_address(number(1)));
+	else if (!strcmp(what, "neighbour"))
+		answer_status(change_neighbour(RTM_NEWNEIGH, number(1), number(2)));
+	else if (!strcmp(what, "unneighbour"))
+		answer_status(change_neighbour(RTM_DELNEIGH, number(1), 0));
 	else if (!strcmp(what, "route"))
 		answer_status(change_route(RTM_NEWROUTE, number(1), number(2)));
 	else if (!strcmp(what, "unroute"))
@@ -391,7 +515,7 @@ static bool obey(void)
 	else if (!strcmp(what, "send"))
 		answer_status(send_message(number(1), number(2), number(3), read_hex(words[4])));
 	else if (!strcmp(what, "physical"))
-		answer_status(send_physical(number(1), number(2), read_hex(words[3])));
+		answer_status(send_physical(number(1), number(2), number(3), read_hex(words[4])));
 	else if (!strcmp(what, "receive"))
 		receive(number(1));
 	else if (!strcmp(what, "ask"))
@@ -419,6 +543,7 @@ static void mount_file_systems(void)
 int main(void)
 {
 	static char line[2 * MAX_BYTES];
+	const char *binding = getenv("binding");
 	FILE *commands;
 
 	mount_file_systems();
@@ -427,6 +552,10 @@ int main(void)
 	answers = fdopen(dup(command_line), "w");
 	if (!commands || !answers)
 		fail("fdopen");
+	if (binding && !strcmp(binding, "i2c"))
+		attach_i2c();
+	else
+		attach_serial();
 	start_interface();
 	open_sockets();
 	answer("ready");

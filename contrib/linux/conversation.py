@@ -31,6 +31,7 @@ class Conversation:
     def __init__(self, rows, guest, line, device, names_drops):
         self.rows, self.guest, self.line, self.device = rows, guest, line, device
         self.names_drops = names_drops
+        self.answer_ms = ANSWER_MS
         self.instance = 0
         self.kept = {}
         self.needs_kept = set()  # names of the rows that a device without kept answers may fail
@@ -66,11 +67,11 @@ class Conversation:
         self.expect(name, request, self.kept[request], **how)
 
     def expect(self, name, request, answer, **how):
-        got = self.guest.ask(EID, PLDM, request, ANSWER_MS, **how)
+        got = self.guest.ask(EID, PLDM, request, self.answer_ms, **how)
         if not self.rows.equal(name, facts(got), self.wanted(answer)):
             self.line.require_running()
         if got is None:
-            self.guest.receive(ANSWER_MS)  # what comes late is of no later step
+            self.guest.receive(self.answer_ms)  # what comes late is of no later step
 
     def expect_silence(self, name, request, kind=PLDM, **how):
         self.rows.equal(name, self.guest.ask(EID, kind, request, SILENCE_MS, **how), None)

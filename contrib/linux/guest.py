@@ -9,7 +9,9 @@ import time
 from dataclasses import dataclass
 
 OWN_EID = 8
+OWN_ADDRESS = 0x08  # on I2C, as client.c has it
 PICK_TAG = 8  # the tag that asks the kernel to pick one
+PACKET_BYTES = 68  # the most that the device takes; on a serial line Linux sends no more by itself
 BOOT_SECONDS = 120
 
 
@@ -24,11 +26,14 @@ class Message:
 
 
 class Guest:
-    def __init__(self, work, folder):
-        """Starts the kernel of the folder `work`. Its root file system is a folder in `folder`."""
+    def __init__(self, work, folder, device_address=0):
+        """Starts the kernel of the folder `work`. Its root file system is a folder in `folder`. It is on I2C where the
+        device has an address there, else on a serial line."""
+        self.device_address = device_address
         root = os.path.join(folder, "root")
         os.makedirs(os.path.join(root, "dev"))
-        shutil.copy(os.path.join(work, "client"), root)
+        for name in ("client", "i2c_adapter.ko") if device_address else ("client",):
+            shutil.copy(os.path.join(work, name), root)
         self.line, line_end = socket.socketpair()
         self.commands, command_end = socket.socketpair()
         self.held = b""
@@ -37,6 +42,7 @@ class Guest:
             os.path.join(work, "vmlinux-um"),
             *("mem=64M", f"ssl0=fd:{ends[0]}", f"ssl1=fd:{ends[1]}", "con0=null,fd:1", "con=null"),
             *("root=/dev/root", "rootfstype=hostfs", f"rootflags={os.path.abspath(root)}", "rw", "init=/client"),
+            f"binding={'i2c' if device_address else 'serial'}",
         ]
         with open(os.path.join(folder, "boot.log"), "wb") as boot:
             self.process = subprocess.Popen(
@@ -75,9 +81,16 @@ class Guest:
     def set_address(self, eid):
         self.do("address", eid)
 
+    def add_neighbour(self, eid, address):
+        """The address on I2C at which an endpoint is."""
+        self.do("neighbour", eid, address)
+
+    def remove_neighbour(self, eid):
+        self.do("unneighbour", eid)
+
     def add_route(self, eid, unit=0):
-        """A route to an endpoint; `unit` is the most bytes of a packet, 0 for those of the line."""
-        self.do("route", eid, unit)
+        """A route to an endpoint; `unit` is the most bytes of a packet, 0 for those that the device takes."""
+        self.do("route", eid, unit or (PACKET_BYTES if self.device_address else 0))
 
     def remove_route(self, eid):
         self.do("unroute", eid)
@@ -97,7 +110,7 @@ class Guest:
 
     def send_physical(self, eid, kind, data):
         """The same by the line alone, without a route."""
-        return self.command("physical", eid, kind, data.hex())
+        return self.command("physical", eid, kind, self.device_address, data.hex())
 
     def receive(self, milliseconds):
         return message_in(self.command("receive", milliseconds, seconds=30 + milliseconds / 1000))

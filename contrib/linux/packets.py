@@ -7,6 +7,7 @@ UNIT = 64
 
 
 def check_packets(rows, line, statistics):
+    """On I2C each packet has one frame there too, so that the counts are the same."""
     frames = line.came[TO_GUEST]
     bad = [it.raw.hex() for it in frames if not has_good_sequence(it)]
     rows.check(f"the check sequences of the device's {len(frames)} frames", frames and not bad, str(bad[:3]))
@@ -14,8 +15,9 @@ def check_packets(rows, line, statistics):
     rows.check("the headers of its packets", not bad, str(bad[:3]))
     rows.equal("bytes between frames", dict(line.stray), {})
     counted = (statistics["tx_packets"], statistics["rx_packets"])
-    rows.equal("packets that Linux counts", counted, (len(line.came[TO_DEVICE]), line.passed[TO_GUEST]))
-    refused = {name: statistics[name] for name in ("rx_dropped", "rx_crc_errors", "tx_dropped")}
+    rows.equal("packets that Linux counts", counted, (len(line.came[TO_DEVICE]), len(line.passed[TO_GUEST])))
+    names = ("rx_dropped", "rx_crc_errors", "rx_length_errors", "tx_dropped", "tx_errors")
+    refused = {name: statistics[name] for name in names}
     rows.equal("frames that Linux refuses", refused, dict.fromkeys(refused, 0))
 
 

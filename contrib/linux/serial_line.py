@@ -169,7 +169,7 @@ class SerialLine:
         self.guest, self.device = guest, device
         self.cutters = {TO_DEVICE: FrameCutter(), TO_GUEST: FrameCutter()}
         self.came = {TO_DEVICE: [], TO_GUEST: []}  # frames, as they came from the other end
-        self.passed = Counter()  # frames delivered, copies counted
+        self.passed = {TO_DEVICE: [], TO_GUEST: []}  # frames, as they were delivered, copies too
         self.stray = Counter()  # bytes between frames
         self.told = b""  # what the device wrote to standard error
         self.orders, self.chance = Orders(), None
@@ -235,7 +235,7 @@ class SerialLine:
                 self.deliver(direction, frame)
 
     def deliver(self, direction, frame):
-        self.passed[direction] += 1
+        self.passed[direction].append(frame)
         self.write(direction, frame.raw)
 
     def write(self, direction, data):

@@ -3,6 +3,7 @@
  * end the program writes how many there were, as `growths N` on standard error.
  */
 #include "needleoat.h"
+#include <stddef.h>
 #include <stdio.h>
 #include <stdlib.h>
 
@@ -23,14 +24,16 @@ static struct needleoat_block block(void *at) {
     return (struct needleoat_block){at != NULL, at ? at : &some_byte};
 }
 
-struct needleoat_block rattle_alloc(size_t size, size_t align) {
-    (void)align; /* malloc aligns to 16 */
-    return block(is_refused() ? NULL : malloc(size ? size : 1));
+/* Whether malloc can give such a block. On a 32-bit processor it can not where the size is more than a size_t holds. */
+static bool fits(uint64_t size, uint64_t align) { return (size_t)size == size && align <= _Alignof(max_align_t); }
+
+struct needleoat_block rattle_alloc(uint64_t size, uint64_t align) {
+    return block(is_refused() || !fits(size, align) ? NULL : malloc(size ? (size_t)size : 1));
 }
 
-struct needleoat_block rattle_realloc(uint8_t *old, size_t kept, size_t size, size_t align) {
-    (void)kept, (void)align;
-    return block(is_refused() ? NULL : realloc(old, size ? size : 1));
+struct needleoat_block rattle_realloc(uint8_t *old, uint64_t kept, uint64_t size, uint64_t align) {
+    (void)kept;
+    return block(is_refused() || !fits(size, align) ? NULL : realloc(old, size ? (size_t)size : 1));
 }
 
 void rattle_dealloc(uint8_t *old) { free(old); }

@@ -16,7 +16,8 @@ enum { FULL_SPEED = 100, ENABLED_NO_UPDATE_PENDING = 1 };
 
 /*
  * The handler writes frame `received`, and the main loop reads frame `served`, each by its number modulo FRAMES. So the
- * handler writes no frame that the main loop reads, and none has to be copied.
+ * handler writes no frame that the main loop reads, and none has to be copied. Each number is written by one of them
+ * alone, so a load and a store are enough, which each processor has.
  */
 enum { FRAMES = 2 };
 static struct {
@@ -39,7 +40,7 @@ static void on_slave_event(enum slave_event event, uint8_t byte) {
         if (is_taken) frames[place].length = 0;
     }
     if (!is_taken) return;
-    if (event == WRITE_ENDS) is_taken = false, received++;
+    if (event == WRITE_ENDS) is_taken = false, received = received + 1;
     else if (frames[place].length < NEEDLEOAT_I2C_FRAME_BYTES) frames[place].bytes[frames[place].length++] = byte;
     else is_taken = false;
 }
@@ -127,7 +128,7 @@ static bool serve_packet(uint64_t now_ms, uint8_t address, const uint8_t *packet
 /* Serves the frames that were received. */
 static bool serve_frames(uint64_t now_ms) {
     bool well = true;
-    for (; well && served != received; served++) {
+    for (; well && served != received; served = served + 1) {
         const uint8_t *bytes = frames[served % FRAMES].bytes;
         struct needleoat_i2c_frame frame = needleoat_i2c_read(OWN_ADDRESS, bytes, frames[served % FRAMES].length);
         if (frame.fault != 0) printf("fault %u\n", frame.fault);

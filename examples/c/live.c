@@ -6,6 +6,7 @@
  */
 #define _DEFAULT_SOURCE
 #include "needleoat.h"
+#include "serial_frames.h"
 #include <fcntl.h>
 #include <poll.h>
 #include <stdio.h>
@@ -34,33 +35,11 @@ static uint64_t now(void) {
     return (uint64_t)time.tv_sec * 1000 + (uint64_t)time.tv_nsec / 1000000;
 }
 
-/* ---- Frames ---- */
+static struct serial_reader reader;
 
-enum { FLAG = 0x7e, ESCAPE = 0x7d, REVISION = 1 };
-
-/* The frame check sequence after one more byte. */
-static uint16_t checked(uint16_t sequence, uint8_t byte) {
-    sequence ^= byte;
-    for (int i = 0; i < 8; i++) sequence = (uint16_t)(sequence & 1 ? (sequence >> 1) ^ 0x8408 : sequence >> 1);
-    return sequence;
-}
-
-static void send_frame(const uint8_t *packet, size_t length) {
-    uint8_t frame[6 + 2 * NEEDLEOAT_PACKET_BYTES] = {FLAG, REVISION, (uint8_t)length};
-    size_t count = 3;
-    uint16_t sequence = checked(checked(0xffff, REVISION), (uint8_t)length);
-    for (size_t i = 0; i < length; i++) {
-        sequence = checked(sequence, packet[i]);
-        if (packet[i] == FLAG || packet[i] == ESCAPE) {
-            frame[count++] = ESCAPE;
-            frame[count++] = packet[i] ^ 0x20;
-        } else {
-            frame[count++] = packet[i];
-        }
-    }
-    frame[count++] = (uint8_t)(sequence >> 8);
-    frame[count++] = (uint8_t)(sequence & 0xff);
-    frame[count++] = FLAG;
+static void send_packet(const uint8_t *packet, size_t length) {
+    uint8_t frame[SERIAL_FRAME_BYTES];
+    size_t count = serial_frame_write(packet, length, frame);
     for (size_t sent = 0; sent < count;) {
         ssize_t wrote = write(line, frame + sent, count - sent);
         if (wrote <= 0) fail("write");
@@ -68,67 +47,9 @@ static void send_frame(const uint8_t *packet, size_t length) {
     }
 }
 
-/* What has come of a frame, and what comes next. */
-static struct {
-    enum { WAITING, REVISED, COUNTED, FILLED, HIGH, LOW, CLOSING } next;
-    bool escaped;
-    uint8_t packet[NEEDLEOAT_PACKET_BYTES];
-    size_t length, count;
-    uint16_t sequence, told;
-} frame;
-
-/* Takes a byte. True where it ends the frame of a packet. */
-static bool take(uint8_t byte) {
-    /* A flag opens a frame, but in the check sequence, which is not escaped, and at its end. */
-    if (byte == FLAG && frame.next <= FILLED) {
-        frame.next = REVISED;
-        return false;
-    }
-    switch (frame.next) {
-    case WAITING:
-        break;
-    case REVISED:
-        frame.next = byte == REVISION ? COUNTED : WAITING;
-        frame.sequence = checked(0xffff, byte);
-        break;
-    case COUNTED:
-        frame.length = byte;
-        frame.count = 0;
-        frame.escaped = false;
-        frame.sequence = checked(frame.sequence, byte);
-        frame.next = byte >= 1 && byte <= NEEDLEOAT_PACKET_BYTES ? FILLED : WAITING;
-        break;
-    case FILLED:
-        if (byte == ESCAPE && !frame.escaped) {
-            frame.escaped = true;
-            break;
-        }
-        if (frame.escaped) byte ^= 0x20;
-        frame.escaped = false;
-        frame.packet[frame.count++] = byte;
-        frame.sequence = checked(frame.sequence, byte);
-        if (frame.count == frame.length) frame.next = HIGH;
-        break;
-    case HIGH:
-        frame.told = (uint16_t)(byte << 8);
-        frame.next = LOW;
-        break;
-    case LOW:
-        frame.told |= byte;
-        frame.next = CLOSING;
-        break;
-    case CLOSING:
-        frame.next = byte == FLAG ? REVISED : WAITING;
-        return byte == FLAG && frame.told == frame.sequence;
-    }
-    return false;
-}
-
-/* ---- Requests ---- */
-
 static void send_request(uint64_t number) {
     uint8_t packet[NEEDLEOAT_PACKET_BYTES];
-    send_frame(packet, needleoat_requester_packet(&requester, number, packet));
+    send_packet(packet, needleoat_requester_packet(&requester, number, packet));
 }
 
 /* Hands in what has come, and waits at most 10 milliseconds for it. A packet for which there is no memory is lost. */
@@ -140,10 +61,10 @@ static void listen(void) {
     ssize_t count = read(line, bytes, sizeof bytes);
     if (count <= 0) fail("read");
     for (ssize_t i = 0; i < count; i++) {
-        if (!take(bytes[i])) continue;
+        if (!serial_reader_take(&reader, bytes[i])) continue;
         struct needleoat_receiving received;
         int tries = MEMORY_TRIES;
-        do received = needleoat_requester_receive(&requester, now(), frame.packet, frame.length);
+        do received = needleoat_requester_receive(&requester, now(), reader.packet, reader.length);
         while (received.kind == NEEDLEOAT_RECEIVING_REFUSED && received.reason == NEEDLEOAT_NO_MEMORY && --tries > 0);
     }
 }

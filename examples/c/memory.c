@@ -4,6 +4,7 @@
  * allocator has the size of each block in front of it. It copies a block that grows, so for a moment both count.
  */
 #include "needleoat.h"
+#include <stddef.h>
 #include <stdio.h>
 #include <stdlib.h>
 #include <string.h>
@@ -14,13 +15,12 @@ enum { ORDER = 12 };
 
 static size_t in_use, most;
 
-struct needleoat_block rattle_alloc(size_t size, size_t align) {
+struct needleoat_block rattle_alloc(uint64_t size, uint64_t align) {
     static uint8_t some_byte;
-    uint8_t *at = malloc(FRONT + size);
-    (void)align; /* malloc aligns to 16 */
+    uint8_t *at = size <= SIZE_MAX / 2 && align <= _Alignof(max_align_t) ? malloc(FRONT + (size_t)size) : NULL;
     if (!at) return (struct needleoat_block){false, &some_byte};
-    *(size_t *)(void *)at = size;
-    in_use += size;
+    *(size_t *)(void *)at = (size_t)size;
+    in_use += (size_t)size;
     if (in_use > most) most = in_use;
     return (struct needleoat_block){true, at + FRONT};
 }
@@ -30,10 +30,10 @@ void rattle_dealloc(uint8_t *old) {
     free(old - FRONT);
 }
 
-struct needleoat_block rattle_realloc(uint8_t *old, size_t kept, size_t size, size_t align) {
+struct needleoat_block rattle_realloc(uint8_t *old, uint64_t kept, uint64_t size, uint64_t align) {
     struct needleoat_block next = rattle_alloc(size, align);
     if (next.is_there) {
-        memcpy(next.at, old, kept);
+        memcpy(next.at, old, (size_t)kept);
         rattle_dealloc(old);
     }
     return next;

@@ -7,22 +7,41 @@
 #include "needleoat.h"
 #include <stdio.h>
 #include <string.h>
+#if !defined(__arm__) && !defined(__riscv)
 #include <ucontext.h>
+#endif
 
 /* The limit of each call. */
 enum { FILL = 0xa5, LIMIT = 4096 };
 
 static _Alignas(16) uint8_t stack[1 << 16];
-static ucontext_t back, call;
 
-static size_t taken_by(void (*function)(void)) {
-    memset(stack, FILL, sizeof stack);
+#if defined(__arm__)
+static void call_on_stack(void (*function)(void)) {
+    __asm__ volatile("mov r4, sp\n mov sp, %1\n blx %0\n mov sp, r4" ::"r"(function), "r"(stack + sizeof stack)
+                     : "r0", "r1", "r2", "r3", "r4", "r12", "lr", "memory", "cc");
+}
+#elif defined(__riscv)
+static void call_on_stack(void (*function)(void)) {
+    __asm__ volatile("mv s2, sp\n mv sp, %1\n jalr %0\n mv sp, s2" ::"r"(function), "r"(stack + sizeof stack)
+                     : "ra", "t0", "t1", "t2", "t3", "t4", "t5", "t6", "a0", "a1", "a2", "a3", "a4", "a5", "a6", "a7",
+                       "s2", "memory");
+}
+#else
+static void call_on_stack(void (*function)(void)) {
+    static ucontext_t back, call;
     getcontext(&call);
     call.uc_stack.ss_sp = stack;
     call.uc_stack.ss_size = sizeof stack;
     call.uc_link = &back;
     makecontext(&call, function, 0);
     swapcontext(&back, &call);
+}
+#endif
+
+static size_t taken_by(void (*function)(void)) {
+    memset(stack, FILL, sizeof stack);
+    call_on_stack(function);
     size_t i = 0;
     while (i < sizeof stack && stack[i] == FILL) i++;
     return sizeof stack - i;

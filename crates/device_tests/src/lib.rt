@@ -8,6 +8,8 @@ mod faults;
 #[cfg(test)]
 mod fetch;
 #[cfg(test)]
+mod made_records;
+#[cfg(test)]
 mod memory;
 #[cfg(test)]
 mod platforms;
@@ -17,3 +19,5 @@ mod recorder;
 mod records;
 #[cfg(test)]
 mod settings;
+#[cfg(test)]
+mod version_checksums;

@@ -2,7 +2,7 @@
 
 use example_device::description;
 use pldm_device::{Description, FileFault};
-use pldm_wire::BusyTime;
+use pldm_wire::{BusyTime, HandedOn};
 use std::alloc::Global;
 use std::test::Fail;
 
@@ -15,10 +15,13 @@ const ROWS: &[(&str, Result<(u8, BusyTime), FileFault>)] = &[
     ("window = 33\n", Err(FileFault::OutOfRange)),
     ("window = '1'\n", Err(FileFault::WrongKind)),
     ("busy = 'all'\n", Ok((32, BusyTime::All))),
-    ("busy = 'sets'\n", Ok((32, BusyTime::Sets))),
+    ("busy = 'sets'\n", Ok((32, BusyTime::Sets(HandedOn::NONE)))),
     ("busy = 'none'\n", Err(FileFault::OutOfRange)),
     ("busy = 3\n", Err(FileFault::WrongKind)),
-    ("busy = 'sets'\nwindow = 2\n", Ok((2, BusyTime::Sets))),
+    (
+        "busy = 'sets'\nwindow = 2\n",
+        Ok((2, BusyTime::Sets(HandedOn::NONE))),
+    ),
     ("busy = 3\nwindow = 33\n", Err(FileFault::OutOfRange)),
 ];
 

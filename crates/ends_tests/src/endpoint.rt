@@ -4,7 +4,7 @@ use mctp_packet::{Eid, Keep, Moment, Reason};
 use memory_hoard::Hoard;
 use pldm_endpoint::{AnswerRefusal, CommandHandle, Endpoint, ReceiveRefusal, Step};
 use pldm_responder::{Bounds, Keeping, Outcome};
-use pldm_wire::{Answer, Code, Command};
+use pldm_wire::{Answer, Code, Command, HandedOn};
 use std::alloc::Global;
 use std::process::Abort;
 use std::test::Fail;
@@ -38,7 +38,14 @@ fn bounded(
         sources,
         open_messages,
     };
-    Ok(Endpoint::new(alloc, own, Keeping::each_for(keep), bounds, commands))
+    Ok(Endpoint::new(
+        alloc,
+        own,
+        Keeping::each_for(keep),
+        HandedOn::NONE,
+        bounds,
+        commands,
+    ))
 }
 
 /// The same, with at most one message open.

@@ -30,7 +30,7 @@ impl Engine {
         match self {
             Engine::Answer => answer_all(alloc, reader, writer),
             Engine::Run => run_all(alloc, reader, writer),
-            Engine::Show => show_all(alloc, reader, writer),
+            Engine::Show => show_all(alloc, None, reader, writer),
         }
     }
 

@@ -15,7 +15,7 @@ fn expect(
 ) -> Result<(), AllocError> {
     let mut reader = Port::new(capture.as_bytes());
     let mut writer = Port::new(Vec::with_capacity(alloc, TEXT_ROOM)?);
-    let result = show_all(alloc, &mut reader, &mut writer);
+    let result = show_all(alloc, None, &mut reader, &mut writer);
     assert_eq!(rt; result, want, "{capture}");
     let written = writer.into_inner();
     assert_eq!(rt; written.as_slice(), text.as_bytes(), "{capture}");

@@ -1,32 +1,37 @@
 -- The two steps of the endpoint, one right after the other, are what a responder does.
 use Rattle.std.specs.FinMap as map
-use Rattle.std.proofs.Common.{◌≡◌, ℕ, cond, Bool, true, false, List, [], ◌∷◌, Option, Some, None, option_map, refl, sym, ap, ◌∙◌, subst}
+use Rattle.std.proofs.Common.{◌≡◌, ℕ, ◌⊎◌, inl, inr, cond, Bool, true, false, List, [], ◌∷◌, Option, Some, None, option_map, refl, sym, ap, ◌∙◌, subst}
 use Rattle.std.specs.Ordering.{eq_by_cmp}
-use Rattle.pldm_wire.specs.declared.answer.Answer.{Answer}
+use Rattle.pldm_wire.specs.HandingOn.{hands_on}
+use Rattle.pldm_wire.specs.Requests.{Request}
 use Rattle.pldm_wire.specs.declared.command.Command.{Command}
+use Rattle.pldm_wire.specs.declared.handed_on.HandedOn.{HandedOn}
 use Rattle.pldm_responder.specs.Arrivals.{Arrival, Drop, Part, Whole}
-use Rattle.pldm_responder.specs.Asked.{gives, listed}
+use Rattle.pldm_responder.specs.Asked.{Given, gives, listed}
 use Rattle.pldm_responder.specs.Events.{Message}
 use Rattle.pldm_responder.specs.Held.{Held, IsHeld}
 use Rattle.pldm_responder.specs.Looking.{ended_by}
 use Rattle.pldm_responder.specs.OpenOrder.{ended_held, without}
-use Rattle.pldm_responder.specs.Steps.{arrival_commands, arrival_held, received_arrival, received_commands, received_held, received_outcome}
+use Rattle.pldm_responder.specs.Performing.{Task}
+use Rattle.pldm_responder.specs.Performing as task
+use Rattle.pldm_responder.specs.Steps.{arrival_held, received_arrival, received_held, received_outcome}
 use Rattle.pldm_responder.specs.declared.outcome.Outcome.{Outcome}
 use Rattle.pldm_endpoint.specs.Histories.{TwoStepsAreOne}
 use Rattle.pldm_endpoint.specs.Receiving.{HasAnswered, HasReceived}
 use Rattle.pldm_endpoint.specs.RequestKeys.{PendingCommands, pending_at, request_key, request_key_cmp, request_key_of}
-use Rattle.pldm_endpoint.specs.TwoSteps.{EndpointView, IsAnsweredBy, answered_held, command_at, handle_of, held_after, held_in, kept_by, pending_by, request_in, step_by, stepped, unasked}
+use Rattle.pldm_endpoint.specs.TwoSteps.{ArePendingAt, EndpointView, IsAnsweredBy, IsAskedBy, IsHandedOn, answered_held, arrival_tasks, asked_now, asking_step, command_at, handle_of, held_after, held_in, kept_by, pending_by, request_at, request_in, step_by, stepped, task_for, task_in, unasked}
+use Rattle.pldm_endpoint.specs.Giving.{pending_command, response_of}
 use Rattle.pldm_endpoint.specs.declared.pending_commands.PendingCommand.{PendingCommand}
 use Rattle.pldm_endpoint.specs.declared.pending_commands.RequestKey.{RequestKey}
 use Rattle.pldm_endpoint.specs.declared.step.CommandHandle.{CommandHandle}
 use Rattle.pldm_endpoint.specs.declared.step.Step.{Step}
-use Rattle.pldm_endpoint.specs.declared.step.Step.TheVariants.{Done, Perform}
+use Rattle.pldm_endpoint.specs.declared.step.Step.TheVariants.{Done, Perform, Respond}
 use Rattle.pldm_responder.proofs.SameHeld.{same_held}
 use Rattle.pldm_endpoint.proofs.KeyOrder.{request_keys_exact, request_keys_total}
 use Rattle.pldm_endpoint.proofs.PendingGlue.{just_put}
-use Rattle.fan_board.specs.BoardCommands.{board_after, board_answer}
+use Rattle.fan_board.specs.BoardCommands.{board_response}
 use Rattle.fan_board.specs.Boards.{BoardState}
-use Rattle.fan_board.specs.Served.{IsServed, answer_given, board_served}
+use Rattle.fan_board.specs.Served.{IsServed, answer_given, board_asked, board_given, board_response_to, board_served}
 
 -- what is pending alone and answered leaves nothing pending
 none_left : (key : RequestKey) (a : PendingCommand) → map.remove (map.insert {R = request_key_cmp} map.empty key a) key ≡ map.empty
@@ -40,96 +45,123 @@ one_listed : {A : Type 0} (o : Option A) (x : A) (xs : List A) → listed o ≡ 
 one_listed None x xs h = cc
 one_listed (Some y) x xs h = cc
 
+-- the handle under which this step asks something
+abbrev pub IsUnder : CommandHandle → Step → Type 0
+IsUnder handle step = (step ≡ Perform handle) ⊎ (step ≡ Respond handle)
+
 abbrev handle_in : CommandHandle → Step → CommandHandle
 handle_in other (Perform handle) = handle
+handle_in other (Respond handle) = handle
 handle_in other (Done outcome) = other
 
-module _ (held : Held (Unit {0})) where
+handle_asked : (other : CommandHandle) (task : Task) (handle : CommandHandle) → handle_in other (asking_step task handle) ≡ handle
+handle_asked other (task.Perform command) handle = refl
+handle_asked other (task.Respond request) handle = refl
+
+handle_under : (other handle : CommandHandle) (step : Step) → IsUnder handle step → handle_in other step ≡ handle
+handle_under other handle step (inl is) = ap (handle_in other) is
+handle_under other handle step (inr is) = ap (handle_in other) is
+
+not_done : (handle : CommandHandle) (step : Step) (outcome : Outcome) → IsUnder handle step → step ≡ Done outcome → ⊥
+not_done handle step outcome (inl is) h = cc (sym is ∙ h)
+not_done handle step outcome (inr is) h = cc (sym is ∙ h)
+
+pending_under : (handle : CommandHandle) (step : Step) (pending : PendingCommands) (tasks : List Task) → IsUnder handle step → IsAskedBy step pending tasks → ArePendingAt pending handle tasks
+pending_under handle step pending tasks (inl is) asked = (subst (λ s. IsAskedBy s pending tasks) is asked).0
+pending_under handle step pending tasks (inr is) asked = (subst (λ s. IsAskedBy s pending tasks) is asked).0
+
+module _ (handed : HandedOn) (held : Held (Unit {0})) where
   -- an arrival that has nothing performed leaves what a responder leaves
-  stepped_done : (a : Arrival) → arrival_commands held a ≡ [] → stepped held a ≡ arrival_held (gives unasked) held a
+  stepped_done : (a : Arrival) → arrival_tasks handed held a ≡ [] → stepped handed held a ≡ arrival_held (gives (hands_on handed) unasked) held a
   stepped_done (Drop reason) none = refl
   stepped_done Part none = refl
-  stepped_done (Whole m) none = ap (λ commands. kept_by commands m (arrival_held (gives unasked) held (Whole m)) held) none
+  stepped_done (Whole m) none = ap (λ tasks. kept_by tasks m (arrival_held (gives (hands_on handed) unasked) held (Whole m)) held) none
 
-  own_stepped : (a : Arrival) → (stepped held a).own ≡ held.own
+  own_stepped : (a : Arrival) → (stepped handed held a).own ≡ held.own
   own_stepped (Drop reason) = refl
   own_stepped Part = refl
-  own_stepped (Whole m) = of_commands (arrival_commands held (Whole m))
+  own_stepped (Whole m) = of_tasks (arrival_tasks handed held (Whole m))
     where
-      of_commands : (commands : List Command) → (kept_by commands m (arrival_held (gives unasked) held (Whole m)) held).own ≡ held.own
-      of_commands [] = refl
-      of_commands (command ∷ commands) = refl
+      of_tasks : (tasks : List Task) → (kept_by tasks m (arrival_held (gives (hands_on handed) unasked) held (Whole m)) held).own ≡ held.own
+      of_tasks [] = refl
+      of_tasks (task ∷ tasks) = refl
 
 module _ (old : EndpointView) (moment : ℕ) (bytes : List ℕ) (idle : old.pending ≡ map.empty) where
   abbrev held : Held (Unit {0})
   held = held_in old
 
-  done_by : (request : Option Message) (commands : List Command) (outcome : Outcome) → Done outcome ≡ step_by (received_outcome (gives unasked) held moment bytes) old.count request commands
-      → outcome ≡ received_outcome (gives unasked) held moment bytes
-  done_by None commands outcome step = cc
+  done_by : (request : Option Message) (tasks : List Task) (outcome : Outcome) → Done outcome ≡ step_by (received_outcome (gives (hands_on old.handed_on) unasked) held moment bytes) old.count request tasks
+      → outcome ≡ received_outcome (gives (hands_on old.handed_on) unasked) held moment bytes
+  done_by None tasks outcome step = cc
   done_by (Some m) [] outcome step = cc
-  done_by (Some m) (command ∷ commands) outcome step = cc
+  done_by (Some m) (task.Perform command ∷ tasks) outcome step = cc
+  done_by (Some m) (task.Respond request ∷ tasks) outcome step = cc
 
-  idle_by : (request : Option Message) (commands : List Command) → commands ≡ [] → pending_by old.pending old.count request commands ≡ map.empty
-  idle_by None commands none = idle
+  idle_by : (request : Option Message) (tasks : List Task) → tasks ≡ [] → pending_by old.pending old.count request tasks ≡ map.empty
+  idle_by None tasks none = idle
   idle_by (Some m) [] none = idle
-  idle_by (Some m) (command ∷ commands) none = cc
+  idle_by (Some m) (task ∷ tasks) none = cc
 
   -- nothing was handed out
   module _ (new : EndpointView) (outcome : Outcome) (received : HasReceived old moment bytes new (Done outcome)) where
     pub served_done : (board : BoardState) → IsServed old board moment bytes new board outcome
     served_done board =
         let same = ap (answer_given board moment) received.command in
-        let left : IsHeld (held_in new) (ended_held (ended_by old.end bytes) (received_held (gives unasked) held moment bytes)) =
+        let left : IsHeld (held_in new) (ended_held (ended_by old.end bytes) (received_held (gives (hands_on old.handed_on) unasked) held moment bytes)) =
         subst (λ (h : Held (Unit {0})). IsHeld (held_in new) (record h {
-          open_messages = without (ended_by old.end bytes) (held_after held moment bytes).open_messages;
+          open_messages = without (ended_by old.end bytes) (held_after old.handed_on held moment bytes).open_messages;
           last = moment;
-        })) (stepped_done held (received_arrival held moment bytes) received.command) received.held in
+        })) (stepped_done old.handed_on held (received_arrival held moment bytes) received.command) received.held in
         record {
-          returned = done_by (request_in held moment bytes) (received_commands held moment bytes) outcome received.step_is
-              ∙ ap (λ g. received_outcome (gives g) held moment bytes) (sym same);
-          left = subst (λ g. IsHeld (held_in new) (ended_held (ended_by old.end bytes) (received_held (gives g) held moment bytes))) (sym same) left;
+          returned = done_by (request_in held moment bytes) (asked_now old.handed_on held moment bytes) outcome received.step_is
+              ∙ ap (λ g. received_outcome (gives (hands_on old.handed_on) g) held moment bytes) (sym same);
+          left = subst (λ g. IsHeld (held_in new) (ended_held (ended_by old.end bytes) (received_held (gives (hands_on old.handed_on) g) held moment bytes))) (sym same) left;
           board_is = sym (ap (board_served board moment) received.command);
         }
 
     pub idle_done : new.pending ≡ map.empty
-    idle_done = received.pending ∙ idle_by (request_in held moment bytes) (received_commands held moment bytes) received.command
+    idle_done = received.pending ∙ idle_by (request_in held moment bytes) (asked_now old.handed_on held moment bytes) received.command
 
-  -- the request and the command of a handle
+  -- the request of a handle, and what it asks
   pub record IsHandleOf (handle : CommandHandle) (pending : PendingCommands) : Type 0 where
     pub m : Message
-    pub command : Command
+    pub task : Task
     pub arrives : request_in held moment bytes ≡ Some m
-    pub commands : received_commands held moment bytes ≡ command ∷ []
+    pub tasks : asked_now old.handed_on held moment bytes ≡ task ∷ []
     pub handle_is : handle ≡ handle_of m old.count
-    pub are : pending ≡ map.insert map.empty (request_key_of m) (command_at m old.count command)
+    pub are : pending ≡ map.insert map.empty (request_key_of m) (command_at m old.count task)
+    pub ready : ArePendingAt pending handle (task ∷ [])
 
-  handle_by : (request : Option Message) (commands : List Command) (handle : CommandHandle) (pending : PendingCommands)
-      → request_in held moment bytes ≡ request → received_commands held moment bytes ≡ commands
-      → Perform handle ≡ step_by (received_outcome (gives unasked) held moment bytes) old.count request commands → pending ≡ pending_by map.empty old.count request commands
-      → listed (option_map (λ (a : PendingCommand). a.command) (pending_at pending handle)) ≡ commands → IsHandleOf handle pending
-  handle_by None commands handle pending r c step are ready = cc
-  handle_by (Some m) [] handle pending r c step are ready = cc
-  handle_by (Some m) (command ∷ commands) handle pending r c step are ready = record {
-    m = m;
-    command = command;
-    arrives = r;
-    commands = c ∙ ap (λ cs. command ∷ cs) (one_listed _ command commands ready);
-    handle_is = ap (handle_in (handle_of m old.count)) step;
-    are = are;
-  }
+  handle_by : (request : Option Message) (tasks : List Task) (handle : CommandHandle) (step : Step) (pending : PendingCommands)
+      → request_in held moment bytes ≡ request → asked_now old.handed_on held moment bytes ≡ tasks → IsUnder handle step
+      → step ≡ step_by (received_outcome (gives (hands_on old.handed_on) unasked) held moment bytes) old.count request tasks → pending ≡ pending_by map.empty old.count request tasks
+      → ArePendingAt pending handle tasks → IsHandleOf handle pending
+  handle_by None tasks handle step pending r c under step_is are ready = absurd (not_done handle step _ under step_is)
+  handle_by (Some m) [] handle step pending r c under step_is are ready = absurd (not_done handle step _ under step_is)
+  handle_by (Some m) (task ∷ tasks) handle step pending r c under step_is are ready =
+      let none : tasks ≡ [] = one_listed _ task tasks ready in
+      record {
+        m = m;
+        task = task;
+        arrives = r;
+        tasks = c ∙ ap (λ ts. task ∷ ts) none;
+        handle_is = sym (handle_under handle handle step under) ∙ ap (handle_in handle) step_is ∙ handle_asked handle task (handle_of m old.count);
+        are = are;
+        ready = subst (λ ts. ArePendingAt pending handle (task ∷ ts)) none ready;
+      }
 
-  -- a command was handed out
-  module _ (middle : EndpointView) (handle : CommandHandle) (received : HasReceived old moment bytes middle (Perform handle)) where
+  -- something was asked
+  module _ (middle : EndpointView) (handle : CommandHandle) (step : Step) (under : IsUnder handle step) (received : HasReceived old moment bytes middle step) where
     pub is : IsHandleOf handle middle.pending
     is =
-        handle_by (request_in held moment bytes) (received_commands held moment bytes) handle middle.pending refl refl received.step_is
-        (received.pending ∙ ap (λ pending. pending_by pending old.count (request_in held moment bytes) (received_commands held moment bytes)) idle) received.command
+        handle_by (request_in held moment bytes) (asked_now old.handed_on held moment bytes) handle step middle.pending refl refl under received.step_is
+        (received.pending ∙ ap (λ pending. pending_by pending old.count (request_in held moment bytes) (asked_now old.handed_on held moment bytes)) idle)
+        (pending_under handle step middle.pending (asked_now old.handed_on held moment bytes) under received.command)
 
-    abbrev a : PendingCommand
-    a = command_at is.m old.count is.command
+    abbrev pub a : PendingCommand
+    a = command_at is.m old.count is.task
 
-    found : pending_at middle.pending handle ≡ Some a
+    pub found : pending_at middle.pending handle ≡ Some a
     found = ap (λ x. pending_at x handle) is.are ∙ ap (pending_at (map.insert map.empty (request_key_of is.m) a)) is.handle_is ∙ just_put map.empty (request_key_of is.m) a
 
     pub idle_again : map.remove middle.pending (request_key handle.source handle.id) ≡ map.empty
@@ -138,35 +170,68 @@ module _ (old : EndpointView) (moment : ℕ) (bytes : List ℕ) (idle : old.pend
         ∙ ap (λ (h : CommandHandle). map.remove (map.insert map.empty (request_key_of is.m) a) (request_key h.source h.id)) is.handle_is
         ∙ none_left (request_key_of is.m) a
 
-    -- the command that the endpoint tells is the one that was handed out
-    pub command_told : (command : Command) → Some command ≡ option_map (λ (a : PendingCommand). a.command) (pending_at middle.pending handle) → command ≡ is.command
-    command_told command told = ap (command_in command) (told ∙ ap (option_map (λ (a : PendingCommand). a.command)) found)
+    -- what is pending is what was asked
+    pub task_is : task_for a ≡ is.task
+    task_is = first_is (task_for a) is.task (ap (λ o. listed (option_map task_for o)) (sym found) ∙ is.ready)
       where
-        command_in : Command → Option Command → Command
-        command_in other None = other
-        command_in other (Some c) = c
+        first_is : (x y : Task) → x ∷ [] ≡ y ∷ [] → x ≡ y
+        first_is x y h = cc
 
-    -- the answer that the board gave to it
-    pub served_performed : TwoStepsAreOne → (board board_left : BoardState) (new : EndpointView) (command : Command) (given : Answer) (outcome : Outcome)
-        → command ≡ is.command → given ≡ board_answer board moment command → board_left ≡ board_after board moment command
+    -- the command that the endpoint tells is the one that was handed out
+    pub command_told : (command : Command) → Some command ≡ pending_command (pending_at middle.pending handle) → task.Perform command ≡ is.task
+    command_told command told = ap (λ o. task_in o a.request) (told ∙ ap pending_command found) ∙ task_is
+
+    -- what the board gave for it
+    pub served_asked : TwoStepsAreOne → (board board_left : BoardState) (new : EndpointView) (task : Task) (given : Given) (outcome : Outcome)
+        → task ≡ is.task → given ≡ board_given board moment task → board_left ≡ board_asked board moment task
         → HasAnswered middle handle given new outcome → IsServed old board moment bytes new board_left outcome
-    served_performed law board board_left new command given outcome told answer after answered =
-        let answer_is : given ≡ answer_given board moment (received_commands held moment bytes) =
-        answer ∙ ap (board_answer board moment) told ∙ sym (ap (answer_given board moment) is.commands) in
-        let same : held_in middle ≡ ended_held (ended_by old.end bytes) (held_after held moment bytes) = same_held received.held in
-        let own : middle.end.own ≡ held.own = ap (λ (h : Held (Unit {0})). h.own) same ∙ own_stepped held (received_arrival held moment bytes) in
-        let one = law held moment bytes old.count is.m is.command given is.arrives is.commands in
+    served_asked law board board_left new task given outcome told answer after answered =
+        let handed = old.handed_on in
+        let answer_is : given ≡ answer_given board moment (asked_now handed held moment bytes) =
+        answer ∙ ap (board_given board moment) told ∙ sym (ap (answer_given board moment) is.tasks) in
+        let same : held_in middle ≡ ended_held (ended_by old.end bytes) (held_after handed held moment bytes) = same_held received.held in
+        let own : middle.end.own ≡ held.own = ap (λ (h : Held (Unit {0})). h.own) same ∙ own_stepped handed held (received_arrival held moment bytes) in
+        let one = law handed held moment bytes old.count is.m is.task given is.arrives is.tasks in
         record {
           returned =
-              subst (λ n. IsAnsweredBy n (handle_of is.m old.count) given (Some a) outcome) own
-              (subst (λ h. IsAnsweredBy middle.end.own h given (Some a) outcome) is.handle_is
-              (subst (λ o. IsAnsweredBy middle.end.own handle given o outcome) found answered.outcome_is))
+              subst (λ n. IsAnsweredBy handed n (handle_of is.m old.count) given (Some a) outcome) own
+              (subst (λ h. IsAnsweredBy handed middle.end.own h given (Some a) outcome) is.handle_is
+              (subst (λ o. IsAnsweredBy handed middle.end.own handle given o outcome) found
+              (subst (λ h. IsAnsweredBy h middle.end.own handle given (pending_at middle.pending handle) outcome) received.settings.handed_on answered.outcome_is)))
               ∙ one.0
-              ∙ ap (λ g. received_outcome (gives g) held moment bytes) answer_is;
-          left = subst (λ g. IsHeld (held_in new) (ended_held (ended_by old.end bytes) (received_held (gives g) held moment bytes))) answer_is
+              ∙ ap (λ g. received_outcome (gives (hands_on handed) g) held moment bytes) answer_is;
+          left = subst (λ g. IsHeld (held_in new) (ended_held (ended_by old.end bytes) (received_held (gives (hands_on handed) g) held moment bytes))) answer_is
               (subst (λ h. IsHeld (held_in new) (ended_held (ended_by old.end bytes) h)) (same_held one.1)
-              (subst (λ h. IsHeld (held_in new) (answered_held (ended_held (ended_by old.end bytes) (held_after held moment bytes)) h given (Some a))) is.handle_is
-              (subst (λ (h : Held (Unit {0})). IsHeld (held_in new) (answered_held h handle given (Some a))) same
-              (subst (λ o. IsHeld (held_in new) (answered_held (held_in middle) handle given o)) found answered.held))));
-          board_is = after ∙ ap (board_after board moment) told ∙ sym (ap (board_served board moment) is.commands);
+              (subst (λ h. IsHeld (held_in new) (answered_held handed (ended_held (ended_by old.end bytes) (held_after handed held moment bytes)) h given (Some a))) is.handle_is
+              (subst (λ (h : Held (Unit {0})). IsHeld (held_in new) (answered_held handed h handle given (Some a))) same
+              (subst (λ o. IsHeld (held_in new) (answered_held handed (held_in middle) handle given o)) found
+              (subst (λ h. IsHeld (held_in new) (answered_held h (held_in middle) handle given (pending_at middle.pending handle))) received.settings.handed_on answered.held)))));
+          board_is = after ∙ ap (board_asked board moment) told ∙ sym (ap (board_served board moment) is.tasks);
         }
+
+  -- a request was handed on as bytes
+  module _ (middle : EndpointView) (handle : CommandHandle) (received : HasReceived old moment bytes middle (Respond handle)) where
+    abbrev asked : PendingCommand
+    asked = a middle handle (Respond handle) (inr refl) received
+
+    pending_is : pending_at middle.pending handle ≡ Some asked
+    pending_is = found middle handle (Respond handle) (inr refl) received
+
+    none : asked.command ≡ None
+    none = subst IsHandedOn pending_is received.command.1
+
+    -- what the board responded to it
+    pub served_responded : TwoStepsAreOne → (board : BoardState) (new : EndpointView) (outcome : Outcome)
+        → HasAnswered middle handle (board_response_to board (pending_at middle.pending handle)) new outcome → IsServed old board moment bytes new board outcome
+    served_responded law board new outcome answered =
+        served_asked middle handle (Respond handle) (inr refl) received law board board new (task.Respond (request_at asked.request)) (board_response_to board (pending_at middle.pending handle)) outcome
+        (sym (ap (λ o. task_in o asked.request) none) ∙ task_is middle handle (Respond handle) (inr refl) received)
+        (ap (board_response_to board) pending_is) refl answered
+
+-- what the board responds to the request that is pending
+pub response_is : (board : BoardState) (o : Option PendingCommand) (request : Request) (code : ℕ) (bytes : List ℕ) → IsHandedOn o → Some request ≡ option_map (λ (p : PendingCommand). request_at p.request) o
+    → code ≡ (board_response board request).code → bytes ≡ (board_response board request).rest → response_of code bytes ≡ board_response_to board o
+response_is board None request code bytes pending told code_is bytes_are = absurd pending
+response_is board (Some a) request code bytes pending told code_is bytes_are =
+    let same : request ≡ request_at a.request = cc in
+    (λ i. response_of (code_is i) (bytes_are i)) ∙ ap (λ (r : Request). response_of (board_response board r).code (board_response board r).rest) same

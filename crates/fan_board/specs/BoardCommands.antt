@@ -1,17 +1,19 @@
 -- What a fan board answers to a command, and what the command leaves.
-use Rattle.std.specs.Prelude.{ℕ, ◌+◌, ◌-◌, ◌==◌, nat_le, ℤ, pos, nat_abs, int_le, Bool, false, ◌&&◌, List, Result, Ok, Err, if◌then◌else◌, slice_index, slice_set}
+use Rattle.std.specs.Prelude.{ℕ, ◌+◌, ◌-◌, ◌==◌, nat_le, ℤ, pos, nat_abs, int_le, Bool, false, ◌&&◌, List, [], ◌∷◌, length, Result, Ok, Err, if◌then◌else◌, slice_index, slice_set}
 use Rattle.pldm_wire.specs.EffecterNumbers.{two_numbers}
 use Rattle.pldm_wire.specs.Numbers.{SizedNumber, sized}
+use Rattle.pldm_wire.specs.Requests.{Request}
 use Rattle.pldm_wire.specs.declared.answer.Answer.{Answer}
 use Rattle.pldm_wire.specs.declared.answer.Answer.TheVariants as answers
-use Rattle.pldm_wire.specs.declared.assigned.TheConstants.{ERROR, ERROR_INVALID_DATA, ERROR_UNSUPPORTED_PLDM_CMD}
+use Rattle.pldm_wire.specs.declared.assigned.TheConstants.{ERROR, ERROR_INVALID_DATA, ERROR_INVALID_LENGTH, ERROR_UNSUPPORTED_PLDM_CMD, SUCCESS}
 use Rattle.pldm_wire.specs.declared.command.Command.{Command}
 use Rattle.pldm_wire.specs.declared.command.Command.TheVariants.{GetTid, GetSensorReading, SetNumericEffecterValue, GetNumericEffecterValue}
 use Rattle.pldm_wire.specs.declared.size.Size.TheVariants.{Uint8}
+use Rattle.pldm_responder.specs.Performing.{Response}
 use Rattle.fan_board.specs.Boards.{BoardState, board_at}
 use Rattle.fan_board.specs.declared.board.BoardFault.{BoardFault}
 use Rattle.fan_board.specs.declared.board.BoardFault.TheVariants.{Bus, UnknownId, NoSpeed, UnknownCommand}
-use Rattle.fan_board.specs.declared.board.TheConstants.{TID, THERMOMETER, FULL_SPEED, FANS, GOOD_TRANSFERS, SENSOR_ENABLED, EFFECTER_ENABLED, NORMAL, INVALID_ID}
+use Rattle.fan_board.specs.declared.board.TheConstants.{TID, THERMOMETER, FULL_SPEED, FANS, GOOD_TRANSFERS, SENSOR_ENABLED, EFFECTER_ENABLED, NORMAL, INVALID_ID, GET_TRANSFERS}
 
 -- ---- what a command asks for
 
@@ -124,3 +126,13 @@ answer_of (Err fault) = answers.Refused (code_of fault)
 -- the place of the fan with this effecter ID among the speeds
 abbrev pub fan_of : ℕ → Result ℕ BoardFault
 fan_of effecter = if is_fan effecter then Ok (effecter - 1) else Err UnknownId
+
+-- ---- a request of PLDM type 63
+
+-- what the board responds to a request that is handed on to it as bytes: how many transfers were good since one failed
+abbrev pub board_response : BoardState → Request → Response
+board_response board request =
+    if request.kind.command == GET_TRANSFERS
+    then (if length request.rest == 0 then record { code = SUCCESS; rest = board.transfers ∷ [] }
+    else record { code = ERROR_INVALID_LENGTH; rest = [] })
+    else record { code = ERROR_UNSUPPORTED_PLDM_CMD; rest = [] }

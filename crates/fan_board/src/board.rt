@@ -3,11 +3,15 @@
 ghost use Rattle.std.specs.Prelude.{◌≡◌, ℕ, ◌==◌, ◌<◌, ◌≤◌, pos, count_by, IfOk, Ok, Err, if◌then◌else◌};
 ghost use Rattle.pldm_wire.specs.Answers.{IsAnswerTo};
 ghost use Rattle.pldm_wire.specs.Commands.{kind_of};
-ghost use Rattle.fan_board.specs.BoardCommands.{answer_now, answer_of, board_after, board_answer, byte_number, code_of, fan_of, is_bus_failing, left_now, transferred};
+ghost use Rattle.pldm_responder.specs.Asked.{listed};
+ghost use Rattle.fan_board.specs.BoardCommands.{answer_now, answer_of, board_after, board_answer, board_response, byte_number, code_of, fan_of, is_bus_failing, left_now, transferred};
 ghost use Rattle.fan_board.specs.Boards.{board_at, board_at_first};
 
 use mctp_packet::Moment;
-use pldm_wire::{Answer, Code, Command, EffecterValues, Number, Size};
+use pldm_wire::{
+    Answer, Code, Command, ERROR_INVALID_LENGTH, ERROR_UNSUPPORTED_PLDM_CMD, EffecterValues,
+    Number, RequestRef, SUCCESS, Size,
+};
 use std::marker::Model;
 
 /// The number of the completion codes for a sensor or an effecter that the board does not have (DSP0248,
@@ -43,6 +47,9 @@ impl BoardFault {
         }
     }
 }
+
+/// The number of its one command of PLDM type 63 (OEM): how many transfers were good since one failed.
+const GET_TRANSFERS: u8 = 1;
 
 /// The terminus ID of the board.
 const TID: u8 = 5;
@@ -123,6 +130,20 @@ impl Board {
             Ok(answer) => answer,
             Err(fault) => Answer::Refused(fault.code()),
         }
+    }
+
+    /// Responds to a request of PLDM type 63: the completion code, and the byte of data, if there is one.
+    pub fn respond(&self, request: &RequestRef<'_>) -> (u8, Option<u8>)
+        ensures code { result.0 ≡ (board_response self.now request.now).code }
+        ensures rest { listed result.1 ≡ (board_response self.now request.now).rest }
+    {
+        if request.kind().command != GET_TRANSFERS {
+            return (ERROR_UNSUPPORTED_PLDM_CMD, None);
+        }
+        if !request.data().is_empty() {
+            return (ERROR_INVALID_LENGTH, None);
+        }
+        (SUCCESS, Some(self.transfers))
     }
 
     /// Lets the time pass up to a moment in milliseconds: the temperature rises where a fan stands still.

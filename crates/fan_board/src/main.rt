@@ -19,6 +19,7 @@ use crate::service::serve;
 use mctp_packet::{Eid, Keep};
 use pldm_endpoint::Endpoint;
 use pldm_responder::{Bounds, Keeping, Outcome};
+use pldm_wire::HandedOn;
 use std::alloc::Global;
 
 /// The endpoint ID of the board.
@@ -33,8 +34,14 @@ const BOUNDS: Bounds = Bounds {
     open_messages: 2,
 };
 
-/// The board performs one command at a time.
+/// The board does one thing at a time.
 const COMMANDS: usize = 1;
+
+/// The requests of PLDM type 63 (OEM) are handed on to the board as bytes.
+const OEM: HandedOn = HandedOn {
+    pldm_types: 1 << 63,
+    unknown_commands: false,
+};
 
 fn main(rt: HostRuntime) -> anyhow::Result<()> {
     let mut board = Board::new();
@@ -51,6 +58,7 @@ fn main(rt: HostRuntime) -> anyhow::Result<()> {
 /// The endpoint in front of the board.
 fn new_endpoint(alloc: Global) -> Endpoint
     ensures held { IsHeld (held_in result) (held_at_first OWN All INSTANCE_IDS KEEP tt) }
+    ensures handed_on { result.handed_on ≡ OEM }
     ensures bounds { result.end.bounds ≡ BOUNDS }
     ensures max_pending { result.max_pending ≡ COMMANDS }
     ensures idle { result.pending ≡ map.empty }
@@ -58,7 +66,7 @@ fn new_endpoint(alloc: Global) -> Endpoint
     let (Some(own), Some(keep)) = (Eid::new(OWN), Keep::new(KEEP)) else {
         unreachable!();
     };
-    Endpoint::new(alloc, own, Keeping::each_for(keep), BOUNDS, COMMANDS)
+    Endpoint::new(alloc, own, Keeping::each_for(keep), OEM, BOUNDS, COMMANDS)
 }
 
 /// Serves a packet and writes what becomes of it: `drop NAME`, `partial`, `lost` where there was no room for it, or

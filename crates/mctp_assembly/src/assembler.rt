@@ -150,6 +150,7 @@ impl Assembler {
     }
 
     /// Ends the assembly of this key, if there is one.
+    #[inline(always)]
     pub fn forget(&mut self, key: Key)
         ensures { self.new ≡ map.remove self.old key }
     {

@@ -49,6 +49,7 @@ impl Messages {
     }
 
     /// Where the number stands, or where it would go.
+    #[inline(always)]
     fn search(&self, number: u16) -> Result<usize, usize>
         ensures found { IfOk result (IsAt none_open self.now number) }
         ensures absent { IfErr result (IsGapFor none_open self.now number) }
@@ -156,6 +157,7 @@ impl Messages {
     }
 
     /// Ends what is open under this number.
+    #[inline(always)]
     pub(crate) fn remove(&mut self, number: u16)
         ensures { Changes self.old self.new number None }
     {

@@ -104,7 +104,7 @@ module _ {S : Type 0} (setting : Setting S) (lower : Lower) (past : List Step) (
       let came_in = has_arrived j l in
       let state = once setting.device setting.keep setting.start came_in.0 in
       let own : m ≡ reply setting.device state _ = performed_at came_in.0 came_in.1 ∙ ap (reply setting.device state) known.message in
-      subst (AnswersRequest r.own command) (sym own) (reply_answers lower.requests setting.device state r.own command)
+      subst (AnswersRequest r.own command) (sym own) (reply_answers lower.requests setting.device sound.reads state r.own command)
 
   fits : (j : ℕ) → j < part_count setting w k → FitsPackets m
   fits j l = let came_in = has_arrived j l in the_reply_fits setting.device setting.window setting.keep setting.start w.log k came_in.0 timely sound.fit came_in.1

@@ -421,6 +421,7 @@ module _ {S : Type 0} (setting : Setting S) where
     device = s.device;
     sources = λ k r is. s.sources k r (asked_stays_done setting (world setting past) step.moment step.action k r is);
     fit = held_before setting (RepliesFit setting.device setting.window setting.keep setting.start) (fits_before setting.device setting.window setting.keep setting.start) (world setting past) step.moment step.action s.fit;
+    reads = s.reads;
   }
 
   pub all_hold : Lower → (steps : List Step) → NeverWentBack steps → IsTimely setting steps → IsSound setting steps → AllHold steps

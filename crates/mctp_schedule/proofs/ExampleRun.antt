@@ -155,6 +155,7 @@ timely_schedule = record {
         sources_of setting IsOther steps
         (each_known_opens_at IsOther setting.requesters (is_eight, (is_ten, tt)) steps (each_is_known setting.requesters steps known_here));
     fit = replies_fit setting.device 32 1000 setting.start (world setting steps).log fit_here;
+    reads = λ kind. refl;
   };
 }
 

@@ -6,7 +6,7 @@ use Rattle.std.proofs.lemmas.Bool.{and_left, not_from_true, ne_eqb, cases_Bool, 
 use Rattle.std.proofs.lemmas.List.Folds.{list_any-append}
 use Rattle.pldm_wire.specs.declared.answer.Answer.TheVariants as answers
 use Rattle.pldm_responder.specs.Events.{is_busy, is_copy}
-use Rattle.pldm_responder.specs.Performing.{Rules}
+use Rattle.pldm_responder.specs.Performing.{Rules, rules_of}
 use Rattle.mctp_schedule.specs.Logs.{Asked, Happening, Opened, Delivered, Sensed, WentDown, asked_at, message_at, told, InOrder, Apart}
 use Rattle.mctp_schedule.specs.Timely.{InTime}
 use Rattle.mctp_schedule.specs.FirstArrivals.{first, is_first, fresh_of, order, firsts, IsSooner, IsOrderOfFirsts}
@@ -16,7 +16,7 @@ use Rattle.pldm_wire.specs.declared.busy_time.BusyTime.TheVariants.{All}
 
 -- a device that does nothing
 pub idle_device : Rules ℕ
-idle_device = record { answer = λ s command. answers.Refused 1; after = λ s command. s; sensed = λ s id value. Ok s }
+idle_device = rules_of (λ s command. answers.Refused 1) (λ s command. s) (λ s id value. Ok s)
 
 module _ (S : Type 0) where
   -- what a first delivery does

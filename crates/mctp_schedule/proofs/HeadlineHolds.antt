@@ -1,6 +1,7 @@
 -- What a run tells of a timely schedule is the headline.
-use Rattle.std.proofs.Common.{◌≡◌, ℕ, true, List, [], ◌∷◌, ◌++◌, Option, Some, None, refl, sym, ap, subst, ◌∙◌}
+use Rattle.std.proofs.Common.{◌≡◌, ℕ, true, false, List, [], ◌∷◌, ◌++◌, Option, Some, None, refl, sym, ap, subst, ◌∙◌}
 use Rattle.std.specs.Prelude.{option_map, slice_get}
+use Rattle.pldm_wire.specs.Kinds.{TypeAndCommand}
 use Rattle.pldm_wire.specs.declared.busy_time.BusyTime.TheVariants.{All}
 use Rattle.pldm_platform.specs.Changes.{made_of}
 use Rattle.pldm_responder.specs.Events.{is_busy}
@@ -87,12 +88,13 @@ module _ {S : Type 0} (setting : Setting S) (laws : Halves setting) where
   }
 
 -- ---- a run discharges the premises
-module _ {P S : Type 0} (setting : Setting S) (past : List Step) (run : HeldRun P S) (running : IsRunning setting past run) where
+module _ {P S : Type 0} (setting : Setting S) (past : List Step) (run : HeldRun P S) (running : IsRunning setting past run) (reads : (kind : TypeAndCommand) → setting.device.hands_on kind ≡ false) where
   is_sound : IsSound setting past
   is_sound = record {
     device = running.device.endpoint;
     sources = λ k r is. let s = (running.sides r.source (running.opened k r is).source).2 in (s.endpoint, s.other);
     fit = running.fit;
+    reads = reads;
   }
 
   pub run_is_headline : Halves setting → (Performed : List Command → Type 0) → Performed (commands_performed S setting.window setting.keep (world setting past).log) → NeverWentBack past → run.journal.timely ≡ true

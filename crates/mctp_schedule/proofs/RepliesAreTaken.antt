@@ -7,7 +7,7 @@ use Rattle.mctp_packet.specs.declared.reason.Reason.TheVariants.{NotReady}
 use Rattle.pldm_wire.specs.Answers.{answer_data, answer_message, code_of}
 use Rattle.pldm_wire.specs.CommandReading.{command_of}
 use Rattle.pldm_wire.specs.Commands.{command_data, kind_of}
-use Rattle.pldm_wire.specs.Kinds.{IsKind}
+use Rattle.pldm_wire.specs.Kinds.{IsKind, TypeAndCommand}
 use Rattle.pldm_wire.specs.Laws.{RequestReadBack, ResponseReadBack}
 use Rattle.pldm_wire.specs.Requests.{request, request_of}
 use Rattle.pldm_wire.specs.Responses.{Response, response, response_of}
@@ -16,7 +16,7 @@ use Rattle.pldm_wire.specs.declared.answer.Answer.TheVariants.{Refused}
 use Rattle.pldm_wire.specs.declared.assigned.TheConstants.{ERROR_NOT_READY}
 use Rattle.pldm_wire.specs.declared.command.Command.{Command}
 use Rattle.pldm_wire.specs.declared.command.Command.TheVariants.{SetTid, GetTid, GetPldmVersion, GetPldmTypes, GetPldmCommands, GetSensorReading, GetStateSensorReadings, SetNumericEffecterValue, GetNumericEffecterValue, SetStateEffecterStates, GetStateEffecterStates, GetPdrRepositoryInfo, GetPdr}
-use Rattle.pldm_responder.specs.Performing.{Rules, answer_to, busy_reply, busy_reply_to, reply, reply_to}
+use Rattle.pldm_responder.specs.Performing.{Rules, answer_to, busy_reply, busy_reply_to, reply, reply_to, response_to}
 use Rattle.pldm_requester.specs.Arrivals.{Arrival, Drop, Answer as Answered, is_response_to, response_arrival}
 use Rattle.pldm_requester.specs.Numbering.{id_of, message_of}
 use Rattle.mctp_schedule.specs.Taken.{is_ready}
@@ -47,11 +47,15 @@ pub record AnswersRequest (number : ℕ) (command : Command) (message : List ℕ
   pub answer : Answer
   pub is : message ≡ answer_message (id_of number) (kind_of command) answer
 
-pub reply_answers : RequestReadBack → {S : Type 0} (device : Rules S) (state : S) (number : ℕ) (command : Command) → AnswersRequest number command (reply device state (message_of number command))
-reply_answers back device state number command = record {
-  answer = answer_to device state (command_of (kind_of command) (command_data command));
-  is = ap (reply_to device state) (request_read back number command);
-}
+pub reply_answers : RequestReadBack → {S : Type 0} (device : Rules S) (reads : (kind : TypeAndCommand) → device.hands_on kind ≡ false) (state : S) (number : ℕ) (command : Command) → AnswersRequest number command (reply device state (message_of number command))
+reply_answers back device reads state number command =
+    let answer = answer_to device state (command_of (kind_of command) (command_data command)) in
+    let r = request (id_of number) (kind_of command) (command_data command) in
+    record {
+      answer = answer;
+      is = ap (reply_to device state) (request_read back number command)
+          ∙ ap (λ t. if t then response_to r (device.respond state r) else answer_message (id_of number) (kind_of command) answer) (reads (kind_of command));
+    }
 
 -- and a busy answer refuses it with the code that says so
 pub busy_refuses : RequestReadBack → (number : ℕ) (command : Command) → busy_reply (message_of number command) ≡ answer_message (id_of number) (kind_of command) (Refused ERROR_NOT_READY)

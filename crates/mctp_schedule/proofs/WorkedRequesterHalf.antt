@@ -34,7 +34,7 @@ long_answer state GetTid = answers.GetTid 1
 long_answer state _ = answers.GetPldmVersion 0 (replicate 190 7)
 
 abbrev long_device : Rules ℕ
-long_device = record { answer = long_answer; after = λ state command. state; sensed = λ state id value. Err NoSuchSensor }
+long_device = rules_of long_answer (λ state command. state) (λ state id value. Err NoSuchSensor)
 
 abbrev long : Setting ℕ
 long = record {

@@ -3,6 +3,7 @@
 use Rattle.std.specs.Prelude.{◌≡◌, ◌≢◌, ℕ, true, false, List, slice_get, Some}
 use Rattle.mctp_packet.specs.Ids.{IsEid}
 use Rattle.mctp_assembly.specs.Histories as assembly
+use Rattle.pldm_wire.specs.Kinds.{TypeAndCommand}
 use Rattle.pldm_responder.specs.Performing.{reply}
 use Rattle.pldm_requester.specs.Calls.{answer_key, assembled}
 use Rattle.pldm_requester.specs.Courses.{Progress, Waiting, Answered, GaveUp}
@@ -17,13 +18,14 @@ use Rattle.schedule_text.specs.declared.step.Action.TheVariants.{Reply, Busy}
 use Rattle.schedule_text.specs.declared.step.Step.{Step}
 
 -- the device and each requester that opened a request have endpoint IDs, not the same one, and each reply that the
--- device made fits packets
+-- device made fits packets; no request is handed on to the device as bytes
 pub record IsSound {S : Type 0} (setting : Setting S) (steps : List Step) : Type 0 where
   pub device : IsEid setting.eid
   pub sources :
       (k : ℕ) (r : Asked) → asked_at (world setting steps).log k ≡ Some r
       → IsEid r.source × (r.source ≢ setting.eid)
   pub fit : RepliesFit setting.device setting.window setting.keep setting.start (world setting steps).log
+  pub reads : (kind : TypeAndCommand) → setting.device.hands_on kind ≡ false
 
 -- a timely schedule of such requesters and such replies
 pub record IsTimelySchedule {S : Type 0} (setting : Setting S) (steps : List Step) : Type 0 where

@@ -3,13 +3,20 @@ use Rattle.std.proofs.Common.{◌≡◌, ℕ, List, [], ◌∷◌, Bool, true, f
 use Rattle.clap.proofs.OnLiterals.{clap_on_literals}
 use Rattle.clap.specs.Words.{fault_of}
 use Rattle.clap.specs.declared.error.kind.ErrorKind.TheVariants.{ArgumentConflict, DisplayHelp, MissingRequiredArgument, MissingSubcommand}
+use Rattle.mctpctl_bindings.specs.declared.binding.Binding.{Binding}
+use Rattle.mctpctl_bindings.specs.declared.binding.Binding.TheVariants.{I2c, I3c, Serial}
 use Rattle.mctpctl.specs.Choice.{command as the_command}
 use Rattle.mctpctl.specs.Choice.{choice_of, Asked, to_perform, to_serve}
 use Rattle.mctpctl.specs.declared.choose.Task.{Task}
 use Rattle.mctpctl.specs.declared.choose.Task.TheVariants.{Answer, Run, Show}
 
 abbrev asks : Task → Bool → Bool → Asked
-asks task explain decode = to_perform (record { task = task; explain = explain; decode = decode })
+asks task explain decode =
+    to_perform (record { task = task; explain = explain; decode = decode; binding = None })
+
+abbrev shows : Bool → Binding → Asked
+shows decode binding =
+    to_perform (record { task = Show; explain = false; decode = decode; binding = Some binding })
 
 abbrev serves : List ℕ → Option (List ℕ) → Bool → Asked
 serves device log verbose = to_serve (record { device = device; log = log; verbose = verbose })
@@ -62,6 +69,27 @@ both_flags = refl
 not_decoded : choice_of (codes "mctpctl" ∷ codes "answer" ∷ codes "--decode" ∷ []) ≡ None
 unfolding clap_on_literals
 not_decoded = refl
+
+on_i2c : choice_of (codes "mctpctl" ∷ codes "show" ∷ codes "--binding" ∷ codes "i2c" ∷ []) ≡ Some (shows false I2c)
+unfolding clap_on_literals
+on_i2c = refl
+
+on_i3c_decoded : choice_of (codes "mctpctl" ∷ codes "show" ∷ codes "--decode" ∷ codes "--binding=i3c" ∷ []) ≡ Some (shows true I3c)
+unfolding clap_on_literals
+on_i3c_decoded = refl
+
+on_serial : choice_of (codes "mctpctl" ∷ codes "show" ∷ codes "--binding=serial" ∷ []) ≡ Some (shows false Serial)
+unfolding clap_on_literals
+on_serial = refl
+
+on_no_such_bus : choice_of (codes "mctpctl" ∷ codes "show" ∷ codes "--binding=spi" ∷ []) ≡ None
+unfolding clap_on_literals
+on_no_such_bus = refl
+
+-- only `show` reads frames
+not_framed : choice_of (codes "mctpctl" ∷ codes "answer" ∷ codes "--binding=i2c" ∷ []) ≡ None
+unfolding clap_on_literals
+not_framed = refl
 
 serve : choice_of (codes "mctpctl" ∷ codes "serve" ∷ codes "--device" ∷ codes "fan.toml" ∷ [])
     ≡ Some (serves (codes "fan.toml") None false)

@@ -9,6 +9,8 @@ use Rattle.clap.specs.declared.builder.command.Command.{Command}
 use Rattle.clap.specs.declared.builder.command.Command.TheViews.{out-Command}
 use Rattle.clap.specs.declared.error.kind.ErrorKind.{ErrorKind}
 use Rattle.clap.specs.declared.error.kind.ErrorKind.TheVariants.{DisplayHelp, DisplayVersion, OutOfMemory}
+use Rattle.mctpctl_bindings.specs.declared.binding.Binding.{Binding}
+use Rattle.mctpctl_bindings.specs.declared.binding.Binding.TheVariants.{I2c, I3c, Serial}
 use Rattle.mctpctl.specs.declared.choose.Choice.{Choice}
 use Rattle.mctpctl.specs.declared.choose.Choice.TheVariants as choice
 use Rattle.mctpctl.specs.declared.choose.Service.{Service}
@@ -33,9 +35,9 @@ has_globals command = (out-Command command).has_globals
 abbrev pub flag : List ℕ → Rule
 flag name = record (new_rule name) { long = Some name; action = Some SetTrue }
 
--- an option of this name, as `--log FILE`, whose value names a file
-abbrev pub file_option : List ℕ → Rule
-file_option name = record (new_rule name) { long = Some name; action = Some Set; value_names = 1 }
+-- an option of this name with a value, as `--log FILE`
+abbrev pub value_option : List ℕ → Rule
+value_option name = record (new_rule name) { long = Some name; action = Some Set; value_names = 1 }
 
 -- a subcommand of this name, which may be asked to explain the faults of its input
 abbrev pub text_subcommand : List ℕ → App
@@ -45,17 +47,21 @@ text_subcommand name = with_rule (new_app name) (flag (codes "explain"))
 abbrev pub serve_subcommand : App
 serve_subcommand =
     with_rule (with_rule (with_rule (new_app (codes "serve"))
-    (record (file_option (codes "device")) { required = true }))
-    (file_option (codes "log"))) (flag (codes "verbose"))
+    (record (value_option (codes "device")) { required = true }))
+    (value_option (codes "log"))) (flag (codes "verbose"))
 
 -- the subcommands that simulate a device over a text
 abbrev pub device_command : App
 device_command =
     with_subcommand (with_subcommand program (text_subcommand (codes "answer")).top) (text_subcommand (codes "run")).top
 
--- `show` may also be asked to decode messages
+-- `show` may also be asked to decode messages, and told which frames stand on the lines
+abbrev pub show_subcommand : App
+show_subcommand =
+    with_rule (with_rule (text_subcommand (codes "show")) (flag (codes "decode"))) (value_option (codes "binding"))
+
 abbrev pub text_command : App
-text_command = with_subcommand device_command (with_rule (text_subcommand (codes "show")) (flag (codes "decode"))).top
+text_command = with_subcommand device_command show_subcommand.top
 
 abbrev pub command : App
 command = with_subcommand text_command serve_subcommand.top
@@ -69,6 +75,13 @@ task_named name =
     if bytes_eq name (codes "answer") then Some Answer
     else if bytes_eq name (codes "run") then Some Run
     else if bytes_eq name (codes "show") then Some Show
+    else None
+
+abbrev pub binding_named : List ℕ → Option Binding
+binding_named name =
+    if bytes_eq name (codes "i2c") then Some I2c
+    else if bytes_eq name (codes "i3c") then Some I3c
+    else if bytes_eq name (codes "serial") then Some Serial
     else None
 
 -- whether a flag was given, by what `clap` found of the subcommand's arguments
@@ -106,16 +119,26 @@ service_in rows =
     })
     (first_of (codes "device") rows)
 
+-- the binding that is asked for, if one is: a name that is none's asks for nothing
+abbrev pub binding_asked : Option (List ℕ) → Option (Option Binding)
+binding_asked None = Some None
+binding_asked (Some name) = option_map (λ binding. Some binding) (binding_named name)
+
+abbrev pub binding_in : List Row → Option (Option Binding)
+binding_in rows = binding_asked (first_of (codes "binding") rows)
+
+abbrev pub text_task : List Row → Task → Option Binding → TextTask
+text_task rows task binding = record {
+  task = task;
+  explain = is_given (codes "explain") rows;
+  decode = is_given (codes "decode") rows;
+  binding = binding;
+}
+
 -- what is asked for by the name of another subcommand and what was found of its arguments
 abbrev pub text_task_in : List ℕ × List Row → Option TextTask
 text_task_in found =
-    option_map
-    (λ task. record {
-      task = task;
-      explain = is_given (codes "explain") found.1;
-      decode = is_given (codes "decode") found.1;
-    })
-    (task_named found.0)
+    option_and_then (λ task. option_map (text_task found.1 task) (binding_in found.1)) (task_named found.0)
 
 -- what is asked for by a subcommand's name and what was found of its arguments
 abbrev pub choice_in : List ℕ × List Row → Option Asked

@@ -4,14 +4,16 @@ ghost use Rattle.std.specs.Prelude.{◌≡◌, IfOk, IfErr, Some, false, map, op
 ghost use Rattle.mctp_packet.specs.Memories.{out_of_memory};
 ghost use Rattle.clap.specs.Words.{app_of, first_of, found_of, kind_of, rows_of, rule_of, subcommand_rows_of};
 ghost use Rattle.mctpctl.specs.FaultNumbers.{number_of_choose_fault};
-ghost use Rattle.mctpctl.specs.Choice.{asked, choice_in as the_choice, choice_of, command as the_command, device_command as the_device_command, file_option as the_file_option, flag as the_flag, has_globals, is_given, program as the_program, serve_subcommand as the_serve_subcommand, served, service_in, task_named, text_command as the_text_command, text_subcommand as the_text_subcommand, text_task_in, ReportsKind, ReportsRefusal};
+ghost use Rattle.mctpctl.specs.Choice.{asked, binding_in, binding_named, choice_in as the_choice, choice_of, command as the_command, device_command as the_device_command, flag as the_flag, has_globals, is_given, program as the_program, serve_subcommand as the_serve_subcommand, served, service_in, show_subcommand as the_show_subcommand, task_named, text_command as the_text_command, text_subcommand as the_text_subcommand, text_task_in, value_option as the_value_option, ReportsKind, ReportsRefusal};
 
 use crate::help::{
-    ANSWER, DECODE, DEVICE, EXPLAIN, LOG, RUN, SERVE, SHOW, STATUSES, VERBOSE, VERSION,
+    ANSWER, BINDING, BINDINGS, DECODE, DEVICE, EXPLAIN, LOG, NO_BINDING, RUN, SERVE, SHOW,
+    STATUSES, VERBOSE, VERSION,
 };
 use clap::error::ErrorKind;
 use clap::{Arg, ArgAction, ArgMatches, Command};
 use mctp_packet::Memory;
+use mctpctl_bindings::Binding;
 use std::alloc::{AllocError, Global};
 use thiserror::Error;
 
@@ -44,6 +46,8 @@ pub struct TextTask {
     pub explain: bool,
     /// Whether messages are decoded (`--decode`, of `show`).
     pub decode: bool,
+    /// Which frames stand on the lines, if they are not bare packets (`--binding`, of `show`).
+    pub binding: Option<Binding>,
 }
 
 /// A device that is served.
@@ -103,7 +107,7 @@ pub fn choose<'a>(alloc: Global, words: &'a [&'a str]) -> Result<Choice<'a>, Cho
     match command.try_get_matches_from(words) {
         Ok(matches) => match choice_in(&matches) {
             Some(choice) => Ok(choice),
-            None => Err(ChooseFault::Refused(String::new(alloc))),
+            None => Err(ChooseFault::Refused(String::from_str(alloc, NO_BINDING)?)),
         },
         Err(error) => Err(refusal(alloc, &error)),
     }
@@ -123,8 +127,7 @@ fn command<'a>(alloc: Global) -> Result<Command<'a>, AllocError>
 fn text_command<'a>(alloc: Global) -> Result<Command<'a>, AllocError>
     ensures { IfOk result (λ command. app_of command ≡ the_text_command) }
 {
-    let show = text_subcommand(alloc, "show")?
-        .arg(flag(alloc, "decode", DECODE))?
+    let show = show_subcommand(alloc)?
         .about("Shows the packets of a capture and the messages that they complete")
         .after_help(SHOW);
     device_command(alloc)?.subcommand(show)
@@ -151,15 +154,25 @@ fn text_subcommand<'a>(alloc: Global, name: &'static str) -> Result<Command<'a>,
     Command::new(alloc, name).arg(flag(alloc, "explain", EXPLAIN))
 }
 
+/// The subcommand `show`, with its options.
+fn show_subcommand<'a>(alloc: Global) -> Result<Command<'a>, AllocError>
+    ensures app { IfOk result (λ command. app_of command ≡ the_show_subcommand) }
+    ensures local { IfOk result (λ command. has_globals command ≡ false) }
+{
+    text_subcommand(alloc, "show")?
+        .arg(flag(alloc, "decode", DECODE))?
+        .arg(value_option(alloc, "binding", BINDINGS, BINDING))
+}
+
 /// The subcommand `serve`, with its options.
 fn serve_subcommand<'a>(alloc: Global) -> Result<Command<'a>, AllocError>
     ensures app { IfOk result (λ command. app_of command ≡ the_serve_subcommand) }
     ensures local { IfOk result (λ command. has_globals command ≡ false) }
 {
-    let device = file_option(alloc, "device", DEVICE).required(true);
+    let device = value_option(alloc, "device", "FILE", DEVICE).required(true);
     Command::new(alloc, "serve")
         .arg(device)?
-        .arg(file_option(alloc, "log", LOG))?
+        .arg(value_option(alloc, "log", "FILE", LOG))?
         .arg(flag(alloc, "verbose", VERBOSE))
 }
 
@@ -174,14 +187,19 @@ fn flag<'a>(alloc: Global, name: &'static str, help: &'static str) -> Arg<'a>
         .help(help)
 }
 
-/// An option of this name whose value names a file, with what help says of it.
-fn file_option<'a>(alloc: Global, name: &'static str, help: &'static str) -> Arg<'a>
-    ensures rule { rule_of result ≡ the_file_option name.now }
+/// An option of this name with a value, with what help calls the value and says of the option.
+fn value_option<'a>(
+    alloc: Global,
+    name: &'static str,
+    value: &'static str,
+    help: &'static str,
+) -> Arg<'a>
+    ensures rule { rule_of result ≡ the_value_option name.now }
     ensures local { result.global ≡ false }
 {
     Arg::new(alloc, name)
         .long(name)
-        .value_name("FILE")
+        .value_name(value)
         .action(ArgAction::Set)
         .help(help)
 }
@@ -221,11 +239,38 @@ fn text_task(name: &str, matches: &ArgMatches<'_>) -> Option<TextTask>
     ensures { result ≡ text_task_in (name.now, rows_of (found_of matches.now)) }
 {
     let task = named(name)?;
+    let binding = binding_in(matches)?;
     Some(TextTask {
         task,
         explain: is_given(matches, "explain"),
         decode: is_given(matches, "decode"),
+        binding,
     })
+}
+
+/// The binding that was given, if one was; none at all where its name is no binding's.
+fn binding_in(matches: &ArgMatches<'_>) -> Option<Option<Binding>>
+    ensures { result ≡ binding_in (rows_of (found_of matches.now)) }
+{
+    match value(matches, "binding") {
+        Some(name) => match binding_named(name) {
+            Some(binding) => Some(Some(binding)),
+            None => None,
+        },
+        None => Some(None),
+    }
+}
+
+/// The binding of a name.
+fn binding_named(name: &str) -> Option<Binding>
+    ensures { result ≡ binding_named name.now }
+{
+    match name {
+        "i2c" => Some(Binding::I2c),
+        "i3c" => Some(Binding::I3c),
+        "serial" => Some(Binding::Serial),
+        _ => None,
+    }
 }
 
 /// The device that is served, by the arguments of `serve`.

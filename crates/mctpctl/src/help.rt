@@ -11,6 +11,19 @@ pub const EXPLAIN: &str =
 /// What `--decode` does.
 pub const DECODE: &str = "Show the fields of commands and answers by name";
 
+/// What `--binding` does.
+pub const BINDING: &str = "Read each line's bytes as a frame of this binding";
+
+/// The values of `--binding`.
+pub const BINDINGS: &str = "i2c|i3c|serial";
+
+/// What is said where `--binding` has another value.
+pub const NO_BINDING: &str = "\
+error: invalid value for '--binding <i2c|i3c|serial>'
+
+For more information, try '--help'.
+";
+
 /// What `--device` names.
 pub const DEVICE: &str = "The description of the device, in TOML";
 
@@ -123,6 +136,13 @@ that of an MCTP control message:
 
     request 0 GetTID
     response 0 GetTID tid 1
+
+With --binding the bytes of a line are a whole frame, with its addresses and checks, as a
+logic analyser logs it: 'i2c' (DSP0237), 'i3c' (DSP0233) or 'serial' (DSP0253). Bytes that
+are no frame have a line 'MS no frame: NAME' with the reason. The first packet above, from
+the device at address 10 to the one at 1d, is in the frame
+
+  0 3a0f0921010908c801800002ca
 
 Exit status:
   0  done

@@ -19,9 +19,9 @@ use mctpctl_decode::decode_all;
 use mctpctl_engines::{answer_all, run_all, show_all};
 use mctpctl_explain::{Keeping, Subject, explain, warnings};
 use mctpctl_input::{EngineFault, Port};
-use std::alloc::AllocError;
+use std::alloc::{AllocError, Global};
 use std::env;
-use std::io::{BufWriter, ErrorKind, IsTerminal, Read};
+use std::io::{BufWriter, ErrorKind, IsTerminal, Read, Write};
 use std::process::ExitCode;
 
 /// How many bytes of the text of a run are gathered before they are written, since most of its parts have a few: as
@@ -105,8 +105,24 @@ fn run<R: Read>(rt: &HostRuntime, text: TextTask, reader: &mut Port<R>) -> Resul
             };
             run_all(alloc, reader, &mut Port::new(gathering))
         }
-        Task::Show if text.decode => decode_all(alloc, reader, &mut Port::new(rt.stdout())),
-        Task::Show => show_all(alloc, reader, &mut Port::new(rt.stdout())),
+        Task::Show => show(alloc, text, reader, &mut Port::new(rt.stdout())),
+    }
+}
+
+/// Shows a capture, as it is asked for.
+fn show<R: Read, W: Write>(
+    alloc: Global,
+    text: TextTask,
+    reader: &mut Port<R>,
+    writer: &mut Port<W>,
+) -> Result<(), EngineFault>
+    requires reads { has_failed reader.old ≡ false }
+    requires writes { has_failed writer.old ≡ false }
+{
+    if text.decode {
+        decode_all(alloc, text.binding, reader, writer)
+    } else {
+        show_all(alloc, text.binding, reader, writer)
     }
 }
 

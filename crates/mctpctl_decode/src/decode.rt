@@ -8,6 +8,7 @@ ghost use Rattle.mctpctl_input.specs.WholeRuns.{ReportsFailed, WritesAll, Writes
 
 use crate::message_line::push_decoded_line;
 use mctp_packet::Memory;
+use mctpctl_bindings::Binding;
 use mctpctl_engines::{MessageForm, show_as};
 use mctpctl_input::{EngineFault, Port};
 use std::alloc::Global;
@@ -32,18 +33,20 @@ impl MessageForm for ByName {
 /// there.
 pub fn decode_all<R: Read, W: Write>(
     alloc: Global,
+    binding: Option<Binding>,
     reader: &mut Port<R>,
     writer: &mut Port<W>,
 ) -> Result<(), EngineFault>
     requires reads { has_failed reader.old ≡ false }
     requires writes { has_failed writer.old ≡ false }
-    ensures text { WritesAll R.remaining W.contents (show_text decoded_line) reader.old writer.old writer.new result }
-    ensures at_read { WritesRead R.remaining W.contents (seen_run decoded_line) reader.old reader.new writer.old
-        writer.new result }
-    ensures at_memory { WritesFront R.remaining W.contents (seen_run decoded_line) reader.old writer.old writer.new
+    ensures text { WritesAll R.remaining W.contents (show_text binding decoded_line) reader.old writer.old writer.new
         result }
+    ensures at_read { WritesRead R.remaining W.contents (seen_run binding decoded_line) reader.old reader.new
+        writer.old writer.new result }
+    ensures at_memory { WritesFront R.remaining W.contents (seen_run binding decoded_line) reader.old writer.old
+        writer.new result }
     ensures read { ReportsFailed EngineFault.Read result reader.new }
     ensures write { ReportsFailed EngineFault.Write result writer.new }
 {
-    show_as(alloc, ByName, reader, writer)
+    show_as(alloc, ByName, binding, reader, writer)
 }

@@ -3,6 +3,7 @@ pub mod AnswerText
 pub mod DescribedRuns
 pub mod DescribedPieces
 pub mod HeldRuns
+pub mod LinePackets
 pub mod LongLines
 pub mod ObservedRuns
 pub mod RunText

@@ -1,21 +1,22 @@
 -- What an observer makes of the lines of a capture, over what it holds.
 use Rattle.std.specs.FinMap as map
-use Rattle.std.specs.Prelude.{ℕ, ◌==◌, if◌then◌else◌, List, unwrap_or, None, Result, Ok, Err}
+use Rattle.std.specs.Prelude.{ℕ, ◌==◌, if◌then◌else◌, List, Option, unwrap_or, Result, Ok, Err}
 use Rattle.std.specs.BTreeMap.{is_at}
 use Rattle.std.specs.Map.{lookup}
 use Rattle.std.specs.Ordering.{nat_cmp}
 use Rattle.mctp_assembly.specs.Steps.{Held, answer, after}
 use Rattle.mctp_assembly.specs.declared.fed.Fed.{Fed}
 use Rattle.mctp_packet.specs.Packets.{Packet}
-use Rattle.mctp_packet.specs.Reading.{reading}
-use Rattle.mctp_packet.specs.declared.reason.Reason.{Reason}
+use Rattle.mctpctl_bindings.specs.declared.binding.Binding.{Binding}
 use Rattle.mctpctl_input.specs.CaptureRuns.{capture_step}
 use Rattle.mctpctl_texts.specs.ShownLines.{shown_text}
 use Rattle.mctpctl_input.specs.declared.faults.LineKind.{LineKind}
+use Rattle.mctpctl_engines.specs.LinePackets.{packet_on}
 use Rattle.mctpctl_engines.specs.declared.observer.Observer.{Observer}
 
--- the moment of the last packet, and what is open at each destination
+-- which frames stand on the lines, the moment of the last packet, and what is open at each destination
 pub record Observed : Type 0 where
+  pub binding : Option Binding
   pub last : ℕ
   pub open_at : ℕ → Held
 
@@ -24,11 +25,12 @@ abbrev pub open_in : List (ℕ × Held) → ℕ → Held
 open_in assemblers destination = unwrap_or (lookup (is_at (nat_cmp destination)) assemblers) map.empty
 
 abbrev pub observed_of : {F : Type 0} → Observer F → Observed
-observed_of observer = record { last = observer.last; open_at = open_in observer.assemblers.entries }
+observed_of observer =
+    record { binding = observer.binding; last = observer.last; open_at = open_in observer.assemblers.entries }
 
 -- nothing has come
-abbrev pub none_observed : Observed
-none_observed = record { last = 0; open_at = λ destination. map.empty }
+abbrev pub none_observed : Option Binding → Observed
+none_observed binding = record { binding = binding; last = 0; open_at = λ destination. map.empty }
 
 -- what a packet gives at its destination
 abbrev pub given_at : (ℕ → Held) → Packet → Fed
@@ -40,18 +42,23 @@ open_after open_at p destination =
     if p.route.destination == destination then after (open_at destination) p else open_at destination
 
 -- bytes that spell no packet change nothing
-abbrev pub open_with : (ℕ → Held) → Result Packet Reason → ℕ → Held
-open_with open_at (Err reason) = open_at
+abbrev pub open_with : (ℕ → Held) → Result Packet (List ℕ) → ℕ → Held
+open_with open_at (Err words) = open_at
 open_with open_at (Ok p) = open_after open_at p
 
 abbrev pub observed_with : Observed → ℕ → List ℕ → Observed
 observed_with observed moment bytes =
-    record { last = moment; open_at = open_with observed.open_at (reading None bytes) }
+    record {
+      binding = observed.binding;
+      last = moment;
+      open_at = open_with observed.open_at (packet_on observed.binding bytes);
+    }
 
 -- `line` says how the line of a whole message is written
 module _ (line : List ℕ → List ℕ) where
   abbrev pub observed_text : Observed → ℕ → List ℕ → List ℕ
-  observed_text observed moment bytes = shown_text line moment (reading None bytes) (given_at observed.open_at)
+  observed_text observed moment bytes =
+      shown_text line moment (packet_on observed.binding bytes) (given_at observed.open_at)
 
   -- what one line gives
   abbrev pub observed_step : Observed → List ℕ → Result (List ℕ × Observed) LineKind

@@ -1,14 +1,15 @@
 -- What `mctpctl show` writes of a capture, told by looking back over all packets that came. Each endpoint that packets
--- go to has an assembler of its own.
-use Rattle.std.specs.Prelude.{ℕ, ◌==◌, nat_lt, Bool, if◌then◌else◌, List, [], ◌∷◌, length, take, None, Result, Ok, Err}
+-- go to has an assembler of its own. `binding` says which frames stand on the lines, if they are not bare packets.
+use Rattle.std.specs.Prelude.{ℕ, ◌==◌, nat_lt, Bool, if◌then◌else◌, List, [], ◌∷◌, length, take}
+use Rattle.std.specs.Prelude.{Option, Result, Ok, Err}
 use Rattle.line_words.specs.TextLines.{lines_of}
 use Rattle.mctp_assembly.specs.Histories.{Call, feed, since}
 use Rattle.mctp_assembly.specs.Keys.{key_of}
 use Rattle.mctp_assembly.specs.Rows.{next}
 use Rattle.mctp_assembly.specs.declared.fed.Fed.{Fed}
 use Rattle.mctp_packet.specs.Packets.{Packet}
-use Rattle.mctp_packet.specs.Reading.{reading}
-use Rattle.mctp_packet.specs.declared.reason.Reason.{Reason}
+use Rattle.mctpctl_bindings.specs.declared.binding.Binding.{Binding}
+use Rattle.mctpctl_engines.specs.LinePackets.{packet_on}
 use Rattle.mctpctl_input.specs.CaptureLine.{TimedPacket}
 use Rattle.mctpctl_input.specs.CaptureRuns.{capture_step}
 use Rattle.mctpctl_input.specs.LineRuns.{Written, lines_written}
@@ -22,27 +23,27 @@ last_seen [] = 0
 last_seen (packet ∷ before) = packet.moment
 
 -- one packet more for the assembler of a destination, if it goes there
-abbrev pub fed_more : ℕ → Result Packet Reason → List Call → List Call
-fed_more destination (Err reason) calls = calls
+abbrev pub fed_more : ℕ → Result Packet (List ℕ) → List Call → List Call
+fed_more destination (Err words) calls = calls
 fed_more destination (Ok p) calls = if p.route.destination == destination then feed p ∷ calls else calls
 
 -- what came for a destination, the newest first
-abbrev pub fed_to : ℕ → List TimedPacket → List Call
-fed_to destination [] = []
-fed_to destination (packet ∷ before) =
-    fed_more destination (reading None packet.bytes) (fed_to destination before)
+abbrev pub fed_to : Option Binding → ℕ → List TimedPacket → List Call
+fed_to binding destination [] = []
+fed_to binding destination (packet ∷ before) =
+    fed_more destination (packet_on binding packet.bytes) (fed_to binding destination before)
 
 -- what a packet gives after those of its destination, source, tag and tag owner
-abbrev pub gives_after : List TimedPacket → Packet → Fed
-gives_after seen p = next (since (key_of p) (fed_to p.route.destination seen)) p
+abbrev pub gives_after : Option Binding → List TimedPacket → Packet → Fed
+gives_after binding seen p = next (since (key_of p) (fed_to binding p.route.destination seen)) p
 
 abbrev pub seen_with : List TimedPacket → ℕ → List ℕ → List TimedPacket
 seen_with seen moment bytes = record { moment = moment; bytes = bytes } ∷ seen
 
 -- `line` says how the line of a whole message is written
-module _ (line : List ℕ → List ℕ) where
+module _ (binding : Option Binding) (line : List ℕ → List ℕ) where
   abbrev pub seen_text : List TimedPacket → ℕ → List ℕ → List ℕ
-  seen_text seen moment bytes = shown_text line moment (reading None bytes) (gives_after seen)
+  seen_text seen moment bytes = shown_text line moment (packet_on binding bytes) (gives_after binding seen)
 
   -- what one line gives, by looking back over all packets that came
   abbrev pub seen_step : List TimedPacket → List ℕ → Result (List ℕ × List TimedPacket) LineKind

@@ -5,6 +5,7 @@ ghost use Rattle.mctpctl_engines.specs.LinePieces.{AddsLine};
 ghost use Rattle.mctpctl_engines.specs.LongLines.{observed_refuses};
 ghost use Rattle.mctpctl_engines.specs.ObservedRuns.{Observed, given_at, none_observed, observed_of, observed_step, open_after, open_in, open_with};
 ghost use Rattle.mctp_assembly.specs.Fed.{fed_with};
+ghost use Rattle.mctpctl_engines.specs.LinePackets.{or_drop, packet_on};
 ghost use Rattle.mctpctl_texts.specs.ShownLines.{completed_text, shown_text};
 ghost use Rattle.mctp_packet.specs.Reading.{reading};
 
@@ -12,8 +13,9 @@ use crate::line_run::{LineRoom, LineTask};
 use crate::message_form::MessageForm;
 use mctp_assembly::{Assembler, FedInto};
 use mctp_packet::{Body, Eid, Memory, PacketRef, read};
+use mctpctl_bindings::{Binding, packet_of};
 use mctpctl_input::{CaptureFault, CaptureLine, EngineFault, read_capture_line};
-use mctpctl_texts::{write_no_packet_line, write_packet_line};
+use mctpctl_texts::{write_no_frame_line, write_no_packet_line, write_packet_line};
 use std::alloc::Global;
 use std::collections::BTreeMap;
 
@@ -22,6 +24,8 @@ use std::collections::BTreeMap;
 #[derive(Drop)]
 pub struct Observer<F> {
     form: F,
+    /// Which frames stand on the lines, if they are not bare packets.
+    binding: Option<Binding>,
     /// The moment of the last packet.
     last: u64,
     /// An assembler for each endpoint that a packet has gone to.
@@ -30,11 +34,12 @@ pub struct Observer<F> {
 
 impl<F: MessageForm> Observer<F> {
     /// An observer to whom nothing has come.
-    pub fn new(alloc: Global, form: F) -> Observer<F>
-        ensures { observed_of result ≡ none_observed }
+    pub fn new(alloc: Global, form: F, binding: Option<Binding>) -> Observer<F>
+        ensures { observed_of result ≡ none_observed binding }
     {
         Observer {
             form,
+            binding,
             last: 0,
             assemblers: BTreeMap::new(alloc),
         }
@@ -50,10 +55,38 @@ impl<F: MessageForm> Observer<F> {
         text: &mut Vec<u8>,
     ) -> Result<(), Memory>
         ensures text { OnOk result (text.new.items ≡ text.old.items
-            ++ shown_text F.line moment (reading None bytes.now) (given_at (open_in self.old.assemblers.entries))) }
+            ++ shown_text F.line moment (packet_on self.old.binding bytes.now)
+            (given_at (open_in self.old.assemblers.entries))) }
         ensures open { OnOk result (open_in self.new.assemblers.entries
-            ≡ open_with (open_in self.old.assemblers.entries) (reading None bytes.now)) }
+            ≡ open_with (open_in self.old.assemblers.entries) (packet_on self.old.binding bytes.now)) }
         ensures last { self.new.last ≡ self.old.last }
+        ensures binding { self.new.binding ≡ self.old.binding }
+    {
+        let Some(binding) = self.binding else {
+            return self.show_packet(alloc, moment, bytes, message, text);
+        };
+        match packet_of(binding, bytes) {
+            Ok(packet) => self.show_packet(alloc, moment, packet.as_slice(), message, text),
+            Err(fault) => write_no_frame_line(text, moment, fault.name()),
+        }
+    }
+
+    /// As `show`, of the bytes of a packet.
+    fn show_packet(
+        &mut self,
+        alloc: Global,
+        moment: u64,
+        bytes: &[u8],
+        message: &mut Body,
+        text: &mut Vec<u8>,
+    ) -> Result<(), Memory>
+        ensures text { OnOk result (text.new.items ≡ text.old.items
+            ++ shown_text F.line moment (or_drop (reading None bytes.now))
+            (given_at (open_in self.old.assemblers.entries))) }
+        ensures open { OnOk result (open_in self.new.assemblers.entries
+            ≡ open_with (open_in self.old.assemblers.entries) (or_drop (reading None bytes.now))) }
+        ensures last { self.new.last ≡ self.old.last }
+        ensures binding { self.new.binding ≡ self.old.binding }
     {
         let packet = match read(bytes) {
             Ok(packet) => packet,

@@ -10,13 +10,15 @@ use crate::line_run::LineRun;
 use crate::message_form::{InHex, MessageForm};
 use crate::observer::Observer;
 use mctp_assembly::laws;
+use mctpctl_bindings::Binding;
 use mctpctl_input::{EngineFault, Port, run_to_end};
 use std::alloc::Global;
 use std::io::{Read, Write};
 
 /// Shows a capture of packets between any endpoints, as it comes: what the lines of a piece of input
 /// give is written before more is asked for. For each packet it writes a line with its header and with
-/// what it gave (`whole`, `partial` or `drop NAME`), and after `whole` a line with the message.
+/// what it gave (`whole`, `partial` or `drop NAME`), and after `whole` a line with the message. With
+/// a binding the bytes of each line are a frame, and those that are none have a line `no frame: NAME`.
 ///
 /// At `Line` and `TooLarge` the text of the lines that ended before has been written. `Read` is for a
 /// read port that has failed: the text of the lines that ended in the bytes before it has been written.
@@ -27,39 +29,43 @@ use std::io::{Read, Write};
 /// that gives, whatever the length of the input.
 pub fn show_all<R: Read, W: Write>(
     alloc: Global,
+    binding: Option<Binding>,
     reader: &mut Port<R>,
     writer: &mut Port<W>,
 ) -> Result<(), EngineFault>
     requires reads { has_failed reader.old ≡ false }
     requires writes { has_failed writer.old ≡ false }
-    ensures text { WritesAll R.remaining W.contents (show_text message_line) reader.old writer.old writer.new result }
-    ensures at_read { WritesRead R.remaining W.contents (seen_run message_line) reader.old reader.new writer.old
-        writer.new result }
-    ensures at_memory { WritesFront R.remaining W.contents (seen_run message_line) reader.old writer.old writer.new
+    ensures text { WritesAll R.remaining W.contents (show_text binding message_line) reader.old writer.old writer.new
         result }
+    ensures at_read { WritesRead R.remaining W.contents (seen_run binding message_line) reader.old reader.new
+        writer.old writer.new result }
+    ensures at_memory { WritesFront R.remaining W.contents (seen_run binding message_line) reader.old writer.old
+        writer.new result }
     ensures read { ReportsFailed EngineFault.Read result reader.new }
     ensures write { ReportsFailed EngineFault.Write result writer.new }
 {
-    show_as(alloc, InHex, reader, writer)
+    show_as(alloc, InHex, binding, reader, writer)
 }
 
 /// As `show_all`, with the line of a whole message as `form` writes it.
 pub fn show_as<F: MessageForm + Drop, R: Read, W: Write>(
     alloc: Global,
     form: F,
+    binding: Option<Binding>,
     reader: &mut Port<R>,
     writer: &mut Port<W>,
 ) -> Result<(), EngineFault>
     requires reads { has_failed reader.old ≡ false }
     requires writes { has_failed writer.old ≡ false }
-    ensures text { WritesAll R.remaining W.contents (show_text F.line) reader.old writer.old writer.new result }
-    ensures at_read { WritesRead R.remaining W.contents (seen_run F.line) reader.old reader.new writer.old writer.new
+    ensures text { WritesAll R.remaining W.contents (show_text binding F.line) reader.old writer.old writer.new result }
+    ensures at_read { WritesRead R.remaining W.contents (seen_run binding F.line) reader.old reader.new writer.old
+        writer.new result }
+    ensures at_memory { WritesFront R.remaining W.contents (seen_run binding F.line) reader.old writer.old writer.new
         result }
-    ensures at_memory { WritesFront R.remaining W.contents (seen_run F.line) reader.old writer.old writer.new result }
     ensures read { ReportsFailed EngineFault.Read result reader.new }
     ensures write { ReportsFailed EngineFault.Write result writer.new }
 {
     laws::looks_back();
-    let mut run = LineRun::new(alloc, Observer::new(alloc, form));
+    let mut run = LineRun::new(alloc, Observer::new(alloc, form, binding));
     run_to_end(alloc, &mut run, reader, writer)
 }

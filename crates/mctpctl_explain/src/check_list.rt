@@ -57,7 +57,7 @@ fn duplicate_text(alloc: Global, number: i64, earlier: &Path<'_>) -> Result<Stri
 }
 
 /// The entries of a list, each a table.
-fn entries<'t, 'a>(
+pub(crate) fn entries<'t, 'a>(
     alloc: Global,
     table: &'t Table,
     list: &'a str,
@@ -75,7 +75,7 @@ fn entries<'t, 'a>(
 }
 
 /// The table of an entry.
-fn table_of<'t, 'a>(
+pub(crate) fn table_of<'t, 'a>(
     alloc: Global,
     entry: &'t Value,
     path: Path<'a>,
@@ -119,7 +119,7 @@ pub(crate) enum EntryKind {
 
 impl EntryKind {
     /// The key of the list of these entries.
-    fn key(self) -> &'static str {
+    pub(crate) fn key(self) -> &'static str {
         match self {
             EntryKind::NumericSensor => "numeric_sensor",
             EntryKind::StateSensor => "state_sensor",
@@ -159,7 +159,7 @@ pub(crate) fn entries_of<'a>(
 }
 
 /// The data size of an entry.
-fn size_at<'a>(alloc: Global, entry: &Table, path: Path<'a>) -> Result<Size, Stop<'a>> {
+pub(crate) fn size_at<'a>(alloc: Global, entry: &Table, path: Path<'a>) -> Result<Size, Stop<'a>> {
     let (value, at) = any_at(alloc, entry, path, "size", "the name of a data size")?;
     size(alloc, value, at)
 }

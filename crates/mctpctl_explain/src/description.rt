@@ -2,6 +2,7 @@
 
 use crate::check::{busy_time, bytes, number, range_text, refused, value_at};
 use crate::check_list::{EntryKind, Given, entries_of};
+use crate::check_records::records_if_there;
 use crate::finding::{Finding, Path, Stop};
 use crate::key_places::{KeyPlace, key_places};
 use crate::place::Place;
@@ -10,6 +11,9 @@ use pldm_device::FileFault;
 use pldm_wire::{TIME_BYTES, VersionData};
 use std::alloc::Global;
 use toml::Table;
+
+/// The most bytes of versions whose checksum is appended.
+const MAX_CHECKED_BYTES: usize = 28;
 
 /// Says what is wrong with a description that was refused for this: the key, its line and column, what was
 /// found and what is allowed; for text that is no TOML the parser's own message.
@@ -107,6 +111,7 @@ fn check(alloc: Global, table: &Table) -> Result<(), Stop<'static>> {
     number_at(alloc, table, "tid", 0, 254)?;
     versions_at(alloc, table, "version0")?;
     versions_at(alloc, table, "version2")?;
+    checksum_if_there(alloc, table)?;
     time_at(alloc, table, "update_time")?;
     time_at(alloc, table, "oem_update_time")?;
     let mut sensors = Given::new(alloc);
@@ -115,7 +120,8 @@ fn check(alloc: Global, table: &Table) -> Result<(), Stop<'static>> {
     let mut effecters = Given::new(alloc);
     entries_of(alloc, table, EntryKind::NumericEffecter, &mut effecters)?;
     entries_of(alloc, table, EntryKind::StateEffecter, &mut effecters)?;
-    entries_of(alloc, table, EntryKind::Record, &mut Given::new(alloc))
+    entries_of(alloc, table, EntryKind::Record, &mut Given::new(alloc))?;
+    records_if_there(alloc, table)
 }
 
 fn number_at(
@@ -163,6 +169,36 @@ fn versions_at(alloc: Global, table: &Table, key: &'static str) -> Result<(), St
         Some(_) => Ok(()),
         None => Err(refused(alloc, path, FileFault::OutOfRange, value, allowed)),
     }
+}
+
+/// Whether the checksum of the versions is appended, whose key may be missing. Then they are one less.
+fn checksum_if_there(alloc: Global, table: &Table) -> Result<(), Stop<'static>> {
+    let Some(value) = table.get("version_checksum") else {
+        return Ok(());
+    };
+    match value.as_bool() {
+        Some(true) => {
+            fewer_versions_at(alloc, table, "version0")?;
+            fewer_versions_at(alloc, table, "version2")
+        }
+        Some(false) => Ok(()),
+        None => {
+            let path = Path::top("version_checksum");
+            Err(refused(alloc, path, FileFault::WrongKind, value, "true or false"))
+        }
+    }
+}
+
+/// Versions with room for their checksum after them.
+fn fewer_versions_at(alloc: Global, table: &Table, key: &'static str) -> Result<(), Stop<'static>> {
+    let allowed = "hex text of 1 to 7 versions of 4 bytes, since version_checksum appends 4 more";
+    let path = Path::top(key);
+    let value = value_at(alloc, table, path, key, allowed)?;
+    let bytes = bytes(alloc, value, path, allowed)?;
+    if bytes.len() > MAX_CHECKED_BYTES {
+        return Err(refused(alloc, path, FileFault::OutOfRange, value, allowed));
+    }
+    Ok(())
 }
 
 fn time_at(alloc: Global, table: &Table, key: &'static str) -> Result<(), Stop<'static>> {

@@ -8,7 +8,7 @@ use toml::Value;
 /// The path of a value in a description, as `numeric_effecter[2].max`.
 #[derive(Clone, Copy, Debug)]
 pub(crate) struct Path<'a> {
-    /// The list, where the value is in one.
+    /// The list or the table, where the value is in one.
     pub(crate) list: Option<&'a str>,
     /// Which entry of the list, counted from 0.
     pub(crate) entry: Option<usize>,
@@ -25,6 +25,16 @@ impl<'a> Path<'a> {
             list: None,
             entry: None,
             key: Some(key),
+            items: [None, None],
+        }
+    }
+
+    /// A table of the whole description.
+    pub(crate) fn table(name: &'a str) -> Path<'a> {
+        Path {
+            list: Some(name),
+            entry: None,
+            key: None,
             items: [None, None],
         }
     }

@@ -9,7 +9,7 @@ use crate::divided::Divided;
 use crate::explanation::Subject;
 use crate::finding::Path;
 use crate::key_places::KeyPlace;
-use crate::known_keys::{LISTS, TOP_KEYS, entry_keys};
+use crate::known_keys::{LISTS, RECORDS_KEYS, TOP_KEYS, entry_keys};
 use crate::limits::MAX_WARNINGS;
 use crate::suggest::suggestion;
 use crate::words::quoted;
@@ -110,8 +110,38 @@ fn unknown_keys(alloc: Global, description: &[u8], found: &mut Vec<String>) -> R
             found,
         )?;
     }
+    unknown_in_records(alloc, description, &places, &table, found)?;
     for list in LISTS.iter() {
         unknown_in_list(alloc, description, &places, &table, list, found)?;
+    }
+    Ok(())
+}
+
+/// The keys of the table `records` that are ignored.
+fn unknown_in_records(
+    alloc: Global,
+    description: &[u8],
+    places: &[KeyPlace],
+    table: &Table,
+    found: &mut Vec<String>,
+) -> Result<(), Memory> {
+    let Some(value) = table.get("records") else {
+        return Ok(());
+    };
+    let Some(records) = value.as_table() else {
+        return Ok(());
+    };
+    for key in records.keys() {
+        let path = Path::table("records").key(key.as_str());
+        warn_of_key(
+            alloc,
+            description,
+            places,
+            path,
+            key.as_str(),
+            &RECORDS_KEYS,
+            found,
+        )?;
     }
     Ok(())
 }

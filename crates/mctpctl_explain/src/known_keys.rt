@@ -1,7 +1,7 @@
 //! The keys of a description.
 
 /// The keys of the whole description.
-pub(crate) const TOP_KEYS: [&str; 14] = [
+pub(crate) const TOP_KEYS: [&str; 16] = [
     "eid",
     "keep_ms",
     "window",
@@ -9,6 +9,7 @@ pub(crate) const TOP_KEYS: [&str; 14] = [
     "tid",
     "version0",
     "version2",
+    "version_checksum",
     "update_time",
     "oem_update_time",
     "numeric_sensor",
@@ -16,7 +17,11 @@ pub(crate) const TOP_KEYS: [&str; 14] = [
     "numeric_effecter",
     "state_effecter",
     "pdr",
+    "records",
 ];
+
+/// The keys of the table `records`.
+pub(crate) const RECORDS_KEYS: [&str; 2] = ["name", "entity"];
 
 /// The keys of the lists, in the order in which they are looked at.
 pub(crate) const LISTS: [&str; 5] = [
@@ -30,13 +35,44 @@ pub(crate) const LISTS: [&str; 5] = [
 /// The keys of an entry of a list.
 pub(crate) fn entry_keys(list: &str) -> &'static [&'static str] {
     if list == "numeric_sensor" {
-        &["id", "size", "states", "value"]
+        &[
+            "id",
+            "size",
+            "states",
+            "value",
+            "name",
+            "entity",
+            "unit",
+            "modifier",
+            "warning_high",
+            "critical_high",
+            "fatal_high",
+            "warning_low",
+            "critical_low",
+            "fatal_low",
+            "normal_max",
+            "normal_min",
+            "nominal",
+        ]
     } else if list == "state_sensor" {
-        &["id", "fields"]
+        &["id", "fields", "name", "entity", "state_set"]
     } else if list == "numeric_effecter" {
-        &["id", "size", "min", "max", "value"]
+        &[
+            "id",
+            "size",
+            "min",
+            "max",
+            "value",
+            "name",
+            "entity",
+            "unit",
+            "modifier",
+            "normal_max",
+            "normal_min",
+            "nominal",
+        ]
     } else if list == "state_effecter" {
-        &["id", "allowed", "values"]
+        &["id", "allowed", "values", "name", "entity", "state_set"]
     } else {
         &["hex"]
     }

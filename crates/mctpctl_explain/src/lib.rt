@@ -4,6 +4,7 @@
 mod capture_line;
 mod check;
 mod check_list;
+mod check_records;
 mod command_form;
 mod description;
 mod divided;

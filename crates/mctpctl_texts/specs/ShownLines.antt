@@ -32,6 +32,10 @@ spaced_line (word ∷ next ∷ more) = word ++ 32 ∷ spaced_line (next ∷ more
 abbrev pub drop_text : Reason → List ℕ
 drop_text reason = codes "drop " ++ name_of reason
 
+-- of bytes that are no frame, for the reason of this name
+abbrev pub no_frame_text : List ℕ → List ℕ
+no_frame_text name = codes "no frame: " ++ name
+
 -- a byte as two lower-case hex digits
 abbrev pub byte_text : ℕ → List ℕ
 byte_text byte = encode_lower (byte ∷ [])
@@ -116,7 +120,8 @@ module _ (line : List ℕ → List ℕ) where
   completed_text Partial = []
   completed_text (Dropped reason) = []
 
-  -- what is written of the bytes that came at this moment; `gives` says what the packet that they spell gave
-  abbrev pub shown_text : ℕ → Result Packet Reason → (Packet → Fed) → List ℕ
-  shown_text moment (Err reason) gives = spaced_line (decimal moment ∷ drop_text reason ∷ [])
+  -- what is written of the bytes that came at this moment: they spell a packet, and `gives` says what it gave; or they
+  -- spell none, and these words say why
+  abbrev pub shown_text : ℕ → Result Packet (List ℕ) → (Packet → Fed) → List ℕ
+  shown_text moment (Err words) gives = spaced_line (decimal moment ∷ words ∷ [])
   shown_text moment (Ok p) gives = packet_line moment p (gives p) ++ completed_text (gives p)

@@ -3,7 +3,7 @@
 ghost use Rattle.std.specs.Prelude.{◌≡◌, ◌++◌, ◌∷◌, [], codes, length};
 ghost use Rattle.std.specs.Fmt.{decimal};
 ghost use Rattle.mctp_assembly.specs.Fed.{fed_with};
-ghost use Rattle.mctpctl_texts.specs.ShownLines.{bits_text, drop_text, fed_text, packet_line, spaced_line};
+ghost use Rattle.mctpctl_texts.specs.ShownLines.{bits_text, drop_text, fed_text, no_frame_text, packet_line, spaced_line};
 ghost use Rattle.mctpctl_texts.specs.Writers.{Wrote};
 
 use crate::parts::{write_drop_line, write_number, write_text};
@@ -128,4 +128,34 @@ pub fn write_no_packet_line<O: TextWriter>(
     write_number(out, moment)?;
     write_text(out, " ")?;
     write_drop_line(out, reason)
+}
+
+/// Writes the line of bytes that are no frame, for the reason of this name.
+pub fn write_no_frame_line<O: TextWriter>(
+    out: &mut O,
+    moment: u64,
+    name: &str,
+) -> Result<(), O::Refusal>
+    ensures { Wrote O.contents O.failed O.refused out.old out.new
+        (spaced_line (decimal moment ∷ no_frame_text name.now ∷ [])) result }
+{
+    write_number(out, moment)?;
+    write_no_frame(out, name)
+}
+
+/// Writes a space, that bytes are no frame for the reason of this name, and the end of the line.
+fn write_no_frame<O: TextWriter>(out: &mut O, name: &str) -> Result<(), O::Refusal>
+    ensures { Wrote O.contents O.failed O.refused out.old out.new
+        (32 ∷ (no_frame_text name.now ++ 10 ∷ [])) result }
+{
+    write_text(out, " no frame: ")?;
+    write_last(out, name)
+}
+
+/// Writes the last word of a line, and the end of the line.
+fn write_last<O: TextWriter>(out: &mut O, word: &str) -> Result<(), O::Refusal>
+    ensures { Wrote O.contents O.failed O.refused out.old out.new (word.now ++ 10 ∷ []) result }
+{
+    write_text(out, word)?;
+    write_text(out, "\n")
 }

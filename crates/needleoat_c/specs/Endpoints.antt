@@ -8,12 +8,18 @@ use Rattle.mctp_packet.specs.Reasons.{number_of}
 use Rattle.mctp_packet.specs.Refusals.{is_eid}
 use Rattle.mctp_packet.specs.declared.TheConstants.{MAX_MOMENT}
 use Rattle.pldm_wire.specs.Commands.{kind_of}
+use Rattle.pldm_wire.specs.HandingOn.{hands_on, none_handed_on}
 use Rattle.pldm_wire.specs.Kinds.{TypeAndCommand}
+use Rattle.pldm_wire.specs.Requests.{Request}
 use Rattle.pldm_wire.specs.declared.answer.Answer.{Answer}
 use Rattle.pldm_wire.specs.declared.assigned.TheConstants.{INSTANCE_IDS}
 use Rattle.pldm_wire.specs.declared.busy_time.BusyTime.{BusyTime}
 use Rattle.pldm_wire.specs.declared.busy_time.BusyTime.TheVariants.{All, Sets}
 use Rattle.pldm_wire.specs.declared.command.Command.{Command}
+use Rattle.pldm_wire.specs.declared.handed_on.HandedOn.{HandedOn}
+use Rattle.pldm_wire.specs.declared.limits.TheConstants.{MAX_RESPONSE_DATA}
+use Rattle.pldm_responder.specs.Asked.{Given}
+use Rattle.pldm_responder.specs.Asked as given
 use Rattle.pldm_responder.specs.Looking.{ended_by}
 use Rattle.pldm_responder.specs.OpenOrder.{ended_held}
 use Rattle.pldm_responder.specs.Answering.{answering}
@@ -28,26 +34,28 @@ use Rattle.pldm_responder.specs.declared.keeping.Keeping.{Keeping}
 use Rattle.pldm_responder.specs.declared.outcome.Outcome.{Outcome}
 use Rattle.pldm_responder.specs.declared.outcome.MessageOutcome.{MessageOutcome}
 use Rattle.pldm_responder.specs.declared.outcome.Outcome.TheVariants.{Dropped, Partial, Answered}
+use Rattle.pldm_endpoint.specs.Giving.{busy_with, response_of}
 use Rattle.pldm_endpoint.specs.Receiving.{HasSameSettings, IsAsBefore, IsCommanded}
 use Rattle.pldm_endpoint.specs.Refusing.{refused_by}
 use Rattle.pldm_endpoint.specs.RequestKeys.{pending_at, request_key}
-use Rattle.pldm_endpoint.specs.TwoSteps.{answered_held, count_after, held_after, held_in, pending_after, received_step}
+use Rattle.pldm_endpoint.specs.TwoSteps.{answered_held, count_after, held_after, held_in, pending_after, received_step, request_at}
 use Rattle.pldm_endpoint.specs.declared.pending_commands.PendingCommand.{PendingCommand}
 use Rattle.pldm_endpoint.specs.declared.step.CommandHandle.{CommandHandle}
 use Rattle.pldm_endpoint.specs.declared.step.ReceiveRefusal.{ReceiveRefusal}
 use Rattle.pldm_endpoint.specs.declared.step.ReceiveRefusal.TheVariants.{Performing, BeingPerformed, Full, Sources, OpenMessages, Memory}
 use Rattle.pldm_endpoint.specs.declared.step.Step.{Step}
-use Rattle.pldm_endpoint.specs.declared.step.Step.TheVariants.{Perform, Done}
+use Rattle.pldm_endpoint.specs.declared.step.Step.TheVariants.{Perform, Respond, Done}
 use Rattle.needleoat_forms.specs.Answers.{answer_in}
 use Rattle.needleoat_forms.specs.Commands.{command_in}
 use Rattle.needleoat_forms.specs.declared.answer.AnswerFields.{AnswerFields}
 use Rattle.needleoat_forms.specs.declared.command.CommandFields.{CommandFields}
 use Rattle.needleoat_c.specs.EndpointHandles.{Inside}
-use Rattle.needleoat_c.specs.declared.kinds.TheConstants.{BUSY_ALL, BUSY_SETS, STEP_ANSWERED, STEP_DROPPED, STEP_PARTIAL, STEP_PERFORM, STEP_REFUSED}
+use Rattle.needleoat_c.specs.declared.kinds.TheConstants.{BUSY_ALL, BUSY_SETS, STEP_ANSWERED, STEP_DROPPED, STEP_PARTIAL, STEP_PERFORM, STEP_REFUSED, STEP_RESPOND}
 use Rattle.needleoat_c.specs.declared.refusals.TheConstants.{BAD_MOMENT, BEING_PERFORMED, NOTHING_THERE, NOT_ITS_ANSWER, NOT_PENDING}
 use Rattle.needleoat_c.specs.declared.refusals.TheConstants.{NO_MEMORY, OUT_OF_RANGE, OUT_OF_TURN, TOO_MANY_COMMANDS}
 use Rattle.needleoat_c.specs.declared.refusals.TheConstants.{TOO_MANY_OPEN_MESSAGES, TOO_MANY_SOURCES}
 use Rattle.needleoat_c.specs.declared.reports.HandleFields.{HandleFields}
+use Rattle.needleoat_c.specs.declared.reports.RequestFields.{RequestFields}
 use Rattle.needleoat_c.specs.declared.reports.StepReport.{StepReport}
 use Rattle.needleoat_c.specs.declared.settings.EndpointSettings.{EndpointSettings}
 use Rattle.needleoat_c.specs.declared.endpoint_handle.EndpointForC.{EndpointForC}
@@ -114,20 +122,25 @@ abbrev pub window_in : ℕ → ℕ
 window_in window = if window == 0 then INSTANCE_IDS else window
 
 abbrev pub busy_in : ℕ → BusyTime
-busy_in busy = if busy == BUSY_SETS then Sets else All
+busy_in busy = if busy == BUSY_SETS then Sets none_handed_on else All
+
+-- which requests are handed on as bytes
+abbrev pub handed_in : EndpointSettings → HandedOn
+handed_in s = record { pldm_types = s.pldm_types; unknown_commands = s.unknown_commands }
 
 abbrev pub keeping_in : EndpointSettings → Keeping
 keeping_in s = record { keep = s.keep_ms; window = window_in s.window; busy = busy_in s.busy }
 
 -- what it holds: at the first start that of a new one, whose last moment is this one; else that of one which restarts
 -- at this moment
-abbrev pub started : ℕ → Keeping → Bool → ℕ → Held (Unit {0})
-started own k true now = record (held_at_first own k.busy k.window k.keep tt) { last = now }
-started own k false now = restarted_held (held_at_first own k.busy k.window k.keep tt) now
+abbrev pub started : ℕ → HandedOn → Keeping → Bool → ℕ → Held (Unit {0})
+started own handed k true now = record (held_at_first own (busy_with handed k.busy) k.window k.keep tt) { last = now }
+started own handed k false now = restarted_held (held_at_first own (busy_with handed k.busy) k.window k.keep tt) now
 
 -- it was made with these settings at a moment: no command is pending, and no source has room for answers
 pub record IsMade (s : EndpointSettings) (now : ℕ) (new : Inside) : Type 0 where
-  pub held : IsHeld (held_in new) (started s.own (keeping_in s) s.first_start now)
+  pub held : IsHeld (held_in new) (started s.own (handed_in s) (keeping_in s) s.first_start now)
+  pub handed_on : new.handed_on ≡ handed_in s
   pub sources : new.end.bounds.sources ≡ s.sources
   pub open_messages : new.end.bounds.open_messages ≡ s.open_messages
   pub ends_oldest : new.end.ends_oldest ≡ true
@@ -191,6 +204,7 @@ ReportsOutcome (Answered fresh changed packets) r rooms =
 
 abbrev pub ReportsStep : Step → StepReport → List (List ℕ) → Type 0
 ReportsStep (Perform handle) r rooms = HasNumbers STEP_PERFORM 0 false false 0 (fields_of handle) r
+ReportsStep (Respond handle) r rooms = HasNumbers STEP_RESPOND 0 false false 0 (fields_of handle) r
 ReportsStep (Done outcome) r rooms = ReportsOutcome outcome r rooms
 
 -- ---- packets that come ----
@@ -207,7 +221,7 @@ number_of_refusal (Memory memory) = NO_MEMORY
 -- what becomes of it; it is refused for want of memory only where it may want some
 abbrev pub ReportsTaken : ℕ → List ℕ → StepReport → List (List ℕ) → Inside → Type 0
 ReportsTaken now bytes r rooms inside =
-    ReportsStep (received_step (held_in inside) now bytes inside.count) r rooms
+    ReportsStep (received_step inside.handed_on (held_in inside) now bytes inside.count) r rooms
     ⊎ (IsRefused NO_MEMORY r × (NeedsMemory (held_in inside) true now bytes ⊎ IsCommanded inside now bytes))
 
 -- it is refused where the endpoint refuses it whatever memory there is, with the number of its reason
@@ -228,9 +242,9 @@ ReportsPacket now bytes r rooms (Some inside) = ReportsPacketIn now bytes r room
 -- what an endpoint holds that received a packet, what is pending there, and which sources have room for answers; where the
 -- packet begins a message for which there was no room, the oldest that was open has ended
 pub record IsReceived (now : ℕ) (bytes : List ℕ) (old new : Inside) : Type 0 where
-  pub held : IsHeld (held_in new) (ended_held (ended_by old.end bytes) (held_after (held_in old) now bytes))
-  pub pending : new.pending ≡ pending_after (held_in old) now bytes old.pending old.count
-  pub count : new.count ≡ count_after (held_in old) now bytes old.count
+  pub held : IsHeld (held_in new) (ended_held (ended_by old.end bytes) (held_after old.handed_on (held_in old) now bytes))
+  pub pending : new.pending ≡ pending_after old.handed_on (held_in old) now bytes old.pending old.count
+  pub count : new.count ≡ count_after old.handed_on (held_in old) now bytes old.count
   pub room : AreRowsAfter (held_in old) old.end.rows (received_arrival (held_in old) now bytes) new.end.rows
   pub settings : HasSameSettings new old
 
@@ -242,7 +256,7 @@ IsLeftByPacket now bytes kind old new =
 -- the fields are those of the command that is pending
 abbrev pub AreOf : Option PendingCommand → CommandFields → Type 0
 AreOf None fields = ⊥
-AreOf (Some a) fields = (fields.instance_id ≡ 0) × (command_in fields ≡ Some a.command)
+AreOf (Some a) fields = (fields.instance_id ≡ 0) × IsSome a.command × (command_in fields ≡ a.command)
 
 -- where a command is to be performed, its fields are there; else they are as before
 abbrev pub HasCommand : ℕ → Option PendingCommand → CommandFields → CommandFields → Type 0
@@ -262,23 +276,36 @@ given_to command fields =
     if nat_lt fields.instance_id INSTANCE_IDS then given_in (kind_of command) fields (answer_in fields)
     else Err OUT_OF_RANGE
 
--- the same, of the command that is pending, if one is
+-- the same, of the command that is pending, if one is: a request that was handed on as bytes has none
+abbrev pub given_for_command : Option Command → AnswerFields → Result Answer ℕ
+given_for_command None fields = Err NOT_ITS_ANSWER
+given_for_command (Some command) fields = given_to command fields
+
 abbrev pub given_for : Option PendingCommand → AnswerFields → Result Answer ℕ
 given_for None fields = Err NOT_PENDING
-given_for (Some a) fields = given_to a.command fields
+given_for (Some a) fields = given_for_command a.command fields
 
--- it goes to the source of the request that its command is of, on the tag of that one's packets
-abbrev pub ReportsGiven : Result Answer ℕ → Option PendingCommand → ℕ → ℕ → StepReport → List (List ℕ) → Type 0
-ReportsGiven (Ok given) None own source r rooms = ⊥
-ReportsGiven (Ok given) (Some a) own source r rooms =
-    ReportsOutcome (outcome_of_answer own source a.tag a.request given) r rooms
-ReportsGiven (Err number) pending own source r rooms = IsRefused number r
+-- why there is no command to be answered
+abbrev pub unanswered : Option PendingCommand → ℕ
+unanswered None = NOT_PENDING
+unanswered (Some a) = NOT_ITS_ANSWER
+
+abbrev pub answered_by : Result Answer ℕ → Result Given ℕ
+answered_by (Ok answer) = Ok (given.Answered answer)
+answered_by (Err number) = Err number
+
+-- it goes to the source of the request, on the tag of that one's packets
+abbrev pub ReportsGiven : HandedOn → Result Given ℕ → Option PendingCommand → ℕ → ℕ → StepReport → List (List ℕ) → Type 0
+ReportsGiven handed (Ok given) None own source r rooms = ⊥
+ReportsGiven handed (Ok given) (Some a) own source r rooms =
+    ReportsOutcome (outcome_of_answer (hands_on handed) own source a.tag a.request given) r rooms
+ReportsGiven handed (Err number) pending own source r rooms = IsRefused number r
 
 abbrev pub ReportsAnswer : HandleFields → AnswerFields → StepReport → List (List ℕ) → Option Inside → Type 0
 ReportsAnswer handle fields r rooms None = IsRefused NOTHING_THERE r
 ReportsAnswer handle fields r rooms (Some inside) =
-    ReportsGiven (given_for (pending_under handle inside) fields) (pending_under handle inside) inside.end.own
-    handle.source r rooms
+    ReportsGiven inside.handed_on (answered_by (given_for (pending_under handle inside) fields))
+    (pending_under handle inside) inside.end.own handle.source r rooms
 
 -- the report of an answer that was handed in: of what it gave, with the packets of `reply`, or of why it was refused
 abbrev pub ReportsHandedIn : List ℕ → Result MessageOutcome ℕ → StepReport → List (List ℕ) → Type 0
@@ -291,9 +318,10 @@ IsReportedSo reply given handle fields inside =
     (r : StepReport) (rooms : List (List ℕ))
     → ReportsHandedIn reply given r rooms → ReportsAnswer handle fields r rooms (Some inside)
 
--- it is kept for that request, from its moment on, and its command is no longer pending
-pub record IsAnswered (handle : CommandHandle) (given : Answer) (old new : Inside) : Type 0 where
-  pub held : IsHeld (held_in new) (answered_held (held_in old) handle given (pending_at old.pending handle))
+-- it is kept for that request, from its moment on, which is no longer pending
+pub record IsAnswered (handle : CommandHandle) (given : Given) (old new : Inside) : Type 0 where
+  pub held :
+      IsHeld (held_in new) (answered_held old.handed_on (held_in old) handle given (pending_at old.pending handle))
   pub pending : new.pending ≡ map.remove old.pending (request_key handle.source handle.id)
   pub count : new.count ≡ old.count
   pub room : (source : ℕ) → has_row new.end.rows source ≡ has_row old.end.rows source
@@ -301,10 +329,50 @@ pub record IsAnswered (handle : CommandHandle) (given : Answer) (old new : Insid
   pub settings : HasSameSettings new old
 
 -- an answer that was refused changes nothing
-abbrev pub IsLeftByGiven : Result Answer ℕ → CommandHandle → Inside → Inside → Type 0
+abbrev pub IsLeftByGiven : Result Given ℕ → CommandHandle → Inside → Inside → Type 0
 IsLeftByGiven (Ok given) handle old new = IsAnswered handle given old new
 IsLeftByGiven (Err number) handle old new = new ≡ old
 
 abbrev pub IsLeftByAnswer : HandleFields → AnswerFields → Inside → Inside → Type 0
 IsLeftByAnswer handle fields old new =
-    IsLeftByGiven (given_for (pending_under handle old) fields) (handle_in handle) old new
+    IsLeftByGiven (answered_by (given_for (pending_under handle old) fields)) (handle_in handle) old new
+
+-- ---- responses to requests that were handed on as bytes ----
+
+-- the fields are those of this request
+pub record AreRequest (request : Request) (fields : RequestFields) : Type 0 where
+  pub pldm_type : fields.pldm_type ≡ request.kind.pldm_type
+  pub command : fields.command ≡ request.kind.command
+  pub length_is : fields.length ≡ length request.rest
+  pub bytes : take fields.length fields.«data» ≡ request.rest
+
+-- where something is pending, the fields are those of its request; else they are as before
+abbrev pub HasRequest : Bool → Option PendingCommand → RequestFields → RequestFields → Type 0
+HasRequest found None old new = (found ≡ false) × (new ≡ old)
+HasRequest found (Some a) old new = (found ≡ true) × AreRequest (request_at a.request) new
+
+-- the response to a request that was handed on, or why it is none: that of a command is none, and one is too long
+abbrev pub response_to_command : Option Command → ℕ → List ℕ → Result Given ℕ
+response_to_command (Some command) code bytes = Err NOT_ITS_ANSWER
+response_to_command None code bytes =
+    if nat_lt MAX_RESPONSE_DATA (length bytes) then Err OUT_OF_RANGE else Ok (response_of code bytes)
+
+abbrev pub response_for : Option PendingCommand → ℕ → List ℕ → Result Given ℕ
+response_for None code bytes = Err NOT_PENDING
+response_for (Some a) code bytes = response_to_command a.command code bytes
+
+abbrev pub ReportsResponse : HandleFields → ℕ → List ℕ → StepReport → List (List ℕ) → Option Inside → Type 0
+ReportsResponse handle code bytes r rooms None = IsRefused NOTHING_THERE r
+ReportsResponse handle code bytes r rooms (Some inside) =
+    ReportsGiven inside.handed_on (response_for (pending_under handle inside) code bytes)
+    (pending_under handle inside) inside.end.own handle.source r rooms
+
+-- whatever the report of this is, it is one of the response
+abbrev pub IsResponseReportedSo : List ℕ → Result MessageOutcome ℕ → HandleFields → ℕ → List ℕ → Inside → Type 0
+IsResponseReportedSo reply given handle code bytes inside =
+    (r : StepReport) (rooms : List (List ℕ))
+    → ReportsHandedIn reply given r rooms → ReportsResponse handle code bytes r rooms (Some inside)
+
+abbrev pub IsLeftByResponse : HandleFields → ℕ → List ℕ → Inside → Inside → Type 0
+IsLeftByResponse handle code bytes old new =
+    IsLeftByGiven (response_for (pending_under handle old) code bytes) (handle_in handle) old new

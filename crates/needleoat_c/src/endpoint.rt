@@ -6,21 +6,23 @@ ghost use Rattle.pldm_wire.specs.Answers.{IsAnswerTo};
 ghost use Rattle.pldm_wire.specs.Commands.{kind_of};
 ghost use Rattle.pldm_responder.specs.Answering.{answering};
 ghost use Rattle.pldm_endpoint.specs.RequestKeys.{pending_at};
-ghost use Rattle.pldm_endpoint.specs.TwoSteps.{held_in};
-ghost use Rattle.needleoat_c.specs.Endpoints.{AreOf, ArePackets, HasCommand, IsInFront, IsLeftByAnswer, IsLeftByPacket, IsLeftByRestart, IsMade, IsReportedSo, ReportsHandedIn, ReportsOutcome, ReportsPacketIn, given_to, is_next, keeping_in, number_of_refusal, pending_under, refusal_at};
+ghost use Rattle.pldm_endpoint.specs.TwoSteps.{IsOfCommand, held_in};
+ghost use Rattle.needleoat_c.specs.Endpoints.{AreOf, ArePackets, HasCommand, HasRequest, IsInFront, IsLeftByAnswer, IsLeftByPacket, IsLeftByResponse, IsLeftByRestart, IsMade, IsReportedSo, IsResponseReportedSo, ReportsHandedIn, ReportsOutcome, ReportsPacketIn, given_to, is_next, keeping_in, number_of_refusal, pending_under, refusal_at, unanswered};
 
-use crate::kinds::{STEP_ANSWERED, STEP_DROPPED, STEP_PARTIAL, STEP_REFUSED};
+use crate::kinds::{
+    STEP_ANSWERED, STEP_DROPPED, STEP_PARTIAL, STEP_PERFORM, STEP_REFUSED, STEP_RESPOND,
+};
 use crate::refusals::{
     BAD_MOMENT, BEING_PERFORMED, NO_MEMORY, NOT_ITS_ANSWER, NOT_PENDING, OUT_OF_RANGE, OUT_OF_TURN,
     TOO_MANY_COMMANDS, TOO_MANY_OPEN_MESSAGES, TOO_MANY_SOURCES,
 };
-use crate::reports::{HandleFields, StepReport};
+use crate::reports::{HandleFields, RequestFields, StepReport};
 use crate::settings::EndpointSettings;
 use mctp_packet::{
     Body, Eid, MAX_PACKET_BYTES, MAX_PACKETS, Moment, Route, UNIT, packet_at, write,
 };
 use needleoat_forms::{AnswerFields, CommandFields, put_answer_of};
-use pldm_endpoint::{CommandHandle, Endpoint, MessageStep, ReceiveRefusal};
+use pldm_endpoint::{AnswerRefusal, CommandHandle, Endpoint, MessageStep, ReceiveRefusal};
 use pldm_responder::{Bounds, Keeping, MessageOutcome};
 use pldm_wire::{Answer, Command, INSTANCE_IDS};
 use std::alloc::Global;
@@ -43,7 +45,8 @@ pub(crate) fn start(
         open_messages: settings.open_messages as usize,
     };
     let max_pending = settings.pending_commands as usize;
-    let mut endpoint = Endpoint::new(alloc, own, keeping, bounds, max_pending);
+    let handed_on = settings.handed_on();
+    let mut endpoint = Endpoint::new(alloc, own, keeping, handed_on, bounds, max_pending);
     if settings.first_start {
         endpoint.pass_time(now);
     } else {
@@ -96,8 +99,9 @@ pub(crate) fn receive(
     match endpoint.receive_message(now, packet, &mut reply) {
         Ok(MessageStep::Perform(handle)) => {
             put_command(endpoint, &handle, command);
-            StepReport::to_perform(&handle)
+            StepReport::asking(STEP_PERFORM, &handle)
         }
+        Ok(MessageStep::Respond(handle)) => StepReport::asking(STEP_RESPOND, &handle),
         Ok(MessageStep::Done(taken)) => report_of(&taken, &reply, packets),
         Err(refusal) => StepReport::without(STEP_REFUSED, refusal_number(refusal)),
     }
@@ -119,7 +123,7 @@ fn refusal_number(refusal: ReceiveRefusal) -> u8
 
 /// Puts the fields of the command that is pending under this handle.
 fn put_command(endpoint: &Endpoint, handle: &CommandHandle, fields: &mut CommandFields)
-    requires { IsSome (pending_at endpoint.now.pending handle.now) }
+    requires { IsOfCommand (pending_at endpoint.now.pending handle.now) }
     ensures { AreOf (pending_at endpoint.now.pending handle.now) fields.new }
 {
     match endpoint.command(handle) {
@@ -143,13 +147,66 @@ pub(crate) fn answer(
         return Err(NOT_PENDING);
     };
     let Some(command) = endpoint.command(&handle) else {
-        return Err(NOT_PENDING);
+        return Err(unanswered(endpoint, &handle));
     };
     let mut answer = Answer::SetTid;
     put_given(command, fields, &mut answer)?;
     match endpoint.answer_message(&handle, &answer, reply) {
         Ok(taken) => Ok(taken),
         Err(_) => unreachable!(),
+    }
+}
+
+/// Why there is no command to be answered under this handle: nothing is pending there, or a request that was handed on.
+fn unanswered(endpoint: &Endpoint, handle: &CommandHandle) -> u8
+    ensures { result ≡ unanswered (pending_at endpoint.now.pending handle.now) }
+{
+    match endpoint.request(handle) {
+        Some(_) => NOT_ITS_ANSWER,
+        None => NOT_PENDING,
+    }
+}
+
+/// Puts the request that is pending under a handle. The result is whether one is.
+pub(crate) fn put_request(
+    endpoint: &Endpoint,
+    handle: &HandleFields,
+    fields: &mut RequestFields,
+) -> bool
+    ensures { HasRequest result (pending_under handle.now endpoint.now) fields.old fields.new }
+{
+    let Some(handle) = handle.handle() else {
+        return false;
+    };
+    match endpoint.request(&handle) {
+        Some(request) => {
+            fields.set(&request);
+            true
+        }
+        None => false,
+    }
+}
+
+/// Hands in the device's response to the request that is pending under a handle, which was handed on as bytes. The
+/// message that answers it is put into `reply`. An `Err` has the number that says why the response was refused.
+pub(crate) fn answer_bytes(
+    endpoint: &mut Endpoint,
+    handle: &HandleFields,
+    code: u8,
+    rest: &[u8],
+    reply: &mut Body,
+) -> Result<MessageOutcome, u8>
+    ensures report { IsResponseReportedSo reply.new.items result handle.now code rest.now endpoint.old }
+    ensures left { IsLeftByResponse handle.now code rest.now endpoint.old endpoint.new }
+{
+    let Some(handle) = handle.handle() else {
+        return Err(NOT_PENDING);
+    };
+    match endpoint.answer_bytes_message(&handle, code, rest, reply) {
+        Ok(taken) => Ok(taken),
+        Err(AnswerRefusal::NotPending) => Err(NOT_PENDING),
+        Err(AnswerRefusal::OtherCommand) => Err(NOT_ITS_ANSWER),
+        Err(AnswerRefusal::TooLong) => Err(OUT_OF_RANGE),
     }
 }
 

@@ -2,13 +2,13 @@
 
 ghost use Rattle.std.specs.Prelude.{◌≡◌, ◌≢◌, ◌≤◌, ◌⊎◌, false, true};
 ghost use Rattle.mctp_packet.specs.declared.TheConstants.{MAX_MOMENT};
-ghost use Rattle.needleoat_c.specs.Endpoints.{HasCommand, IsLeft, IsLeftByAnswer, IsLeftByPacket, IsLeftByRestart, IsNew, IsSetup, IsUpheld, ReportsAnswer, ReportsPacket, pending, refusal_at};
+ghost use Rattle.needleoat_c.specs.Endpoints.{HasCommand, HasRequest, IsLeft, IsLeftByAnswer, IsLeftByPacket, IsLeftByResponse, IsLeftByRestart, IsNew, IsSetup, IsUpheld, ReportsAnswer, ReportsPacket, ReportsResponse, pending, refusal_at};
 
 use crate::endpoint;
 use crate::endpoint_handle::EndpointForC;
 use crate::kinds::STEP_REFUSED;
 use crate::refusals::{ALREADY_THERE, BAD_MOMENT, NO_MEMORY, NOTHING_THERE, OUT_OF_RANGE};
-use crate::reports::{HandleFields, StepReport};
+use crate::reports::{HandleFields, RequestFields, StepReport};
 use crate::settings::EndpointSettings;
 use mctp_packet::{Body, Eid, MAX_PACKET_BYTES, MAX_PACKETS, Moment};
 use needleoat_forms::{AnswerFields, CommandFields};
@@ -54,9 +54,10 @@ pub extern "C" fn needleoat_endpoint_new(
     }
 }
 
-/// Receives the bytes of a packet that came at a moment. Where the report says that a command is to be
-/// performed, its fields are in `command`, and the report has its handle; where it says that the packet is
-/// answered, the packets of the answer are in front of the rooms of `packets`.
+/// Receives the bytes of a packet that came at a moment. Where the report says that a command is to be performed, its
+/// fields are in `command`, and the report has its handle; where it says that a request is to be responded to, the
+/// report has its handle, and [`needleoat_endpoint_request`] puts it; where it says that the packet is answered, the
+/// packets of the answer are in front of the rooms of `packets`.
 #[unsafe(no_mangle)]
 pub extern "C" fn needleoat_endpoint_receive(
     alloc: Global,
@@ -103,6 +104,57 @@ pub extern "C" fn needleoat_endpoint_answer(
     let mut reply = Body::new();
     let mut inside = endpoint.handle.take(alloc);
     let given = endpoint::answer(&mut inside, handle, answer, &mut reply);
+    endpoint.handle.put(inside);
+    endpoint::report(&given, &reply, packets)
+}
+
+/// Puts the request that is pending under this handle into `request`, as it came: its PLDM type, its command and its
+/// data. The result is whether one is pending there; else `request` is as before.
+#[unsafe(no_mangle)]
+pub extern "C" fn needleoat_endpoint_request(
+    alloc: Global,
+    endpoint: &mut EndpointForC,
+    handle: &HandleFields,
+    request: &mut RequestFields,
+) -> bool
+    requires { IsUpheld endpoint.old }
+    ensures upheld { IsUpheld endpoint.new }
+    ensures request { HasRequest result (pending handle.now endpoint.old.handle.held) request.old request.new }
+    ensures left { endpoint.new.handle.held ≡ endpoint.old.handle.held }
+{
+    if !endpoint.is_live {
+        return false;
+    }
+    let inside = endpoint.handle.take(alloc);
+    let is_pending = endpoint::put_request(&inside, handle, request);
+    endpoint.handle.put(inside);
+    is_pending
+}
+
+/// Hands in the device's response to the request that is pending under this handle, which was handed on as bytes: its
+/// completion code, and at most 315 bytes of data. The report has the packets of the answer, or says why the response
+/// was refused; the request then stays pending, where it is.
+#[unsafe(no_mangle)]
+pub extern "C" fn needleoat_endpoint_answer_bytes(
+    alloc: Global,
+    endpoint: &mut EndpointForC,
+    handle: &HandleFields,
+    code: u8,
+    rest: &[u8],
+    packets: &mut [[u8; MAX_PACKET_BYTES]; MAX_PACKETS],
+) -> StepReport
+    requires { IsUpheld endpoint.old }
+    ensures upheld { IsUpheld endpoint.new }
+    ensures report { ReportsResponse handle.now code rest.now result packets.new endpoint.old.handle.held }
+    ensures left { IsLeft (IsLeftByResponse handle.now code rest.now)
+        endpoint.old.handle.held endpoint.new.handle.held }
+{
+    if !endpoint.is_live {
+        return StepReport::without(STEP_REFUSED, NOTHING_THERE);
+    }
+    let mut reply = Body::new();
+    let mut inside = endpoint.handle.take(alloc);
+    let given = endpoint::answer_bytes(&mut inside, handle, code, rest, &mut reply);
     endpoint.handle.put(inside);
     endpoint::report(&given, &reply, packets)
 }

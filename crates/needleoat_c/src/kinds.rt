@@ -21,6 +21,9 @@ pub const STEP_ANSWERED: u8 = 3;
 /// A command is to be performed.
 pub const STEP_PERFORM: u8 = 4;
 
+/// A request is handed on as bytes, and is to be responded to.
+pub const STEP_RESPOND: u8 = 5;
+
 /// The packet was refused, and all is as before.
 pub const RECEIVING_REFUSED: u8 = 0;
 

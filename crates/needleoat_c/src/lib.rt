@@ -15,11 +15,14 @@ mod requester_handle;
 mod settings;
 
 pub use endpoint_calls::{
-    needleoat_endpoint_answer, needleoat_endpoint_free, needleoat_endpoint_new,
-    needleoat_endpoint_receive, needleoat_endpoint_restart,
+    needleoat_endpoint_answer, needleoat_endpoint_answer_bytes, needleoat_endpoint_free,
+    needleoat_endpoint_new, needleoat_endpoint_receive, needleoat_endpoint_request,
+    needleoat_endpoint_restart,
 };
 pub use endpoint_handle::{EndpointForC, EndpointHandle, HiddenEndpoint};
-pub use reports::{DueReport, HandleFields, OpeningReport, PacketReport, StatusReport, StepReport};
+pub use reports::{
+    DueReport, HandleFields, OpeningReport, PacketReport, RequestFields, StatusReport, StepReport,
+};
 pub use requester_calls::{
     needleoat_requester_free, needleoat_requester_new, needleoat_requester_open,
     needleoat_requester_packet, needleoat_requester_receive, needleoat_requester_status,

@@ -1,13 +1,13 @@
 //! The reports that the calls return to C.
 
-ghost use Rattle.std.specs.Prelude.{◌≡◌, IfSome, false, is_some, true};
+ghost use Rattle.std.specs.Prelude.{◌≡◌, ◌≤◌, IfSome, false, is_some, length, true};
 ghost use Rattle.mctp_packet.specs.Refusals.{is_eid};
-ghost use Rattle.needleoat_c.specs.Endpoints.{HasNumbers, fields_of, handle_in, no_handle};
+ghost use Rattle.needleoat_c.specs.Endpoints.{AreRequest, HasNumbers, fields_of, handle_in, no_handle};
 
-use crate::kinds::STEP_PERFORM;
 use mctp_packet::{Eid, MAX_PACKETS};
 use pldm_endpoint::CommandHandle;
 use pldm_requester::MAX_OPEN;
+use pldm_wire::{MAX_REQUEST_DATA, RequestRef};
 
 /// A request that was opened, or why none was.
 #[repr(C)]
@@ -109,12 +109,12 @@ impl StatusReport {
     }
 }
 
-/// The handle of a command that was handed out: its number, and whose request it is of. No two commands of an endpoint
-/// have one number.
+/// The handle of what is asked of the device: its number, and whose request it is of. Nothing else that an endpoint
+/// asks has that number.
 #[repr(C)]
 #[derive(Drop)]
 pub struct HandleFields {
-    /// How many commands were handed out before.
+    /// How much was asked before.
     pub number: u64,
     /// The endpoint that the request came from.
     pub source: u8,
@@ -126,7 +126,7 @@ pub struct HandleFields {
 const _: () = prove!(size_of::<HandleFields>() == 16);
 
 impl HandleFields {
-    /// Those of no command.
+    /// Those of nothing that is asked.
     pub(crate) fn none() -> HandleFields
         ensures { result ≡ no_handle }
     {
@@ -137,7 +137,7 @@ impl HandleFields {
         }
     }
 
-    /// Those of a command that is handed out.
+    /// Those of what is asked under this handle.
     fn of(handle: &CommandHandle) -> HandleFields
         ensures value { result ≡ fields_of handle.now }
         ensures source { is_eid result.source ≡ true }
@@ -179,7 +179,7 @@ pub struct StepReport {
     pub count: u32,
     /// The length of each in bytes.
     pub lengths: [u32; MAX_PACKETS],
-    /// The handle of the command that is to be performed, else zeros.
+    /// The handle of the command that is to be performed, or of the request that is to be responded to, else zeros.
     pub handle: HandleFields,
 }
 
@@ -202,13 +202,44 @@ impl StepReport {
         }
     }
 
-    /// A command is to be performed.
-    pub(crate) fn to_perform(handle: &CommandHandle) -> StepReport
-        ensures numbers { HasNumbers STEP_PERFORM 0 false false 0 (fields_of handle.now) result }
+    /// Something is asked of the device: to perform a command, or to respond to a request.
+    pub(crate) fn asking(kind: u8, handle: &CommandHandle) -> StepReport
+        ensures numbers { HasNumbers kind 0 false false 0 (fields_of handle.now) result }
         ensures source { is_eid result.handle.source ≡ true }
     {
-        let mut report = StepReport::without(STEP_PERFORM, 0);
+        let mut report = StepReport::without(kind, 0);
         report.handle = HandleFields::of(handle);
         report
+    }
+}
+
+/// A request that was handed on as bytes.
+#[repr(C)]
+#[derive(Drop)]
+pub struct RequestFields {
+    /// Its PLDM type, 0 to 63.
+    pub pldm_type: u8,
+    /// Its command's number in that type.
+    pub command: u8,
+    /// How many bytes of data it has, at most [`MAX_REQUEST_DATA`].
+    pub length: u32,
+    /// Its data: the first of these.
+    pub data: [u8; MAX_REQUEST_DATA],
+}
+
+// As in `include/needleoat.h`.
+const _: () = prove!(size_of::<RequestFields>() == 324);
+
+impl RequestFields {
+    /// Takes the type, the command and the data of this request.
+    pub(crate) fn set(&mut self, request: &RequestRef<'_>)
+        requires { length request.now.rest ≤ MAX_REQUEST_DATA }
+        ensures { AreRequest request.now self.new }
+    {
+        let (kind, data) = (request.kind(), request.data());
+        self.pldm_type = kind.pldm_type;
+        self.command = kind.command;
+        self.length = data.len() as u32;
+        self.data[..data.len()].copy_from_slice(data);
     }
 }

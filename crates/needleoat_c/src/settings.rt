@@ -2,12 +2,12 @@
 
 ghost use Rattle.std.specs.Prelude.{◌≡◌, ◌≤◌, ◌↔◌, IsSome, IfSome};
 ghost use Rattle.pldm_wire.specs.declared.assigned.TheConstants.{INSTANCE_IDS};
-ghost use Rattle.needleoat_c.specs.Endpoints.{IsBusyKind, IsKeeping, busy_in, keeping_in, window_in};
+ghost use Rattle.needleoat_c.specs.Endpoints.{IsBusyKind, IsKeeping, busy_in, handed_in, keeping_in, window_in};
 
 use crate::kinds::{BUSY_ALL, BUSY_SETS};
 use mctp_packet::Keep;
 use pldm_responder::Keeping;
-use pldm_wire::{BusyTime, INSTANCE_IDS, Window};
+use pldm_wire::{BusyTime, HandedOn, INSTANCE_IDS, Window};
 
 /// What an endpoint is made with.
 #[repr(C)]
@@ -29,10 +29,15 @@ pub struct EndpointSettings {
     pub window: u32,
     /// Which requests are refused in the busy time, as `BUSY_ALL` or `BUSY_SETS`.
     pub busy: u32,
+    /// Whether of PLDM types 0 and 2 the requests are handed on as bytes whose command this profile does not read.
+    pub unknown_commands: bool,
+    /// The PLDM types of which each request is handed on as bytes: bit t stands for type t, and those of 0 and 2 for
+    /// nothing.
+    pub pldm_types: u64,
 }
 
 // As in `include/needleoat.h`.
-const _: () = prove!(size_of::<EndpointSettings>() == 28);
+const _: () = prove!(size_of::<EndpointSettings>() == 40);
 
 impl EndpointSettings {
     /// How it keeps answers, and what it refuses in the busy time, where these settings are in range.
@@ -44,6 +49,16 @@ impl EndpointSettings {
         let window = window_of(self.window)?;
         let busy = busy_of(self.busy)?;
         Some(Keeping { keep, window, busy })
+    }
+
+    /// Which requests are handed on as bytes.
+    pub(crate) fn handed_on(&self) -> HandedOn
+        ensures { result ≡ handed_in self.now }
+    {
+        HandedOn {
+            pldm_types: self.pldm_types,
+            unknown_commands: self.unknown_commands,
+        }
     }
 }
 
@@ -68,7 +83,7 @@ fn busy_of(number: u32) -> Option<BusyTime>
 {
     match number {
         BUSY_ALL => Some(BusyTime::All),
-        BUSY_SETS => Some(BusyTime::Sets),
+        BUSY_SETS => Some(BusyTime::Sets(HandedOn::NONE)),
         _ => None,
     }
 }

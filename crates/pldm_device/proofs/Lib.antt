@@ -1,6 +1,15 @@
 pub mod DocumentText
 pub mod Changed
 pub mod Counts
+mod EntityNumbers
+mod LongDivision
+mod WorkedChecksums
+mod LargestHandles
+mod HandlesApart
+mod RecordsMade
+mod ThingsRecorded
+mod TablesRecorded
+mod DescribedHandles
 pub mod Blank
 pub mod DescriptionLiterals
 pub mod WorkedDescriptions

@@ -1,10 +1,12 @@
 -- Every constant of the source, written a second time.
-use Rattle.std.proofs.Common.{◌≡◌, refl}
+use Rattle.std.proofs.Common.{◌≡◌, ◌*◌, ◌^◌, refl}
 use Rattle.pldm_device.specs.declared.limits.TheConstants.{MAX_ENTRIES, MAX_ID, MAX_BYTE}
 use Rattle.pldm_device.specs.declared.limits.TheConstants.{MAX_ALLOWED, MAX_SENSOR_STATE}
 use Rattle.pldm_device.specs.declared.limits.TheConstants.{SENSOR_ENABLED, NO_EVENTS, EFFECTER_ENABLED}
 use Rattle.pldm_device.specs.declared.limits.TheConstants.{REQUEST_SET, UNASSIGNED_TID, RESERVED_TID}
 use Rattle.pldm_device.specs.declared.limits.TheConstants.{UUID_BYTES, VERSION_BYTES, MAX_TID}
+use Rattle.pldm_device.specs.declared.limits.TheConstants.{MAX_NAME, MAX_NUMBER, TERMINUS_HANDLE, ONE}
+use Rattle.pldm_device.specs.declared.limits.TheConstants.{CHECKED_VERSION_BYTES}
 
 most_entries : MAX_ENTRIES ≡ 1000
 most_entries = refl
@@ -47,3 +49,19 @@ version_bytes = refl
 
 most_tid : MAX_TID ≡ 254
 most_tid = refl
+
+most_characters : MAX_NAME ≡ 128
+most_characters = refl
+
+most_number : MAX_NUMBER ≡ 65535
+most_number = refl
+
+terminus_handle : TERMINUS_HANDLE ≡ 1
+terminus_handle = refl
+
+-- the exponent 127 of real32
+one : ONE ≡ 127 * 2 ^ 23
+one = refl
+
+checked_version_bytes : CHECKED_VERSION_BYTES ≡ 36
+checked_version_bytes = refl

@@ -1,6 +1,7 @@
 -- What a few descriptions state, computed from the definitions.
 use Rattle.std.proofs.Common.{◌≡◌, ℕ, pos, List, [], ◌∷◌, ◌++◌, Ok, Err, codes, replicate, refl}
 use Rattle.pldm_wire.specs.Numbers.{sized}
+use Rattle.pldm_wire.specs.HandingOn.{none_handed_on}
 use Rattle.pldm_wire.specs.declared.busy_time.BusyTime.TheVariants.{All, Sets}
 use Rattle.pldm_wire.specs.declared.size.Size.TheVariants.{Uint8}
 use Rattle.pldm_device.specs.StateEffecters.{fields_of_states}
@@ -160,7 +161,7 @@ settings_of_its_own : stated (codes "window = 1\nbusy = 'sets'\n" ++ front) ≡ 
   eid = 9;
   keep = 1000;
   window = 1;
-  busy = Sets;
+  busy = Sets none_handed_on;
   device = record {
     tid = 1;
     base_versions = 0x00 ∷ 0xf0 ∷ 0xf0 ∷ 0xf1 ∷ [];

@@ -7,18 +7,19 @@ use Rattle.pldm_device.specs.Devices.{Device}
 use Rattle.pldm_device.specs.Documents.{document_of}
 use Rattle.pldm_device.specs.EffecterEntries.{numeric_effecters_in, state_effecters_in}
 use Rattle.pldm_device.specs.EndpointSettings.{busy_in, window_in}
-use Rattle.pldm_device.specs.HexValues.{time_in, versions_in}
+use Rattle.pldm_device.specs.HexValues.{time_in}
 use Rattle.pldm_device.specs.KeyValues.{◌>>=◌, number_at, value_at}
 use Rattle.pldm_device.specs.RecordEntries.{records_in}
+use Rattle.pldm_device.specs.RecordTables.{with_records}
 use Rattle.pldm_device.specs.SensorEntries.{numeric_sensors_in, state_sensors_in}
+use Rattle.pldm_device.specs.VersionChecksums.{both_versions_in}
 use Rattle.pldm_device.specs.declared.description.Description.{Description}
 use Rattle.pldm_device.specs.declared.description_fault.FileFault.{FileFault}
 
 -- the device with this terminus ID
 unfoldable pub device_of : ℕ → Members → Result Device FileFault
 device_of tid document = do
-  base_versions ← value_at (codes "version0") document >>= versions_in
-  platform_versions ← value_at (codes "version2") document >>= versions_in
+  versions ← both_versions_in document
   update_time ← value_at (codes "update_time") document >>= time_in
   oem_update_time ← value_at (codes "oem_update_time") document >>= time_in
   numeric_sensors ← numeric_sensors_in document
@@ -28,8 +29,8 @@ device_of tid document = do
   records ← records_in document
   Ok (record {
     tid = tid;
-    base_versions = base_versions;
-    platform_versions = platform_versions;
+    base_versions = versions.0;
+    platform_versions = versions.1;
     update_time = update_time;
     oem_update_time = oem_update_time;
     numeric_sensors = numeric_sensors;
@@ -46,7 +47,8 @@ description_of document = do
   window ← window_in document
   busy ← busy_in document
   tid ← number_at (codes "tid") 0 254 document
-  device ← device_of tid document
+  plain ← device_of tid document
+  device ← with_records eid document plain
   Ok (record { eid = eid; keep = keep; window = window; busy = busy; device = device })
 
 -- the description that some bytes state, or why they state none

@@ -1,6 +1,7 @@
 -- What a description says of how its endpoint treats requests: two keys, each of which may be missing.
 use Rattle.std.specs.Prelude.{ℕ, codes, List, Option, Some, None, Result, Ok, Err, if◌then◌else◌}
 use Rattle.toml.specs.Data.{Data, Members, get_member}
+use Rattle.pldm_wire.specs.HandingOn.{none_handed_on}
 use Rattle.pldm_wire.specs.SizeNames.{same_text}
 use Rattle.pldm_wire.specs.declared.busy_time.BusyTime.{BusyTime}
 use Rattle.pldm_wire.specs.declared.busy_time.BusyTime.TheVariants.{All, Sets}
@@ -20,7 +21,7 @@ window_in document = window_if_there (get_member (codes "window") document)
 abbrev pub busy_of_name : List ℕ → Result BusyTime FileFault
 busy_of_name name =
     if same_text name (codes "all") then Ok All
-    else if same_text name (codes "sets") then Ok Sets
+    else if same_text name (codes "sets") then Ok (Sets none_handed_on)
     else Err OutOfRange
 
 -- which requests are refused in the busy time; all of them where the key is missing

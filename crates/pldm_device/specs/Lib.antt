@@ -18,4 +18,14 @@ pub mod Entries
 pub mod SensorEntries
 pub mod EffecterEntries
 pub mod RecordEntries
+pub mod Crc32
+pub mod VersionChecksums
+pub mod UnitNames
+pub mod RecordNames
+pub mod RecordKeys
+pub mod MadeRecords
+pub mod SensorRecords
+pub mod EffecterRecords
+pub mod RecordTables
+pub mod RecordLaws
 pub mod Getters

@@ -12,11 +12,13 @@ use crate::device::SimDevice;
 use crate::document::read_document;
 use crate::effecter_entries::{numeric_effecters_in, state_effecters_in};
 use crate::endpoint_settings::{busy_in, window_in};
-use crate::hex_values::{time_in, versions_in};
+use crate::hex_values::time_in;
 use crate::keys::{number_at, value_at};
 use crate::limits::MAX_TID;
 use crate::record_entries::records_in;
+use crate::record_table::with_records;
 use crate::sensor_entries::{numeric_sensors_in, state_sensors_in};
+use crate::version_checksum::both_versions_in;
 use mctp_packet::{Eid, Keep, MAX_EID, MAX_KEEP, MIN_EID};
 use pldm_wire::{BusyTime, Window};
 use std::alloc::Global;
@@ -46,10 +48,22 @@ impl Description {
     /// - `tid` (0 to 254; 0 is that of a device that was given none, DSP0240, "GetTID");
     /// - `version0` and `version2`: the versions of PLDM types 0 and 2 as hex text, 4 to 32 bytes, a
     ///   multiple of 4;
+    /// - `version_checksum`, which may be missing and is false then: whether the CRC-32 of each of these lists is
+    ///   appended to it (DSP0240, "GetPLDMVersion command"), which makes `OutOfRange` of 32 bytes;
     /// - `update_time` and `oem_update_time`: the repository's times as hex text, 13 bytes;
     /// - the lists `numeric_sensor`, `state_sensor`, `numeric_effecter`, `state_effecter` and `pdr`
     ///   (the records, each with the key `hex`), of at most 1,000 entries each; a list that is
-    ///   missing has none.
+    ///   missing has none;
+    /// - the table `records`, which may be missing. Where it is, records are made after those of `pdr`, each with the
+    ///   handle after the largest one: a terminus locator; a name of the table's entity, from its key `name`; and then,
+    ///   for each sensor and each effecter in the order of the lists, its record and, where it has one, its name. The
+    ///   keys of the table are `name` (1 to 128 printed characters of ASCII) and `entity` (three numbers 0 to 65,535:
+    ///   type, instance and container), which an entry without one has too. Those of an entry are `name` and `entity`;
+    ///   of a numeric one `unit` (0 to 255, or one of "none", "degrees_c", "volts", "amps", "watts", "joules", "cfm",
+    ///   "rpm", "hertz", "seconds", "bits", "bytes", "percent", "pascals" and "counts"), `modifier` (-128 to 127) and,
+    ///   in its size, of a sensor alone `warning_high`, `critical_high`, `fatal_high`, `warning_low`, `critical_low`
+    ///   and `fatal_low`, and of both `normal_max`, `normal_min` and `nominal`; of one of states `state_set` (0 to
+    ///   65,535). Each of them may be missing, and without the table they are not looked at.
     ///
     /// Other keys are ignored. Bytes that are no such text are `Toml`. The keys are looked at in the
     /// order above, the entries of a list in turn, and at each key `MissingKey` comes before
@@ -80,7 +94,8 @@ fn in_document(alloc: Global, table: &Table) -> Result<Description, FileFault>
     let window = window_in(table)?;
     let busy = busy_in(table)?;
     let tid = number_at(table, "tid", 0, MAX_TID)?;
-    let device = device_in(alloc, table, tid as u8)?;
+    let plain = device_in(alloc, table, tid as u8)?;
+    let device = with_records(alloc, table, eid as u8, plain)?;
     Ok(Description {
         eid: Eid::new(eid as u8).unwrap(),
         keep: Keep::new(keep).unwrap(),
@@ -95,8 +110,7 @@ fn in_document(alloc: Global, table: &Table) -> Result<Description, FileFault>
 fn device_in(alloc: Global, table: &Table, tid: u8) -> Result<SimDevice, FileFault>
     ensures { IsOrMemory result (device_of tid (table_view table.now)) }
 {
-    let base_versions = versions_in(alloc, value_at(table, "version0")?)?;
-    let platform_versions = versions_in(alloc, value_at(table, "version2")?)?;
+    let (base_versions, platform_versions) = both_versions_in(alloc, table)?;
     let update_time = time_in(alloc, value_at(table, "update_time")?)?;
     let oem_update_time = time_in(alloc, value_at(table, "oem_update_time")?)?;
     let numeric_sensors = numeric_sensors_in(alloc, table)?;

@@ -6,6 +6,7 @@ ghost use Rattle.pldm_device.specs.BaseAnswers.{base_commands, commands_answer, 
 ghost use Rattle.pldm_records.specs.ById.{change_at, with_id};
 ghost use Rattle.pldm_platform.specs.Changes.{Changes};
 ghost use Rattle.pldm_device.specs.EffecterAnswers.{number_set, numeric_effecter_answered, set_number, set_states, state_effecter_answered, states_set};
+ghost use Rattle.pldm_device.specs.RecordTables.{recorded};
 ghost use Rattle.pldm_device.specs.SensorAnswers.{numeric_sensor_answered, sense, sensed, state_sensor_answered};
 
 use crate::limits::{EFFECTER_ENABLED, NO_EVENTS, RESERVED_TID, SENSOR_ENABLED, UNASSIGNED_TID};
@@ -21,6 +22,7 @@ use pldm_wire::{
 };
 use std::collections::BTreeMap;
 use std::marker::Model;
+use std::mem::replace;
 
 /// A simulated device: a terminus ID, sensors and effecters by their ID, platform data records, and
 /// what it tells of itself.
@@ -106,6 +108,14 @@ impl SimDevice {
             Some(record) => Some(record.as_slice()),
             None => None,
         }
+    }
+
+    // Puts these records in the place of the device's, which are given back.
+    pub(crate) fn replace_records(&mut self, records: Repository) -> Repository
+        ensures given { result ≡ self.old.records }
+        ensures after { self.new ≡ recorded self.old records }
+    {
+        replace(&mut self.records, records)
     }
 
     // Sets the terminus ID; `ERROR_INVALID_DATA` for one that no terminus has.

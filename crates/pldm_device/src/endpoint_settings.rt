@@ -6,7 +6,7 @@ ghost use Rattle.toml.specs.View.{table_view};
 
 use crate::description_fault::FileFault;
 use crate::keys::{number_in, text_in, value_if_any};
-use pldm_wire::{BusyTime, INSTANCE_IDS, Window};
+use pldm_wire::{BusyTime, HandedOn, INSTANCE_IDS, Window};
 use toml::Table;
 
 /// For how many instance IDs of a source answers are kept, from the key `window`; for all of them where it is missing.
@@ -37,7 +37,7 @@ fn busy_of_name(name: &str) -> Result<BusyTime, FileFault>
     if name == "all" {
         Ok(BusyTime::All)
     } else if name == "sets" {
-        Ok(BusyTime::Sets)
+        Ok(BusyTime::Sets(HandedOn::NONE))
     } else {
         Err(FileFault::OutOfRange)
     }

@@ -2,23 +2,33 @@
 #![tactic(auto)]
 
 mod control_table;
+mod crc32;
 mod description;
 mod description_fault;
 mod device;
 mod document;
 mod effecter_entries;
+mod effecter_records;
 mod endpoint_settings;
 mod entries;
 mod hex_values;
 mod keys;
 mod limits;
+mod made_records;
 mod number_lists;
 mod numeric;
 mod performing;
 mod record_entries;
+mod record_keys;
+pub mod record_laws;
+mod record_names;
+mod record_table;
 mod sensor_entries;
+mod sensor_records;
 mod size_names;
 mod state_effecter;
+mod unit_names;
+mod version_checksum;
 
 pub use control_table::ControlTable;
 pub use description::Description;

@@ -42,3 +42,18 @@ pub const UUID_BYTES: usize = 16;
 
 /// The bytes of a version in a control message (DSP0236, "Version field encoding").
 pub const VERSION_BYTES: usize = 4;
+
+/// The most characters of a name in a description; the number is this profile's.
+pub const MAX_NAME: usize = 128;
+
+/// The greatest number of two bytes, as those of an entity and a state set are.
+pub const MAX_NUMBER: u32 = 65_535;
+
+/// The handle by which the made records name the terminus; the number is this profile's.
+pub const TERMINUS_HANDLE: u16 = 1;
+
+/// The bits of the real32 1.
+pub const ONE: u32 = 0x3f80_0000;
+
+/// The most bytes of versions and their checksum (DSP0240, "GetPLDMVersion command").
+pub const CHECKED_VERSION_BYTES: usize = 36;

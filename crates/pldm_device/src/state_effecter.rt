@@ -65,9 +65,17 @@ impl StateEffecter {
         StateEffecter { allowed, states }
     }
 
+    /// The states that each field can take.
+    pub(crate) fn allowed(&self) -> &[AllowedStates]
+        ensures { result.now ≡ self.now.allowed }
+    {
+        self.allowed.as_slice()
+    }
+
     /// The state of each field.
     pub(crate) fn states(&self) -> &[u8]
-        ensures { result.now ≡ self.now.states }
+        ensures value { result.now ≡ self.now.states }
+        ensures range { IsComposite self.now.states }
     {
         self.states.as_slice()
     }

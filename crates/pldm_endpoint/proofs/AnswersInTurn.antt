@@ -11,21 +11,22 @@ use Rattle.std.specs.Ordering.{eq_by_cmp}
 use Rattle.mctp_packet.specs.declared.reason.Reason.{Reason}
 use Rattle.mctp_assembly.specs.Laws as assembly
 use Rattle.pldm_wire.specs.CommandReading.{command_of}
+use Rattle.pldm_wire.specs.HandingOn.{hands_on}
 use Rattle.pldm_wire.specs.Headers.{id_at}
 use Rattle.pldm_wire.specs.Requests.{Request, request_of}
-use Rattle.pldm_wire.specs.declared.answer.Answer.{Answer}
 use Rattle.pldm_wire.specs.declared.busy_time.BusyTime.{BusyTime}
 use Rattle.pldm_wire.specs.declared.command.Command.{Command}
+use Rattle.pldm_wire.specs.declared.handed_on.HandedOn.{HandedOn}
 use Rattle.pldm_responder.specs.Arrivals.{Arrival, Drop, Part, Whole, packets_back}
-use Rattle.pldm_responder.specs.Asked.{IsAsGiven, gives, over}
+use Rattle.pldm_responder.specs.Asked.{Given, IsAsGiven, IsGivenBy, gives, over}
 use Rattle.pldm_responder.specs.Calls.{Call, Received, Restart, Ended, outcome}
 use Rattle.pldm_responder.specs.Events.{Message}
 use Rattle.pldm_responder.specs.OutsideAnswers.{message_in, outcome_of_answer}
 use Rattle.pldm_responder.specs.Held.{Entry, Held, id_in}
 use Rattle.pldm_responder.specs.Laws.{IsLeftBy}
-use Rattle.pldm_responder.specs.Performing.{Rules, after_command, busy_reply, commands_at, commands_in, commands_of, next_after, reply}
+use Rattle.pldm_responder.specs.Performing.{Perform, Respond, Rules, Task, after_command, busy_reply, next_after, reply, tasks_at, tasks_in, tasks_of}
 use Rattle.pldm_responder.specs.Recency.{of_number, renewed, replaced, without}
-use Rattle.pldm_responder.specs.Steps.{arrival_commands, arrival_held, arrival_outcome, copied_packets, entry_for, entry_of, performs, received_arrival, received_commands, received_held, received_outcome, refuses_now, repeats, restarted_held, served}
+use Rattle.pldm_responder.specs.Steps.{arrival_asks, arrival_held, arrival_outcome, copied_packets, entry_for, entry_of, performs, received_arrival, received_held, received_outcome, received_tasks, refuses_now, repeats, restarted_held, served}
 use Rattle.pldm_responder.specs.declared.outcome.Outcome.TheVariants.{Answered}
 use Rattle.pldm_responder.proofs.AnswersFromOutside.{answer_decides, none_is_asked}
 use Rattle.pldm_responder.proofs.CallsLookBack.{ended_looks_back, new_looks_back, received_looks_back, restarted_looks_back, same_is_left}
@@ -34,30 +35,35 @@ use Rattle.pldm_responder.proofs.RecentFirst.{by_test, dropped, found_in_map, re
 use Rattle.pldm_responder.proofs.ServedRequests.{performed_outcome}
 use Rattle.pldm_endpoint.specs.RequestKeys.{PendingCommands, request_key, request_key_cmp, request_key_of}
 use Rattle.pldm_endpoint.specs.Histories.{AnsweredInTurn, AreUnderTheirIds, AskedLooksBack, EndedInTurn, IsFree, IsLeftInTurn, NewInTurn, ReceivedInTurn, RestartedInTurn, SameInTurn, TwoStepsAreOne, UnaskedLooksBack, entry_to_be, in_turn, to_be}
-use Rattle.pldm_endpoint.specs.TwoSteps.{command_at, count_after, entry_given, held_after, kept_by, pending_after, pending_by, request_in, stepped, unasked, waiting, with_waiting}
+use Rattle.pldm_endpoint.specs.TwoSteps.{arrival_tasks, asked_now, command_at, count_after, entry_given, held_after, kept_by, pending_after, pending_by, request_in, stepped, unasked, waiting, with_waiting}
 use Rattle.pldm_endpoint.specs.declared.pending_commands.PendingCommand.{PendingCommand}
 use Rattle.pldm_endpoint.specs.declared.pending_commands.RequestKey.{RequestKey}
 use Rattle.pldm_endpoint.proofs.KeyOrder.{request_keys_total}
 use Rattle.pldm_endpoint.proofs.PendingGlue.{numbered_is, one_key, whole_is}
 
--- ---- each command is counted
-by_command : (answers : ℕ → Answer) (count : ℕ) (r : Result Command ℕ) → after_command (in_turn answers) count r ≡ count + length (commands_in r)
-by_command answers count (Ok command) = omega arith
-by_command answers count (Err code) = omega arith
+-- ---- each thing that is asked is counted
+by_command : (handed : HandedOn) (answers : ℕ → Given) (count : ℕ) (r : Result Command ℕ) → after_command (in_turn handed answers) count r ≡ count + length (tasks_in r)
+by_command handed answers count (Ok command) = omega arith
+by_command handed answers count (Err code) = omega arith
 
-by_request : (answers : ℕ → Answer) (count : ℕ) (q : Result Request Reason) → next_after (in_turn answers) count q ≡ count + length (commands_at q)
-by_request answers count (Ok request) = by_command answers count (command_of request.kind request.rest)
-by_request answers count (Err reason) = omega arith
+by_handing : (handed : HandedOn) (answers : ℕ → Given) (count : ℕ) (t : Bool) (request : Request) (r : Result Command ℕ)
+    → (if t then count + 1 else after_command (in_turn handed answers) count r) ≡ count + length (if t then Respond request ∷ [] else tasks_in r)
+by_handing handed answers count true request r = omega arith
+by_handing handed answers count false request r = by_command handed answers count r
 
-pub by_performing : (answers : ℕ → Answer) (t : Bool) (count : ℕ) (q : Result Request Reason)
-    → (if t then next_after (in_turn answers) count q else count) ≡ count + length (if t then commands_at q else [])
-by_performing answers true count q = by_request answers count q
-by_performing answers false count q = omega arith
+by_request : (handed : HandedOn) (answers : ℕ → Given) (count : ℕ) (q : Result Request Reason) → next_after (in_turn handed answers) count q ≡ count + length (tasks_at (hands_on handed) q)
+by_request handed answers count (Ok request) = by_handing handed answers count (hands_on handed request.kind) request (command_of request.kind request.rest)
+by_request handed answers count (Err reason) = omega arith
 
-by_arrival : (answers : ℕ → Answer) (held : Held ℕ) (a : Arrival) → (arrival_held (in_turn answers) held a).state ≡ held.state + length (arrival_commands held a)
-by_arrival answers held (Drop reason) = omega arith
-by_arrival answers held Part = omega arith
-by_arrival answers held (Whole m) = by_performing answers (performs held m) held.state (request_of m.bytes)
+pub by_performing : (handed : HandedOn) (answers : ℕ → Given) (t : Bool) (count : ℕ) (q : Result Request Reason)
+    → (if t then next_after (in_turn handed answers) count q else count) ≡ count + length (if t then tasks_at (hands_on handed) q else [])
+by_performing handed answers true count q = by_request handed answers count q
+by_performing handed answers false count q = omega arith
+
+by_arrival : (handed : HandedOn) (answers : ℕ → Given) (held : Held ℕ) (a : Arrival) → (arrival_held (in_turn handed answers) held a).state ≡ held.state + length (arrival_asks held (tasks_of (hands_on handed)) a)
+by_arrival handed answers held (Drop reason) = omega arith
+by_arrival handed answers held Part = omega arith
+by_arrival handed answers held (Whole m) = by_performing handed answers (performs held m) held.state (request_of m.bytes)
 
 -- ---- keys that are not one
 not_one : (a b : RequestKey) → (a ≡ b → ⊥) → eq_by_cmp request_key_cmp a b ≡ false
@@ -68,9 +74,9 @@ not_one a b apart = by (eq_by_cmp request_key_cmp a b) refl
     by false is = refl
 
 -- ---- what is kept, once the device has answered
-number_by : (answers : ℕ → Answer) (o : Option PendingCommand) (e : Entry) → IfSome o (λ a. id_at a.request ≡ id_in e) → id_in (entry_to_be answers o e) ≡ id_in e
-number_by answers None e is = refl
-number_by answers (Some a) e is = is
+number_by : (handed : HandedOn) (answers : ℕ → Given) (o : Option PendingCommand) (e : Entry) → IfSome o (λ a. id_at a.request ≡ id_in e) → id_in (entry_to_be handed answers o e) ≡ id_in e
+number_by handed answers None e is = refl
+number_by handed answers (Some a) e is = is
 
 same_lists : {A B : Type 0} (f g : A → B) (xs : List A) → ((x : A) → f x ≡ g x) → list_map f xs ≡ list_map g xs
 same_lists f g xs same = λ i. list_map (λ x. same x i) xs
@@ -91,15 +97,15 @@ map_without f g n (x ∷ xs) same =
     ∙ sym (ap (list_map g) (stays id_in n x xs other)))
 
 -- ---- what is held once all is answered has the same entry where a request comes
-module _ (answers : ℕ → Answer) (count : ℕ) (pending : PendingCommands) (held : Held (Unit {0})) (ids : AreUnderTheirIds pending) where
+module _ (handed : HandedOn) (answers : ℕ → Given) (count : ℕ) (pending : PendingCommands) (held : Held (Unit {0})) (ids : AreUnderTheirIds pending) where
   abbrev later : Held (Unit {0})
-  later = to_be answers pending held
+  later = to_be handed answers pending held
 
   abbrev pub comes : ℕ → Entry → Entry
-  comes source e = entry_to_be answers (map.get pending (request_key source (id_in e))) e
+  comes source e = entry_to_be handed answers (map.get pending (request_key source (id_in e))) e
 
   comes_alike : (source : ℕ) (e : Entry) → id_in (comes source e) ≡ id_in e
-  comes_alike source e = number_by answers (map.get pending (request_key source (id_in e))) e (ids source (id_in e))
+  comes_alike source e = number_by handed answers (map.get pending (request_key source (id_in e))) e (ids source (id_in e))
 
   pub found_later : (source id : ℕ) → of_number id_in id (later.kept source) ≡ option_map (comes source) (of_number id_in id (held.kept source))
   found_later source id = found_in_map id_in id_in (comes source) (comes_alike source) id (held.kept source)
@@ -107,7 +113,7 @@ module _ (answers : ℕ → Answer) (count : ℕ) (pending : PendingCommands) (h
   free_stays : (source id : ℕ) (o : Option Entry) → map.get pending (request_key source id) ≡ None → IfSome o (λ e. Unit {0} × (id_in e ≡ id)) → option_map (comes source) o ≡ o
   free_stays source id None free is = refl
   free_stays source id (Some e) free is =
-      ap (λ n. Some (entry_to_be answers (map.get pending (request_key source n)) e)) is.1 ∙ ap (λ o. Some (entry_to_be answers o e)) free
+      ap (λ n. Some (entry_to_be handed answers (map.get pending (request_key source n)) e)) is.1 ∙ ap (λ o. Some (entry_to_be handed answers o e)) free
 
   same_entry : (m : Message) → map.get pending (request_key_of m) ≡ None → entry_for later m ≡ entry_for held m
   same_entry m free =
@@ -117,10 +123,10 @@ module _ (answers : ℕ → Answer) (count : ℕ) (pending : PendingCommands) (h
   same_performs : (m : Message) → map.get pending (request_key_of m) ≡ None → performs later m ≡ performs held m
   same_performs m free = ap (λ e. not (refuses_now held m) && not (repeats held.keep m e)) (same_entry m free)
 
-  pub same_commands : (a : Arrival) → IsFree pending (message_in a) → arrival_commands later a ≡ arrival_commands held a
+  pub same_commands : (a : Arrival) → IsFree pending (message_in a) → arrival_tasks handed later a ≡ arrival_tasks handed held a
   same_commands (Drop reason) free = refl
   same_commands Part free = refl
-  same_commands (Whole m) free = ap (λ t. if t then commands_of m.bytes else []) (same_performs m free)
+  same_commands (Whole m) free = ap (λ t. if t then tasks_of (hands_on handed) m.bytes else []) (same_performs m free)
 
   same_outcome : (device : Rules (Unit {0})) (a : Arrival) → IsFree pending (message_in a) → arrival_outcome device later a ≡ arrival_outcome device held a
   same_outcome device (Drop reason) free = refl
@@ -138,110 +144,114 @@ module _ (answers : ℕ → Answer) (count : ℕ) (pending : PendingCommands) (h
       ∙ ap (λ y. take held.window (renewed id_in y (later.kept source))) same
 
   kept_where_none : (m : Message) (source : ℕ) (p of : Bool) → (m.source == source) ≡ of → map.get pending (request_key_of m) ≡ None
-      → list_map (comes source) (if of && p then take held.window (renewed id_in (entry_of (gives unasked) held m) (held.kept source)) else held.kept source)
-      ≡ (if of && p then take held.window (renewed id_in (entry_of (gives unasked) later m) (later.kept source)) else later.kept source)
+      → list_map (comes source) (if of && p then take held.window (renewed id_in (entry_of (gives (hands_on handed) unasked) held m) (held.kept source)) else held.kept source)
+      ≡ (if of && p then take held.window (renewed id_in (entry_of (gives (hands_on handed) unasked) later m) (later.kept source)) else later.kept source)
   kept_where_none m source p false is free = refl
   kept_where_none m source false true is free = refl
   kept_where_none m source true true is free =
-      in_front_later source (entry_of (gives unasked) held m)
-      (ap (λ o. entry_to_be answers o (entry_of (gives unasked) held m)) (ap (λ s. map.get pending (request_key s (id_at m.bytes))) (sym (eqb-true m.source source is)) ∙ free))
+      in_front_later source (entry_of (gives (hands_on handed) unasked) held m)
+      (ap (λ o. entry_to_be handed answers o (entry_of (gives (hands_on handed) unasked) held m)) (ap (λ s. map.get pending (request_key s (id_at m.bytes))) (sym (eqb-true m.source source is)) ∙ free))
 
   kept_none : (a : Arrival) → IsFree pending (message_in a) → (source : ℕ)
-      → list_map (comes source) ((arrival_held (gives unasked) held a).kept source) ≡ (arrival_held (gives unasked) later a).kept source
+      → list_map (comes source) ((arrival_held (gives (hands_on handed) unasked) held a).kept source) ≡ (arrival_held (gives (hands_on handed) unasked) later a).kept source
   kept_none (Drop reason) free source = refl
   kept_none Part free source = refl
   kept_none (Whole m) free source =
       kept_where_none m source (performs held m) (m.source == source) refl free
-      ∙ ap (λ p. if m.source == source && p then take held.window (renewed id_in (entry_of (gives unasked) later m) (later.kept source)) else later.kept source) (sym (same_performs m free))
+      ∙ ap (λ p. if m.source == source && p then take held.window (renewed id_in (entry_of (gives (hands_on handed) unasked) later m) (later.kept source)) else later.kept source) (sym (same_performs m free))
 
   -- one that is asked for now
-  abbrev now_asked : Message → Command → PendingCommand
-  now_asked m command = command_at m count command
+  abbrev now_asked : Message → Task → PendingCommand
+  now_asked m task = command_at m count task
 
-  abbrev with_it : Message → Command → PendingCommands
-  with_it m command = map.insert pending (request_key_of m) (now_asked m command)
+  abbrev with_it : Message → Task → PendingCommands
+  with_it m task = map.insert pending (request_key_of m) (now_asked m task)
 
-  abbrev comes_with : Message → Command → ℕ → Entry → Entry
-  comes_with m command source e = entry_to_be answers (map.get (with_it m command) (request_key source (id_in e))) e
+  abbrev comes_with : Message → Task → ℕ → Entry → Entry
+  comes_with m task source e = entry_to_be handed answers (map.get (with_it m task) (request_key source (id_in e))) e
 
-  inserted_here : (m : Message) (command : Command) → map.get (with_it m command) (request_key_of m) ≡ Some (now_asked m command)
-  inserted_here m command =
-      map.get-insert request_keys_total pending (request_key_of m) (now_asked m command) (request_key_of m)
-      ∙ ap (λ t. cond t (Some (now_asked m command)) (map.get pending (request_key_of m))) ((eq_by_cmp_equiv request_keys_total).refl (request_key_of m))
+  inserted_here : (m : Message) (task : Task) → map.get (with_it m task) (request_key_of m) ≡ Some (now_asked m task)
+  inserted_here m task =
+      map.get-insert request_keys_total pending (request_key_of m) (now_asked m task) (request_key_of m)
+      ∙ ap (λ t. cond t (Some (now_asked m task)) (map.get pending (request_key_of m))) ((eq_by_cmp_equiv request_keys_total).refl (request_key_of m))
 
-  inserted_there : (m : Message) (command : Command) (key : RequestKey) → (key ≡ request_key_of m → ⊥) → map.get (with_it m command) key ≡ map.get pending key
-  inserted_there m command key apart =
-      map.get-insert request_keys_total pending (request_key_of m) (now_asked m command) key
-      ∙ ap (λ t. cond t (Some (now_asked m command)) (map.get pending key)) (not_one key (request_key_of m) apart)
+  inserted_there : (m : Message) (task : Task) (key : RequestKey) → (key ≡ request_key_of m → ⊥) → map.get (with_it m task) key ≡ map.get pending key
+  inserted_there m task key apart =
+      map.get-insert request_keys_total pending (request_key_of m) (now_asked m task) key
+      ∙ ap (λ t. cond t (Some (now_asked m task)) (map.get pending key)) (not_one key (request_key_of m) apart)
 
-  pub ids_with : (m : Message) (command : Command) → AreUnderTheirIds (with_it m command)
-  ids_with m command source id =
-      subst (λ o. IfSome o (λ a. id_at a.request ≡ id)) (sym (map.get-insert request_keys_total pending (request_key_of m) (now_asked m command) (request_key source id)))
+  pub ids_with : (m : Message) (task : Task) → AreUnderTheirIds (with_it m task)
+  ids_with m task source id =
+      subst (λ o. IfSome o (λ a. id_at a.request ≡ id)) (sym (map.get-insert request_keys_total pending (request_key_of m) (now_asked m task) (request_key source id)))
       (by_key (eq_by_cmp request_key_cmp (request_key source id) (request_key_of m)) refl)
     where
-      by_key : (t : Bool) → eq_by_cmp request_key_cmp (request_key source id) (request_key_of m) ≡ t → IfSome (cond t (Some (now_asked m command)) (map.get pending (request_key source id))) (λ a. id_at a.request ≡ id)
+      by_key : (t : Bool) → eq_by_cmp request_key_cmp (request_key source id) (request_key_of m) ≡ t → IfSome (cond t (Some (now_asked m task)) (map.get pending (request_key source id))) (λ a. id_at a.request ≡ id)
       by_key true is = sym (ap (λ (k : RequestKey). k.id) (one_key (request_key source id) (request_key_of m) is))
       by_key false is = ids source id
 
-  kept_where_asked : (m : Message) (command : Command) (source : ℕ) (of : Bool) → (m.source == source) ≡ of
-      → list_map (comes_with m command source) (if of then take held.window (renewed id_in (waiting m) (held.kept source)) else held.kept source)
-      ≡ (if of then take held.window (renewed id_in (entry_of (gives (answers count)) later m) (later.kept source)) else later.kept source)
-  kept_where_asked m command source false is =
-      same_lists (comes_with m command source) (comes source) (held.kept source)
-      (λ e. ap (λ o. entry_to_be answers o e) (inserted_there m command (request_key source (id_in e)) (λ same. absurd (eqb-false m.source source is (sym (ap (λ (k : RequestKey). k.source) same))))))
-  kept_where_asked m command source true is =
+  kept_where_asked : (m : Message) (task : Task) (source : ℕ) (of : Bool) → (m.source == source) ≡ of
+      → list_map (comes_with m task source) (if of then take held.window (renewed id_in (waiting m) (held.kept source)) else held.kept source)
+      ≡ (if of then take held.window (renewed id_in (entry_of (gives (hands_on handed) (answers count)) later m) (later.kept source)) else later.kept source)
+  kept_where_asked m task source false is =
+      same_lists (comes_with m task source) (comes source) (held.kept source)
+      (λ e. ap (λ o. entry_to_be handed answers o e) (inserted_there m task (request_key source (id_in e)) (λ same. absurd (eqb-false m.source source is (sym (ap (λ (k : RequestKey). k.source) same))))))
+  kept_where_asked m task source true is =
       let n = id_at m.bytes in
-      let here : comes_with m command source (waiting m) ≡ entry_of (gives (answers count)) later m =
-      ap (λ o. entry_to_be answers o (waiting m)) (ap (λ s. map.get (with_it m command) (request_key s n)) (sym (eqb-true m.source source is)) ∙ inserted_here m command) in
-      let others : list_map (comes_with m command source) (without id_in n (held.kept source)) ≡ without id_in n (later.kept source) =
-      map_without (comes_with m command source) (comes source) n (held.kept source)
-      (λ e apart. ap (λ o. entry_to_be answers o e) (inserted_there m command (request_key source (id_in e)) (λ same. apart (ap (λ (k : RequestKey). k.id) same))))
+      let here : comes_with m task source (waiting m) ≡ entry_of (gives (hands_on handed) (answers count)) later m =
+      ap (λ o. entry_to_be handed answers o (waiting m)) (ap (λ s. map.get (with_it m task) (request_key s n)) (sym (eqb-true m.source source is)) ∙ inserted_here m task) in
+      let others : list_map (comes_with m task source) (without id_in n (held.kept source)) ≡ without id_in n (later.kept source) =
+      map_without (comes_with m task source) (comes source) n (held.kept source)
+      (λ e apart. ap (λ o. entry_to_be handed answers o e) (inserted_there m task (request_key source (id_in e)) (λ same. apart (ap (λ (k : RequestKey). k.id) same))))
       ∙ sym (without_in_map id_in id_in (comes source) (comes_alike source) n (held.kept source)) in
-      sym (take-map (comes_with m command source) held.window (renewed id_in (waiting m) (held.kept source)))
+      sym (take-map (comes_with m task source) held.window (renewed id_in (waiting m) (held.kept source)))
       ∙ ap (take held.window) (λ i. here i ∷ others i)
 
-  performed_by : (t : Bool) (commands : List Command) (command : Command) → (if t then commands else []) ≡ command ∷ [] → t ≡ true
-  performed_by true commands command h = refl
-  performed_by false commands command h = cc
+  performed_by : (t : Bool) (tasks : List Task) (task : Task) → (if t then tasks else []) ≡ task ∷ [] → t ≡ true
+  performed_by true tasks task h = refl
+  performed_by false tasks task h = cc
 
   where_done : {A : Type 0} (of p : Bool) (x y : A) → p ≡ true → (if of then x else y) ≡ (if of && p then x else y)
   where_done true true x y h = refl
   where_done false p x y h = refl
   where_done true false x y h = cc
 
-  kept_asked : (m : Message) (command : Command) → map.get pending (request_key_of m) ≡ None → arrival_commands held (Whole m) ≡ command ∷ [] → (source : ℕ)
-      → list_map (comes_with m command source) ((with_waiting held m).kept source) ≡ (arrival_held (gives (answers count)) later (Whole m)).kept source
-  kept_asked m command free asked source =
-      let done : performs held m ≡ true = performed_by (performs held m) (commands_of m.bytes) command asked in
-      kept_where_asked m command source (m.source == source) refl
+  kept_asked : (m : Message) (task : Task) → map.get pending (request_key_of m) ≡ None → arrival_tasks handed held (Whole m) ≡ task ∷ [] → (source : ℕ)
+      → list_map (comes_with m task source) ((with_waiting held m).kept source) ≡ (arrival_held (gives (hands_on handed) (answers count)) later (Whole m)).kept source
+  kept_asked m task free asked source =
+      let done : performs held m ≡ true = performed_by (performs held m) (tasks_of (hands_on handed) m.bytes) task asked in
+      kept_where_asked m task source (m.source == source) refl
       ∙ where_done (m.source == source) (performs later m) _ _ (same_performs m free ∙ done)
 
-  -- ---- an arrival has at most one command
-  one_in : (r : Result Command ℕ) → (commands_in r ≡ []) ⊎ ((command : Command) × (commands_in r ≡ command ∷ []))
-  one_in (Ok command) = inr (command, refl)
+  -- ---- an arrival asks at most one thing
+  one_in : (r : Result Command ℕ) → (tasks_in r ≡ []) ⊎ ((task : Task) × (tasks_in r ≡ task ∷ []))
+  one_in (Ok command) = inr (Perform command, refl)
   one_in (Err code) = inl refl
 
-  one_at : (q : Result Request Reason) → (commands_at q ≡ []) ⊎ ((command : Command) × (commands_at q ≡ command ∷ []))
-  one_at (Ok request) = one_in (command_of request.kind request.rest)
+  one_by : (t : Bool) (request : Request) (r : Result Command ℕ) → ((if t then Respond request ∷ [] else tasks_in r) ≡ []) ⊎ ((task : Task) × ((if t then Respond request ∷ [] else tasks_in r) ≡ task ∷ []))
+  one_by true request r = inr (Respond request, refl)
+  one_by false request r = one_in r
+
+  one_at : (q : Result Request Reason) → (tasks_at (hands_on handed) q ≡ []) ⊎ ((task : Task) × (tasks_at (hands_on handed) q ≡ task ∷ []))
+  one_at (Ok request) = one_by (hands_on handed request.kind) request (command_of request.kind request.rest)
   one_at (Err reason) = inl refl
 
-  one_where : (t : Bool) (q : Result Request Reason) → ((if t then commands_at q else []) ≡ []) ⊎ ((command : Command) × ((if t then commands_at q else []) ≡ command ∷ []))
+  one_where : (t : Bool) (q : Result Request Reason) → ((if t then tasks_at (hands_on handed) q else []) ≡ []) ⊎ ((task : Task) × ((if t then tasks_at (hands_on handed) q else []) ≡ task ∷ []))
   one_where true q = one_at q
   one_where false q = inl refl
 
-  pub one_asked : (a : Arrival) → (arrival_commands held a ≡ []) ⊎ ((command : Command) × (arrival_commands held a ≡ command ∷ []))
+  pub one_asked : (a : Arrival) → (arrival_tasks handed held a ≡ []) ⊎ ((task : Task) × (arrival_tasks handed held a ≡ task ∷ []))
   one_asked (Drop reason) = inl refl
   one_asked Part = inl refl
   one_asked (Whole m) = one_where (performs held m) (request_of m.bytes)
 
-  pub message_of_asked : (a : Arrival) (command : Command) → arrival_commands held a ≡ command ∷ [] → (m : Message) × (a ≡ Whole m)
-  message_of_asked (Drop reason) command h = cc
-  message_of_asked Part command h = cc
-  message_of_asked (Whole m) command h = (m, refl)
+  pub message_of_asked : (a : Arrival) (task : Task) → arrival_tasks handed held a ≡ task ∷ [] → (m : Message) × (a ≡ Whole m)
+  message_of_asked (Drop reason) task h = cc
+  message_of_asked Part task h = cc
+  message_of_asked (Whole m) task h = (m, refl)
 
-performed_where : (t : Bool) (commands : List Command) (command : Command) → (if t then commands else []) ≡ command ∷ [] → t ≡ true
-performed_where true commands command h = refl
-performed_where false commands command h = cc
+performed_where : (t : Bool) (tasks : List Task) (task : Task) → (if t then tasks else []) ≡ task ∷ [] → t ≡ true
+performed_where true tasks task h = refl
+performed_where false tasks task h = cc
 
 -- ---- what an arrival does not change
 module _ {S : Type 0} (device : Rules S) (held : Held S) where
@@ -271,64 +281,64 @@ module _ {S : Type 0} (device : Rules S) (held : Held S) where
   from_is (Whole m) = refl
 
 -- what is held after an arrival differs only by what is kept
-module _ (held : Held (Unit {0})) where
-  own_stepped : (a : Arrival) → (stepped held a).own ≡ held.own
+module _ (handed : HandedOn) (held : Held (Unit {0})) where
+  own_stepped : (a : Arrival) → (stepped handed held a).own ≡ held.own
   own_stepped (Drop reason) = refl
   own_stepped Part = refl
-  own_stepped (Whole m) = by (arrival_commands held (Whole m))
+  own_stepped (Whole m) = by (arrival_tasks handed held (Whole m))
     where
-      by : (commands : List Command) → (kept_by commands m (arrival_held (gives unasked) held (Whole m)) held).own ≡ held.own
+      by : (tasks : List Task) → (kept_by tasks m (arrival_held (gives (hands_on handed) unasked) held (Whole m)) held).own ≡ held.own
       by [] = refl
-      by (command ∷ commands) = refl
+      by (task ∷ tasks) = refl
 
-  busy_stepped : (a : Arrival) → (stepped held a).busy ≡ held.busy
+  busy_stepped : (a : Arrival) → (stepped handed held a).busy ≡ held.busy
   busy_stepped (Drop reason) = refl
   busy_stepped Part = refl
-  busy_stepped (Whole m) = by (arrival_commands held (Whole m))
+  busy_stepped (Whole m) = by (arrival_tasks handed held (Whole m))
     where
-      by : (commands : List Command) → (kept_by commands m (arrival_held (gives unasked) held (Whole m)) held).busy ≡ held.busy
+      by : (tasks : List Task) → (kept_by tasks m (arrival_held (gives (hands_on handed) unasked) held (Whole m)) held).busy ≡ held.busy
       by [] = refl
-      by (command ∷ commands) = refl
+      by (task ∷ tasks) = refl
 
-  window_stepped : (a : Arrival) → (stepped held a).window ≡ held.window
+  window_stepped : (a : Arrival) → (stepped handed held a).window ≡ held.window
   window_stepped (Drop reason) = refl
   window_stepped Part = refl
-  window_stepped (Whole m) = by (arrival_commands held (Whole m))
+  window_stepped (Whole m) = by (arrival_tasks handed held (Whole m))
     where
-      by : (commands : List Command) → (kept_by commands m (arrival_held (gives unasked) held (Whole m)) held).window ≡ held.window
+      by : (tasks : List Task) → (kept_by tasks m (arrival_held (gives (hands_on handed) unasked) held (Whole m)) held).window ≡ held.window
       by [] = refl
-      by (command ∷ commands) = refl
+      by (task ∷ tasks) = refl
 
-  keep_stepped : (a : Arrival) → (stepped held a).keep ≡ held.keep
+  keep_stepped : (a : Arrival) → (stepped handed held a).keep ≡ held.keep
   keep_stepped (Drop reason) = refl
   keep_stepped Part = refl
-  keep_stepped (Whole m) = by (arrival_commands held (Whole m))
+  keep_stepped (Whole m) = by (arrival_tasks handed held (Whole m))
     where
-      by : (commands : List Command) → (kept_by commands m (arrival_held (gives unasked) held (Whole m)) held).keep ≡ held.keep
+      by : (tasks : List Task) → (kept_by tasks m (arrival_held (gives (hands_on handed) unasked) held (Whole m)) held).keep ≡ held.keep
       by [] = refl
-      by (command ∷ commands) = refl
+      by (task ∷ tasks) = refl
 
-  from_stepped : (a : Arrival) → (stepped held a).serves_from ≡ held.serves_from
+  from_stepped : (a : Arrival) → (stepped handed held a).serves_from ≡ held.serves_from
   from_stepped (Drop reason) = refl
   from_stepped Part = refl
-  from_stepped (Whole m) = by (arrival_commands held (Whole m))
+  from_stepped (Whole m) = by (arrival_tasks handed held (Whole m))
     where
-      by : (commands : List Command) → (kept_by commands m (arrival_held (gives unasked) held (Whole m)) held).serves_from ≡ held.serves_from
+      by : (tasks : List Task) → (kept_by tasks m (arrival_held (gives (hands_on handed) unasked) held (Whole m)) held).serves_from ≡ held.serves_from
       by [] = refl
-      by (command ∷ commands) = refl
+      by (task ∷ tasks) = refl
 
-  -- and that by its commands
-  kept_stepped : (a : Arrival) → arrival_commands held a ≡ [] → (source : ℕ) → (stepped held a).kept source ≡ (arrival_held (gives unasked) held a).kept source
+  -- and that by what it asks
+  kept_stepped : (a : Arrival) → arrival_tasks handed held a ≡ [] → (source : ℕ) → (stepped handed held a).kept source ≡ (arrival_held (gives (hands_on handed) unasked) held a).kept source
   kept_stepped (Drop reason) none source = refl
   kept_stepped Part none source = refl
-  kept_stepped (Whole m) none source = ap (λ commands. (kept_by commands m (arrival_held (gives unasked) held (Whole m)) held).kept source) none
+  kept_stepped (Whole m) none source = ap (λ tasks. (kept_by tasks m (arrival_held (gives (hands_on handed) unasked) held (Whole m)) held).kept source) none
 
-  waits_stepped : (m : Message) (command : Command) → arrival_commands held (Whole m) ≡ command ∷ [] → (source : ℕ) → (stepped held (Whole m)).kept source ≡ (with_waiting held m).kept source
-  waits_stepped m command asked source = ap (λ commands. (kept_by commands m (arrival_held (gives unasked) held (Whole m)) held).kept source) asked
+  waits_stepped : (m : Message) (task : Task) → arrival_tasks handed held (Whole m) ≡ task ∷ [] → (source : ℕ) → (stepped handed held (Whole m)).kept source ≡ (with_waiting held m).kept source
+  waits_stepped m task asked source = ap (λ tasks. (kept_by tasks m (arrival_held (gives (hands_on handed) unasked) held (Whole m)) held).kept source) asked
 
-pending_where_none : (pending : PendingCommands) (count : ℕ) (request : Option Message) (commands : List Command) → commands ≡ [] → pending_by pending count request commands ≡ pending
-pending_where_none pending count None commands is = refl
-pending_where_none pending count (Some m) commands is = ap (pending_by pending count (Some m)) is
+pending_where_none : (pending : PendingCommands) (count : ℕ) (request : Option Message) (tasks : List Task) → tasks ≡ [] → pending_by pending count request tasks ≡ pending
+pending_where_none pending count None tasks is = refl
+pending_where_none pending count (Some m) tasks is = ap (pending_by pending count (Some m)) is
 
 -- ---- both steps at once
 -- what waits is answered in its place
@@ -354,26 +364,26 @@ answered_by m window kept answer =
         by false is = refl
 
 pub two_steps_are_one : TwoStepsAreOne
-two_steps_are_one held moment bytes count m command given arrives asked =
+two_steps_are_one handed held moment bytes count m task given arrives asked =
     let a = received_arrival held moment bytes in
     let is : a ≡ Whole m = whole_is a m arrives in
-    let asks = ap (arrival_commands held) (sym is) ∙ asked in
-    let done = performed_where (performs held m) (commands_of m.bytes) command asks in (
-      sym (performed_outcome (gives given) held m done) ∙ ap (arrival_outcome (gives given) held) (sym is),
+    let asks = ap (arrival_tasks handed held) (sym is) ∙ asked in
+    let done = performed_where (performs held m) (tasks_of (hands_on handed) m.bytes) task asks in (
+      sym (performed_outcome (gives (hands_on handed) given) held m done) ∙ ap (arrival_outcome (gives (hands_on handed) given) held) (sym is),
       record {
-        own = own_stepped held a ∙ sym (own_is (gives given) held a);
-        busy = busy_stepped held a ∙ sym (busy_is (gives given) held a);
-        window = window_stepped held a ∙ sym (window_is (gives given) held a);
-        keep = keep_stepped held a ∙ sym (keep_is (gives given) held a);
+        own = own_stepped handed held a ∙ sym (own_is (gives (hands_on handed) given) held a);
+        busy = busy_stepped handed held a ∙ sym (busy_is (gives (hands_on handed) given) held a);
+        window = window_stepped handed held a ∙ sym (window_is (gives (hands_on handed) given) held a);
+        keep = keep_stepped handed held a ∙ sym (keep_is (gives (hands_on handed) given) held a);
         open_messages = refl;
         kept = λ source.
-            ap (λ x. if m.source == source then replaced id_in (entry_given (command_at m count command) given) ((stepped held x).kept source) else (stepped held x).kept source) is
-            ∙ ap (λ (kept : List Entry). if m.source == source then replaced id_in (entry_given (command_at m count command) given) kept else kept) (waits_stepped held m command asks source)
+            ap (λ x. if m.source == source then replaced id_in (entry_given handed (command_at m count task) given) ((stepped handed held x).kept source) else (stepped handed held x).kept source) is
+            ∙ ap (λ (kept : List Entry). if m.source == source then replaced id_in (entry_given handed (command_at m count task) given) kept else kept) (waits_stepped handed held m task asks source)
             ∙ in_place source (m.source == source)
             ∙ where_it_is (m.source == source) (performs held m) _ _ done
-            ∙ ap (λ x. (arrival_held (gives given) held x).kept source) (sym is);
+            ∙ ap (λ x. (arrival_held (gives (hands_on handed) given) held x).kept source) (sym is);
         state = refl;
-        serves_from = from_stepped held a ∙ sym (from_is (gives given) held a);
+        serves_from = from_stepped handed held a ∙ sym (from_is (gives (hands_on handed) given) held a);
         last = refl;
       },
     )
@@ -384,115 +394,119 @@ two_steps_are_one held moment bytes count m command given arrives asked =
     where_it_is true false x y h = cc
 
     in_place : (source : ℕ) (t : Bool)
-        → (if t then replaced id_in (entry_given (command_at m count command) given) (if t then take held.window (renewed id_in (waiting m) (held.kept source)) else held.kept source) else (if t then take held.window (renewed id_in (waiting m) (held.kept source)) else held.kept source))
-        ≡ (if t then take held.window (renewed id_in (entry_given (command_at m count command) given) (held.kept source)) else held.kept source)
-    in_place source true = answered_by m held.window (held.kept source) (reply (gives given) tt m.bytes)
+        → (if t then replaced id_in (entry_given handed (command_at m count task) given) (if t then take held.window (renewed id_in (waiting m) (held.kept source)) else held.kept source) else (if t then take held.window (renewed id_in (waiting m) (held.kept source)) else held.kept source))
+        ≡ (if t then take held.window (renewed id_in (entry_given handed (command_at m count task) given) (held.kept source)) else held.kept source)
+    in_place source true = answered_by m held.window (held.kept source) (reply (gives (hands_on handed) given) tt m.bytes)
     in_place source false = refl
 
 -- ---- the laws
-module _ (own : ℕ) (busy : BusyTime) (window keep : ℕ) (answers : ℕ → Answer) (count : ℕ) (pending : PendingCommands) (held : Held (Unit {0})) (calls : List (Call ℕ)) (moment : ℕ) (bytes : List ℕ)
-    (looks : assembly.FeedLooksBack) (left : IsLeftInTurn own busy window keep answers count pending held calls) (free : IsFree pending (request_in held moment bytes)) where
+module _ (own : ℕ) (handed : HandedOn) (busy : BusyTime) (window keep : ℕ) (answers : ℕ → Given) (count : ℕ) (pending : PendingCommands) (held : Held (Unit {0})) (calls : List (Call ℕ)) (moment : ℕ) (bytes : List ℕ)
+    (looks : assembly.FeedLooksBack) (left : IsLeftInTurn own handed busy window keep answers count pending held calls) (free : IsFree pending (request_in held moment bytes)) where
   abbrev full : Held ℕ
-  full = over count (to_be answers pending held)
+  full = over count (to_be handed answers pending held)
 
   abbrev a : Arrival
   a = received_arrival held moment bytes
 
-  step : (received_outcome (in_turn answers) full moment bytes ≡ outcome (in_turn answers) own busy window keep 0 calls moment bytes)
-      × IsLeftBy (in_turn answers) own busy window keep 0 (received_held (in_turn answers) full moment bytes) (Received moment bytes ∷ calls)
-  step = received_looks_back (in_turn answers) looks own busy window keep 0 full calls moment bytes left.left
+  step : (received_outcome (in_turn handed answers) full moment bytes ≡ outcome (in_turn handed answers) own busy window keep 0 calls moment bytes)
+      × IsLeftBy (in_turn handed answers) own busy window keep 0 (received_held (in_turn handed answers) full moment bytes) (Received moment bytes ∷ calls)
+  step = received_looks_back (in_turn handed answers) looks own busy window keep 0 full calls moment bytes left.left
 
-  full_commands : received_commands full moment bytes ≡ received_commands held moment bytes
-  full_commands = same_commands answers count pending held left.ids a free
+  full_commands : received_tasks full (hands_on handed) moment bytes ≡ asked_now handed held moment bytes
+  full_commands = same_commands handed answers count pending held left.ids a free
 
-  given_none : received_commands held moment bytes ≡ [] → IsAsGiven (in_turn answers) full moment bytes unasked
-  given_none none = none_is_asked (in_turn answers) full moment bytes unasked (full_commands ∙ none)
+  given_none : asked_now handed held moment bytes ≡ [] → IsAsGiven (in_turn handed answers) full moment bytes unasked
+  given_none none = none_is_asked (in_turn handed answers) full moment bytes unasked (full_commands ∙ none)
 
-  given_asked : (command : Command) → received_commands held moment bytes ≡ command ∷ [] → IsAsGiven (in_turn answers) full moment bytes (answers count)
-  given_asked command asked = (answer_decides (in_turn answers) full moment bytes command (answers count) (full_commands ∙ asked) refl).0
+  gives_it : (task : Task) → IsGivenBy (in_turn handed answers) count task (answers count)
+  gives_it (Perform command) = refl
+  gives_it (Respond request) = refl
 
-  left_same : (given : Answer) → IsAsGiven (in_turn answers) full moment bytes given → AreUnderTheirIds (pending_after held moment bytes pending count)
-      → ((source : ℕ) → (to_be answers (pending_after held moment bytes pending count) (stepped held a)).kept source ≡ (received_held (gives given) (to_be answers pending held) moment bytes).kept source)
-      → IsLeftInTurn own busy window keep answers (count_after held moment bytes count) (pending_after held moment bytes pending count) (held_after held moment bytes) (Received moment bytes ∷ calls)
+  given_asked : (task : Task) → asked_now handed held moment bytes ≡ task ∷ [] → IsAsGiven (in_turn handed answers) full moment bytes (answers count)
+  given_asked task asked = (answer_decides (in_turn handed answers) full moment bytes task (answers count) (full_commands ∙ asked) (gives_it task)).0
+
+  left_same : (given : Given) → IsAsGiven (in_turn handed answers) full moment bytes given → AreUnderTheirIds (pending_after handed held moment bytes pending count)
+      → ((source : ℕ) → (to_be handed answers (pending_after handed held moment bytes pending count) (stepped handed held a)).kept source ≡ (received_held (gives (hands_on handed) given) (to_be handed answers pending held) moment bytes).kept source)
+      → IsLeftInTurn own handed busy window keep answers (count_after handed held moment bytes count) (pending_after handed held moment bytes pending count) (held_after handed held moment bytes) (Received moment bytes ∷ calls)
   left_same given as_given ids kept = record {
     ids = ids;
-    left = same_is_left (in_turn answers) own busy window keep 0 _ _ (Received moment bytes ∷ calls) (record {
-      own = own_stepped held a ∙ sym (own_is (gives given) (to_be answers pending held) a) ∙ sym as_given.left.own;
-      busy = busy_stepped held a ∙ sym (busy_is (gives given) (to_be answers pending held) a) ∙ sym as_given.left.busy;
-      window = window_stepped held a ∙ sym (window_is (gives given) (to_be answers pending held) a) ∙ sym as_given.left.window;
-      keep = keep_stepped held a ∙ sym (keep_is (gives given) (to_be answers pending held) a) ∙ sym as_given.left.keep;
+    left = same_is_left (in_turn handed answers) own busy window keep 0 _ _ (Received moment bytes ∷ calls) (record {
+      own = own_stepped handed held a ∙ sym (own_is (gives (hands_on handed) given) (to_be handed answers pending held) a) ∙ sym as_given.left.own;
+      busy = busy_stepped handed held a ∙ sym (busy_is (gives (hands_on handed) given) (to_be handed answers pending held) a) ∙ sym as_given.left.busy;
+      window = window_stepped handed held a ∙ sym (window_is (gives (hands_on handed) given) (to_be handed answers pending held) a) ∙ sym as_given.left.window;
+      keep = keep_stepped handed held a ∙ sym (keep_is (gives (hands_on handed) given) (to_be handed answers pending held) a) ∙ sym as_given.left.keep;
       open_messages = sym as_given.left.open_messages;
       kept = λ source. kept source ∙ sym (as_given.left.kept source);
-      state = sym (by_arrival answers full a ∙ ap (λ commands. count + length commands) full_commands);
-      serves_from = from_stepped held a ∙ sym (from_is (gives given) (to_be answers pending held) a) ∙ sym as_given.left.serves_from;
+      state = sym (by_arrival handed answers full a ∙ ap (λ tasks. count + length tasks) full_commands);
+      serves_from = from_stepped handed held a ∙ sym (from_is (gives (hands_on handed) given) (to_be handed answers pending held) a) ∙ sym as_given.left.serves_from;
       last = sym as_given.left.last;
     }) step.1;
   }
 
-  left_none : received_commands held moment bytes ≡ []
-      → IsLeftInTurn own busy window keep answers (count_after held moment bytes count) (pending_after held moment bytes pending count) (held_after held moment bytes) (Received moment bytes ∷ calls)
+  left_none : asked_now handed held moment bytes ≡ []
+      → IsLeftInTurn own handed busy window keep answers (count_after handed held moment bytes count) (pending_after handed held moment bytes pending count) (held_after handed held moment bytes) (Received moment bytes ∷ calls)
   left_none none =
-      let same : pending_after held moment bytes pending count ≡ pending = pending_where_none pending count (message_in a) (arrival_commands held a) none in
+      let same : pending_after handed held moment bytes pending count ≡ pending = pending_where_none pending count (message_in a) (arrival_tasks handed held a) none in
       left_same unasked (given_none none) (subst AreUnderTheirIds (sym same) left.ids)
       (λ source.
-      ap (λ p. (to_be answers p (stepped held a)).kept source) same
-      ∙ ap (list_map (comes answers count pending held left.ids source)) (kept_stepped held a none source)
-      ∙ kept_none answers count pending held left.ids a free source)
+      ap (λ p. (to_be handed answers p (stepped handed held a)).kept source) same
+      ∙ ap (list_map (comes handed answers count pending held left.ids source)) (kept_stepped handed held a none source)
+      ∙ kept_none handed answers count pending held left.ids a free source)
 
-  left_asked : (m : Message) (command : Command) → a ≡ Whole m → received_commands held moment bytes ≡ command ∷ []
-      → IsLeftInTurn own busy window keep answers (count_after held moment bytes count) (pending_after held moment bytes pending count) (held_after held moment bytes) (Received moment bytes ∷ calls)
-  left_asked m command is asked =
-      let asks = ap (arrival_commands held) (sym is) ∙ asked in
-      let more : pending_after held moment bytes pending count ≡ with_it answers count pending held left.ids m command =
-      ap (pending_by pending count (message_in a)) asked ∙ ap (λ x. pending_by pending count (message_in x) (command ∷ [])) is in
-      left_same (answers count) (given_asked command asked) (subst AreUnderTheirIds (sym more) (ids_with answers count pending held left.ids m command))
+  left_asked : (m : Message) (task : Task) → a ≡ Whole m → asked_now handed held moment bytes ≡ task ∷ []
+      → IsLeftInTurn own handed busy window keep answers (count_after handed held moment bytes count) (pending_after handed held moment bytes pending count) (held_after handed held moment bytes) (Received moment bytes ∷ calls)
+  left_asked m task is asked =
+      let asks = ap (arrival_tasks handed held) (sym is) ∙ asked in
+      let more : pending_after handed held moment bytes pending count ≡ with_it handed answers count pending held left.ids m task =
+      ap (pending_by pending count (message_in a)) asked ∙ ap (λ x. pending_by pending count (message_in x) (task ∷ [])) is in
+      left_same (answers count) (given_asked task asked) (subst AreUnderTheirIds (sym more) (ids_with handed answers count pending held left.ids m task))
       (λ source.
-      ap (λ p. (to_be answers p (stepped held a)).kept source) more
-      ∙ ap (λ x. list_map (comes_with answers count pending held left.ids m command source) ((stepped held x).kept source)) is
-      ∙ ap (list_map (comes_with answers count pending held left.ids m command source)) (waits_stepped held m command asks source)
-      ∙ kept_asked answers count pending held left.ids m command (subst (λ x. IsFree pending (message_in x)) is free) asks source
-      ∙ ap (λ x. (arrival_held (gives (answers count)) (to_be answers pending held) x).kept source) (sym is))
+      ap (λ p. (to_be handed answers p (stepped handed held a)).kept source) more
+      ∙ ap (λ x. list_map (comes_with handed answers count pending held left.ids m task source) ((stepped handed held x).kept source)) is
+      ∙ ap (list_map (comes_with handed answers count pending held left.ids m task source)) (waits_stepped handed held m task asks source)
+      ∙ kept_asked handed answers count pending held left.ids m task (subst (λ x. IsFree pending (message_in x)) is free) asks source
+      ∙ ap (λ x. (arrival_held (gives (hands_on handed) (answers count)) (to_be handed answers pending held) x).kept source) (sym is))
 
-  pub received : IsLeftInTurn own busy window keep answers (count_after held moment bytes count) (pending_after held moment bytes pending count) (held_after held moment bytes) (Received moment bytes ∷ calls)
-  received = by_commands (one_asked answers count pending held left.ids a)
+  pub received : IsLeftInTurn own handed busy window keep answers (count_after handed held moment bytes count) (pending_after handed held moment bytes pending count) (held_after handed held moment bytes) (Received moment bytes ∷ calls)
+  received = by_commands (one_asked handed answers count pending held left.ids a)
     where
-      by_commands : (received_commands held moment bytes ≡ []) ⊎ ((command : Command) × (received_commands held moment bytes ≡ command ∷ []))
-          → IsLeftInTurn own busy window keep answers (count_after held moment bytes count) (pending_after held moment bytes pending count) (held_after held moment bytes) (Received moment bytes ∷ calls)
+      by_commands : (asked_now handed held moment bytes ≡ []) ⊎ ((task : Task) × (asked_now handed held moment bytes ≡ task ∷ []))
+          → IsLeftInTurn own handed busy window keep answers (count_after handed held moment bytes count) (pending_after handed held moment bytes pending count) (held_after handed held moment bytes) (Received moment bytes ∷ calls)
       by_commands (inl none) = left_none none
       by_commands (inr one) =
-          let whole = message_of_asked answers count pending held left.ids a one.0 one.1 in
+          let whole = message_of_asked handed answers count pending held left.ids a one.0 one.1 in
           left_asked whole.0 one.0 whole.1 one.1
 
-  pub unasked_outcome : received_commands held moment bytes ≡ [] → received_outcome (gives unasked) held moment bytes ≡ outcome (in_turn answers) own busy window keep 0 calls moment bytes
+  pub unasked_outcome : asked_now handed held moment bytes ≡ [] → received_outcome (gives (hands_on handed) unasked) held moment bytes ≡ outcome (in_turn handed answers) own busy window keep 0 calls moment bytes
   unasked_outcome none =
-      sym (same_outcome answers count pending held left.ids (gives unasked) a free) ∙ sym (given_none none).outcome ∙ step.0
+      sym (same_outcome handed answers count pending held left.ids (gives (hands_on handed) unasked) a free) ∙ sym (given_none none).outcome ∙ step.0
 
-  pub asked_outcome : (m : Message) (command : Command) → request_in held moment bytes ≡ Some m → received_commands held moment bytes ≡ command ∷ []
-      → outcome_of_answer held.own m.source m.tag m.bytes (answers count) ≡ outcome (in_turn answers) own busy window keep 0 calls moment bytes
-  asked_outcome m command arrives asked =
+  pub asked_outcome : (m : Message) (task : Task) → request_in held moment bytes ≡ Some m → asked_now handed held moment bytes ≡ task ∷ []
+      → outcome_of_answer (hands_on handed) held.own m.source m.tag m.bytes (answers count) ≡ outcome (in_turn handed answers) own busy window keep 0 calls moment bytes
+  asked_outcome m task arrives asked =
       let is = whole_is a m arrives in
-      let done = performed_where (performs held m) (commands_of m.bytes) command (ap (arrival_commands held) (sym is) ∙ asked) in
-      sym (performed_outcome (gives (answers count)) held m done)
-      ∙ ap (arrival_outcome (gives (answers count)) held) (sym is)
-      ∙ sym (same_outcome answers count pending held left.ids (gives (answers count)) a free) ∙ sym (given_asked command asked).outcome ∙ step.0
+      let done = performed_where (performs held m) (tasks_of (hands_on handed) m.bytes) task (ap (arrival_tasks handed held) (sym is) ∙ asked) in
+      sym (performed_outcome (gives (hands_on handed) (answers count)) held m done)
+      ∙ ap (arrival_outcome (gives (hands_on handed) (answers count)) held) (sym is)
+      ∙ sym (same_outcome handed answers count pending held left.ids (gives (hands_on handed) (answers count)) a free) ∙ sym (given_asked task asked).outcome ∙ step.0
 
 pub received_in_turn : assembly.FeedLooksBack → ReceivedInTurn
-received_in_turn looks own busy window keep answers count pending held calls moment bytes left free = received own busy window keep answers count pending held calls moment bytes looks left free
+received_in_turn looks own handed busy window keep answers count pending held calls moment bytes left free = received own handed busy window keep answers count pending held calls moment bytes looks left free
 
 pub unasked_looks_back : assembly.FeedLooksBack → UnaskedLooksBack
-unasked_looks_back looks own busy window keep answers count pending held calls moment bytes left free none = unasked_outcome own busy window keep answers count pending held calls moment bytes looks left free none
+unasked_looks_back looks own handed busy window keep answers count pending held calls moment bytes left free none = unasked_outcome own handed busy window keep answers count pending held calls moment bytes looks left free none
 
 pub asked_looks_back : assembly.FeedLooksBack → AskedLooksBack
-asked_looks_back looks own busy window keep answers count pending held calls moment bytes m command left free arrives asked = asked_outcome own busy window keep answers count pending held calls moment bytes looks left free m command arrives asked
+asked_looks_back looks own handed busy window keep answers count pending held calls moment bytes m task left free arrives asked = asked_outcome own handed busy window keep answers count pending held calls moment bytes looks left free m task arrives asked
 
 -- ---- an answer
-module _ (answers : ℕ → Answer) (pending : PendingCommands) (held : Held (Unit {0})) (ids : AreUnderTheirIds pending) (source id number : ℕ) (a : PendingCommand)
+module _ (handed : HandedOn) (answers : ℕ → Given) (pending : PendingCommands) (held : Held (Unit {0})) (ids : AreUnderTheirIds pending) (source id number : ℕ) (a : PendingCommand)
     (is : map.get pending (request_key source id) ≡ Some a) (number_is : a.number ≡ number) where
   abbrev without_it : PendingCommands
   without_it = map.remove pending (request_key source id)
 
   abbrev given_entry : Entry
-  given_entry = entry_given a (answers number)
+  given_entry = entry_given handed a (answers number)
 
   id_is : id_at a.request ≡ id
   id_is = subst (λ o. IfSome o (λ b. id_at b.request ≡ id)) is (ids source id)
@@ -518,41 +532,41 @@ module _ (answers : ℕ → Answer) (pending : PendingCommands) (held : Held (Un
 
   -- what comes of an entry then
   each_answered : (e : Entry) (t : Bool) → (id_in e == id_at a.request) ≡ t
-      → entry_to_be answers (map.get without_it (request_key source (id_in (if t then given_entry else e)))) (if t then given_entry else e)
-      ≡ entry_to_be answers (map.get pending (request_key source (id_in e))) e
+      → entry_to_be handed answers (map.get without_it (request_key source (id_in (if t then given_entry else e)))) (if t then given_entry else e)
+      ≡ entry_to_be handed answers (map.get pending (request_key source (id_in e))) e
   each_answered e true same =
-      ap (λ n. entry_to_be answers (map.get without_it (request_key source n)) given_entry) id_is
-      ∙ ap (λ o. entry_to_be answers o given_entry) removed_here
-      ∙ ap (λ n. entry_given a (answers n)) (sym number_is)
-      ∙ sym (ap (λ n. entry_to_be answers (map.get pending (request_key source n)) e) (eqb-true (id_in e) (id_at a.request) same ∙ id_is) ∙ ap (λ o. entry_to_be answers o e) is)
+      ap (λ n. entry_to_be handed answers (map.get without_it (request_key source n)) given_entry) id_is
+      ∙ ap (λ o. entry_to_be handed answers o given_entry) removed_here
+      ∙ ap (λ n. entry_given handed a (answers n)) (sym number_is)
+      ∙ sym (ap (λ n. entry_to_be handed answers (map.get pending (request_key source n)) e) (eqb-true (id_in e) (id_at a.request) same ∙ id_is) ∙ ap (λ o. entry_to_be handed answers o e) is)
   each_answered e false other =
-      ap (λ o. entry_to_be answers o e) (removed_there (request_key source (id_in e)) (λ same. absurd (eqb-false (id_in e) (id_at a.request) other (ap (λ (k : RequestKey). k.id) same ∙ sym id_is))))
+      ap (λ o. entry_to_be handed answers o e) (removed_there (request_key source (id_in e)) (λ same. absurd (eqb-false (id_in e) (id_at a.request) other (ap (λ (k : RequestKey). k.id) same ∙ sym id_is))))
 
   kept_answered : (other : ℕ) (t : Bool) → (source == other) ≡ t
-      → list_map (λ e. entry_to_be answers (map.get without_it (request_key other (id_in e))) e) (if t then replaced id_in given_entry (held.kept other) else held.kept other)
-      ≡ list_map (λ e. entry_to_be answers (map.get pending (request_key other (id_in e))) e) (held.kept other)
+      → list_map (λ e. entry_to_be handed answers (map.get without_it (request_key other (id_in e))) e) (if t then replaced id_in given_entry (held.kept other) else held.kept other)
+      ≡ list_map (λ e. entry_to_be handed answers (map.get pending (request_key other (id_in e))) e) (held.kept other)
   kept_answered other true here =
-      map_map (λ e. entry_to_be answers (map.get without_it (request_key other (id_in e))) e) (λ e. if id_in e == id_at a.request then given_entry else e) (held.kept other)
+      map_map (λ e. entry_to_be handed answers (map.get without_it (request_key other (id_in e))) e) (λ e. if id_in e == id_at a.request then given_entry else e) (held.kept other)
       ∙ same_lists _ _ (held.kept other) (λ e.
-      subst (λ s. entry_to_be answers (map.get without_it (request_key s (id_in (if id_in e == id_at a.request then given_entry else e)))) (if id_in e == id_at a.request then given_entry else e)
-      ≡ entry_to_be answers (map.get pending (request_key s (id_in e))) e) (eqb-true source other here)
+      subst (λ s. entry_to_be handed answers (map.get without_it (request_key s (id_in (if id_in e == id_at a.request then given_entry else e)))) (if id_in e == id_at a.request then given_entry else e)
+      ≡ entry_to_be handed answers (map.get pending (request_key s (id_in e))) e) (eqb-true source other here)
       (each_answered e (id_in e == id_at a.request) refl))
   kept_answered other false there =
       same_lists _ _ (held.kept other) (λ e.
-      ap (λ o. entry_to_be answers o e) (removed_there (request_key other (id_in e)) (λ same. absurd (eqb-false source other there (sym (ap (λ (k : RequestKey). k.source) same))))))
+      ap (λ o. entry_to_be handed answers o e) (removed_there (request_key other (id_in e)) (λ same. absurd (eqb-false source other there (sym (ap (λ (k : RequestKey). k.source) same))))))
 
 pub answered_in_turn : AnsweredInTurn
-answered_in_turn own busy window keep answers count pending held calls handle a left asked =
+answered_in_turn own handed busy window keep answers count pending held calls handle a left asked =
     let found = numbered_is handle.number (map.get pending (request_key handle.source handle.id)) a asked in
     record {
-      ids = ids_without answers pending held left.ids handle.source handle.id handle.number a found.0 found.1;
-      left = same_is_left (in_turn answers) own busy window keep 0 _ (over count (to_be answers pending held)) calls (record {
+      ids = ids_without handed answers pending held left.ids handle.source handle.id handle.number a found.0 found.1;
+      left = same_is_left (in_turn handed answers) own busy window keep 0 _ (over count (to_be handed answers pending held)) calls (record {
         own = refl;
         busy = refl;
         window = refl;
         keep = refl;
         open_messages = refl;
-        kept = λ source. kept_answered answers pending held left.ids handle.source handle.id handle.number a found.0 found.1 source (handle.source == source) refl;
+        kept = λ source. kept_answered handed answers pending held left.ids handle.source handle.id handle.number a found.0 found.1 source (handle.source == source) refl;
         state = refl;
         serves_from = refl;
         last = refl;
@@ -564,9 +578,9 @@ none_under_ids : AreUnderTheirIds map.empty
 none_under_ids source id = subst (λ o. IfSome o (λ a. id_at a.request ≡ id)) (sym (map.get-empty request_key_cmp (request_key source id))) tt
 
 pub restarted_in_turn : assembly.NewLooksBack → RestartedInTurn
-restarted_in_turn new own busy window keep answers count pending held calls moment left = record {
+restarted_in_turn new own handed busy window keep answers count pending held calls moment left = record {
   ids = none_under_ids;
-  left = same_is_left (in_turn answers) own busy window keep 0 _ (restarted_held (over count (to_be answers pending held)) moment) (Restart moment ∷ calls) (record {
+  left = same_is_left (in_turn handed answers) own busy window keep 0 _ (restarted_held (over count (to_be handed answers pending held)) moment) (Restart moment ∷ calls) (record {
     own = refl;
     busy = refl;
     window = refl;
@@ -576,19 +590,19 @@ restarted_in_turn new own busy window keep answers count pending held calls mome
     state = refl;
     serves_from = refl;
     last = refl;
-  }) (restarted_looks_back (in_turn answers) new own busy window keep 0 (over count (to_be answers pending held)) calls moment left.left);
+  }) (restarted_looks_back (in_turn handed answers) new own busy window keep 0 (over count (to_be handed answers pending held)) calls moment left.left);
 }
 
 pub ended_in_turn : assembly.ForgetLooksBack → EndedInTurn
-ended_in_turn looks own busy window keep answers count pending held calls key left = record {
+ended_in_turn looks own handed busy window keep answers count pending held calls key left = record {
   ids = left.ids;
-  left = ended_looks_back (in_turn answers) looks own busy window keep 0 (over count (to_be answers pending held)) calls key left.left;
+  left = ended_looks_back (in_turn handed answers) looks own busy window keep 0 (over count (to_be handed answers pending held)) calls key left.left;
 }
 
 pub new_in_turn : assembly.NewLooksBack → NewInTurn
-new_in_turn new own busy window keep answers = record {
+new_in_turn new own handed busy window keep answers = record {
   ids = none_under_ids;
-  left = same_is_left (in_turn answers) own busy window keep 0 _ _ [] (record {
+  left = same_is_left (in_turn handed answers) own busy window keep 0 _ _ [] (record {
     own = refl;
     busy = refl;
     window = refl;
@@ -598,19 +612,19 @@ new_in_turn new own busy window keep answers = record {
     state = refl;
     serves_from = refl;
     last = refl;
-  }) (new_looks_back (in_turn answers) new own busy window keep 0);
+  }) (new_looks_back (in_turn handed answers) new own busy window keep 0);
 }
 
 pub same_in_turn : SameInTurn
-same_in_turn own busy window keep answers count pending new held calls same left = record {
+same_in_turn own handed busy window keep answers count pending new held calls same left = record {
   ids = left.ids;
-  left = same_is_left (in_turn answers) own busy window keep 0 _ (over count (to_be answers pending held)) calls (record {
+  left = same_is_left (in_turn handed answers) own busy window keep 0 _ (over count (to_be handed answers pending held)) calls (record {
     own = same.own;
     busy = same.busy;
     window = same.window;
     keep = same.keep;
     open_messages = same.open_messages;
-    kept = λ source. ap (list_map (λ e. entry_to_be answers (map.get pending (request_key source (id_in e))) e)) (same.kept source);
+    kept = λ source. ap (list_map (λ e. entry_to_be handed answers (map.get pending (request_key source (id_in e))) e)) (same.kept source);
     state = refl;
     serves_from = same.serves_from;
     last = same.last;

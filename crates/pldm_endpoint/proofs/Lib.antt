@@ -9,3 +9,5 @@ pub mod RefusedRequests
 pub mod AnswersKept
 pub mod QuietRequests
 pub mod RoundRobin
+pub mod TasksRead
+pub mod RefusedByCode

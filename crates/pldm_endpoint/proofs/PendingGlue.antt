@@ -11,6 +11,7 @@ use Rattle.std.specs.Ordering.{eq_by_cmp, is_eq}
 use Rattle.std.specs.declared.cmp.Ordering.{Ordering}
 use Rattle.std.specs.declared.cmp.Ordering.TheVariants.{Less, Equal, Greater}
 use Rattle.pldm_wire.specs.Headers.{id_at}
+use Rattle.pldm_wire.specs.declared.handed_on.HandedOn.{HandedOn}
 use Rattle.pldm_responder.specs.Arrivals.{Arrival, Drop, Part, Whole}
 use Rattle.pldm_responder.specs.Ends.{End}
 use Rattle.pldm_responder.specs.Events.{Message, is_of}
@@ -26,9 +27,9 @@ use Rattle.pldm_endpoint.specs.declared.pending_commands.RequestKey.{RequestKey}
 use Rattle.pldm_endpoint.proofs.KeyOrder.{request_keys_exact, request_keys_total}
 
 -- ---- nothing is pending
-pub none_pending : (end : End) (pending : PendingCommands) (count most : ℕ) → pending ≡ map.empty → ((source : ℕ) → kept_in end.rows source ≡ []) → ArePending end pending count most
-none_pending end pending count most is none = record {
-  each = λ key. subst (λ o. IfSome o (IsWithDevice count key)) (sym (ap (λ m. map.get m key) is ∙ map.get-empty request_key_cmp key)) tt;
+pub none_pending : (handed : HandedOn) (end : End) (pending : PendingCommands) (count most : ℕ) → pending ≡ map.empty → ((source : ℕ) → kept_in end.rows source ≡ []) → ArePending end handed pending count most
+none_pending handed end pending count most is none = record {
+  each = λ key. subst (λ o. IfSome o (IsWithDevice handed count key)) (sym (ap (λ m. map.get m key) is ∙ map.get-empty request_key_cmp key)) tt;
   few = subst (λ n. n ≤ most) (sym (ap map.len is ∙ map.len-empty request_key_cmp PendingCommand)) (omega arith);
   kept = λ source. subst (All (IsThereOrPending pending source)) (sym (none source)) (λ k d below. absurd (omega (arith, below)));
 }
@@ -54,9 +55,9 @@ whole_is Part m h = cc
 whole_is (Whole n) m h = cc
 
 -- ---- the end changes
-pub pending_over : (end new : End) (pending : PendingCommands) (count most : ℕ) → ((source : ℕ) → kept_in new.rows source ≡ kept_in end.rows source)
-    → ArePending end pending count most → ArePending new pending count most
-pending_over end new pending count most same are = record {
+pub pending_over : (handed : HandedOn) (end new : End) (pending : PendingCommands) (count most : ℕ) → ((source : ℕ) → kept_in new.rows source ≡ kept_in end.rows source)
+    → ArePending end handed pending count most → ArePending new handed pending count most
+pending_over handed end new pending count most same are = record {
   each = are.each;
   few = are.few;
   kept = λ source. subst (All (IsThereOrPending pending source)) (sym (same source)) (are.kept source);
@@ -67,19 +68,19 @@ all_if P true window x kept new is here all = subst (All P) (sym is) (all_renewe
 all_if P false window x kept new is here all = subst (All P) (sym is) all
 
 -- an answer is kept in front
-pub pending_in_front : (end new : End) (pending : PendingCommands) (count most source window : ℕ) (entry : Entry) → 0 < length entry.answer
+pub pending_in_front : (handed : HandedOn) (end new : End) (pending : PendingCommands) (count most source window : ℕ) (entry : Entry) → 0 < length entry.answer
     → ((other : ℕ) → kept_in new.rows other ≡ (if source == other then take window (renewed id_in entry (kept_in end.rows other)) else kept_in end.rows other))
-    → ArePending end pending count most → ArePending new pending count most
-pending_in_front end new pending count most source window entry some kept are = record {
+    → ArePending end handed pending count most → ArePending new handed pending count most
+pending_in_front handed end new pending count most source window entry some kept are = record {
   each = are.each;
   few = are.few;
   kept = λ other. all_if (IsThereOrPending pending other) (source == other) window entry _ _ (kept other) (λ _ none. some) (are.kept other);
 }
 
 -- what is kept where nothing is pending is answered
-pub free_is_answered : (end : End) (pending : PendingCommands) (count most source id : ℕ) → ArePending end pending count most → map.get pending (request_key source id) ≡ None
+pub free_is_answered : (handed : HandedOn) (end : End) (pending : PendingCommands) (count most source id : ℕ) → ArePending end handed pending count most → map.get pending (request_key source id) ≡ None
     → IfSome (entry_in end.rows source id) (λ e. 0 < length e.answer)
-free_is_answered end pending count most source id are free =
+free_is_answered handed end pending count most source id are free =
     only (entry_in end.rows source id) (found_holds (IsThereOrPending pending source) id (kept_in end.rows source) (are.kept source))
   where
     only : (o : Option Entry) → IfSome o (λ e. IsThereOrPending pending source e × (id_in e ≡ id)) → IfSome o (λ e. 0 < length e.answer)
@@ -94,12 +95,12 @@ inserted_none pending key other a none = by_key (eq_by_cmp request_key_cmp other
     by_key true h = cc
     by_key false h = h
 
-pub pending_with : (end new : End) (pending : PendingCommands) (count most window : ℕ) (key : RequestKey) (a : PendingCommand) (waiting : Entry) → IsWithDevice (count + 1) key a → id_in waiting ≡ key.id
+pub pending_with : (handed : HandedOn) (end new : End) (pending : PendingCommands) (count most window : ℕ) (key : RequestKey) (a : PendingCommand) (waiting : Entry) → IsWithDevice handed (count + 1) key a → id_in waiting ≡ key.id
     → map.get pending key ≡ None → map.len pending < most
     → ((other : ℕ) → kept_in new.rows other ≡ (if key.source == other then take window (renewed id_in waiting (kept_in end.rows other)) else kept_in end.rows other))
-    → ArePending end pending count most → ArePending new (map.insert pending key a) (count + 1) most
-pending_with end new pending count most window key a waiting here id free room kept are = record {
-  each = λ other. subst (λ o. IfSome o (IsWithDevice (count + 1) other)) (sym (map.get-insert request_keys_total pending key a other)) (each_by other (eq_by_cmp request_key_cmp other key) refl);
+    → ArePending end handed pending count most → ArePending new handed (map.insert pending key a) (count + 1) most
+pending_with handed end new pending count most window key a waiting here id free room kept are = record {
+  each = λ other. subst (λ o. IfSome o (IsWithDevice handed (count + 1) other)) (sym (map.get-insert request_keys_total pending key a other)) (each_by other (eq_by_cmp request_key_cmp other key) refl);
   few = subst (λ n. n ≤ most) (sym (map.len-insert request_keys_total pending key a ∙ ap (λ o. cond (is_some o) (map.len pending) (map.len pending + 1)) free)) (omega (arith, room));
   kept = λ other.
       all_if (IsThereOrPending (map.insert pending key a) other) (key.source == other) window waiting _ _ (kept other)
@@ -107,11 +108,11 @@ pending_with end new pending count most window key a waiting here id free room k
       (λ k d below none. are.kept other k d below (inserted_none pending key _ a none));
 }
   where
-    each_by : (other : RequestKey) (t : Bool) → eq_by_cmp request_key_cmp other key ≡ t → IfSome (cond t (Some a) (map.get pending other)) (IsWithDevice (count + 1) other)
-    each_by other true is = subst (λ k. IsWithDevice (count + 1) k a) (sym (one_key other key is)) here
+    each_by : (other : RequestKey) (t : Bool) → eq_by_cmp request_key_cmp other key ≡ t → IfSome (cond t (Some a) (map.get pending other)) (IsWithDevice handed (count + 1) other)
+    each_by other true is = subst (λ k. IsWithDevice handed (count + 1) k a) (sym (one_key other key is)) here
     each_by other false is = IfSome_then (map.get pending other) (are.each other) (λ b is. record {
       instance = is.instance;
-      command = is.command;
+      task = is.task;
       id = is.id;
       before = omega (arith, is.before);
     })
@@ -134,16 +135,16 @@ removed_by : (t : Bool) (n most : ℕ) → n ≤ most → cond t (n - 1) n ≤ m
 removed_by true n most few = omega (arith, few)
 removed_by false n most few = few
 
-pub pending_without : (end new : End) (pending : PendingCommands) (count most : ℕ) (key : RequestKey) (entry : Entry) → id_in entry ≡ key.id → 0 < length entry.answer
+pub pending_without : (handed : HandedOn) (end new : End) (pending : PendingCommands) (count most : ℕ) (key : RequestKey) (entry : Entry) → id_in entry ≡ key.id → 0 < length entry.answer
     → ((other : ℕ) → kept_in new.rows other ≡ (if key.source == other then replaced id_in entry (kept_in end.rows other) else kept_in end.rows other))
-    → ArePending end pending count most → ArePending new (map.remove pending key) count most
-pending_without end new pending count most key entry id some kept are = record {
-  each = λ other. subst (λ o. IfSome o (IsWithDevice count other)) (sym (map.get-remove request_keys_total pending key other)) (each_by other (eq_by_cmp request_key_cmp other key));
+    → ArePending end handed pending count most → ArePending new handed (map.remove pending key) count most
+pending_without handed end new pending count most key entry id some kept are = record {
+  each = λ other. subst (λ o. IfSome o (IsWithDevice handed count other)) (sym (map.get-remove request_keys_total pending key other)) (each_by other (eq_by_cmp request_key_cmp other key));
   few = rw (map.len-remove request_keys_total pending key) (removed_by (map.contains_key pending key) (map.len pending) most are.few);
   kept = λ other. subst (All (IsThereOrPending (map.remove pending key) other)) (sym (kept other)) (kept_by other (key.source == other) refl);
 }
   where
-    each_by : (other : RequestKey) (t : Bool) → IfSome (cond t None (map.get pending other)) (IsWithDevice count other)
+    each_by : (other : RequestKey) (t : Bool) → IfSome (cond t None (map.get pending other)) (IsWithDevice handed count other)
     each_by other true = tt
     each_by other false = are.each other
 

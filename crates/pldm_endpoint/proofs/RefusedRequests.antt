@@ -1,19 +1,19 @@
 -- Where a request is refused, so is its packet, and all is as before.
 use Rattle.std.specs.FinMap as map
 use Rattle.std.proofs.Common.{◌≡◌, ℕ, Bool, true, false, List, [], ◌∷◌, ◌⊎◌, inl, inr, Some, None, Result, Ok, Err, IfErr, if◌then◌else◌, refl, sym, ap, ◌∙◌, subst}
-use Rattle.pldm_wire.specs.declared.command.Command.{Command}
+use Rattle.pldm_wire.specs.HandingOn.{hands_on}
 use Rattle.pldm_responder.specs.Arrivals.{Whole, request_packet}
 use Rattle.pldm_responder.specs.Looking.{is_past_open, message_at}
 use Rattle.pldm_responder.specs.Needs.{NeedsMemory}
 use Rattle.pldm_responder.specs.OutsideAnswers.{message_in}
-use Rattle.pldm_responder.specs.Performing.{commands_of}
+use Rattle.pldm_responder.specs.Performing.{Task, tasks_of}
 use Rattle.pldm_responder.specs.Requested.{Requested}
-use Rattle.pldm_responder.specs.Steps.{arrival_commands, performs, received_arrival}
+use Rattle.pldm_responder.specs.Steps.{performs, received_arrival}
 use Rattle.pldm_responder.proofs.RefusedMemory.{whole_needs}
 use Rattle.pldm_endpoint.specs.Receiving.{IsCommanded, IsNotServed, IsRefused}
 use Rattle.pldm_endpoint.specs.Refusing.{IsOfMemory, refused_by, refused_request, refused_while}
 use Rattle.pldm_endpoint.specs.RequestKeys.{request_key_of}
-use Rattle.pldm_endpoint.specs.TwoSteps.{EndpointView, held_in}
+use Rattle.pldm_endpoint.specs.TwoSteps.{EndpointView, arrival_tasks, held_in}
 use Rattle.pldm_endpoint.specs.declared.step.ReceiveRefusal.{ReceiveRefusal}
 use Rattle.pldm_endpoint.specs.declared.step.ReceiveRefusal.TheVariants.{OpenMessages}
 
@@ -30,9 +30,9 @@ module _ (old new : EndpointView) (moment : ℕ) (bytes : List ℕ) (r : Request
       ap (λ a. refused_request old (message_in a)) is
       ∙ sym (ap (λ t. if t then Some OpenMessages else refused_request old (message_in (received_arrival (held_in old) moment bytes))) closed)
 
-  commanded : performs (held_in old) (message_at moment r) ≡ true → (command : Command) → commands_of r.bytes ≡ command ∷ [] → arrival_commands (held_in old) (received_arrival (held_in old) moment bytes) ≡ command ∷ []
-  commanded fresh command asked =
-      ap (arrival_commands (held_in old)) (sym is) ∙ ap (λ t. if t then commands_of r.bytes else []) fresh ∙ asked
+  commanded : performs (held_in old) (message_at moment r) ≡ true → (task : Task) → tasks_of (hands_on old.handed_on) r.bytes ≡ task ∷ [] → arrival_tasks old.handed_on (held_in old) (received_arrival (held_in old) moment bytes) ≡ task ∷ []
+  commanded fresh task asked =
+      ap (arrival_tasks old.handed_on (held_in old)) (sym is) ∙ ap (λ t. if t then tasks_of (hands_on old.handed_on) r.bytes else []) fresh ∙ asked
 
   refused_here : (refusal : ReceiveRefusal) → IsNotServed old moment r new refusal → IsRefused old moment bytes new refusal
   refused_here refusal h = record {
@@ -48,7 +48,7 @@ module _ (old new : EndpointView) (moment : ℕ) (bytes : List ℕ) (r : Request
       by_reason (inl of_memory) = inl of_memory
       by_reason (inr because) = inr (sym same_reason ∙ because)
 
-      by_room : performs (held_in old) (message_at moment r) ≡ true → ((held_in old).kept r.source ≡ []) ⊎ ((command : Command) × (commands_of r.bytes ≡ command ∷ [])) → NeedsMemory (held_in old) true moment bytes ⊎ IsCommanded old moment bytes
+      by_room : performs (held_in old) (message_at moment r) ≡ true → ((held_in old).kept r.source ≡ []) ⊎ ((task : Task) × (tasks_of (hands_on old.handed_on) r.bytes ≡ task ∷ [])) → NeedsMemory (held_in old) true moment bytes ⊎ IsCommanded old moment bytes
       by_room fresh (inl none) = inl (whole_needs (held_in old) true moment (request_packet old.end.own bytes) (message_at moment r) is fresh (λ steady. none))
       by_room fresh (inr asked) = inr (asked.0, commanded fresh asked.0 asked.1)
 

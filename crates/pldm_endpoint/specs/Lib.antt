@@ -1,5 +1,6 @@
 pub mod RequestKeys
 pub mod TwoSteps
+pub mod Giving
 pub mod Refusing
 pub mod Stepping
 pub mod RefusalNames

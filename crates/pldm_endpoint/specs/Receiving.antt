@@ -1,10 +1,10 @@
 -- What an endpoint makes of the bytes of a packet, and of an answer of its device.
 use Rattle.std.specs.FinMap as map
-use Rattle.std.specs.Prelude.{◌≡◌, ℕ, ◌+◌, ◌⊎◌, true, List, ◌∷◌, [], length, Some, None, Ok, Err}
-use Rattle.pldm_wire.specs.declared.answer.Answer.{Answer}
+use Rattle.std.specs.Prelude.{◌≡◌, ℕ, ◌+◌, ◌⊎◌, true, false, List, ◌∷◌, [], length, Some, None, Ok, Err}
 use Rattle.pldm_wire.specs.CommandReading.{command_of}
+use Rattle.pldm_wire.specs.HandingOn.{hands_on}
 use Rattle.pldm_wire.specs.Requests.{Request, request_of}
-use Rattle.pldm_wire.specs.declared.command.Command.{Command}
+use Rattle.pldm_wire.specs.declared.handed_on.HandedOn.{HandedOn}
 use Rattle.pldm_responder.specs.Arrivals.{Whole}
 use Rattle.pldm_responder.specs.Ends.{AreSameRows, has_row}
 use Rattle.pldm_responder.specs.Slots.{source_count}
@@ -14,14 +14,14 @@ use Rattle.pldm_responder.specs.Needs.{NeedsMemory}
 use Rattle.pldm_responder.specs.OpenOrder.{ended_held}
 use Rattle.pldm_responder.specs.Requested.{Requested}
 use Rattle.pldm_responder.specs.Rooms.{AreRowsAfter}
-use Rattle.pldm_responder.specs.Steps.{arrival_commands, message_outcome, performs, received_arrival, received_commands}
-use Rattle.pldm_responder.specs.Asked.{gives}
-use Rattle.pldm_responder.specs.Performing.{commands_of}
+use Rattle.pldm_responder.specs.Steps.{message_outcome, performs, received_arrival}
+use Rattle.pldm_responder.specs.Asked.{Given, gives}
+use Rattle.pldm_responder.specs.Performing.{Task, tasks_of}
 use Rattle.pldm_responder.specs.declared.outcome.Outcome.{Outcome}
 use Rattle.pldm_endpoint.specs.Refusing.{IsOfMemory, refused_by, refused_while}
 use Rattle.pldm_endpoint.specs.RequestKeys.{pending_at, request_key, request_key_of}
 use Rattle.pldm_endpoint.specs.Stepping.{StepHasReply, stepping}
-use Rattle.pldm_endpoint.specs.TwoSteps.{EndpointView, IsAnsweredBy, IsAskedBy, IsItsAnswer, answered_held, count_after, held_after, held_in, pending_after, pending_by, received_step, step_by, stepped, unasked}
+use Rattle.pldm_endpoint.specs.TwoSteps.{EndpointView, IsAnsweredBy, IsAskedBy, IsItsAnswer, answered_held, arrival_tasks, asked_now, count_after, held_after, held_in, pending_after, pending_by, received_step, step_by, stepped, unasked}
 use Rattle.pldm_endpoint.specs.declared.step.CommandHandle.{CommandHandle}
 use Rattle.pldm_endpoint.specs.declared.step.MessageStep.{MessageStep}
 use Rattle.pldm_endpoint.specs.declared.step.ReceiveRefusal.{ReceiveRefusal}
@@ -29,6 +29,7 @@ use Rattle.pldm_endpoint.specs.declared.step.Step.{Step}
 
 -- what no call changes
 pub record HasSameSettings (new old : EndpointView) : Type 0 where
+  pub handed_on : new.handed_on ≡ old.handed_on
   pub bounds : new.end.bounds ≡ old.end.bounds
   pub ends_oldest : new.end.ends_oldest ≡ old.end.ends_oldest
   pub max_pending : new.max_pending ≡ old.max_pending
@@ -37,20 +38,20 @@ pub record HasSameSettings (new old : EndpointView) : Type 0 where
 pub record HasReceived (old : EndpointView) (moment : ℕ) (bytes : List ℕ) (new : EndpointView) (step : Step) : Type 0 where
   -- nothing spoke against it
   pub accepted : refused_by old moment bytes ≡ None
-  -- what becomes of them: their command is handed out, or they are done with
-  pub step_is : step ≡ received_step (held_in old) moment bytes old.count
-  pub command : IsAskedBy step new.pending (received_commands (held_in old) moment bytes)
+  -- what becomes of them: they ask something of the device, or they are done with
+  pub step_is : step ≡ received_step old.handed_on (held_in old) moment bytes old.count
+  pub command : IsAskedBy step new.pending (asked_now old.handed_on (held_in old) moment bytes)
   -- what is held and pending then; where it begins a message for which there was no room, the oldest has ended
-  pub held : IsHeld (held_in new) (ended_held (ended_by old.end bytes) (held_after (held_in old) moment bytes))
-  pub pending : new.pending ≡ pending_after (held_in old) moment bytes old.pending old.count
-  pub count : new.count ≡ count_after (held_in old) moment bytes old.count
+  pub held : IsHeld (held_in new) (ended_held (ended_by old.end bytes) (held_after old.handed_on (held_in old) moment bytes))
+  pub pending : new.pending ≡ pending_after old.handed_on (held_in old) moment bytes old.pending old.count
+  pub count : new.count ≡ count_after old.handed_on (held_in old) moment bytes old.count
   -- the sources with room for answers
   pub room : AreRowsAfter (held_in old) old.end.rows (received_arrival (held_in old) moment bytes) new.end.rows
   pub settings : HasSameSettings new old
 
--- bytes have the device perform a command
+-- bytes ask something of the device
 abbrev pub IsCommanded : EndpointView → ℕ → List ℕ → Type 0
-IsCommanded e moment bytes = (command : Command) × (received_commands (held_in e) moment bytes ≡ command ∷ [])
+IsCommanded e moment bytes = (task : Task) × (asked_now e.handed_on (held_in e) moment bytes ≡ task ∷ [])
 
 -- nothing has changed
 pub record IsAsBefore (new old : EndpointView) : Type 0 where
@@ -73,10 +74,11 @@ pub record IsRefused (old : EndpointView) (moment : ℕ) (bytes : List ℕ) (new
 
 -- ---- a request that a packet completes
 
--- its command is refused with this code
-abbrev pub IsRefusedBy : ℕ → List ℕ → Type 0
-IsRefusedBy code bytes =
-    (request : Request) × (request_of bytes ≡ Ok request) × (command_of request.kind request.rest ≡ Err code)
+-- it is not handed on as bytes, and its command is refused with this code
+abbrev pub IsRefusedBy : HandedOn → ℕ → List ℕ → Type 0
+IsRefusedBy handed code bytes =
+    (request : Request) × (request_of bytes ≡ Ok request) × (hands_on handed request.kind ≡ false)
+    × (command_of request.kind request.rest ≡ Err code)
 
 module _ (old : EndpointView) (moment : ℕ) (r : Requested) (new : EndpointView) where
   pub record HasServed (reply : List ℕ) (step : MessageStep) : Type 0 where
@@ -84,22 +86,22 @@ module _ (old : EndpointView) (moment : ℕ) (r : Requested) (new : EndpointView
         refused_while old (message_at moment r) (map.get old.pending (request_key_of (message_at moment r))) ≡ None
     pub step_is :
         stepping reply step
-        ≡ step_by (message_outcome (gives unasked) (held_in old) (message_at moment r)) old.count
-        (Some (message_at moment r)) (arrival_commands (held_in old) (Whole (message_at moment r)))
+        ≡ step_by (message_outcome (gives (hands_on old.handed_on) unasked) (held_in old) (message_at moment r))
+        old.count (Some (message_at moment r)) (arrival_tasks old.handed_on (held_in old) (Whole (message_at moment r)))
     pub some : StepHasReply reply step
     pub command :
-        IsAskedBy (stepping reply step) new.pending (arrival_commands (held_in old) (Whole (message_at moment r)))
+        IsAskedBy (stepping reply step) new.pending (arrival_tasks old.handed_on (held_in old) (Whole (message_at moment r)))
     pub held :
         IsHeld (held_in new)
-        (record (stepped (held_in old) (Whole (message_at moment r))) {
+        (record (stepped old.handed_on (held_in old) (Whole (message_at moment r))) {
           open_messages = (end_finished old.end moment r).open_messages;
           last = moment;
         })
     pub pending :
         new.pending
         ≡ pending_by old.pending old.count (Some (message_at moment r))
-        (arrival_commands (held_in old) (Whole (message_at moment r)))
-    pub count : new.count ≡ old.count + length (arrival_commands (held_in old) (Whole (message_at moment r)))
+        (arrival_tasks old.handed_on (held_in old) (Whole (message_at moment r)))
+    pub count : new.count ≡ old.count + length (arrival_tasks old.handed_on (held_in old) (Whole (message_at moment r)))
     pub room : AreRowsAfter (held_in old) old.end.rows (Whole (message_at moment r)) new.end.rows
     pub settings : HasSameSettings new old
 
@@ -113,17 +115,17 @@ module _ (old : EndpointView) (moment : ℕ) (r : Requested) (new : EndpointView
         → (refused_while old (message_at moment r) (map.get old.pending (request_key_of (message_at moment r))) ≡ None)
         × (performs (held_in old) (message_at moment r) ≡ true)
         × (((held_in old).kept r.source ≡ [])
-        ⊎ ((command : Command) × (commands_of r.bytes ≡ command ∷ [])))
+        ⊎ ((task : Task) × (tasks_of (hands_on old.handed_on) r.bytes ≡ task ∷ [])))
     pub same : IsAsBefore new old
 
--- ---- an answer of the device
+-- ---- the device gave this for what it was asked
 pub record HasAnswered
-    (old : EndpointView) (handle : CommandHandle) (given : Answer) (new : EndpointView) (outcome : Outcome) : Type 0 where
-  -- it answers the command that is pending under this handle, and goes back to the source of its request
+    (old : EndpointView) (handle : CommandHandle) (given : Given) (new : EndpointView) (outcome : Outcome) : Type 0 where
+  -- it is for what is pending under this handle, and goes back to the source of its request
   pub its_answer : IsItsAnswer (pending_at old.pending handle) given
-  pub outcome_is : IsAnsweredBy old.end.own handle given (pending_at old.pending handle) outcome
+  pub outcome_is : IsAnsweredBy old.handed_on old.end.own handle given (pending_at old.pending handle) outcome
   -- it is kept for that request, which is no longer pending
-  pub held : IsHeld (held_in new) (answered_held (held_in old) handle given (pending_at old.pending handle))
+  pub held : IsHeld (held_in new) (answered_held old.handed_on (held_in old) handle given (pending_at old.pending handle))
   pub pending : new.pending ≡ map.remove old.pending (request_key handle.source handle.id)
   pub count : new.count ≡ old.count
   -- the sources with room for answers are the same

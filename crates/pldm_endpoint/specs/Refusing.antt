@@ -1,10 +1,10 @@
 -- Why a packet is refused.
 use Rattle.std.specs.FinMap as map
 use Rattle.std.specs.Prelude.{ℕ, Bool, false, true, ◌&&◌, ◌||◌, ◌==◌, nat_le, bytes_eq, List, [], ◌∷◌, Option, Some, None, if◌then◌else◌}
-use Rattle.pldm_wire.specs.declared.command.Command.{Command}
+use Rattle.pldm_wire.specs.HandingOn.{hands_on}
 use Rattle.pldm_responder.specs.Events.{Message}
 use Rattle.pldm_responder.specs.Looking.{is_past_open}
-use Rattle.pldm_responder.specs.Performing.{commands_of}
+use Rattle.pldm_responder.specs.Performing.{Task, tasks_of}
 use Rattle.pldm_responder.specs.Reserving.{is_past_sources}
 use Rattle.pldm_responder.specs.Steps.{performs}
 use Rattle.pldm_endpoint.specs.RequestKeys.{request_key_of}
@@ -13,21 +13,21 @@ use Rattle.pldm_endpoint.specs.declared.pending_commands.PendingCommand.{Pending
 use Rattle.pldm_endpoint.specs.declared.step.ReceiveRefusal.{ReceiveRefusal}
 use Rattle.pldm_endpoint.specs.declared.step.ReceiveRefusal.TheVariants.{Performing, BeingPerformed, Full, Sources, OpenMessages, Memory}
 
--- as many commands are pending as may be; or as many were handed out as can be counted
+-- as much is pending as may be; or as much was asked as can be counted
 abbrev pub is_full : EndpointView → Bool
 is_full e = nat_le e.max_pending (map.len e.pending) || e.count == 18446744073709551615
 
-abbrev pub has_command : List Command → Bool
-has_command [] = false
-has_command (command ∷ commands) = true
+abbrev pub asks_some : List Task → Bool
+asks_some [] = false
+asks_some (task ∷ tasks) = true
 
--- a request that is to be performed or refused now: its command is one too many, or its source
+-- a request that is to be performed, handed on or refused now: what it asks is one too many, or its source
 abbrev pub refused_fresh : EndpointView → Message → Option ReceiveRefusal
 refused_fresh e m =
-    if is_full e && has_command (commands_of m.bytes) then Some Full
+    if is_full e && asks_some (tasks_of (hands_on e.handed_on) m.bytes) then Some Full
     else (if is_past_sources e.end.rows e.end.bounds.sources m.source then Some Sources else None)
 
--- a request whose source and instance ID have this pending command, or none
+-- a request for whose source and instance ID this is pending, or nothing
 abbrev pub refused_while : EndpointView → Message → Option PendingCommand → Option ReceiveRefusal
 refused_while e m (Some a) = if bytes_eq a.request m.bytes then Some BeingPerformed else Some Performing
 refused_while e m None = if performs (held_in e) m then refused_fresh e m else None
@@ -36,8 +36,8 @@ abbrev pub refused_request : EndpointView → Option Message → Option ReceiveR
 refused_request e None = None
 refused_request e (Some m) = refused_while e m (map.get e.pending (request_key_of m))
 
--- why a packet is refused, whatever memory there is: it begins one open message too many; or of the request that it
--- completes the very command is pending, or another of its source and instance ID; or it is one too many
+-- why a packet is refused, whatever memory there is: it begins one open message too many; or the request that it completes
+-- is pending, or another of its source and instance ID; or it is one too many
 abbrev pub refused_by : EndpointView → ℕ → List ℕ → Option ReceiveRefusal
 refused_by e moment bytes =
     if is_past_open e.end bytes then Some OpenMessages else refused_request e (request_in (held_in e) moment bytes)

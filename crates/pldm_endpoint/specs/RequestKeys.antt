@@ -43,7 +43,7 @@ request_key_at n = request_key (n / 256) (n % 256)
 
 -- what stands past the end of a list
 abbrev pub no_command : PendingCommand
-no_command = record { tag = 0; moment = 0; number = 0; command = GetTid; request = [] }
+no_command = record { tag = 0; moment = 0; number = 0; command = Some GetTid; request = [] }
 
 -- what is pending for each, in a list by number
 abbrev pub pending_in : NumberList PendingCommand → PendingCommands

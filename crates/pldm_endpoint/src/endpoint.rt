@@ -1,45 +1,58 @@
 //! An endpoint whose device is outside.
 
 ghost use Rattle.std.specs.FinMap as map;
-ghost use Rattle.std.specs.Prelude.{◌≡◌, ◌≢◌, ◌≤◌, ◌*◌, ℕ, true, List, [], ◌∷◌, Ok, None, option_map, IfOk, IfErr, IsErrOf, IsSome, OnErr};
+ghost use Rattle.std.specs.Prelude.{◌≡◌, ◌≢◌, ◌<◌, ◌≤◌, ◌*◌, ℕ, true, List, [], ◌∷◌, length, None, option_map, IfOk, IfErr, IfSome, IsErrOf, IsSome, OnErr, OnOk};
+ghost use Rattle.mctp_packet.specs.declared.TheConstants.{MAX_MESSAGE_BYTES};
+ghost use Rattle.pldm_wire.specs.HandingOn.{hands_on};
+ghost use Rattle.pldm_wire.specs.declared.limits.TheConstants.{MAX_REQUEST_DATA};
 ghost use Rattle.pldm_responder.specs.Answering.{HasReply, answering};
+ghost use Rattle.pldm_responder.specs.Asked.{Answered, Given, Responded};
 ghost use Rattle.pldm_responder.specs.Counts.{CountsKept};
 ghost use Rattle.pldm_responder.specs.Held.{IsHeld, held_at_first};
 ghost use Rattle.pldm_responder.specs.Looking.{message_at};
-ghost use Rattle.pldm_responder.specs.Performing.{commands_of};
+ghost use Rattle.pldm_responder.specs.Performing.{tasks_of};
 ghost use Rattle.pldm_responder.specs.Slots.{source_count};
 ghost use Rattle.pldm_responder.specs.Steps.{kept_for, performs, restarted_held};
 ghost use Rattle.pldm_endpoint.specs.Receiving.{HasAnswered, HasReceived, HasSameSettings, HasServed, IsNotServed, IsRefused, IsRefusedBy};
+ghost use Rattle.pldm_endpoint.specs.Giving.{IsReplyOf, busy_with, pending_command, response_of};
 ghost use Rattle.pldm_endpoint.specs.Refusing.{is_full};
 ghost use Rattle.pldm_endpoint.specs.RequestKeys.{pending_at, request_key_of};
 ghost use Rattle.pldm_endpoint.specs.Stepping.{StepHasReply, stepping};
-ghost use Rattle.pldm_endpoint.specs.TwoSteps.{IsItsAnswer, held_in};
+ghost use Rattle.pldm_endpoint.specs.TwoSteps.{IsHandedOn, IsItsAnswer, held_in, request_at, task_in};
 
-use crate::pending_commands::{PendingCommand, PendingCommands, RequestKey};
+use crate::pending_commands::{PendingCommand, PendingCommands, RequestKey, put_reply};
 use crate::request_bytes::RequestBytes;
-use crate::step::{AnswerRefusal, CommandHandle, MessageStep, ReceiveRefusal, Step, is_answer_to};
+use crate::step::{
+    AnswerRefusal, CommandHandle, MessageStep, ReceiveRefusal, Step, asking, is_answer_to,
+};
 use mctp_packet::{Body, Eid, Moment, Route};
 use pldm_responder::{
     AnsweringEnd, Arrived, Bounds, Keeping, MessageOutcome, Outcome, Request, Standing,
     not_performed, performed, refuse,
 };
-use pldm_wire::{Answer, Code, Command, read_command};
+use pldm_wire::{
+    Answer, BusyTime, Code, Command, HandedOn, MAX_RESPONSE_DATA, RequestRef, SUCCESS,
+    put_response, read_command,
+};
 use std::alloc::Global;
 use std::marker::Model;
 
 /// The responding end at one endpoint, over a device that answers in its own time. [`Endpoint::receive`] takes a
 /// packet; where a command is to be performed, the caller has the device perform it, however long that takes, and
-/// hands its answer to [`Endpoint::answer`].
+/// hands its answer to [`Endpoint::answer`]. A request that is handed on as bytes is answered by
+/// [`Endpoint::answer_bytes`].
 ///
-/// Meanwhile all other packets are taken, and more commands are handed out, up to a number.
+/// Meanwhile all other packets are taken, and more is asked of the device, up to a number.
 #[derive(Drop)]
 pub struct Endpoint {
     alloc: Global,
     end: AnsweringEnd,
+    /// Which requests are handed on as bytes.
+    handed_on: HandedOn,
     pending: PendingCommands,
-    /// How many commands were handed out.
+    /// How much was asked of the device.
     count: u64,
-    /// How many may be pending at a time.
+    /// How much may be pending at a time.
     max_pending: usize,
 }
 
@@ -50,23 +63,33 @@ impl Model for Endpoint {
 
     ghost coded = { coded_endpoint };
 
-    ghost view = { λ e. record { end = e.end; pending = e.pending; count = e.count; max_pending = e.max_pending } };
+    ghost view = { λ e. record {
+      end = e.end;
+      handed_on = e.handed_on;
+      pending = e.pending;
+      count = e.count;
+      max_pending = e.max_pending;
+    } };
 
-    ghost invariant = { λ e. ArePending e.end e.pending e.count e.max_pending };
+    ghost invariant = { λ e. ArePending e.end e.handed_on e.pending e.count e.max_pending };
 }
 
 impl Endpoint {
-    /// The endpoint `own`, which keeps answers so, and at a time no more than `bounds` allow. Where one more message would
-    /// be open than that, the one that began first ends, as if a packet of it were lost. At most `max_pending` commands
-    /// are pending at a time. Its last moment is 0.
+    /// The endpoint `own`, which keeps answers so, and at a time no more than `bounds` allow. Where one more message
+    /// would be open than that, the one that began first ends, as if a packet of it were lost. The requests of
+    /// `handed_on` are handed on as bytes; where only what sets something is refused in the busy time, they are refused
+    /// too. At most `max_pending` commands and such requests are pending at a time. Its last moment is 0.
     pub fn new(
         alloc: Global,
         own: Eid,
         keeping: Keeping,
+        handed_on: HandedOn,
         bounds: Bounds,
         max_pending: usize,
     ) -> Endpoint
-        ensures held { IsHeld (held_in result) (held_at_first own keeping.busy keeping.window keeping.keep tt) }
+        ensures held { IsHeld (held_in result)
+            (held_at_first own (busy_with handed_on keeping.busy) keeping.window keeping.keep tt) }
+        ensures handed_on { result.handed_on ≡ handed_on }
         ensures bounds { result.end.bounds ≡ bounds }
         ensures ends_oldest { result.end.ends_oldest ≡ true }
         ensures max_pending { result.max_pending ≡ max_pending }
@@ -74,9 +97,11 @@ impl Endpoint {
         ensures count { result.count ≡ 0 }
         ensures no_rows { source_count result.end.rows ≡ 0 }
     {
+        let busy = busy_with(handed_on, keeping.busy);
         Endpoint {
             alloc,
-            end: AnsweringEnd::new(alloc, own, keeping, bounds, true),
+            end: AnsweringEnd::new(alloc, own, Keeping { busy, ..keeping }, bounds, true),
+            handed_on,
             pending: PendingCommands::new(alloc),
             count: 0,
             max_pending,
@@ -98,8 +123,8 @@ impl Endpoint {
         self.end.bounds()
     }
 
-    /// How many pairs of a source and an instance ID have a kept answer, or a command that is pending: at most the window
-    /// for each source that [`Endpoint::bounds`] allow.
+    /// How many pairs of a source and an instance ID have a kept answer, or a command that is pending: at most the
+    /// window for each source that [`Endpoint::bounds`] allow.
     pub fn kept(&self) -> usize
         ensures value { CountsKept (kept_for (held_in self.now)) result }
         ensures bounded { result ≤ self.now.end.rows.window * self.now.end.bounds.sources }
@@ -107,8 +132,8 @@ impl Endpoint {
         self.end.kept()
     }
 
-    /// How many sources have room for their answers, at most [`Bounds::sources`]: those of which a request was performed,
-    /// refused or handed out since the last restart.
+    /// How many sources have room for their answers, at most [`Bounds::sources`]: those of which a request was
+    /// performed, refused or handed out since the last restart.
     pub fn sources(&self) -> usize
         ensures value { result ≡ source_count self.now.end.rows }
         ensures bounded { result ≤ self.now.end.bounds.sources }
@@ -116,18 +141,37 @@ impl Endpoint {
         self.end.sources()
     }
 
-    /// The command that is pending under this handle.
+    /// Which requests are handed on as bytes.
+    pub fn handed_on(&self) -> HandedOn
+        ensures { result ≡ self.now.handed_on }
+    {
+        self.handed_on
+    }
+
+    /// The command that is pending under this handle, where that is not a request that was handed on as bytes.
     pub fn command(&self, handle: &CommandHandle) -> Option<&Command>
         ensures { option_map (λ command. command.now) result
-            ≡ option_map (λ pending. pending.command) (pending_at self.now.pending handle.now) }
+            ≡ pending_command (pending_at self.now.pending handle.now) }
     {
         match self.pending.at(handle) {
-            Some(pending) => Some(&pending.command),
+            Some(pending) => pending.command.as_ref(),
             None => None,
         }
     }
 
-    /// How many commands are pending: they were handed out and are not answered. They are at most
+    /// The request that is pending under this handle: its PLDM type and command, and its data.
+    pub fn request(&self, handle: &CommandHandle) -> Option<RequestRef<'_>>
+        ensures value { result
+            ≡ option_map (λ pending. request_at pending.request) (pending_at self.now.pending handle.now) }
+        ensures few { IfSome result (λ request. length request.rest ≤ MAX_REQUEST_DATA) }
+    {
+        match self.pending.at(handle) {
+            Some(pending) => Some(pending.request()),
+            None => None,
+        }
+    }
+
+    /// How many commands and requests are pending: they were handed out and are not answered. They are at most
     /// [`Endpoint::max_pending`].
     pub fn pending(&self) -> usize
         ensures value { result ≡ map.len self.now.pending }
@@ -136,17 +180,17 @@ impl Endpoint {
         self.pending.len()
     }
 
-    /// How many commands may be pending at a time.
+    /// How many commands and requests may be pending at a time.
     pub fn max_pending(&self) -> usize
         ensures { result ≡ self.now.max_pending }
     {
         self.max_pending
     }
 
-    /// Takes the bytes of a packet that came at the moment `now`, which must not be before
-    /// [`Endpoint::last_moment`]. Where it completes a request that is no copy, its command has to be performed once;
-    /// the answer is kept from `now` on, as [`pldm_responder::Responder::receive`] keeps it. Any other packet is done
-    /// with as that call does.
+    /// Takes the bytes of a packet that came at the moment `now`, which must not be before [`Endpoint::last_moment`].
+    /// Where it completes a request that is no copy, its command has to be performed once, or where it is handed on as
+    /// bytes, it has to be responded to once; the answer is kept from `now` on, as
+    /// [`pldm_responder::Responder::receive`] keeps it. Any other packet is done with as that call does.
     ///
     /// # Errors
     ///
@@ -165,6 +209,7 @@ impl Endpoint {
         let mut reply = Body::new();
         match self.receive_message(now, bytes, &mut reply)? {
             MessageStep::Perform(handle) => Ok(Step::Perform(handle)),
+            MessageStep::Respond(handle) => Ok(Step::Respond(handle)),
             MessageStep::Done(taken) => Ok(Step::Done(taken.outcome(&reply))),
         }
     }
@@ -220,13 +265,16 @@ impl Endpoint {
             let route = request.way_back(self.end.own());
             return Ok(MessageStep::Done(not_performed(route)));
         }
+        if self.handed_on.has(request.read().kind()) {
+            return self.hand_out(now, request, None);
+        }
         match read_command(request.read()) {
-            Ok(command) => self.hand_out(now, request, command),
+            Ok(command) => self.hand_out(now, request, Some(command)),
             Err(code) => self.refuse(now, request, code, reply),
         }
     }
 
-    /// Hands the command of a fresh request out.
+    /// Hands the command of a fresh request out, or where there is none, the request as bytes.
     // Not inlined: the command and its request are put together here, and no place for them is left on the caller's
     // stack.
     #[inline(never)]
@@ -234,12 +282,13 @@ impl Endpoint {
         &mut self,
         now: Moment,
         request: &Request<'_>,
-        command: Command,
+        command: Option<Command>,
     ) -> Result<MessageStep, ReceiveRefusal>
         requires other { request.now.source ≢ self.old.end.own }
         requires free { map.get self.old.pending (request_key_of (message_at now request.now)) ≡ None }
         requires fresh { performs (held_in self.old) (message_at now request.now) ≡ true }
-        requires asked { commands_of request.now.bytes ≡ command ∷ [] }
+        requires asked { tasks_of (hands_on self.old.handed_on) request.now.bytes
+            ≡ task_in command request.now.bytes ∷ [] }
         ensures served { (reply : List ℕ) → IfOk result (HasServed self.old now request.now self.new reply) }
         ensures refused { IfErr result (IsNotServed self.old now request.now self.new) }
     {
@@ -249,6 +298,7 @@ impl Endpoint {
         let reserved = self.end.reserve(request)?;
         let (source, id, number) = (request.source(), request.id(), self.count);
         let bytes = RequestBytes::copied(self.alloc, request.bytes())?;
+        let is_command = command.is_some();
         let pending = PendingCommand {
             tag: request.tag(),
             moment: now,
@@ -261,7 +311,7 @@ impl Endpoint {
         self.end.keep(now, request, &[]); // its answer is to come
         self.end.finish(now, request);
         self.count = number + 1;
-        Ok(MessageStep::Perform(CommandHandle { source, id, number }))
+        Ok(asking(is_command, CommandHandle { source, id, number }))
     }
 
     /// Refuses a fresh request that has no command with this code, and keeps that answer.
@@ -275,7 +325,7 @@ impl Endpoint {
         requires other { request.now.source ≢ self.old.end.own }
         requires free { map.get self.old.pending (request_key_of (message_at now request.now)) ≡ None }
         requires fresh { performs (held_in self.old) (message_at now request.now) ≡ true }
-        requires refused { IsRefusedBy code request.now.bytes }
+        requires refused { IsRefusedBy self.old.handed_on code request.now.bytes }
         ensures served { IfOk result (HasServed self.old now request.now self.new reply.new.items) }
         ensures refused { IfErr result (IsNotServed self.old now request.now self.new) }
     {
@@ -288,7 +338,7 @@ impl Endpoint {
         Ok(MessageStep::Done(performed(false, route)))
     }
 
-    /// Whether no command more may be handed out.
+    /// Whether no more may be asked of the device.
     fn is_full(&self) -> bool
         ensures { result ≡ is_full self.now }
     {
@@ -301,17 +351,18 @@ impl Endpoint {
     ///
     /// # Errors
     ///
-    /// `NotPending` exactly where no command is pending under this handle, `OtherCommand` exactly where one is and
-    /// this is the answer to another. The endpoint is then as before.
+    /// `NotPending` exactly where nothing is pending under this handle, `OtherCommand` exactly where something is and
+    /// this is the answer to another command, or that was handed on as bytes. The endpoint is then as before.
     pub fn answer(
         &mut self,
         handle: &CommandHandle,
         answer: &Answer,
     ) -> Result<Outcome, AnswerRefusal>
-        ensures answered { IfOk result (HasAnswered self.old handle.now answer.now self.new) }
+        ensures answered { IfOk result (HasAnswered self.old handle.now (Answered answer.now) self.new) }
         ensures not_pending { IsErrOf result AnswerRefusal.NotPending → pending_at self.old.pending handle.now ≡ None }
         ensures other { IsErrOf result AnswerRefusal.OtherCommand → IsSome (pending_at self.old.pending handle.now)
-            × (IsItsAnswer (pending_at self.old.pending handle.now) answer.now → ⊥) }
+            × (IsItsAnswer (pending_at self.old.pending handle.now) (Answered answer.now) → ⊥) }
+        ensures too_long { IsErrOf result AnswerRefusal.TooLong → ⊥ }
         ensures err { OnErr result (self.new ≡ self.old) }
     {
         let mut reply = Body::new();
@@ -332,21 +383,106 @@ impl Endpoint {
         reply: &mut Body,
     ) -> Result<MessageOutcome, AnswerRefusal>
         ensures answered { IfOk result (λ taken.
-            HasAnswered self.old handle.now answer.now self.new (answering reply.new.items taken)) }
+            HasAnswered self.old handle.now (Answered answer.now) self.new (answering reply.new.items taken)) }
         ensures some { IfOk result (HasReply reply.new.items) }
         ensures not_pending { IsErrOf result AnswerRefusal.NotPending → pending_at self.old.pending handle.now ≡ None }
         ensures other { IsErrOf result AnswerRefusal.OtherCommand → IsSome (pending_at self.old.pending handle.now)
-            × (IsItsAnswer (pending_at self.old.pending handle.now) answer.now → ⊥) }
+            × (IsItsAnswer (pending_at self.old.pending handle.now) (Answered answer.now) → ⊥) }
+        ensures too_long { IsErrOf result AnswerRefusal.TooLong → ⊥ }
         ensures err { OnErr result (self.new ≡ self.old) }
     {
-        let (source, id) = (handle.source, handle.id);
         let Some(pending) = self.pending.at(handle) else {
             return Err(AnswerRefusal::NotPending);
         };
-        if !is_answer_to(answer, pending.command.kind()) {
+        let Some(command) = &pending.command else {
+            return Err(AnswerRefusal::OtherCommand);
+        };
+        if !is_answer_to(answer, command.kind()) {
             return Err(AnswerRefusal::OtherCommand);
         }
-        let changed = pending.put_reply(id, answer, reply);
+        let changed = put_reply(command, handle.id, answer, reply);
+        Ok(self.give(handle, changed, reply))
+    }
+
+    /// Takes the device's response to the request that is pending under this handle, which was handed on as bytes: its
+    /// completion code, and at most [`MAX_RESPONSE_DATA`] bytes of data. It is sent and kept as by
+    /// [`Endpoint::answer`]. It takes no memory.
+    ///
+    /// # Errors
+    ///
+    /// `NotPending` exactly where nothing is pending under this handle, `OtherCommand` exactly where that is a command,
+    /// and else `TooLong` exactly where there is more data. The endpoint is then as before.
+    pub fn answer_bytes(
+        &mut self,
+        handle: &CommandHandle,
+        code: u8,
+        rest: &[u8],
+    ) -> Result<Outcome, AnswerRefusal>
+        ensures answered { IfOk result (HasAnswered self.old handle.now (response_of code rest.now) self.new) }
+        ensures few { OnOk result (length rest.now ≤ MAX_RESPONSE_DATA) }
+        ensures not_pending { IsErrOf result AnswerRefusal.NotPending → pending_at self.old.pending handle.now ≡ None }
+        ensures other { IsErrOf result AnswerRefusal.OtherCommand → IsSome (pending_at self.old.pending handle.now)
+            × (IsItsAnswer (pending_at self.old.pending handle.now) (response_of code rest.now) → ⊥) }
+        ensures too_long { IsErrOf result AnswerRefusal.TooLong → IsHandedOn (pending_at self.old.pending handle.now)
+            × (MAX_RESPONSE_DATA < length rest.now) }
+        ensures err { OnErr result (self.new ≡ self.old) }
+    {
+        let mut reply = Body::new();
+        let taken = self.answer_bytes_message(handle, code, rest, &mut reply)?;
+        Ok(taken.outcome(&reply))
+    }
+
+    /// Takes the device's response as [`Endpoint::answer_bytes`] does. The message that answers the request is put into
+    /// `reply` whole, with no packet made of it.
+    ///
+    /// # Errors
+    ///
+    /// As from [`Endpoint::answer_bytes`].
+    pub fn answer_bytes_message(
+        &mut self,
+        handle: &CommandHandle,
+        code: u8,
+        rest: &[u8],
+        reply: &mut Body,
+    ) -> Result<MessageOutcome, AnswerRefusal>
+        ensures answered { IfOk result (λ taken.
+            HasAnswered self.old handle.now (response_of code rest.now) self.new (answering reply.new.items taken)) }
+        ensures some { IfOk result (HasReply reply.new.items) }
+        ensures few { OnOk result (length rest.now ≤ MAX_RESPONSE_DATA) }
+        ensures not_pending { IsErrOf result AnswerRefusal.NotPending → pending_at self.old.pending handle.now ≡ None }
+        ensures other { IsErrOf result AnswerRefusal.OtherCommand → IsSome (pending_at self.old.pending handle.now)
+            × (IsItsAnswer (pending_at self.old.pending handle.now) (response_of code rest.now) → ⊥) }
+        ensures too_long { IsErrOf result AnswerRefusal.TooLong → IsHandedOn (pending_at self.old.pending handle.now)
+            × (MAX_RESPONSE_DATA < length rest.now) }
+        ensures err { OnErr result (self.new ≡ self.old) }
+    {
+        let Some(pending) = self.pending.at(handle) else {
+            return Err(AnswerRefusal::NotPending);
+        };
+        if pending.command.is_some() {
+            return Err(AnswerRefusal::OtherCommand);
+        }
+        if rest.len() > MAX_RESPONSE_DATA {
+            return Err(AnswerRefusal::TooLong);
+        }
+        put_response(reply, handle.id, pending.request().kind(), code, rest);
+        Ok(self.give(handle, code == SUCCESS, reply))
+    }
+
+    /// Gives the message out that answers the request that is pending under this handle, and keeps it.
+    fn give(&mut self, handle: &CommandHandle, changed: bool, reply: &[u8]) -> MessageOutcome
+        requires pending { IsSome (pending_at self.old.pending handle.now) }
+        requires some { 0 < length reply.now }
+        requires few { length reply.now ≤ MAX_MESSAGE_BYTES }
+        ensures answered { (given : Given) → IsItsAnswer (pending_at self.old.pending handle.now) given
+            → IsReplyOf self.old.handed_on given (pending_at self.old.pending handle.now) reply.now changed
+            → HasAnswered self.old handle.now given self.new (answering reply.now result) }
+        ensures some { HasReply reply.now result }
+    {
+        let Some(pending) = self.pending.at(handle) else {
+            unreachable!() // it is pending
+        };
+        let (source, id) = (handle.source, handle.id);
         let route = Route {
             destination: source,
             source: self.end.own(),
@@ -356,7 +492,7 @@ impl Endpoint {
         let (moment, bytes) = (pending.moment, pending.request.as_slice());
         self.end.keep_late(source, id, moment, bytes, reply);
         self.pending.remove(RequestKey { source, id });
-        Ok(performed(changed, route))
+        performed(changed, route)
     }
 
     /// Lets the time pass up to the moment `now`, which must not be before [`Endpoint::last_moment`]: no moment before
@@ -382,5 +518,16 @@ impl Endpoint {
     {
         self.pending = PendingCommands::new(self.alloc); // the device may have performed them or not
         self.end.restart(now);
+    }
+}
+
+/// What is refused in the busy time, where these requests are handed on as bytes: they count as such that set
+/// something.
+fn busy_with(handed_on: HandedOn, busy: BusyTime) -> BusyTime
+    ensures { result ≡ busy_with handed_on busy }
+{
+    match busy {
+        BusyTime::All => BusyTime::All,
+        BusyTime::Sets(_) => BusyTime::Sets(handed_on),
     }
 }

@@ -1,23 +1,23 @@
-//! The commands that a device performs and has not answered.
+//! What is asked of a device, and it has not given yet.
 
 ghost use Rattle.std.specs.FinMap as map;
-ghost use Rattle.std.specs.Prelude.{◌≡◌, ◌<◌, ◌≤◌, [], ◌∷◌, length, OnOk, OnErr};
+ghost use Rattle.std.specs.Prelude.{◌≡◌, ◌<◌, ◌≤◌, ◌&&◌, ◌==◌, length, IsOk, OnOk, OnErr};
 ghost use Rattle.std.specs.Option.{option_copied};
 ghost use Rattle.mctp_packet.specs.declared.TheConstants.{MAX_MESSAGE_BYTES};
-ghost use Rattle.pldm_wire.specs.Answers.{IsAnswerTo};
-ghost use Rattle.pldm_wire.specs.Commands.{kind_of};
-ghost use Rattle.pldm_wire.specs.Headers.{id_at};
-ghost use Rattle.pldm_wire.specs.declared.assigned.TheConstants.{INSTANCE_IDS};
-ghost use Rattle.pldm_responder.specs.Asked.{gives};
-ghost use Rattle.pldm_responder.specs.Performing.{changes, commands_of, reply as reply_of};
+ghost use Rattle.pldm_wire.specs.Answers.{IsAnswerTo, answer_message, code_of};
+ghost use Rattle.pldm_wire.specs.Commands.{kind_of, sets};
+ghost use Rattle.pldm_wire.specs.Requests.{request_of};
+ghost use Rattle.pldm_wire.specs.declared.assigned.TheConstants.{INSTANCE_IDS, SUCCESS};
+ghost use Rattle.pldm_wire.specs.declared.limits.TheConstants.{MAX_REQUEST_DATA};
 ghost use Rattle.pldm_endpoint.specs.RequestKeys.{pending_at, number_of};
+ghost use Rattle.pldm_endpoint.specs.TwoSteps.{request_at};
 
 use crate::command_list::CommandList;
 use crate::request_bytes::RequestBytes;
 use crate::step::CommandHandle;
 use mctp_packet::{Body, Eid, Memory, Moment, Tag};
 use pldm_responder::succeeded;
-use pldm_wire::{Answer, Command, put_answer};
+use pldm_wire::{Answer, Command, RequestRef, put_answer, read_request};
 use std::alloc::Global;
 use std::marker::Model;
 
@@ -40,40 +40,52 @@ impl RequestKey {
     }
 }
 
-/// A command that was handed out and is not answered, with its request.
+/// What was asked of the device and is not answered: to perform a command, or to respond to a request as bytes; with
+/// the request.
 #[derive(Drop)]
 pub struct PendingCommand {
     /// The tag of the packets of its request.
     pub(crate) tag: Tag,
     /// When the request came.
     pub(crate) moment: Moment,
-    /// How many commands were handed out before.
+    /// How much was asked before.
     pub(crate) number: u64,
-    pub(crate) command: Command,
+    /// The command, where it is to be performed: none where the request is handed on as bytes.
+    pub(crate) command: Option<Command>,
     /// The bytes of the request.
     pub(crate) request: RequestBytes,
 }
 
 impl PendingCommand {
-    /// Puts the message that answers its request, which has this instance ID, into `reply`, where the device gave this
-    /// answer. The result is whether it is of a command that sets, and was not refused.
-    pub(crate) fn put_reply(&self, id: u8, answer: &Answer, reply: &mut Body) -> bool
-        requires asked { commands_of self.now.request ≡ self.now.command ∷ [] }
-        requires id { id_at self.now.request ≡ id }
-        requires range { id < INSTANCE_IDS }
-        requires its { IsAnswerTo (kind_of self.now.command) answer.now }
-        ensures reply { reply.new.items ≡ reply_of (gives answer.now) tt self.now.request }
-        ensures changed { result ≡ changes (gives answer.now) tt self.now.request }
-        ensures some { 0 < length reply.new.items }
-        ensures few { length reply.new.items ≤ MAX_MESSAGE_BYTES }
+    /// The request.
+    pub(crate) fn request(&self) -> RequestRef<'_>
+        requires { IsOk (request_of self.now.request) }
+        ensures value { result ≡ request_at self.now.request }
+        ensures few { length result.rest ≤ MAX_REQUEST_DATA }
     {
-        put_answer(reply, id, self.command.kind(), answer);
-        let _few = reply.len(); // for the proof: at most 320 bytes
-        self.command.sets() && succeeded(answer)
+        match read_request(self.request.as_slice()) {
+            Ok(request) => request,
+            Err(_) => unreachable!(),
+        }
     }
 }
 
-/// The commands that were handed out and are not answered, at most one for each source and instance ID.
+/// Puts the message that answers a request with this instance ID and command into `reply`, where the device gave this
+/// answer. The result is whether it is of a command that sets, and was not refused.
+pub(crate) fn put_reply(command: &Command, id: u8, answer: &Answer, reply: &mut Body) -> bool
+    requires range { id < INSTANCE_IDS }
+    requires its { IsAnswerTo (kind_of command.now) answer.now }
+    ensures reply { reply.new.items ≡ answer_message id (kind_of command.now) answer.now }
+    ensures changed { result ≡ (sets command.now && code_of answer.now == SUCCESS) }
+    ensures some { 0 < length reply.new.items }
+    ensures few { length reply.new.items ≤ MAX_MESSAGE_BYTES }
+{
+    put_answer(reply, id, command.kind(), answer);
+    let _few = reply.len(); // for the proof: at most 320 bytes
+    command.sets() && succeeded(answer)
+}
+
+/// What was asked and is not answered, at most one thing for each source and instance ID.
 #[derive(Drop)]
 pub(crate) struct PendingCommands {
     list: CommandList,

@@ -1,8 +1,9 @@
 //! What the calls of an endpoint return.
 
-ghost use Rattle.std.specs.Prelude.{◌≡◌, true, false};
+ghost use Rattle.std.specs.Prelude.{◌≡◌, true, false, if◌then◌else◌};
 ghost use Rattle.pldm_wire.specs.Answers.{IsAnswerTo, answered_kind};
 ghost use Rattle.pldm_endpoint.specs.RefusalNames.{name_of, name_of_answer_refusal};
+ghost use Rattle.pldm_endpoint.specs.declared.step.MessageStep.TheVariants.{Perform, Respond};
 
 use mctp_packet::{Eid, Memory};
 use pldm_responder::{MessageOutcome, Outcome, RoomRefusal};
@@ -14,15 +15,15 @@ use pldm_wire::{
 };
 use thiserror::Error;
 
-/// The handle of a command that was handed out: whose request it is of, and its number. No two commands of an endpoint
-/// have one number.
+/// The handle of what is asked of the device: whose request it is of, and its number. Nothing else that an endpoint
+/// asks has that number.
 #[derive(Clone, Copy, Debug, PartialEq, Eq)]
 pub struct CommandHandle {
     /// The endpoint that the request came from.
     pub source: Eid,
     /// The request's instance ID.
     pub id: u8,
-    /// How many commands were handed out before.
+    /// How much was asked before.
     pub number: u64,
 }
 
@@ -31,6 +32,8 @@ pub struct CommandHandle {
 pub enum Step {
     /// They complete a request whose command the device has to perform now, once.
     Perform(CommandHandle),
+    /// They complete a request that is handed on as bytes: the device has to respond to it now, once.
+    Respond(CommandHandle),
     /// They are done with: dropped, a part of a message, or answered.
     Done(Outcome),
 }
@@ -41,8 +44,21 @@ pub enum Step {
 pub enum MessageStep {
     /// They complete a request whose command the device has to perform now, once.
     Perform(CommandHandle),
+    /// They complete a request that is handed on as bytes: the device has to respond to it now, once.
+    Respond(CommandHandle),
     /// They are done with: dropped, a part of a message, or answered.
     Done(MessageOutcome),
+}
+
+/// What is asked of the device under this handle: to perform a command, or to respond to a request as bytes.
+pub(crate) fn asking(is_command: bool, handle: CommandHandle) -> MessageStep
+    ensures { result ≡ (if is_command then Perform handle else Respond handle) }
+{
+    if is_command {
+        MessageStep::Perform(handle)
+    } else {
+        MessageStep::Respond(handle)
+    }
 }
 
 /// Why a packet was refused. It counts as lost on the bus, and the endpoint is as before.
@@ -115,9 +131,13 @@ pub enum AnswerRefusal {
     /// No command is pending under this handle: it was answered, or forgotten by a restart.
     #[error("{}", self.name())]
     NotPending,
-    /// It is the answer to another command.
+    /// It is the answer to another command, or what is pending was handed on as bytes; or it is a response in bytes,
+    /// and what is pending is a command.
     #[error("{}", self.name())]
     OtherCommand,
+    /// The data of a response has more than [`pldm_wire::MAX_RESPONSE_DATA`] bytes.
+    #[error("{}", self.name())]
+    TooLong,
 }
 
 impl AnswerRefusal {
@@ -128,6 +148,7 @@ impl AnswerRefusal {
         match self {
             AnswerRefusal::NotPending => "no command is pending under this handle",
             AnswerRefusal::OtherCommand => "the answer is to another command",
+            AnswerRefusal::TooLong => "the data is too long",
         }
     }
 }

@@ -7,34 +7,44 @@ use Rattle.pldm_wire.specs.Headers.{id_at}
 use Rattle.pldm_wire.specs.Requests.{request_of}
 use Rattle.pldm_wire.specs.declared.busy_time.BusyTime.TheVariants.{All, Sets}
 use Rattle.pldm_responder.specs.Arrivals.{Arrival, Drop, Part, Whole, request_packet}
-use Rattle.pldm_responder.specs.Calls.{arrived, events, fed}
+use Rattle.pldm_responder.specs.Calls.{Call, arrived, events, fed}
 use Rattle.pldm_wire.specs.declared.busy_time.BusyTime.{BusyTime}
+use Rattle.pldm_wire.specs.declared.handed_on.HandedOn.{HandedOn}
 use Rattle.pldm_responder.specs.Events.{Message, Event, Came, Set, Restarted, Changed, Place, busy_until, is_busy, is_copy, is_copy_of, is_fresh, is_of, is_refused, refuses_bytes, sets_in}
-use Rattle.pldm_responder.specs.Performing.{Rules, commands_of}
-use Rattle.pldm_responder.specs.Askings.{AskedApart, CommandsLookBack, SetsAfterBusyTime, asked_for, is_renewed}
+use Rattle.pldm_responder.specs.Performing.{Rules, commands_of, tasks_of}
+use Rattle.pldm_responder.specs.Askings.{AskedApart, CommandsLookBack, Covers, SetsAfterBusyTime, TasksLookBack, asked_by, is_renewed}
 use Rattle.pldm_responder.specs.Held.{Held}
-use Rattle.pldm_responder.specs.Steps.{arrival_commands, received_commands}
+use Rattle.pldm_responder.specs.Laws.{IsLeftBy}
+use Rattle.pldm_responder.specs.Steps.{arrival_asks, received_arrival}
 use Rattle.pldm_responder.specs.TheRule.{latest_fresh, others_since}
 use Rattle.pldm_responder.proofs.CallsLookBack.{held_is, left_by, passed_brings, copies_is}
 use Rattle.pldm_responder.proofs.CopiesByTheRule.{copies_by_the_rule}
 
 -- ---- what is asked is what looking back says
-module _ {S : Type 0} (device : Rules S) where
+module _ {S A : Type 0} (device : Rules S) (asks : List ℕ → List A) where
   asked_is : (own : ℕ) (busy : BusyTime) (window keep : ℕ) (start : S) (held : Held S) (h : List (Event S)) (a : Arrival)
-      → arrival_commands (left_by device own busy window keep start held.open_messages held.last h) a ≡ asked_for busy window keep h a
+      → arrival_asks (left_by device own busy window keep start held.open_messages held.last h) asks a ≡ asked_by asks busy window keep h a
   asked_is own busy window keep start held h (Drop reason) = refl
   asked_is own busy window keep start held h Part = refl
   asked_is own busy window keep start held h (Whole m) =
-      ap (λ r. if not (is_refused busy keep h m) && not r then commands_of m.bytes else [])
+      ap (λ r. if not (is_refused busy keep h m) && not r then asks m.bytes else [])
       (copies_is device own busy window keep start h m)
 
-  pub commands_look_back : assembly.FeedLooksBack → CommandsLookBack device
-  commands_look_back looks own busy window keep start held calls moment bytes left =
+  pub asks_look_back : assembly.FeedLooksBack → (own : ℕ) (busy : BusyTime) (window keep : ℕ) (start : S) (held : Held S) (calls : List (Call S)) (moment : ℕ) (bytes : List ℕ)
+      → IsLeftBy device own busy window keep start held calls
+      → arrival_asks held asks (received_arrival held moment bytes) ≡ asked_by asks busy window keep (events own calls) (arrived own calls moment bytes)
+  asks_look_back looks own busy window keep start held calls moment bytes left =
       let h = events own calls in
-      ap (λ x. received_commands x moment bytes) (held_is device own busy window keep start held calls left)
-      ∙ ap (arrival_commands (left_by device own busy window keep start held.open_messages held.last h))
+      ap (λ (x : Held S). arrival_asks x asks (received_arrival x moment bytes)) (held_is device own busy window keep start held calls left)
+      ∙ ap (arrival_asks (left_by device own busy window keep start held.open_messages held.last h) asks)
       (passed_brings looks held.open_messages (fed own calls) moment (request_packet own bytes) left.open_messages)
       ∙ asked_is own busy window keep start held h (arrived own calls moment bytes)
+
+pub commands_look_back : {S : Type 0} (device : Rules S) → assembly.FeedLooksBack → CommandsLookBack device
+commands_look_back device = asks_look_back device commands_of
+
+pub tasks_look_back : {S : Type 0} (device : Rules S) → assembly.FeedLooksBack → TasksLookBack device
+tasks_look_back device looks hands_on = asks_look_back device (tasks_of hands_on) looks
 
 -- ---- between two askings
 where_none : {S : Type 0} (t : Bool) (place : Place S) (rest : Option (Place S)) (more : Bool) → (t || more) ≡ false → (if t then Some place else rest) ≡ rest
@@ -111,9 +121,9 @@ asked_apart busy window keep before later first again fresh once source bytes =
     by_renewal (is_renewed busy window keep (Came first ∷ before) later first.source (id_at first.bytes)) busy window keep before later first again refl fresh once source bytes
 
 -- ---- requests that set something
-refused_where_set : (busy : BusyTime) (bytes : List ℕ) → sets_in (request_of bytes) ≡ true → refuses_bytes busy bytes ≡ true
-refused_where_set All bytes sets = refl
-refused_where_set Sets bytes sets = sets
+refused_where_set : (handed : HandedOn) (busy : BusyTime) (bytes : List ℕ) → Covers busy handed → sets_in handed (request_of bytes) ≡ true → refuses_bytes busy bytes ≡ true
+refused_where_set handed All bytes covers sets = refl
+refused_where_set handed (Sets own) bytes covers sets = ap (λ h. sets_in h (request_of bytes)) covers ∙ sets
 
 not_busy : (refuses busy copy : Bool) → (not (refuses && busy) && not copy) ≡ true → refuses ≡ true → busy ≡ false
 not_busy true true copy h r = cc
@@ -121,6 +131,6 @@ not_busy true false copy h r = refl
 not_busy false busy copy h r = cc
 
 pub sets_after_busy_time : {S : Type 0} → SetsAfterBusyTime S
-sets_after_busy_time busy window keep h m sets fresh =
+sets_after_busy_time handed busy window keep h m covers sets fresh =
     ltb-false m.moment (busy_until keep h)
-    (not_busy (refuses_bytes busy m.bytes) (is_busy keep h m.moment) (is_copy busy window keep h m) fresh (refused_where_set busy m.bytes sets))
+    (not_busy (refuses_bytes busy m.bytes) (is_busy keep h m.moment) (is_copy busy window keep h m) fresh (refused_where_set handed busy m.bytes covers sets))

@@ -21,6 +21,7 @@ pub mod OpenUnended
 pub mod WorkedLight
 pub mod SameHeld
 pub mod OpenedPackets
+pub mod QuietRequests
 pub mod RefusedMemory
 pub mod SlotOrders
 pub mod NumberSearches

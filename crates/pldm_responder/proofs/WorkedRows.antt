@@ -169,7 +169,7 @@ served_again = refl
 
 -- where only what sets is refused then, a command that asks is performed, and one that is not known is refused by its code
 outcome_while_busy : List (Call ℤ) → ℕ → List ℕ → Outcome
-outcome_while_busy calls moment bytes = outcome light 9 Sets 32 1000 (pos 0) calls moment bytes
+outcome_while_busy calls moment bytes = outcome light 9 (Sets (record { pldm_types = 0; unknown_commands = false })) 32 1000 (pos 0) calls moment bytes
 
 set_is_refused_while_busy : outcome_while_busy restarted 1099 set_40 ≡ Answered false false ((1 ∷ 8 ∷ 9 ∷ 193 ∷ 1 ∷ 1 ∷ 2 ∷ 49 ∷ 4 ∷ []) ∷ [])
 unfolding request_of command_of outcome_while_busy

@@ -2,14 +2,16 @@
 -- request from a retry (DSP0240, "PLDM message fields"). A message is a copy where the latest fresh one of its source
 -- and instance ID has the same bytes and came less than the keeping time before, and fewer than `window` other instance
 -- IDs of that source had a fresh one since; else it is fresh.
-use Rattle.std.specs.Prelude.{ℕ, ◌+◌, ℤ, List, [], ◌∷◌, take, Bool, true, false, ◌&&◌, not, ◌==◌, nat_lt, bytes_eq, Option, Some, None, is_some, Result, Ok, Err, if◌then◌else◌}
+use Rattle.std.specs.Prelude.{ℕ, ◌+◌, ℤ, List, [], ◌∷◌, take, Bool, true, false, ◌&&◌, ◌||◌, not, ◌==◌, nat_lt, bytes_eq, Option, Some, None, is_some, Result, Ok, Err, if◌then◌else◌}
 use Rattle.mctp_packet.specs.declared.reason.Reason.{Reason}
 use Rattle.pldm_wire.specs.CommandReading.{command_of}
 use Rattle.pldm_wire.specs.Headers.{id_at}
 use Rattle.pldm_wire.specs.Requests.{Request, request_of}
-use Rattle.pldm_wire.specs.Settings.{refuses}
+use Rattle.pldm_wire.specs.HandingOn.{hands_on}
+use Rattle.pldm_wire.specs.Settings.{reads_set}
 use Rattle.pldm_wire.specs.declared.busy_time.BusyTime.{BusyTime}
 use Rattle.pldm_wire.specs.declared.busy_time.BusyTime.TheVariants.{All, Sets}
+use Rattle.pldm_wire.specs.declared.handed_on.HandedOn.{HandedOn}
 use Rattle.pldm_responder.specs.Recency.{of_number, renewed}
 
 -- a whole message with a good header: the endpoint that it came from, the tag of its packets, the moment of the last of
@@ -45,14 +47,16 @@ busy_until keep (Changed state ∷ events) = busy_until keep events
 abbrev pub is_busy : {S : Type 0} → ℕ → List (Event S) → ℕ → Bool
 is_busy keep events moment = nat_lt moment (busy_until keep events)
 
--- whether a request is refused in the busy time
-abbrev pub sets_in : Result Request Reason → Bool
-sets_in (Ok request) = refuses Sets (command_of request.kind request.rest)
-sets_in (Err reason) = false
+-- a request sets something: its command does, or it is handed on as bytes and may do so
+abbrev pub sets_in : HandedOn → Result Request Reason → Bool
+sets_in handed (Ok request) =
+    hands_on handed request.kind || reads_set (command_of request.kind request.rest)
+sets_in handed (Err reason) = false
 
+-- whether a request is refused in the busy time
 abbrev pub refuses_bytes : BusyTime → List ℕ → Bool
 refuses_bytes All bytes = true
-refuses_bytes Sets bytes = sets_in (request_of bytes)
+refuses_bytes (Sets handed) bytes = sets_in handed (request_of bytes)
 
 -- m is answered with ERROR_NOT_READY
 abbrev pub is_refused : {S : Type 0} → BusyTime → ℕ → List (Event S) → Message → Bool

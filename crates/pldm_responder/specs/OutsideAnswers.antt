@@ -1,8 +1,8 @@
 -- What goes out of an endpoint for an answer from outside, which comes after its request.
-use Rattle.std.specs.Prelude.{ℕ, true, List, Option, Some, None}
-use Rattle.pldm_wire.specs.declared.answer.Answer.{Answer}
+use Rattle.std.specs.Prelude.{ℕ, Bool, true, List, Option, Some, None}
+use Rattle.pldm_wire.specs.Kinds.{TypeAndCommand}
 use Rattle.pldm_responder.specs.Arrivals.{Arrival, Drop, Part, Whole, message_of, packets_back}
-use Rattle.pldm_responder.specs.Asked.{gives}
+use Rattle.pldm_responder.specs.Asked.{Given, gives}
 use Rattle.pldm_responder.specs.Events.{Message}
 use Rattle.pldm_responder.specs.Performing.{changes, reply}
 use Rattle.pldm_responder.specs.declared.outcome.Outcome.{Outcome}
@@ -15,8 +15,8 @@ message_in Part = None
 message_in (Whole m) = Some m
 
 -- what goes out of the endpoint `own` for the request of these bytes, whose packets had this source and tag: it was
--- performed
-abbrev pub outcome_of_answer : ℕ → ℕ → ℕ → List ℕ → Answer → Outcome
-outcome_of_answer own source tag bytes given =
-    Answered true (changes (gives given) tt bytes)
-    (packets_back own (message_of source tag 0 bytes) (reply (gives given) tt bytes))
+-- performed, or handed on as bytes
+abbrev pub outcome_of_answer : (TypeAndCommand → Bool) → ℕ → ℕ → ℕ → List ℕ → Given → Outcome
+outcome_of_answer hands_on own source tag bytes given =
+    Answered true (changes (gives hands_on given) tt bytes)
+    (packets_back own (message_of source tag 0 bytes) (reply (gives hands_on given) tt bytes))

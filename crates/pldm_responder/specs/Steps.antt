@@ -5,11 +5,12 @@ use Rattle.mctp_packet.specs.Packets.{Packet}
 use Rattle.mctp_packet.specs.declared.reason.Reason.{Reason}
 use Rattle.mctp_assembly.specs.Steps as assembly
 use Rattle.pldm_wire.specs.Headers.{id_at}
+use Rattle.pldm_wire.specs.Kinds.{TypeAndCommand}
 use Rattle.pldm_wire.specs.declared.command.Command.{Command}
 use Rattle.pldm_platform.specs.Changes.{changed_or}
 use Rattle.pldm_responder.specs.Events.{Message, refuses_bytes}
 use Rattle.pldm_responder.specs.Held.{Entry, Held, id_in}
-use Rattle.pldm_responder.specs.Performing.{Rules, reply, next, changes, busy_reply, commands_of}
+use Rattle.pldm_responder.specs.Performing.{Rules, Task, reply, next, changes, busy_reply, commands_of, tasks_of}
 use Rattle.pldm_responder.specs.Arrivals.{Arrival, Drop, Part, Whole, arrival, passed_arrival, request_packet, packets_back}
 use Rattle.pldm_responder.specs.Recency.{of_number, renewed}
 use Rattle.pldm_responder.specs.declared.outcome.Outcome.{Outcome}
@@ -47,15 +48,23 @@ module _ {S : Type 0} (held : Held S) where
   abbrev pub received_arrival : ℕ → List ℕ → Arrival
   received_arrival moment bytes = arrival (assembly.answer held.open_messages) held.own moment bytes
 
+  -- what an arrival asks, where `asks` says what the bytes of a fresh message do
+  abbrev pub arrival_asks : {A : Type 0} → (List ℕ → List A) → Arrival → List A
+  arrival_asks asks (Drop reason) = []
+  arrival_asks asks Part = []
+  arrival_asks asks (Whole m) = if performs m then asks m.bytes else []
+
   -- the commands that the platform performs for an arrival: that of a fresh message, where it carries one
   abbrev pub arrival_commands : Arrival → List Command
-  arrival_commands (Drop reason) = []
-  arrival_commands Part = []
-  arrival_commands (Whole m) = if performs m then commands_of m.bytes else []
+  arrival_commands a = arrival_asks commands_of a
 
   -- the commands that it performs for bytes that are received at a moment
   abbrev pub received_commands : ℕ → List ℕ → List Command
   received_commands moment bytes = arrival_commands (received_arrival moment bytes)
+
+  -- what is asked for bytes of a device that these requests are handed on to as bytes
+  abbrev pub received_tasks : (TypeAndCommand → Bool) → ℕ → List ℕ → List Task
+  received_tasks hands_on moment bytes = arrival_asks (tasks_of hands_on) (received_arrival moment bytes)
 
   -- what is held after a restart: no kept answers and no open messages
   abbrev pub restarted_held : ℕ → Held S

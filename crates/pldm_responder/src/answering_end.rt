@@ -134,6 +134,7 @@ impl AnsweringEnd {
     }
 
     /// Its endpoint ID.
+    #[inline(always)]
     pub fn own(&self) -> Eid
         ensures { result ≡ self.now.own }
     {
@@ -156,6 +157,7 @@ impl AnsweringEnd {
     }
 
     /// Whether it does not serve yet at the moment `now`: it restarted less than the keeping time before.
+    #[inline(always)]
     pub fn is_busy(&self, now: Moment) -> bool
         ensures { result ≡ nat_lt now self.now.serves_from }
     {
@@ -199,6 +201,7 @@ impl AnsweringEnd {
     /// `OpenMessages` exactly where a packet begins a message of several packets, none is open on its key, and as many
     /// are open as [`Bounds::open_messages`] allow: where the oldest ends, only if none may be open at all. `Memory`
     /// where a growth was refused, which only a start packet that gives `Partial` wants.
+    #[inline(always)]
     pub fn take<'a>(
         &mut self,
         now: Moment,
@@ -270,6 +273,7 @@ impl AnsweringEnd {
     }
 
     /// Reads a whole message, whose packets had this route. Where it is no request, its packets are no longer open.
+    #[inline(always)]
     fn read<'a>(&mut self, now: Moment, route: &Route, message: &'a [u8]) -> Arrived<'a>
         requires few { length message.now ≤ most }
         ensures arrival { arrival_in now result ≡ message_arrival route.now.source route.now.tag now message.now }
@@ -285,6 +289,7 @@ impl AnsweringEnd {
     }
 
     /// A packet that is dropped at the moment `now`, and touches nothing that is open.
+    #[inline(always)]
     fn dropped<'a>(&mut self, now: Moment, reason: Reason) -> Arrived<'a>
         ensures value { result ≡ Arrived.Dropped reason }
         ensures left { self.new ≡ record self.old { last = now } }
@@ -337,8 +342,9 @@ impl AnsweringEnd {
     }
 
     /// What a request that came at the moment `now` is. The message that answers one that is refused in the busy time,
-    /// or a copy, is put into `reply`: nothing where the answer is still to come. For a fresh one what `reply` then holds
-    /// is not specified.
+    /// or a copy, is put into `reply`: nothing where the answer is still to come. For a fresh one what `reply` then
+    /// holds is not specified.
+    #[inline(always)]
     pub fn standing(&self, now: Moment, request: &Request<'_>, reply: &mut Body) -> Standing
         ensures standing { result ≡ standing (held_by self.now) (message_at now request.now) }
         ensures reply { IsReply (held_by self.now) (message_at now request.now) reply.new.items result }
@@ -363,6 +369,7 @@ impl AnsweringEnd {
     ///
     /// `Sources` exactly where the source has no room yet and as many sources have as [`Bounds::sources`] allow.
     /// `Memory` where it has none and a growth was refused.
+    #[inline(always)]
     pub fn reserve(&mut self, request: &Request<'_>) -> Result<Reserved, RoomRefusal>
         ensures same { IsSameEnd self.new self.old }
         ensures ok { IfOk result (IsRoomFor self.new.rows request.now.source) }
@@ -373,6 +380,7 @@ impl AnsweringEnd {
     }
 
     /// Puts the room for the answers to the source of a request in, for an answer that is to come.
+    #[inline(always)]
     pub fn put_room(&mut self, request: &Request<'_>, reserved: Reserved)
         requires other { request.now.source ≢ self.old.own }
         requires room { IsRoomFor self.old.rows request.now.source reserved }
@@ -387,6 +395,7 @@ impl AnsweringEnd {
     /// Keeps the answer to a request, which came at the moment `now`, in the place of the one that is kept for its
     /// instance ID; an empty one is still to come. Where the window has no more room, the answer for the instance ID of
     /// the oldest request falls out. There has to be room for the source. It takes no memory.
+    #[inline(always)]
     pub fn keep(&mut self, now: Moment, request: &Request<'_>, answer: &[u8])
         requires room { IsSome (row_of self.old.rows request.now.source) }
         requires few { length answer.now ≤ most }
@@ -405,8 +414,8 @@ impl AnsweringEnd {
         self.kept.put(source, id, now, request.bytes(), answer);
     }
 
-    /// Keeps the answer to a request of this source, instance ID, moment and bytes that came later than it: it takes the
-    /// request's place in the order, and where that fell out of the window it is not kept. It takes no memory.
+    /// Keeps the answer to a request of this source, instance ID, moment and bytes that came later than it: it takes
+    /// the request's place in the order, and where that fell out of the window it is not kept. It takes no memory.
     pub fn keep_late(&mut self, source: Eid, id: u8, moment: Moment, bytes: &[u8], answer: &[u8])
         requires id { id_at bytes.now ≡ id }
         requires small { id < ids }
@@ -427,6 +436,7 @@ impl AnsweringEnd {
 
     /// Ends a request, which came at the moment `now`: its packets are no longer open, and it is the last that was done
     /// with.
+    #[inline(always)]
     pub fn finish(&mut self, now: Moment, request: &Request<'_>)
         ensures { self.new ≡ end_finished self.old now request.now }
     {
@@ -434,6 +444,7 @@ impl AnsweringEnd {
     }
 
     /// Ends what is open of a source and tag, at the moment `now`.
+    #[inline(always)]
     fn forget(&mut self, now: Moment, source: Eid, tag: Tag)
         ensures { self.new ≡ end_finished self.old now (record { source = source; tag = tag; bytes = [] }) }
     {

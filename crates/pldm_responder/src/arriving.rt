@@ -35,6 +35,7 @@ impl<'a> Model for Request<'a> {
 
 impl<'a> Request<'a> {
     /// The request of these bytes, whose packets had this source and tag, as it was read.
+    #[inline(always)]
     pub(crate) fn new(source: Eid, tag: Tag, bytes: &'a [u8], read: RequestRef<'a>) -> Request<'a>
         requires read { request_of bytes.now ≡ Ok read }
         requires few { length bytes.now ≤ most }
@@ -49,6 +50,7 @@ impl<'a> Request<'a> {
     }
 
     /// The endpoint that it came from.
+    #[inline(always)]
     pub fn source(&self) -> Eid
         ensures { result ≡ self.now.source }
     {
@@ -56,6 +58,7 @@ impl<'a> Request<'a> {
     }
 
     /// The tag of its packets.
+    #[inline(always)]
     pub fn tag(&self) -> Tag
         ensures { result ≡ self.now.tag }
     {
@@ -63,6 +66,7 @@ impl<'a> Request<'a> {
     }
 
     /// Its instance ID.
+    #[inline(always)]
     pub fn id(&self) -> u8
         ensures value { result ≡ id_at self.now.bytes }
         ensures range { id_at self.now.bytes < ids }
@@ -71,6 +75,7 @@ impl<'a> Request<'a> {
     }
 
     /// Its bytes.
+    #[inline(always)]
     pub fn bytes(&self) -> &'a [u8]
         ensures value { result.now ≡ self.now.bytes }
         ensures few { length self.now.bytes ≤ most }
@@ -79,6 +84,7 @@ impl<'a> Request<'a> {
     }
 
     /// The way of the packets that answer it, from the endpoint `own`: back to its source, with TO 0 and its tag.
+    #[inline(always)]
     pub fn way_back(&self, own: Eid) -> Route
         ensures { result ≡ record { destination = self.now.source; source = own; owner = false; tag = self.now.tag } }
     {
@@ -91,6 +97,7 @@ impl<'a> Request<'a> {
     }
 
     /// What its bytes were read as.
+    #[inline(always)]
     pub fn read(&self) -> &RequestRef<'a>
         ensures { request_of self.now.bytes ≡ Ok result.now }
     {

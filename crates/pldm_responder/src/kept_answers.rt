@@ -53,6 +53,7 @@ impl Place {
     }
 
     /// The row.
+    #[inline(always)]
     fn row(&self) -> &Row
         ensures { result.now ≡ self.now }
     {
@@ -120,6 +121,7 @@ impl KeptAnswers {
     }
 
     /// The answer that is kept for a source and an instance ID.
+    #[inline(always)]
     pub(crate) fn get(&self, source: Eid, id: u8) -> Option<KeptAnswer<'_>>
         requires { id < INSTANCE_IDS }
         ensures { result ≡ entry_in self.now source id }
@@ -128,6 +130,7 @@ impl KeptAnswers {
     }
 
     /// Where the row of a source stands, or where it would go.
+    #[inline(always)]
     fn search(&self, source: Eid) -> Result<usize, usize>
         ensures found { IfOk result (IsAt no_answers self.now.list source) }
         ensures absent { IfErr result (IsGapFor no_answers self.now.list source) }
@@ -137,6 +140,7 @@ impl KeptAnswers {
     }
 
     /// The row of a source.
+    #[inline(always)]
     fn row(&self, source: Eid) -> Option<&Row>
         ensures { option_copied result ≡ row_of self.now source }
     {
@@ -148,6 +152,7 @@ impl KeptAnswers {
 
     /// Takes the room for the answers to a source, where it has none yet and fewer than `max` sources have. It counts
     /// for nothing until it is put in.
+    #[inline(always)]
     pub(crate) fn reserve(&mut self, source: Eid, max: usize) -> Result<Reserved, RoomRefusal>
         ensures same { AreSameRows self.new self.old }
         ensures ok { IfOk result (IsRoomFor self.new source) }
@@ -177,6 +182,7 @@ impl KeptAnswers {
     }
 
     /// Puts the room for the answers to a source in, where it has none yet.
+    #[inline(always)]
     pub(crate) fn put_row(&mut self, source: Eid, reserved: Reserved)
         requires { IsRoomFor self.old source reserved }
         ensures gets { GetsRow source self.new self.old }
@@ -191,6 +197,7 @@ impl KeptAnswers {
     }
 
     /// Puts an answer in front of those to its source. There has to be room for it.
+    #[inline(always)]
     pub(crate) fn put(&mut self, source: Eid, id: u8, moment: Moment, bytes: &[u8], answer: &[u8])
         requires room { IsSome (row_of self.old source) }
         requires id { id_at bytes.now ≡ id }

@@ -1,7 +1,7 @@
 //! Laws of a responder, over the definitions alone: each function does nothing and ensures its law.
 
 ghost use Rattle.pldm_responder.specs.Asked.{AnswerDecides, NoneIsAsked};
-ghost use Rattle.pldm_responder.specs.Askings.{AskedApart, CommandsLookBack, SetsAfterBusyTime};
+ghost use Rattle.pldm_responder.specs.Askings.{AskedApart, CommandsLookBack, SetsAfterBusyTime, TasksLookBack};
 ghost use Rattle.pldm_responder.specs.Laws.{AllIdsAreNoWindow, AllIdsPerformAlike, BusyAnswersAreOnePacket, EndedLooksBack, KeptWhereFresh, NewLooksBack, OneCount, PutIsUpdated, ReceivedLooksBack, RestartedLooksBack, SameIsLeft, SensedLooksBack, UpdatedLooksBack};
 ghost use Rattle.pldm_responder.specs.Performing.{rules_of};
 ghost use Rattle.pldm_responder.specs.TheRule.{CopiesByTheRule, FreshPastTheWindow};
@@ -34,15 +34,15 @@ pub fn busy_answers_are_one_packet()
     ensures { BusyAnswersAreOnePacket }
 {}
 
-/// Where bytes have the platform perform a command, its answer to that command says what they give and what
-/// they leave, and the request is fresh. Where they have it perform none, no answer of the platform does.
+/// Where bytes ask something of the platform, what it gives for that says what they give and what they leave, and the
+/// request is fresh. Where they ask nothing, nothing that the platform gives does.
 pub fn answers_come_from_outside<P: Platform>()
     ensures asked { AnswerDecides (rules_of P.answer P.after P.sensed) }
     ensures none { NoneIsAsked (rules_of P.answer P.after P.sensed) }
 {}
 
-/// With a window of all instance IDs none falls out: what is a copy, what is fresh, what is kept, performed and answered
-/// is what it is where an answer is kept for each instance ID.
+/// With a window of all instance IDs none falls out: what is a copy, what is fresh, what is kept, performed and
+/// answered is what it is where an answer is kept for each instance ID.
 pub fn no_id_falls_out<P: Platform>()
     ensures same { AllIdsAreNoWindow P.State }
     ensures alike { AllIdsPerformAlike (rules_of P.answer P.after P.sensed) }
@@ -56,12 +56,14 @@ pub fn copies_by_the_rule<P: Platform>()
     ensures past { FreshPastTheWindow P.State }
 {}
 
-/// Which commands the platform is asked to perform is read by looking back over the list of calls: those of the
-/// fresh requests. Between two askings of one source, instance ID and bytes there is a keeping time, a restart,
-/// another fresh request of that source and instance ID, or a window of others. A request that sets something is
-/// performed or refused a keeping time after the last restart, whatever is served in the busy time.
+/// Which commands the platform is asked to perform is read by looking back over the list of calls: those of the fresh
+/// requests. Between two askings of one source, instance ID and bytes there is a keeping time, a restart, another fresh
+/// request of that source and instance ID, or a window of others. A request that sets something is performed or refused
+/// a keeping time after the last restart, whatever is served in the busy time; and so is one that is handed on as
+/// bytes.
 pub fn commands_are_asked_once<P: Platform>()
     ensures looks_back { CommandsLookBack (rules_of P.answer P.after P.sensed) }
+    ensures tasks { TasksLookBack (rules_of P.answer P.after P.sensed) }
     ensures apart { AskedApart P.State }
     ensures settings { SetsAfterBusyTime P.State }
 {

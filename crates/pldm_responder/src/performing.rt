@@ -12,13 +12,12 @@ use std::alloc::Global;
 
 /// Performs a request: its command where it has one, else it is refused. The message that answers it
 /// is put into `reply`, and the result is whether it is of a command that sets, and was not refused.
-/// An `Err` changes nothing of the platform.
-// Not inlined: the answer's room is then on the stack for a request that is performed, and not for a copy.
-#[inline(never)]
+/// An `Err` changes nothing of the platform. What `room` then holds is not specified.
 pub(crate) fn perform<P: Platform>(
     alloc: Global,
     platform: &mut P,
     request: &RequestRef<'_>,
+    room: &mut Answer,
     reply: &mut Body,
 ) -> Result<bool, Memory>
     ensures answer { OnOk result
@@ -37,7 +36,7 @@ pub(crate) fn perform<P: Platform>(
 {
     // By reference: the command is not moved from where it was read.
     match &read_command(request) {
-        Ok(command) => perform_command(alloc, platform, request, command, reply),
+        Ok(command) => perform_command(alloc, platform, request, command, room, reply),
         Err(code) => {
             refuse(request, *code, reply);
             Ok(false)
@@ -46,11 +45,13 @@ pub(crate) fn perform<P: Platform>(
 }
 
 /// As [`perform`], where the request has this command.
+#[inline(always)]
 fn perform_command<P: Platform>(
     alloc: Global,
     platform: &mut P,
     request: &RequestRef<'_>,
     command: &Command,
+    room: &mut Answer,
     reply: &mut Body,
 ) -> Result<bool, Memory>
     requires read { command_of request.now.kind request.now.rest ≡ Ok command.now }
@@ -69,11 +70,10 @@ fn perform_command<P: Platform>(
     ensures none_performed { OnErr result (P.performed platform.old [] platform.new) }
     ensures steady { IsTrue P.STEADY → IsOk result }
 {
-    let mut answer = Answer::SetTid;
-    platform.perform_into(alloc, command, &mut answer)?;
-    put_answer(reply, request.id(), request.kind(), &answer);
+    platform.perform_into(alloc, command, room)?;
+    put_answer(reply, request.id(), request.kind(), room);
     let _few = reply.len(); // for the proof: at most 256 bytes
-    Ok(command.sets() && succeeded(&answer))
+    Ok(command.sets() && succeeded(room))
 }
 
 /// Puts the message that refuses a request into `reply`.

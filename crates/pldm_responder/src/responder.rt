@@ -28,6 +28,7 @@ use crate::performing::perform;
 use crate::routes::{not_performed, performed};
 use mctp_packet::{Body, Eid, Keep, MAX_MESSAGE_BYTES, Memory, Moment};
 use pldm_platform::{Platform, ReadingFault};
+use pldm_wire::Answer;
 use std::alloc::Global;
 use std::marker::Model;
 
@@ -38,6 +39,8 @@ pub struct Responder<P: Platform> {
     alloc: Global,
     end: AnsweringEnd,
     platform: P,
+    /// Room for the platform's answer, which is so made once and not for each request.
+    room: Answer,
 }
 
 impl<P: Platform> Model for Responder<P> {
@@ -89,6 +92,7 @@ impl<P: Platform> Responder<P> {
             alloc,
             end: AnsweringEnd::new(alloc, own, keeping, bounds, false),
             platform,
+            room: Answer::SetTid,
         }
     }
 
@@ -244,6 +248,7 @@ impl<P: Platform> Responder<P> {
     }
 
     /// Serves a request. The message that answers it is put into `reply`.
+    #[inline(always)]
     fn serve(
         &mut self,
         now: Moment,
@@ -267,6 +272,7 @@ impl<P: Platform> Responder<P> {
 
     /// Performs a fresh request, or refuses it, and keeps its answer, which is put into `reply`. The result is whether
     /// it is of a command that sets, and was not refused.
+    #[inline(always)]
     fn perform(
         &mut self,
         now: Moment,
@@ -282,7 +288,8 @@ impl<P: Platform> Responder<P> {
             Ok(reserved) => reserved,
             Err(refusal) => return Err(self.memory_of(refusal)),
         };
-        let changed = perform(self.alloc, &mut self.platform, request.read(), reply)?;
+        let (platform, room) = (&mut self.platform, &mut self.room);
+        let changed = perform(self.alloc, platform, request.read(), room, reply)?;
         self.end.put_room(request, reserved);
         self.end.keep(now, request, reply);
         Ok(changed)

@@ -65,6 +65,7 @@ impl Row {
     }
 
     /// The answer that is kept for an instance ID.
+    #[inline(always)]
     pub(crate) fn get(&self, id: u8) -> Option<KeptAnswer<'_>>
         requires { id < ids }
         ensures { result ≡ of_number id_in id self.now.kept }
@@ -75,6 +76,7 @@ impl Row {
 
     /// Puts the answer to a message in front, in the place of the one of its instance ID; where there are more than the
     /// window allows, the last one falls out. It takes no memory.
+    #[inline(always)]
     pub(crate) fn put(&mut self, id: u8, moment: Moment, bytes: &[u8], answer: &[u8])
         requires id { id_at bytes.now ≡ id }
         requires small { id < ids }

@@ -53,6 +53,7 @@ impl Slot {
     }
 
     /// The answer that it holds.
+    #[inline(always)]
     pub(crate) fn kept(&self) -> KeptAnswer<'_>
         ensures { result ≡ self.now }
     {
@@ -62,6 +63,7 @@ impl Slot {
     }
 
     /// Puts an answer in the place of the one that it holds. It writes the bytes that there are, and no room.
+    #[inline(always)]
     pub(crate) fn fill(&mut self, moment: Moment, bytes: &[u8], answer: &[u8])
         requires bytes { length bytes.now ≤ MAX_MESSAGE_BYTES }
         requires few { length answer.now ≤ MAX_MESSAGE_BYTES }

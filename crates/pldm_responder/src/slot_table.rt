@@ -39,6 +39,7 @@ impl SlotTable {
     }
 
     /// The slot of an instance ID.
+    #[inline(always)]
     pub(crate) fn get(&self, id: u8) -> Option<u8>
         requires { id < 32 }
         ensures { result ≡ slice_index_or self.now id None }
@@ -50,6 +51,7 @@ impl SlotTable {
     }
 
     /// Gives an instance ID a slot.
+    #[inline(always)]
     pub(crate) fn put(&mut self, id: u8, slot: u8)
         requires id { id < 32 }
         requires slot { slot < 32 }
@@ -59,6 +61,7 @@ impl SlotTable {
     }
 
     /// Takes the slot of an instance ID away.
+    #[inline(always)]
     pub(crate) fn clear(&mut self, id: u8)
         requires { id < 32 }
         ensures { self.new ≡ slice_set self.old id None }

@@ -18,6 +18,7 @@ pub mod BaseCommandReading
 pub mod PlatformCommandReading
 pub mod CommandReading
 pub mod CommandNames
+pub mod HandingOn
 pub mod Settings
 pub mod Answers
 pub mod AnswerFaults

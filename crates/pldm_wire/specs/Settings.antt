@@ -1,6 +1,8 @@
 -- What a responding end is told of its requesters.
-use Rattle.std.specs.Prelude.{ℕ, ◌≤◌, Bool, true, false, Result, Ok, Err}
+use Rattle.std.specs.Prelude.{ℕ, ◌≤◌, Bool, true, false, ◌||◌, Result, Ok, Err}
 use Rattle.pldm_wire.specs.Commands.{sets}
+use Rattle.pldm_wire.specs.HandingOn.{hands_on}
+use Rattle.pldm_wire.specs.Kinds.{TypeAndCommand}
 use Rattle.pldm_wire.specs.declared.assigned.TheConstants.{INSTANCE_IDS}
 use Rattle.pldm_wire.specs.declared.busy_time.BusyTime.{BusyTime}
 use Rattle.pldm_wire.specs.declared.busy_time.BusyTime.TheVariants.{All, Sets}
@@ -10,8 +12,13 @@ use Rattle.pldm_wire.specs.declared.command.Command.{Command}
 abbrev pub IsWindow : ℕ → Type 0
 IsWindow ids = (1 ≤ ids) × (ids ≤ INSTANCE_IDS)
 
--- whether a request is refused in the busy time: what was read of its command, or the code that refuses it anyway
-abbrev pub refuses : BusyTime → Result Command ℕ → Bool
-refuses All read = true
-refuses Sets (Ok command) = sets command
-refuses Sets (Err code) = false
+-- a command was read, and sets something in the terminus
+abbrev pub reads_set : Result Command ℕ → Bool
+reads_set (Ok command) = sets command
+reads_set (Err code) = false
+
+-- whether a request is refused in the busy time: its type and command, and what was read of them, or the code that refuses
+-- it anyway
+abbrev pub refuses : BusyTime → TypeAndCommand → Result Command ℕ → Bool
+refuses All kind read = true
+refuses (Sets handed) kind read = hands_on handed kind || reads_set read

@@ -1,16 +1,16 @@
 ghost use Rattle.pldm_wire.specs.declared.assigned.TheConstants.{INSTANCE_IDS};
-ghost use Rattle.std.specs.Prelude.{◌≡◌, ◌<◌, ◌≤◌, ◌++◌};
+ghost use Rattle.std.specs.Prelude.{◌≡◌, ◌<◌, ◌≤◌, ◌++◌, length};
 ghost use Rattle.arrayvec.specs.ArrayVec.{array_vec_len};
 ghost use Rattle.pldm_wire.specs.Answers.{AnswerFields, HasCode, IsAnswer, IsAnswerTo, answer_data, answer_message, code_of};
-ghost use Rattle.pldm_wire.specs.Messages.{IsResponse};
+ghost use Rattle.pldm_wire.specs.Messages.{IsResponse, response_message};
 
 use crate::base::push_version_answer;
 use crate::effecters::{push_effecter_states_answer, push_values_answer};
 use crate::header::put_head;
-use crate::pushes::push_array;
+use crate::pushes::{push_array, push_bytes};
 use crate::repository::{push_part_answer, push_repository_counts, push_repository_times};
 use crate::sensors::{push_reading_answer, push_sensor_states_answer};
-use crate::{Answer, Kind, RESPONSE_HEADER, SUCCESS};
+use crate::{Answer, Kind, MAX_RESPONSE_DATA, RESPONSE_HEADER, SUCCESS};
 use mctp_packet::Body;
 
 /// The response of this instance ID, 0 to 31, that gives the answer to a command of this kind:
@@ -42,6 +42,19 @@ pub fn put_answer(body: &mut Body, id: u8, kind: Kind, answer: &Answer)
     put_head(body, id, kind);
     body.push(code_in(answer));
     push_answer_data(body, answer);
+}
+
+/// Puts the response of this instance ID, 0 to 31, to a command of this kind, with this completion code and data, in
+/// the place of what `body` holds: the header with its reserved bit 0, then both (DSP0240, "PLDM message fields").
+pub fn put_response(body: &mut Body, id: u8, kind: Kind, code: u8, rest: &[u8])
+    requires id { id < INSTANCE_IDS }
+    requires few { length rest.now ≤ MAX_RESPONSE_DATA }
+    ensures spelled { body.new.items ≡ response_message 0 id kind code rest.now }
+    ensures response { IsResponse body.new.items id kind code rest.now }
+{
+    put_head(body, id, kind);
+    body.push(code);
+    push_bytes(body, rest);
 }
 
 /// The completion code that the answer is sent with.

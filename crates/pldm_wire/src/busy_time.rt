@@ -1,30 +1,37 @@
 ghost use Rattle.std.specs.Prelude.{◌≡◌};
 ghost use Rattle.pldm_wire.specs.CommandReading.{command_of};
-ghost use Rattle.pldm_wire.specs.Settings.{refuses};
+ghost use Rattle.pldm_wire.specs.Settings.{reads_set, refuses};
 
-use crate::{RequestRef, read_command};
+use crate::{HandedOn, RequestRef, read_command};
 
 /// Which requests are answered with ERROR_NOT_READY in the busy time after a restart, and neither performed nor kept.
 #[derive(Clone, Copy, Debug, PartialEq, Eq)]
 pub enum BusyTime {
     /// Each one.
     All,
-    /// Those with a command that sets something in the terminus. One that only asks is performed, and one that no
-    /// command is read of is refused, as at any other time.
-    Sets,
+    /// Those with a command that sets something in the terminus, and those that are handed on as bytes, which may set
+    /// something. One that only asks is performed, and one that no command is read of is refused, as at any other time.
+    Sets(HandedOn),
 }
 
 impl BusyTime {
     /// Whether this request is.
     pub fn refuses(self, request: &RequestRef<'_>) -> bool
-        ensures { result ≡ refuses self (command_of request.now.kind request.now.rest) }
+        ensures { result ≡ refuses self request.now.kind (command_of request.now.kind request.now.rest) }
     {
         match self {
             BusyTime::All => true,
-            BusyTime::Sets => match &read_command(request) {
-                Ok(command) => command.sets(),
-                Err(_) => false,
-            },
+            BusyTime::Sets(handed_on) => handed_on.has(request.kind()) || reads_set(request),
         }
+    }
+}
+
+/// Whether a command is read of this request that sets something in the terminus.
+fn reads_set(request: &RequestRef<'_>) -> bool
+    ensures { result ≡ reads_set (command_of request.now.kind request.now.rest) }
+{
+    match &read_command(request) {
+        Ok(command) => command.sets(),
+        Err(_) => false,
     }
 }

@@ -15,6 +15,7 @@ mod command_writing;
 mod crc;
 mod effecter_values;
 mod effecters;
+mod handed_on;
 mod header;
 mod kind;
 pub mod laws;
@@ -35,7 +36,7 @@ mod window;
 
 pub use answer::Answer;
 pub use answer_reading::{AnswerFault, read_answer};
-pub use answer_writing::{put_answer, write_answer};
+pub use answer_writing::{put_answer, put_response, write_answer};
 pub use assigned::{
     BASE, ERROR, ERROR_INVALID_DATA, ERROR_INVALID_LENGTH, ERROR_INVALID_PLDM_TYPE,
     ERROR_NOT_READY, ERROR_UNSUPPORTED_PLDM_CMD, GET_NUMERIC_EFFECTER_VALUE, GET_PDR,
@@ -51,11 +52,12 @@ pub use command_reading::read_command;
 pub use command_writing::{put_command, write_command};
 pub use crc::crc8;
 pub use effecter_values::EffecterValues;
+pub use handed_on::HandedOn;
 pub use kind::Kind;
 pub use limits::{
     ALL_FIELDS_FORM, COMMANDS_BYTES, GET_FIRST_PART, GET_NEXT_PART, MAX_PART_BYTES,
-    MAX_REQUEST_BYTES, MAX_STATES, MAX_VERSION_BYTES, MIN_VERSION_BYTES, TIME_BYTES, TYPES_BYTES,
-    VERSION_BYTES,
+    MAX_REQUEST_BYTES, MAX_REQUEST_DATA, MAX_RESPONSE_DATA, MAX_STATES, MAX_VERSION_BYTES,
+    MIN_VERSION_BYTES, TIME_BYTES, TYPES_BYTES, VERSION_BYTES,
 };
 pub use number::Number;
 pub use record_part::RecordPart;

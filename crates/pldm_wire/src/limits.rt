@@ -31,6 +31,12 @@ pub const ALL_FIELDS_FORM: usize = 19;
 /// The most bytes of a command's message: SetStateEffecterStates with all eight fields.
 pub const MAX_REQUEST_BYTES: usize = REQUEST_HEADER + ALL_FIELDS_FORM;
 
+/// The most bytes of a request's data: what is left of a message of the greatest length.
+pub const MAX_REQUEST_DATA: usize = MAX_MESSAGE_BYTES - REQUEST_HEADER;
+
+/// The most bytes of a response's data: what is left of a message of the greatest length.
+pub const MAX_RESPONSE_DATA: usize = MAX_MESSAGE_BYTES - RESPONSE_HEADER;
+
 /// The bytes in which GetPLDMTypes' answer tells the PLDM types, a bit each (DSP0240, "GetPLDMTypes
 /// command").
 pub const TYPES_BYTES: usize = 8;

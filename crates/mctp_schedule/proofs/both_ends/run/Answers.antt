@@ -118,5 +118,5 @@ returns-clause-report g c =
       headline = λ timely.
           subst (λ s. Headline setting (newest_first schedule) journal.entries journal.requests.items journal.order.items s has_performed) (sym c.into_platform-device.ensures.state)
           (subst (λ steps. Headline setting steps journal.entries journal.requests.items journal.order.items (held_of c.loop-step.ends.responder).state has_performed) all
-          (run_is_headline setting past (held_by c.loop-step.ends) runs halves has_performed given c.loop-step.invariant.in_order timely));
+          (run_is_headline setting past (held_by c.loop-step.ends) runs (λ kind. refl) halves has_performed given c.loop-step.invariant.in_order timely));
     }

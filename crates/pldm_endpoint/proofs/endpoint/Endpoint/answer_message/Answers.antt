@@ -1,52 +1,39 @@
-use Rattle.std.proofs.Common.{◌≡◌, ℕ, ◌&&◌, ◌==◌, true, false, Some, if◌then◌else◌, ap, sym, subst, ◌∙◌, rules, arith}
+use Rattle.std.specs.FinMap as map
+use Rattle.std.proofs.Common.{◌≡◌, [], ◌∷◌, Some, IfSome, rules, ap, sym, subst, ◌∙◌}
+use Rattle.pldm_wire.specs.Answers.{IsAnswerTo, answer_message}
+use Rattle.pldm_wire.specs.Commands.{kind_of}
+use Rattle.pldm_wire.specs.HandingOn.{hands_on}
 use Rattle.pldm_responder.specs.Answering.{answering}
-use Rattle.pldm_responder.specs.Ends.{End, held_by}
-use Rattle.pldm_responder.specs.Held.{Entry, IsHeld, id_in}
-use Rattle.pldm_responder.specs.Recency.{replaced}
-use Rattle.pldm_responder.specs.Slots.{kept_in}
-use Rattle.pldm_responder.specs.declared.outcome.MessageOutcome.TheVariants.{Answered}
-use Rattle.pldm_endpoint.specs.RequestKeys.{PendingCommands, pending_at}
-use Rattle.pldm_endpoint.specs.TwoSteps.{ArePending, EndpointView, IsAnsweredBy, answered_held}
-use Rattle.pldm_endpoint.proofs.AnswersKept.{goes_out, is_kept}
-use Rattle.pldm_endpoint.proofs.PendingGlue.{pending_without}
+use Rattle.pldm_responder.specs.Asked.{Answered}
+use Rattle.pldm_responder.specs.Performing.{Perform, tasks_of}
+use Rattle.pldm_endpoint.specs.Giving.{IsReplyOf}
+use Rattle.pldm_endpoint.specs.Receiving.{HasAnswered}
+use Rattle.pldm_endpoint.specs.RequestKeys.{pending_at, request_key}
+use Rattle.pldm_endpoint.specs.TwoSteps.{AnswersCommand, EndpointView, IsItsAnswer, IsWithDevice, task_for, task_in}
+use Rattle.pldm_endpoint.proofs.AnswersGiven.{changed, replied}
+use Rattle.pldm_endpoint.proofs.PendingGlue.{numbered_is}
 use Rattle.pldm_endpoint.proofs.endpoint.Endpoint.answer_message.Goals as goal
-
-pub invariant_of-self : goal.invariant_of-self
-invariant_of-self c =
-    let a = c.in-Some.pending.now in
-    let entry : Entry = record { moment = a.moment; bytes = a.request; answer = c.put_reply-changed.new.reply.items } in
-    let stored : (source : ℕ) → kept_in c.keep_late.new.self.rows source
-    ≡ (if c.args.handle.now.source == source then replaced id_in entry (kept_in c.self.inside.end.rows source) else kept_in c.self.inside.end.rows source) = λ source. search rules in
-    subst (λ (pending : PendingCommands). ArePending c.keep_late.new.self pending c.self.inside.count c.self.inside.max_pending) (sym c.remove.ensures)
-    (pending_without c.self.inside.end c.keep_late.new.self c.self.inside.pending c.self.inside.count c.self.inside.max_pending _ entry
-    (search rules) c.put_reply-changed.ensures.some stored c.self.invariant)
 
 pub returns-clause-answered : goal.returns-clause-answered
 returns-clause-answered c =
     let a = c.in-Some.pending.now in
-    let items = c.put_reply-changed.new.reply.items in
-    let changed = c.put_reply-changed.result in
-    let own = c.args.self.now.end.own in
-    let found : pending_at c.args.self.now.pending c.args.handle.now ≡ Some a = search rules in
-    let own_is : own ≡ c.own.result = search rules in
-    let stored : (source : ℕ) → kept_in c.keep_late.new.self.rows source
-    ≡ (if c.args.handle.now.source == source then replaced id_in (record { moment = a.moment; bytes = a.request; answer = items })
-    (kept_in c.self.inside.end.rows source)
-    else kept_in c.self.inside.end.rows source) = λ source. search rules in
-    let kept = is_kept c.args.handle.now c.args.answer.now a _ found items c.put_reply-changed.ensures.reply c.self.inside.end c.keep_late.new.self
-    (ap (λ (e : End). record e { rows = c.self.inside.end.rows }) c.keep_late.ensures.rest) c.keep_late.ensures.window stored in
-    record {
-      its_answer = search rules;
-      outcome_is =
-          subst (λ taken. IsAnsweredBy own c.args.handle.now c.args.answer.now (pending_at c.args.self.now.pending c.args.handle.now) (answering items taken)) (sym c.performed.ensures)
-          (subst (λ source. IsAnsweredBy own c.args.handle.now c.args.answer.now (pending_at c.args.self.now.pending c.args.handle.now)
-          (answering items (Answered true changed (record { destination = c.args.handle.now.source; source = source; owner = false; tag = a.tag })))) own_is
-          (goes_out c.args.handle.now c.args.answer.now a _ found items c.put_reply-changed.ensures.reply own changed c.put_reply-changed.ensures.changed));
-      held =
-          subst (λ (e : EndpointView). IsHeld (held_by c.keep_late.new.self) (answered_held (held_by e.end) c.args.handle.now c.args.answer.now (pending_at c.args.self.now.pending c.args.handle.now))) c.self.view_is kept;
-      pending = search rules;
-      count = search rules;
-      room = search rules;
-      sources = search rules;
-      settings = search rules;
-    }
+    let command = c.in-Some-command.command in
+    let handle = c.args.handle.now in
+    let handed = c.args.self.now.handed_on in
+    let given = Answered c.args.answer.now in
+    let found : pending_at c.args.self.now.pending handle ≡ Some a = search rules in
+    let inside : pending_at c.self.inside.pending handle ≡ Some a = search rules in
+    let key = request_key handle.source handle.id in
+    let known : IsWithDevice c.self.inside.handed_on c.self.inside.count key a =
+    subst (λ o. IfSome o (IsWithDevice c.self.inside.handed_on c.self.inside.count key)) (numbered_is handle.number (map.get c.self.inside.pending key) a inside).0 (c.self.invariant.each key) in
+    let named : a.command ≡ Some command = search rules in
+    let asked : tasks_of (hands_on handed) a.request ≡ Perform command ∷ [] =
+    subst (λ (e : EndpointView). tasks_of (hands_on e.handed_on) a.request ≡ task_for a ∷ []) c.self.view_is known.task ∙ ap (λ o. task_in o a.request ∷ []) named in
+    let its : IsAnswerTo (kind_of command) c.args.answer.now = search rules in
+    let items_is : c.deref.result.now ≡ c.put_reply-changed.new.reply.items = search rules in
+    let reply_is = items_is ∙ c.put_reply-changed.ensures.reply ∙ ap (λ id. answer_message id (kind_of command) c.args.answer.now) (sym known.id) ∙ sym (replied handed a.request command c.args.answer.now asked) in
+    let changed_is = c.put_reply-changed.ensures.changed ∙ sym (changed handed a.request command c.args.answer.now asked) in
+    subst (λ items. HasAnswered c.args.self.now handle given c.give.new.self (answering items c.give.result)) items_is
+    (c.give.ensures.answered given
+    (subst (λ o. IsItsAnswer o given) (sym found) (subst (λ o. AnswersCommand o c.args.answer.now) (sym named) its))
+    (subst (λ o. IsReplyOf handed given o c.deref.result.now c.put_reply-changed.result) (sym found) (reply_is, changed_is)))

@@ -11,16 +11,17 @@ use Rattle.pldm_endpoint.specs.TwoSteps.{EndpointView, held_in, stepped}
 use Rattle.pldm_endpoint.proofs.EndedMessages.{not_true}
 use Rattle.pldm_endpoint.proofs.PendingGlue.{free_is_answered}
 use Rattle.pldm_endpoint.proofs.QuietRequests.{still_held}
+use Rattle.pldm_endpoint.proofs.TasksRead.{asks_command, asks_response}
 use Rattle.pldm_endpoint.proofs.endpoint.Endpoint.serve.Goals as goal
 
 pub returns-then-ne-clause-served : goal.returns-then-ne-clause-served
 returns-then-ne-clause-served c =
     let r = c.args.request.now in
     let m = message_at c.args.now r in
-    let e : EndpointView = record { end = c.self.inside.end; pending = c.self.inside.pending; count = c.self.inside.count; max_pending = c.self.inside.max_pending } in
+    let e : EndpointView = record { end = c.self.inside.end; handed_on = c.self.inside.handed_on; pending = c.self.inside.pending; count = c.self.inside.count; max_pending = c.self.inside.max_pending } in
     let done : c.standing.result ≡ Fresh → ⊥ = λ fresh. search rules in
     let some = reply_has_bytes (held_by c.self.inside.end) m c.standing.new.reply.items c.standing.result c.standing.ensures.standing c.standing.ensures.reply
-    (free_is_answered c.self.inside.end c.self.inside.pending c.self.inside.count c.self.inside.max_pending r.source (id_at m.bytes) c.self.invariant (search rules)) done in
+    (free_is_answered c.self.inside.handed_on c.self.inside.end c.self.inside.pending c.self.inside.count c.self.inside.max_pending r.source (id_at m.bytes) c.self.invariant (search rules)) done in
     let none : performs (held_in e) m ≡ false = not_true _ (not_performed (held_by c.self.inside.end) m c.standing.result c.standing.ensures.standing done) in
     let quiet = subst (λ (x : EndpointView). performs (held_in x) m ≡ false) c.self.view_is none in
     record {
@@ -28,10 +29,13 @@ returns-then-ne-clause-served c =
       step_is = search (rules, quiet);
       some = search (rules, some);
       command = search (rules, quiet);
-      held = subst (λ (x : EndpointView). IsHeld (held_by c.finish.new.self) (record (stepped (held_in x) (Whole m)) { open_messages = (end_finished x.end c.args.now r).open_messages; last = c.args.now }))
+      held = subst (λ (x : EndpointView). IsHeld (held_by c.finish.new.self) (record (stepped x.handed_on (held_in x) (Whole m)) { open_messages = (end_finished x.end c.args.now r).open_messages; last = c.args.now }))
           c.self.view_is (still_held e c.finish.new.self c.args.now r none c.finish.ensures);
       pending = search (rules, quiet);
       count = search (rules, quiet);
       room = search (rules, quiet);
       settings = search rules;
     }
+
+pub hand_out-requires-clause-asked : goal.hand_out-requires-clause-asked
+hand_out-requires-clause-asked c = asks_response c.args.self.now.handed_on c.args.request.now.bytes c.read.result.now c.read.ensures (search rules)

@@ -1,15 +1,17 @@
-use Rattle.std.proofs.Common.{rules, ◌≡◌, ◌<◌, ◌∙◌, true, ap, length, subst, sym}
+use Rattle.std.proofs.Common.{rules, ◌≡◌, ◌<◌, ◌∙◌, true, false, ap, length, subst, sym}
 use Rattle.pldm_wire.specs.Headers.{id_at}
-use Rattle.pldm_responder.specs.Arrivals.{way_back}
+use Rattle.pldm_responder.specs.Arrivals.{Whole, way_back}
 use Rattle.pldm_responder.specs.Ends.{held_by, held_over}
+use Rattle.pldm_responder.specs.Held.{IsHeld}
 use Rattle.pldm_responder.specs.Looking.{end_finished, message_at}
 use Rattle.pldm_responder.specs.Performing.{rules_of}
 use Rattle.pldm_responder.specs.Serving.{IsServed}
 use Rattle.pldm_responder.specs.Stations.{held_of}
-use Rattle.pldm_responder.specs.Steps.{performs}
+use Rattle.pldm_responder.specs.Steps.{arrival_held, performs}
 use Rattle.pldm_responder.specs.declared.outcome.MessageOutcome.TheVariants.{Answered}
 use Rattle.pldm_responder.specs.declared.arriving.Standing.TheVariants.{Fresh}
 use Rattle.pldm_responder.proofs.KeptEntries.{all_answered, fresh_is_performed, not_performed, reply_has_bytes}
+use Rattle.pldm_responder.proofs.QuietRequests.{not_true, still_held}
 use Rattle.pldm_responder.proofs.ServedRequests.{served_where_performed}
 use Rattle.pldm_responder.proofs.responder.Responder.serve.Goals as goal
 
@@ -21,11 +23,14 @@ returns-then-ne-clause-ok g c =
     let some = reply_has_bytes (held_by c.self.inside.end) m c.standing.new.reply.items c.standing.result c.standing.ensures.standing c.standing.ensures.reply
     (all_answered (λ e. 0 < length e.answer) (id_at r.bytes) _ (c.self.invariant.1 r.source)) done in
     let none = not_performed (held_by c.self.inside.end) m c.standing.result c.standing.ensures.standing done in
+    let device = rules_of g.P.Platform.answer g.P.Platform.after g.P.Platform.sensed in
+    let quiet : performs (held_over (g.P.Platform.state c.self.inside.platform) c.self.inside.end) m ≡ false = not_true _ none in
     record {
       outcome_is = search rules;
       some = search (rules, some);
-      held = search rules;
-      performed = search rules;
+      held = subst (λ station. IsHeld (held_over (g.P.Platform.state c.self.inside.platform) c.finish.new.self) (record (arrival_held device (held_of station) (Whole m)) { open_messages = (end_finished station.end c.args.now r).open_messages; last = c.args.now }))
+          c.self.view_is (still_held device (record { end = c.self.inside.end; platform = c.self.inside.platform; state = g.P.Platform.state c.self.inside.platform }) c.finish.new.self c.args.now r quiet c.finish.ensures);
+      performed = search (rules, quiet, subst (λ station. performs (held_of station) m ≡ false) c.self.view_is quiet);
       fits = λ performed. absurd (none (search rules));
       room = search rules;
       bounds = search rules;

@@ -1,0 +1,2 @@
+pub mod SerialRead
+mod WorkedFrames

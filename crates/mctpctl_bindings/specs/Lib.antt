@@ -1,0 +1,5 @@
+pub mod FrameFaults
+pub mod SmbusPackets
+pub mod SerialPackets
+pub mod Bindings
+pub mod Laws

@@ -1,0 +1,62 @@
+//! The checksum that a description has appended to its versions.
+
+ghost use Rattle.std.specs.Prelude.{◌≡◌};
+ghost use Rattle.pldm_device.specs.FileFaults.{IsOrMemory};
+ghost use Rattle.pldm_device.specs.VersionChecksums.{both_versions_in, checksum_in, with_checksum};
+ghost use Rattle.toml.specs.View.{table_view};
+
+use crate::crc32::crc32;
+use crate::description_fault::FileFault;
+use crate::hex_values::versions_in;
+use crate::keys::{value_at, value_if_any};
+use crate::limits::CHECKED_VERSION_BYTES;
+use arrayvec::ArrayVec;
+use byteorder::{ByteOrder, LittleEndian};
+use pldm_wire::VersionData;
+use std::alloc::Global;
+use toml::Table;
+
+/// The versions of both types, of messaging control and of the platform, with their checksum where it is asked for.
+#[tactic(auto, unfolding(crate::specs::VersionChecksums::both_versions_in))]
+pub(crate) fn both_versions_in(
+    alloc: Global,
+    table: &Table,
+) -> Result<(VersionData, VersionData), FileFault>
+    ensures { IsOrMemory result (both_versions_in (table_view table.now)) }
+{
+    let base_versions = versions_in(alloc, value_at(table, "version0")?)?;
+    let platform_versions = versions_in(alloc, value_at(table, "version2")?)?;
+    let has_checksum = checksum_in(table)?;
+    let base_checked = with_checksum(has_checksum, base_versions)?;
+    let platform_checked = with_checksum(has_checksum, platform_versions)?;
+    Ok((base_checked, platform_checked))
+}
+
+/// Whether a checksum is appended, from the key `version_checksum`; not where it is missing.
+fn checksum_in(table: &Table) -> Result<bool, FileFault>
+    ensures { result ≡ checksum_in (table_view table.now) }
+{
+    match value_if_any(table, "version_checksum") {
+        Some(value) => value.as_bool().ok_or(FileFault::WrongKind),
+        None => Ok(false),
+    }
+}
+
+/// The versions, and where it is asked for, their checksum after them (DSP0240, "GetPLDMVersion command");
+/// `OutOfRange` where both are more than one part.
+fn with_checksum(has_checksum: bool, versions: VersionData) -> Result<VersionData, FileFault>
+    ensures { result ≡ with_checksum has_checksum versions }
+{
+    if !has_checksum {
+        return Ok(versions);
+    }
+    let mut checksum = [0; 4];
+    LittleEndian::write_u32(&mut checksum, crc32(versions.as_slice()));
+    let mut bytes = ArrayVec::<u8, CHECKED_VERSION_BYTES>::new();
+    let _ = bytes.try_extend_from_slice(versions.as_slice()); // they fit
+    let _ = bytes.try_extend_from_slice(&checksum); // it fits
+    match VersionData::new(bytes.as_slice()) {
+        Some(checked) => Ok(checked),
+        None => Err(FileFault::OutOfRange),
+    }
+}

@@ -1,0 +1,35 @@
+//! Which requests are handed on as bytes.
+
+ghost use Rattle.std.specs.Prelude.{◌≡◌, false};
+ghost use Rattle.pldm_wire.specs.HandingOn.{hands_on};
+
+use crate::{BASE, Kind, PLATFORM};
+
+/// Which requests a responding end hands on as bytes, in place of refusing them with ERROR_INVALID_PLDM_TYPE or
+/// ERROR_UNSUPPORTED_PLDM_CMD.
+#[derive(Clone, Copy, Debug, PartialEq, Eq)]
+pub struct HandedOn {
+    /// The PLDM types of which each request is, 0 to 63: bit t stands for type t (DSP0240, "GetPLDMTypes"). The bits of
+    /// types 0 and 2 stand for nothing.
+    pub pldm_types: u64,
+    /// Whether of types 0 and 2 those are whose command this profile does not read.
+    pub unknown_commands: bool,
+}
+
+impl HandedOn {
+    /// No request is.
+    pub const NONE: HandedOn = HandedOn {
+        pldm_types: 0,
+        unknown_commands: false,
+    };
+
+    /// Whether a request for this command is.
+    pub fn has(self, kind: Kind) -> bool
+        ensures { result ≡ hands_on self kind }
+    {
+        match kind.pldm_type {
+            BASE | PLATFORM => self.unknown_commands && kind.name().is_none(),
+            pldm_type => self.pldm_types >> pldm_type & 1 == 1,
+        }
+    }
+}

@@ -1,0 +1,43 @@
+/*
+ * The memory of the firmware: 48 KiB of flash and 16 KiB of RAM. What does not fit is an error of the linker. The stack
+ * lies at the bottom of the RAM, so where it grows too large the processor faults, and no data is overwritten.
+ */
+MEMORY {
+    FLASH (rx) : ORIGIN = 0x00000000, LENGTH = 48K
+    RAM (rwx) : ORIGIN = 0x20000000, LENGTH = 16K
+}
+STACK_BYTES = 5K;
+ENTRY(reset)
+
+SECTIONS {
+    .text : {
+        KEEP(*(.vectors))
+        *(.text .text.*)
+        *(.rodata .rodata.*)
+        . = ALIGN(8);
+    } > FLASH
+    .ARM.exidx : { *(.ARM.exidx .ARM.exidx.*) } > FLASH
+
+    .stack (NOLOAD) : {
+        . += STACK_BYTES;
+        . = ALIGN(8);
+        stack_top = .;
+    } > RAM
+    .data : ALIGN(8) {
+        data_start = .;
+        *(.data .data.*)
+        . = ALIGN(8);
+        data_end = .;
+    } > RAM AT > FLASH
+    data_in_flash = LOADADDR(.data);
+    .bss (NOLOAD) : ALIGN(8) {
+        bss_start = .;
+        *(.bss .bss.* COMMON)
+        . = ALIGN(8);
+        bss_end = .;
+    } > RAM
+}
+
+ASSERT(stack_top - ORIGIN(RAM) >= 5K, "the calls of the answering end want a stack of 5 KiB")
+ASSERT(bss_end <= ORIGIN(RAM) + 16K, "the firmware has 16 KiB of RAM")
+ASSERT(LOADADDR(.data) + SIZEOF(.data) <= ORIGIN(FLASH) + 48K, "the firmware has 48 KiB of flash")
