@@ -211,7 +211,7 @@ class Rewriter:
         return [f"declare void @{name}({parameters}){tail}"]
 
     @form(
-        rf"define (?:noundef )?({SCALAR}|{WIDE_WORD}|void) "
+        rf"define (?:noundef )?(?:zeroext )?({SCALAR}|{WIDE_WORD}|void) "
         rf"@(\w+)\((ptr (?:noundef )?sret\(\[(?:\d+) x i8\]\)[^,]*? {LOCAL}(?:, )?)?({PARAMETERS})\)({TAIL}) \{{"
     )
     def define(self, text, result, name, out, parameters, tail):

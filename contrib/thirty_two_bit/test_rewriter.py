@@ -291,6 +291,7 @@ class Exports(unittest.TestCase):
         for given, wanted, function in (
             ("noundef i8", "zeroext i8", "@checksum(ptr noundef %a0, i64 noundef %a1)"),
             ("noundef i1", "zeroext i1", "@is_good(i8 noundef %a0)"),
+            ("noundef zeroext i1", "zeroext i1", "@is_good(i8 noundef %a0)"),
             ("noundef i16", "zeroext i16", "@half()"),
             ("noundef i32", "i32", "@count(i32 noundef %a0)"),
             ("noundef i64", "i64", "@number(i64 noundef %a0)"),
