@@ -82,9 +82,14 @@ CHANGED = (
     ("a byte of a record in two parts", "01020000803f", "01020000813f", "GetPDR of record 3: the record's checksum"),
     ("the handle of a record", "020000000110", "030000000110", "GetPDR of record 2: it has the handle 3"),
     ("the length of a record", "0110" + "0000" + "1700", "0110" + "0000" + "1800", "GetPDR of record 2: version 1"),
+    ("the handle of the next record", "025100" + "03000000", "025100" + "02000000", "record 2 comes once"),
     ("the checksum of the versions", "00f0f0f1fb8f864a", "00f0f0f1fb8f864b", "its versions 00f0f0f1fb8f864b"),
     ("a refusal", "02110002", "02118002", "sensor 1: GetSensorReading: refused with 0x80"),
 )
+
+
+# The end of the entity, no names, degrees C and the modifier, of numeric sensor 1 of openbmc.toml.
+UNIT, CHANGED_UNIT = "00000000000200", "00000000000201"
 
 
 def walk(*words):
@@ -141,3 +146,9 @@ def check(rows, program):
         ran = walk("--seconds", "0.1", script(folder, "exec sleep 60"))
         well = fails(ran, "Get Endpoint ID at the physical address: no answer in 3 tries")
         rows.check("walk: a program that says nothing", well, repr(ran))
+        # 40, times 0.1 (0x3dcccccd), less 10 (0xc1200000), times 10^1
+        with open(description, "w") as file:
+            file.write(device.replace("01000000803f00000000", "0100cdcccc3d000020c1", 1).replace(UNIT, CHANGED_UNIT, 1))
+        ran = walk("--print", program, description)
+        well = ran.returncode == 0 and "sensor 1    -  -60 degrees C  normal\n" in ran.stdout
+        rows.check("walk: a resolution, an offset and a modifier", well, repr(ran))

@@ -2,6 +2,7 @@
 
 Read are the terminus locator (1), numeric and state sensors (2, 4), numeric and state effecters (9, 11), and the names
 of a sensor, an effecter and an entity (6, 13, 16). Fields that a walk has no use for are passed over."""
+import math
 import struct
 from dataclasses import dataclass
 from decimal import Decimal
@@ -40,14 +41,14 @@ class Numeric:
     unit: int
     modifier: int
     size: int
-    resolution: float
-    offset: float
+    resolution: Decimal
+    offset: Decimal
     lowest: int
     highest: int
 
     def value(self, reading):
         """(reading * resolution + offset) * 10^modifier (DSP0248, "Sensor reading conversion formula")."""
-        return (reading * Decimal(self.resolution) + Decimal(self.offset)).scaleb(self.modifier)
+        return (reading * self.resolution + self.offset).scaleb(self.modifier)
 
 
 @dataclass(frozen=True)
@@ -89,6 +90,14 @@ class Fields:
         if size >= len(FORMS):
             raise Fault(f"data size {size}")
         return size
+
+    def real(self):
+        """A real32, as the shortest decimal that is rounded to it."""
+        number = self.take("f")
+        if not math.isfinite(number):
+            raise Fault(f"the number {number}")
+        texts = (f"{number:.{digits}g}" for digits in range(1, 10))
+        return next(Decimal(text) for text in texts if struct.pack("<f", float(text)) == struct.pack("<f", number))
 
     def text(self, unit, encoding):
         """A text that ends with a unit of zero bytes."""
@@ -132,7 +141,8 @@ def numeric(fields, what, ident, has_names, unit, modifier):
     """What sensors and effecters have alike, from the conversion on; of the rest they have other fields."""
     is_sensor = what == SENSOR
     _, size = fields.take("?"), fields.size()
-    resolution, offset, _, _, _ = fields.take("ffHBB")
+    resolution, offset = fields.real(), fields.real()
+    fields.take("HBB")  # accuracy, tolerances
     if is_sensor:
         fields.take(FORMS[size] + "BB")  # hysteresis, supported thresholds, volatility
     fields.take("ff")  # the intervals

@@ -8,7 +8,6 @@ from table import table_text
 
 AVAILABLE = 0  # the state of a repository that can be read
 OVERALL_CONTAINER = 0
-MOST_RECORDS = 100_000  # where the handles of records go round there is no last one
 NEEDED = {
     q.BASE: {q.GET_TID, q.GET_VERSION, q.GET_TYPES, q.GET_COMMANDS},
     q.PLATFORM: {q.GET_REPOSITORY_INFO, q.GET_PDR},
@@ -81,8 +80,8 @@ class Walk:
     def read_each_record(self):
         """Reads the records, each by the handle that the one before it gave. One that says nothing that can be read is
         passed over."""
-        handle = 0
-        while len(self.records) < MOST_RECORDS:
+        handle, found = 0, set()
+        while True:
             name = f"record {handle}" if handle else "the first record"
             got = self.checks.answer(f"GetPDR of {name}", self.record, handle)
             if got is None:
@@ -90,9 +89,11 @@ class Walk:
             record, handle = got
             self.records.append(record)
             self.contents.append(self.checks.answer(f"{name}, read to its end", contents_of, record))
+            found.add(header_of(record).handle)
             if handle == 0:
                 return True
-        return self.checks.check(f"there are fewer than {MOST_RECORDS} records", False)
+            if handle in found:
+                return self.checks.check(f"record {handle} comes once", False)
 
     def record(self, asked):
         """The record of this handle, and the handle after it."""
