@@ -1,6 +1,6 @@
-"""Rows for `examples/check` over `contrib/walk`: the table of examples/board.toml, and devices that do not hold true.
+"""Rows for `examples/check` over `contrib/walk`: the tables of descriptions, and devices that do not hold true.
 
-The table was written by hand from the text of the description; the UUID is that of docs/PROTOCOL.md, section 15, and a
+The tables were written by hand from the texts of descriptions; the UUID is that of docs/PROTOCOL.md, section 15, and a
 state sensor's possible states are those that its fields have. The records that are wrong are those of
 examples/openbmc.toml with a field changed, and a state sensor's, spelled out from DSP0248.
 """
@@ -37,6 +37,28 @@ PLDM type 2 version 1.1.2, 1.1.3
 sensor 1    -  40 degrees C  normal
 effecter 1  -  10 %          enabled
 """
+PLATFORM = """\
+a device: endpoint ID 20, terminus ID 7
+UUID 4e656564-6c65-8f61-8074-000000000014
+PLDM type 0 version 1.0.0
+PLDM type 2 version 1.1.2, 1.1.3
+
+sensor 1    -  200                          normal
+sensor 2    -  -5                           upper warning
+sensor 3    -  4000                         normal
+sensor 4    -  -300                         normal
+sensor 5    -  100000                       warning
+sensor 6    -  -70000                       normal
+sensor 10   -  state 1 (set 0: 0, 1)        enabled
+sensor 10   -  state 2 (set 0: 1, 2)        enabled
+effecter 1  -  50                           enabled
+effecter 2  -  -20                          enabled
+effecter 4  -  state 1 (set 0: 1, 2)        enabled
+effecter 4  -  state 4 (set 0: 1, 2, 3, 4)  enabled
+"""
+
+# An example, what is added to its text, and its table.
+TABLES = (("board", "", BOARD), ("openbmc", "", OPENBMC), ("platform", "[records]\n", PLATFORM))
 
 # A state sensor's record of one field, whose possible states are 1 and 5, and sensors that it may be of.
 STATE_RECORD = "[[pdr]]\nhex = '04000000010400001100" + "01000500400001000000000001040101" + "22'\n"
@@ -101,9 +123,10 @@ def fails(ran, check):
     return ran.returncode == 1 and f"FAILED  {check}" in ran.stdout and not ran.stdout.endswith(" 0 failed\n")
 
 
-def tables(rows, program):
-    for name, want in (("board", BOARD), ("openbmc", OPENBMC)):
-        description = os.path.join(HERE, f"{name}.toml")
+def tables(rows, program, description):
+    for name, added, want in TABLES:
+        with open(os.path.join(HERE, f"{name}.toml")) as file, open(description, "w") as copy:
+            copy.write(file.read() + added)
         ran = walk("--print", program, description)
         well = (ran.returncode, ran.stdout, ran.stderr) == (0, want, "")
         rows.check(f"walk: the table of {name}.toml", well, repr(ran))
@@ -121,34 +144,48 @@ def script(folder, text):
     return path
 
 
+def hostile(rows, program, folder, description, device):
+    """Devices whose records are not theirs, and a line on which answers are changed."""
+    for name, text, wanted in changed_records(device):
+        with open(description, "w") as file:
+            file.write(text)
+        ran = walk(program, description)
+        rows.check(f"walk: {name} is found", fails(ran, wanted), repr(ran))
+    changer = os.path.join(HERE, "changed_answers.py")
+    for name, old, new, wanted in CHANGED:
+        words = shlex.join([sys.executable, changer, old, new, program])
+        ran = walk(script(folder, f'exec {words} "$@"'))
+        rows.check(f"walk: {name}, changed, is found", fails(ran, wanted), repr(ran))
+
+
+def lines(rows, program, folder):
+    """A question that is lost, and programs that do not answer."""
+    # The first frame has 13 bytes: the packet's 7 between its flag, revision and count, and its check and flag.
+    lost = script(folder, f'dd bs=1 count=13 of=/dev/null 2>/dev/null && exec {shlex.quote(program)} "$@"')
+    ran = walk("--print", "--seconds", "1", lost)
+    rows.check("walk: a question that is lost is sent again", (ran.returncode, ran.stdout) == (0, BOARD), repr(ran))
+    ran = walk(script(folder, "exit 0"))
+    rows.check("walk: a program that ends", fails(ran, "the line stays open"), repr(ran))
+    ran = walk("--seconds", "0.1", script(folder, "exec sleep 60"))
+    well = fails(ran, "Get Endpoint ID at the physical address: no answer in 3 tries")
+    rows.check("walk: a program that says nothing", well, repr(ran))
+
+
+def conversion(rows, program, description, device):
+    """40, times 0.1 (0x3dcccccd), less 10 (0xc1200000), times 10^1."""
+    with open(description, "w") as file:
+        file.write(device.replace("01000000803f00000000", "0100cdcccc3d000020c1", 1).replace(UNIT, CHANGED_UNIT, 1))
+    ran = walk("--print", program, description)
+    well = ran.returncode == 0 and "sensor 1    -  -60 degrees C  normal\n" in ran.stdout
+    rows.check("walk: a resolution, an offset and a modifier", well, repr(ran))
+
+
 def check(rows, program):
-    tables(rows, program)
     with open(os.path.join(HERE, "openbmc.toml")) as file:
         device = file.read()
     with tempfile.TemporaryDirectory() as folder:
         description = os.path.join(folder, "device.toml")
-        for name, text, wanted in changed_records(device):
-            with open(description, "w") as file:
-                file.write(text)
-            ran = walk(program, description)
-            rows.check(f"walk: {name} is found", fails(ran, wanted), repr(ran))
-        changer = os.path.join(HERE, "changed_answers.py")
-        for name, old, new, wanted in CHANGED:
-            words = shlex.join([sys.executable, changer, old, new, program])
-            ran = walk(script(folder, f'exec {words} "$@"'))
-            rows.check(f"walk: {name}, changed, is found", fails(ran, wanted), repr(ran))
-        # The first frame has 13 bytes: the packet's 7 between its flag, revision and count, and its check and flag.
-        lost = script(folder, f'dd bs=1 count=13 of=/dev/null 2>/dev/null && exec {shlex.quote(program)} "$@"')
-        ran = walk("--print", "--seconds", "1", lost)
-        rows.check("walk: a question that is lost is sent again", (ran.returncode, ran.stdout) == (0, BOARD), repr(ran))
-        ran = walk(script(folder, "exit 0"))
-        rows.check("walk: a program that ends", fails(ran, "the line stays open"), repr(ran))
-        ran = walk("--seconds", "0.1", script(folder, "exec sleep 60"))
-        well = fails(ran, "Get Endpoint ID at the physical address: no answer in 3 tries")
-        rows.check("walk: a program that says nothing", well, repr(ran))
-        # 40, times 0.1 (0x3dcccccd), less 10 (0xc1200000), times 10^1
-        with open(description, "w") as file:
-            file.write(device.replace("01000000803f00000000", "0100cdcccc3d000020c1", 1).replace(UNIT, CHANGED_UNIT, 1))
-        ran = walk("--print", program, description)
-        well = ran.returncode == 0 and "sensor 1    -  -60 degrees C  normal\n" in ran.stdout
-        rows.check("walk: a resolution, an offset and a modifier", well, repr(ran))
+        tables(rows, program, description)
+        hostile(rows, program, folder, description, device)
+        conversion(rows, program, description, device)
+        lines(rows, program, folder)
