@@ -161,24 +161,24 @@ class Questions:
             raise Fault(f"data size {size}")
         return (size, *fields, *unpack(FORMS[size] * count, numbers))
 
-    def sensor_reading(self, ident):
+    def sensor_reading(self, identifier):
         """The data size, the operational state, the present state and the reading."""
-        asked = struct.pack("<HB", ident, 0)
+        asked = struct.pack("<HB", identifier, 0)
         size, operational, _, present, _, _, reading = self.numbers(GET_SENSOR_READING, asked, "BBBBB", 1)
         return size, operational, present, reading
 
-    def effecter_value(self, ident):
+    def effecter_value(self, identifier):
         """The data size, the operational state, the pending value and the present one."""
-        return self.numbers(GET_NUMERIC_EFFECTER_VALUE, struct.pack("<H", ident), "B", 2)
+        return self.numbers(GET_NUMERIC_EFFECTER_VALUE, struct.pack("<H", identifier), "B", 2)
 
-    def state_sensor_readings(self, ident):
+    def state_sensor_readings(self, identifier):
         """Of each field the operational state and the present one."""
-        fields = self.fields(GET_STATE_SENSOR_READINGS, struct.pack("<HBB", ident, 0, 0), 4)
+        fields = self.fields(GET_STATE_SENSOR_READINGS, struct.pack("<HBB", identifier, 0, 0), 4)
         return [(operational, present) for operational, present, _, _ in fields]
 
-    def state_effecter_states(self, ident):
+    def state_effecter_states(self, identifier):
         """Of each field the operational state, the pending state and the present one."""
-        return self.fields(GET_STATE_EFFECTER_STATES, struct.pack("<H", ident), 3)
+        return self.fields(GET_STATE_EFFECTER_STATES, struct.pack("<H", identifier), 3)
 
     def fields(self, command, data, width):
         count, rest = self.pldm(PLATFORM, command, data, "B*")

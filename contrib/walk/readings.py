@@ -1,5 +1,4 @@
 """What a sensor or an effecter is asked, and what has to hold of the answer by its record."""
-import questions as q
 from records import SENSOR, Numeric
 from table import EFFECTER_STATES, PENDING, SENSOR_OPERATIONAL, SENSOR_STATES, Row, named, state_text, value_text
 
@@ -7,17 +6,17 @@ from table import EFFECTER_STATES, PENDING, SENSOR_OPERATIONAL, SENSOR_STATES, R
 class Readings:
     def __init__(self, checks, questions, names):
         self.checks, self.ask = checks, questions
-        self.names = {(it.what, it.ident): it.names for it in names}
+        self.names = {(it.what, it.identifier): it.names for it in names}
 
     def rows(self, thing):
         """The rows of the table for a sensor or an effecter: one, or one for each of its state fields."""
-        what, is_sensor = f"{thing.what} {thing.ident}", thing.what == SENSOR
+        what, is_sensor = f"{thing.what} {thing.identifier}", thing.what == SENSOR
         if isinstance(thing, Numeric):
             return (self.numeric_sensor if is_sensor else self.numeric_effecter)(thing, what)
         return (self.state_sensor if is_sensor else self.state_effecter)(thing, what)
 
     def name(self, thing, place=0):
-        names = self.names.get((thing.what, thing.ident), ())
+        names = self.names.get((thing.what, thing.identifier), ())
         return names[place][0] if place < len(names) and names[place] else ""
 
     def number(self, record, what, size, number):
@@ -27,7 +26,7 @@ class Readings:
         self.checks.check(f"{what}: {number} is from {record.lowest} to {record.highest}", is_within)
 
     def numeric_sensor(self, record, what):
-        got = self.checks.answer(f"{what}: GetSensorReading", self.ask.sensor_reading, record.ident)
+        got = self.checks.answer(f"{what}: GetSensorReading", self.ask.sensor_reading, record.identifier)
         if got is None:
             return []
         size, operational, present, reading = got
@@ -38,7 +37,7 @@ class Readings:
         return [Row(what, self.name(record), value_text(record, reading), state)]
 
     def numeric_effecter(self, record, what):
-        got = self.checks.answer(f"{what}: GetNumericEffecterValue", self.ask.effecter_value, record.ident)
+        got = self.checks.answer(f"{what}: GetNumericEffecterValue", self.ask.effecter_value, record.identifier)
         if got is None:
             return []
         size, operational, pending, present = got
@@ -49,11 +48,11 @@ class Readings:
         return [Row(what, self.name(record), value_text(record, present), state)]
 
     def state_sensor(self, record, what):
-        got = self.checks.answer(f"{what}: GetStateSensorReadings", self.ask.state_sensor_readings, record.ident)
+        got = self.checks.answer(f"{what}: GetStateSensorReadings", self.ask.state_sensor_readings, record.identifier)
         return self.fields(record, what, got, SENSOR_OPERATIONAL)
 
     def state_effecter(self, record, what):
-        got = self.checks.answer(f"{what}: GetStateEffecterStates", self.ask.state_effecter_states, record.ident)
+        got = self.checks.answer(f"{what}: GetStateEffecterStates", self.ask.state_effecter_states, record.identifier)
         return self.fields(record, what, got, EFFECTER_STATES)
 
     def fields(self, record, what, got, operational_names):

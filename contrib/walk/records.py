@@ -36,7 +36,7 @@ class Numeric:
     """A numeric sensor or effecter: its range is what can be read of it, or set."""
 
     what: str
-    ident: int
+    identifier: int
     has_names: bool
     unit: int
     modifier: int
@@ -56,7 +56,7 @@ class States:
     """A state sensor or effecter: of each field its state set and the possible states."""
 
     what: str
-    ident: int
+    identifier: int
     has_names: bool
     fields: tuple
 
@@ -66,7 +66,7 @@ class Names:
     """The names of a sensor or effecter with this ID, of each field a list; of an entity, its names and container."""
 
     what: str
-    ident: int
+    identifier: int
     names: tuple
 
 
@@ -126,18 +126,18 @@ def terminus_locator(fields):
 
 
 def numeric_sensor(fields):
-    _, ident, _, _, _, _, has_names = fields.take("HHHHHB?")
+    _, identifier, _, _, _, _, has_names = fields.take("HHHHHB?")
     unit, modifier, *_ = fields.take("Bb" + "BBBbBBB")
-    return numeric(fields, SENSOR, ident, has_names, unit, modifier)
+    return numeric(fields, SENSOR, identifier, has_names, unit, modifier)
 
 
 def numeric_effecter(fields):
-    _, ident, _, _, _, _, _, has_names = fields.take("HHHHHHB?")
+    _, identifier, _, _, _, _, _, has_names = fields.take("HHHHHHB?")
     unit, modifier, *_ = fields.take("Bb" + "BBBbBB")
-    return numeric(fields, EFFECTER, ident, has_names, unit, modifier)
+    return numeric(fields, EFFECTER, identifier, has_names, unit, modifier)
 
 
-def numeric(fields, what, ident, has_names, unit, modifier):
+def numeric(fields, what, identifier, has_names, unit, modifier):
     """What sensors and effecters have alike, from the conversion on; of the rest they have other fields."""
     is_sensor = what == SENSOR
     _, size = fields.take("?"), fields.size()
@@ -151,17 +151,17 @@ def numeric(fields, what, ident, has_names, unit, modifier):
     if form > REAL:
         raise Fault(f"range field format {form}")
     fields.take((FORMS + "f")[form] * (9 if is_sensor else 5))
-    return Numeric(what, ident, has_names, unit, modifier, size, resolution, offset, lowest, highest)
+    return Numeric(what, identifier, has_names, unit, modifier, size, resolution, offset, lowest, highest)
 
 
 def state_sensor(fields):
-    _, ident, _, _, _, _, has_names = fields.take("HHHHHB?")
-    return States(SENSOR, ident, has_names, possible_states(fields))
+    _, identifier, _, _, _, _, has_names = fields.take("HHHHHB?")
+    return States(SENSOR, identifier, has_names, possible_states(fields))
 
 
 def state_effecter(fields):
-    _, ident, _, _, _, _, _, has_names = fields.take("HHHHHHB?")
-    return States(EFFECTER, ident, has_names, possible_states(fields))
+    _, identifier, _, _, _, _, _, has_names = fields.take("HHHHHHB?")
+    return States(EFFECTER, identifier, has_names, possible_states(fields))
 
 
 def possible_states(fields):
@@ -179,8 +179,8 @@ def possible_states(fields):
 
 def names_of(what):
     def auxiliary_names(fields):
-        _, ident, count = fields.take("HHB")
-        return Names(what, ident, tuple(fields.names(fields.take("B")) for _ in range(count)))
+        _, identifier, count = fields.take("HHB")
+        return Names(what, identifier, tuple(fields.names(fields.take("B")) for _ in range(count)))
 
     return auxiliary_names
 

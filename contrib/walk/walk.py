@@ -1,7 +1,7 @@
 """The walk: what is asked of a device that was found, in order, and what has to hold of the answers."""
-import questions as q
 from messages import Fault
-from questions import version_text, versions_in
+from questions import BASE, PLATFORM, PLDM, version_text, versions_in
+from questions import GET_COMMANDS, GET_PDR, GET_REPOSITORY_INFO, GET_TID, GET_TYPES, GET_VERSION
 from readings import Readings
 from records import EFFECTER, HEADER_BYTES, SENSOR, Names, Numeric, States, Terminus, contents_of, header_of
 from table import table_text
@@ -9,8 +9,8 @@ from table import table_text
 AVAILABLE = 0  # the state of a repository that can be read
 OVERALL_CONTAINER = 0
 NEEDED = {
-    q.BASE: {q.GET_TID, q.GET_VERSION, q.GET_TYPES, q.GET_COMMANDS},
-    q.PLATFORM: {q.GET_REPOSITORY_INFO, q.GET_PDR},
+    BASE: {GET_TID, GET_VERSION, GET_TYPES, GET_COMMANDS},
+    PLATFORM: {GET_REPOSITORY_INFO, GET_PDR},
 }
 
 
@@ -38,7 +38,7 @@ class Walk:
         self.checks.equal("both are the same", again, self.eid)
         self.uuid = self.checks.answer("Get Endpoint UUID", self.ask.endpoint_uuid)
         types = self.checks.answer("Get Message Type Support", self.ask.message_types)
-        return self.checks.check("PLDM is among the message types", q.PLDM in (types or ()), str(types))
+        return self.checks.check("PLDM is among the message types", PLDM in (types or ()), str(types))
 
     # ---- The terminus (DSP0240) ----
 
@@ -47,7 +47,7 @@ class Walk:
         types = self.checks.answer("GetPLDMTypes", self.ask.types) or []
         for kind in types:
             self.find_commands(kind)
-        has_both = {q.BASE, q.PLATFORM} <= set(types)
+        has_both = {BASE, PLATFORM} <= set(types)
         return self.checks.check("types 0 and 2 are among the PLDM types", has_both, str(types))
 
     def find_commands(self, kind):
@@ -116,16 +116,16 @@ class Walk:
     def check_names(self):
         """A record says whether its names have a record."""
         things = [it for it in self.contents if isinstance(it, (Numeric, States))]
-        keys = [(it.what, it.ident) for it in things]
+        keys = [(it.what, it.identifier) for it in things]
         self.checks.check("each sensor and effecter has one record", len(set(keys)) == len(keys), str(keys))
-        named = {(it.what, it.ident): it.names for it in self.of(Names) if it.what in (SENSOR, EFFECTER)}
+        named = {(it.what, it.identifier): it.names for it in self.of(Names) if it.what in (SENSOR, EFFECTER)}
         for it in things:
-            what = f"{it.what} {it.ident}"
-            self.checks.equal(f"{what}: a record of names", (it.what, it.ident) in named, it.has_names)
+            what = f"{it.what} {it.identifier}"
+            self.checks.equal(f"{what}: a record of names", (it.what, it.identifier) in named, it.has_names)
         for key in named.keys() - set(keys):
             self.checks.check(f"the names of {key[0]} {key[1]} are those of a record", False)
         entities = [it.names[0] for it in self.of(Names) if it.what not in (SENSOR, EFFECTER)]
-        overall = [it.names[0] for it in self.of(Names) if (it.what, it.ident) == ("entity", OVERALL_CONTAINER)]
+        overall = [it.names[0] for it in self.of(Names) if (it.what, it.identifier) == ("entity", OVERALL_CONTAINER)]
         self.name = next((names[0] for names in overall + entities if names), None)
 
     # ---- The values (DSP0248) ----
