@@ -15,6 +15,7 @@ use crate::slot_table::SlotTable;
 use mctp_packet::{Memory, Moment};
 use pldm_wire::Window;
 use std::alloc::Global;
+use std::collections::VecDeque;
 use std::marker::Model;
 
 /// The answers that are kept to one source: one to each of its latest instance IDs, as many as the window allows. The
@@ -24,14 +25,15 @@ pub(crate) struct Row {
     window: Window,
     /// The slot of each instance ID that has one.
     table: SlotTable,
-    /// Which slot each of these instance IDs has, the oldest first.
-    order: Vec<Indexed>,
+    /// Which slot each of these instance IDs has, the oldest first: what leaves is mostly the first.
+    order: VecDeque<Indexed>,
     /// The slots that were used. What was not is never written, so that its memory stays untouched.
     slots: Vec<Slot>,
 }
 
 impl Model for Row {
     ghost use Rattle.std.specs.Vec.{vec_capacity};
+    ghost use Rattle.std.specs.VecDeque.{deque_capacity};
     ghost use Rattle.pldm_responder.specs.Orders.{newest_first};
     ghost use Rattle.pldm_responder.specs.Slots.{Answers, coded_answers};
     ghost use Rattle.pldm_responder.specs.SourceAnswers.{AreLatest, kept_by};
@@ -43,7 +45,7 @@ impl Model for Row {
     ghost view = { λ r. record { window = r.window; kept = kept_by r.slots.items (newest_first r.order.items) } };
 
     ghost invariant = { λ r.
-        AreLatest r.window r.table r.slots.items r.order.items (vec_capacity r.order) (vec_capacity r.slots) };
+        AreLatest r.window r.table r.slots.items r.order.items (deque_capacity r.order) (vec_capacity r.slots) };
 }
 
 impl Row {
@@ -54,7 +56,7 @@ impl Row {
         ensures { IfOk result (λ row. row ≡ record { window = window; kept = [] }) }
     {
         let count = usize::from(window.get());
-        let order = Vec::with_capacity(alloc, count)?;
+        let order = VecDeque::with_capacity(alloc, count)?;
         let slots = Vec::with_capacity(alloc, count)?;
         Ok(Row {
             window,

@@ -1,6 +1,8 @@
-use Rattle.std.proofs.Common.{◌≡◌, ◌≤◌, ◌+◌, ℕ, max, List, Option, Vec, Global, length, arith, ap, sym, ◌∙◌, subst, take}
+use Rattle.std.proofs.Common.{◌≡◌, ◌≤◌, ◌+◌, ℕ, max, List, Option, Global, length, arith, ap, sym, ◌∙◌, subst, take}
 use Rattle.std.specs.Prelude.{slice_set}
+use Rattle.std.specs.declared.collections.VecDeque.{VecDeque}
 use Rattle.std.specs.Vec.{vec_capacity}
+use Rattle.std.specs.VecDeque.{deque_capacity}
 use Rattle.pldm_responder.specs.Held.{Entry, id_in}
 use Rattle.pldm_responder.specs.Orders.{id_of, newest_first}
 use Rattle.pldm_responder.specs.declared.order.Indexed.{Indexed}
@@ -68,10 +70,10 @@ invariant_of-self c =
     let inside = c.self.inside in
     let now = c.if-slot-len.self-inside in
     let is = ready c in
-    let latest = still_latest inside.window inside.table inside.slots.items inside.order.items (vec_capacity inside.order) (vec_capacity inside.slots) c.self.invariant c.args.id c.from-slot.result
+    let latest = still_latest inside.window inside.table inside.slots.items inside.order.items (deque_capacity inside.order) (vec_capacity inside.slots) c.self.invariant c.args.id c.from-slot.result
     c.renew.new.order.items now.slots.items c.fill.new.self c.renew.ensures.still (few c) (front c) (used c) is.reached (named c)
-    c.renew.new.table (vec_capacity c.renew.new.order) (vec_capacity now.slots) c.renew.ensures.table c.renew.ensures.small c.renew.ensures.room is.rooms in
-    subst (λ (parts : ℕ × (List (Option ℕ) × Vec Indexed Global)). AreLatest parts.0 parts.1.0 (slice_set now.slots.items c.from-slot.result c.fill.new.self) parts.1.1.items (vec_capacity parts.1.1) (vec_capacity now.slots))
+    c.renew.new.table (deque_capacity c.renew.new.order) (vec_capacity now.slots) c.renew.ensures.table c.renew.ensures.small c.renew.ensures.room is.rooms in
+    subst (λ (parts : ℕ × (List (Option ℕ) × VecDeque Indexed Global)). AreLatest parts.0 parts.1.0 (slice_set now.slots.items c.from-slot.result c.fill.new.self) parts.1.1.items (deque_capacity parts.1.1) (vec_capacity now.slots))
     (λ i. (sym is.window i, (sym is.table i, sym is.order i))) latest
 
 pub returns : goal.returns
@@ -79,7 +81,7 @@ returns c =
     let inside = c.self.inside in
     let now = c.if-slot-len.self-inside in
     let is = ready c in
-    let kept = kept_in_front inside.window inside.table inside.slots.items inside.order.items (vec_capacity inside.order) (vec_capacity inside.slots) c.self.invariant c.args.id c.from-slot.result
+    let kept = kept_in_front inside.window inside.table inside.slots.items inside.order.items (deque_capacity inside.order) (vec_capacity inside.slots) c.self.invariant c.args.id c.from-slot.result
     c.renew.new.order.items now.slots.items c.fill.new.self c.renew.ensures.still (few c) (front c) (used c) is.reached (named c) in
     (λ i. record { window = is.window i; kept = kept_by (slice_set now.slots.items c.from-slot.result c.fill.new.self) (newest_first (is.order i).items) })
     ∙ ap (λ entries. record { window = inside.window; kept = entries }) kept
