@@ -68,6 +68,9 @@ pub(crate) struct KeptAnswers {
     alloc: Global,
     window: Window,
     rows: Vec<(u8, Place)>,
+    /// Where the row stood into which an answer was put last. It is looked at first: many packets come from the source
+    /// of the one before.
+    latest: usize,
 }
 
 impl Model for KeptAnswers {
@@ -110,6 +113,7 @@ impl KeptAnswers {
             alloc,
             window,
             rows: Vec::new(alloc),
+            latest: 0,
         }
     }
 
@@ -136,7 +140,10 @@ impl KeptAnswers {
         ensures absent { IfErr result (IsGapFor no_answers self.now.list source) }
     {
         let source = source.get();
-        self.rows.binary_search_by_key(&source, |(other, _)| *other)
+        match self.rows.get(self.latest) {
+            Some((other, _)) if *other == source => Ok(self.latest),
+            _ => self.rows.binary_search_by_key(&source, |(other, _)| *other),
+        }
     }
 
     /// The row of a source.
@@ -215,6 +222,7 @@ impl KeptAnswers {
     {
         if let Ok(place) = self.search(source) {
             self.rows[place].1.row.put(id, moment, bytes, answer);
+            self.latest = place;
         }
     }
 

@@ -13,7 +13,7 @@ abbrev with_entry : Entry → ℕ → List Entry → List Entry
 with_entry e window kept = take window (renewed id_in e kept)
 
 -- the row that was there, and the one in its place
-module _ (c : goal.After-self-1) where
+module _ (c : goal.After-self-in-Ok-1) where
   abbrev entry : Entry
   entry = record { moment = c.args.moment; bytes = c.args.bytes.now; answer = c.args.answer.now }
 
