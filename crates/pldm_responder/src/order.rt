@@ -1,7 +1,7 @@
 //! The order of the instance IDs of a source, by their latest requests.
 
-ghost use Rattle.std.specs.Prelude.{◌≡◌, ◌==◌, ◌+◌, ◌<◌, ◌≤◌, max, take};
-ghost use Rattle.std.specs.List.{position};
+ghost use Rattle.std.specs.Prelude.{◌≡◌, ◌==◌, ◌+◌, ◌<◌, ◌≤◌, max, slice_index_or, take};
+ghost use Rattle.std.specs.List.{position, remove};
 ghost use Rattle.std.specs.VecDeque.{deque_capacity, deque_len};
 ghost use Rattle.pldm_responder.specs.Orders.{AreInOrder, IsTable, id_of, newest_first, slot_for};
 ghost use Rattle.pldm_responder.specs.Recency.{AllBelow, renewed};
@@ -16,11 +16,51 @@ pub(crate) struct Indexed {
     slot: u8,
 }
 
-/// The place of an instance ID.
+/// The place of an instance ID: mostly the first, since a requester uses its instance IDs in turn.
+#[inline(always)]
 fn place_of(order: &VecDeque<Indexed>, id: u8) -> Option<usize>
     ensures { result ≡ position (λ indexed. indexed.id == id) order.now.items }
 {
+    match order.front() {
+        Some(first) if first.id == id => Some(0),
+        _ => later_place_of(order, id),
+    }
+}
+
+/// As [`place_of`], for any place.
+// Not inlined: it is seldom run, in a function that runs for each request.
+#[inline(never)]
+fn later_place_of(order: &VecDeque<Indexed>, id: u8) -> Option<usize>
+    ensures { result ≡ position (λ indexed. indexed.id == id) order.now.items }
+{
     order.iter().position(|indexed| indexed.id == id)
+}
+
+/// Takes out the instance ID at a place.
+#[inline(always)]
+fn take_at(order: &mut VecDeque<Indexed>, place: usize) -> Indexed
+    requires { place < deque_len order.old }
+    ensures value { result ≡ slice_index_or order.old.items place result }
+    ensures items { order.new.items ≡ remove order.old.items place }
+    ensures room { deque_capacity order.new ≡ deque_capacity order.old }
+{
+    if place == 0 {
+        order.pop_front().unwrap()
+    } else {
+        take_later(order, place)
+    }
+}
+
+/// As [`take_at`], for any place.
+// Not inlined: it is seldom run, in a function that runs for each request.
+#[inline(never)]
+fn take_later(order: &mut VecDeque<Indexed>, place: usize) -> Indexed
+    requires { place < deque_len order.old }
+    ensures value { result ≡ slice_index_or order.old.items place result }
+    ensures items { order.new.items ≡ remove order.old.items place }
+    ensures room { deque_capacity order.new ≡ deque_capacity order.old }
+{
+    order.remove(place).unwrap()
 }
 
 /// Puts an instance ID behind the others, which stand the oldest first, and gives its slot: its own, else the next one
@@ -48,11 +88,11 @@ pub(crate) fn renew(order: &mut VecDeque<Indexed>, table: &mut SlotTable, window
     let slot = match table.get(id) {
         Some(_) => {
             let place = place_of(order, id).unwrap();
-            order.remove(place).unwrap().slot
+            take_at(order, place).slot
         }
         None if order.len() < usize::from(window) => order.len() as u8,
         None => {
-            let oldest = order.pop_front().unwrap();
+            let oldest = take_at(order, 0);
             table.clear(oldest.id);
             oldest.slot
         }
