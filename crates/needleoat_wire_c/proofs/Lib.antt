@@ -1,0 +1,4 @@
+pub mod RecordsWalked
+pub mod RecordsFound
+pub mod RecordsSummed
+pub mod RecordsHeld

@@ -1,1 +1,5 @@
 pub mod BusFrames
+pub mod NameForms
+pub mod RecordArrays
+pub mod RecordForms
+pub mod RecordWalks
