@@ -2,6 +2,7 @@
 -- PDR" and "Entity auxiliary names PDR"): one name, in English.
 use Rattle.std.specs.Prelude.{ℕ, nat_le, List, [], ◌∷◌, take, Option, Some, None, option_map, if◌then◌else◌}
 use Rattle.pldm_pdr.specs.Names.{Name, all_names_bytes, names_bytes}
+use Rattle.pldm_pdr.specs.Records.{PlatformRecord}
 use Rattle.pldm_pdr.specs.StateSets.{kept}
 use Rattle.pldm_pdr.specs.declared.data.RecordData.TheVariants.{EffecterNames as EffecterNamesData}
 use Rattle.pldm_pdr.specs.declared.data.RecordData.TheVariants.{EntityNames as EntityNamesData}
@@ -9,7 +10,7 @@ use Rattle.pldm_pdr.specs.declared.data.RecordData.TheVariants.{SensorNames as S
 use Rattle.pldm_pdr.specs.declared.names.EffecterNames.{EffecterNames}
 use Rattle.pldm_pdr.specs.declared.names.EntityNames.{EntityNames}
 use Rattle.pldm_pdr.specs.declared.names.SensorNames.{SensorNames}
-use Rattle.needleoat_wire_c.specs.RecordForms.{entity_in, record_bytes}
+use Rattle.needleoat_wire_c.specs.RecordForms.{entity_in, record_in}
 use Rattle.needleoat_wire_c.specs.declared.record_forms.EffecterNameFields.{EffecterNameFields}
 use Rattle.needleoat_wire_c.specs.declared.record_forms.EntityNameFields.{EntityNameFields}
 use Rattle.needleoat_wire_c.specs.declared.record_forms.SensorNameFields.{SensorNameFields}
@@ -41,9 +42,9 @@ sensor_name_with f name =
 abbrev pub sensor_name_in : SensorNameFields → Option SensorNames
 sensor_name_in f = option_map (sensor_name_with f) (name_in f.length f.text)
 
-abbrev pub sensor_name_record : SensorNameFields → Option (List ℕ)
+abbrev pub sensor_name_record : SensorNameFields → Option PlatformRecord
 sensor_name_record f =
-    record_bytes f.record_handle f.change_number (option_map (λ r. SensorNamesData r) (sensor_name_in f))
+    record_in f.record_handle f.change_number (option_map (λ r. SensorNamesData r) (sensor_name_in f))
 
 -- the name of an effecter
 
@@ -54,9 +55,9 @@ effecter_name_with f name =
 abbrev pub effecter_name_in : EffecterNameFields → Option EffecterNames
 effecter_name_in f = option_map (effecter_name_with f) (name_in f.length f.text)
 
-abbrev pub effecter_name_record : EffecterNameFields → Option (List ℕ)
+abbrev pub effecter_name_record : EffecterNameFields → Option PlatformRecord
 effecter_name_record f =
-    record_bytes f.record_handle f.change_number (option_map (λ r. EffecterNamesData r) (effecter_name_in f))
+    record_in f.record_handle f.change_number (option_map (λ r. EffecterNamesData r) (effecter_name_in f))
 
 -- the name of an entity
 
@@ -66,6 +67,6 @@ entity_name_with f name = record { entity = entity_in f.entity; names = kept (on
 abbrev pub entity_name_in : EntityNameFields → Option EntityNames
 entity_name_in f = option_map (entity_name_with f) (name_in f.length f.text)
 
-abbrev pub entity_name_record : EntityNameFields → Option (List ℕ)
+abbrev pub entity_name_record : EntityNameFields → Option PlatformRecord
 entity_name_record f =
-    record_bytes f.record_handle f.change_number (option_map (λ r. EntityNamesData r) (entity_name_in f))
+    record_in f.record_handle f.change_number (option_map (λ r. EntityNamesData r) (entity_name_in f))

@@ -4,7 +4,7 @@ use Rattle.std.specs.Prelude.{ℕ, ◌==◌, nat_le, Bool, true, false, ◌&&◌
 use Rattle.std.specs.Prelude.{Option, Some, None, option_map, if◌then◌else◌}
 use Rattle.pldm_wire.specs.Sizes.{size_of}
 use Rattle.pldm_wire.specs.declared.size.Size.{Size}
-use Rattle.pldm_pdr.specs.Records.{bytes_of, data_fits, platform_record}
+use Rattle.pldm_pdr.specs.Records.{PlatformRecord, bytes_of, data_fits, platform_record}
 use Rattle.pldm_pdr.specs.StateSets.{kept}
 use Rattle.pldm_pdr.specs.declared.conversion.Conversion.{Conversion}
 use Rattle.pldm_pdr.specs.declared.data.RecordData.{RecordData}
@@ -40,18 +40,18 @@ use Rattle.needleoat_wire_c.specs.declared.record_forms.UnitsFields.{UnitsFields
 use Rattle.needleoat_wire_c.specs.declared.record_forms.TheConstants.{STATE_BYTES}
 use Rattle.needleoat_wire_c.specs.declared.record_writing.TheConstants.{NO_RECORD}
 
--- the bytes of the record with this handle, change number and data, where the data fits; 0 is no record's handle
-abbrev pub record_bytes : ℕ → ℕ → Option RecordData → Option (List ℕ)
-record_bytes handle change_number None = None
-record_bytes handle change_number (Some contents) =
+-- the record with this handle, change number and data, where the data fits; 0 is no record's handle
+abbrev pub record_in : ℕ → ℕ → Option RecordData → Option PlatformRecord
+record_in handle change_number None = None
+record_in handle change_number (Some contents) =
     if handle == NO_RECORD then None
-    else if data_fits contents then Some (bytes_of (platform_record handle change_number contents))
+    else if data_fits contents then Some (platform_record handle change_number contents)
     else None
 
--- the same in a room of so many bytes, where they are not more
-abbrev pub in_room : ℕ → Option (List ℕ) → Option (List ℕ)
-in_room room None = None
-in_room room (Some bytes) = if nat_le (length bytes) room then Some bytes else None
+-- its bytes, where a room of so many has place for them
+abbrev pub bytes_in_room : ℕ → Option PlatformRecord → Option (List ℕ)
+bytes_in_room room None = None
+bytes_in_room room (Some pdr) = if nat_le (length (bytes_of pdr)) room then Some (bytes_of pdr) else None
 
 -- 0 no, 1 yes
 abbrev pub flag_in : ℕ → Option Bool
@@ -141,9 +141,9 @@ locator_with f is_valid =
 abbrev pub locator_in : TerminusLocatorFields → Option TerminusLocator
 locator_in f = option_map (locator_with f) (flag_in f.is_valid)
 
-abbrev pub terminus_locator_record : TerminusLocatorFields → Option (List ℕ)
+abbrev pub terminus_locator_record : TerminusLocatorFields → Option PlatformRecord
 terminus_locator_record f =
-    record_bytes f.record_handle f.change_number (option_map (λ r. TerminusLocatorData r) (locator_in f))
+    record_in f.record_handle f.change_number (option_map (λ r. TerminusLocatorData r) (locator_in f))
 
 -- the numeric sensor
 
@@ -177,9 +177,9 @@ abbrev pub numeric_sensor_in : NumericSensorFields → Option NumericSensor
 numeric_sensor_in f =
     numeric_sensor_with f (flag_in f.has_auxiliary_names) (conversion_in f.conversion) (sensor_range_in f.range)
 
-abbrev pub numeric_sensor_record : NumericSensorFields → Option (List ℕ)
+abbrev pub numeric_sensor_record : NumericSensorFields → Option PlatformRecord
 numeric_sensor_record f =
-    record_bytes f.record_handle f.change_number (option_map (λ r. NumericSensorData r) (numeric_sensor_in f))
+    record_in f.record_handle f.change_number (option_map (λ r. NumericSensorData r) (numeric_sensor_in f))
 
 -- the numeric effecter
 
@@ -210,9 +210,9 @@ abbrev pub numeric_effecter_in : NumericEffecterFields → Option NumericEffecte
 numeric_effecter_in f =
     numeric_effecter_with f (flag_in f.has_auxiliary_names) (conversion_in f.conversion) (effecter_range_in f.range)
 
-abbrev pub numeric_effecter_record : NumericEffecterFields → Option (List ℕ)
+abbrev pub numeric_effecter_record : NumericEffecterFields → Option PlatformRecord
 numeric_effecter_record f =
-    record_bytes f.record_handle f.change_number (option_map (λ r. NumericEffecterData r) (numeric_effecter_in f))
+    record_in f.record_handle f.change_number (option_map (λ r. NumericEffecterData r) (numeric_effecter_in f))
 
 -- The possible states of each sensor or effecter of a composite one: the first of eight places, as many as the count
 -- says, each in as many of its bytes as its size says.
@@ -246,9 +246,9 @@ state_sensor_with f (Some has_auxiliary_names) (Some sets) =
 abbrev pub state_sensor_in : StateSensorFields → Option StateSensor
 state_sensor_in f = state_sensor_with f (flag_in f.has_auxiliary_names) (sets_in f.count f.sets)
 
-abbrev pub state_sensor_record : StateSensorFields → Option (List ℕ)
+abbrev pub state_sensor_record : StateSensorFields → Option PlatformRecord
 state_sensor_record f =
-    record_bytes f.record_handle f.change_number (option_map (λ r. StateSensorData r) (state_sensor_in f))
+    record_in f.record_handle f.change_number (option_map (λ r. StateSensorData r) (state_sensor_in f))
 
 -- the state effecter
 
@@ -270,6 +270,6 @@ state_effecter_with f (Some has_description) (Some sets) =
 abbrev pub state_effecter_in : StateEffecterFields → Option StateEffecter
 state_effecter_in f = state_effecter_with f (flag_in f.has_description) (sets_in f.count f.sets)
 
-abbrev pub state_effecter_record : StateEffecterFields → Option (List ℕ)
+abbrev pub state_effecter_record : StateEffecterFields → Option PlatformRecord
 state_effecter_record f =
-    record_bytes f.record_handle f.change_number (option_map (λ r. StateEffecterData r) (state_effecter_in f))
+    record_in f.record_handle f.change_number (option_map (λ r. StateEffecterData r) (state_effecter_in f))

@@ -3,15 +3,44 @@
 ghost use Rattle.std.specs.Prelude.{◌≡◌, ◌+◌, ◌++◌, ◌≤◌, length, option_map};
 ghost use Rattle.arrayvec.specs.ArrayVec.{array_vec_len};
 ghost use Rattle.pldm_pdr.specs.Names.{text_bytes};
-ghost use Rattle.needleoat_wire_c.specs.NameForms.{effecter_name_in, entity_name_in, name_in, name_of_one, one_name, sensor_name_in};
+ghost use Rattle.needleoat_wire_c.specs.NameForms.{effecter_name_in, effecter_name_record, entity_name_in, entity_name_record, name_in, name_of_one, one_name, sensor_name_in, sensor_name_record};
 
 use crate::record_contents::entity_of;
 use crate::record_forms::{EffecterNameFields, EntityNameFields, NAME_UNITS, SensorNameFields};
+use crate::record_writing::record_of;
 use arrayvec::ArrayVec;
-use pldm_pdr::{EffecterNames, EntityNames, MAX_NAME_BYTES, SensorNames};
+use pldm_pdr::{EffecterNames, EntityNames, MAX_NAME_BYTES, Record, RecordData, SensorNames};
+
+// Not inlined: what a record is made of is not on the stack when it is written.
+/// The record of a sensor's name that a struct is.
+#[inline(never)]
+pub(crate) fn sensor_name_record(fields: &SensorNameFields) -> Option<Record>
+    ensures { result ≡ sensor_name_record fields.now }
+{
+    let contents = RecordData::SensorNames(sensor_name_of(fields)?);
+    record_of(fields.record_handle, fields.change_number, contents)
+}
+
+/// The record of an effecter's name that a struct is.
+#[inline(never)]
+pub(crate) fn effecter_name_record(fields: &EffecterNameFields) -> Option<Record>
+    ensures { result ≡ effecter_name_record fields.now }
+{
+    let contents = RecordData::EffecterNames(effecter_name_of(fields)?);
+    record_of(fields.record_handle, fields.change_number, contents)
+}
+
+/// The record of an entity's name that a struct is.
+#[inline(never)]
+pub(crate) fn entity_name_record(fields: &EntityNameFields) -> Option<Record>
+    ensures { result ≡ entity_name_record fields.now }
+{
+    let contents = RecordData::EntityNames(entity_name_of(fields)?);
+    record_of(fields.record_handle, fields.change_number, contents)
+}
 
 /// The name of a sensor that a struct is.
-pub(crate) fn sensor_name_of(fields: &SensorNameFields) -> Option<SensorNames>
+fn sensor_name_of(fields: &SensorNameFields) -> Option<SensorNames>
     ensures { result ≡ sensor_name_in fields.now }
 {
     Some(SensorNames {
@@ -22,7 +51,7 @@ pub(crate) fn sensor_name_of(fields: &SensorNameFields) -> Option<SensorNames>
 }
 
 /// The name of an effecter that a struct is.
-pub(crate) fn effecter_name_of(fields: &EffecterNameFields) -> Option<EffecterNames>
+fn effecter_name_of(fields: &EffecterNameFields) -> Option<EffecterNames>
     ensures { result ≡ effecter_name_in fields.now }
 {
     Some(EffecterNames {
@@ -33,7 +62,7 @@ pub(crate) fn effecter_name_of(fields: &EffecterNameFields) -> Option<EffecterNa
 }
 
 /// The name of an entity that a struct is.
-pub(crate) fn entity_name_of(fields: &EntityNameFields) -> Option<EntityNames>
+fn entity_name_of(fields: &EntityNameFields) -> Option<EntityNames>
     ensures { result ≡ entity_name_in fields.now }
 {
     Some(EntityNames {

@@ -4,11 +4,12 @@ ghost use Rattle.std.specs.Prelude.{◌≡◌, IsTrue, List, ℕ, false, length}
 ghost use Rattle.needleoat_forms.specs.Written.{IsWritten};
 ghost use Rattle.needleoat_wire_c.specs.NameForms.{effecter_name_record, entity_name_record, sensor_name_record};
 ghost use Rattle.needleoat_wire_c.specs.RecordArrays.{AreNoRecords, AreRecords, IsAnswered, IsUnanswered, answer_among, is_of_repository};
-ghost use Rattle.needleoat_wire_c.specs.RecordForms.{in_room, numeric_effecter_record, numeric_sensor_record, state_effecter_record, state_sensor_record, terminus_locator_record};
+ghost use Rattle.needleoat_wire_c.specs.RecordForms.{bytes_in_room, numeric_effecter_record, numeric_sensor_record, state_effecter_record, state_sensor_record, terminus_locator_record};
 
-use crate::name_contents::{effecter_name_of, entity_name_of, sensor_name_of};
+use crate::name_contents::{effecter_name_record, entity_name_record, sensor_name_record};
 use crate::record_contents::{
-    locator_of, numeric_effecter_of, numeric_sensor_of, state_effecter_of, state_sensor_of,
+    numeric_effecter_record, numeric_sensor_record, state_effecter_record, state_sensor_record,
+    terminus_locator_record,
 };
 use crate::record_forms::{
     EffecterNameFields, EntityNameFields, NumericEffecterFields, NumericSensorFields,
@@ -17,7 +18,6 @@ use crate::record_forms::{
 use crate::record_writing::put_record;
 use crate::records_answer::{NO_RECORDS, OTHER_COMMAND, records_answer};
 use needleoat_forms::{AnswerFields, CommandFields};
-use pldm_pdr::RecordData;
 use pldm_wire::TIME_BYTES;
 
 /// Answers GetPDRRepositoryInfo and GetPDR for the records that stand one after another in an array, as a repository of
@@ -52,13 +52,12 @@ pub extern "C" fn needleoat_terminus_locator_record_write(
     fields: &TerminusLocatorFields,
     out: &mut [u8],
 ) -> u32
-    ensures { IsWritten (in_room (length out.old) (terminus_locator_record fields.now)) result out.old out.new }
+    ensures { IsWritten (bytes_in_room (length out.old) (terminus_locator_record fields.now)) result out.old out.new }
 {
-    let Some(locator) = locator_of(fields) else {
-        return 0;
-    };
-    let contents = RecordData::TerminusLocator(locator);
-    put_record(fields.record_handle, fields.change_number, contents, out)
+    match terminus_locator_record(fields) {
+        Some(pdr) => put_record(&pdr, out),
+        None => 0,
+    }
 }
 
 /// Writes a numeric sensor record to the front of `out`, and returns its length in bytes (DSP0248, "Numeric sensor
@@ -69,13 +68,12 @@ pub extern "C" fn needleoat_numeric_sensor_record_write(
     fields: &NumericSensorFields,
     out: &mut [u8],
 ) -> u32
-    ensures { IsWritten (in_room (length out.old) (numeric_sensor_record fields.now)) result out.old out.new }
+    ensures { IsWritten (bytes_in_room (length out.old) (numeric_sensor_record fields.now)) result out.old out.new }
 {
-    let Some(sensor) = numeric_sensor_of(fields) else {
-        return 0;
-    };
-    let contents = RecordData::NumericSensor(sensor);
-    put_record(fields.record_handle, fields.change_number, contents, out)
+    match numeric_sensor_record(fields) {
+        Some(pdr) => put_record(&pdr, out),
+        None => 0,
+    }
 }
 
 /// Writes a numeric effecter record to the front of `out`, and returns its length in bytes (DSP0248, "Numeric effecter
@@ -86,13 +84,12 @@ pub extern "C" fn needleoat_numeric_effecter_record_write(
     fields: &NumericEffecterFields,
     out: &mut [u8],
 ) -> u32
-    ensures { IsWritten (in_room (length out.old) (numeric_effecter_record fields.now)) result out.old out.new }
+    ensures { IsWritten (bytes_in_room (length out.old) (numeric_effecter_record fields.now)) result out.old out.new }
 {
-    let Some(effecter) = numeric_effecter_of(fields) else {
-        return 0;
-    };
-    let contents = RecordData::NumericEffecter(effecter);
-    put_record(fields.record_handle, fields.change_number, contents, out)
+    match numeric_effecter_record(fields) {
+        Some(pdr) => put_record(&pdr, out),
+        None => 0,
+    }
 }
 
 /// Writes a state sensor record to the front of `out`, and returns its length in bytes (DSP0248, "State sensor PDR").
@@ -103,13 +100,12 @@ pub extern "C" fn needleoat_state_sensor_record_write(
     fields: &StateSensorFields,
     out: &mut [u8],
 ) -> u32
-    ensures { IsWritten (in_room (length out.old) (state_sensor_record fields.now)) result out.old out.new }
+    ensures { IsWritten (bytes_in_room (length out.old) (state_sensor_record fields.now)) result out.old out.new }
 {
-    let Some(sensor) = state_sensor_of(fields) else {
-        return 0;
-    };
-    let contents = RecordData::StateSensor(sensor);
-    put_record(fields.record_handle, fields.change_number, contents, out)
+    match state_sensor_record(fields) {
+        Some(pdr) => put_record(&pdr, out),
+        None => 0,
+    }
 }
 
 /// Writes a state effecter record to the front of `out`, and returns its length in bytes (DSP0248, "State effecter
@@ -120,13 +116,12 @@ pub extern "C" fn needleoat_state_effecter_record_write(
     fields: &StateEffecterFields,
     out: &mut [u8],
 ) -> u32
-    ensures { IsWritten (in_room (length out.old) (state_effecter_record fields.now)) result out.old out.new }
+    ensures { IsWritten (bytes_in_room (length out.old) (state_effecter_record fields.now)) result out.old out.new }
 {
-    let Some(effecter) = state_effecter_of(fields) else {
-        return 0;
-    };
-    let contents = RecordData::StateEffecter(effecter);
-    put_record(fields.record_handle, fields.change_number, contents, out)
+    match state_effecter_record(fields) {
+        Some(pdr) => put_record(&pdr, out),
+        None => 0,
+    }
 }
 
 /// Writes a record of a sensor's name to the front of `out`, and returns its length in bytes (DSP0248,
@@ -137,13 +132,12 @@ pub extern "C" fn needleoat_sensor_name_record_write(
     fields: &SensorNameFields,
     out: &mut [u8],
 ) -> u32
-    ensures { IsWritten (in_room (length out.old) (sensor_name_record fields.now)) result out.old out.new }
+    ensures { IsWritten (bytes_in_room (length out.old) (sensor_name_record fields.now)) result out.old out.new }
 {
-    let Some(names) = sensor_name_of(fields) else {
-        return 0;
-    };
-    let contents = RecordData::SensorNames(names);
-    put_record(fields.record_handle, fields.change_number, contents, out)
+    match sensor_name_record(fields) {
+        Some(pdr) => put_record(&pdr, out),
+        None => 0,
+    }
 }
 
 /// Writes a record of an effecter's name to the front of `out`, and returns its length in bytes (DSP0248,
@@ -154,13 +148,12 @@ pub extern "C" fn needleoat_effecter_name_record_write(
     fields: &EffecterNameFields,
     out: &mut [u8],
 ) -> u32
-    ensures { IsWritten (in_room (length out.old) (effecter_name_record fields.now)) result out.old out.new }
+    ensures { IsWritten (bytes_in_room (length out.old) (effecter_name_record fields.now)) result out.old out.new }
 {
-    let Some(names) = effecter_name_of(fields) else {
-        return 0;
-    };
-    let contents = RecordData::EffecterNames(names);
-    put_record(fields.record_handle, fields.change_number, contents, out)
+    match effecter_name_record(fields) {
+        Some(pdr) => put_record(&pdr, out),
+        None => 0,
+    }
 }
 
 /// Writes a record of an entity's name to the front of `out`, and returns its length in bytes (DSP0248,
@@ -171,11 +164,10 @@ pub extern "C" fn needleoat_entity_name_record_write(
     fields: &EntityNameFields,
     out: &mut [u8],
 ) -> u32
-    ensures { IsWritten (in_room (length out.old) (entity_name_record fields.now)) result out.old out.new }
+    ensures { IsWritten (bytes_in_room (length out.old) (entity_name_record fields.now)) result out.old out.new }
 {
-    let Some(names) = entity_name_of(fields) else {
-        return 0;
-    };
-    let contents = RecordData::EntityNames(names);
-    put_record(fields.record_handle, fields.change_number, contents, out)
+    match entity_name_record(fields) {
+        Some(pdr) => put_record(&pdr, out),
+        None => 0,
+    }
 }

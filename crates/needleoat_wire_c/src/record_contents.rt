@@ -1,22 +1,69 @@
 //! Structs of fields as the platform data records that they are.
 
 ghost use Rattle.std.specs.Prelude.{◌≡◌, ◌≤◌, length, map, option_map};
-ghost use Rattle.needleoat_wire_c.specs.RecordForms.{conversion_in, effecter_range_in, entity_in, flag_in, format_in, locator_in, numeric_effecter_in, numeric_sensor_in, sensor_range_in, sets_in, sizes_fit, state_effecter_in, state_sensor_in, states_in, units_in};
+ghost use Rattle.needleoat_wire_c.specs.RecordForms.{conversion_in, effecter_range_in, entity_in, flag_in, format_in, locator_in, numeric_effecter_in, numeric_effecter_record, numeric_sensor_in, numeric_sensor_record, sensor_range_in, sets_in, sizes_fit, state_effecter_in, state_effecter_record, state_sensor_in, state_sensor_record, states_in, terminus_locator_record, units_in};
 
 use crate::record_forms::{
     ConversionFields, EffecterRangeFields, EntityFields, NumericEffecterFields,
     NumericSensorFields, PossibleStatesFields, STATE_BYTES, SensorRangeFields, StateEffecterFields,
     StateSensorFields, TerminusLocatorFields, UnitsFields,
 };
+use crate::record_writing::record_of;
 use arrayvec::ArrayVec;
 use pldm_pdr::{
     Conversion, EffecterRange, Entity, NumericEffecter, NumericSensor, PossibleStates, RangeFormat,
-    SensorRange, StateEffecter, StateSensor, TerminusLocator, Units,
+    Record, RecordData, SensorRange, StateEffecter, StateSensor, TerminusLocator, Units,
 };
 use pldm_wire::{MAX_STATES, Size};
 
+// Not inlined: what a record is made of is not on the stack when it is written.
+/// The record of a terminus locator that a struct is.
+#[inline(never)]
+pub(crate) fn terminus_locator_record(fields: &TerminusLocatorFields) -> Option<Record>
+    ensures { result ≡ terminus_locator_record fields.now }
+{
+    let contents = RecordData::TerminusLocator(locator_of(fields)?);
+    record_of(fields.record_handle, fields.change_number, contents)
+}
+
+/// The record of a numeric sensor that a struct is.
+#[inline(never)]
+pub(crate) fn numeric_sensor_record(fields: &NumericSensorFields) -> Option<Record>
+    ensures { result ≡ numeric_sensor_record fields.now }
+{
+    let contents = RecordData::NumericSensor(numeric_sensor_of(fields)?);
+    record_of(fields.record_handle, fields.change_number, contents)
+}
+
+/// The record of a numeric effecter that a struct is.
+#[inline(never)]
+pub(crate) fn numeric_effecter_record(fields: &NumericEffecterFields) -> Option<Record>
+    ensures { result ≡ numeric_effecter_record fields.now }
+{
+    let contents = RecordData::NumericEffecter(numeric_effecter_of(fields)?);
+    record_of(fields.record_handle, fields.change_number, contents)
+}
+
+/// The record of a state sensor that a struct is.
+#[inline(never)]
+pub(crate) fn state_sensor_record(fields: &StateSensorFields) -> Option<Record>
+    ensures { result ≡ state_sensor_record fields.now }
+{
+    let contents = RecordData::StateSensor(state_sensor_of(fields)?);
+    record_of(fields.record_handle, fields.change_number, contents)
+}
+
+/// The record of a state effecter that a struct is.
+#[inline(never)]
+pub(crate) fn state_effecter_record(fields: &StateEffecterFields) -> Option<Record>
+    ensures { result ≡ state_effecter_record fields.now }
+{
+    let contents = RecordData::StateEffecter(state_effecter_of(fields)?);
+    record_of(fields.record_handle, fields.change_number, contents)
+}
+
 /// The terminus locator that a struct is.
-pub(crate) fn locator_of(fields: &TerminusLocatorFields) -> Option<TerminusLocator>
+fn locator_of(fields: &TerminusLocatorFields) -> Option<TerminusLocator>
     ensures { result ≡ locator_in fields.now }
 {
     Some(TerminusLocator {
@@ -29,7 +76,7 @@ pub(crate) fn locator_of(fields: &TerminusLocatorFields) -> Option<TerminusLocat
 }
 
 /// The numeric sensor that a struct is.
-pub(crate) fn numeric_sensor_of(fields: &NumericSensorFields) -> Option<NumericSensor>
+fn numeric_sensor_of(fields: &NumericSensorFields) -> Option<NumericSensor>
     ensures { result ≡ numeric_sensor_in fields.now }
 {
     Some(NumericSensor {
@@ -54,7 +101,7 @@ pub(crate) fn numeric_sensor_of(fields: &NumericSensorFields) -> Option<NumericS
 }
 
 /// The numeric effecter that a struct is.
-pub(crate) fn numeric_effecter_of(fields: &NumericEffecterFields) -> Option<NumericEffecter>
+fn numeric_effecter_of(fields: &NumericEffecterFields) -> Option<NumericEffecter>
     ensures { result ≡ numeric_effecter_in fields.now }
 {
     Some(NumericEffecter {
@@ -76,7 +123,7 @@ pub(crate) fn numeric_effecter_of(fields: &NumericEffecterFields) -> Option<Nume
 }
 
 /// The state sensor that a struct is.
-pub(crate) fn state_sensor_of(fields: &StateSensorFields) -> Option<StateSensor>
+fn state_sensor_of(fields: &StateSensorFields) -> Option<StateSensor>
     ensures { result ≡ state_sensor_in fields.now }
 {
     Some(StateSensor {
@@ -90,7 +137,7 @@ pub(crate) fn state_sensor_of(fields: &StateSensorFields) -> Option<StateSensor>
 }
 
 /// The state effecter that a struct is.
-pub(crate) fn state_effecter_of(fields: &StateEffecterFields) -> Option<StateEffecter>
+fn state_effecter_of(fields: &StateEffecterFields) -> Option<StateEffecter>
     ensures { result ≡ state_effecter_in fields.now }
 {
     Some(StateEffecter {

@@ -1,33 +1,32 @@
-//! A platform data record written to a room of C.
+//! A platform data record made of its data, and written to a room of C.
 
 ghost use Rattle.std.specs.Prelude.{◌≡◌, Some, length};
 ghost use Rattle.needleoat_forms.specs.Written.{IsWritten};
-ghost use Rattle.needleoat_wire_c.specs.RecordForms.{in_room, record_bytes};
+ghost use Rattle.needleoat_wire_c.specs.RecordForms.{bytes_in_room, record_in};
 
 use pldm_pdr::{Record, RecordData, write};
 
 /// The handle that no record has (DSP0248, "GetPDR command").
 pub const NO_RECORD: u32 = 0;
 
-/// Writes the record of this handle, change number and data to the front of a room, and returns its length in bytes.
-/// Returns 0 and leaves the room as it was where the handle is 0, where the data does not fit, and where the room is
-/// too short.
-pub(crate) fn put_record(
-    handle: u32,
-    change_number: u16,
-    contents: RecordData,
-    out: &mut [u8],
-) -> u32
-    ensures { IsWritten (in_room (length out.old) (record_bytes handle change_number (Some contents))) result
-        out.old out.new }
+/// The record of this handle, change number and data, where the handle is not 0 and the data fits.
+pub(crate) fn record_of(handle: u32, change_number: u16, contents: RecordData) -> Option<Record>
+    ensures { result ≡ record_in handle change_number (Some contents) }
 {
     if handle == NO_RECORD {
-        return 0;
+        return None;
     }
-    let Some(pdr) = Record::new(handle, change_number, contents) else {
-        return 0;
-    };
-    let bytes = write(&pdr);
+    Record::new(handle, change_number, contents)
+}
+
+/// Writes a record to the front of a room, and returns its length in bytes. Returns 0 and leaves the room as it was where
+/// it is too short.
+// Not inlined: what is here and what the record is made of are not on the stack at once.
+#[inline(never)]
+pub(crate) fn put_record(pdr: &Record, out: &mut [u8]) -> u32
+    ensures { IsWritten (bytes_in_room (length out.old) (Some pdr.now)) result out.old out.new }
+{
+    let bytes = write(pdr);
     if bytes.len() > out.len() {
         return 0;
     }
