@@ -224,9 +224,11 @@ abbrev pub sizes_fit : List PossibleStatesFields → Bool
 sizes_fit [] = true
 sizes_fit (f ∷ sets) = nat_le f.size STATE_BYTES && sizes_fit sets
 
+abbrev pub are_sets : ℕ → List PossibleStatesFields → Bool
+are_sets count sets = is_count count && sizes_fit (take count sets)
+
 abbrev pub sets_in : ℕ → List PossibleStatesFields → Option (List PossibleStates)
-sets_in count sets =
-    if is_count count && sizes_fit (take count sets) then Some (map states_in (take count sets)) else None
+sets_in count sets = if are_sets count sets then Some (map states_in (take count sets)) else None
 
 -- the state sensor
 

@@ -54,10 +54,7 @@ pub extern "C" fn needleoat_terminus_locator_record_write(
 ) -> u32
     ensures { IsWritten (bytes_in_room (length out.old) (terminus_locator_record fields.now)) result out.old out.new }
 {
-    match terminus_locator_record(fields) {
-        Some(pdr) => put_record(&pdr, out),
-        None => 0,
-    }
+    put_record(&terminus_locator_record(fields), out)
 }
 
 /// Writes a numeric sensor record to the front of `out`, and returns its length in bytes (DSP0248, "Numeric sensor
@@ -70,10 +67,7 @@ pub extern "C" fn needleoat_numeric_sensor_record_write(
 ) -> u32
     ensures { IsWritten (bytes_in_room (length out.old) (numeric_sensor_record fields.now)) result out.old out.new }
 {
-    match numeric_sensor_record(fields) {
-        Some(pdr) => put_record(&pdr, out),
-        None => 0,
-    }
+    put_record(&numeric_sensor_record(fields), out)
 }
 
 /// Writes a numeric effecter record to the front of `out`, and returns its length in bytes (DSP0248, "Numeric effecter
@@ -86,10 +80,7 @@ pub extern "C" fn needleoat_numeric_effecter_record_write(
 ) -> u32
     ensures { IsWritten (bytes_in_room (length out.old) (numeric_effecter_record fields.now)) result out.old out.new }
 {
-    match numeric_effecter_record(fields) {
-        Some(pdr) => put_record(&pdr, out),
-        None => 0,
-    }
+    put_record(&numeric_effecter_record(fields), out)
 }
 
 /// Writes a state sensor record to the front of `out`, and returns its length in bytes (DSP0248, "State sensor PDR").
@@ -102,10 +93,7 @@ pub extern "C" fn needleoat_state_sensor_record_write(
 ) -> u32
     ensures { IsWritten (bytes_in_room (length out.old) (state_sensor_record fields.now)) result out.old out.new }
 {
-    match state_sensor_record(fields) {
-        Some(pdr) => put_record(&pdr, out),
-        None => 0,
-    }
+    put_record(&state_sensor_record(fields), out)
 }
 
 /// Writes a state effecter record to the front of `out`, and returns its length in bytes (DSP0248, "State effecter
@@ -118,10 +106,7 @@ pub extern "C" fn needleoat_state_effecter_record_write(
 ) -> u32
     ensures { IsWritten (bytes_in_room (length out.old) (state_effecter_record fields.now)) result out.old out.new }
 {
-    match state_effecter_record(fields) {
-        Some(pdr) => put_record(&pdr, out),
-        None => 0,
-    }
+    put_record(&state_effecter_record(fields), out)
 }
 
 /// Writes a record of a sensor's name to the front of `out`, and returns its length in bytes (DSP0248,
@@ -134,10 +119,7 @@ pub extern "C" fn needleoat_sensor_name_record_write(
 ) -> u32
     ensures { IsWritten (bytes_in_room (length out.old) (sensor_name_record fields.now)) result out.old out.new }
 {
-    match sensor_name_record(fields) {
-        Some(pdr) => put_record(&pdr, out),
-        None => 0,
-    }
+    put_record(&sensor_name_record(fields), out)
 }
 
 /// Writes a record of an effecter's name to the front of `out`, and returns its length in bytes (DSP0248,
@@ -150,10 +132,7 @@ pub extern "C" fn needleoat_effecter_name_record_write(
 ) -> u32
     ensures { IsWritten (bytes_in_room (length out.old) (effecter_name_record fields.now)) result out.old out.new }
 {
-    match effecter_name_record(fields) {
-        Some(pdr) => put_record(&pdr, out),
-        None => 0,
-    }
+    put_record(&effecter_name_record(fields), out)
 }
 
 /// Writes a record of an entity's name to the front of `out`, and returns its length in bytes (DSP0248,
@@ -166,8 +145,5 @@ pub extern "C" fn needleoat_entity_name_record_write(
 ) -> u32
     ensures { IsWritten (bytes_in_room (length out.old) (entity_name_record fields.now)) result out.old out.new }
 {
-    match entity_name_record(fields) {
-        Some(pdr) => put_record(&pdr, out),
-        None => 0,
-    }
+    put_record(&entity_name_record(fields), out)
 }

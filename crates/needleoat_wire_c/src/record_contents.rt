@@ -1,7 +1,8 @@
 //! Structs of fields as the platform data records that they are.
 
-ghost use Rattle.std.specs.Prelude.{◌≡◌, ◌≤◌, length, map, option_map};
-ghost use Rattle.needleoat_wire_c.specs.RecordForms.{conversion_in, effecter_range_in, entity_in, flag_in, format_in, locator_in, numeric_effecter_in, numeric_effecter_record, numeric_sensor_in, numeric_sensor_record, sensor_range_in, sets_in, sizes_fit, state_effecter_in, state_effecter_record, state_sensor_in, state_sensor_record, states_in, terminus_locator_record, units_in};
+ghost use Rattle.std.specs.Prelude.{◌≡◌, ◌≤◌, length, map, take};
+ghost use Rattle.std.specs.Bool.{OnTrue};
+ghost use Rattle.needleoat_wire_c.specs.RecordForms.{are_sets, conversion_in, effecter_range_in, entity_in, flag_in, format_in, locator_in, numeric_effecter_in, numeric_effecter_record, numeric_sensor_in, numeric_sensor_record, sensor_range_in, sizes_fit, state_effecter_record, state_sensor_record, states_in, terminus_locator_record, units_in};
 
 use crate::record_forms::{
     ConversionFields, EffecterRangeFields, EntityFields, NumericEffecterFields,
@@ -49,7 +50,18 @@ pub(crate) fn numeric_effecter_record(fields: &NumericEffecterFields) -> Option<
 pub(crate) fn state_sensor_record(fields: &StateSensorFields) -> Option<Record>
     ensures { result ≡ state_sensor_record fields.now }
 {
-    let contents = RecordData::StateSensor(state_sensor_of(fields)?);
+    let has_auxiliary_names = flag_of(fields.has_auxiliary_names)?;
+    if !are_sets(fields.count, &fields.sets) {
+        return None;
+    }
+    let contents = RecordData::StateSensor(StateSensor {
+        terminus_handle: fields.terminus_handle,
+        sensor_id: fields.sensor_id,
+        entity: entity_of(&fields.entity),
+        init: fields.init,
+        has_auxiliary_names,
+        sets: first_sets(fields.count, &fields.sets),
+    });
     record_of(fields.record_handle, fields.change_number, contents)
 }
 
@@ -58,7 +70,19 @@ pub(crate) fn state_sensor_record(fields: &StateSensorFields) -> Option<Record>
 pub(crate) fn state_effecter_record(fields: &StateEffecterFields) -> Option<Record>
     ensures { result ≡ state_effecter_record fields.now }
 {
-    let contents = RecordData::StateEffecter(state_effecter_of(fields)?);
+    let has_description = flag_of(fields.has_description)?;
+    if !are_sets(fields.count, &fields.sets) {
+        return None;
+    }
+    let contents = RecordData::StateEffecter(StateEffecter {
+        terminus_handle: fields.terminus_handle,
+        effecter_id: fields.effecter_id,
+        entity: entity_of(&fields.entity),
+        semantic_id: fields.semantic_id,
+        init: fields.init,
+        has_description,
+        sets: first_sets(fields.count, &fields.sets),
+    });
     record_of(fields.record_handle, fields.change_number, contents)
 }
 
@@ -119,35 +143,6 @@ fn numeric_effecter_of(fields: &NumericEffecterFields) -> Option<NumericEffecter
         max_settable: fields.max_settable,
         min_settable: fields.min_settable,
         range: effecter_range_of(&fields.range)?,
-    })
-}
-
-/// The state sensor that a struct is.
-fn state_sensor_of(fields: &StateSensorFields) -> Option<StateSensor>
-    ensures { result ≡ state_sensor_in fields.now }
-{
-    Some(StateSensor {
-        terminus_handle: fields.terminus_handle,
-        sensor_id: fields.sensor_id,
-        entity: entity_of(&fields.entity),
-        init: fields.init,
-        has_auxiliary_names: flag_of(fields.has_auxiliary_names)?,
-        sets: sets_of(fields.count, &fields.sets)?,
-    })
-}
-
-/// The state effecter that a struct is.
-fn state_effecter_of(fields: &StateEffecterFields) -> Option<StateEffecter>
-    ensures { result ≡ state_effecter_in fields.now }
-{
-    Some(StateEffecter {
-        terminus_handle: fields.terminus_handle,
-        effecter_id: fields.effecter_id,
-        entity: entity_of(&fields.entity),
-        semantic_id: fields.semantic_id,
-        init: fields.init,
-        has_description: flag_of(fields.has_description)?,
-        sets: sets_of(fields.count, &fields.sets)?,
     })
 }
 
@@ -247,23 +242,25 @@ fn effecter_range_of(fields: &EffecterRangeFields) -> Option<EffecterRange>
     })
 }
 
-/// The possible states of each sensor or effecter, where there are 1 to [`MAX_STATES`] and each is in at most
-/// [`STATE_BYTES`] bytes.
-fn sets_of(
-    count: u8,
-    sets: &[PossibleStatesFields; MAX_STATES],
-) -> Option<ArrayVec<PossibleStates, MAX_STATES>>
-    ensures { option_map (λ made. made.items) result ≡ sets_in count sets.now }
+/// Whether there are 1 to [`MAX_STATES`] sets, each in at most [`STATE_BYTES`] bytes.
+fn are_sets(count: u8, sets: &[PossibleStatesFields; MAX_STATES]) -> bool
+    ensures result { result ≡ are_sets count sets.now }
+    ensures few { OnTrue result (count ≤ MAX_STATES) }
 {
     let count = usize::from(count);
-    if count == 0 || count > MAX_STATES {
-        return None;
-    }
-    let sets = &sets[..count];
-    if !sizes_fit(sets) {
-        return None;
-    }
-    Some(sets_from(sets))
+    count != 0 && count <= MAX_STATES && sizes_fit(&sets[..count])
+}
+
+/// The possible states of the first sets.
+#[inline(never)]
+fn first_sets(
+    count: u8,
+    sets: &[PossibleStatesFields; MAX_STATES],
+) -> ArrayVec<PossibleStates, MAX_STATES>
+    requires { count ≤ MAX_STATES }
+    ensures { result.items ≡ map states_in (take count sets.now) }
+{
+    sets_from(&sets[..usize::from(count)])
 }
 
 /// Whether each is in at most [`STATE_BYTES`] bytes.

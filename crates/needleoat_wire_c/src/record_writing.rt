@@ -20,12 +20,15 @@ pub(crate) fn record_of(handle: u32, change_number: u16, contents: RecordData) -
 }
 
 /// Writes a record to the front of a room, and returns its length in bytes. Returns 0 and leaves the room as it was where
-/// it is too short.
+/// there is none, and where the room is too short.
 // Not inlined: what is here and what the record is made of are not on the stack at once.
 #[inline(never)]
-pub(crate) fn put_record(pdr: &Record, out: &mut [u8]) -> u32
-    ensures { IsWritten (bytes_in_room (length out.old) (Some pdr.now)) result out.old out.new }
+pub(crate) fn put_record(pdr: &Option<Record>, out: &mut [u8]) -> u32
+    ensures { IsWritten (bytes_in_room (length out.old) pdr.now) result out.old out.new }
 {
+    let Some(pdr) = pdr else {
+        return 0;
+    };
     let bytes = write(pdr);
     if bytes.len() > out.len() {
         return 0;

@@ -18,5 +18,5 @@ written pdr bytes count old new is front =
 pub returns : goal.returns
 returns c =
     written _ c.write-bytes.result.items _ _ _
-    (spelled (length c.args.out.now) c.args.pdr.now c.write-bytes.result.items c.write-bytes.ensures.spelled (omega (arith, c.len.ensures.value)))
+    (ap (bytes_in_room (length c.args.out.now)) c.in-Some.is ∙ spelled (length c.args.out.now) c.in-Some.pdr c.write-bytes.result.items c.write-bytes.ensures.spelled (omega (arith, c.len.ensures.value)))
     (c.len-3.ensures.value, rw (c.copy_from_slice.ensures.after ∙ c.deref.ensures.0, c.len-2.ensures.value) refl)
