@@ -8,7 +8,7 @@ ghost use Rattle.needleoat_wire_c.specs.RecordForms.{bytes_in_room, numeric_effe
 
 use crate::name_contents::{effecter_name_record, entity_name_record, sensor_name_record};
 use crate::record_contents::{
-    numeric_effecter_record, numeric_sensor_record, state_effecter_record, state_sensor_record,
+    numeric_effecter_record, numeric_sensor_record, put_state_effecter, put_state_sensor,
     terminus_locator_record,
 };
 use crate::record_forms::{
@@ -93,7 +93,9 @@ pub extern "C" fn needleoat_state_sensor_record_write(
 ) -> u32
     ensures { IsWritten (bytes_in_room (length out.old) (state_sensor_record fields.now)) result out.old out.new }
 {
-    put_record(&state_sensor_record(fields), out)
+    let mut pdr = None;
+    put_state_sensor(fields, &mut pdr);
+    put_record(&pdr, out)
 }
 
 /// Writes a state effecter record to the front of `out`, and returns its length in bytes (DSP0248, "State effecter
@@ -106,7 +108,9 @@ pub extern "C" fn needleoat_state_effecter_record_write(
 ) -> u32
     ensures { IsWritten (bytes_in_room (length out.old) (state_effecter_record fields.now)) result out.old out.new }
 {
-    put_record(&state_effecter_record(fields), out)
+    let mut pdr = None;
+    put_state_effecter(fields, &mut pdr);
+    put_record(&pdr, out)
 }
 
 /// Writes a record of a sensor's name to the front of `out`, and returns its length in bytes (DSP0248,

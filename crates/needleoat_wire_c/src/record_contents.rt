@@ -1,6 +1,6 @@
 //! Structs of fields as the platform data records that they are.
 
-ghost use Rattle.std.specs.Prelude.{◌≡◌, ◌≤◌, length, map, take};
+ghost use Rattle.std.specs.Prelude.{◌≡◌, ◌≤◌, None, length, map, take};
 ghost use Rattle.std.specs.Bool.{OnTrue};
 ghost use Rattle.needleoat_wire_c.specs.RecordForms.{are_sets, conversion_in, effecter_range_in, entity_in, flag_in, format_in, locator_in, numeric_effecter_in, numeric_effecter_record, numeric_sensor_in, numeric_sensor_record, sensor_range_in, sizes_fit, state_effecter_record, state_sensor_record, states_in, terminus_locator_record, units_in};
 
@@ -45,14 +45,17 @@ pub(crate) fn numeric_effecter_record(fields: &NumericEffecterFields) -> Option<
     record_of(fields.record_handle, fields.change_number, contents)
 }
 
-/// The record of a state sensor that a struct is.
+/// Puts the record of a state sensor that a struct is in the place of none: the longest ones are not moved.
 #[inline(never)]
-pub(crate) fn state_sensor_record(fields: &StateSensorFields) -> Option<Record>
-    ensures { result ≡ state_sensor_record fields.now }
+pub(crate) fn put_state_sensor(fields: &StateSensorFields, pdr: &mut Option<Record>)
+    requires { pdr.old ≡ None }
+    ensures { pdr.new ≡ state_sensor_record fields.now }
 {
-    let has_auxiliary_names = flag_of(fields.has_auxiliary_names)?;
+    let Some(has_auxiliary_names) = flag_of(fields.has_auxiliary_names) else {
+        return;
+    };
     if !are_sets(fields.count, &fields.sets) {
-        return None;
+        return;
     }
     let contents = RecordData::StateSensor(StateSensor {
         terminus_handle: fields.terminus_handle,
@@ -62,17 +65,20 @@ pub(crate) fn state_sensor_record(fields: &StateSensorFields) -> Option<Record>
         has_auxiliary_names,
         sets: first_sets(fields.count, &fields.sets),
     });
-    record_of(fields.record_handle, fields.change_number, contents)
+    *pdr = record_of(fields.record_handle, fields.change_number, contents);
 }
 
-/// The record of a state effecter that a struct is.
+/// Puts the record of a state effecter that a struct is in the place of none: the longest ones are not moved.
 #[inline(never)]
-pub(crate) fn state_effecter_record(fields: &StateEffecterFields) -> Option<Record>
-    ensures { result ≡ state_effecter_record fields.now }
+pub(crate) fn put_state_effecter(fields: &StateEffecterFields, pdr: &mut Option<Record>)
+    requires { pdr.old ≡ None }
+    ensures { pdr.new ≡ state_effecter_record fields.now }
 {
-    let has_description = flag_of(fields.has_description)?;
+    let Some(has_description) = flag_of(fields.has_description) else {
+        return;
+    };
     if !are_sets(fields.count, &fields.sets) {
-        return None;
+        return;
     }
     let contents = RecordData::StateEffecter(StateEffecter {
         terminus_handle: fields.terminus_handle,
@@ -83,7 +89,7 @@ pub(crate) fn state_effecter_record(fields: &StateEffecterFields) -> Option<Reco
         has_description,
         sets: first_sets(fields.count, &fields.sets),
     });
-    record_of(fields.record_handle, fields.change_number, contents)
+    *pdr = record_of(fields.record_handle, fields.change_number, contents);
 }
 
 /// The terminus locator that a struct is.
