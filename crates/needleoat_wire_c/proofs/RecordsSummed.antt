@@ -1,8 +1,6 @@
 -- The summary of an array of records.
-use Rattle.std.proofs.Common.{◌≡◌, ℕ, ◌+◌, ◌<◌, ◌≤◌, ◌==◌, max, Bool, true, false, List, [], ◌∷◌, length, Option, Some, None, refl, sym, ap, ◌∙◌, arith, ◌&&◌, leb}
+use Rattle.std.proofs.Common.{◌≡◌, ℕ, ◌<◌, ◌≤◌, ◌==◌, true, false, List, ◌∷◌, length, Some, None, refl, sym, ap, ◌∙◌, ◌&&◌, leb}
 use Rattle.std.proofs.lemmas.Bool.{and_from, and_left, and_right, cond-false, cond-true, eq-eqb, le-leb, lt-leb, ne_eqb}
-use Rattle.std.proofs.lemmas.Bool.Decides.{nat_tests}
-use Rattle.std.proofs.lemmas.Grind.{common_steps}
 use Rattle.pldm_records.specs.Records.{handle_of, largest_record_size, repository_size}
 use Rattle.needleoat_wire_c.specs.RecordArrays.{has_handle, have_own_handles}
 use Rattle.needleoat_wire_c.specs.declared.record_array.Summary.{Summary}

@@ -1,5 +1,5 @@
 -- What was added so far and what the rest adds is the text.
-use Rattle.std.proofs.Common.{◌≡◌, ◌++◌, ◌+◌, ◌*◌, ◌≤◌, length, drop}
+use Rattle.std.proofs.Common.{◌≡◌, ◌++◌, ◌+◌, ◌*◌, length, drop}
 use Rattle.pldm_pdr.specs.Names.{text_bytes}
 use Rattle.needleoat_wire_c.proofs.name_contents.push_text.Given as goal
 

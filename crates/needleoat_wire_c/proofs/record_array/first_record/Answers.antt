@@ -1,5 +1,5 @@
 -- Each test of the code is one of a record's.
-use Rattle.std.proofs.Common.{◌≡◌, ◌+◌, ◌<◌, ℕ, List, Some, take, drop, arith, sym, ap, ◌∙◌, subst, None, slice_index}
+use Rattle.std.proofs.Common.{◌≡◌, ◌+◌, ◌<◌, ℕ, List, take, drop, arith, sym, ap, ◌∙◌, slice_index}
 use Rattle.pldm_records.specs.Records.{data_length_of, handle_of}
 use Rattle.needleoat_wire_c.specs.RecordWalks.{first_bytes, first_size}
 use Rattle.needleoat_wire_c.proofs.RecordsWalked.{cut_short, no_handle, no_header, no_version, one_first}

@@ -1,6 +1,5 @@
 -- At each record the search ends or goes on.
 use Rattle.std.proofs.Common.{sym, ◌∙◌}
-use Rattle.needleoat_wire_c.specs.RecordWalks.{records_in}
 use Rattle.needleoat_wire_c.proofs.RecordsFound.{found, not_found, nowhere}
 use Rattle.needleoat_wire_c.proofs.RecordsWalked.{records_end, records_more}
 use Rattle.needleoat_wire_c.proofs.record_array.from_handle.Goals as goal

@@ -1,10 +1,10 @@
 -- The sums after each record, and at the end.
-use Rattle.std.proofs.Common.{◌≡◌, ℕ, List, Some, arith, sym, ap, ◌∙◌, refl, length, true}
+use Rattle.std.proofs.Common.{◌≡◌, ℕ, List, arith, sym, ap, ◌∙◌, length}
 use Rattle.std.proofs.lemmas.Bool.{eqb-true, eqb-false}
 use Rattle.std.proofs.lemmas.List.Sums.{sum_by-cons}
 use Rattle.pldm_records.specs.Records.{largest_record_size, repository_size}
 use Rattle.needleoat_wire_c.specs.RecordArrays.{has_handle, have_own_handles}
-use Rattle.needleoat_wire_c.specs.RecordWalks.{left_in, records_in}
+use Rattle.needleoat_wire_c.specs.RecordWalks.{records_in}
 use Rattle.needleoat_wire_c.proofs.RecordsSummed.{left_over, own_more, same_handle, same_summary, summed, too_many}
 use Rattle.needleoat_wire_c.proofs.RecordsWalked.{left_end, left_more, records_end, records_more}
 use Rattle.needleoat_wire_c.proofs.record_array.summary_of.Goals as goal

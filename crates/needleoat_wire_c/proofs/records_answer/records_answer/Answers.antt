@@ -1,5 +1,5 @@
 -- Where there is a summary, the bytes hold records, and these alone.
-use Rattle.std.proofs.Common.{Some, ap, sym, ◌∙◌, refl}
+use Rattle.std.proofs.Common.{Some, ap, ◌∙◌, refl}
 use Rattle.needleoat_wire_c.specs.RecordWalks.{records_in, summary}
 use Rattle.needleoat_wire_c.proofs.RecordsHeld.{are_held, held_records, info_among, none_held, part_among}
 use Rattle.needleoat_wire_c.proofs.records_answer.records_answer.Goals as goal
