@@ -1,6 +1,7 @@
 /*
- * Needleoat for C: MCTP packets (DSP0236) and PLDM messages (DSP0240, DSP0248) read and written, control
- * messages (DSP0236) answered, the frames of packets on I2C (DSP0237) and I3C (DSP0233), and both ends.
+ * Needleoat for C: MCTP packets (DSP0236) and PLDM messages (DSP0240, DSP0248) read and written, platform data
+ * records (DSP0248) written and answered for, control messages (DSP0236) answered, the frames of packets on I2C
+ * (DSP0237) and I3C (DSP0233), and both ends.
  *
  * libneedleoat_wire_c.a has what stands before the section on the two ends. It takes no memory, keeps
  * nothing between two calls, and needs memcpy, memmove and memset alone. libneedleoat_c.a has what comes then.

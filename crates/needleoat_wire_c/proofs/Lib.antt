@@ -2,3 +2,5 @@ pub mod RecordsWalked
 pub mod RecordsFound
 pub mod RecordsSummed
 pub mod RecordsHeld
+pub mod Constants
+pub mod WorkedRecords

@@ -11,8 +11,8 @@ use crate::record_writing::record_of;
 use arrayvec::ArrayVec;
 use pldm_pdr::{EffecterNames, EntityNames, MAX_NAME_BYTES, Record, RecordData, SensorNames};
 
-// Not inlined: what a record is made of is not on the stack when it is written.
 /// The record of a sensor's name that a struct is.
+// Not inlined, as the others: what a record is made of is not on the stack when it is written.
 #[inline(never)]
 pub(crate) fn sensor_name_record(fields: &SensorNameFields) -> Option<Record>
     ensures { result ≡ sensor_name_record fields.now }

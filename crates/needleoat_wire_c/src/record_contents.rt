@@ -17,8 +17,8 @@ use pldm_pdr::{
 };
 use pldm_wire::{MAX_STATES, Size};
 
-// Not inlined: what a record is made of is not on the stack when it is written.
 /// The record of a terminus locator that a struct is.
+// Not inlined, as those of the other types: what a record is made of is not on the stack when it is written.
 #[inline(never)]
 pub(crate) fn terminus_locator_record(fields: &TerminusLocatorFields) -> Option<Record>
     ensures { result ≡ terminus_locator_record fields.now }
