@@ -1,4 +1,5 @@
 pub mod BusFrames
+pub mod Laws
 pub mod NameForms
 pub mod RecordArrays
 pub mod RecordForms
