@@ -139,6 +139,52 @@ static void write_none(void) {
     printf(" %" PRIu32 "\n", needleoat_terminus_locator_record_write(&locator, out, 19));
 }
 
+/* Another value in each field, of records that are told to nobody. */
+static void write_each_field(void) {
+    static const struct needleoat_numeric_sensor sensor = {
+        .record_handle = 0x04030201, .change_number = 0x0605, .terminus_handle = 0x0807, .sensor_id = 0x0a09,
+        .entity = {.entity_type = 0x0c0b, .instance = 0x0e0d, .container_id = 0x100f},
+        .init = 0x11, .has_auxiliary_names = 1, .rel = 0x19, .auxiliary_oem_unit_handle = 0x1a,
+        .supported_thresholds = 0x28, .threshold_and_hysteresis_volatility = 0x29,
+        .units = {.base_unit = 0x12, .unit_modifier = 0x13, .rate_unit = 0x14, .base_oem_unit_handle = 0x15,
+                  .auxiliary_unit = 0x16, .auxiliary_unit_modifier = -0x17, .auxiliary_rate_unit = 0x18},
+        .conversion = {.resolution = 0x1e1d1c1b, .offset = 0x2221201f, .accuracy = 0x2423, .plus_tolerance = 0x25,
+                       .minus_tolerance = 0x26, .is_linear = 1, .size = NEEDLEOAT_UINT8},
+        .state_transition_interval = 0x2d2c2b2a, .update_interval = 0x31302f2e,
+        .hysteresis = 0x27, .max_readable = 0x32, .min_readable = 0x33,
+        .range = {.format = NEEDLEOAT_UINT16, .support = 0x34, .nominal = 0x3635, .normal_max = 0x3837,
+                  .normal_min = 0x3a39, .warning_high = 0x3c3b, .warning_low = 0x3e3d, .critical_high = 0x403f,
+                  .critical_low = 0x4241, .fatal_high = 0x4443, .fatal_low = 0x4645},
+    };
+    static const struct needleoat_numeric_effecter effecter = {
+        .record_handle = 0x04030201, .change_number = 0x0605, .terminus_handle = 0x0807, .effecter_id = 0x0a09,
+        .entity = {.entity_type = 0x0c0b, .instance = 0x0e0d, .container_id = 0x100f},
+        .semantic_id = 0x1211, .init = 0x13, .auxiliary_oem_unit_handle = 0x1b,
+        .units = {.base_unit = 0x14, .unit_modifier = 0x15, .rate_unit = 0x16, .base_oem_unit_handle = 0x17,
+                  .auxiliary_unit = 0x18, .auxiliary_unit_modifier = 0x19, .auxiliary_rate_unit = 0x1a},
+        .conversion = {.resolution = 0x1f1e1d1c, .offset = 0x23222120, .accuracy = 0x2524, .plus_tolerance = 0x26,
+                       .minus_tolerance = 0x27, .size = NEEDLEOAT_SINT32},
+        .state_transition_interval = 0x2b2a2928, .transition_interval = 0x2f2e2d2c,
+        .max_settable = 0x33323130, .min_settable = -2,
+        .range = {.format = NEEDLEOAT_UINT32, .support = 0x34, .nominal = 0x38373635, .normal_max = 0x3c3b3a39,
+                  .normal_min = 0x403f3e3d, .rated_max = 0x44434241, .rated_min = 0x48474645},
+    };
+    static const struct needleoat_state_effecter states = {
+        .record_handle = 0x04030201, .change_number = 0x0605, .terminus_handle = 0x0807, .effecter_id = 0x0a09,
+        .entity = {.entity_type = 0x0c0b, .instance = 0x0e0d, .container_id = 0x100f},
+        .semantic_id = 0x1211, .init = 0x13, .count = 1,
+        .sets = {{.state_set = 0x1514, .size = 3, .states = {0x16, 0x17, 0x18}}},
+    };
+    static const struct needleoat_terminus_locator other = {
+        .record_handle = 0x04030201, .change_number = 0x0605, .terminus_handle = 0x0807, .container_id = 0x0b0a,
+        .tid = 0x09, .eid = 0x0c};
+    uint8_t out[NEEDLEOAT_RECORD_BYTES];
+    print_bytes(out, needleoat_numeric_sensor_record_write(&sensor, out, sizeof out));
+    print_bytes(out, needleoat_numeric_effecter_record_write(&effecter, out, sizeof out));
+    print_bytes(out, needleoat_state_effecter_record_write(&states, out, sizeof out));
+    print_bytes(out, needleoat_terminus_locator_record_write(&other, out, sizeof out));
+}
+
 /* When the records were last changed: 2026-01-02 03:04:05 UTC, as timestamp104 of DSP0240 has it. */
 static const uint8_t changed[13] = {0, 0, 0, 0, 0, 5, 4, 3, 2, 1, 0xea, 0x07, 0x00};
 static const uint8_t never[13];
@@ -191,4 +237,5 @@ int main(void) {
     do handle = ask_record(handle);
     while (handle != 0);
     ask_record(9);
+    write_each_field();
 }
