@@ -1,6 +1,7 @@
 /*
- * Needleoat for C: MCTP packets (DSP0236) and PLDM messages (DSP0240, DSP0248) read and written, control
- * messages (DSP0236) answered, the frames of packets on I2C (DSP0237) and I3C (DSP0233), and both ends.
+ * Needleoat for C: MCTP packets (DSP0236) and PLDM messages (DSP0240, DSP0248) read and written, platform data
+ * records (DSP0248) written and answered for, control messages (DSP0236) answered, the frames of packets on I2C
+ * (DSP0237) and I3C (DSP0233), and both ends.
  *
  * libneedleoat_wire_c.a has what stands before the section on the two ends. It takes no memory, keeps
  * nothing between two calls, and needs memcpy, memmove and memset alone. libneedleoat_c.a has what comes then.
@@ -74,6 +75,8 @@ enum {
     NEEDLEOAT_RESPONSE_DATA = 315, /* the most bytes of a response's data: a message without its header and code */
     NEEDLEOAT_PART_BYTES = 303,    /* the most bytes of a record in one GetPDR answer */
     NEEDLEOAT_STATES = 8,          /* the most fields of a state sensor or effecter */
+    NEEDLEOAT_RECORD_BYTES = 305,  /* the most bytes of a record that is written here */
+    NEEDLEOAT_NAME_UNITS = 140,    /* the most code units of a name */
     NEEDLEOAT_I2C_FRAME_BYTES = 259, /* the most bytes of a frame on I2C: 4, a packet of 254, and the PEC */
     NEEDLEOAT_I3C_FRAME_BYTES = 255  /* the most bytes of a frame on I3C: a packet of 254, and the PEC */
 };
@@ -329,6 +332,228 @@ uint32_t needleoat_answer_write(const struct needleoat_answer *fields, uint8_t o
  * x^8 + x^2 + x + 1, from 0, the highest bit first.
  */
 uint8_t needleoat_crc8(const uint8_t *bytes, uint64_t length);
+
+/* ---- Records ----
+ *
+ * A BMC finds sensors and effecters by platform data records (DSP0248). Each of these calls but the last writes one
+ * record: a struct of its fields goes in, and the record, its header with the length of its data among it, to the
+ * front of `out`, which has room for `room` bytes. It has 305 bytes at most. The call returns how many bytes it has;
+ * the next record is written after them. It returns 0 and leaves `out` as it was where
+ *
+ *   - a field is out of range: `record_handle` 0, a flag that is neither 0 nor 1, a data size above 5, a range format
+ *     above 6, a number that does not fit its data size or its format, a `count` other than 1 to 8, a `size` of
+ *     possible states other than 1 to 32, a `length` above 140, a code unit of a name that is 0;
+ *   - the record has more than `room` bytes.
+ *
+ * A field that is a real32 is given as its bits: copy a `float` to it by memcpy. Numbers of sensors and effecters are
+ * of the data size that `conversion` has, those of a `range` of the range's own format.
+ */
+
+/* The entity that a record belongs to. */
+struct needleoat_entity {
+    uint16_t entity_type;  /* a number of DSP0249: 64 a system board */
+    uint16_t instance;     /* which of its type it is */
+    uint16_t container_id; /* the entity that contains it */
+};
+
+/* What a numeric sensor measures in, or a numeric effecter is set in. */
+struct needleoat_units {
+    uint8_t base_unit;              /* a number of DSP0248: 2 degrees C, 5 volts, 19 RPM, 65 percent */
+    int8_t unit_modifier;           /* the power of ten that values are multiplied by */
+    uint8_t rate_unit;              /* the time that the unit is taken per: 0 none */
+    uint8_t base_oem_unit_handle;   /* the OEM unit that stands for the base unit, or 0 */
+    uint8_t auxiliary_unit;         /* a second unit, by the same list: 0 none */
+    int8_t auxiliary_unit_modifier; /* the power of ten of the second unit */
+    uint8_t auxiliary_rate_unit;    /* the time that the second unit is taken per */
+};
+
+/* How numbers become values: (number * resolution + offset) * 10 ^ unit_modifier. */
+struct needleoat_conversion {
+    uint32_t resolution;     /* a real32: 1.0 is 0x3f800000 */
+    uint32_t offset;         /* a real32 */
+    uint16_t accuracy;       /* in hundredths of a percent */
+    uint8_t plus_tolerance;  /* how far a value may be above what is measured, in steps */
+    uint8_t minus_tolerance; /* how far it may be below */
+    uint8_t is_linear;       /* whether values go with numbers by that rule: 0 no, 1 yes */
+    uint8_t size;            /* the data size of the numbers: NEEDLEOAT_UINT8 to NEEDLEOAT_SINT32 */
+};
+
+/* The format of range fields, where it is no data size: each is the bits of a real32. */
+enum { NEEDLEOAT_REAL32 = 6 };
+
+/* The normal range and the thresholds of a numeric sensor. */
+struct needleoat_sensor_range {
+    uint8_t format;  /* NEEDLEOAT_UINT8 to NEEDLEOAT_SINT32, or NEEDLEOAT_REAL32 */
+    uint8_t support; /* bit 0 nominal, 1 normal max, 2 normal min, 3 critical high, 4 low, 5 fatal high, 6 low */
+    int64_t nominal;
+    int64_t normal_max;
+    int64_t normal_min;
+    int64_t warning_high;
+    int64_t warning_low;
+    int64_t critical_high;
+    int64_t critical_low;
+    int64_t fatal_high;
+    int64_t fatal_low;
+};
+
+/* The normal and the rated range of a numeric effecter. */
+struct needleoat_effecter_range {
+    uint8_t format;  /* NEEDLEOAT_UINT8 to NEEDLEOAT_SINT32, or NEEDLEOAT_REAL32 */
+    uint8_t support; /* bit 0 nominal, 1 normal max, 2 normal min, 3 rated max, 4 rated min */
+    int64_t nominal;
+    int64_t normal_max;
+    int64_t normal_min;
+    int64_t rated_max;
+    int64_t rated_min;
+};
+
+/* The states that one sensor or effecter of a composite one can have. */
+struct needleoat_possible_states {
+    uint16_t state_set; /* a number of DSP0249 */
+    uint8_t size;       /* how many of `states` there are, 1 to 32 */
+    uint8_t states[32]; /* state s is bit s mod 8 of byte s / 8 */
+};
+
+/* Where a terminus is: at an MCTP endpoint ID. */
+struct needleoat_terminus_locator {
+    uint32_t record_handle;   /* of each record: its handle, not 0, and another one than that of each other record */
+    uint16_t change_number;   /* of each record: its change number */
+    uint16_t terminus_handle; /* of each record of a sensor or an effecter: the same as here */
+    uint16_t container_id;    /* the entity that contains the terminus */
+    uint8_t is_valid;         /* 0 no, 1 yes */
+    uint8_t tid;
+    uint8_t eid;
+};
+
+struct needleoat_numeric_sensor {
+    uint32_t record_handle;
+    uint16_t change_number;
+    uint16_t terminus_handle;
+    uint16_t sensor_id;
+    struct needleoat_entity entity;    /* what it measures */
+    uint8_t init;                      /* how it is made ready: 0 it needs nothing */
+    uint8_t has_auxiliary_names;       /* whether a record of its name goes with it: 0 no, 1 yes */
+    uint8_t rel;                       /* how the second unit goes with the first: 0 divided by it, 1 multiplied */
+    uint8_t auxiliary_oem_unit_handle; /* the OEM unit that stands for the second unit, or 0 */
+    uint8_t supported_thresholds;      /* bit 0 upper warning, 1 critical, 2 fatal, 3 to 5 the lower ones */
+    uint8_t threshold_and_hysteresis_volatility; /* when these are lost */
+    struct needleoat_units units;
+    struct needleoat_conversion conversion;
+    uint32_t state_transition_interval; /* a real32, the longest time of a change of state in seconds */
+    uint32_t update_interval;           /* a real32, the time between two readings in seconds */
+    int64_t hysteresis;
+    int64_t max_readable;
+    int64_t min_readable;
+    struct needleoat_sensor_range range;
+};
+
+struct needleoat_numeric_effecter {
+    uint32_t record_handle;
+    uint16_t change_number;
+    uint16_t terminus_handle;
+    uint16_t effecter_id;
+    struct needleoat_entity entity;     /* what it sets */
+    uint16_t semantic_id;               /* what setting it means, a number of DSP0248, or 0 */
+    uint8_t init;                       /* how it is made ready: 0 it needs nothing */
+    uint8_t has_auxiliary_names;        /* whether a record of its name goes with it: 0 no, 1 yes */
+    uint8_t auxiliary_oem_unit_handle;  /* the OEM unit that stands for the second unit, or 0 */
+    struct needleoat_units units;
+    struct needleoat_conversion conversion;
+    uint32_t state_transition_interval; /* a real32, the longest time of a change of state in seconds */
+    uint32_t transition_interval;       /* a real32, the longest time of a change of value in seconds */
+    int64_t max_settable;
+    int64_t min_settable;
+    struct needleoat_effecter_range range;
+};
+
+struct needleoat_state_sensor {
+    uint32_t record_handle;
+    uint16_t change_number;
+    uint16_t terminus_handle;
+    uint16_t sensor_id;
+    struct needleoat_entity entity; /* what it tells of */
+    uint8_t init;                   /* how it is made ready: 0 it needs nothing */
+    uint8_t has_auxiliary_names;    /* whether a record of its name goes with it: 0 no, 1 yes */
+    uint8_t count;                  /* how many of `sets` there are, 1 to 8 */
+    struct needleoat_possible_states sets[NEEDLEOAT_STATES];
+};
+
+struct needleoat_state_effecter {
+    uint32_t record_handle;
+    uint16_t change_number;
+    uint16_t terminus_handle;
+    uint16_t effecter_id;
+    struct needleoat_entity entity; /* what it sets */
+    uint16_t semantic_id;           /* what setting it means, a number of DSP0248, or 0 */
+    uint8_t init;                   /* how it is made ready: 0 it needs nothing */
+    uint8_t has_description;        /* whether a record that describes it goes with it: 0 no, 1 yes */
+    uint8_t count;                  /* how many of `sets` there are, 1 to 8 */
+    struct needleoat_possible_states sets[NEEDLEOAT_STATES];
+};
+
+/*
+ * The name of a sensor, of an effecter or of an entity: one, in English (the language tag is "en"), of a sensor or
+ * effecter that is not composite. In C11 `.text = u"Fan", .length = 3`.
+ */
+struct needleoat_sensor_name {
+    uint32_t record_handle;
+    uint32_t length; /* how many code units of `text` there are, at most 140 */
+    uint16_t change_number;
+    uint16_t terminus_handle;
+    uint16_t sensor_id;
+    uint16_t text[NEEDLEOAT_NAME_UNITS]; /* UTF-16; none of them is 0 */
+};
+
+struct needleoat_effecter_name {
+    uint32_t record_handle;
+    uint32_t length; /* how many code units of `text` there are, at most 140 */
+    uint16_t change_number;
+    uint16_t terminus_handle;
+    uint16_t effecter_id;
+    uint16_t text[NEEDLEOAT_NAME_UNITS]; /* UTF-16; none of them is 0 */
+};
+
+struct needleoat_entity_name {
+    uint32_t record_handle;
+    uint32_t length; /* how many code units of `text` there are, at most 140 */
+    uint16_t change_number;
+    struct needleoat_entity entity; /* of the overall container, the name of the terminus */
+    uint16_t text[NEEDLEOAT_NAME_UNITS]; /* UTF-16; none of them is 0 */
+};
+
+uint32_t needleoat_terminus_locator_record_write(const struct needleoat_terminus_locator *fields, uint8_t *out,
+                                                 uint64_t room);
+uint32_t needleoat_numeric_sensor_record_write(const struct needleoat_numeric_sensor *fields, uint8_t *out,
+                                               uint64_t room);
+uint32_t needleoat_numeric_effecter_record_write(const struct needleoat_numeric_effecter *fields, uint8_t *out,
+                                                 uint64_t room);
+uint32_t needleoat_state_sensor_record_write(const struct needleoat_state_sensor *fields, uint8_t *out, uint64_t room);
+uint32_t needleoat_state_effecter_record_write(const struct needleoat_state_effecter *fields, uint8_t *out,
+                                               uint64_t room);
+uint32_t needleoat_sensor_name_record_write(const struct needleoat_sensor_name *fields, uint8_t *out, uint64_t room);
+uint32_t needleoat_effecter_name_record_write(const struct needleoat_effecter_name *fields, uint8_t *out,
+                                              uint64_t room);
+uint32_t needleoat_entity_name_record_write(const struct needleoat_entity_name *fields, uint8_t *out, uint64_t room);
+
+/* Why there is no answer. 0: there is one. */
+enum needleoat_records_fault {
+    NEEDLEOAT_RECORDS_OTHER_COMMAND = 1, /* the command is neither GetPDRRepositoryInfo nor GetPDR */
+    NEEDLEOAT_RECORDS_MALFORMED = 2      /* the array is no records, as the call says */
+};
+
+/*
+ * Answers GetPDRRepositoryInfo and GetPDR for the records that stand one after another in an array, and returns 0 with
+ * the answer in `fields`: with the command's instance ID, type and number, for needleoat_answer_write or
+ * needleoat_endpoint_answer. A record is told in parts of at most `request_count` bytes and 303. With the times of
+ * GetPDRRepositoryInfo (timestamp104 of DSP0240) comes what the caller says.
+ *
+ * Otherwise it returns enum needleoat_records_fault and leaves `fields` as it was. The array is records where it has
+ * nothing but whole ones, each with the header version 1 and a handle that is not 0 and no other's, and at most 1,000.
+ * All of it is looked at in each call. An array without bytes is no record, and answered.
+ */
+uint8_t needleoat_records_answer(const uint8_t *records, uint64_t length, const uint8_t update_time[13],
+                                 const uint8_t oem_update_time[13], const struct needleoat_command *command,
+                                 struct needleoat_answer *fields);
 
 /* ---- Control messages ----
  *
@@ -877,6 +1102,136 @@ NEEDLEOAT_AT(needleoat_answer, commands, 124);
 NEEDLEOAT_AT(needleoat_answer, update_time, 156);
 NEEDLEOAT_AT(needleoat_answer, oem_update_time, 169);
 NEEDLEOAT_AT(needleoat_answer, bytes, 182);
+NEEDLEOAT_ASSERT(sizeof(struct needleoat_entity) == 6);
+NEEDLEOAT_AT(needleoat_entity, entity_type, 0);
+NEEDLEOAT_AT(needleoat_entity, instance, 2);
+NEEDLEOAT_AT(needleoat_entity, container_id, 4);
+NEEDLEOAT_ASSERT(sizeof(struct needleoat_units) == 7);
+NEEDLEOAT_AT(needleoat_units, base_unit, 0);
+NEEDLEOAT_AT(needleoat_units, unit_modifier, 1);
+NEEDLEOAT_AT(needleoat_units, rate_unit, 2);
+NEEDLEOAT_AT(needleoat_units, base_oem_unit_handle, 3);
+NEEDLEOAT_AT(needleoat_units, auxiliary_unit, 4);
+NEEDLEOAT_AT(needleoat_units, auxiliary_unit_modifier, 5);
+NEEDLEOAT_AT(needleoat_units, auxiliary_rate_unit, 6);
+NEEDLEOAT_ASSERT(sizeof(struct needleoat_conversion) == 16);
+NEEDLEOAT_AT(needleoat_conversion, resolution, 0);
+NEEDLEOAT_AT(needleoat_conversion, offset, 4);
+NEEDLEOAT_AT(needleoat_conversion, accuracy, 8);
+NEEDLEOAT_AT(needleoat_conversion, plus_tolerance, 10);
+NEEDLEOAT_AT(needleoat_conversion, minus_tolerance, 11);
+NEEDLEOAT_AT(needleoat_conversion, is_linear, 12);
+NEEDLEOAT_AT(needleoat_conversion, size, 13);
+NEEDLEOAT_ASSERT(sizeof(struct needleoat_sensor_range) == 80);
+NEEDLEOAT_AT(needleoat_sensor_range, format, 0);
+NEEDLEOAT_AT(needleoat_sensor_range, support, 1);
+NEEDLEOAT_AT(needleoat_sensor_range, nominal, 8);
+NEEDLEOAT_AT(needleoat_sensor_range, normal_max, 16);
+NEEDLEOAT_AT(needleoat_sensor_range, normal_min, 24);
+NEEDLEOAT_AT(needleoat_sensor_range, warning_high, 32);
+NEEDLEOAT_AT(needleoat_sensor_range, warning_low, 40);
+NEEDLEOAT_AT(needleoat_sensor_range, critical_high, 48);
+NEEDLEOAT_AT(needleoat_sensor_range, critical_low, 56);
+NEEDLEOAT_AT(needleoat_sensor_range, fatal_high, 64);
+NEEDLEOAT_AT(needleoat_sensor_range, fatal_low, 72);
+NEEDLEOAT_ASSERT(sizeof(struct needleoat_effecter_range) == 48);
+NEEDLEOAT_AT(needleoat_effecter_range, format, 0);
+NEEDLEOAT_AT(needleoat_effecter_range, support, 1);
+NEEDLEOAT_AT(needleoat_effecter_range, nominal, 8);
+NEEDLEOAT_AT(needleoat_effecter_range, normal_max, 16);
+NEEDLEOAT_AT(needleoat_effecter_range, normal_min, 24);
+NEEDLEOAT_AT(needleoat_effecter_range, rated_max, 32);
+NEEDLEOAT_AT(needleoat_effecter_range, rated_min, 40);
+NEEDLEOAT_ASSERT(sizeof(struct needleoat_possible_states) == 36);
+NEEDLEOAT_AT(needleoat_possible_states, state_set, 0);
+NEEDLEOAT_AT(needleoat_possible_states, size, 2);
+NEEDLEOAT_AT(needleoat_possible_states, states, 3);
+NEEDLEOAT_ASSERT(sizeof(struct needleoat_terminus_locator) == 16);
+NEEDLEOAT_AT(needleoat_terminus_locator, record_handle, 0);
+NEEDLEOAT_AT(needleoat_terminus_locator, change_number, 4);
+NEEDLEOAT_AT(needleoat_terminus_locator, terminus_handle, 6);
+NEEDLEOAT_AT(needleoat_terminus_locator, container_id, 8);
+NEEDLEOAT_AT(needleoat_terminus_locator, is_valid, 10);
+NEEDLEOAT_AT(needleoat_terminus_locator, tid, 11);
+NEEDLEOAT_AT(needleoat_terminus_locator, eid, 12);
+NEEDLEOAT_ASSERT(sizeof(struct needleoat_numeric_sensor) == 160);
+NEEDLEOAT_AT(needleoat_numeric_sensor, record_handle, 0);
+NEEDLEOAT_AT(needleoat_numeric_sensor, change_number, 4);
+NEEDLEOAT_AT(needleoat_numeric_sensor, terminus_handle, 6);
+NEEDLEOAT_AT(needleoat_numeric_sensor, sensor_id, 8);
+NEEDLEOAT_AT(needleoat_numeric_sensor, entity, 10);
+NEEDLEOAT_AT(needleoat_numeric_sensor, init, 16);
+NEEDLEOAT_AT(needleoat_numeric_sensor, has_auxiliary_names, 17);
+NEEDLEOAT_AT(needleoat_numeric_sensor, rel, 18);
+NEEDLEOAT_AT(needleoat_numeric_sensor, auxiliary_oem_unit_handle, 19);
+NEEDLEOAT_AT(needleoat_numeric_sensor, supported_thresholds, 20);
+NEEDLEOAT_AT(needleoat_numeric_sensor, threshold_and_hysteresis_volatility, 21);
+NEEDLEOAT_AT(needleoat_numeric_sensor, units, 22);
+NEEDLEOAT_AT(needleoat_numeric_sensor, conversion, 32);
+NEEDLEOAT_AT(needleoat_numeric_sensor, state_transition_interval, 48);
+NEEDLEOAT_AT(needleoat_numeric_sensor, update_interval, 52);
+NEEDLEOAT_AT(needleoat_numeric_sensor, hysteresis, 56);
+NEEDLEOAT_AT(needleoat_numeric_sensor, max_readable, 64);
+NEEDLEOAT_AT(needleoat_numeric_sensor, min_readable, 72);
+NEEDLEOAT_AT(needleoat_numeric_sensor, range, 80);
+NEEDLEOAT_ASSERT(sizeof(struct needleoat_numeric_effecter) == 120);
+NEEDLEOAT_AT(needleoat_numeric_effecter, record_handle, 0);
+NEEDLEOAT_AT(needleoat_numeric_effecter, change_number, 4);
+NEEDLEOAT_AT(needleoat_numeric_effecter, terminus_handle, 6);
+NEEDLEOAT_AT(needleoat_numeric_effecter, effecter_id, 8);
+NEEDLEOAT_AT(needleoat_numeric_effecter, entity, 10);
+NEEDLEOAT_AT(needleoat_numeric_effecter, semantic_id, 16);
+NEEDLEOAT_AT(needleoat_numeric_effecter, init, 18);
+NEEDLEOAT_AT(needleoat_numeric_effecter, has_auxiliary_names, 19);
+NEEDLEOAT_AT(needleoat_numeric_effecter, auxiliary_oem_unit_handle, 20);
+NEEDLEOAT_AT(needleoat_numeric_effecter, units, 21);
+NEEDLEOAT_AT(needleoat_numeric_effecter, conversion, 28);
+NEEDLEOAT_AT(needleoat_numeric_effecter, state_transition_interval, 44);
+NEEDLEOAT_AT(needleoat_numeric_effecter, transition_interval, 48);
+NEEDLEOAT_AT(needleoat_numeric_effecter, max_settable, 56);
+NEEDLEOAT_AT(needleoat_numeric_effecter, min_settable, 64);
+NEEDLEOAT_AT(needleoat_numeric_effecter, range, 72);
+NEEDLEOAT_ASSERT(sizeof(struct needleoat_state_sensor) == 308);
+NEEDLEOAT_AT(needleoat_state_sensor, record_handle, 0);
+NEEDLEOAT_AT(needleoat_state_sensor, change_number, 4);
+NEEDLEOAT_AT(needleoat_state_sensor, terminus_handle, 6);
+NEEDLEOAT_AT(needleoat_state_sensor, sensor_id, 8);
+NEEDLEOAT_AT(needleoat_state_sensor, entity, 10);
+NEEDLEOAT_AT(needleoat_state_sensor, init, 16);
+NEEDLEOAT_AT(needleoat_state_sensor, has_auxiliary_names, 17);
+NEEDLEOAT_AT(needleoat_state_sensor, count, 18);
+NEEDLEOAT_AT(needleoat_state_sensor, sets, 20);
+NEEDLEOAT_ASSERT(sizeof(struct needleoat_state_effecter) == 312);
+NEEDLEOAT_AT(needleoat_state_effecter, record_handle, 0);
+NEEDLEOAT_AT(needleoat_state_effecter, change_number, 4);
+NEEDLEOAT_AT(needleoat_state_effecter, terminus_handle, 6);
+NEEDLEOAT_AT(needleoat_state_effecter, effecter_id, 8);
+NEEDLEOAT_AT(needleoat_state_effecter, entity, 10);
+NEEDLEOAT_AT(needleoat_state_effecter, semantic_id, 16);
+NEEDLEOAT_AT(needleoat_state_effecter, init, 18);
+NEEDLEOAT_AT(needleoat_state_effecter, has_description, 19);
+NEEDLEOAT_AT(needleoat_state_effecter, count, 20);
+NEEDLEOAT_AT(needleoat_state_effecter, sets, 22);
+NEEDLEOAT_ASSERT(sizeof(struct needleoat_sensor_name) == 296);
+NEEDLEOAT_AT(needleoat_sensor_name, record_handle, 0);
+NEEDLEOAT_AT(needleoat_sensor_name, length, 4);
+NEEDLEOAT_AT(needleoat_sensor_name, change_number, 8);
+NEEDLEOAT_AT(needleoat_sensor_name, terminus_handle, 10);
+NEEDLEOAT_AT(needleoat_sensor_name, sensor_id, 12);
+NEEDLEOAT_AT(needleoat_sensor_name, text, 14);
+NEEDLEOAT_ASSERT(sizeof(struct needleoat_effecter_name) == 296);
+NEEDLEOAT_AT(needleoat_effecter_name, record_handle, 0);
+NEEDLEOAT_AT(needleoat_effecter_name, length, 4);
+NEEDLEOAT_AT(needleoat_effecter_name, change_number, 8);
+NEEDLEOAT_AT(needleoat_effecter_name, terminus_handle, 10);
+NEEDLEOAT_AT(needleoat_effecter_name, effecter_id, 12);
+NEEDLEOAT_AT(needleoat_effecter_name, text, 14);
+NEEDLEOAT_ASSERT(sizeof(struct needleoat_entity_name) == 296);
+NEEDLEOAT_AT(needleoat_entity_name, record_handle, 0);
+NEEDLEOAT_AT(needleoat_entity_name, length, 4);
+NEEDLEOAT_AT(needleoat_entity_name, change_number, 8);
+NEEDLEOAT_AT(needleoat_entity_name, entity, 10);
+NEEDLEOAT_AT(needleoat_entity_name, text, 16);
 NEEDLEOAT_ASSERT(sizeof(struct needleoat_control) == 29);
 NEEDLEOAT_AT(needleoat_control, eid, 0);
 NEEDLEOAT_AT(needleoat_control, uuid, 1);

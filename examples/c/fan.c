@@ -1,8 +1,9 @@
 /*
- * A fan behind numeric effecter 1 of the endpoint 9: its speed is 0 to 100 percent, and 10 at first. The input is lines
- * of a moment and a packet in hexadecimal, after a line `%%` (examples/copies.txt); the output is each packet of each
- * answer, also to the control messages of a bus owner. A packet that was refused for want of memory is received again,
- * at most three times. One that is refused still, or at a bound, counts as lost: its sender sends it again.
+ * A fan behind numeric effecter 1 of the endpoint 9: its speed is 0 to 100 percent, and 10 at first. A BMC finds it by
+ * its platform data records: where the terminus is, and what the effecter sets. The input is lines of a moment and a
+ * packet in hexadecimal, after a line `%%` (examples/copies.txt); the output is each packet of each answer, also to the
+ * control messages of a bus owner. A packet that was refused for want of memory is received again, at most three times.
+ * One that is refused still, or at a bound, counts as lost: its sender sends it again.
  */
 #include "needleoat.h"
 #include <inttypes.h>
@@ -15,9 +16,31 @@ enum { FULL_SPEED = 100, ENABLED_NO_UPDATE_PENDING = 1 };
 
 static int64_t speed = 10;
 
+static const struct needleoat_terminus_locator locator = {
+    .record_handle = 1, .terminus_handle = 1, .is_valid = 1, .tid = 1, .eid = OWN};
+static const struct needleoat_numeric_effecter fan = {
+    .record_handle = 2,
+    .terminus_handle = 1,
+    .effecter_id = 1,
+    .entity = {.entity_type = 29, .instance = 1},
+    .units = {.base_unit = 65},
+    .conversion = {.resolution = 0x3f800000, .is_linear = 1, .size = NEEDLEOAT_UINT8},
+    .max_settable = FULL_SPEED,
+};
+static uint8_t records[128];
+static uint32_t records_length;
+
+static void write_records(void) {
+    records_length = needleoat_terminus_locator_record_write(&locator, records, sizeof records);
+    records_length += needleoat_numeric_effecter_record_write(&fan, records + records_length,
+                                                              sizeof records - records_length);
+}
+
 /* Performs a command, and returns the answer. */
 static struct needleoat_answer perform(const struct needleoat_command *command) {
+    static const uint8_t never[13]; /* when the records were last changed */
     struct needleoat_answer answer = {.pldm_type = command->pldm_type, .command = command->command};
+    if (needleoat_records_answer(records, records_length, never, never, command, &answer) == 0) return answer;
     bool sets = command->command == NEEDLEOAT_SET_NUMERIC_EFFECTER_VALUE;
     bool gets = command->command == NEEDLEOAT_GET_NUMERIC_EFFECTER_VALUE;
     if (command->pldm_type != NEEDLEOAT_PLATFORM || (!sets && !gets)) answer.code = ERROR_UNSUPPORTED_COMMAND;
@@ -78,6 +101,7 @@ int main(void) {
     char line[512];
     uint8_t packet[128], refusal, well = 1;
     int tries = MEMORY_TRIES;
+    write_records();
     do refusal = needleoat_endpoint_new(&settings, 0, &endpoint);
     while (refusal == NEEDLEOAT_NO_MEMORY && --tries > 0);
     while (fgets(line, sizeof line, stdin) && strcmp(line, "%%\n") != 0) continue;

@@ -75,6 +75,32 @@ static void i2c_read(void) { needleoat_i2c_read(0x1d, i2c_frame, sizeof i2c_fram
 static void i3c_write(void) { needleoat_i3c_write(0x30, true, response, LONGEST_PACKET, i3c_frame); }
 static void i3c_read(void) { needleoat_i3c_read(0x30, true, i3c_frame, sizeof i3c_frame); }
 
+/* The longest record, which is asked for whole, a numeric sensor and a name. */
+static struct needleoat_state_effecter states = {.record_handle = 1, .count = NEEDLEOAT_STATES};
+static struct needleoat_numeric_sensor sensor = {.record_handle = 1};
+static struct needleoat_entity_name name = {.record_handle = 1, .length = NEEDLEOAT_NAME_UNITS};
+static const struct needleoat_command ask_record = {.pldm_type = NEEDLEOAT_PLATFORM,
+                                                    .command = NEEDLEOAT_GET_PDR,
+                                                    .transfer_operation_flag = 1,
+                                                    .request_count = NEEDLEOAT_RECORD_BYTES};
+static struct needleoat_answer record_answer;
+static uint8_t record[NEEDLEOAT_RECORD_BYTES], other[NEEDLEOAT_RECORD_BYTES];
+static uint32_t record_length;
+
+static void states_write(void) {
+    for (size_t i = 0; i < NEEDLEOAT_STATES; i++) states.sets[i].size = sizeof states.sets[i].states;
+    record_length = needleoat_state_effecter_record_write(&states, record, sizeof record);
+}
+static void sensor_write(void) { needleoat_numeric_sensor_record_write(&sensor, other, sizeof other); }
+static void name_write(void) {
+    for (size_t i = 0; i < NEEDLEOAT_NAME_UNITS; i++) name.text[i] = 'n';
+    needleoat_entity_name_record_write(&name, other, sizeof other);
+}
+static void records_answer(void) {
+    static const uint8_t never[13];
+    needleoat_records_answer(record, record_length, never, never, &ask_record, &record_answer);
+}
+
 /* An endpoint whose versions a bus owner asks for. */
 static const struct needleoat_control control = {.eid = 9};
 static void control_reply(void) {
@@ -154,6 +180,10 @@ static const struct {
     {"needleoat_response_read", response_read}, {"needleoat_crc8", checksum},
     {"needleoat_i2c_write", i2c_write},         {"needleoat_i2c_read", i2c_read},
     {"needleoat_i3c_write", i3c_write},         {"needleoat_i3c_read", i3c_read},
+    {"needleoat_state_effecter_record_write", states_write},
+    {"needleoat_numeric_sensor_record_write", sensor_write},
+    {"needleoat_entity_name_record_write", name_write},
+    {"needleoat_records_answer", records_answer},
     {"needleoat_control_reply", control_reply}, {"needleoat_endpoint_new", endpoint_new},
     {"needleoat_endpoint_receive, not ready", receive_busy},
     {"needleoat_endpoint_receive, a command", receive_request},

@@ -1,0 +1,6 @@
+pub mod RecordsWalked
+pub mod RecordsFound
+pub mod RecordsSummed
+pub mod RecordsHeld
+pub mod Constants
+pub mod WorkedRecords

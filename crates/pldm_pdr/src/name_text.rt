@@ -123,12 +123,17 @@ fn name_end(bytes: &[u8]) -> Result<&[u8], RecordFault>
 fn tag_end(bytes: &[u8]) -> Result<&[u8], RecordFault>
     ensures { Gives (λ rest. rest.now) result (tag_end bytes.now) }
 {
-    match bytes {
-        [] => Err(RecordFault::Short),
-        [0, rest @ ..] => Ok(rest),
-        [byte, rest @ ..] if *byte < 128 => tag_end(rest),
-        [_, ..] => Err(RecordFault::Tag),
+    let mut rest = bytes;
+    'bytes: while let [byte, after @ ..] = rest {
+        if *byte == 0 {
+            return Ok(after);
+        }
+        if *byte >= 128 {
+            return Err(RecordFault::Tag);
+        }
+        rest = after;
     }
+    Err(RecordFault::Short)
 }
 
 /// What follows a text: code units of UTF-16, and a zero unit.
@@ -136,9 +141,12 @@ fn tag_end(bytes: &[u8]) -> Result<&[u8], RecordFault>
 fn text_end(bytes: &[u8]) -> Result<&[u8], RecordFault>
     ensures { Gives (λ rest. rest.now) result (text_end bytes.now) }
 {
-    match bytes {
-        [] | [_] => Err(RecordFault::Short),
-        [0, 0, rest @ ..] => Ok(rest),
-        [_, _, rest @ ..] => text_end(rest),
+    let mut rest = bytes;
+    'units: while let [high, low, after @ ..] = rest {
+        if *high == 0 && *low == 0 {
+            return Ok(after);
+        }
+        rest = after;
     }
+    Err(RecordFault::Short)
 }
