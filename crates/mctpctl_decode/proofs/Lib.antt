@@ -1,1 +1,2 @@
 mod AddedParts
+mod EachRead
