@@ -1,5 +1,5 @@
 -- Things that are read and written one after the other, as a loop passes them.
-use Rattle.std.proofs.Common.{◌≡◌, ℕ, suc, ◌-◌, ◌+◌, ◌≤◌, ◌<◌, List, [], ◌++◌, flat_map, ◌∙◌, append_assoc, append-nil, sym, arith}
+use Rattle.std.proofs.Common.{◌≡◌, ℕ, suc, ◌-◌, ◌+◌, ◌≤◌, ◌<◌, List, ◌++◌, flat_map, ◌∙◌, append_assoc, append-nil, sym, arith}
 use Rattle.mctpctl_decode.specs.NameTexts.{each_of, after_each}
 
 -- one more is written, and the text of those that are left is as before

@@ -1,2 +1,3 @@
 mod AddedParts
 mod EachRead
+mod NamesRead

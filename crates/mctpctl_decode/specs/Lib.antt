@@ -6,6 +6,7 @@ pub mod ControlTexts
 pub mod DecodedLines
 pub mod FieldTexts
 pub mod Labels
+pub mod Laws
 pub mod MeasureTexts
 pub mod NameTexts
 pub mod NumericEffecterTexts

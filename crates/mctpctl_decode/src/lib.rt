@@ -10,6 +10,7 @@ mod control_text;
 mod decode;
 mod field_text;
 mod label;
+pub mod laws;
 mod measure_text;
 mod message_line;
 mod name_text;

@@ -1,5 +1,5 @@
 -- The text of the names so far and of those that are left, and where these end.
-use Rattle.mctpctl_decode.specs.NameTexts.{after_each, after_name, each_of, name_of, name_text}
+use Rattle.mctpctl_decode.specs.NameTexts.{after_name, name_of, name_text}
 use Rattle.mctpctl_decode.proofs.EachRead.{one_written, one_passed, all_written, all_passed}
 use Rattle.mctpctl_decode.proofs.name_text.push_each_name.Goals as goal
 

@@ -1,5 +1,5 @@
 -- The text of the names so far and of those that are left.
-use Rattle.mctpctl_decode.specs.NameTexts.{after_names, each_of, names_line, names_of}
+use Rattle.mctpctl_decode.specs.NameTexts.{after_names, names_line, names_of}
 use Rattle.mctpctl_decode.proofs.EachRead.{one_written, all_written}
 use Rattle.mctpctl_decode.proofs.name_text.push_each_names.Goals as goal
 
