@@ -1,6 +1,6 @@
 //! The lines of auxiliary names, read as they are written.
 
-ghost use Rattle.std.specs.Prelude.{◌≡◌, ◌++◌, ◌∷◌, [], IfOk, OnOk};
+ghost use Rattle.std.specs.Prelude.{◌≡◌, ◌++◌, IfOk, OnOk};
 ghost use Rattle.std.specs.List.{flat_map};
 ghost use Rattle.mctpctl_decode.specs.MeasureTexts.{entity_text};
 ghost use Rattle.mctpctl_decode.specs.NameTexts.{after_each, after_name, after_names, after_tag, after_units, all_names_of, each_of, effecter_names_lines, effecter_text, entity_names_lines, is_plain, name_of, name_text, names_line, names_of, names_text, sensor_names_lines, sensor_text, tag_of, unit_text, units_of};
