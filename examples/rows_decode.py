@@ -201,9 +201,11 @@ def lines(message):
         yield f"0 010908{flags:02x}{piece}\n"
 
 
-def last_line(run, message):
+def message_line(run, message):
+    """The line of the message; below it may be those of a record."""
     ran = run(["show", "--decode"], "".join(lines(message)))
-    return ran.stdout.decode().splitlines()[-1:], ran.returncode, ran.stderr
+    shown = [line for line in ran.stdout.decode().splitlines() if line[:2] == "  " and line[2:4] != "  "]
+    return shown, ran.returncode, ran.stderr
 
 
 def messages():
@@ -226,14 +228,15 @@ def messages():
 
 def check(rows, run, here):
     for name, message, line in messages():
-        got = last_line(run, message)
+        got = message_line(run, message)
         rows.check(f"decoded: {name}", got == ([line], 0, b""), repr(got))
     captures = ["".join(lines(message)) for _, message, _ in messages()]
     captures += [open(name).read() for name in glob.glob(os.path.join(here, "*.capture"))]
     text = "".join(f"0 {line.split(' ')[1]}" for capture in captures for line in capture.splitlines(True) if " " in line and line[0] != "#")
     shown, decoded = (run(words, text).stdout.decode().splitlines() for words in (["show"], ["show", "--decode"]))
     outer = [[line for line in out if not line.startswith("  ")] for out in (shown, decoded)]
-    well = outer[0] == outer[1] and len(shown) == len(decoded) > 100
+    messages_of = [[line for line in out if line[:2] == "  " and line[2:4] != "  "] for out in (shown, decoded)]
+    well = outer[0] == outer[1] and len(messages_of[0]) == len(messages_of[1]) > 100
     rows.check("decoded: the packets' lines are those of show", well, f"{len(shown)} {len(decoded)}")
     ran = run(["show", "--decode"], "0 0109\n%%\n")
     well = (ran.returncode, ran.stdout, ran.stderr) == (1, b"0 drop Short\n", b"mctpctl: line 2: Number\n")

@@ -1,1 +1,4 @@
 mod AddedParts
+mod EachRead
+mod NamesRead
+mod Numbers

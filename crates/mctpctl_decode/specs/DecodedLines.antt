@@ -5,6 +5,7 @@ use Rattle.mctp_packet.specs.declared.reason.Reason.{Reason}
 use Rattle.mctpctl_decode.specs.AnswerTexts.{answer_text, refused_text}
 use Rattle.mctpctl_decode.specs.CommandTexts as commands
 use Rattle.mctpctl_decode.specs.ControlTexts.{control_line}
+use Rattle.mctpctl_decode.specs.RecordTexts.{carried_lines}
 use Rattle.mctpctl_texts.specs.ShownLines.{command_text, data_text, is_shown_as_response, message_line}
 use Rattle.pldm_wire.specs.AnswerReading.{answer_of}
 use Rattle.pldm_wire.specs.CommandReading.{command_of}
@@ -30,11 +31,15 @@ request_line message (Ok request) =
     subject_text (codes "  request ") request.id request.kind
     ++ (asked_text request (command_of request.kind request.rest) ++ 10 ∷ [])
 
--- the fields of the answer that is read; a response that is none is shown as without decoding
+-- the fields of the answer that is read
+unfoldable pub answer_line : Response → Answer → List ℕ
+answer_line response answer =
+    subject_text (codes "  response ") response.id response.kind ++ (answer_text response.kind answer ++ 10 ∷ [])
+
+-- the same, and below it the lines of a record that it has whole; a response that is none is shown as without decoding
 abbrev pub answered_line : List ℕ → Response → Result Answer AnswerFault → List ℕ
 answered_line message response (Err fault) = message_line message
-answered_line message response (Ok answer) =
-    subject_text (codes "  response ") response.id response.kind ++ (answer_text response.kind answer ++ 10 ∷ [])
+answered_line message response (Ok answer) = answer_line response answer ++ carried_lines answer
 
 -- a response is read as the answer to a command of its own kind
 abbrev pub response_line : List ℕ → Result Response Reason → List ℕ

@@ -5,5 +5,16 @@ pub mod ControlNames
 pub mod ControlTexts
 pub mod DecodedLines
 pub mod FieldTexts
-pub mod StateNames
+pub mod Labels
+pub mod Laws
+pub mod MeasureTexts
+pub mod NameTexts
+pub mod NumericEffecterTexts
+pub mod NumericSensorTexts
+pub mod RecordFields
+pub mod RecordNames
+pub mod RecordTexts
 pub mod SharedCodes
+pub mod StateNames
+pub mod StateRecordTexts
+pub mod UnitNames

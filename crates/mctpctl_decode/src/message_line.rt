@@ -1,7 +1,7 @@
 //! The line of a whole message, decoded.
 
 ghost use Rattle.std.specs.Prelude.{◌≡◌, ◌++◌, OnOk};
-ghost use Rattle.mctpctl_decode.specs.DecodedLines.{asked_text, decoded_line, pldm_line, request_line, response_line, subject_text};
+ghost use Rattle.mctpctl_decode.specs.DecodedLines.{answer_line, asked_text, decoded_line, pldm_line, request_line, response_line, subject_text};
 ghost use Rattle.mctpctl_texts.specs.ShownLines.{is_shown_as_response};
 ghost use Rattle.pldm_wire.specs.CommandReading.{command_of};
 ghost use Rattle.pldm_wire.specs.Requests.{request_of};
@@ -13,12 +13,13 @@ use crate::command_text::push_command;
 use crate::control_line::{push_control_request, push_control_response};
 use crate::field_text::{push_code, push_word};
 use crate::own_answer::read_own_answer;
+use crate::record_text::push_carried_record;
 use mctp_packet::Memory;
 use mctpctl_texts as texts;
 use mctpctl_texts::{
     is_shown_as_response, write_data, write_message_line, write_number, write_text,
 };
-use pldm_wire::{Kind, RequestRef, read_command, read_request, read_response};
+use pldm_wire::{Answer, Kind, RequestRef, ResponseRef, read_command, read_request, read_response};
 
 /// Adds the line of a whole message, two spaces in. A control message (DSP0236) has the fields of its command or its
 /// answer by name; any other one, and a control message that cannot be read, has the line of a PLDM message.
@@ -86,8 +87,21 @@ fn push_response(out: &mut Vec<u8>, message: &[u8]) -> Result<(), Memory>
     let Ok(answer) = read_own_answer(&response) else {
         return write_message_line(out, message);
     };
+    push_answer_line(out, &response, &answer)?;
+    push_carried_record(out, &answer)
+}
+
+/// Adds the line of an answer: what the response is, and its fields by name.
+#[tactic(auto, unfolding(crate::specs::DecodedLines::answer_line))]
+fn push_answer_line(
+    out: &mut Vec<u8>,
+    response: &ResponseRef<'_>,
+    answer: &Answer,
+) -> Result<(), Memory>
+    ensures { OnOk result (out.new.items ≡ out.old.items ++ answer_line response.now answer.now) }
+{
     push_subject(out, "  response ", response.id(), response.kind())?;
-    push_answer(out, response.kind(), &answer)?;
+    push_answer(out, response.kind(), answer)?;
     write_text(out, "\n")
 }
 
