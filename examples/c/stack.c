@@ -116,7 +116,8 @@ static uint8_t packets[NEEDLEOAT_PACKETS][NEEDLEOAT_PACKET_BYTES];
 
 static void endpoint_new(void) {
     static const struct needleoat_endpoint_settings settings = {
-        .own = 9, .first_start = false, .keep_ms = 1000, .sources = 1, .open_messages = 1, .pending_commands = 1};
+        .own = 9, .first_start = false, .keep_ms = 1000, .sources = 1, .open_messages = 1, .pending_commands = 1,
+        .pldm_types = 1 << 4};
     needleoat_endpoint_new(&settings, 0, &endpoint);
 }
 static void endpoint_receive(uint64_t now_ms, const uint8_t *message, size_t length) {
@@ -140,6 +141,19 @@ static void receive_two(void) {
     memcpy(bytes + HEAD, other + FIRST, request_length - FIRST);
     size_t length = HEAD + request_length - FIRST;
     handle = needleoat_endpoint_receive(&endpoint, 1001, bytes, length, &pending, packets).handle;
+}
+/* A request that is handed on as bytes, and its longest response. */
+static void receive_other(void) {
+    static const uint8_t table_metadata[] = {1, 0x9f, 4, 1};
+    endpoint_receive(1001, table_metadata, sizeof table_metadata);
+}
+static void endpoint_request(void) {
+    static struct needleoat_request bytes;
+    needleoat_endpoint_request(&endpoint, &handle, &bytes);
+}
+static void endpoint_answer_bytes(void) {
+    static const uint8_t data[NEEDLEOAT_RESPONSE_DATA];
+    needleoat_endpoint_answer_bytes(&endpoint, &handle, 0, data, sizeof data, packets);
 }
 static void receive_start(void) { endpoint_receive(1002, response, response_length); }
 static void endpoint_restart(void) { needleoat_endpoint_restart(&endpoint, 1003); }
@@ -191,6 +205,9 @@ static const struct {
     {"needleoat_endpoint_receive, a copy", receive_copy},
     {"needleoat_endpoint_receive, a command in two packets", receive_two},
     {"needleoat_endpoint_answer, to a command in two packets", endpoint_answer},
+    {"needleoat_endpoint_receive, handed on", receive_other},
+    {"needleoat_endpoint_request", endpoint_request},
+    {"needleoat_endpoint_answer_bytes", endpoint_answer_bytes},
     {"needleoat_endpoint_receive, first packet", receive_start},
     {"needleoat_endpoint_restart", endpoint_restart}, {"needleoat_endpoint_free", endpoint_free},
     {"needleoat_requester_new", requester_new}, {"needleoat_requester_open", requester_open},
