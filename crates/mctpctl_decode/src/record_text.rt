@@ -99,23 +99,23 @@ fn push_unread_type(out: &mut Vec<u8>, bytes: &[u8]) -> Result<(), Memory>
 
 /// Adds the line of its header.
 #[tactic(auto, unfolding(crate::specs::RecordFields::record_line))]
-fn push_header_line(out: &mut Vec<u8>, record: &Record) -> Result<(), Memory>
-    ensures { OnOk result (out.new.items ≡ out.old.items ++ record_line (header_text record.now)) }
+fn push_header_line(out: &mut Vec<u8>, pdr: &Record) -> Result<(), Memory>
+    ensures { OnOk result (out.new.items ≡ out.old.items ++ record_line (header_text pdr.now)) }
 {
     write_text(out, "   ")?;
-    push_header(out, record)?;
+    push_header(out, pdr)?;
     write_text(out, "\n")
 }
 
 /// Adds record handle, version, type and change number.
 #[tactic(auto, unfolding(crate::specs::RecordTexts::header_text))]
-fn push_header(out: &mut Vec<u8>, record: &Record) -> Result<(), Memory>
-    ensures { OnOk result (out.new.items ≡ out.old.items ++ header_text record.now) }
+fn push_header(out: &mut Vec<u8>, pdr: &Record) -> Result<(), Memory>
+    ensures { OnOk result (out.new.items ≡ out.old.items ++ header_text pdr.now) }
 {
-    push_number(out, Label::Record, record.handle().into())?;
+    push_number(out, Label::Record, pdr.handle().into())?;
     push_number(out, Label::Version, VERSION)?;
-    push_type(out, type_number(record.contents()))?;
-    push_number(out, Label::Change, record.change_number().into())
+    push_type(out, type_number(pdr.contents()))?;
+    push_number(out, Label::Change, pdr.change_number().into())
 }
 
 /// Adds the type of a record by its name, or by its number.
