@@ -86,7 +86,8 @@ fn push_all_names(out: &mut Vec<u8>, bytes: &[u8]) -> Result<(), Memory>
 
 /// Adds a line for the names of each of so many sensors or effecters.
 fn push_each_names(out: &mut Vec<u8>, count: u8, bytes: &[u8]) -> Result<(), Memory>
-    ensures { OnOk result (out.new.items ≡ out.old.items ++ flat_map names_line (each_of names_of after_names count bytes.now)) }
+    ensures { OnOk result (out.new.items ≡ out.old.items
+        ++ flat_map names_line (each_of names_of after_names count bytes.now)) }
 {
     let mut rest = bytes;
     for _ in 0..count {
@@ -122,7 +123,8 @@ fn push_counted_names<'a>(out: &mut Vec<u8>, bytes: &'a [u8]) -> Result<&'a [u8]
 
 /// Adds so many names, and returns what is after them.
 fn push_each_name<'a>(out: &mut Vec<u8>, count: u8, bytes: &'a [u8]) -> Result<&'a [u8], Memory>
-    ensures text { OnOk result (out.new.items ≡ out.old.items ++ flat_map name_text (each_of name_of after_name count bytes.now)) }
+    ensures text { OnOk result (out.new.items ≡ out.old.items
+        ++ flat_map name_text (each_of name_of after_name count bytes.now)) }
     ensures rest { IfOk result (λ rest. rest.now ≡ after_each after_name count bytes.now) }
 {
     let mut rest = bytes;
