@@ -1,4 +1,6 @@
 mod AddedParts
 mod EachRead
+mod EndedLines
+mod HeldPairs
 mod NamesRead
 mod Numbers

@@ -5,6 +5,7 @@ pub mod ControlNames
 pub mod ControlTexts
 pub mod DecodedLines
 pub mod FieldTexts
+pub mod HeldTransfers
 pub mod Labels
 pub mod Laws
 pub mod MeasureTexts
@@ -17,4 +18,6 @@ pub mod RecordTexts
 pub mod SharedCodes
 pub mod StateNames
 pub mod StateRecordTexts
+pub mod TransferTexts
+pub mod Transfers
 pub mod UnitNames

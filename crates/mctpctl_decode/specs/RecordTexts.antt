@@ -53,18 +53,17 @@ unfoldable pub unread_type_text : Option ℕ → List ℕ
 unread_type_text None = []
 unread_type_text (Some number) = type_text number
 
--- that bytes are no record that is read, and why
-unfoldable pub unread_name : RecordFault → List ℕ
-unread_name fault = word (codes "record unread") ++ word (fault_name fault)
+-- that bytes are no record that is read, and the name of the fault
+unfoldable pub unread_name : List ℕ → List ℕ
+unread_name fault = word (codes "record unread") ++ word fault
 
 -- the same, and the type
-unfoldable pub unread_text : List ℕ → RecordFault → List ℕ
-unread_text bytes fault =
-    unread_name fault ++ unread_type_text (slice_get bytes TYPE_PLACE)
+unfoldable pub unread_text : List ℕ → List ℕ → List ℕ
+unread_text bytes fault = unread_name fault ++ unread_type_text (slice_get bytes TYPE_PLACE)
 
 abbrev pub lines_of_read : List ℕ → Result PlatformRecord RecordFault → List ℕ
 lines_of_read bytes (Ok r) = record_line (header_text r) ++ data_lines r.contents
-lines_of_read bytes (Err fault) = record_line (unread_text bytes fault)
+lines_of_read bytes (Err fault) = record_line (unread_text bytes (fault_name fault))
 
 -- the lines of the bytes of a record
 abbrev pub record_lines : List ℕ → List ℕ

@@ -23,6 +23,8 @@ mod record_text;
 mod shared_codes;
 mod state_names;
 mod state_record_text;
+mod transfer;
+mod transfers;
 mod unit_names;
 
 pub use decode::{ByName, decode_all};

@@ -1,4 +1,4 @@
-//! The lines of a platform data record that a GetPDR answer has whole.
+//! The lines of a platform data record.
 
 ghost use Rattle.std.specs.Prelude.{◌≡◌, ◌++◌, OnOk, slice_get};
 ghost use Rattle.mctpctl_decode.specs.RecordFields.{record_line};
@@ -15,7 +15,7 @@ use crate::record_names::{fault_name, type_name};
 use crate::state_record_text::{push_state_effecter, push_state_sensor};
 use mctp_packet::Memory;
 use mctpctl_texts::write_text;
-use pldm_pdr::{Record, RecordData, RecordFault, TerminusLocator};
+use pldm_pdr::{Record, RecordData, TerminusLocator};
 use pldm_wire::{Answer, RecordPart, TransferFlag};
 
 /// The version of the headers that are read (DSP0248, "PDRHeaderVersion").
@@ -47,21 +47,21 @@ fn push_whole_part(out: &mut Vec<u8>, part: &RecordPart) -> Result<(), Memory>
 
 /// Adds the lines of the record that bytes spell: its header, and its fields by name. Bytes that are no record that is
 /// read have a line with the fault, and with the type of the record where they reach so far.
-fn push_record(out: &mut Vec<u8>, bytes: &[u8]) -> Result<(), Memory>
+pub fn push_record(out: &mut Vec<u8>, bytes: &[u8]) -> Result<(), Memory>
     ensures { OnOk result (out.new.items ≡ out.old.items ++ record_lines bytes.now) }
 {
     let record = match pldm_pdr::read(bytes) {
         Ok(record) => record,
-        Err(fault) => return push_unread_line(out, bytes, fault),
+        Err(fault) => return push_unread_line(out, bytes, fault_name(fault)),
     };
     push_header_line(out, &record)?;
     push_contents(out, record.contents())
 }
 
-/// Adds the line of why bytes are no record that is read.
+/// Adds the line of why bytes are no record that is read, with the name of the fault.
 #[tactic(auto, unfolding(crate::specs::RecordFields::record_line))]
-fn push_unread_line(out: &mut Vec<u8>, bytes: &[u8], fault: RecordFault) -> Result<(), Memory>
-    ensures { OnOk result (out.new.items ≡ out.old.items ++ record_line (unread_text bytes.now fault)) }
+pub fn push_unread_line(out: &mut Vec<u8>, bytes: &[u8], fault: &str) -> Result<(), Memory>
+    ensures { OnOk result (out.new.items ≡ out.old.items ++ record_line (unread_text bytes.now fault.now)) }
 {
     write_text(out, "   ")?;
     push_unread(out, bytes, fault)?;
@@ -70,8 +70,8 @@ fn push_unread_line(out: &mut Vec<u8>, bytes: &[u8], fault: RecordFault) -> Resu
 
 /// Adds why bytes are no record that is read, and the type of the record where they reach so far.
 #[tactic(auto, unfolding(crate::specs::RecordTexts::unread_text))]
-fn push_unread(out: &mut Vec<u8>, bytes: &[u8], fault: RecordFault) -> Result<(), Memory>
-    ensures { OnOk result (out.new.items ≡ out.old.items ++ unread_text bytes.now fault) }
+fn push_unread(out: &mut Vec<u8>, bytes: &[u8], fault: &str) -> Result<(), Memory>
+    ensures { OnOk result (out.new.items ≡ out.old.items ++ unread_text bytes.now fault.now) }
 {
     push_unread_name(out, fault)?;
     push_unread_type(out, bytes)
@@ -79,11 +79,11 @@ fn push_unread(out: &mut Vec<u8>, bytes: &[u8], fault: RecordFault) -> Result<()
 
 /// Adds that bytes are no record that is read, and why.
 #[tactic(auto, unfolding(crate::specs::RecordTexts::unread_name))]
-fn push_unread_name(out: &mut Vec<u8>, fault: RecordFault) -> Result<(), Memory>
-    ensures { OnOk result (out.new.items ≡ out.old.items ++ unread_name fault) }
+fn push_unread_name(out: &mut Vec<u8>, fault: &str) -> Result<(), Memory>
+    ensures { OnOk result (out.new.items ≡ out.old.items ++ unread_name fault.now) }
 {
     push_word(out, "record unread")?;
-    push_word(out, fault_name(fault))
+    push_word(out, fault)
 }
 
 /// Adds the type that stands in a header, where the bytes reach so far.

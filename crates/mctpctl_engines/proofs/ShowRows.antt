@@ -5,10 +5,10 @@ use Rattle.hex.proofs.OnLiterals.{hex_on_literals}
 use Rattle.mctpctl_input.specs.CaptureLine.{capture_of}
 use Rattle.mctpctl_input.specs.LineRuns.{lines_written}
 use Rattle.mctpctl_bindings.specs.declared.binding.Binding.TheVariants.{I2c}
+use Rattle.mctpctl_engines.specs.MessageForms.{in_hex}
 use Rattle.mctpctl_engines.specs.ShowText.{seen_step, show_text}
 use Rattle.mctpctl_input.specs.declared.faults.EngineFault.TheVariants.{Line}
 use Rattle.mctpctl_input.specs.declared.faults.LineKind.TheVariants.{BackInTime}
-use Rattle.mctpctl_texts.specs.ShownLines.{message_line}
 use Rattle.pldm_wire.specs.CommandNames.{name_of_kind}
 use Rattle.pldm_wire.specs.CommandReading.{command_of}
 use Rattle.pldm_wire.specs.Crc.{crc}
@@ -17,15 +17,15 @@ use Rattle.pldm_wire.specs.Responses.{response_of}
 
 -- these lines give this text, and no fault
 abbrev shows : List (List ℕ) → List ℕ → Type 0
-shows lines text = lines_written (seen_step None message_line) false 1 [] lines ≡ record { text = text; fault = None }
+shows lines text = lines_written (seen_step None in_hex) false 1 [] lines ≡ record { text = text; fault = None }
 
 -- a question and its answer, from their bytes to their text
-question : show_text None message_line (codes "0 010908c801800002\n1 010809c0010000020001\n") ≡ record { text = codes "0 8>9 tag 0 to 1 som 1 eom 1 seq 0 len 4 whole\n  request 0 GetTID - ok\n1 9>8 tag 0 to 0 som 1 eom 1 seq 0 len 6 whole\n  response 0 GetTID 00 01\n"; fault = None }
+question : show_text None in_hex (codes "0 010908c801800002\n1 010809c0010000020001\n") ≡ record { text = codes "0 8>9 tag 0 to 1 som 1 eom 1 seq 0 len 4 whole\n  request 0 GetTID - ok\n1 9>8 tag 0 to 0 som 1 eom 1 seq 0 len 6 whole\n  response 0 GetTID 00 01\n"; fault = None }
 unfolding digits capture_of hex_on_literals request_of response_of command_of name_of_kind
 question = refl
 
 -- the question in a frame on I2C, and with another PEC
-framed : show_text (Some I2c) message_line (codes "0 3a0f0921010908c801800002ca\n1 3a0f0921010908c801800002cb\n") ≡ record { text = codes "0 8>9 tag 0 to 1 som 1 eom 1 seq 0 len 4 whole\n  request 0 GetTID - ok\n1 no frame: WrongPec\n"; fault = None }
+framed : show_text (Some I2c) in_hex (codes "0 3a0f0921010908c801800002ca\n1 3a0f0921010908c801800002cb\n") ≡ record { text = codes "0 8>9 tag 0 to 1 som 1 eom 1 seq 0 len 4 whole\n  request 0 GetTID - ok\n1 no frame: WrongPec\n"; fault = None }
 unfolding digits capture_of hex_on_literals crc request_of command_of name_of_kind
 framed = refl
 
@@ -56,6 +56,6 @@ unfolding digits capture_of hex_on_literals request_of response_of command_of na
 two_destinations = refl
 
 -- a comment shows nothing, and a moment before that of the last packet ends the run
-back_in_time : lines_written (seen_step None message_line) false 1 [] (codes "5 0109" ∷ codes "# 4" ∷ codes "4 0109" ∷ []) ≡ record { text = codes "5 drop Short\n"; fault = Some (Line 3 BackInTime) }
+back_in_time : lines_written (seen_step None in_hex) false 1 [] (codes "5 0109" ∷ codes "# 4" ∷ codes "4 0109" ∷ []) ≡ record { text = codes "5 drop Short\n"; fault = Some (Line 3 BackInTime) }
 unfolding digits capture_of hex_on_literals
 back_in_time = refl

@@ -5,6 +5,7 @@ pub mod DescribedPieces
 pub mod HeldRuns
 pub mod LinePackets
 pub mod LongLines
+pub mod MessageForms
 pub mod ObservedRuns
 pub mod RunText
 pub mod SchedulePieces

@@ -10,6 +10,7 @@ use Rattle.mctp_assembly.specs.declared.fed.Fed.{Fed}
 use Rattle.mctp_packet.specs.Packets.{Packet}
 use Rattle.mctpctl_bindings.specs.declared.binding.Binding.{Binding}
 use Rattle.mctpctl_engines.specs.LinePackets.{packet_on}
+use Rattle.mctpctl_engines.specs.MessageForms.{Message, whole_message, with_read}
 use Rattle.mctpctl_input.specs.CaptureLine.{TimedPacket}
 use Rattle.mctpctl_input.specs.CaptureRuns.{capture_step}
 use Rattle.mctpctl_input.specs.LineRuns.{Written, lines_written}
@@ -40,10 +41,19 @@ gives_after binding seen p = next (since (key_of p) (fed_to binding p.route.dest
 abbrev pub seen_with : List TimedPacket → ℕ → List ℕ → List TimedPacket
 seen_with seen moment bytes = record { moment = moment; bytes = bytes } ∷ seen
 
--- `line` says how the line of a whole message is written
-module _ (binding : Option Binding) (line : List ℕ → List ℕ) where
+-- the whole messages that the packets completed, the newest first
+abbrev pub messages_of : Option Binding → List TimedPacket → List Message
+messages_of binding [] = []
+messages_of binding (packet ∷ before) =
+    with_read (λ messages m. m ∷ messages) (messages_of binding before) (packet_on binding packet.bytes)
+    (gives_after binding before)
+
+-- `line` says how the line of a whole message is written, after those before it
+module _ (binding : Option Binding) (line : List Message → Message → List ℕ) where
   abbrev pub seen_text : List TimedPacket → ℕ → List ℕ → List ℕ
-  seen_text seen moment bytes = shown_text line moment (packet_on binding bytes) (gives_after binding seen)
+  seen_text seen moment bytes =
+      shown_text (λ route body. line (messages_of binding seen) (whole_message route body)) moment
+      (packet_on binding bytes) (gives_after binding seen)
 
   -- what one line gives, by looking back over all packets that came
   abbrev pub seen_step : List TimedPacket → List ℕ → Result (List ℕ × List TimedPacket) LineKind

@@ -69,7 +69,7 @@ impl Described for LineRun<Responder<SimDevice>> {
             device,
         } = description;
         let keeping = Keeping { keep, window, busy };
-        let responder = Responder::bounded(alloc, eid, keeping, Bounds::UNREACHED, device);
+        let responder = Responder::bounded(alloc, Some(eid), keeping, Bounds::UNREACHED, device);
         LineRun::new(alloc, responder)
     }
 

@@ -3,6 +3,7 @@
 ghost use Rattle.std.specs.Prelude.{◌≡◌, ◌++◌, Err, IfOk, OnOk};
 ghost use Rattle.mctpctl_engines.specs.LinePieces.{AddsLine};
 ghost use Rattle.mctpctl_engines.specs.LongLines.{observed_refuses};
+ghost use Rattle.mctpctl_engines.specs.MessageForms.{whole_message, with_completed, with_read};
 ghost use Rattle.mctpctl_engines.specs.ObservedRuns.{Observed, given_at, none_observed, observed_of, observed_step, open_after, open_in, open_with};
 ghost use Rattle.mctp_assembly.specs.Fed.{fed_with};
 ghost use Rattle.mctpctl_engines.specs.LinePackets.{or_drop, packet_on};
@@ -12,7 +13,7 @@ ghost use Rattle.mctp_packet.specs.Reading.{reading};
 use crate::line_run::{LineRoom, LineTask};
 use crate::message_form::MessageForm;
 use mctp_assembly::{Assembler, FedInto};
-use mctp_packet::{Body, Eid, Memory, PacketRef, read};
+use mctp_packet::{Body, Eid, Memory, PacketRef, Route, read};
 use mctpctl_bindings::{Binding, packet_of};
 use mctpctl_input::{CaptureFault, CaptureLine, EngineFault, read_capture_line};
 use mctpctl_texts::{write_no_frame_line, write_no_packet_line, write_packet_line};
@@ -35,7 +36,7 @@ pub struct Observer<F> {
 impl<F: MessageForm> Observer<F> {
     /// An observer to whom nothing has come.
     pub fn new(alloc: Global, form: F, binding: Option<Binding>) -> Observer<F>
-        ensures { observed_of result ≡ none_observed binding }
+        ensures { observed_of F.held_of result ≡ none_observed (F.held_of form) binding }
     {
         Observer {
             form,
@@ -55,10 +56,12 @@ impl<F: MessageForm> Observer<F> {
         text: &mut Vec<u8>,
     ) -> Result<(), Memory>
         ensures text { OnOk result (text.new.items ≡ text.old.items
-            ++ shown_text F.line moment (packet_on self.old.binding bytes.now)
-            (given_at (open_in self.old.assemblers.entries))) }
+            ++ shown_text (λ route body. F.held_line (F.held_of self.old.form) (whole_message route body)) moment
+            (packet_on self.old.binding bytes.now) (given_at (open_in self.old.assemblers.entries))) }
         ensures open { OnOk result (open_in self.new.assemblers.entries
             ≡ open_with (open_in self.old.assemblers.entries) (packet_on self.old.binding bytes.now)) }
+        ensures held { OnOk result (F.held_of self.new.form ≡ with_read F.held_with (F.held_of self.old.form)
+            (packet_on self.old.binding bytes.now) (given_at (open_in self.old.assemblers.entries))) }
         ensures last { self.new.last ≡ self.old.last }
         ensures binding { self.new.binding ≡ self.old.binding }
     {
@@ -81,10 +84,12 @@ impl<F: MessageForm> Observer<F> {
         text: &mut Vec<u8>,
     ) -> Result<(), Memory>
         ensures text { OnOk result (text.new.items ≡ text.old.items
-            ++ shown_text F.line moment (or_drop (reading None bytes.now))
-            (given_at (open_in self.old.assemblers.entries))) }
+            ++ shown_text (λ route body. F.held_line (F.held_of self.old.form) (whole_message route body)) moment
+            (or_drop (reading None bytes.now)) (given_at (open_in self.old.assemblers.entries))) }
         ensures open { OnOk result (open_in self.new.assemblers.entries
             ≡ open_with (open_in self.old.assemblers.entries) (or_drop (reading None bytes.now))) }
+        ensures held { OnOk result (F.held_of self.new.form ≡ with_read F.held_with (F.held_of self.old.form)
+            (or_drop (reading None bytes.now)) (given_at (open_in self.old.assemblers.entries))) }
         ensures last { self.new.last ≡ self.old.last }
         ensures binding { self.new.binding ≡ self.old.binding }
     {
@@ -94,23 +99,28 @@ impl<F: MessageForm> Observer<F> {
         };
         let given = feed(alloc, &mut self.assemblers, &packet, message)?;
         write_packet_line(text, moment, &packet, given)?;
-        self.push_completed(text, given, message)
+        push_completed(&mut self.form, alloc, text, packet.route(), given, message)
     }
+}
 
-    /// Adds the line of the message that a packet completes, or nothing.
-    fn push_completed(
-        &self,
-        out: &mut Vec<u8>,
-        given: FedInto,
-        message: &[u8],
-    ) -> Result<(), Memory>
-        ensures { OnOk result (out.new.items ≡ out.old.items
-            ++ completed_text F.line (fed_with message.now given)) }
-    {
-        match given {
-            FedInto::Whole => self.form.push_line(out, message),
-            FedInto::Partial | FedInto::Dropped(_) => Ok(()),
-        }
+/// Adds the line of the message that a packet completes, or nothing.
+fn push_completed<F: MessageForm>(
+    form: &mut F,
+    alloc: Global,
+    out: &mut Vec<u8>,
+    route: Route,
+    given: FedInto,
+    message: &[u8],
+) -> Result<(), Memory>
+    ensures line { OnOk result (out.new.items ≡ out.old.items
+        ++ completed_text (λ body. F.held_line (F.held_of form.old) (whole_message route body))
+        (fed_with message.now given)) }
+    ensures held { OnOk result (F.held_of form.new
+        ≡ with_completed F.held_with (F.held_of form.old) route (fed_with message.now given)) }
+{
+    match given {
+        FedInto::Whole => form.push_line(alloc, out, route, message),
+        FedInto::Partial | FedInto::Dropped(_) => Ok(()),
     }
 }
 
@@ -138,11 +148,11 @@ fn feed(
 }
 
 impl<F: MessageForm> LineTask for Observer<F> {
-    ghost State = { Observed };
+    ghost State = { Observed F.Held };
 
-    ghost state_of = { observed_of };
+    ghost state_of = { observed_of F.held_of };
 
-    ghost step = { observed_step F.line };
+    ghost step = { observed_step F.held_with F.held_line };
 
     /// Shows the packet of a line.
     fn answer(
@@ -153,8 +163,9 @@ impl<F: MessageForm> LineTask for Observer<F> {
         room: &mut LineRoom,
         out: &mut Vec<u8>,
     ) -> Result<(), EngineFault>
-        ensures meets { AddsLine number (observed_step F.line (observed_of self.old) line.now) (observed_of self.new)
-            out.old.items out.new.items result }
+        ensures meets { AddsLine number
+            (observed_step F.held_with F.held_line (observed_of F.held_of self.old) line.now)
+            (observed_of F.held_of self.new) out.old.items out.new.items result }
     {
         let moment = match read_capture_line(&room.digits, line, self.last, &mut room.packet) {
             Ok(CaptureLine::Packet { moment }) => moment,
@@ -174,5 +185,5 @@ impl<F: MessageForm> LineTask for Observer<F> {
         Ok(out.extend_from_slice(&room.text)?)
     }
 
-    ghost refuses_long = { observed_refuses F.line };
+    ghost refuses_long = { observed_refuses F.held_with F.held_line };
 }

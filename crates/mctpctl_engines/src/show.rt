@@ -4,7 +4,7 @@ ghost use Rattle.std.specs.Prelude.{◌≡◌, false};
 ghost use Rattle.mctpctl_input.specs.Ports.{has_failed};
 ghost use Rattle.mctpctl_input.specs.WholeRuns.{ReportsFailed, WritesAll, WritesFront, WritesRead};
 ghost use Rattle.mctpctl_engines.specs.ShowText.{seen_run, show_text};
-ghost use Rattle.mctpctl_texts.specs.ShownLines.{message_line};
+ghost use Rattle.mctpctl_engines.specs.MessageForms.{in_hex};
 
 use crate::line_run::LineRun;
 use crate::message_form::{InHex, MessageForm};
@@ -35,11 +35,11 @@ pub fn show_all<R: Read, W: Write>(
 ) -> Result<(), EngineFault>
     requires reads { has_failed reader.old ≡ false }
     requires writes { has_failed writer.old ≡ false }
-    ensures text { WritesAll R.remaining W.contents (show_text binding message_line) reader.old writer.old writer.new
+    ensures text { WritesAll R.remaining W.contents (show_text binding in_hex) reader.old writer.old writer.new
         result }
-    ensures at_read { WritesRead R.remaining W.contents (seen_run binding message_line) reader.old reader.new
+    ensures at_read { WritesRead R.remaining W.contents (seen_run binding in_hex) reader.old reader.new
         writer.old writer.new result }
-    ensures at_memory { WritesFront R.remaining W.contents (seen_run binding message_line) reader.old writer.old
+    ensures at_memory { WritesFront R.remaining W.contents (seen_run binding in_hex) reader.old writer.old
         writer.new result }
     ensures read { ReportsFailed EngineFault.Read result reader.new }
     ensures write { ReportsFailed EngineFault.Write result writer.new }
@@ -47,7 +47,7 @@ pub fn show_all<R: Read, W: Write>(
     show_as(alloc, InHex, binding, reader, writer)
 }
 
-/// As `show_all`, with the line of a whole message as `form` writes it.
+/// As `show_all`, with the line of a whole message as `form` writes it, which has seen none.
 pub fn show_as<F: MessageForm + Drop, R: Read, W: Write>(
     alloc: Global,
     form: F,
@@ -55,6 +55,7 @@ pub fn show_as<F: MessageForm + Drop, R: Read, W: Write>(
     reader: &mut Port<R>,
     writer: &mut Port<W>,
 ) -> Result<(), EngineFault>
+    requires new { F.held_of form ≡ F.none_held }
     requires reads { has_failed reader.old ≡ false }
     requires writes { has_failed writer.old ≡ false }
     ensures text { WritesAll R.remaining W.contents (show_text binding F.line) reader.old writer.old writer.new result }

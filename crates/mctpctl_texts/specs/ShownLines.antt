@@ -112,16 +112,14 @@ place_text p = spaced (place_words p)
 abbrev pub packet_line : ℕ → Packet → Fed → List ℕ
 packet_line moment p fed = spaced_line (decimal moment ∷ route_text p.route ∷ place_text p ∷ fed_text fed ∷ [])
 
--- `line` says how the line of a whole message is written
-module _ (line : List ℕ → List ℕ) where
-  -- after a packet that completes a message comes the line of that message
-  abbrev pub completed_text : Fed → List ℕ
-  completed_text (Whole body) = line body.items
-  completed_text Partial = []
-  completed_text (Dropped reason) = []
+-- after a packet that completes a message comes the line of that message
+abbrev pub completed_text : (List ℕ → List ℕ) → Fed → List ℕ
+completed_text line (Whole body) = line body.items
+completed_text line Partial = []
+completed_text line (Dropped reason) = []
 
-  -- what is written of the bytes that came at this moment: they spell a packet, and `gives` says what it gave; or they
-  -- spell none, and these words say why
-  abbrev pub shown_text : ℕ → Result Packet (List ℕ) → (Packet → Fed) → List ℕ
-  shown_text moment (Err words) gives = spaced_line (decimal moment ∷ words ∷ [])
-  shown_text moment (Ok p) gives = packet_line moment p (gives p) ++ completed_text (gives p)
+-- what is written of the bytes that came at this moment: they spell a packet, and `gives` says what it gave; or they
+-- spell none, and these words say why. `line` says how the line of a whole message of a route is written.
+abbrev pub shown_text : (Route → List ℕ → List ℕ) → ℕ → Result Packet (List ℕ) → (Packet → Fed) → List ℕ
+shown_text line moment (Err words) gives = spaced_line (decimal moment ∷ words ∷ [])
+shown_text line moment (Ok p) gives = packet_line moment p (gives p) ++ completed_text (line p.route) (gives p)
