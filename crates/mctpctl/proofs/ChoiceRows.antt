@@ -6,7 +6,7 @@ use Rattle.clap.specs.declared.error.kind.ErrorKind.TheVariants.{ArgumentConflic
 use Rattle.mctpctl_bindings.specs.declared.binding.Binding.{Binding}
 use Rattle.mctpctl_bindings.specs.declared.binding.Binding.TheVariants.{I2c, I3c, Serial}
 use Rattle.mctpctl.specs.Choice.{command as the_command}
-use Rattle.mctpctl.specs.Choice.{choice_of, Asked, to_perform, to_serve}
+use Rattle.mctpctl.specs.Choice.{choice_of, Asked, Questioned, to_ask, to_perform, to_serve}
 use Rattle.mctpctl.specs.declared.choose.Task.{Task}
 use Rattle.mctpctl.specs.declared.choose.Task.TheVariants.{Answer, Run, Show}
 
@@ -121,3 +121,53 @@ two_devices = refl
 not_explained : choice_of (codes "mctpctl" ∷ codes "serve" ∷ codes "--device" ∷ codes "a" ∷ codes "--explain" ∷ []) ≡ None
 unfolding clap_on_literals
 not_explained = refl
+
+-- endpoint 8 asks endpoint 9 by so many words at the end of the line
+abbrev by_words : ℕ → Questioned
+by_words count = record {
+  line = None;
+  own = codes "8";
+  device = codes "9";
+  keep = None;
+  timeout = None;
+  tries = None;
+  hex = false;
+  file = None;
+  count = count;
+}
+
+ask :
+    choice_of
+    (codes "mctpctl" ∷ codes "ask" ∷ codes "--own" ∷ codes "8" ∷ codes "--device" ∷ codes "9" ∷ codes "sensor" ∷ codes "1" ∷ [])
+    ≡ Some (to_ask (by_words 2))
+unfolding clap_on_literals
+ask = refl
+
+-- a word of the command may begin as an option does
+asked_with_all :
+    choice_of
+    (codes "mctpctl" ∷ codes "ask" ∷ codes "--line=tty" ∷ codes "--own=8" ∷ codes "--device=9" ∷ codes "--keep=1000"
+    ∷ codes "--timeout=300" ∷ codes "--tries=3" ∷ codes "--hex" ∷ codes "setnum" ∷ codes "1" ∷ codes "sint8" ∷ codes "-5"
+    ∷ [])
+    ≡ Some (to_ask (record (by_words 4) {
+      line = Some (codes "tty");
+      keep = Some (codes "1000");
+      timeout = Some (codes "300");
+      tries = Some (codes "3");
+      hex = true;
+    }))
+unfolding clap_on_literals
+asked_with_all = refl
+
+asked_by_a_file :
+    choice_of (codes "mctpctl" ∷ codes "ask" ∷ codes "--own=8" ∷ codes "--device=9" ∷ codes "--file" ∷ codes "lines" ∷ [])
+    ≡ Some (to_ask (record (by_words 0) { file = Some (codes "lines") }))
+unfolding clap_on_literals
+asked_by_a_file = refl
+
+-- the options come before the command
+device_after_the_command :
+    choice_of
+    (codes "mctpctl" ∷ codes "ask" ∷ codes "--own=8" ∷ codes "gettid" ∷ codes "--device=9" ∷ []) ≡ None
+unfolding clap_on_literals
+device_after_the_command = refl

@@ -1,8 +1,11 @@
 -- What clap found of an argument, by its rows.
-use Rattle.std.proofs.Common.{◌≡◌}
-use Rattle.clap.proofs.WalkLemmas.{first_value-rows}
-use Rattle.clap.specs.Words.{Text, first_of, first_value, rows_of}
+use Rattle.std.proofs.Common.{◌≡◌, option_map}
+use Rattle.clap.proofs.WalkLemmas.{first_value-rows, raw_values-rows}
+use Rattle.clap.specs.Words.{Text, all_of, first_of, first_value, matched_of, raw_values, rows_of}
 use Rattle.clap.specs.declared.parser.matches.Found.{Found}
 
 pub value_by_rows : (found : Found) (id : Text) → first_value found id ≡ first_of id (rows_of found)
 value_by_rows = first_value-rows
+
+pub values_by_rows : (found : Found) (id : Text) → option_map raw_values (matched_of found id) ≡ all_of id (rows_of found)
+values_by_rows = raw_values-rows

@@ -1,0 +1,7 @@
+//! Tests of a line that asks, over public calls.
+#![tactic(auto)]
+
+#[cfg(test)]
+mod asked;
+#[cfg(test)]
+mod lines;

@@ -1,0 +1,39 @@
+-- What `ask` prints of an answer, and its exit status.
+use Rattle.std.specs.Io.KnownBytes.{Appends}
+use Rattle.std.specs.Prelude.{◌≡◌, ℕ, Bool, true, false, ◌==◌, List, [], ◌∷◌, ◌++◌, Option, None, Some}
+use Rattle.std.specs.Prelude.{Result, Ok, Err, if◌then◌else◌}
+use Rattle.mctpctl_ask.specs.Asked.{Asks, Shown}
+use Rattle.mctpctl_ask.specs.Ends.{answer_of}
+use Rattle.mctpctl_ask.specs.declared.line.Ended.{Ended}
+use Rattle.mctpctl_decode.specs.DecodedLines.{decoded_line}
+use Rattle.mctpctl_texts.specs.ShownLines.{data_text}
+use Rattle.pldm_wire.specs.Responses.{Response, response_of}
+use Rattle.pldm_wire.specs.declared.assigned.TheConstants.{SUCCESS}
+use Rattle.pldm_wire.specs.declared.command.Command.{Command}
+use Rattle.mctp_packet.specs.declared.reason.Reason.{Reason}
+use Rattle.mctpctl.specs.declared.asking.TheConstants.{DONE, FAILED, REFUSED}
+
+-- as `show --decode` writes it, or its bytes
+abbrev pub message_text : Bool → List ℕ → List ℕ
+message_text true message = data_text message ++ 10 ∷ []
+message_text false message = decoded_line message
+
+abbrev pub status_of_response : Result Response Reason → ℕ
+status_of_response (Ok response) = if response.code == SUCCESS then DONE else REFUSED
+status_of_response (Err reason) = REFUSED
+
+abbrev pub status_of_message : List ℕ → ℕ
+status_of_message message = status_of_response (response_of message)
+
+-- an answer is printed, and its code is the status; where there is none, nothing is printed
+abbrev pub Prints : Bool → Option (List ℕ) → ℕ → Option (List ℕ) → Option (List ℕ) → Type 0
+Prints hex (Some message) status out out1 =
+    (status ≡ status_of_message message) × Appends out out1 (message_text hex message)
+Prints hex None status out out1 = (status ≡ FAILED) × (out1 ≡ out)
+
+-- a request for the command was opened and has ended, and the answer to that very request was printed
+pub record Tells (hex : Bool) (command : Command) (status : ℕ) (s s1 : Shown) (out out1 : Option (List ℕ)) : Type 0 where
+  pub number : ℕ
+  pub ended : Ended
+  pub asks : Asks command number ended s s1
+  pub prints : Prints hex (answer_of s1.asking.held number) status out out1

@@ -1,0 +1,99 @@
+//! The commands of `ask`, in the words of a schedule.
+
+use crate::choose::Question;
+use crate::device_file::device_text;
+use line_words::{first_word, split_line};
+use mctpctl_input::MAX_DESCRIPTION;
+use schedule_text::{LineFaultKind, Schedule};
+use std::alloc::{AllocError, AllocFailed, Global};
+use std::io;
+
+/// Why there are no commands.
+#[derive(Drop)]
+pub enum CommandsFault {
+    /// Neither a command nor a file is given, or both are, or the command is a comment.
+    None,
+    /// The command is none, for this reason.
+    Word(LineFaultKind),
+    /// The line of the file with this number is no command, for this reason.
+    Line(u64, LineFaultKind),
+    /// The file was not opened or read.
+    File(io::Error),
+    /// The file has more than [`MAX_DESCRIPTION`] bytes.
+    TooLarge,
+    /// No memory was left.
+    Memory,
+}
+
+impl<T: Drop> From<AllocFailed<T>> for CommandsFault {
+    fn from(_refused: AllocFailed<T>) -> CommandsFault {
+        CommandsFault::Memory
+    }
+}
+
+impl From<AllocError> for CommandsFault {
+    fn from(_refused: AllocError) -> CommandsFault {
+        CommandsFault::Memory
+    }
+}
+
+/// The commands that a command line asks for: those of its file, or the one in its last words. Each is opened in a step
+/// of a schedule, whose moment is the number of its line.
+pub fn read_commands(
+    rt: &HostRuntime,
+    question: &Question<'_>,
+    words: &[&str],
+) -> Result<Schedule, CommandsFault> {
+    let alloc = rt.alloc();
+    let count = question.count.min(words.len());
+    match question.file {
+        Some(name) if count == 0 => {
+            let text = match device_text(rt, name) {
+                Ok(text) => text,
+                Err(error) => return Err(CommandsFault::File(error)),
+            };
+            if text.len() > MAX_DESCRIPTION {
+                return Err(CommandsFault::TooLarge);
+            }
+            commands_in(alloc, question.own, &text)
+        }
+        None if count > 0 => {
+            let mut line = Vec::new(alloc);
+            for word in &words[words.len() - count..] {
+                line.extend_from_slice(word.as_bytes())?;
+                line.push(b' ')?;
+            }
+            match commands_in(alloc, question.own, &line) {
+                Ok(commands) if commands.steps().is_empty() => Err(CommandsFault::None), // a comment
+                Err(CommandsFault::Line(_, kind)) => Err(CommandsFault::Word(kind)),
+                read => read,
+            }
+        }
+        _ => Err(CommandsFault::None),
+    }
+}
+
+/// The commands on the lines of a text. Blank lines and comments are skipped but counted.
+fn commands_in(alloc: Global, own: &str, text: &[u8]) -> Result<Schedule, CommandsFault> {
+    let mut schedule = Schedule::new(alloc);
+    let asker = format!(in alloc; "requester {own} timeout 1 tries 1")?;
+    if let Err(fault) = schedule.add_line(0, asker.as_bytes()) {
+        return Err(CommandsFault::Word(fault.kind));
+    }
+    let mut rest = text;
+    for number in 1..u64::MAX {
+        let (line, others) = split_line(rest).unwrap_or((rest, &[]));
+        if first_word(line).is_some() {
+            let mut step = format!(in alloc; "at {number} open {own} ")?.into_bytes();
+            step.extend_from_slice(line)?;
+            if let Err(fault) = schedule.add_line(number, &step) {
+                return Err(CommandsFault::Line(number, fault.kind));
+            }
+        }
+        if others.is_empty() {
+            break;
+        }
+        rest = others;
+    }
+    Ok(schedule)
+}

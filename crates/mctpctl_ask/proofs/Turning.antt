@@ -1,0 +1,42 @@
+-- A turn that was taken.
+use Rattle.std.proofs.Common.{◌≡◌, ℕ, zero, suc, ◌≤◌, ◌==◌, Bool, List, [], ◌∷◌, length, take, refl, ap, subst, ◌∙◌, rules, arith}
+use Rattle.std.specs.Io.KnownBytes.{Appends, Consumes}
+use Rattle.std.proofs.lemmas.Bool.Decides.{nat_tests}
+use Rattle.mctp_serial.specs.Readings.{after}
+use Rattle.mctpctl_ask.specs.Asked.{Shown, TakesTurn}
+use Rattle.mctpctl_ask.specs.Turns.{frames_of, is_none, quiet_after, received}
+use Rattle.mctpctl_serve.specs.Serving.{moment_after, packets_in}
+use Rattle.pldm_requester.specs.Steps.{Held, again_at, ticked_held}
+
+pub none_taken : (n : ℕ) (xs : List ℕ) → n ≤ length xs → (n == 0) ≡ is_none (take n xs)
+none_taken zero xs few = refl
+none_taken (suc n) [] few = absurd (omega arith)
+none_taken (suc n) (x ∷ xs) few = search (rules, nat_tests)
+
+pub turn_taken : (s s1 : Shown) (bytes : List ℕ) (clock now : ℕ) (heard : Held) (none : Bool)
+    → now ≡ moment_after s.asking.held.last clock
+    → heard ≡ received s.asking.held now (packets_in s.asking.reading bytes)
+    → s1.asking.held ≡ ticked_held heard now
+    → s1.asking.reading ≡ after s.asking.reading bytes
+    → none ≡ is_none bytes → s1.asking.quiet ≡ quiet_after none s.asking.quiet now
+    → Consumes s.left s1.left bytes → Consumes s.clock s1.clock (clock ∷ [])
+    → Appends s.written s1.written (frames_of heard (again_at heard now))
+    → TakesTurn s s1
+turn_taken s s1 bytes clock now heard none at hears ticks reads empty quiet left ticked wrote =
+    let m = moment_after s.asking.held.last clock in
+    let hear : ℕ → Held = λ n. received s.asking.held n (packets_in s.asking.reading bytes) in
+    let heard_at : heard ≡ hear m = hears ∙ ap hear at in
+    let held : s1.asking.held ≡ ticked_held (hear m) m = ticks ∙ ap (λ n. ticked_held heard n) at ∙ ap (λ (h : Held). ticked_held h m) heard_at in
+    let silent : s1.asking.quiet ≡ quiet_after (is_none bytes) s.asking.quiet m =
+    quiet ∙ ap (λ b. quiet_after b s.asking.quiet now) empty ∙ ap (λ n. quiet_after (is_none bytes) s.asking.quiet n) at in
+    record {
+      turn = record { bytes = bytes; clock = clock };
+      turned = record {
+        asking = λ i. record { held = held i; reading = reads i; quiet = silent i };
+        read = left;
+        ticked = ticked;
+        wrote =
+            subst (λ (h : Held). Appends s.written s1.written (frames_of h (again_at h m))) heard_at
+            (subst (λ n. Appends s.written s1.written (frames_of heard (again_at heard n))) at wrote);
+      };
+    }

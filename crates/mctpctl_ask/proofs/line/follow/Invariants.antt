@@ -1,0 +1,14 @@
+-- Turns were taken meanwhile.
+use Rattle.std.proofs.Common.{◌≡◌, false}
+use Rattle.mctpctl_ask.specs.Asked.{Goes, shown}
+use Rattle.mctpctl_ask.specs.Ends.{IsWaiting}
+use Rattle.mctpctl_ask.proofs.line.follow.Given as goal
+
+abbrev pub invariant-loop : goal.invariant-loop
+invariant-loop g l = record {
+  goes : Goes (IsWaiting l.number)
+      (shown g.C.Ticks.to_come g.R.Read.remaining g.W.Write.contents l.initial.line l.initial.reader l.initial.writer)
+      (shown g.C.Ticks.to_come g.R.Read.remaining g.W.Write.contents l.line l.reader l.writer);
+  reads : l.reader.failed ≡ false;
+  writes : l.writer.failed ≡ false;
+}

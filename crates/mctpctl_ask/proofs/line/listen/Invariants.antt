@@ -1,0 +1,16 @@
+-- Turns were taken meanwhile.
+use Rattle.std.proofs.Common.{◌≡◌, ◌+◌, false}
+use Rattle.mctpctl_ask.specs.Asked.{Goes, shown}
+use Rattle.mctpctl_ask.specs.Ends.{IsEarly}
+use Rattle.pldm_requester.specs.Slots.{held_of}
+use Rattle.mctpctl_ask.proofs.line.listen.Given as goal
+
+abbrev pub invariant-loop : goal.invariant-loop
+invariant-loop g l = record {
+  goes : Goes (IsEarly l.end)
+      (shown g.C.Ticks.to_come g.R.Read.remaining g.W.Write.contents l.initial.line l.initial.reader l.initial.writer)
+      (shown g.C.Ticks.to_come g.R.Read.remaining g.W.Write.contents l.line l.reader l.writer);
+  first : l.end ≡ (held_of l.initial.line.requester).last + l.span;
+  reads : l.reader.failed ≡ false;
+  writes : l.writer.failed ≡ false;
+}

@@ -1,0 +1,4 @@
+pub mod Asked
+pub mod AskFaults
+pub mod Ends
+pub mod Turns

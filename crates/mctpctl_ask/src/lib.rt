@@ -1,0 +1,14 @@
+//! A requester between a reader and a writer: commands go out as requests over a serial line (DSP0253), and each is
+//! followed until it was answered or given up. There is no waiting: each read that gives nothing is a tick.
+#![tactic(auto)]
+
+mod fault;
+mod line;
+mod quiet;
+mod turn;
+
+pub use fault::{AskFault, BeginFault};
+pub use line::{Asked, AskingLine, Ended, ask, begin, listen};
+pub use mctpctl_input::Port;
+pub use mctpctl_serve::{ListTicks, SystemTicks, Ticks};
+pub use quiet::{END_MS, END_READS};

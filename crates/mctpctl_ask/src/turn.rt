@@ -1,0 +1,203 @@
+//! A turn of the loop: bytes are read, then the clock; packets come to the requester, and what is due is sent.
+
+ghost use Rattle.std.specs.Prelude.{◌≡◌, ◌≢◌, ◌↔◌, ◌≤◌, IfErr, OnOk, IsErrOf, Err, true, false};
+ghost use Rattle.std.specs.Io.KnownBytes.{Appends, Keeps};
+ghost use Rattle.std.specs.List.{flat_map};
+ghost use Rattle.mctp_packet.specs.Ids.{IsMoment};
+ghost use Rattle.mctp_serial.specs.Readings.{after};
+ghost use Rattle.mctpctl_ask.specs.Asked.{TakesTurn, shown};
+ghost use Rattle.mctpctl_ask.specs.Turns.{HearsByte, framed, frames_of, memo_frames, received};
+ghost use Rattle.mctpctl_input.specs.Ports.{inner_of, has_failed};
+ghost use Rattle.mctpctl_serve.specs.Serving.{moment_after, packets_in};
+ghost use Rattle.pldm_requester.specs.Slots.{held_of};
+ghost use Rattle.pldm_requester.specs.Steps.{again_at, ticked_held};
+
+use crate::fault::AskFault;
+use crate::line::AskingLine;
+use mctp_packet::{MAX_MOMENT, Moment, Packets};
+use mctp_serial::{FrameBytes, FrameEvent, FrameReader, frame};
+use mctpctl_input::Port;
+use mctpctl_serve::Ticks;
+use pldm_requester::Requester;
+use std::io::{Read, Write};
+
+/// How many bytes are asked for at once.
+const PIECE: usize = 4_096;
+
+/// Takes a turn: reads once, hands the packets to the requester at the reading of the clock, and sends the requests
+/// that are due.
+pub(crate) fn take_turn<C: Ticks, R: Read, W: Write>(
+    line: &mut AskingLine<C>,
+    reader: &mut Port<R>,
+    writer: &mut Port<W>,
+) -> Result<(), AskFault>
+    requires reads { has_failed reader.old ≡ false }
+    requires writes { has_failed writer.old ≡ false }
+    ensures turned { OnOk result (TakesTurn
+        (shown C.to_come R.remaining W.contents line.old reader.old writer.old)
+        (shown C.to_come R.remaining W.contents line.new reader.new writer.new)) }
+    ensures kept { IfErr result (λ fault. fault ≢ AskFault.Write
+        → Keeps (W.contents (inner_of writer.old)) (W.contents (inner_of writer.new))) }
+    ensures end { result ≢ Err AskFault.LineEnded }
+    ensures read { IsErrOf result AskFault.Read ↔ (has_failed reader.new ≡ true) }
+    ensures write { IsErrOf result AskFault.Write ↔ (has_failed writer.new ≡ true) }
+{
+    let mut room = [0; PIECE];
+    let Ok(count) = reader.read(&mut room) else {
+        return Err(AskFault::Read);
+    };
+    let Ok(reading) = line.ticks.tick() else {
+        return Err(AskFault::Clock);
+    };
+    let now = moment_after(line.requester.last_moment(), reading);
+    hear(&mut line.frames, &mut line.requester, now, &room[..count])?;
+    send_due(&mut line.requester, now, writer)?;
+    line.quiet.take(count == 0, now);
+    Ok(())
+}
+
+/// The later of the last moment and the clock's reading, which is cut at the greatest moment.
+fn moment_after(last: Moment, reading: u64) -> Moment
+    ensures value { result ≡ moment_after last reading }
+    ensures range { IsMoment result }
+    ensures forward { last ≤ result }
+{
+    let latest = last.get().max(reading.min(MAX_MOMENT));
+    Moment::new(latest).unwrap()
+}
+
+/// Hands the packets whose frames end in a piece of input to the requester.
+fn hear(
+    frames: &mut FrameReader,
+    requester: &mut Requester,
+    now: Moment,
+    piece: &[u8],
+) -> Result<(), AskFault>
+    requires { (held_of requester.old).last ≤ now }
+    ensures frames { OnOk result (frames.new ≡ after frames.old piece.now) }
+    ensures held { OnOk result (held_of requester.new
+        ≡ received (held_of requester.old) now (packets_in frames.old piece.now)) }
+    ensures last { OnOk result ((held_of requester.new).last ≤ now) }
+    ensures fault { IfErr result (λ fault. fault ≡ AskFault.Memory) }
+{
+    let mut rest = piece;
+    while let Some((byte, others)) = rest.split_first() {
+        hear_byte(frames, requester, now, *byte)?;
+        rest = others;
+    }
+    Ok(())
+}
+
+/// Takes a byte. Where it ends the frame of a packet, the requester gets that.
+#[tactic(auto, using(crate::proofs::SameHeld::same_held))]
+fn hear_byte(
+    frames: &mut FrameReader,
+    requester: &mut Requester,
+    now: Moment,
+    byte: u8,
+) -> Result<(), AskFault>
+    requires { (held_of requester.old).last ≤ now }
+    ensures heard { OnOk result (HearsByte (held_of requester.old) frames.old now byte (held_of requester.new)
+        frames.new) }
+    ensures last { OnOk result ((held_of requester.new).last ≤ now) }
+    ensures fault { IfErr result (λ fault. fault ≡ AskFault.Memory) }
+{
+    match frames.take(byte) {
+        FrameEvent::Packet(packet) => match requester.receive(now, &packet) {
+            Ok(_) => Ok(()),
+            Err(_) => Err(AskFault::Memory),
+        },
+        FrameEvent::Nothing | FrameEvent::Dropped(_) => Ok(()),
+    }
+}
+
+/// Sends the requests again that are due.
+#[tactic(auto, using(crate::proofs::SameHeld::same_held, crate::proofs::Sending::frames_same))]
+fn send_due<W: Write>(
+    requester: &mut Requester,
+    now: Moment,
+    writer: &mut Port<W>,
+) -> Result<(), AskFault>
+    requires last { (held_of requester.old).last ≤ now }
+    requires works { has_failed writer.old ≡ false }
+    ensures held { OnOk result (held_of requester.new ≡ ticked_held (held_of requester.old) now) }
+    ensures bytes { OnOk result (Appends (W.contents (inner_of writer.old)) (W.contents (inner_of writer.new))
+        (frames_of (held_of requester.old) (again_at (held_of requester.old) now))) }
+    ensures fault { IfErr result (λ fault. fault ≡ AskFault.Write) }
+    ensures write { IsErrOf result AskFault.Write ↔ (has_failed writer.new ≡ true) }
+{
+    let due = requester.tick(now);
+    send_requests(requester, &due.again, writer)
+}
+
+/// Sends the packets of these requests.
+fn send_requests<W: Write>(
+    requester: &Requester,
+    numbers: &[u64],
+    writer: &mut Port<W>,
+) -> Result<(), AskFault>
+    requires { has_failed writer.old ≡ false }
+    ensures bytes { OnOk result (Appends (W.contents (inner_of writer.old)) (W.contents (inner_of writer.new))
+        (frames_of (held_of requester.now) numbers.now)) }
+    ensures fault { IfErr result (λ fault. fault ≡ AskFault.Write) }
+    ensures write { IsErrOf result AskFault.Write ↔ (has_failed writer.new ≡ true) }
+{
+    for number in numbers {
+        match send_request(requester, *number, writer) {
+            Ok(()) => {}
+            Err(fault) => return Err(fault),
+        }
+    }
+    Ok(())
+}
+
+/// Sends the packets of a request, and flushes them.
+pub(crate) fn send_request<W: Write>(
+    requester: &Requester,
+    number: u64,
+    writer: &mut Port<W>,
+) -> Result<(), AskFault>
+    requires { has_failed writer.old ≡ false }
+    ensures bytes { OnOk result (Appends (W.contents (inner_of writer.old)) (W.contents (inner_of writer.new))
+        (memo_frames ((held_of requester.now).remembered number))) }
+    ensures fault { IfErr result (λ fault. fault ≡ AskFault.Write) }
+    ensures write { IsErrOf result AskFault.Write ↔ (has_failed writer.new ≡ true) }
+{
+    let Some(packets) = requester.packets(number) else {
+        return Ok(());
+    };
+    send_packets(packets, writer)?;
+    if writer.flush().is_err() {
+        return Err(AskFault::Write);
+    }
+    Ok(())
+}
+
+/// Writes the frames of packets.
+fn send_packets<W: Write>(packets: &Packets, writer: &mut Port<W>) -> Result<(), AskFault>
+    requires { has_failed writer.old ≡ false }
+    ensures bytes { OnOk result (Appends (W.contents (inner_of writer.old)) (W.contents (inner_of writer.new))
+        (flat_map framed packets.now)) }
+    ensures fault { IfErr result (λ fault. fault ≡ AskFault.Write) }
+    ensures write { IsErrOf result AskFault.Write ↔ (has_failed writer.new ≡ true) }
+{
+    for i in 0..packets.len() {
+        let Some(packet) = packets.get(i) else {
+            unreachable!();
+        };
+        if writer.write_all(&framed(packet)).is_err() {
+            return Err(AskFault::Write);
+        }
+    }
+    Ok(())
+}
+
+/// The frame of a packet, where it has one.
+fn framed(packet: &[u8]) -> FrameBytes
+    ensures { result.items ≡ framed packet.now }
+{
+    match frame(packet) {
+        Some(bytes) => bytes,
+        None => FrameBytes::new(),
+    }
+}
