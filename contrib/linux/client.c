@@ -1,10 +1,12 @@
 /*
  * The whole user land of the guest: a client of Linux's own MCTP stack (AF_MCTP sockets) that does what the host says.
- * It puts the line discipline N_MCTP on the serial line that leads to the device. With `binding=i2c` on the kernel's
- * command line it loads the module i2c_adapter.ko instead, attaches mctp-i2c to its bus, and passes the bus's transfers
- * over the serial line, each as a line of hex. Then it reads commands from a second serial line, one a line, and writes
- * one line for each. Numbers are decimal, bytes are in hex.
+ * It puts the line discipline N_MCTP on the serial line that leads to the device, or on as many as `lines=N` on the
+ * kernel's command line says. With `binding=i2c` there it loads the module i2c_adapter.ko instead, attaches mctp-i2c to
+ * its bus, and passes the bus's transfers over the serial line, each as a line of hex. Then it reads commands from a
+ * serial line of its own, one a line, and writes one line for each. Numbers are decimal, bytes are in hex.
  *
+ *   line N                         the line, 0 at first, that addresses, neighbours, routes, `physical` and `statistics`
+ *                                  after it are of                               ok
  *   address EID                    our endpoint ID                               ok
  *   neighbour EID ADDRESS          the address on I2C of an endpoint             ok
  *   unneighbour EID                                                              ok
@@ -55,7 +57,10 @@
 
 #define DEVICE_LINE "/dev/ttyS0"
 #define COMMAND_LINE "/dev/ttyS1"
-#define SERIAL_INTERFACE "mctpserial0"
+
+/* The lines to devices, in the order of the interfaces that the kernel makes of them. */
+static const char *const device_lines[] = {DEVICE_LINE, "/dev/ttyS2", "/dev/ttyS3"};
+static const char *const serial_interfaces[] = {"mctpserial0", "mctpserial1", "mctpserial2"};
 
 /* The adapter is the first of the guest; 0x1000 says that the address is the guest's own, as a slave. */
 #define I2C_MODULE "/i2c_adapter.ko"
@@ -64,7 +69,7 @@
 #define I2C_CLIENT "mctp-i2c-interface 0x1008"
 #define I2C_INTERFACE "mctpi2c0"
 
-enum { MAX_BYTES = 70000, MAX_WORDS = 8, TRANSFER_BYTES = 512 };
+enum { MAX_BYTES = 70000, MAX_WORDS = 8, TRANSFER_BYTES = 512, MAX_LINES = 3 };
 
 static FILE *answers;
 static const char *interface;
@@ -155,10 +160,10 @@ static void pass_bytes(int one, int other)
  * not wake a line discipline after a write, so that mctp-serial would stop in its first frame. So the discipline stands
  * on a pseudoterminal of the guest, and a process of the guest passes its bytes to the serial line.
  */
-static int open_device_line(void)
+static int open_device_line(const char *device_line)
 {
 	char name[40];
-	int unlock = 0, number, terminal, line = open_raw(DEVICE_LINE);
+	int unlock = 0, number, terminal, line = open_raw(device_line);
 	int master = open("/dev/ptmx", O_RDWR | O_NOCTTY);
 
 	if (master < 0 || ioctl(master, TIOCSPTLCK, &unlock) || ioctl(master, TIOCGPTN, &number))
@@ -176,13 +181,13 @@ static int open_device_line(void)
 	return terminal;
 }
 
-static void attach_serial(void)
+static void attach_serial(int place)
 {
 	int discipline = N_MCTP;
 
-	if (ioctl(open_device_line(), TIOCSETD, &discipline))
+	if (ioctl(open_device_line(device_lines[place]), TIOCSETD, &discipline))
 		fail("N_MCTP");
-	interface = SERIAL_INTERFACE;
+	interface = serial_interfaces[place];
 }
 
 /* ---- The I2C bus ---- */
@@ -277,6 +282,12 @@ static void start_interface(void)
 	if (ioctl(any, SIOCSIFFLAGS, &request))
 		fail("SIOCSIFFLAGS");
 	close(any);
+	interface_index = if_nametoindex(interface);
+}
+
+static void use_line(int place)
+{
+	interface = serial_interfaces[place];
 	interface_index = if_nametoindex(interface);
 }
 
@@ -493,12 +504,25 @@ static void tell_statistics(void)
 
 /* ---- Commands ---- */
 
+/* The line that the commands after it are of. */
+static void choose_line(int place)
+{
+	if (place < 0 || place >= MAX_LINES || !if_nametoindex(serial_interfaces[place])) {
+		answer("error ENODEV");
+		return;
+	}
+	use_line(place);
+	answer("ok");
+}
+
 /* Does what the words say. False at the end. */
 static bool obey(void)
 {
 	const char *what = words[0];
 
-	if (!strcmp(what, "address"))
+	if (!strcmp(what, "line"))
+		choose_line(number(1));
+	else if (!strcmp(what, "address"))
 		answer_status(add_address(number(1)));
 	else if (!strcmp(what, "neighbour"))
 		answer_status(change_neighbour(RTM_NEWNEIGH, number(1), number(2)));
@@ -543,7 +567,8 @@ static void mount_file_systems(void)
 int main(void)
 {
 	static char line[2 * MAX_BYTES];
-	const char *binding = getenv("binding");
+	const char *binding = getenv("binding"), *count = getenv("lines");
+	int lines = count && atoi(count) >= 1 && atoi(count) <= MAX_LINES ? atoi(count) : 1;
 	FILE *commands;
 
 	mount_file_systems();
@@ -552,11 +577,16 @@ int main(void)
 	answers = fdopen(dup(command_line), "w");
 	if (!commands || !answers)
 		fail("fdopen");
-	if (binding && !strcmp(binding, "i2c"))
+	if (binding && !strcmp(binding, "i2c")) {
 		attach_i2c();
-	else
-		attach_serial();
-	start_interface();
+		start_interface();
+	} else {
+		for (int place = 0; place < lines; place++) {
+			attach_serial(place);
+			start_interface();
+		}
+		use_line(0);
+	}
 	open_sockets();
 	answer("ready");
 	while (fgets(line, sizeof line, commands)) {

@@ -13,6 +13,7 @@ OWN_ADDRESS = 0x08  # on I2C, as client.c has it
 PICK_TAG = 8  # the tag that asks the kernel to pick one
 PACKET_BYTES = 68  # the most that the device takes; on a serial line Linux sends no more by itself
 BOOT_SECONDS = 120
+LINE_NUMBERS = (1, 0, 2, 3)  # of the guest's serial lines, as client.c has them: the commands', then those to devices
 
 
 @dataclass(frozen=True)
@@ -26,30 +27,33 @@ class Message:
 
 
 class Guest:
-    def __init__(self, work, folder, device_address=0):
+    def __init__(self, work, folder, device_address=0, lines=1):
         """Starts the kernel of the folder `work`. Its root file system is a folder in `folder`. It is on I2C where the
-        device has an address there, else on a serial line."""
+        device has an address there, else on a serial line, or on up to three of them."""
         self.device_address = device_address
         root = os.path.join(folder, "root")
         os.makedirs(os.path.join(root, "dev"))
         for name in ("client", "i2c_adapter.ko") if device_address else ("client",):
             shutil.copy(os.path.join(work, name), root)
-        self.line, line_end = socket.socketpair()
-        self.commands, command_end = socket.socketpair()
+        pairs = [socket.socketpair() for _ in range(1 + lines)]
+        self.commands, *self.lines = [ours for ours, _ in pairs]
+        self.line = self.lines[0]
         self.held = b""
-        ends = [line_end.fileno(), command_end.fileno()]
+        ends = [its.fileno() for _, its in pairs]
         words = [
             os.path.join(work, "vmlinux-um"),
-            *("mem=64M", f"ssl0=fd:{ends[0]}", f"ssl1=fd:{ends[1]}", "con0=null,fd:1", "con=null"),
+            *("mem=64M", "con0=null,fd:1", "con=null"),
+            *(f"ssl{number}=fd:{end}" for number, end in zip(LINE_NUMBERS, ends)),
             *("root=/dev/root", "rootfstype=hostfs", f"rootflags={os.path.abspath(root)}", "rw", "init=/client"),
             f"binding={'i2c' if device_address else 'serial'}",
+            f"lines={lines}",
         ]
         with open(os.path.join(folder, "boot.log"), "wb") as boot:
             self.process = subprocess.Popen(
                 words, stdin=subprocess.DEVNULL, stdout=boot, stderr=boot, pass_fds=ends, start_new_session=True
             )
-        line_end.close()
-        command_end.close()
+        for _, its in pairs:
+            its.close()
 
     def wait_until_ready(self):
         answer = self.read_line(BOOT_SECONDS)
@@ -77,6 +81,10 @@ class Guest:
         answer = self.command(*words)
         if answer != "ok":
             raise RuntimeError(f"{' '.join(map(str, words))}: {answer}")
+
+    def use_line(self, place):
+        """The line that addresses, routes, messages without a route and statistics after it are of."""
+        self.do("line", place)
 
     def set_address(self, eid):
         self.do("address", eid)
@@ -134,8 +142,8 @@ class Guest:
             # Each process of the guest is one of the host, in the group of the kernel.
             os.killpg(self.process.pid, signal.SIGKILL)
             self.process.wait()
-        self.line.close()
-        self.commands.close()
+        for end in (self.commands, *self.lines):
+            end.close()
 
 
 def message_in(answer):

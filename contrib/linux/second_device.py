@@ -195,8 +195,8 @@ def found(table, data):
     return table[number]
 
 
-def description():
-    """The same device for the program, in the form of docs/PROTOCOL.md."""
+def description(assigned=False):
+    """The same device for the program, in the form of docs/PROTOCOL.md; a bus owner may assign its endpoint ID."""
     device = SecondDevice()
     lines = [
         "# The device of the test against Linux; contrib/linux/run wrote this.",
@@ -215,4 +215,5 @@ def description():
     for number, (allowed, values) in device.states.items():
         lines.append(f"[[state_effecter]]\nid = {number}\nallowed = {[list(it) for it in allowed]}\nvalues = {values}")
     lines += [f'[[pdr]]\nhex = "{it.hex()}"' for it in RECORDS.values()]
+    lines += ["[control]\nassigned = true"] if assigned else []
     return "\n".join(lines) + "\n"

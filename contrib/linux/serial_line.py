@@ -133,6 +133,10 @@ class Chance:
     machine may add from here to the device. Requests are told apart by their bytes without the MCTP header, since a
     retry may have another tag."""
 
+    # how often a frame is delivered, and in how many of a hundred
+    ANSWERS = ((0, 1, 2), (7, 88, 5))
+    REQUESTS = ((0, 1, 2, 3), (15, 60, 20, 5))
+
     def __init__(self, seed, keep_ms, slack_ms):
         self.random = random.Random(seed)
         self.keep = keep_ms / 1000
@@ -144,13 +148,13 @@ class Chance:
         """Triples of a frame, the seconds until it is delivered, and the moment after which it is left out."""
         now = time.monotonic()
         if direction == TO_GUEST:
-            copies = self.random.choices((0, 1, 2), (7, 88, 5))[0]
+            copies = self.random.choices(*self.ANSWERS)[0]
             self.tally[f"frames of answers delivered {copies} times"] += 1
             return [(frame, self.late(0.07, 0.9), None) for _ in range(copies)]
         request = frame.packet[4:]
         if now - self.first_sent.get(request, -self.keep) >= self.keep:
             self.first_sent[request] = now
-        copies = self.random.choices((0, 1, 2, 3), (15, 60, 20, 5))[0]
+        copies = self.random.choices(*self.REQUESTS)[0]
         self.tally[f"requests delivered {copies} times"] += 1
         return [(frame, self.late(0.4, self.room), self.first_sent[request] + self.room) for _ in range(copies)]
 

@@ -84,6 +84,23 @@ static struct needleoat_answer perform(void) {
     return answer;
 }
 
+/* Makes the endpoint, and returns the refusal, 0 for none; where memory was refused, again, at most three times. */
+static uint8_t begin(void) {
+    const struct needleoat_endpoint_settings settings = {.own = OWN,
+                                                         .first_start = true,
+                                                         .keep_ms = KEEP_MS,
+                                                         .sources = 1,
+                                                         .open_messages = 1,
+                                                         .pending_commands = 2,
+                                                         .busy = NEEDLEOAT_BUSY_SETS,
+                                                         .pldm_types = UINT64_C(1) << FRU};
+    uint8_t refusal;
+    int tries = MEMORY_TRIES;
+    do refusal = needleoat_endpoint_new(&settings, now_ms, &endpoint);
+    while (refusal == NEEDLEOAT_NO_MEMORY && --tries > 0);
+    return refusal;
+}
+
 /* Receives a packet; where memory was refused, again, at most three times. What is asked is given at once. */
 static struct needleoat_step serve(const uint8_t *packet, size_t length) {
     struct needleoat_step step;
@@ -156,18 +173,7 @@ static void refusals(void) {
 }
 
 int main(void) {
-    const struct needleoat_endpoint_settings settings = {.own = OWN,
-                                                         .first_start = true,
-                                                         .keep_ms = KEEP_MS,
-                                                         .sources = 1,
-                                                         .open_messages = 1,
-                                                         .pending_commands = 2,
-                                                         .busy = NEEDLEOAT_BUSY_SETS,
-                                                         .pldm_types = UINT64_C(1) << FRU};
-    uint8_t refusal;
-    int tries = MEMORY_TRIES;
-    do refusal = needleoat_endpoint_new(&settings, 0, &endpoint);
-    while (refusal == NEEDLEOAT_NO_MEMORY && --tries > 0);
+    uint8_t refusal = begin();
     ask("GetFRURecordTableMetadata", "01800401");
     ask("GetSensorReading", "01810211010000");
     ask("GetFRURecordTable", "018204020000000001");
