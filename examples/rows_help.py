@@ -10,6 +10,7 @@ ABOUT = {
     "show": "Shows the packets of a capture and the messages that they complete",
 }
 SERVES = "Serves the described device on a serial line, standard input and output"
+ASKS = "Asks a device on a serial line, and prints its answers"
 TOP_OPTIONS = "Options:\n  -h, --help     Print help\n  -V, --version  Print version\n"
 
 
@@ -38,7 +39,7 @@ def options_of(texts, subcommand):
 
 def whole(texts):
     """Each command line that asks for help, and all that is to be written for it."""
-    commands = "".join(f"  {name:<8}{about}\n" for name, about in (*ABOUT.items(), ("serve", SERVES)))
+    commands = "".join(f"  {name:<8}{about}\n" for name, about in (*ABOUT.items(), ("serve", SERVES), ("ask", ASKS)))
     commands += "  help    Print this message or the help of the given subcommand(s)\n"
     first = "A simulated PLDM device behind MCTP, on standard input and output\n\nUsage: mctpctl <COMMAND>\n\n"
     top = f"{first}Commands:\n{commands}\n{TOP_OPTIONS}\n{texts['STATUSES']}\n"
@@ -58,6 +59,31 @@ def whole(texts):
     page = f"{SERVES}\n\nUsage: mctpctl serve [OPTIONS] --device <FILE>\n\nOptions:\n{flags}\n{texts['SERVE']}\n"
     yield ["serve", "--help"], page
     yield ["help", "serve"], page
+    page = help_of_ask(texts)
+    yield ["ask", "--help"], page
+    yield ["help", "ask"], page
+
+
+# The options of `ask`, and the texts of the source file that say what they are.
+ASKED = (
+    ("--line <PATH>", "LINE"),
+    ("--own <EID>", "OWN"),
+    ("--device <EID>", "ASKED"),
+    ("--keep <MS>", "KEEP"),
+    ("--timeout <MS>", "TIMEOUT"),
+    ("--tries <N>", "TRIES"),
+    ("--hex", "HEX"),
+    ("--file <FILE>", "COMMANDS"),
+)
+
+
+def help_of_ask(texts):
+    """Its options, whose column is as wide as the longest, and the words of the command before them."""
+    flags = "".join(f"      {option:<16}{texts[name]}\n" for option, name in ASKED)
+    flags += "  -h, --help          Print help\n"
+    words = f"Arguments:\n  [COMMAND]...  {texts['COMMAND']}\n"
+    usage = "Usage: mctpctl ask [OPTIONS] --own <EID> --device <EID> [COMMAND]..."
+    return f"{ASKS}\n\n{usage}\n\n{words}\nOptions:\n{flags}\n{texts['ASK']}\n"
 
 
 def served(rows, program, device, text):

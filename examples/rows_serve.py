@@ -359,6 +359,7 @@ def control(rows, place):
         ("Get Endpoint ID", "010008c8008002", "010809c000000200090100"),
         ("Set Endpoint ID to its own", "010008c80081010009", "010809c00001010000" + "0900"),
         ("Set Endpoint ID to another", "010008c8008201000a", "010809c00002010010" + "0900"),
+        ("Reset to the static endpoint ID", "010908c80081010200", "010809c00001010000" + "0900"),
         ("Get Endpoint UUID", "010908c9008303", "010809c100030300" + uuid.hex()),
         ("versions of the base", "010908ca008404ff", "010809c20004040001" + "f1f3f100"),
         ("versions of control messages", "010908ca00850400", "010809c20005040001" + "f1f3f100"),
@@ -448,8 +449,48 @@ def described_control(rows, place):
     rows.check("control: `answer` ignores the table", (ran.returncode, ran.stdout, ran.stderr) == want, repr(ran))
 
 
+# A packet, and the one that answers it, if one does: a device that has no endpoint ID is assigned 10, then 11, and goes
+# back to the static one, 9 (DSP0236, "Set Endpoint ID" and "Get Endpoint ID"; DSP0248, "SetNumericEffecterValue").
+ASSIGNED = (
+    ("010908c801800002", None),  # GetTID at the endpoint ID of the description: not yet
+    ("010008c8008002", "010800c0000002" + "00000100"),  # Get Endpoint ID at the null one: none, static
+    ("010008c8008101000a", "010800c00001010000" + "0a00"),  # 10 is accepted
+    ("010a08c90181023101000028", "01080ac10101023100"),  # effecter 1 is set at once
+    ("010a08c8008201000b", "01080ac00002010000" + "0b00"),  # 11, asked of 10 and answered from it
+    ("010008c8008101000a", "01080bc00001010000" + "0a00"),  # a late copy of the first: its answer, and no more
+    ("010b08c8008302", "01080bc0000302" + "000b0100"),  # it still has 11
+    ("010a08c90181023101000028", None),  # a late copy of the setting, at the endpoint ID of then
+    ("010b08c90181023101000028", "01080bc10101023104"),  # the same at 11: not ready for the keeping time
+    ("010b08c80084010200", "01080bc00004010000" + "0900"),  # Reset
+    ("010908c8008502", "010809c0000502" + "00090100"),
+    ("010008c8008601000b", "010809c00006010000" + "0b00"),  # a second board of the kind is given another one
+)
+
+
+def assigned(rows, place):
+    """A device whose description says so has no endpoint ID until a bus owner assigns one."""
+    with open(place.device) as file:
+        device = place.write("assigned.toml", file.read() + "[control]\nassigned = true\n")
+    data = b"".join(frame(bytes.fromhex(packet)) for packet, _ in ASSIGNED)
+    want = b"".join(frame(bytes.fromhex(answer)) for _, answer in ASSIGNED if answer)
+    ran = place.run(data, device=device)
+    rows.check("assigned: 10, then 11, then the static one", ran == (0, want, b""), repr((ran, want.hex())))
+    for eid in (10, 11):
+        packets = (f"010008c800810100{eid:02x}", f"01{eid:02x}08c801800002")
+        answers = (f"010800c00001010000{eid:02x}00", f"0108{eid:02x}c0010000020001")
+        ran = place.run(b"".join(frame(bytes.fromhex(packet)) for packet in packets), device=device)
+        want = b"".join(frame(bytes.fromhex(answer)) for answer in answers)
+        rows.check(f"assigned: one of two boards has {eid}", ran == (0, want, b""), repr((ran, want.hex())))
+    for value, fault in (("1", "WrongKind"), ("'true'", "WrongKind")):
+        with open(place.device) as file:
+            text = file.read() + f"[control]\nassigned = {value}\n"
+        ran = place.run(b"", device=place.write("assigned.toml", text))
+        want = (1, b"", f"mctpctl: device: {fault}\n".encode())
+        rows.check(f"assigned: {value} is no truth value", ran == want, repr(ran))
+
+
 PARTS = (large, no_frames, escapes, open_pipe, terminal, terminal_of_the_help, copies, copies_in_turn, windows)
-PARTS += (refusals, broken_line, watched, control, described_control)
+PARTS += (refusals, broken_line, watched, control, described_control, assigned)
 
 
 def check(rows, program, here, device):

@@ -66,10 +66,18 @@ def serve(top):
     return subprocess.run(words, input=frame(QUESTION), stdout=subprocess.PIPE, stderr=subprocess.PIPE, timeout=60)
 
 
+def ask(top):
+    """What the wrapper makes of a command on a line that ended."""
+    return call([os.path.join(top, "mctpctl"), "ask", "--line", "/dev/null", "--own", "8", "--device", "9", "gettid"])
+
+
 def lines(rows, top):
     """A serial line goes through the wrapper as it is."""
     ran = serve(top)
     rows.check("a serial line", (ran.returncode, ran.stdout, ran.stderr) == (0, frame(ANSWER), b""), repr(ran))
+    ran = ask(top)
+    want = (3, "", "mctpctl: the line ended\n")
+    rows.check("a line that is asked on", (ran.returncode, ran.stdout, ran.stderr) == want, repr(ran))
 
 
 def stamps(rows, top):
@@ -85,6 +93,9 @@ def stamps(rows, top):
     ran = serve(top)
     well = (ran.returncode, ran.stdout) == (3, b"") and b"serve needs the proved program" in ran.stderr
     rows.check("a serial line without a proved program", well, repr(ran))
+    ran = ask(top)
+    well = (ran.returncode, ran.stdout) == (3, "") and "ask needs the proved program" in ran.stderr
+    rows.check("a line that is asked on without a proved program", well, repr(ran))
 
 
 def installs(rows, top):

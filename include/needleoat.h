@@ -557,9 +557,9 @@ uint8_t needleoat_records_answer(const uint8_t *records, uint64_t length, const 
 
 /* ---- Control messages ----
  *
- * A bus owner finds an endpoint by MCTP control messages (DSP0236, message type 0). What answers them stands
- * beside the answering end of PLDM and keeps nothing: the settings are the caller's, and no message changes
- * them.
+ * A bus owner finds an endpoint by MCTP control messages (DSP0236, message type 0). needleoat_endpoint_receive answers
+ * them by itself where `answers_control` of its settings is true. What is here is for a program without that: it keeps
+ * nothing, the settings are the caller's, and no message changes them.
  */
 
 /*
@@ -576,9 +576,9 @@ struct needleoat_control {
 
 /*
  * Writes the packet that answers a control message to the front of `out`, and returns its length in bytes, 8 to
- * 24. Call it where a step of needleoat_endpoint_receive is NEEDLEOAT_STEP_DROPPED, with the `reason` of the step
- * and the bytes of that packet; send what it gives to where the packet came from. Each
- * control message is one packet. Set Endpoint ID to another endpoint ID is answered, and rejected.
+ * 24. Call it with a packet that was dropped and the reason: where a step of needleoat_endpoint_receive is
+ * NEEDLEOAT_STEP_DROPPED and `answers_control` is false, with the `reason` of the step. Send what it gives to where the
+ * packet came from. Each control message is one packet. Set Endpoint ID to another endpoint ID is answered, and rejected.
  *
  * It returns 0 and leaves `out` as it was where there is no answer: `reason` is neither NEEDLEOAT_NOT_PLDM nor,
  * of a packet to the null endpoint ID (0), NEEDLEOAT_UNKNOWN_DESTINATION, nor, of a packet from the null endpoint
@@ -756,7 +756,8 @@ enum needleoat_busy {
  * window is right for which requester.
  */
 struct needleoat_endpoint_settings {
-    uint8_t own;               /* its endpoint ID, 8 to 254 */
+    uint8_t own;               /* its endpoint ID, 8 to 254. Where `assigned`, the static one that Reset goes back to, or 0:
+                                  there is none */
     bool first_start;          /* true only where this endpoint never ran before */
     uint32_t keep_ms;          /* how long an answer is kept for copies, 1 to 60,000 */
     uint32_t sources;          /* how many other endpoints have room for answers at most, `window` for each */
@@ -769,11 +770,19 @@ struct needleoat_endpoint_settings {
                                   of this profile; else they are refused with code 0x05 */
     uint64_t pldm_types;       /* the PLDM types of which each request is handed on as bytes: bit t stands for type t.
                                   Those of the others are refused with code 0x20; the bits of 0 and 2 stand for nothing */
+    bool answers_control;      /* whether control messages are answered (DSP0236, message type 0), as what follows says;
+                                  else they are dropped */
+    bool assigned;             /* whether a bus owner assigns the endpoint ID: there is none at first */
+    uint8_t uuid[16];          /* the UUID, in the order of RFC 4122 */
+    uint8_t base_version[4];   /* the version of the base specification that it keeps to, as on the wire */
+    uint8_t control_version[4]; /* the version of the control protocol that it keeps to */
+    uint8_t pldm_version[4];   /* the version of PLDM over MCTP (DSP0241) that it keeps to */
 };
 
 /*
- * Makes an endpoint: 0, or enum needleoat_refusal: 7, else 6 where `own` is not 8 to 254, `keep_ms` is not 1 to 60,000,
- * `window` is above 32 or `busy` is neither kind; else 2 where `now_ms` is past the last moment; else 1. After a reset
+ * Makes an endpoint: 0, or enum needleoat_refusal: 7, else 6 where `own` is not 8 to 254 (nor 0 where `assigned`),
+ * `assigned` is true and `answers_control` is not, `keep_ms` is not 1 to 60,000, `window` is above 32 or `busy` is
+ * neither kind; else 2 where `now_ms` is past the last moment; else 1. After a reset
  * of the processor `first_start` is false: a request that was performed before could come once more, so the busy time
  * begins at `now_ms`. At any start `now_ms` is the moment of a call that was accepted, so no moment before it may come
  * then.
@@ -799,7 +808,8 @@ enum needleoat_step_kind {
     NEEDLEOAT_STEP_PARTIAL = 2,  /* the packet begins a message of several, or goes on with one */
     NEEDLEOAT_STEP_ANSWERED = 3, /* it is answered: the packets of the answer are to be sent */
     NEEDLEOAT_STEP_PERFORM = 4,  /* the command of a request is to be performed, once */
-    NEEDLEOAT_STEP_RESPOND = 5   /* a request that is handed on as bytes is to be responded to, once */
+    NEEDLEOAT_STEP_RESPOND = 5,  /* a request that is handed on as bytes is to be responded to, once */
+    NEEDLEOAT_STEP_CONTROL = 6   /* a control message is answered: the one packet of the answer is to be sent */
 };
 
 struct needleoat_step {
@@ -808,7 +818,7 @@ struct needleoat_step {
     bool fresh;     /* ANSWERED: it is the first answer to this request, whose command was performed or which was
                        refused by its code without the device. Else it is a copy, or nothing is performed yet */
     bool changed;   /* ANSWERED: it is fresh, of a command that sets, and was not refused */
-    uint32_t count; /* ANSWERED: how many packets the answer has, 1 to 5; else 0 */
+    uint32_t count; /* ANSWERED: how many packets the answer has, 1 to 5; CONTROL: 1; else 0 */
     uint32_t lengths[NEEDLEOAT_PACKETS];    /* the length of each in bytes, 5 to 68 */
     struct needleoat_command_handle handle; /* PERFORM: for needleoat_endpoint_answer; RESPOND: for
                                                needleoat_endpoint_request and _answer_bytes; else zeros */
@@ -834,12 +844,25 @@ struct needleoat_step {
  * step is its handle; otherwise `command` is as it was. Where a request is to be responded to, `handle` of the step is
  * its handle. Where the packet is answered, packet i of the answer is
  * in front of `packets[i]`. It goes to the source of the request. What else is in `packets` has no meaning.
- * Where the packet was dropped, it may be a control message: hand it on to needleoat_control_reply.
+ *
+ * Where `answers_control`, a packet that is no message of PLDM, or is sent to or from the null endpoint ID, may be a
+ * control request: its answer is in front of `packets[0]`, and goes to the physical address that the packet came from.
+ * Set Endpoint ID is accepted for the own endpoint ID, where `assigned` for any, and as Reset where there is a static
+ * one. Where that changes the endpoint ID, the endpoint has it from then on: the kept answers, the messages that have
+ * begun and the pending commands are forgotten, as by needleoat_endpoint_restart; the busy time begins where it had an
+ * endpoint ID before. A later copy of the request, less than `keep_ms` after it, gets the same answer and changes
+ * nothing. While there is no endpoint ID every message of PLDM is dropped.
  */
 struct needleoat_step needleoat_endpoint_receive(struct needleoat_endpoint *endpoint, uint64_t now_ms,
                                                  const uint8_t *packet, uint64_t length,
                                                  struct needleoat_command *command,
                                                  uint8_t packets[NEEDLEOAT_PACKETS][NEEDLEOAT_PACKET_BYTES]);
+
+/*
+ * The endpoint ID that the endpoint has: 0 where it has none yet, or there is nothing behind the handle. It takes no
+ * memory.
+ */
+uint8_t needleoat_endpoint_eid(struct needleoat_endpoint *endpoint);
 
 /*
  * Hands in the answer to the command that is pending under this handle, and gives the packets of it:
@@ -1249,7 +1272,7 @@ NEEDLEOAT_AT(needleoat_i3c_frame, packet_length, 4);
 NEEDLEOAT_ASSERT(sizeof(struct needleoat_endpoint) == 16);
 NEEDLEOAT_AT(needleoat_endpoint, at, 0);
 NEEDLEOAT_AT(needleoat_endpoint, is_live, 8);
-NEEDLEOAT_ASSERT(sizeof(struct needleoat_endpoint_settings) == 40);
+NEEDLEOAT_ASSERT(sizeof(struct needleoat_endpoint_settings) == 72);
 NEEDLEOAT_AT(needleoat_endpoint_settings, own, 0);
 NEEDLEOAT_AT(needleoat_endpoint_settings, first_start, 1);
 NEEDLEOAT_AT(needleoat_endpoint_settings, keep_ms, 4);
@@ -1260,6 +1283,12 @@ NEEDLEOAT_AT(needleoat_endpoint_settings, window, 20);
 NEEDLEOAT_AT(needleoat_endpoint_settings, busy, 24);
 NEEDLEOAT_AT(needleoat_endpoint_settings, unknown_commands, 28);
 NEEDLEOAT_AT(needleoat_endpoint_settings, pldm_types, 32);
+NEEDLEOAT_AT(needleoat_endpoint_settings, answers_control, 40);
+NEEDLEOAT_AT(needleoat_endpoint_settings, assigned, 41);
+NEEDLEOAT_AT(needleoat_endpoint_settings, uuid, 42);
+NEEDLEOAT_AT(needleoat_endpoint_settings, base_version, 58);
+NEEDLEOAT_AT(needleoat_endpoint_settings, control_version, 62);
+NEEDLEOAT_AT(needleoat_endpoint_settings, pldm_version, 66);
 NEEDLEOAT_ASSERT(sizeof(struct needleoat_request) == 324);
 NEEDLEOAT_AT(needleoat_request, pldm_type, 0);
 NEEDLEOAT_AT(needleoat_request, command, 1);

@@ -54,17 +54,20 @@ static struct needleoat_answer perform(const struct needleoat_command *command) 
     return answer;
 }
 
-/* What a bus owner is told: the versions 1.3.1 of the base specification and of the control protocol, and 1.0.0. */
-static const struct needleoat_control control = {
-    .eid = OWN,
+/* A bus owner is told the versions 1.3.1 of the base specification and of the control protocol, and 1.0.0. */
+static const struct needleoat_endpoint_settings settings = {
+    .own = OWN,
+    .first_start = true,
+    .keep_ms = 1000,
+    .sources = 2,
+    .open_messages = 1,
+    .pending_commands = 1,
+    .answers_control = true,
     .uuid = {0x4e, 0x65, 0x65, 0x64, 0x6c, 0x65, 0x8f, 0x61, 0x80, 0x74, 0, 0, 0, 0, 0, OWN},
     .base_version = {0xf1, 0xf3, 0xf1, 0x00},
     .control_version = {0xf1, 0xf3, 0xf1, 0x00},
     .pldm_version = {0xf1, 0xf0, 0xf0, 0x00},
 };
-
-static const struct needleoat_endpoint_settings settings = {
-    .own = OWN, .first_start = true, .keep_ms = 1000, .sources = 2, .open_messages = 1, .pending_commands = 1};
 static struct needleoat_endpoint endpoint = NEEDLEOAT_ENDPOINT_NONE;
 static uint8_t packets[NEEDLEOAT_PACKETS][NEEDLEOAT_PACKET_BYTES];
 
@@ -79,9 +82,6 @@ static bool serve(uint64_t now_ms, const uint8_t *packet, size_t length) {
     if (step.kind == NEEDLEOAT_STEP_PERFORM) {
         struct needleoat_answer answer = perform(&command);
         step = needleoat_endpoint_answer(&endpoint, &step.handle, &answer, packets);
-    } else if (step.kind == NEEDLEOAT_STEP_DROPPED) {
-        step.lengths[0] = needleoat_control_reply(&control, step.reason, packet, length, packets[0]);
-        step.count = step.lengths[0] > 0;
     }
     for (uint32_t i = 0; i < step.count; i++) {
         for (uint32_t j = 0; j < step.lengths[i]; j++) printf("%02x", packets[i][j]);

@@ -368,6 +368,39 @@ static void controls(void) {
     control("no bytes", 200, NEEDLEOAT_UNKNOWN_DESTINATION, "");
 }
 
+/* The same asked of an endpoint that answers control messages itself. */
+static void asked_itself(const char *what, const char *hex) {
+    static struct needleoat_endpoint endpoint = NEEDLEOAT_ENDPOINT_NONE;
+    struct needleoat_endpoint_settings settings = {.own = 200, .keep_ms = 1000, .answers_control = true};
+    struct needleoat_command command;
+    uint8_t bytes[80], packets[NEEDLEOAT_PACKETS][NEEDLEOAT_PACKET_BYTES];
+    for (size_t i = 0; i < sizeof settings.uuid; i++) settings.uuid[i] = (uint8_t)(0x10 + i);
+    for (size_t i = 0; i < sizeof settings.base_version; i++) {
+        settings.base_version[i] = (uint8_t)(0xa1 + i);
+        settings.control_version[i] = (uint8_t)(0xb1 + i);
+        settings.pldm_version[i] = (uint8_t)(0xc1 + i);
+    }
+    memset(packets, UNTOUCHED, sizeof packets);
+    uint8_t refusal = needleoat_endpoint_new(&settings, 0, &endpoint);
+    struct needleoat_step step =
+        needleoat_endpoint_receive(&endpoint, 0, bytes, from_hex(hex, bytes), &command, packets);
+    printf("by the endpoint %u, %s: %u %u %u %" PRIu32 " ", needleoat_endpoint_eid(&endpoint), what, refusal, step.kind,
+           step.reason, step.count);
+    print_bytes(packets[0], step.lengths[0]);
+    printf(" %s\n", rest(packets[0], step.lengths[0], sizeof packets));
+    needleoat_endpoint_free(&endpoint);
+}
+
+static void controls_itself(void) {
+    asked_itself("endpoint ID", "01c808cb" "008302");
+    asked_itself("UUID", "01c808cc" "008403");
+    asked_itself("versions of the base specification", "01c808cd" "008504ff");
+    asked_itself("versions of the control protocol", "01c808ce" "00860400");
+    asked_itself("versions of PLDM over MCTP", "01c808cf" "00870401");
+    asked_itself("to be the endpoint 201", "01c8feca" "009f0100c9");
+    asked_itself("a response", "01c808c8" "000002");
+}
+
 /* ---- Steps of an endpoint ---- */
 
 static struct needleoat_endpoint endpoint = NEEDLEOAT_ENDPOINT_NONE;
@@ -575,6 +608,7 @@ int main(void) {
     written_commands();
     written_answers();
     controls();
+    controls_itself();
     bus_frames();
     steps();
     windows();

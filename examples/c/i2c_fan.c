@@ -88,16 +88,19 @@ static struct needleoat_answer perform(const struct needleoat_command *command) 
     return answer;
 }
 
-static const struct needleoat_control control = {
-    .eid = OWN,
+static const struct needleoat_endpoint_settings settings = {
+    .own = OWN,
+    .first_start = true,
+    .keep_ms = 1000,
+    .sources = 2,
+    .open_messages = 1,
+    .pending_commands = 1,
+    .answers_control = true,
     .uuid = {0x4e, 0x65, 0x65, 0x64, 0x6c, 0x65, 0x8f, 0x61, 0x80, 0x74, 0, 0, 0, 0, 0, OWN},
     .base_version = {0xf1, 0xf3, 0xf1, 0x00},
     .control_version = {0xf1, 0xf3, 0xf1, 0x00},
     .pldm_version = {0xf1, 0xf0, 0xf0, 0x00},
 };
-
-static const struct needleoat_endpoint_settings settings = {
-    .own = OWN, .first_start = true, .keep_ms = 1000, .sources = 2, .open_messages = 1, .pending_commands = 1};
 static struct needleoat_endpoint endpoint = NEEDLEOAT_ENDPOINT_NONE;
 static uint8_t packets[NEEDLEOAT_PACKETS][NEEDLEOAT_PACKET_BYTES];
 
@@ -117,9 +120,6 @@ static bool serve_packet(uint64_t now_ms, uint8_t address, const uint8_t *packet
     if (step.kind == NEEDLEOAT_STEP_PERFORM) {
         struct needleoat_answer answer = perform(&command);
         step = needleoat_endpoint_answer(&endpoint, &step.handle, &answer, packets);
-    } else if (step.kind == NEEDLEOAT_STEP_DROPPED) {
-        step.lengths[0] = needleoat_control_reply(&control, step.reason, packet, length, packets[0]);
-        step.count = step.lengths[0] > 0;
     }
     for (uint32_t i = 0; i < step.count; i++) send_packet(address, packets[i], step.lengths[i]);
     return step.kind != NEEDLEOAT_STEP_REFUSED;

@@ -187,8 +187,26 @@ static bool print_windows(void) {
     return well;
 }
 
+/* The most bytes that an endpoint takes more where it answers control messages. */
+enum { CONTROL_MOST = 240 };
+
+/* Prints what that is. */
+static bool print_control(void) {
+    struct needleoat_endpoint_settings answering = settings;
+    answering.answers_control = true;
+    needleoat_endpoint_new(&settings, 0, &endpoint);
+    size_t without = in_use;
+    needleoat_endpoint_free(&endpoint);
+    needleoat_endpoint_new(&answering, 0, &endpoint);
+    size_t more = in_use - without;
+    needleoat_endpoint_free(&endpoint);
+    printf("heap of what answers control messages %zu more\n", more);
+    return 0 < more && more <= CONTROL_MOST;
+}
+
 int main(void) {
     bool well = print_steps();
+    well = print_control() && well;
     well = print_windows() && well;
     for (size_t i = 0; i < sizeof loads / sizeof loads[0]; i++)
         well = is_within(&loads[i], i == 0 ? SMALL_MOST : bound_of(&loads[i])) && well;

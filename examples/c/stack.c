@@ -117,7 +117,7 @@ static uint8_t packets[NEEDLEOAT_PACKETS][NEEDLEOAT_PACKET_BYTES];
 static void endpoint_new(void) {
     static const struct needleoat_endpoint_settings settings = {
         .own = 9, .first_start = false, .keep_ms = 1000, .sources = 1, .open_messages = 1, .pending_commands = 1,
-        .pldm_types = 1 << 4};
+        .pldm_types = 1 << 4, .answers_control = true};
     needleoat_endpoint_new(&settings, 0, &endpoint);
 }
 static void endpoint_receive(uint64_t now_ms, const uint8_t *message, size_t length) {
@@ -155,6 +155,12 @@ static void endpoint_answer_bytes(void) {
     static const uint8_t data[NEEDLEOAT_RESPONSE_DATA];
     needleoat_endpoint_answer_bytes(&endpoint, &handle, 0, data, sizeof data, packets);
 }
+/* A bus owner asks it for versions. */
+static void receive_control(void) {
+    static const uint8_t versions[] = {0x00, 0x80, 0x04, 0xff};
+    endpoint_receive(1001, versions, sizeof versions);
+}
+static void endpoint_eid(void) { needleoat_endpoint_eid(&endpoint); }
 static void receive_start(void) { endpoint_receive(1002, response, response_length); }
 static void endpoint_restart(void) { needleoat_endpoint_restart(&endpoint, 1003); }
 static void endpoint_free(void) { needleoat_endpoint_free(&endpoint); }
@@ -208,6 +214,7 @@ static const struct {
     {"needleoat_endpoint_receive, handed on", receive_other},
     {"needleoat_endpoint_request", endpoint_request},
     {"needleoat_endpoint_answer_bytes", endpoint_answer_bytes},
+    {"needleoat_endpoint_receive, a control message", receive_control}, {"needleoat_endpoint_eid", endpoint_eid},
     {"needleoat_endpoint_receive, first packet", receive_start},
     {"needleoat_endpoint_restart", endpoint_restart}, {"needleoat_endpoint_free", endpoint_free},
     {"needleoat_requester_new", requester_new}, {"needleoat_requester_open", requester_open},

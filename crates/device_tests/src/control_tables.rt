@@ -10,6 +10,7 @@ const TABLE: &str = "\
 uuid = 'f81d4fae7dec11d0a76500a0c91e6bf6'
 base_version = 'f1f2f100'
 pldm_version = 'F1F0F061'
+assigned = true
 ";
 
 /// What a description without the table says.
@@ -18,6 +19,7 @@ const NOTHING: ControlTable = ControlTable {
     base_version: None,
     control_version: None,
     pldm_version: None,
+    assigned: false,
 };
 
 #[test]
@@ -35,6 +37,7 @@ fn a_table_beside_the_example(rt: HostRuntime) -> Result<(), Fail> {
     assert_eq!(rt; said.base_version, Some([0xf1, 0xf2, 0xf1, 0x00]));
     assert_eq!(rt; said.control_version, None);
     assert_eq!(rt; said.pldm_version, Some([0xf1, 0xf0, 0xf0, 0x61]));
+    assert!(rt; said.assigned);
     Ok(())
 }
 
@@ -45,6 +48,7 @@ fn faults_of_a_table(rt: HostRuntime) -> Result<(), Fail> {
         ("[[control]]\n", FileFault::WrongKind),
         ("[control]\nuuid = 'f81d'\n", FileFault::OutOfRange),
         ("[control]\nbase_version = 'f1f3f10'\n", FileFault::BadHex),
+        ("[control]\nassigned = 1\n", FileFault::WrongKind),
         ("[control\n", FileFault::Toml),
     ];
     for (table, fault) in tables {

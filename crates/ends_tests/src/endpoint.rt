@@ -40,7 +40,7 @@ fn bounded(
     };
     Ok(Endpoint::new(
         alloc,
-        own,
+        Some(own),
         Keeping::each_for(keep),
         HandedOn::NONE,
         bounds,

@@ -66,7 +66,14 @@ fn new_endpoint(alloc: Global) -> Endpoint
     let (Some(own), Some(keep)) = (Eid::new(OWN), Keep::new(KEEP)) else {
         unreachable!();
     };
-    Endpoint::new(alloc, own, Keeping::each_for(keep), OEM, BOUNDS, COMMANDS)
+    Endpoint::new(
+        alloc,
+        Some(own),
+        Keeping::each_for(keep),
+        OEM,
+        BOUNDS,
+        COMMANDS,
+    )
 }
 
 /// Serves a packet and writes what becomes of it: `drop NAME`, `partial`, `lost` where there was no room for it, or

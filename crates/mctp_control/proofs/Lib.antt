@@ -2,6 +2,7 @@ pub mod Cells
 pub mod DroppedReplies
 pub mod Examples
 pub mod HandedOn
+pub mod KeptOnce
 pub mod Numbers
 pub mod ReadAnswers
 pub mod ReadCommands

@@ -1,10 +1,11 @@
 -- Every constant of the source, written a second time.
 use Rattle.std.proofs.Common.{◌≡◌, refl}
-use Rattle.mctp_control.specs.declared.assigned.TheConstants.{BASE_SPECIFICATION, CONTROL, DATAGRAM, INSTANCE_IDS, NULL_EID, PLDM, RQ}
+use Rattle.mctp_control.specs.declared.assigned.TheConstants.{BASE_SPECIFICATION, CONTROL, DATAGRAM, INSTANCE_IDS, PLDM, RQ}
 use Rattle.mctp_control.specs.declared.assigned.TheConstants.{GET_ENDPOINT_ID, GET_ENDPOINT_UUID, GET_MESSAGE_TYPE_SUPPORT}
 use Rattle.mctp_control.specs.declared.assigned.TheConstants.{GET_VERSION_SUPPORT, SET_ENDPOINT_ID, SUCCESS}
 use Rattle.mctp_control.specs.declared.assigned.TheConstants.{MAX_DATA, MAX_MESSAGE_TYPES, MAX_VERSIONS, MAX_VERSION_BYTES}
-use Rattle.mctp_control.specs.declared.assigned.TheConstants.{REQUEST_HEADER, RESPONSE_HEADER, UUID_BYTES, VERSION_BYTES}
+use Rattle.mctp_control.specs.declared.assigned.TheConstants.{REQUEST_HEADER, RESPONSE_HEADER, SET_MESSAGE_BYTES, UUID_BYTES, VERSION_BYTES}
+use Rattle.mctp_control.specs.declared.kept_assignments.TheConstants.{KEPT_ASSIGNMENTS}
 use Rattle.mctp_control.specs.declared.packet_header.TheConstants.{ENDS_SHIFT, TAG_OWNER_SHIFT, VERSION_BITS, WHOLE_MESSAGE}
 
 control : CONTROL ≡ 0
@@ -15,9 +16,6 @@ pldm = refl
 
 base_specification : BASE_SPECIFICATION ≡ 255
 base_specification = refl
-
-null_eid : NULL_EID ≡ 0
-null_eid = refl
 
 rq : RQ ≡ 128
 rq = refl
@@ -66,6 +64,12 @@ get_message_type_support = refl
 
 success : SUCCESS ≡ 0
 success = refl
+
+set_message_bytes : SET_MESSAGE_BYTES ≡ 5
+set_message_bytes = refl
+
+kept_assignments : KEPT_ASSIGNMENTS ≡ 8
+kept_assignments = refl
 
 uuid_bytes : UUID_BYTES ≡ 16
 uuid_bytes = refl

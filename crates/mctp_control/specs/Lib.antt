@@ -1,12 +1,15 @@
 pub mod AnswerReading
 pub mod Answers
+pub mod Assignments
 pub mod Codes
 pub mod CommandReading
 pub mod Commands
 pub mod Dropped
+pub mod Histories
 pub mod Laws
 pub mod Lists
 pub mod Messages
 pub mod Packets
+pub mod Responding
 pub mod Settings
 pub mod Written

@@ -12,10 +12,6 @@ pub const PLDM: u8 = 1;
 /// Support").
 pub const BASE_SPECIFICATION: u8 = 0xff;
 
-/// The null endpoint ID, which a packet that is addressed by its physical address alone is sent to or from (DSP0236,
-/// "Special endpoint IDs").
-pub const NULL_EID: u8 = 0;
-
 /// Rq, the highest bit of the byte with the instance ID: set in a request, and not in a response (DSP0236, "MCTP control
 /// message format").
 pub(crate) const RQ: u8 = 0x80;
@@ -53,6 +49,10 @@ pub const GET_MESSAGE_TYPE_SUPPORT: u8 = 0x05;
 
 /// The completion code of a command that was carried out (DSP0236, "MCTP control message completion codes").
 pub const SUCCESS: u8 = 0x00;
+
+/// The bytes of the message of Set Endpoint ID: its header, the operation, and the endpoint ID (DSP0236, "Set Endpoint
+/// ID").
+pub const SET_MESSAGE_BYTES: usize = REQUEST_HEADER + 2;
 
 /// The bytes of a UUID (RFC 4122).
 pub const UUID_BYTES: usize = 16;

@@ -1,26 +1,31 @@
-//! Packets that the responder of PLDM dropped, and an endpoint of control messages answers (DSP0236, "MCTP control
-//! protocol").
+//! Packets that the responder of PLDM dropped, and the control responder answers (DSP0236, "MCTP control protocol").
 
 ghost use Rattle.std.specs.Prelude.{◌≡◌, ◌<◌, IfSome, length, option_map};
 ghost use Rattle.mctp_control.specs.Dropped.{control_left, control_reply, is_from_null, is_handed_on, is_to_null};
 
-use crate::{ControlPacket, Endpoint, NULL_EID};
-use mctp_packet::Reason;
+use crate::{ControlPacket, ControlResponder};
+use mctp_packet::{Moment, NULL_EID, Reason};
 
-impl Endpoint {
-    /// Takes the bytes of a packet that a responder of the same endpoint ID dropped for this reason, and returns the
-    /// packet that answers it, as [`Endpoint::receive`] does. Only a packet that was dropped as `NotPldm`, as
-    /// `UnknownDestination` where it was sent to the null endpoint ID, or as `BadSource` where it was sent from the null
-    /// one, is looked at; every other gets `None`, and nothing changes. No other reason is that of a control request to
-    /// this endpoint ([`crate::laws::drops_are_answered_as_received`]).
+impl ControlResponder {
+    /// Takes the bytes of a packet that came at the moment `now`, and that the responder of PLDM with the same endpoint
+    /// ID, or with none as this one, dropped for this reason. Returns the packet that answers it, as
+    /// [`ControlResponder::receive`] does. Only a packet that was dropped as `NotPldm`, as `UnknownDestination` where it
+    /// was sent to the null endpoint ID, or as `BadSource` where it was sent from the null one, is looked at; every
+    /// other gets `None`, and nothing changes. No other reason is that of a control request to this endpoint
+    /// ([`crate::laws::drops_are_answered_as_received`]).
     #[tactic(auto, using(crate::proofs::DroppedReplies::replies_have_bytes))]
-    pub fn receive_dropped(&mut self, reason: Reason, packet: &[u8]) -> Option<ControlPacket>
-        ensures reply { option_map (λ reply. reply.items) result ≡ control_reply self.old reason packet.now }
-        ensures control { self.new ≡ control_left self.old reason packet.now }
+    pub fn receive_dropped(
+        &mut self,
+        now: Moment,
+        reason: Reason,
+        packet: &[u8],
+    ) -> Option<ControlPacket>
+        ensures reply { option_map (λ reply. reply.items) result ≡ control_reply self.old now reason packet.now }
+        ensures control { self.new ≡ control_left self.old now reason packet.now }
         ensures some { IfSome result (λ reply. 0 < length reply.items) }
     {
         if is_handed_on(reason, packet) {
-            self.receive(packet)
+            self.receive(now, packet)
         } else {
             None
         }

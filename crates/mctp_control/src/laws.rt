@@ -1,6 +1,6 @@
 //! Laws over the definitions alone: each is the contract of a function that does nothing.
 
-ghost use Rattle.mctp_control.specs.Laws.{AnswerReadBack, CommandReadBack, HeaderDropsAnswered, HeaderDropsLeft, OneAnswer, OneCommand, OneRequest, OneResponse, OtherMessagesUnanswered, OtherTypesAnswered, PartsUnanswered, RequestOrResponse};
+ghost use Rattle.mctp_control.specs.Laws.{AnswerReadBack, CommandReadBack, AssignedApart, CopiesAnsweredAlike, CopiesChangeNothing, HeaderDropsSeen, NoIdDropsSeen, OneAnswer, OneCommand, OneRequest, OneResponse, OtherMessagesUnanswered, OtherTypesSeen, OtherVersionsUnanswered, PartsUnanswered, RequestOrResponse, ShortUnanswered};
 
 /// Bytes are one request or one response at most, and never both.
 pub fn messages_are_told_apart()
@@ -21,14 +21,26 @@ pub fn answers_are_read_back()
     ensures one { OneAnswer }
 {}
 
-/// A control message is answered the same whether a responder of the endpoint's ID dropped it before or not: where the
-/// checks of the packet's header dropped it (`header`, `left`), and where it was dropped as a message of another type
-/// (`other_type`). What is dropped for any other reason is no control request to the endpoint: it is a packet of a
-/// message of several or of a response (`part`), or it is a message of PLDM (`message`).
+/// A control message is answered the same, and leaves the same, whether the responder of PLDM dropped it before or not,
+/// which has the same endpoint ID, or none: where the checks of the packet's header dropped it (`header`, `no_id`), and
+/// where it was dropped as a message of another type (`other_type`). What is dropped for any other reason asks nothing
+/// of the endpoint: the packet is too short (`short`) or of another version (`version`), it is one of a message of
+/// several or of a response (`part`), or it has a message of PLDM (`message`).
 pub fn drops_are_answered_as_received()
-    ensures header { HeaderDropsAnswered }
-    ensures left { HeaderDropsLeft }
-    ensures other_type { OtherTypesAnswered }
+    ensures header { HeaderDropsSeen }
+    ensures no_id { NoIdDropsSeen }
+    ensures other_type { OtherTypesSeen }
+    ensures short { ShortUnanswered }
+    ensures version { OtherVersionsUnanswered }
     ensures part { PartsUnanswered }
     ensures message { OtherMessagesUnanswered }
+{}
+
+/// A copy of an assignment changes nothing, and its answer has the message of the answer to what it repeats. Between
+/// two packets of one source and the same message that both assign an endpoint ID there is the keeping time, or as many
+/// others that assign as are kept.
+pub fn assignments_are_accepted_once()
+    ensures unchanged { CopiesChangeNothing }
+    ensures alike { CopiesAnsweredAlike }
+    ensures apart { AssignedApart }
 {}

@@ -1,6 +1,6 @@
 //! The first and the fourth byte of the header of a packet that has a whole control message (DSP0236, "MCTP packet
-//! fields"). The null endpoint ID is none of `mctp_packet`'s endpoint IDs, so packets to it and from it are read and
-//! written here.
+//! fields").
+// `mctp_packet` reads and writes flags with a `Route` alone, which has no null endpoint ID, so they are done here.
 
 ghost use Rattle.std.specs.Prelude.{◌≡◌, ◌%◌, ◌==◌};
 ghost use Rattle.mctp_packet.specs.declared.TheConstants.{VERSION};

@@ -1,6 +1,9 @@
 -- Every constant of the source, told a second time: the standard's and this profile's own numbers.
 use Rattle.std.proofs.Common.{◌≡◌, refl}
-use Rattle.mctp_packet.specs.declared.TheConstants.{MIN_EID, MAX_EID, TAGS, MAX_MOMENT, MAX_KEEP, MAX_PACKETS, UNIT, SEQUENCE_NUMBERS, VERSION, HEADER, MAX_PACKET_BYTES, MAX_MESSAGE_BYTES}
+use Rattle.mctp_packet.specs.declared.TheConstants.{NULL_EID, MIN_EID, MAX_EID, TAGS, MAX_MOMENT, MAX_KEEP, MAX_PACKETS, UNIT, SEQUENCE_NUMBERS, VERSION, HEADER, MAX_PACKET_BYTES, MAX_MESSAGE_BYTES}
+
+null_endpoint_id : NULL_EID ≡ 0
+null_endpoint_id = refl
 
 first_endpoint_id : MIN_EID ≡ 8
 first_endpoint_id = refl

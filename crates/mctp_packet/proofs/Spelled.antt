@@ -45,7 +45,7 @@ IsOwn (Some own) = IsEid own
 
 destination_in_range : (own : Option ℕ) (n : ℕ) → IsOwn own → not (is_destination own n) ≡ false → IsEid n
 destination_in_range None n t h = (grind (arith, nat_tests), grind (arith, nat_tests))
-destination_in_range (Some own) n t h = let e : n ≡ own = grind (arith, nat_tests) in rw e t
+destination_in_range (Some own) n t h = (grind (arith, nat_tests), grind (arith, nat_tests))
 
 source_in_range : (own : Option ℕ) (n : ℕ) → not (is_source own n) ≡ false → IsEid n
 source_in_range None n h = (grind (arith, nat_tests), grind (arith, nat_tests))

@@ -13,10 +13,10 @@ first_failing ((fails, reason) ∷ checks) = if fails then Some reason else firs
 abbrev pub is_eid : ℕ → Bool
 is_eid n = nat_le MIN_EID n && nat_le n MAX_EID
 
--- an endpoint ID, and the own one where it is known
+-- an endpoint ID, and the own one where it is known: never one that is null, which an endpoint has before it gets one
 abbrev pub is_destination : Option ℕ → ℕ → Bool
 is_destination None n = is_eid n
-is_destination (Some own) n = n == own
+is_destination (Some own) n = is_eid n && (n == own)
 
 -- an endpoint ID, and another than the own one where it is known
 abbrev pub is_source : Option ℕ → ℕ → Bool

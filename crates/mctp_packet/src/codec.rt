@@ -1,8 +1,9 @@
-ghost use Rattle.std.specs.Prelude.{◌≡◌, ◌+◌, ◌*◌, ◌++◌, length, drop, Option, Some, None, Ok, IfOk, IfErr, IfSome, if◌then◌else◌};
+ghost use Rattle.std.specs.Prelude.{◌≡◌, ◌+◌, ◌*◌, ◌++◌, length, drop, Option, Some, None, Ok, Err, IfOk, IfErr, IfSome, if◌then◌else◌};
 ghost use Rattle.mctp_packet.specs.Ids.{IsEid};
 ghost use Rattle.mctp_packet.specs.Packets.{Packet, Spells, IsFor, written, header};
 ghost use Rattle.mctp_packet.specs.Refusals.{refusal, is_destination, is_source};
 ghost use Rattle.mctp_packet.specs.Reading.{reading};
+ghost use Rattle.mctp_packet.specs.declared.TheConstants.{NULL_EID};
 
 use crate::flags::{Flags, byte_of, flags_in};
 use crate::{Eid, HEADER, MAX_PACKET_BYTES, PacketRef, Reason, Route, VERSION};
@@ -28,6 +29,20 @@ pub fn read_for(own: Eid, bytes: &[u8]) -> Result<PacketRef<'_>, Reason>
 {
     let _range = own.get(); // for the proof: an endpoint ID
     read_at(Some(own), bytes)
+}
+
+/// The reason of 1 to 3 for which an endpoint that has no endpoint ID yet drops these bytes: no packet is addressed to
+/// it.
+pub fn reason_without_eid(bytes: &[u8]) -> Reason
+    ensures { reading (Some NULL_EID) bytes.now ≡ Err result }
+{
+    let [version, _, _, _, ..] = bytes else {
+        return Reason::Short;
+    };
+    if *version & 0x0f != VERSION {
+        return Reason::BadVersion;
+    }
+    Reason::UnknownDestination
 }
 
 /// As `read_for` where the own endpoint ID is known, else as `read`.

@@ -13,13 +13,16 @@ mod reason;
 mod times;
 
 use arrayvec::ArrayVec;
-pub use codec::{header_of, read, read_for, write};
+pub use codec::{header_of, read, read_for, reason_without_eid, write};
 pub use ids::{Eid, Seq, Tag};
 pub use memory::Memory;
 pub use packet::{PacketRef, Route};
 pub use pieces::{Packets, SplitFault, packet_at, split, split_into};
 pub use reason::Reason;
 pub use times::{Keep, Moment};
+
+/// The null endpoint ID: that of an endpoint which has none yet (DSP0236, "Special endpoint IDs").
+pub const NULL_EID: u8 = 0;
 
 /// The first endpoint ID that is neither null nor reserved (DSP0236, "Special endpoint IDs").
 pub const MIN_EID: u8 = 8;

@@ -158,7 +158,7 @@ fn begin_device<P: Platform>(
         window,
         busy: BusyTime::All,
     };
-    Responder::bounded(alloc, eid, keeping, Bounds::UNREACHED, device)
+    Responder::bounded(alloc, Some(eid), keeping, Bounds::UNREACHED, device)
 }
 
 /// Both ends, and what is written down of them.

@@ -2,17 +2,20 @@
 use Rattle.std.specs.Option.{option_map_or}
 use Rattle.std.specs.Prelude.{◌≡◌, ◌≢◌, ◌==◌, ◌⊎◌, ℕ, Bool, true, false, if◌then◌else◌}
 use Rattle.std.specs.Prelude.{List, [], ◌∷◌, length, codes, bytes_eq, Option, None, Some, option_and_then, option_map}
+use Rattle.clap.specs.Lexer.{usize_max}
 use Rattle.clap.specs.Words.{App, new_app, with_subcommand, fault_of, subcommand_of, IsAmong}
-use Rattle.clap.specs.Words.{Row, Rule, first_of, new_rule, with_rule}
-use Rattle.clap.specs.declared.builder.action.ArgAction.TheVariants.{Set, SetTrue}
+use Rattle.clap.specs.Words.{Row, Rule, all_of, first_of, new_rule, with_rule}
+use Rattle.clap.specs.declared.builder.action.ArgAction.TheVariants.{Append, Set, SetTrue}
 use Rattle.clap.specs.declared.builder.command.Command.{Command}
 use Rattle.clap.specs.declared.builder.command.Command.TheViews.{out-Command}
+use Rattle.clap.specs.declared.builder.range.ValueRange.{ValueRange}
 use Rattle.clap.specs.declared.error.kind.ErrorKind.{ErrorKind}
 use Rattle.clap.specs.declared.error.kind.ErrorKind.TheVariants.{DisplayHelp, DisplayVersion, OutOfMemory}
 use Rattle.mctpctl_bindings.specs.declared.binding.Binding.{Binding}
 use Rattle.mctpctl_bindings.specs.declared.binding.Binding.TheVariants.{I2c, I3c, Serial}
 use Rattle.mctpctl.specs.declared.choose.Choice.{Choice}
 use Rattle.mctpctl.specs.declared.choose.Choice.TheVariants as choice
+use Rattle.mctpctl.specs.declared.choose.Question.{Question}
 use Rattle.mctpctl.specs.declared.choose.Service.{Service}
 use Rattle.mctpctl.specs.declared.choose.TextTask.{TextTask}
 use Rattle.mctpctl.specs.declared.choose.Task.{Task}
@@ -63,8 +66,41 @@ show_subcommand =
 abbrev pub text_command : App
 text_command = with_subcommand device_command show_subcommand.top
 
+abbrev pub line_command : App
+line_command = with_subcommand text_command serve_subcommand.top
+
+-- `ask` requires both endpoint IDs, and may be told the line
+abbrev pub line_subcommand : App
+line_subcommand =
+    with_rule (with_rule (with_rule (new_app (codes "ask")) (value_option (codes "line")))
+    (record (value_option (codes "own")) { required = true }))
+    (record (value_option (codes "device")) { required = true })
+
+-- and the times
+abbrev pub timed_subcommand : App
+timed_subcommand =
+    with_rule (with_rule (with_rule line_subcommand (value_option (codes "keep"))) (value_option (codes "timeout")))
+    (value_option (codes "tries"))
+
+abbrev pub one_or_more : ValueRange
+one_or_more = record { start_inclusive = 1; end_inclusive = usize_max }
+
+-- the words that are left, at least one where there is one, are a command
+abbrev pub command_words : Rule
+command_words = record (new_rule (codes "command")) {
+  action = Some Append;
+  range = Some one_or_more;
+  value_names = 1;
+  trailing_var_arg = true;
+}
+
+abbrev pub ask_subcommand : App
+ask_subcommand =
+    with_rule (with_rule (with_rule timed_subcommand (flag (codes "hex"))) (value_option (codes "file")))
+    command_words
+
 abbrev pub command : App
-command = with_subcommand text_command serve_subcommand.top
+command = with_subcommand line_command ask_subcommand.top
 
 -- whether `clap` takes the words, of which the first is the program's name
 abbrev pub takes_line : List (List ℕ) → Bool
@@ -94,19 +130,47 @@ pub record Served : Type 0 where
   pub log : Option (List ℕ)
   pub verbose : Bool
 
+-- what a device is asked: the words of the line, with the numbers as they are spelled
+pub record Questioned : Type 0 where
+  pub line : Option (List ℕ)
+  pub own : List ℕ
+  pub device : List ℕ
+  pub keep : Option (List ℕ)
+  pub timeout : Option (List ℕ)
+  pub tries : Option (List ℕ)
+  pub hex : Bool
+  pub file : Option (List ℕ)
+  -- how many words at the end of the line are the command
+  pub count : ℕ
+
 -- what a command line may ask for
 pub data Asked : Type 0 where
   to_perform : TextTask → Asked
   to_serve : Served → Asked
+  to_ask : Questioned → Asked
 
 -- what a value of the code asks for
 abbrev pub served : Service → Served
 served service =
     record { device = service.device.now; log = option_map (λ file. file.now) service.log; verbose = service.verbose }
 
+abbrev pub questioned : Question → Questioned
+questioned q = record {
+  line = option_map (λ text. text.now) q.line;
+  own = q.own.now;
+  device = q.device.now;
+  keep = option_map (λ text. text.now) q.keep;
+  timeout = option_map (λ text. text.now) q.timeout;
+  tries = option_map (λ text. text.now) q.tries;
+  hex = q.hex;
+  file = option_map (λ text. text.now) q.file;
+  count = q.count;
+}
+
 abbrev pub asked : Choice → Asked
 asked (choice.Text task) = to_perform task
 asked (choice.Serve service) = to_serve (served service)
+asked (choice.Ask question) = to_ask (questioned question)
 
 -- what is asked for by what was found of the arguments of `serve`
 abbrev pub service_in : List Row → Option Served
@@ -118,6 +182,25 @@ service_in rows =
       verbose = is_given (codes "verbose") rows;
     })
     (first_of (codes "device") rows)
+
+-- how many values of an argument were given
+abbrev pub values_given : List ℕ → List Row → ℕ
+values_given name rows = option_map_or (λ values. length values) (all_of name rows) 0
+
+-- what is asked for by what was found of the arguments of `ask`
+abbrev pub question_in : List Row → Option Questioned
+question_in rows =
+    option_and_then (λ own. option_map (λ device. record {
+      line = first_of (codes "line") rows;
+      own = own;
+      device = device;
+      keep = first_of (codes "keep") rows;
+      timeout = first_of (codes "timeout") rows;
+      tries = first_of (codes "tries") rows;
+      hex = is_given (codes "hex") rows;
+      file = first_of (codes "file") rows;
+      count = values_given (codes "command") rows;
+    }) (first_of (codes "device") rows)) (first_of (codes "own") rows)
 
 -- the binding that is asked for, if one is: a name that is none's asks for nothing
 abbrev pub binding_asked : Option (List ℕ) → Option (Option Binding)
@@ -144,6 +227,7 @@ text_task_in found =
 abbrev pub choice_in : List ℕ × List Row → Option Asked
 choice_in found =
     if bytes_eq found.0 (codes "serve") then option_map to_serve (service_in found.1)
+    else if bytes_eq found.0 (codes "ask") then option_map to_ask (question_in found.1)
     else option_map to_perform (text_task_in found)
 
 -- what a line that is taken asks for

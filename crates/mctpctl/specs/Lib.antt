@@ -1,5 +1,7 @@
+pub mod AskedTexts
 pub mod Choice
-pub mod ControlEndpoints
+pub mod ControlResponders
 pub mod FaultNumbers
 pub mod LineFaults
 pub mod ServedTexts
+pub mod Settings

@@ -4,11 +4,11 @@ ghost use Rattle.std.specs.Prelude.{◌≡◌, IfOk, IfErr, Some, false, map, op
 ghost use Rattle.mctp_packet.specs.Memories.{out_of_memory};
 ghost use Rattle.clap.specs.Words.{app_of, first_of, found_of, kind_of, rows_of, rule_of, subcommand_rows_of};
 ghost use Rattle.mctpctl.specs.FaultNumbers.{number_of_choose_fault};
-ghost use Rattle.mctpctl.specs.Choice.{asked, binding_in, binding_named, choice_in as the_choice, choice_of, command as the_command, device_command as the_device_command, flag as the_flag, has_globals, is_given, program as the_program, serve_subcommand as the_serve_subcommand, served, service_in, show_subcommand as the_show_subcommand, task_named, text_command as the_text_command, text_subcommand as the_text_subcommand, text_task_in, value_option as the_value_option, ReportsKind, ReportsRefusal};
+ghost use Rattle.mctpctl.specs.Choice.{ask_subcommand as the_ask_subcommand, asked, binding_in, binding_named, choice_in as the_choice, choice_of, command as the_command, command_words as the_command_words, device_command as the_device_command, flag as the_flag, has_globals, is_given, line_command as the_line_command, line_subcommand as the_line_subcommand, program as the_program, question_in, questioned, serve_subcommand as the_serve_subcommand, served, service_in, show_subcommand as the_show_subcommand, task_named, text_command as the_text_command, text_subcommand as the_text_subcommand, text_task_in, timed_subcommand as the_timed_subcommand, value_option as the_value_option, values_given, ReportsKind, ReportsRefusal};
 
 use crate::help::{
-    ANSWER, BINDING, BINDINGS, DECODE, DEVICE, EXPLAIN, LOG, NO_BINDING, RUN, SERVE, SHOW,
-    STATUSES, VERBOSE, VERSION,
+    ANSWER, ASK, ASKED, BINDING, BINDINGS, COMMAND, COMMANDS, DECODE, DEVICE, EXPLAIN, HEX, KEEP,
+    LINE, LOG, NO_BINDING, OWN, RUN, SERVE, SHOW, STATUSES, TIMEOUT, TRIES, VERBOSE, VERSION,
 };
 use clap::error::ErrorKind;
 use clap::{Arg, ArgAction, ArgMatches, Command};
@@ -24,6 +24,8 @@ pub enum Choice<'a> {
     Text(TextTask),
     /// A device on a serial line, which is standard input and output.
     Serve(Service<'a>),
+    /// Commands to a device on a serial line.
+    Ask(Question<'a>),
 }
 
 /// What is done with a text.
@@ -59,6 +61,29 @@ pub struct Service<'a> {
     pub log: Option<&'a str>,
     /// Whether drops are named on standard error (`--verbose`).
     pub verbose: bool,
+}
+
+/// What a device is asked, and how: the numbers as they are spelled.
+#[derive(Clone, Copy, Debug)]
+pub struct Question<'a> {
+    /// The line, a terminal (`--line`); standard input and output where there is none.
+    pub line: Option<&'a str>,
+    /// The endpoint ID of the requester (`--own`).
+    pub own: &'a str,
+    /// That of the device (`--device`).
+    pub device: &'a str,
+    /// The keeping time (`--keep`).
+    pub keep: Option<&'a str>,
+    /// How long a try waits (`--timeout`).
+    pub timeout: Option<&'a str>,
+    /// How many tries there are (`--tries`).
+    pub tries: Option<&'a str>,
+    /// Whether answers are printed in hex (`--hex`).
+    pub hex: bool,
+    /// The file of the commands (`--file`).
+    pub file: Option<&'a str>,
+    /// So many words at the end of the command line are the command.
+    pub count: usize,
 }
 
 /// Why there is no task.
@@ -116,6 +141,16 @@ pub fn choose<'a>(alloc: Global, words: &'a [&'a str]) -> Result<Choice<'a>, Cho
 /// The command line's definition for `clap`.
 fn command<'a>(alloc: Global) -> Result<Command<'a>, AllocError>
     ensures { IfOk result (λ command. app_of command ≡ the_command) }
+{
+    let ask = ask_subcommand(alloc)?
+        .about("Asks a device on a serial line, and prints its answers")
+        .after_help(ASK);
+    line_command(alloc)?.subcommand(ask)
+}
+
+/// The program with the subcommands that simulate a device.
+fn line_command<'a>(alloc: Global) -> Result<Command<'a>, AllocError>
+    ensures { IfOk result (λ command. app_of command ≡ the_line_command) }
 {
     let serve = serve_subcommand(alloc)?
         .about("Serves the described device on a serial line, standard input and output")
@@ -176,6 +211,54 @@ fn serve_subcommand<'a>(alloc: Global) -> Result<Command<'a>, AllocError>
         .arg(flag(alloc, "verbose", VERBOSE))
 }
 
+/// The subcommand `ask`, with its options.
+fn ask_subcommand<'a>(alloc: Global) -> Result<Command<'a>, AllocError>
+    ensures app { IfOk result (λ command. app_of command ≡ the_ask_subcommand) }
+    ensures local { IfOk result (λ command. has_globals command ≡ false) }
+{
+    timed_subcommand(alloc)?
+        .arg(flag(alloc, "hex", HEX))?
+        .arg(value_option(alloc, "file", "FILE", COMMANDS))?
+        .arg(command_words(alloc))
+}
+
+/// The subcommand `ask`, with the options of its line and of time.
+fn timed_subcommand<'a>(alloc: Global) -> Result<Command<'a>, AllocError>
+    ensures app { IfOk result (λ command. app_of command ≡ the_timed_subcommand) }
+    ensures local { IfOk result (λ command. has_globals command ≡ false) }
+{
+    line_subcommand(alloc)?
+        .arg(value_option(alloc, "keep", "MS", KEEP))?
+        .arg(value_option(alloc, "timeout", "MS", TIMEOUT))?
+        .arg(value_option(alloc, "tries", "N", TRIES))
+}
+
+/// The subcommand `ask`, with the options of its line.
+fn line_subcommand<'a>(alloc: Global) -> Result<Command<'a>, AllocError>
+    ensures app { IfOk result (λ command. app_of command ≡ the_line_subcommand) }
+    ensures local { IfOk result (λ command. has_globals command ≡ false) }
+{
+    let own = value_option(alloc, "own", "EID", OWN).required(true);
+    let device = value_option(alloc, "device", "EID", ASKED).required(true);
+    Command::new(alloc, "ask")
+        .arg(value_option(alloc, "line", "PATH", LINE))?
+        .arg(own)?
+        .arg(device)
+}
+
+/// The words of a command: all that are left.
+fn command_words<'a>(alloc: Global) -> Arg<'a>
+    ensures rule { rule_of result ≡ the_command_words }
+    ensures local { result.global ≡ false }
+{
+    Arg::new(alloc, "command")
+        .value_name("COMMAND")
+        .action(ArgAction::Append)
+        .num_args(1..)
+        .trailing_var_arg(true)
+        .help(COMMAND)
+}
+
 /// A flag of this name, with what help says of it.
 fn flag<'a>(alloc: Global, name: &'static str, help: &'static str) -> Arg<'a>
     ensures rule { rule_of result ≡ the_flag name.now }
@@ -230,6 +313,7 @@ fn choice_for<'a>(name: &str, matches: &ArgMatches<'a>) -> Option<Choice<'a>>
 {
     match name {
         "serve" => Some(Choice::Serve(service_of(matches)?)),
+        "ask" => Some(Choice::Ask(question_of(matches)?)),
         _ => Some(Choice::Text(text_task(name, matches)?)),
     }
 }
@@ -283,6 +367,36 @@ fn service_of<'a>(matches: &ArgMatches<'a>) -> Option<Service<'a>>
         log: value(matches, "log"),
         verbose: is_given(matches, "verbose"),
     })
+}
+
+/// What a device is asked, by the arguments of `ask`.
+fn question_of<'a>(matches: &ArgMatches<'a>) -> Option<Question<'a>>
+    ensures { option_map questioned result ≡ question_in (rows_of (found_of matches.now)) }
+{
+    let own = value(matches, "own")?;
+    let device = value(matches, "device")?;
+    Some(Question {
+        line: value(matches, "line"),
+        own,
+        device,
+        keep: value(matches, "keep"),
+        timeout: value(matches, "timeout"),
+        tries: value(matches, "tries"),
+        hex: is_given(matches, "hex"),
+        file: value(matches, "file"),
+        count: count_of(matches, "command"),
+    })
+}
+
+/// How many values of an argument were given.
+#[tactic(auto, using(crate::proofs::GivenFlags::values_by_rows))]
+fn count_of(matches: &ArgMatches<'_>, name: &str) -> usize
+    ensures { result ≡ values_given name.now (rows_of (found_of matches.now)) }
+{
+    match matches.get_strs(name) {
+        Some(values) => values.len(),
+        None => 0,
+    }
 }
 
 /// The value of an option, where it was given.

@@ -1,4 +1,4 @@
-//! The description of a device, in a file.
+//! The text of a file, as the description of a device.
 
 ghost use Rattle.mctpctl.specs.ServedTexts.{served_of};
 ghost use Rattle.mctpctl_engines.specs.DescribedPieces.{IsReturned};
@@ -10,7 +10,7 @@ use std::alloc::Global;
 use std::io::Read;
 use std::{fs, io};
 
-/// The text of a file, or a front of it that is too long for a description.
+/// The text of a file, or a front of it that is longer than [`MAX_DESCRIPTION`] bytes.
 pub fn device_text(rt: &HostRuntime, name: &str) -> io::Result<Vec<u8>> {
     let file = fs::open(rt, name)?;
     let mut text = Vec::new(rt.alloc());

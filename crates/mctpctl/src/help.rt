@@ -33,13 +33,48 @@ pub const LOG: &str = "Write the packets that come and those that are sent to th
 /// What `--verbose` does.
 pub const VERBOSE: &str = "Say on standard error what is dropped, and why";
 
+/// What `--line` names.
+pub const LINE: &str = "The terminal to ask on; standard input and output where none is named";
+
+/// What `--own` is.
+pub const OWN: &str = "The endpoint ID that asks, 8 to 254";
+
+/// What `--device` of `ask` is.
+pub const ASKED: &str = "The endpoint ID of the device, 8 to 254";
+
+/// What `--keep` is.
+pub const KEEP: &str = "The keeping time of the device [default: 6000]";
+
+/// What `--timeout` is.
+pub const TIMEOUT: &str = "How long a try waits for an answer [default: 2000]";
+
+/// What `--tries` is.
+pub const TRIES: &str = "How often a request is sent at most, 1 to 8 [default: 3]";
+
+/// What `--hex` does.
+pub const HEX: &str = "Print answers as bytes in hex";
+
+/// What `--file` names.
+pub const COMMANDS: &str = "Ask the commands on the lines of this file, one after another";
+
+/// What the last words of `ask` are.
+pub const COMMAND: &str = "The command, in the words of a schedule; it comes last";
+
+/// What is said where there is no command, or a file too.
+pub const NO_COMMAND: &str = "error: either a COMMAND or '--file <FILE>' is needed";
+
+/// What is said after a refused command line.
+pub const TRY_HELP: &str = "\n\nFor more information, try '--help'.\n";
+
 /// The exit statuses.
 pub const STATUSES: &str = "\
 Exit status:
   0  done, or help was asked for
-  1  the input was refused: one line on standard error says why
+  1  the input was refused: one line on standard error says why; for 'ask', a device
+     refused a command
   2  the command line was refused
-  3  a file, a read, a write or the clock failed, or there was no memory";
+  3  a file, a read, a write or the clock failed, there was no memory, or a device that
+     was asked did not answer";
 
 /// What `answer` reads and writes.
 pub const ANSWER: &str = "\
@@ -174,3 +209,34 @@ Exit status:
   1  the description was refused: one line on standard error says why
   2  the command line was refused
   3  a file, a read, a write or the clock failed, or there was no memory";
+
+/// What `ask` reads and writes.
+pub const ASK: &str = "\
+A command is sent to the device in frames of DSP0253, again after each timeout, until an
+answer to it has come or all tries have had their time. Where the line is a terminal, it
+has to be raw, and its reads have to end after a tenth of a second:
+
+  stty -F /dev/ttyS1 raw -echo min 0 time 1
+  mctpctl ask --line /dev/ttyS1 --own 8 --device 9 gettid
+
+COMMAND is gettid, settid N, getversion TYPE, gettypes, getcommands TYPE, sensor ID,
+statesensors ID, setnum ID SIZE VALUE, getnum ID, setstate ID S .., getstate ID, pdrinfo
+or getpdr RECORD TRANSFER first|next COUNT. A --file has one on each line, and comments
+that begin with '#'.
+
+Output: the answers, as 'show --decode' writes them, or with --hex their bytes. They are
+on standard output; where no --line is named, this is the line, and they are on standard
+error:
+
+    response 0 GetTID tid 1
+
+Instance IDs begin at 0 each time. So twice the keeping time passes first, and what comes
+then is dropped: an answer to an earlier request is none to a new one. Where the device
+keeps its answers for less time, --keep 1000 --timeout 300 makes that two seconds.
+
+Exit status, the greatest where there are several commands:
+  0  the answer has the completion code SUCCESS
+  1  it has another one
+  2  the command line was refused, or a line of the file
+  3  no answer came in the tries, or the line ended; or a file, a read, a write or the
+     clock failed, or there was no memory. One line on standard error says which";

@@ -1,17 +1,22 @@
 //! `mctpctl` answers captures of MCTP packets as a simulated PLDM device would, serves the device on
-//! a serial line, runs requesters and the device over a schedule, and shows what packets say.
+//! a serial line, asks a device on one, runs requesters and the device over a schedule, and shows what
+//! packets say.
 #![tactic(auto)]
 
+mod asking;
 mod choose;
-mod control_endpoint;
+mod commands;
+mod control_responder;
 mod device_file;
 mod faults;
 mod help;
 mod serial_line;
+mod settings;
 
 ghost use Rattle.std.specs.Prelude.{◌≡◌, false};
 ghost use Rattle.mctpctl_input.specs.Ports.{has_failed};
 
+use crate::asking::ask_device;
 use crate::choose::{Choice, ChooseFault, Task, TextTask, choose};
 use crate::faults::print_fault;
 use crate::serial_line::serve_device;
@@ -55,6 +60,7 @@ fn perform(rt: &HostRuntime) -> Result<u8, ChooseFault> {
     match choose(alloc, &words) {
         Ok(Choice::Text(text)) => Ok(perform_text(rt, text)),
         Ok(Choice::Serve(service)) => Ok(serve_device(rt, &service)),
+        Ok(Choice::Ask(question)) => Ok(ask_device(rt, &question, &words)),
         Err(fault) => Err(fault),
     }
 }

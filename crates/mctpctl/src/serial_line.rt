@@ -1,7 +1,7 @@
 //! `serve`: the described device on a serial line, which is standard input and output.
 
 use crate::choose::Service;
-use crate::control_endpoint::control_endpoint;
+use crate::control_responder::{control_responder, eid_at_first};
 use crate::device_file::{device_text, read_served};
 use crate::faults::{engine_fault, print_fault};
 use mctp_serial::FrameReader;
@@ -71,14 +71,15 @@ fn run(rt: &HostRuntime, service: &Service<'_>) -> Result<(), ServiceFault> {
         device,
     } = description;
     let keeping = Keeping { keep, window, busy };
+    let own = eid_at_first(eid, &table);
     let watch = watcher(rt, service)?;
     let Ok(ticks) = SystemTicks::new(rt) else {
         return Err(ServiceFault::Clock);
     };
     let mut line = Line {
         frames: FrameReader::new(),
-        responder: Responder::bounded(alloc, eid, keeping, Bounds::UNREACHED, device),
-        control: control_endpoint(eid, &table),
+        responder: Responder::bounded(alloc, own, keeping, Bounds::UNREACHED, device),
+        control: control_responder(eid, keep, &table),
         ticks,
         watch,
     };

@@ -3,6 +3,7 @@ use Rattle.std.proofs.Common.{◌≡◌, ℕ, List, [], ◌∷◌, ◌++◌, len
 use Rattle.std.specs.List.{FoldsTo}
 use Rattle.mctp_serial.specs.declared.reader.FrameEvent.{FrameEvent}
 use Rattle.mctp_serial.specs.declared.reader.FrameEvent.TheVariants.{Nothing, Packet, Dropped}
+use Rattle.mctpctl_serve.proofs.LastMoments.{last_after}
 use Rattle.mctpctl_serve.specs.Events.{Told, NoFrame}
 use Rattle.mctpctl_serve.specs.Serving.{Answerers, moment_after, packet_after, packets_after, packets_of, timed}
 use Rattle.mctpctl_serve.specs.Told.{frames_told, packet_told}
@@ -26,6 +27,8 @@ frames_told-append device a (Packet packet ∷ es) fs (r ∷ rs) ss same =
     let moment = moment_after a.held.last r in
     let first = packet_told device a moment packet.items in
     let next = packet_after device a moment packet.items in
-    let then = frames_told device (packets_after device next (timed next.held.last rs (packets_of es))) fs ss in
-    ap (λ (l : List Told). first ++ l) (frames_told-append device next es fs rs ss (omega arith))
+    let then = frames_told device (packets_after device next (timed moment rs (packets_of es))) fs ss in
+    ap (λ (l : List Told). first ++ l)
+    (subst (λ last. frames_told device next (es ++ fs) (rs ++ ss) ≡ frames_told device next es rs ++ frames_told device (packets_after device next (timed last rs (packets_of es))) fs ss)
+    (last_after device a moment packet.items) (frames_told-append device next es fs rs ss (omega arith)))
     ∙ sym (append_assoc first (frames_told device next es rs) then)

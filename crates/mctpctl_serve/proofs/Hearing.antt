@@ -8,6 +8,7 @@ use Rattle.mctp_serial.specs.declared.reader.FrameEvent.{FrameEvent}
 use Rattle.mctp_serial.specs.declared.reader.FrameEvent.TheVariants.{Packet}
 use Rattle.mctpctl_input.specs.CaptureLine.{TimedPacket}
 use Rattle.mctpctl_serve.proofs.EventsTold.{frames_told-append, folds-append}
+use Rattle.mctpctl_serve.proofs.LastMoments.{last_after}
 use Rattle.mctpctl_serve.proofs.FramesRead.{events-append, packets-append, after-append}
 use Rattle.mctpctl_serve.specs.Events.{Told}
 use Rattle.mctpctl_serve.specs.Heard.{Shown, HearsPacket, Hears, HearsFront, Stops}
@@ -26,8 +27,11 @@ module _ {S : Type 0} (device : Rules S) where
   timed-append a [] ss (p ∷ ps) qs same = absurd (omega arith)
   timed-append a (r ∷ rs) ss [] qs same = absurd (omega arith)
   timed-append a (r ∷ rs) ss (p ∷ ps) qs same =
-      ap (λ (l : List TimedPacket). record { moment = moment_after a.held.last r; bytes = p } ∷ l)
-      (timed-append (packet_after device a (moment_after a.held.last r) p) rs ss ps qs (omega arith))
+      let moment = moment_after a.held.last r in
+      let next = packet_after device a moment p in
+      ap (λ (l : List TimedPacket). record { moment = moment; bytes = p } ∷ l)
+      (subst (λ last. timed last (rs ++ ss) (ps ++ qs) ≡ timed last rs ps ++ timed (packets_after device next (timed last rs ps)).held.last ss qs)
+      (last_after device a moment p) (timed-append next rs ss ps qs (omega arith)))
 
   after-packets : (a : Answerers S) (xs ys : List TimedPacket) → packets_after device a (xs ++ ys) ≡ packets_after device (packets_after device a xs) ys
   after-packets a [] ys = refl

@@ -9,3 +9,4 @@ pub mod SameHeld
 pub mod Numbers
 pub mod TextsAdded
 pub mod WorkedLines
+mod LastMoments

@@ -1,8 +1,8 @@
 -- What a device that is served over a serial line writes of the bytes that come and of the clock's readings.
-use Rattle.std.specs.Prelude.{ℕ, max, min, List, [], ◌∷◌, ◌++◌, Option, None, Some}
+use Rattle.std.specs.Prelude.{ℕ, ◌==◌, max, min, List, [], ◌∷◌, ◌++◌, Option, None, Some, if◌then◌else◌}
 use Rattle.std.specs.List.{flat_map}
 use Rattle.mctp_control.specs.Dropped.{control_left, control_reply}
-use Rattle.mctp_control.specs.declared.endpoint.Endpoint.{Endpoint}
+use Rattle.mctp_control.specs.declared.control_responder.ControlResponder.{ControlResponder}
 use Rattle.mctp_packet.specs.declared.TheConstants.{MAX_MOMENT}
 use Rattle.mctp_serial.specs.Frames.{frame}
 use Rattle.mctp_serial.specs.Readings.{Reading, events_in}
@@ -11,7 +11,7 @@ use Rattle.mctp_serial.specs.declared.reader.FrameEvent.TheVariants.{Nothing, Pa
 use Rattle.mctpctl_input.specs.CaptureLine.{TimedPacket}
 use Rattle.pldm_responder.specs.Held.{Held}
 use Rattle.pldm_responder.specs.Performing.{Rules}
-use Rattle.pldm_responder.specs.Steps.{received_commands, received_held, received_outcome}
+use Rattle.pldm_responder.specs.Steps.{assigned_held, received_commands, received_held, received_outcome}
 use Rattle.pldm_responder.specs.declared.outcome.Outcome.{Outcome}
 use Rattle.pldm_responder.specs.declared.outcome.Outcome.TheVariants as outcome
 use Rattle.pldm_wire.specs.declared.command.Command.{Command}
@@ -38,40 +38,50 @@ timed last (reading ∷ readings) [] = []
 timed last (reading ∷ readings) (packet ∷ packets) =
     record { moment = moment_after last reading; bytes = packet } ∷ timed (moment_after last reading) readings packets
 
--- what answers on a line: the responder, by what it holds, and the endpoint of control messages
+-- what answers on a line: the responder, by what it holds, and the control responder
 pub record Answerers (S : Type 0) : Type 0 where
   pub held : Held S
-  pub control : Endpoint
+  pub control : ControlResponder
 
-abbrev pub answerers : {S : Type 0} → Held S → Endpoint → Answerers S
+abbrev pub answerers : {S : Type 0} → Held S → ControlResponder → Answerers S
 answerers held control = record { held = held; control = control }
 
 abbrev pub frames_if : Option (List ℕ) → List ℕ
 frames_if None = []
 frames_if (Some packet) = frame packet
 
--- the frames of the answer to a packet, of which this came at the responder
-abbrev pub frames_of : Endpoint → List ℕ → Outcome → List ℕ
-frames_of control packet (outcome.Dropped reason) = frames_if (control_reply control reason packet)
-frames_of control packet outcome.Partial = []
-frames_of control packet (outcome.Answered fresh changed packets) = flat_map frame packets
+-- the frames of the answer to a packet at a moment, of which this came at the responder
+abbrev pub frames_of : ControlResponder → ℕ → List ℕ → Outcome → List ℕ
+frames_of control moment packet (outcome.Dropped reason) = frames_if (control_reply control moment reason packet)
+frames_of control moment packet outcome.Partial = []
+frames_of control moment packet (outcome.Answered fresh changed packets) = flat_map frame packets
 
--- the control endpoint after a packet, of which this came at the responder
-abbrev pub control_after : Endpoint → List ℕ → Outcome → Endpoint
-control_after control packet (outcome.Dropped reason) = control_left control reason packet
-control_after control packet outcome.Partial = control
-control_after control packet (outcome.Answered fresh changed packets) = control
+-- the responder gets the endpoint ID that the control responder has, where that is another than its own
+abbrev pub with_eid : {S : Type 0} → Held S → ℕ → Option ℕ → Held S
+with_eid held moment None = held
+with_eid held moment (Some eid) = if held.own == eid then held else assigned_held held moment eid
+
+-- both have one endpoint ID
+abbrev pub in_step : {S : Type 0} → Held S → ℕ → ControlResponder → Answerers S
+in_step held moment control = answerers (with_eid held moment control.eid) control
+
+-- what answers after a packet at a moment, of which this came at the responder, which then holds this
+abbrev pub answerers_after : {S : Type 0} → Held S → ℕ → ControlResponder → List ℕ → Outcome → Answerers S
+answerers_after held moment control packet (outcome.Dropped reason) =
+    in_step held moment (control_left control moment reason packet)
+answerers_after held moment control packet outcome.Partial = answerers held control
+answerers_after held moment control packet (outcome.Answered fresh changed packets) = answerers held control
 
 module _ {S : Type 0} (device : Rules S) where
   -- the frames of the answer to a packet at a moment
   abbrev pub packet_frames : Answerers S → ℕ → List ℕ → List ℕ
-  packet_frames a moment packet = frames_of a.control packet (received_outcome device a.held moment packet)
+  packet_frames a moment packet = frames_of a.control moment packet (received_outcome device a.held moment packet)
 
   -- what answers after a packet at a moment: the responder comes first
   abbrev pub packet_after : Answerers S → ℕ → List ℕ → Answerers S
   packet_after a moment packet =
-      answerers (received_held device a.held moment packet)
-      (control_after a.control packet (received_outcome device a.held moment packet))
+      answerers_after (received_held device a.held moment packet) moment a.control packet
+      (received_outcome device a.held moment packet)
 
   -- what answers after packets at their moments
   abbrev pub packets_after : Answerers S → List TimedPacket → Answerers S

@@ -1,7 +1,7 @@
 -- What a watcher of a line is told of the bytes that come, with a reading of the clock for each packet.
 use Rattle.std.specs.Prelude.{ℕ, List, [], ◌∷◌, ◌++◌, Option, None, Some}
 use Rattle.mctp_control.specs.Dropped.{control_reply}
-use Rattle.mctp_control.specs.declared.endpoint.Endpoint.{Endpoint}
+use Rattle.mctp_control.specs.declared.control_responder.ControlResponder.{ControlResponder}
 use Rattle.mctp_packet.specs.declared.reason.Reason.{Reason}
 use Rattle.mctp_serial.specs.Readings.{Reading, events_in}
 use Rattle.mctp_serial.specs.declared.reader.FrameEvent.{FrameEvent}
@@ -19,9 +19,9 @@ drop_told moment reason None = Dropped reason ∷ []
 drop_told moment reason (Some reply) = SentControl moment reply ∷ []
 
 -- what became of a packet, of which this came at the responder: of a part of a message nothing is told
-abbrev pub outcome_told : Endpoint → ℕ → List ℕ → Outcome → List Told
+abbrev pub outcome_told : ControlResponder → ℕ → List ℕ → Outcome → List Told
 outcome_told control moment packet (outcome.Dropped reason) =
-    drop_told moment reason (control_reply control reason packet)
+    drop_told moment reason (control_reply control moment reason packet)
 outcome_told control moment packet outcome.Partial = []
 outcome_told control moment packet (outcome.Answered fresh changed packets) = Sent moment packets ∷ []
 

@@ -1,7 +1,7 @@
 //! The loop: bytes are read, each packet is answered at its moment, and the answer is written and flushed
 //! before more is read.
 
-ghost use Rattle.std.specs.Prelude.{◌≡◌, ◌≢◌, ◌↔◌, ℕ, List, [], ◌∷◌, Some, Err, IfErr, OnOk, IfSome, IsErrOf, max, min, ◌≤◌, ◌<◌, true, false};
+ghost use Rattle.std.specs.Prelude.{◌≡◌, ◌≢◌, ◌↔◌, ℕ, List, [], ◌∷◌, Some, Err, IfErr, OnOk, IfSome, IsErrOf, max, min, ◌≤◌, ◌<◌, ◌==◌, true, false};
 ghost use Rattle.std.specs.Io.KnownBytes.{Appends, Consumes};
 ghost use Rattle.std.specs.List.{FoldsTo, flat_map};
 ghost use Rattle.mctp_control.specs.Dropped.{control_left, control_reply};
@@ -10,16 +10,19 @@ ghost use Rattle.mctp_packet.specs.Pieces.{written_packets};
 ghost use Rattle.mctp_serial.specs.Frames.{frame};
 ghost use Rattle.mctpctl_input.specs.Ports.{inner_of, has_failed};
 ghost use Rattle.mctpctl_serve.specs.Heard.{Hears, HearsFront, HearsPacket, HearsTaken, Stops, shown};
-ghost use Rattle.mctpctl_serve.specs.Serving.{frames_if, moment_after};
+ghost use Rattle.mctpctl_serve.specs.Serving.{frames_if, moment_after, with_eid};
 ghost use Rattle.mctpctl_serve.specs.Told.{drop_told};
+ghost use Rattle.pldm_responder.specs.Ends.{eid_or_null};
+ghost use Rattle.pldm_responder.specs.Held.{IsHeld};
 ghost use Rattle.pldm_responder.specs.Performing.{rules_of};
+ghost use Rattle.pldm_responder.specs.Stations.{held_of};
 
 use crate::answers::frames_of;
 use crate::events::{Event, Watch};
 use crate::fault::ServeFault;
 use crate::ticks::Ticks;
-use mctp_control::Endpoint;
-use mctp_packet::{Body, MAX_MOMENT, Moment, Reason};
+use mctp_control::ControlResponder;
+use mctp_packet::{Body, Eid, MAX_MOMENT, Moment, Reason};
 use mctp_serial::{FrameEvent, FrameReader, frame};
 use mctpctl_input::Port;
 use pldm_platform::Platform;
@@ -37,8 +40,8 @@ pub struct Line<P: Platform, C, L> {
     pub frames: FrameReader,
     /// Answers them.
     pub responder: Responder<P>,
-    /// Answers those of control messages, which the responder drops.
-    pub control: Endpoint,
+    /// Answers those of control messages, which the responder drops. Both begin with one endpoint ID, or with none.
+    pub control: ControlResponder,
     /// Tells their moments.
     pub ticks: C,
     /// Is told what happens.
@@ -105,6 +108,7 @@ fn hear_packet<P: Platform, C: Ticks, L: Watch, W: Write>(
                 packet,
                 writer,
             )?;
+            keep_in_step(&mut line.responder, &line.control, now);
         }
         MessageOutcome::Partial => {}
         MessageOutcome::Answered { route, .. } => {
@@ -117,7 +121,7 @@ fn hear_packet<P: Platform, C: Ticks, L: Watch, W: Write>(
 
 /// Sends the answer to a packet that the responder dropped; where there is none, the drop is told.
 fn answer_drop<L: Watch, W: Write>(
-    control: &mut Endpoint,
+    control: &mut ControlResponder,
     watch: &mut L,
     now: Moment,
     reason: Reason,
@@ -126,14 +130,14 @@ fn answer_drop<L: Watch, W: Write>(
 ) -> Result<(), ServeFault>
     requires { has_failed writer.old ≡ false }
     ensures bytes { OnOk result (Appends (W.contents (inner_of writer.old)) (W.contents (inner_of writer.new))
-        (frames_if (control_reply control.old reason packet.now))) }
-    ensures control { control.new ≡ control_left control.old reason packet.now }
+        (frames_if (control_reply control.old now reason packet.now))) }
+    ensures control { control.new ≡ control_left control.old now reason packet.now }
     ensures told { OnOk result
-        (FoldsTo L.sees watch.old (drop_told now reason (control_reply control.old reason packet.now)) watch.new) }
+        (FoldsTo L.sees watch.old (drop_told now reason (control_reply control.old now reason packet.now)) watch.new) }
     ensures fault { IfErr result (λ fault. fault ≡ ServeFault.Write) }
     ensures write { IsErrOf result ServeFault.Write ↔ (has_failed writer.new ≡ true) }
 {
-    let Some(reply) = control.receive_dropped(reason, packet) else {
+    let Some(reply) = control.receive_dropped(now, reason, packet) else {
         watch.saw(&Event::Dropped(reason));
         return Ok(());
     };
@@ -143,6 +147,28 @@ fn answer_drop<L: Watch, W: Write>(
     send(&frame, writer)?;
     watch.saw(&Event::SentControl(now, &reply));
     Ok(())
+}
+
+/// Gives the responder the endpoint ID that the control responder has, where that is another than its own.
+fn keep_in_step<P: Platform>(responder: &mut Responder<P>, control: &ControlResponder, now: Moment)
+    requires { (held_of responder.old).last ≤ now }
+    ensures held { IsHeld (held_of responder.new) (with_eid (held_of responder.old) now control.now.eid) }
+    ensures bounds { responder.new.end.bounds ≡ responder.old.end.bounds }
+    ensures platform { responder.new.platform ≡ responder.old.platform }
+{
+    if let Some(eid) = control.eid
+        && !has_eid(responder.own(), eid)
+    {
+        responder.assign(now, eid);
+    }
+}
+
+/// Whether this is the endpoint ID that there is.
+fn has_eid(own: Option<Eid>, eid: Eid) -> bool
+    ensures { result ≡ (eid_or_null own == eid) }
+{
+    let _range = eid.get(); // for the proof: not the null one
+    own == Some(eid)
 }
 
 /// Takes a byte. Where it ends the frame of a packet, that is answered.

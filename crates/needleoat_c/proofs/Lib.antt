@@ -2,3 +2,5 @@ pub mod AsEndpointBox
 pub mod AsRequesterBox
 pub mod Numbers
 pub mod PacketPlaces
+pub mod ComeReports
+pub mod MadeEndpoints

@@ -3,7 +3,7 @@ use Rattle.std.proofs.Common.{◌≡◌, refl}
 use Rattle.needleoat_c.specs.declared.kinds.TheConstants.{BUSY_ALL, BUSY_SETS, RECEIVING_ANSWERED, RECEIVING_DROPPED, RECEIVING_PARTIAL}
 use Rattle.needleoat_c.specs.declared.kinds.TheConstants.{RECEIVING_REFUSED, STATUS_ANSWERED, STATUS_GAVE_UP, STATUS_OPEN}
 use Rattle.needleoat_c.specs.declared.kinds.TheConstants.{STATUS_UNKNOWN, STEP_ANSWERED, STEP_DROPPED, STEP_PARTIAL}
-use Rattle.needleoat_c.specs.declared.kinds.TheConstants.{STEP_PERFORM, STEP_REFUSED, STEP_RESPOND}
+use Rattle.needleoat_c.specs.declared.kinds.TheConstants.{STEP_CONTROL, STEP_PERFORM, STEP_REFUSED, STEP_RESPOND}
 use Rattle.needleoat_c.specs.declared.refusals.TheConstants.{ALREADY_THERE, BAD_MOMENT, BEING_PERFORMED, ID_IN_USE, NOTHING_THERE}
 use Rattle.needleoat_c.specs.declared.refusals.TheConstants.{NO_COMMAND, NO_MEMORY, NOT_ITS_ANSWER, NOT_PENDING, OUT_OF_RANGE}
 use Rattle.needleoat_c.specs.declared.refusals.TheConstants.{OUT_OF_TURN, TAG_IN_USE, TOO_MANY_COMMANDS, TOO_MANY_OPEN_MESSAGES, TOO_MANY_SOURCES}
@@ -31,6 +31,9 @@ step_perform = refl
 
 step_respond : STEP_RESPOND ≡ 5
 step_respond = refl
+
+step_control : STEP_CONTROL ≡ 6
+step_control = refl
 
 receiving_refused : RECEIVING_REFUSED ≡ 0
 receiving_refused = refl

@@ -1,20 +1,18 @@
 -- The calls of an endpoint behind a handle: what they report to C, and what is behind the handle then.
 use Rattle.std.specs.FinMap as map
-use Rattle.std.specs.Prelude.{◌≡◌, ℕ, ◌≤◌, ◌==◌, nat_le, nat_lt, ◌&&◌, Bool, true, false, MatchBool, List, [], length, take, slice_get}
+use Rattle.std.specs.Prelude.{◌≡◌, ℕ, ◌==◌, nat_le, nat_lt, ◌&&◌, Bool, true, false, MatchBool, List, [], ◌∷◌, length, take, slice_get}
 use Rattle.std.specs.Prelude.{slice_index_or, Option, Some, None, IsSome, option_and_then, Result, Ok, Err, ◌⊎◌}
 use Rattle.std.specs.Prelude.{if◌then◌else◌}
-use Rattle.mctp_packet.specs.Ids.{IsEid, IsKeep}
 use Rattle.mctp_packet.specs.Reasons.{number_of}
 use Rattle.mctp_packet.specs.Refusals.{is_eid}
-use Rattle.mctp_packet.specs.declared.TheConstants.{MAX_MOMENT}
+use Rattle.mctp_packet.specs.declared.TheConstants.{MAX_MOMENT, NULL_EID}
+use Rattle.mctp_packet.specs.declared.reason.Reason.{Reason}
 use Rattle.pldm_wire.specs.Commands.{kind_of}
-use Rattle.pldm_wire.specs.HandingOn.{hands_on, none_handed_on}
+use Rattle.pldm_wire.specs.HandingOn.{hands_on}
 use Rattle.pldm_wire.specs.Kinds.{TypeAndCommand}
 use Rattle.pldm_wire.specs.Requests.{Request}
 use Rattle.pldm_wire.specs.declared.answer.Answer.{Answer}
 use Rattle.pldm_wire.specs.declared.assigned.TheConstants.{INSTANCE_IDS}
-use Rattle.pldm_wire.specs.declared.busy_time.BusyTime.{BusyTime}
-use Rattle.pldm_wire.specs.declared.busy_time.BusyTime.TheVariants.{All, Sets}
 use Rattle.pldm_wire.specs.declared.command.Command.{Command}
 use Rattle.pldm_wire.specs.declared.handed_on.HandedOn.{HandedOn}
 use Rattle.pldm_wire.specs.declared.limits.TheConstants.{MAX_RESPONSE_DATA}
@@ -23,7 +21,7 @@ use Rattle.pldm_responder.specs.Asked as given
 use Rattle.pldm_responder.specs.Looking.{ended_by}
 use Rattle.pldm_responder.specs.OpenOrder.{ended_held}
 use Rattle.pldm_responder.specs.Answering.{answering}
-use Rattle.pldm_responder.specs.Ends.{has_row}
+use Rattle.pldm_responder.specs.Ends.{eid_or_null, has_row}
 use Rattle.pldm_responder.specs.Held.{Held, IsHeld, held_at_first}
 use Rattle.pldm_responder.specs.Needs.{NeedsMemory}
 use Rattle.pldm_responder.specs.OutsideAnswers.{outcome_of_answer}
@@ -38,19 +36,23 @@ use Rattle.pldm_endpoint.specs.Giving.{busy_with, response_of}
 use Rattle.pldm_endpoint.specs.Receiving.{HasSameSettings, IsAsBefore, IsCommanded}
 use Rattle.pldm_endpoint.specs.Refusing.{refused_by}
 use Rattle.pldm_endpoint.specs.RequestKeys.{pending_at, request_key}
-use Rattle.pldm_endpoint.specs.TwoSteps.{answered_held, count_after, held_after, held_in, pending_after, received_step, request_at}
+use Rattle.pldm_endpoint.specs.TwoSteps.{EndpointView, answered_held, count_after, held_after, held_in, pending_after, received_step, request_at}
 use Rattle.pldm_endpoint.specs.declared.pending_commands.PendingCommand.{PendingCommand}
 use Rattle.pldm_endpoint.specs.declared.step.CommandHandle.{CommandHandle}
+use Rattle.pldm_endpoint.specs.declared.step.MessageStep.{MessageStep}
+use Rattle.pldm_endpoint.specs.declared.step.MessageStep.TheVariants as message_step
 use Rattle.pldm_endpoint.specs.declared.step.ReceiveRefusal.{ReceiveRefusal}
 use Rattle.pldm_endpoint.specs.declared.step.ReceiveRefusal.TheVariants.{Performing, BeingPerformed, Full, Sources, OpenMessages, Memory}
 use Rattle.pldm_endpoint.specs.declared.step.Step.{Step}
 use Rattle.pldm_endpoint.specs.declared.step.Step.TheVariants.{Perform, Respond, Done}
+use Rattle.bus_endpoint.specs.Coming.{IsInStep, control_after, control_answer, dropped_for, eid_after}
 use Rattle.needleoat_forms.specs.Answers.{answer_in}
 use Rattle.needleoat_forms.specs.Commands.{command_in}
 use Rattle.needleoat_forms.specs.declared.answer.AnswerFields.{AnswerFields}
 use Rattle.needleoat_forms.specs.declared.command.CommandFields.{CommandFields}
 use Rattle.needleoat_c.specs.EndpointHandles.{Inside}
-use Rattle.needleoat_c.specs.declared.kinds.TheConstants.{BUSY_ALL, BUSY_SETS, STEP_ANSWERED, STEP_DROPPED, STEP_PARTIAL, STEP_PERFORM, STEP_REFUSED, STEP_RESPOND}
+use Rattle.needleoat_c.specs.Settings.{control_in, first_eid, handed_in, keeping_in}
+use Rattle.needleoat_c.specs.declared.kinds.TheConstants.{STEP_ANSWERED, STEP_CONTROL, STEP_DROPPED, STEP_PARTIAL, STEP_PERFORM, STEP_REFUSED, STEP_RESPOND}
 use Rattle.needleoat_c.specs.declared.refusals.TheConstants.{BAD_MOMENT, BEING_PERFORMED, NOTHING_THERE, NOT_ITS_ANSWER, NOT_PENDING}
 use Rattle.needleoat_c.specs.declared.refusals.TheConstants.{NO_MEMORY, OUT_OF_RANGE, OUT_OF_TURN, TOO_MANY_COMMANDS}
 use Rattle.needleoat_c.specs.declared.refusals.TheConstants.{TOO_MANY_OPEN_MESSAGES, TOO_MANY_SOURCES}
@@ -88,15 +90,20 @@ no_handle = record { number = 0; source = 0; instance_id = 0 }
 
 -- the command that is pending under a handle; one with a source that is no endpoint ID has none
 abbrev pub pending_under : HandleFields → Inside → Option PendingCommand
-pending_under fields inside = if is_eid fields.source then pending_at inside.pending (handle_in fields) else None
+pending_under fields inside = if is_eid fields.source then pending_at inside.endpoint.pending (handle_in fields) else None
 
 -- that of the endpoint behind a handle
 abbrev pub pending : HandleFields → Option Inside → Option PendingCommand
 pending fields held = option_and_then (λ (inside : Inside). pending_under fields inside) held
 
+-- the endpoint ID of the endpoint behind a handle, the null one where there is none
+abbrev pub eid_of : Option Inside → ℕ
+eid_of None = NULL_EID
+eid_of (Some inside) = inside.endpoint.end.own
+
 -- a moment that may come next
 abbrev pub is_next : ℕ → Inside → Bool
-is_next now inside = nat_le now MAX_MOMENT && nat_le (held_in inside).last now
+is_next now inside = nat_le now MAX_MOMENT && nat_le (held_in inside.endpoint).last now
 
 -- why a call at a moment is refused, whatever it is: 0 where it is not
 abbrev pub refusal_at : ℕ → Option Inside → ℕ
@@ -105,41 +112,16 @@ refusal_at now (Some inside) = if is_next now inside then 0 else BAD_MOMENT
 
 -- ---- making ----
 
--- the two kinds of busy time
-abbrev pub IsBusyKind : ℕ → Type 0
-IsBusyKind busy = (busy ≡ BUSY_ALL) ⊎ (busy ≡ BUSY_SETS)
-
--- a keeping time, a window of no more than all instance IDs, and a kind of busy time
-abbrev pub IsKeeping : EndpointSettings → Type 0
-IsKeeping s = IsKeep s.keep_ms × (s.window ≤ INSTANCE_IDS) × IsBusyKind s.busy
-
--- an endpoint ID, and how answers are kept
-abbrev pub IsSetup : EndpointSettings → Type 0
-IsSetup s = IsEid s.own × IsKeeping s
-
--- a window of 0 stands for all instance IDs
-abbrev pub window_in : ℕ → ℕ
-window_in window = if window == 0 then INSTANCE_IDS else window
-
-abbrev pub busy_in : ℕ → BusyTime
-busy_in busy = if busy == BUSY_SETS then Sets none_handed_on else All
-
--- which requests are handed on as bytes
-abbrev pub handed_in : EndpointSettings → HandedOn
-handed_in s = record { pldm_types = s.pldm_types; unknown_commands = s.unknown_commands }
-
-abbrev pub keeping_in : EndpointSettings → Keeping
-keeping_in s = record { keep = s.keep_ms; window = window_in s.window; busy = busy_in s.busy }
-
 -- what it holds: at the first start that of a new one, whose last moment is this one; else that of one which restarts
 -- at this moment
 abbrev pub started : ℕ → HandedOn → Keeping → Bool → ℕ → Held (Unit {0})
 started own handed k true now = record (held_at_first own (busy_with handed k.busy) k.window k.keep tt) { last = now }
 started own handed k false now = restarted_held (held_at_first own (busy_with handed k.busy) k.window k.keep tt) now
 
--- it was made with these settings at a moment: no command is pending, and no source has room for answers
-pub record IsMade (s : EndpointSettings) (now : ℕ) (new : Inside) : Type 0 where
-  pub held : IsHeld (held_in new) (started s.own (handed_in s) (keeping_in s) s.first_start now)
+-- an endpoint was made with these settings at a moment: no command is pending, and no source has room for answers
+pub record IsStarted (s : EndpointSettings) (now : ℕ) (new : EndpointView) : Type 0 where
+  pub held :
+      IsHeld (held_in new) (started (eid_or_null (first_eid s)) (handed_in s) (keeping_in s) s.first_start now)
   pub handed_on : new.handed_on ≡ handed_in s
   pub sources : new.end.bounds.sources ≡ s.sources
   pub open_messages : new.end.bounds.open_messages ≡ s.open_messages
@@ -148,6 +130,11 @@ pub record IsMade (s : EndpointSettings) (now : ℕ) (new : Inside) : Type 0 whe
   pub idle : new.pending ≡ map.empty
   pub count : new.count ≡ 0
   pub no_rows : source_count new.end.rows ≡ 0
+
+-- with what answers its control messages
+pub record IsMade (s : EndpointSettings) (now : ℕ) (new : Inside) : Type 0 where
+  pub endpoint : IsStarted s now new.endpoint
+  pub control : new.control ≡ control_in s
 
 -- it is behind the handle
 abbrev pub IsNew : EndpointSettings → ℕ → Option Inside → Type 0
@@ -158,11 +145,12 @@ IsNew s now (Some new) = IsMade s now new
 
 -- no command is pending, and no source has room for answers
 pub record IsRestarted (now : ℕ) (old new : Inside) : Type 0 where
-  pub held : IsHeld (held_in new) (restarted_held (held_in old) now)
-  pub idle : new.pending ≡ map.empty
-  pub count : new.count ≡ old.count
-  pub no_rows : source_count new.end.rows ≡ 0
-  pub settings : HasSameSettings new old
+  pub held : IsHeld (held_in new.endpoint) (restarted_held (held_in old.endpoint) now)
+  pub idle : new.endpoint.pending ≡ map.empty
+  pub count : new.endpoint.count ≡ old.endpoint.count
+  pub no_rows : source_count new.endpoint.end.rows ≡ 0
+  pub settings : HasSameSettings new.endpoint old.endpoint
+  pub control : new.control ≡ old.control
 
 abbrev pub IsLeftByRestart : ℕ → ℕ → Inside → Inside → Type 0
 IsLeftByRestart now refusal old new = MatchBool (refusal == 0) (IsRestarted now old new) (new ≡ old)
@@ -207,6 +195,17 @@ ReportsStep (Perform handle) r rooms = HasNumbers STEP_PERFORM 0 false false 0 (
 ReportsStep (Respond handle) r rooms = HasNumbers STEP_RESPOND 0 false false 0 (fields_of handle) r
 ReportsStep (Done outcome) r rooms = ReportsOutcome outcome r rooms
 
+-- a packet that answers a control message is in the first room
+abbrev pub ReportsControl : List ℕ → StepReport → List (List ℕ) → Type 0
+ReportsControl reply r rooms =
+    HasNumbers STEP_CONTROL 0 false false 1 no_handle r × ArePackets (reply ∷ []) r.lengths rooms
+
+-- it asks for a command to be performed
+abbrev pub IsPerform : MessageStep → Type 0
+IsPerform (message_step.Perform handle) = Unit {0}
+IsPerform (message_step.Respond handle) = ⊥
+IsPerform (message_step.Done taken) = ⊥
+
 -- ---- packets that come ----
 
 -- a refusal's number
@@ -218,11 +217,29 @@ number_of_refusal Sources = TOO_MANY_SOURCES
 number_of_refusal OpenMessages = TOO_MANY_OPEN_MESSAGES
 number_of_refusal (Memory memory) = NO_MEMORY
 
+-- what becomes of it at the endpoint, and if it is dropped there, for which reason
+abbrev pub step_of : ℕ → List ℕ → Inside → Step
+step_of now bytes inside =
+    received_step inside.endpoint.handed_on (held_in inside.endpoint) now bytes inside.endpoint.count
+
+abbrev pub dropped_of : ℕ → List ℕ → Inside → Option Reason
+dropped_of now bytes inside = dropped_for (step_of now bytes inside)
+
+-- the packet that answers it as a control message
+abbrev pub reply_of : ℕ → List ℕ → Inside → Option (List ℕ)
+reply_of now bytes inside = control_answer inside.control now (dropped_of now bytes inside) bytes
+
+-- it is answered as a control message, or it is what the endpoint makes of it
+abbrev pub ReportsCome : Step → Option (List ℕ) → StepReport → List (List ℕ) → Type 0
+ReportsCome step None r rooms = ReportsStep step r rooms
+ReportsCome step (Some reply) r rooms = ReportsControl reply r rooms
+
 -- what becomes of it; it is refused for want of memory only where it may want some
 abbrev pub ReportsTaken : ℕ → List ℕ → StepReport → List (List ℕ) → Inside → Type 0
 ReportsTaken now bytes r rooms inside =
-    ReportsStep (received_step inside.handed_on (held_in inside) now bytes inside.count) r rooms
-    ⊎ (IsRefused NO_MEMORY r × (NeedsMemory (held_in inside) true now bytes ⊎ IsCommanded inside now bytes))
+    ReportsCome (step_of now bytes inside) (reply_of now bytes inside) r rooms
+    ⊎ (IsRefused NO_MEMORY r
+    × (NeedsMemory (held_in inside.endpoint) true now bytes ⊎ IsCommanded inside.endpoint now bytes))
 
 -- it is refused where the endpoint refuses it whatever memory there is, with the number of its reason
 abbrev pub ReportsAllowed :
@@ -232,26 +249,38 @@ ReportsAllowed (Some refusal) now bytes r rooms inside = IsRefused (number_of_re
 
 abbrev pub ReportsPacketIn : ℕ → List ℕ → StepReport → List (List ℕ) → Inside → Type 0
 ReportsPacketIn now bytes r rooms inside =
-    MatchBool (is_next now inside) (ReportsAllowed (refused_by inside now bytes) now bytes r rooms inside)
+    MatchBool (is_next now inside) (ReportsAllowed (refused_by inside.endpoint now bytes) now bytes r rooms inside)
     (IsRefused BAD_MOMENT r)
 
 abbrev pub ReportsPacket : ℕ → List ℕ → StepReport → List (List ℕ) → Option Inside → Type 0
 ReportsPacket now bytes r rooms None = IsRefused NOTHING_THERE r
 ReportsPacket now bytes r rooms (Some inside) = ReportsPacketIn now bytes r rooms inside
 
--- what an endpoint holds that received a packet, what is pending there, and which sources have room for answers; where the
--- packet begins a message for which there was no room, the oldest that was open has ended
-pub record IsReceived (now : ℕ) (bytes : List ℕ) (old new : Inside) : Type 0 where
+-- what an endpoint holds that received a packet, what is pending there, and which sources have room for answers; where
+-- the packet begins a message for which there was no room, the oldest that was open has ended
+pub record IsTaken (now : ℕ) (bytes : List ℕ) (old new : EndpointView) : Type 0 where
   pub held : IsHeld (held_in new) (ended_held (ended_by old.end bytes) (held_after old.handed_on (held_in old) now bytes))
   pub pending : new.pending ≡ pending_after old.handed_on (held_in old) now bytes old.pending old.count
   pub count : new.count ≡ count_after old.handed_on (held_in old) now bytes old.count
   pub room : AreRowsAfter (held_in old) old.end.rows (received_arrival (held_in old) now bytes) new.end.rows
   pub settings : HasSameSettings new old
 
+-- where the endpoint dropped it, what answers control messages may have another endpoint ID, and the endpoint has that
+-- from then on
+pub record IsReceived (now : ℕ) (bytes : List ℕ) (old new : Inside) : Type 0 where
+  pub endpoint : EndpointView
+  pub taken : IsTaken now bytes old.endpoint endpoint
+  pub control : new.control ≡ control_after old.control now (dropped_of now bytes old) bytes
+  pub in_step : IsInStep endpoint now (eid_after old.control now (dropped_of now bytes old) bytes) new.endpoint
+
 -- a packet that was refused changes nothing
+pub record IsUnchanged (new old : Inside) : Type 0 where
+  pub endpoint : IsAsBefore new.endpoint old.endpoint
+  pub control : new.control ≡ old.control
+
 abbrev pub IsLeftByPacket : ℕ → List ℕ → ℕ → Inside → Inside → Type 0
 IsLeftByPacket now bytes kind old new =
-    MatchBool (kind == STEP_REFUSED) (IsAsBefore new old) (IsReceived now bytes old new)
+    MatchBool (kind == STEP_REFUSED) (IsUnchanged new old) (IsReceived now bytes old new)
 
 -- the fields are those of the command that is pending
 abbrev pub AreOf : Option PendingCommand → CommandFields → Type 0
@@ -304,8 +333,8 @@ ReportsGiven handed (Err number) pending own source r rooms = IsRefused number r
 abbrev pub ReportsAnswer : HandleFields → AnswerFields → StepReport → List (List ℕ) → Option Inside → Type 0
 ReportsAnswer handle fields r rooms None = IsRefused NOTHING_THERE r
 ReportsAnswer handle fields r rooms (Some inside) =
-    ReportsGiven inside.handed_on (answered_by (given_for (pending_under handle inside) fields))
-    (pending_under handle inside) inside.end.own handle.source r rooms
+    ReportsGiven inside.endpoint.handed_on (answered_by (given_for (pending_under handle inside) fields))
+    (pending_under handle inside) inside.endpoint.end.own handle.source r rooms
 
 -- the report of an answer that was handed in: of what it gave, with the packets of `reply`, or of why it was refused
 abbrev pub ReportsHandedIn : List ℕ → Result MessageOutcome ℕ → StepReport → List (List ℕ) → Type 0
@@ -319,7 +348,7 @@ IsReportedSo reply given handle fields inside =
     → ReportsHandedIn reply given r rooms → ReportsAnswer handle fields r rooms (Some inside)
 
 -- it is kept for that request, from its moment on, which is no longer pending
-pub record IsAnswered (handle : CommandHandle) (given : Given) (old new : Inside) : Type 0 where
+pub record IsAnswered (handle : CommandHandle) (given : Given) (old new : EndpointView) : Type 0 where
   pub held :
       IsHeld (held_in new) (answered_held old.handed_on (held_in old) handle given (pending_at old.pending handle))
   pub pending : new.pending ≡ map.remove old.pending (request_key handle.source handle.id)
@@ -330,7 +359,8 @@ pub record IsAnswered (handle : CommandHandle) (given : Given) (old new : Inside
 
 -- an answer that was refused changes nothing
 abbrev pub IsLeftByGiven : Result Given ℕ → CommandHandle → Inside → Inside → Type 0
-IsLeftByGiven (Ok given) handle old new = IsAnswered handle given old new
+IsLeftByGiven (Ok given) handle old new =
+    IsAnswered handle given old.endpoint new.endpoint × (new.control ≡ old.control)
 IsLeftByGiven (Err number) handle old new = new ≡ old
 
 abbrev pub IsLeftByAnswer : HandleFields → AnswerFields → Inside → Inside → Type 0
@@ -364,8 +394,8 @@ response_for (Some a) code bytes = response_to_command a.command code bytes
 abbrev pub ReportsResponse : HandleFields → ℕ → List ℕ → StepReport → List (List ℕ) → Option Inside → Type 0
 ReportsResponse handle code bytes r rooms None = IsRefused NOTHING_THERE r
 ReportsResponse handle code bytes r rooms (Some inside) =
-    ReportsGiven inside.handed_on (response_for (pending_under handle inside) code bytes)
-    (pending_under handle inside) inside.end.own handle.source r rooms
+    ReportsGiven inside.endpoint.handed_on (response_for (pending_under handle inside) code bytes)
+    (pending_under handle inside) inside.endpoint.end.own handle.source r rooms
 
 -- whatever the report of this is, it is one of the response
 abbrev pub IsResponseReportedSo : List ℕ → Result MessageOutcome ℕ → HandleFields → ℕ → List ℕ → Inside → Type 0

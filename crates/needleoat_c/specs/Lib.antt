@@ -2,3 +2,4 @@ pub mod EndpointHandles
 pub mod Endpoints
 pub mod RequesterHandles
 pub mod Requesters
+pub mod Settings

@@ -1,16 +1,19 @@
 //! The work of each call on the endpoint behind a handle.
 
-ghost use Rattle.std.specs.Prelude.{◌≡◌, ◌≤◌, Some, Ok, Err, IfErr, IfSome, IsSome, OnOk, OnErr, is_some, slice_get};
+ghost use Rattle.std.specs.Prelude.{◌≡◌, ◌≤◌, Some, Ok, Err, IfErr, IfOk, IfSome, IsSome, OnOk, OnErr, is_some, length, slice_get};
 ghost use Rattle.mctp_packet.specs.Pieces.{written_packets};
 ghost use Rattle.pldm_wire.specs.Answers.{IsAnswerTo};
 ghost use Rattle.pldm_wire.specs.Commands.{kind_of};
 ghost use Rattle.pldm_responder.specs.Answering.{answering};
 ghost use Rattle.pldm_endpoint.specs.RequestKeys.{pending_at};
 ghost use Rattle.pldm_endpoint.specs.TwoSteps.{IsOfCommand, held_in};
-ghost use Rattle.needleoat_c.specs.Endpoints.{AreOf, ArePackets, HasCommand, HasRequest, IsInFront, IsLeftByAnswer, IsLeftByPacket, IsLeftByResponse, IsLeftByRestart, IsMade, IsReportedSo, IsResponseReportedSo, ReportsHandedIn, ReportsOutcome, ReportsPacketIn, given_to, is_next, keeping_in, number_of_refusal, pending_under, refusal_at, unanswered};
+ghost use Rattle.needleoat_c.specs.Endpoints.{AreOf, ArePackets, HasCommand, HasRequest, IsInFront, IsLeftByAnswer, IsLeftByPacket, IsLeftByResponse, IsLeftByRestart, IsMade, IsPerform, IsReportedSo, IsResponseReportedSo, IsStarted, ReportsControl, ReportsHandedIn, ReportsOutcome, ReportsPacketIn, ReportsStep, given_to, is_next, number_of_refusal, pending_under, refusal_at, unanswered};
+ghost use Rattle.needleoat_c.specs.Settings.{IsSetup, first_eid, keeping_in};
+ghost use Rattle.pldm_endpoint.specs.Stepping.{stepping};
 
 use crate::kinds::{
-    STEP_ANSWERED, STEP_DROPPED, STEP_PARTIAL, STEP_PERFORM, STEP_REFUSED, STEP_RESPOND,
+    STEP_ANSWERED, STEP_CONTROL, STEP_DROPPED, STEP_PARTIAL, STEP_PERFORM, STEP_REFUSED,
+    STEP_RESPOND,
 };
 use crate::refusals::{
     BAD_MOMENT, BEING_PERFORMED, NO_MEMORY, NOT_ITS_ANSWER, NOT_PENDING, OUT_OF_RANGE, OUT_OF_TURN,
@@ -18,8 +21,11 @@ use crate::refusals::{
 };
 use crate::reports::{HandleFields, RequestFields, StepReport};
 use crate::settings::EndpointSettings;
+use bus_endpoint::{BusEndpoint, BusStep};
+use mctp_control::ControlPacket;
 use mctp_packet::{
-    Body, Eid, MAX_PACKET_BYTES, MAX_PACKETS, Moment, Route, UNIT, packet_at, write,
+    Body, Eid, MAX_PACKET_BYTES, MAX_PACKETS, Memory, Moment, NULL_EID, Route, UNIT, packet_at,
+    write,
 };
 use needleoat_forms::{AnswerFields, CommandFields, put_answer_of};
 use pldm_endpoint::{AnswerRefusal, CommandHandle, Endpoint, MessageStep, ReceiveRefusal};
@@ -27,18 +33,41 @@ use pldm_responder::{Bounds, Keeping, MessageOutcome};
 use pldm_wire::{Answer, Command, INSTANCE_IDS};
 use std::alloc::Global;
 
-/// A new endpoint with these settings, whose endpoint ID and way of keeping answers they are. At any start but the
-/// first it is busy for the keeping time.
+/// A new endpoint with these settings, whose endpoint ID at first and way of keeping answers they are, in a place of its
+/// own. At any start but the first it is busy for the keeping time. What answers its control messages, where they are
+/// answered, has a place too; where there is no memory for one of the two, none is left.
+#[tactic(auto, using(crate::proofs::MadeEndpoints::one_at_start))]
 pub(crate) fn start(
     alloc: Global,
-    own: Eid,
+    own: Option<Eid>,
+    keeping: Keeping,
+    settings: &EndpointSettings,
+    now: Moment,
+) -> Result<Box<BusEndpoint, Global>, Memory>
+    requires setup { IsSetup settings.now }
+    requires own { own ≡ first_eid settings.now }
+    requires keeping { keeping ≡ keeping_in settings.now }
+    ensures { IfOk result (λ made. IsMade settings.now now made.value) }
+{
+    let control = settings.control();
+    let endpoint = started(alloc, own, keeping, settings, now);
+    let Some(made) = BusEndpoint::new(alloc, endpoint, control)? else {
+        unreachable!(); // both have one endpoint ID
+    };
+    Ok(Box::new(alloc, made)?)
+}
+
+/// The endpoint without what answers its control messages.
+fn started(
+    alloc: Global,
+    own: Option<Eid>,
     keeping: Keeping,
     settings: &EndpointSettings,
     now: Moment,
 ) -> Endpoint
-    requires own { own ≡ settings.now.own }
+    requires own { own ≡ first_eid settings.now }
     requires keeping { keeping ≡ keeping_in settings.now }
-    ensures { IsMade settings.now now result }
+    ensures { IsStarted settings.now now result }
 {
     let bounds = Bounds {
         sources: settings.sources as usize,
@@ -56,20 +85,20 @@ pub(crate) fn start(
 }
 
 /// The moment, where it may come next.
-fn next_moment(endpoint: &Endpoint, now_ms: u64) -> Option<Moment>
+fn next_moment(endpoint: &BusEndpoint, now_ms: u64) -> Option<Moment>
     ensures some { is_some result ≡ is_next now_ms endpoint.now }
     ensures value { IfSome result (λ now. now ≡ now_ms) }
-    ensures later { IfSome result (λ now. (held_in endpoint.now).last ≤ now) }
+    ensures later { IfSome result (λ now. (held_in endpoint.now.endpoint).last ≤ now) }
 {
     let now = Moment::new(now_ms)?;
-    if now < endpoint.last_moment() {
+    if now < endpoint.endpoint().last_moment() {
         return None;
     }
     Some(now)
 }
 
 /// Restarts at a moment: 0, or why not.
-pub(crate) fn restart(endpoint: &mut Endpoint, now_ms: u64) -> u8
+pub(crate) fn restart(endpoint: &mut BusEndpoint, now_ms: u64) -> u8
     ensures refusal { result ≡ refusal_at now_ms (Some endpoint.old) }
     ensures left { IsLeftByRestart now_ms result endpoint.old endpoint.new }
 {
@@ -82,7 +111,7 @@ pub(crate) fn restart(endpoint: &mut Endpoint, now_ms: u64) -> u8
 
 /// Receives the bytes of a packet.
 pub(crate) fn receive(
-    endpoint: &mut Endpoint,
+    endpoint: &mut BusEndpoint,
     now_ms: u64,
     packet: &[u8],
     command: &mut CommandFields,
@@ -97,14 +126,60 @@ pub(crate) fn receive(
     };
     let mut reply = Body::new();
     match endpoint.receive_message(now, packet, &mut reply) {
-        Ok(MessageStep::Perform(handle)) => {
-            put_command(endpoint, &handle, command);
-            StepReport::asking(STEP_PERFORM, &handle)
+        Ok(BusStep::Control(answer)) => control_report(&answer, packets),
+        Ok(BusStep::Pldm(step)) => {
+            if let MessageStep::Perform(handle) = &step {
+                put_command(endpoint, handle, command);
+            }
+            step_report(&step, &reply, packets)
         }
-        Ok(MessageStep::Respond(handle)) => StepReport::asking(STEP_RESPOND, &handle),
-        Ok(MessageStep::Done(taken)) => report_of(&taken, &reply, packets),
         Err(refusal) => StepReport::without(STEP_REFUSED, refusal_number(refusal)),
     }
+}
+
+/// The report of what becomes of a packet as a message of PLDM, with the packets of `reply`, the message that answers.
+fn step_report(
+    step: &MessageStep,
+    reply: &Body,
+    packets: &mut [[u8; MAX_PACKET_BYTES]; MAX_PACKETS],
+) -> StepReport
+    ensures report { ReportsStep (stepping reply.now.items step.now) result packets.new }
+    ensures kind { 1 ≤ result.kind }
+    ensures perform { result.kind ≡ STEP_PERFORM → IsPerform step.now }
+{
+    match step {
+        MessageStep::Perform(handle) => StepReport::asking(STEP_PERFORM, handle),
+        MessageStep::Respond(handle) => StepReport::asking(STEP_RESPOND, handle),
+        MessageStep::Done(taken) => report_of(taken, reply, packets),
+    }
+}
+
+/// The report of a packet that answers a control message.
+fn control_report(
+    answer: &ControlPacket,
+    packets: &mut [[u8; MAX_PACKET_BYTES]; MAX_PACKETS],
+) -> StepReport
+    ensures { ReportsControl answer.now.items result packets.new }
+{
+    let length = put_front(answer, &mut packets[0]);
+    StepReport {
+        kind: STEP_CONTROL,
+        reason: 0,
+        fresh: false,
+        changed: false,
+        count: 1,
+        lengths: [length, 0, 0, 0, 0],
+        handle: HandleFields::none(),
+    }
+}
+
+/// Puts a packet in front of a room, and returns its length.
+fn put_front(packet: &[u8], room: &mut [u8; MAX_PACKET_BYTES]) -> u32
+    requires { length packet.now ≤ MAX_PACKET_BYTES }
+    ensures { IsInFront (Some packet.now) result room.new }
+{
+    room[..packet.len()].copy_from_slice(packet);
+    packet.len() as u32
 }
 
 /// The number that says why a packet was refused.
@@ -122,11 +197,11 @@ fn refusal_number(refusal: ReceiveRefusal) -> u8
 }
 
 /// Puts the fields of the command that is pending under this handle.
-fn put_command(endpoint: &Endpoint, handle: &CommandHandle, fields: &mut CommandFields)
-    requires { IsOfCommand (pending_at endpoint.now.pending handle.now) }
-    ensures { AreOf (pending_at endpoint.now.pending handle.now) fields.new }
+fn put_command(endpoint: &BusEndpoint, handle: &CommandHandle, fields: &mut CommandFields)
+    requires { IsOfCommand (pending_at endpoint.now.endpoint.pending handle.now) }
+    ensures { AreOf (pending_at endpoint.now.endpoint.pending handle.now) fields.new }
 {
-    match endpoint.command(handle) {
+    match endpoint.endpoint().command(handle) {
         Some(command) => fields.set(0, command),
         None => unreachable!(),
     }
@@ -135,7 +210,7 @@ fn put_command(endpoint: &Endpoint, handle: &CommandHandle, fields: &mut Command
 /// Hands in the device's answer to the command that is pending under a handle. The message that answers the request is
 /// put into `reply`. An `Err` has the number that says why the answer was refused.
 pub(crate) fn answer(
-    endpoint: &mut Endpoint,
+    endpoint: &mut BusEndpoint,
     handle: &HandleFields,
     fields: &AnswerFields,
     reply: &mut Body,
@@ -146,7 +221,7 @@ pub(crate) fn answer(
     let Some(handle) = handle.handle() else {
         return Err(NOT_PENDING);
     };
-    let Some(command) = endpoint.command(&handle) else {
+    let Some(command) = endpoint.endpoint().command(&handle) else {
         return Err(unanswered(endpoint, &handle));
     };
     let mut answer = Answer::SetTid;
@@ -158,10 +233,10 @@ pub(crate) fn answer(
 }
 
 /// Why there is no command to be answered under this handle: nothing is pending there, or a request that was handed on.
-fn unanswered(endpoint: &Endpoint, handle: &CommandHandle) -> u8
-    ensures { result ≡ unanswered (pending_at endpoint.now.pending handle.now) }
+fn unanswered(endpoint: &BusEndpoint, handle: &CommandHandle) -> u8
+    ensures { result ≡ unanswered (pending_at endpoint.now.endpoint.pending handle.now) }
 {
-    match endpoint.request(handle) {
+    match endpoint.endpoint().request(handle) {
         Some(_) => NOT_ITS_ANSWER,
         None => NOT_PENDING,
     }
@@ -169,7 +244,7 @@ fn unanswered(endpoint: &Endpoint, handle: &CommandHandle) -> u8
 
 /// Puts the request that is pending under a handle. The result is whether one is.
 pub(crate) fn put_request(
-    endpoint: &Endpoint,
+    endpoint: &BusEndpoint,
     handle: &HandleFields,
     fields: &mut RequestFields,
 ) -> bool
@@ -178,7 +253,7 @@ pub(crate) fn put_request(
     let Some(handle) = handle.handle() else {
         return false;
     };
-    match endpoint.request(&handle) {
+    match endpoint.endpoint().request(&handle) {
         Some(request) => {
             fields.set(&request);
             true
@@ -190,7 +265,7 @@ pub(crate) fn put_request(
 /// Hands in the device's response to the request that is pending under a handle, which was handed on as bytes. The
 /// message that answers it is put into `reply`. An `Err` has the number that says why the response was refused.
 pub(crate) fn answer_bytes(
-    endpoint: &mut Endpoint,
+    endpoint: &mut BusEndpoint,
     handle: &HandleFields,
     code: u8,
     rest: &[u8],
@@ -244,6 +319,16 @@ fn put_given(command: &Command, fields: &AnswerFields, given: &mut Answer) -> Re
         return Err(NOT_ITS_ANSWER);
     }
     Ok(())
+}
+
+/// The endpoint ID that it has: 0 where it has none.
+pub(crate) fn eid(endpoint: &BusEndpoint) -> u8
+    ensures { result ≡ endpoint.now.endpoint.end.own }
+{
+    match endpoint.endpoint().own() {
+        Some(eid) => eid.get(),
+        None => NULL_EID,
+    }
 }
 
 /// The report of what becomes of a packet, with the packets of `reply`, the message that answers.

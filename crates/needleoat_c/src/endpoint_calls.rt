@@ -2,7 +2,8 @@
 
 ghost use Rattle.std.specs.Prelude.{◌≡◌, ◌≢◌, ◌≤◌, ◌⊎◌, false, true};
 ghost use Rattle.mctp_packet.specs.declared.TheConstants.{MAX_MOMENT};
-ghost use Rattle.needleoat_c.specs.Endpoints.{HasCommand, HasRequest, IsLeft, IsLeftByAnswer, IsLeftByPacket, IsLeftByResponse, IsLeftByRestart, IsNew, IsSetup, IsUpheld, ReportsAnswer, ReportsPacket, ReportsResponse, pending, refusal_at};
+ghost use Rattle.needleoat_c.specs.Endpoints.{HasCommand, HasRequest, IsLeft, IsLeftByAnswer, IsLeftByPacket, IsLeftByResponse, IsLeftByRestart, IsNew, IsUpheld, ReportsAnswer, ReportsPacket, ReportsResponse, eid_of, pending, refusal_at};
+ghost use Rattle.needleoat_c.specs.Settings.{IsSetup};
 
 use crate::endpoint;
 use crate::endpoint_handle::EndpointForC;
@@ -10,7 +11,7 @@ use crate::kinds::STEP_REFUSED;
 use crate::refusals::{ALREADY_THERE, BAD_MOMENT, NO_MEMORY, NOTHING_THERE, OUT_OF_RANGE};
 use crate::reports::{HandleFields, RequestFields, StepReport};
 use crate::settings::EndpointSettings;
-use mctp_packet::{Body, Eid, MAX_PACKET_BYTES, MAX_PACKETS, Moment};
+use mctp_packet::{Body, MAX_PACKET_BYTES, MAX_PACKETS, Moment, NULL_EID};
 use needleoat_forms::{AnswerFields, CommandFields};
 use std::alloc::Global;
 
@@ -38,13 +39,13 @@ pub extern "C" fn needleoat_endpoint_new(
     if endpoint.is_live {
         return ALREADY_THERE;
     }
-    let (Some(own), Some(keeping)) = (Eid::new(settings.own), settings.keeping()) else {
+    let (Some(eids), Some(keeping)) = (settings.eids(), settings.keeping()) else {
         return OUT_OF_RANGE;
     };
     let Some(now) = Moment::new(now_ms) else {
         return BAD_MOMENT;
     };
-    match Box::new(alloc, endpoint::start(alloc, own, keeping, settings, now)) {
+    match endpoint::start(alloc, eids.first, keeping, settings, now) {
         Ok(inside) => {
             endpoint.handle.put(inside);
             endpoint.is_live = true;
@@ -54,10 +55,28 @@ pub extern "C" fn needleoat_endpoint_new(
     }
 }
 
+/// The endpoint ID of the endpoint: 0 where it has none yet, or where nothing is behind the handle.
+#[unsafe(no_mangle)]
+pub extern "C" fn needleoat_endpoint_eid(alloc: Global, endpoint: &mut EndpointForC) -> u8
+    requires { IsUpheld endpoint.old }
+    ensures upheld { IsUpheld endpoint.new }
+    ensures eid { result ≡ eid_of endpoint.old.handle.held }
+    ensures left { endpoint.new.handle.held ≡ endpoint.old.handle.held }
+{
+    if !endpoint.is_live {
+        return NULL_EID;
+    }
+    let inside = endpoint.handle.take(alloc);
+    let eid = endpoint::eid(&inside);
+    endpoint.handle.put(inside);
+    eid
+}
+
 /// Receives the bytes of a packet that came at a moment. Where the report says that a command is to be performed, its
 /// fields are in `command`, and the report has its handle; where it says that a request is to be responded to, the
 /// report has its handle, and [`needleoat_endpoint_request`] puts it; where it says that the packet is answered, the
-/// packets of the answer are in front of the rooms of `packets`.
+/// packets of the answer are in front of the rooms of `packets`, and where it says that this is a control message, the
+/// one packet that answers it. A control message may assign the endpoint ID: then the endpoint has that.
 #[unsafe(no_mangle)]
 pub extern "C" fn needleoat_endpoint_receive(
     alloc: Global,

@@ -4,7 +4,7 @@ ghost use Rattle.std.specs.Prelude.{◌≡◌, Option, Some, None, IsSome};
 ghost use Rattle.needleoat_c.specs.EndpointHandles.{handle_owns, Inside, coded_inside};
 
 use crate::parts::Parts;
-use pldm_endpoint::Endpoint;
+use bus_endpoint::BusEndpoint;
 use std::alloc::Global;
 use std::marker::Model;
 use std::{mem, ptr};
@@ -45,7 +45,7 @@ impl Model for EndpointHandle {
 
 impl EndpointHandle {
     /// The handle of an endpoint in parts.
-    fn of_parts(parts: Parts<Endpoint, Global>) -> EndpointHandle
+    fn of_parts(parts: Parts<BusEndpoint, Global>) -> EndpointHandle
         ensures { result.held ≡ Some parts.value }
     {
         let Parts { ptr, alloc } = parts;
@@ -56,19 +56,19 @@ impl EndpointHandle {
     }
 
     /// The endpoint in parts.
-    fn into_parts(self) -> Parts<Endpoint, Global>
+    fn into_parts(self) -> Parts<BusEndpoint, Global>
         requires { IsSome self.held }
         ensures { Some result.value ≡ self.held }
     {
         let EndpointHandle { at, alloc } = self;
         Parts {
-            ptr: at as *mut Endpoint,
+            ptr: at as *mut BusEndpoint,
             alloc,
         }
     }
 
     /// Moves the endpoint out of the handle, which is then empty.
-    pub(crate) fn take(&mut self, alloc: Global) -> Box<Endpoint, Global>
+    pub(crate) fn take(&mut self, alloc: Global) -> Box<BusEndpoint, Global>
         requires { IsSome self.old.held }
         ensures value { Some result.value ≡ self.old.held }
         ensures empty { self.new.held ≡ None }
@@ -79,7 +79,7 @@ impl EndpointHandle {
     }
 
     /// Puts an endpoint into the handle.
-    pub(crate) fn put(&mut self, inside: Box<Endpoint, Global>)
+    pub(crate) fn put(&mut self, inside: Box<BusEndpoint, Global>)
         ensures { self.new.held ≡ Some inside.value }
     {
         *self = EndpointHandle::of_parts(Parts::of(inside));

@@ -24,6 +24,9 @@ pub const STEP_PERFORM: u8 = 4;
 /// A request is handed on as bytes, and is to be responded to.
 pub const STEP_RESPOND: u8 = 5;
 
+/// It is a control message that is answered.
+pub const STEP_CONTROL: u8 = 6;
+
 /// The packet was refused, and all is as before.
 pub const RECEIVING_REFUSED: u8 = 0;
 

@@ -15,9 +15,9 @@ mod requester_handle;
 mod settings;
 
 pub use endpoint_calls::{
-    needleoat_endpoint_answer, needleoat_endpoint_answer_bytes, needleoat_endpoint_free,
-    needleoat_endpoint_new, needleoat_endpoint_receive, needleoat_endpoint_request,
-    needleoat_endpoint_restart,
+    needleoat_endpoint_answer, needleoat_endpoint_answer_bytes, needleoat_endpoint_eid,
+    needleoat_endpoint_free, needleoat_endpoint_new, needleoat_endpoint_receive,
+    needleoat_endpoint_request, needleoat_endpoint_restart,
 };
 pub use endpoint_handle::{EndpointForC, EndpointHandle, HiddenEndpoint};
 pub use reports::{

@@ -1,11 +1,12 @@
 //! The settings with which C makes an end.
 
-ghost use Rattle.std.specs.Prelude.{◌≡◌, ◌≤◌, ◌↔◌, IsSome, IfSome};
+ghost use Rattle.std.specs.Prelude.{◌≡◌, ◌≤◌, ◌↔◌, IsSome, IfSome, true};
 ghost use Rattle.pldm_wire.specs.declared.assigned.TheConstants.{INSTANCE_IDS};
-ghost use Rattle.needleoat_c.specs.Endpoints.{IsBusyKind, IsKeeping, busy_in, handed_in, keeping_in, window_in};
+ghost use Rattle.needleoat_c.specs.Settings.{IsBusyKind, IsKeeping, IsOwnEid, IsSetup, busy_in, control_in, first_eid, handed_in, keeping_in, static_eid, window_in};
 
 use crate::kinds::{BUSY_ALL, BUSY_SETS};
-use mctp_packet::Keep;
+use mctp_control::{ControlResponder, KeptAssignments, UUID_BYTES, VERSION_BYTES};
+use mctp_packet::{Eid, Keep, NULL_EID};
 use pldm_responder::Keeping;
 use pldm_wire::{BusyTime, HandedOn, INSTANCE_IDS, Window};
 
@@ -13,7 +14,7 @@ use pldm_wire::{BusyTime, HandedOn, INSTANCE_IDS, Window};
 #[repr(C)]
 #[derive(Drop)]
 pub struct EndpointSettings {
-    /// Its endpoint ID, 8 to 254.
+    /// Its endpoint ID, 8 to 254. Where `assigned`, the static one that Reset goes back to, or 0: there is none.
     pub own: u8,
     /// Whether it never ran before.
     pub first_start: bool,
@@ -34,10 +35,32 @@ pub struct EndpointSettings {
     /// The PLDM types of which each request is handed on as bytes: bit t stands for type t, and those of 0 and 2 for
     /// nothing.
     pub pldm_types: u64,
+    /// Whether it answers control messages (DSP0236, "MCTP control protocol"), as the fields after this one say; else
+    /// they are dropped, and none of these has a meaning.
+    pub answers_control: bool,
+    /// Whether a bus owner assigns its endpoint ID: it has none at first.
+    pub assigned: bool,
+    /// Its UUID, in the order of RFC 4122.
+    pub uuid: [u8; UUID_BYTES],
+    /// The version of the base specification that it keeps to, as on the wire (DSP0236, "Version field encoding").
+    pub base_version: [u8; VERSION_BYTES],
+    /// The version of the control protocol that it keeps to.
+    pub control_version: [u8; VERSION_BYTES],
+    /// The version of PLDM over MCTP (DSP0241) that it keeps to.
+    pub pldm_version: [u8; VERSION_BYTES],
 }
 
 // As in `include/needleoat.h`.
-const _: () = prove!(size_of::<EndpointSettings>() == 40);
+const _: () = prove!(size_of::<EndpointSettings>() == 72);
+
+/// The endpoint IDs with which an endpoint is made.
+#[derive(Clone, Copy)]
+pub(crate) struct Eids {
+    /// The one that it has at first, if it has one.
+    pub(crate) first: Option<Eid>,
+    /// The static one, if there is one.
+    pub(crate) fixed: Option<Eid>,
+}
 
 impl EndpointSettings {
     /// How it keeps answers, and what it refuses in the busy time, where these settings are in range.
@@ -49,6 +72,67 @@ impl EndpointSettings {
         let window = window_of(self.window)?;
         let busy = busy_of(self.busy)?;
         Some(Keeping { keep, window, busy })
+    }
+
+    /// Its endpoint IDs, where these settings are in range.
+    pub(crate) fn eids(&self) -> Option<Eids>
+        ensures some { IsSome result ↔ IsOwnEid self.now }
+        ensures first { IfSome result (λ eids. eids.first ≡ first_eid self.now) }
+        ensures fixed { IfSome result (λ eids. eids.fixed ≡ static_eid self.now) }
+    {
+        if self.assigned {
+            return self.assigned_eids();
+        }
+        let own = Some(Eid::new(self.own)?);
+        Some(Eids {
+            first: own,
+            fixed: own,
+        })
+    }
+
+    /// The same, where a bus owner assigns the endpoint ID: by control messages.
+    fn assigned_eids(&self) -> Option<Eids>
+        requires { self.now.assigned ≡ true }
+        ensures some { IsSome result ↔ IsOwnEid self.now }
+        ensures first { IfSome result (λ eids. eids.first ≡ first_eid self.now) }
+        ensures fixed { IfSome result (λ eids. eids.fixed ≡ static_eid self.now) }
+    {
+        if !self.answers_control {
+            return None;
+        }
+        if self.own == NULL_EID {
+            return Some(Eids {
+                first: None,
+                fixed: None,
+            });
+        }
+        let fixed = Some(Eid::new(self.own)?);
+        Some(Eids { first: None, fixed })
+    }
+
+    /// What answers its control messages, where they are answered. A later copy of an assignment is known for the
+    /// keeping time.
+    pub(crate) fn control(&self) -> Option<ControlResponder>
+        requires { IsSetup self.now }
+        ensures { result ≡ control_in self.now }
+    {
+        if !self.answers_control {
+            return None;
+        }
+        let (Some(eids), Some(keep)) = (self.eids(), Keep::new(self.keep_ms)) else {
+            unreachable!(); // they are in range
+        };
+        Some(ControlResponder {
+            eid: eids.first,
+            static_eid: eids.fixed,
+            takes_eid: self.assigned,
+            keep,
+            uuid: self.uuid,
+            base_version: self.base_version,
+            control_version: self.control_version,
+            pldm_version: self.pldm_version,
+            kept: KeptAssignments::new(),
+        })
     }
 
     /// Which requests are handed on as bytes.

@@ -5,12 +5,12 @@ ghost use Rattle.mctp_control.specs.Dropped.{control_reply};
 ghost use Rattle.mctp_packet.specs.Ids.{IsEid};
 ghost use Rattle.mctp_packet.specs.Reasons.{number_of};
 ghost use Rattle.mctp_packet.specs.declared.reason.Reason.{Reason as ReasonValue};
-ghost use Rattle.needleoat_forms.specs.Control.{IsNoReason, endpoint_in};
+ghost use Rattle.needleoat_forms.specs.Control.{IsNoReason, responder_in};
 ghost use Rattle.needleoat_forms.specs.Written.{IsUntouched, IsWritten};
 
 use crate::room::put_front;
-use mctp_control::{Endpoint, UUID_BYTES, VERSION_BYTES};
-use mctp_packet::{Eid, MAX_PACKET_BYTES, Reason};
+use mctp_control::{ControlResponder, KeptAssignments, UUID_BYTES, VERSION_BYTES};
+use mctp_packet::{Eid, Keep, MAX_PACKET_BYTES, Moment, Reason};
 
 /// What a simple endpoint with a static endpoint ID tells a bus owner (DSP0236, "MCTP control protocol").
 #[repr(C)]
@@ -32,18 +32,21 @@ pub struct ControlFields {
 const _: () = prove!(size_of::<ControlFields>() == 29);
 
 impl ControlFields {
-    /// The endpoint of these settings at an endpoint ID.
-    fn endpoint(&self, eid: Eid) -> Endpoint
+    /// The control responder of these settings at an endpoint ID.
+    fn responder(&self, eid: Eid) -> ControlResponder
         requires { eid ≡ self.now.eid }
-        ensures { result ≡ endpoint_in self.now }
+        ensures { result ≡ responder_in self.now }
     {
-        Endpoint {
-            eid,
+        ControlResponder {
+            eid: Some(eid),
+            static_eid: Some(eid),
             takes_eid: false,
+            keep: Keep::new(1).unwrap(), // nothing is kept
             uuid: self.uuid,
             base_version: self.base_version,
             control_version: self.control_version,
             pldm_version: self.pldm_version,
+            kept: KeptAssignments::new(),
         }
     }
 }
@@ -60,14 +63,15 @@ pub fn control_reply(
     out: &mut [u8; MAX_PACKET_BYTES],
 ) -> u32
     ensures reply { (dropped : ReasonValue) → number_of dropped ≡ reason → IsEid fields.now.eid
-        → IsWritten (control_reply (endpoint_in fields.now) dropped packet.now) result out.old out.new }
+        → IsWritten (control_reply (responder_in fields.now) 0 dropped packet.now) result out.old out.new }
     ensures no_reason { IsNoReason reason → IsUntouched result out.old out.new }
     ensures no_endpoint { (IsEid fields.now.eid → ⊥) → IsUntouched result out.old out.new }
 {
     let (Some(dropped), Some(eid)) = (reason_of(reason), Eid::new(fields.eid)) else {
         return 0;
     };
-    match fields.endpoint(eid).receive_dropped(dropped, packet) {
+    let now = Moment::new(0).unwrap(); // nothing is kept that it could be compared with
+    match fields.responder(eid).receive_dropped(now, dropped, packet) {
         Some(reply) => put_front(out, &reply),
         None => 0,
     }

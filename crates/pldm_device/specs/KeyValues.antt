@@ -1,7 +1,7 @@
 -- What stands at a key of a TOML table, or the fault for which it is refused.
-use Rattle.std.specs.Prelude.{ℕ, pos, negsuc, ◌&&◌, nat_le, if◌then◌else◌, List, Result, Ok, Err}
+use Rattle.std.specs.Prelude.{ℕ, pos, negsuc, Bool, false, ◌&&◌, nat_le, if◌then◌else◌, List, Option, None, Some, Result, Ok, Err}
 use Rattle.std.specs.Option.{ok_or}
-use Rattle.toml.specs.Data.{Data, integer, Items, Members, get_member, as_array, as_table, as_str}
+use Rattle.toml.specs.Data.{Data, integer, Items, Members, get_member, as_array, as_bool, as_table, as_str}
 use Rattle.pldm_device.specs.declared.description_fault.FileFault.{FileFault}
 use Rattle.pldm_device.specs.declared.description_fault.FileFault.TheVariants.{MissingKey, WrongKind, OutOfRange}
 
@@ -18,6 +18,14 @@ map_ok f (Err fault) = Err fault
 
 abbrev pub value_at : List ℕ → Members → Result Data FileFault
 value_at key document = ok_or (get_member key document) MissingKey
+
+-- a truth value at a key that may be missing, and is false then
+abbrev pub flag_if_there : Option Data → Result Bool FileFault
+flag_if_there None = Ok false
+flag_if_there (Some value) = ok_or (as_bool value) WrongKind
+
+abbrev pub flag_at : List ℕ → Members → Result Bool FileFault
+flag_at key document = flag_if_there (get_member key document)
 
 -- an integer from low to high
 abbrev pub number_in : ℕ → ℕ → Data → Result ℕ FileFault

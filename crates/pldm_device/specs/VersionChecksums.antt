@@ -1,21 +1,13 @@
 -- Whether a description has the checksum appended to its versions, by the key `version_checksum`, which may be missing.
-use Rattle.std.specs.Prelude.{ℕ, Bool, true, false, codes, List, ◌++◌, Option, None, Some, Result, Ok, Err, if◌then◌else◌}
-use Rattle.std.specs.Option.{ok_or}
+use Rattle.std.specs.Prelude.{ℕ, Bool, true, false, codes, List, ◌++◌, Result, Ok, Err, if◌then◌else◌}
 use Rattle.byteorder.specs.Endian.{little_bytes}
 use Rattle.pldm_device.specs.HexValues.{versions_in}
-use Rattle.pldm_device.specs.KeyValues.{◌>>=◌, value_at}
-use Rattle.toml.specs.Data.{Data, Members, get_member, as_bool}
+use Rattle.pldm_device.specs.KeyValues.{◌>>=◌, flag_at, value_at}
+use Rattle.toml.specs.Data.{Members}
 use Rattle.pldm_wire.specs.Versions.{is_version_data}
 use Rattle.pldm_device.specs.Crc32.{crc32}
 use Rattle.pldm_device.specs.declared.description_fault.FileFault.{FileFault}
-use Rattle.pldm_device.specs.declared.description_fault.FileFault.TheVariants.{OutOfRange, WrongKind}
-
-abbrev pub checksum_if_there : Option Data → Result Bool FileFault
-checksum_if_there None = Ok false
-checksum_if_there (Some value) = ok_or (as_bool value) WrongKind
-
-abbrev pub checksum_in : Members → Result Bool FileFault
-checksum_in document = checksum_if_there (get_member (codes "version_checksum") document)
+use Rattle.pldm_device.specs.declared.description_fault.FileFault.TheVariants.{OutOfRange}
 
 -- versions and their checksum, lowest byte first; all of it has to be told in one part
 abbrev pub with_checksum : Bool → List ℕ → Result (List ℕ) FileFault
@@ -28,7 +20,7 @@ unfoldable pub both_versions_in : Members → Result (List ℕ × List ℕ) File
 both_versions_in document = do
   base_versions ← value_at (codes "version0") document >>= versions_in
   platform_versions ← value_at (codes "version2") document >>= versions_in
-  has_checksum ← checksum_in document
+  has_checksum ← flag_at (codes "version_checksum") document
   base_checked ← with_checksum has_checksum base_versions
   platform_checked ← with_checksum has_checksum platform_versions
   Ok (base_checked, platform_checked)

@@ -10,7 +10,7 @@ ghost use Rattle.toml.specs.View.{table_view};
 use crate::description_fault::FileFault;
 use crate::document::read_document;
 use crate::hex_values::exactly_in;
-use crate::keys::{table_in, value_if_any};
+use crate::keys::{flag_at, table_in, value_if_any};
 use crate::limits::{UUID_BYTES, VERSION_BYTES};
 use std::alloc::Global;
 use toml::Table;
@@ -27,6 +27,8 @@ pub struct ControlTable {
     pub control_version: Option<[u8; VERSION_BYTES]>,
     /// The version of PLDM over MCTP (DSP0241).
     pub pldm_version: Option<[u8; VERSION_BYTES]>,
+    /// Whether a bus owner assigns its endpoint ID: it has none at first, and Reset gives it that of the description.
+    pub assigned: bool,
 }
 
 impl ControlTable {
@@ -34,7 +36,8 @@ impl ControlTable {
     /// keys are
     ///
     /// - `uuid`: the UUID as hex text, 16 bytes;
-    /// - `base_version`, `control_version` and `pldm_version`: versions as hex text, 4 bytes each.
+    /// - `base_version`, `control_version` and `pldm_version`: versions as hex text, 4 bytes each;
+    /// - `assigned`: whether a bus owner assigns its endpoint ID, `true` or `false`, and `false` where it is missing.
     ///
     /// The table may be missing, and so may each key of it. Other keys are ignored, and so is what else the description
     /// says. Bytes that are no TOML are `Toml`, and a `control` that is no table is `WrongKind`. The keys are looked at
@@ -60,6 +63,7 @@ fn in_document(alloc: Global, document: &Table) -> Result<ControlTable, FileFaul
             base_version: None,
             control_version: None,
             pldm_version: None,
+            assigned: false,
         }),
     }
 }
@@ -73,11 +77,13 @@ fn in_table(alloc: Global, table: &Table) -> Result<ControlTable, FileFault>
     let base_version = bytes_at(alloc, table, "base_version")?;
     let control_version = bytes_at(alloc, table, "control_version")?;
     let pldm_version = bytes_at(alloc, table, "pldm_version")?;
+    let assigned = flag_at(table, "assigned")?;
     Ok(ControlTable {
         uuid,
         base_version,
         control_version,
         pldm_version,
+        assigned,
     })
 }
 

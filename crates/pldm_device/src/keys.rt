@@ -1,7 +1,7 @@
 //! What stands at a key of a TOML table.
 
 ghost use Rattle.std.specs.Prelude.{◌≡◌, ◌≤◌, IfOk, option_map};
-ghost use Rattle.pldm_device.specs.KeyValues.{array_in, map_ok, number_at, number_in, table_in, text_in, value_at};
+ghost use Rattle.pldm_device.specs.KeyValues.{array_in, flag_at, map_ok, number_at, number_in, table_in, text_in, value_at};
 ghost use Rattle.toml.specs.Data.{get_member};
 ghost use Rattle.toml.specs.View.{items_view, table_view, view};
 
@@ -13,6 +13,16 @@ pub(crate) fn value_if_any<'a>(table: &'a Table, key: &str) -> Option<&'a Value>
     ensures { option_map (λ value. view value.now) result ≡ get_member key.now (table_view table.now) }
 {
     table.get(key)
+}
+
+/// The truth value at the key, which may be missing and is false then; `WrongKind` where it is none.
+pub(crate) fn flag_at(table: &Table, key: &str) -> Result<bool, FileFault>
+    ensures { result ≡ flag_at key.now (table_view table.now) }
+{
+    match value_if_any(table, key) {
+        Some(value) => value.as_bool().ok_or(FileFault::WrongKind),
+        None => Ok(false),
+    }
 }
 
 /// The value at the key; `MissingKey` where there is none.

@@ -2,13 +2,13 @@
 
 ghost use Rattle.std.specs.Prelude.{◌≡◌};
 ghost use Rattle.pldm_device.specs.FileFaults.{IsOrMemory};
-ghost use Rattle.pldm_device.specs.VersionChecksums.{both_versions_in, checksum_in, with_checksum};
+ghost use Rattle.pldm_device.specs.VersionChecksums.{both_versions_in, with_checksum};
 ghost use Rattle.toml.specs.View.{table_view};
 
 use crate::crc32::crc32;
 use crate::description_fault::FileFault;
 use crate::hex_values::versions_in;
-use crate::keys::{value_at, value_if_any};
+use crate::keys::{flag_at, value_at};
 use crate::limits::CHECKED_VERSION_BYTES;
 use arrayvec::ArrayVec;
 use byteorder::{ByteOrder, LittleEndian};
@@ -26,20 +26,10 @@ pub(crate) fn both_versions_in(
 {
     let base_versions = versions_in(alloc, value_at(table, "version0")?)?;
     let platform_versions = versions_in(alloc, value_at(table, "version2")?)?;
-    let has_checksum = checksum_in(table)?;
+    let has_checksum = flag_at(table, "version_checksum")?;
     let base_checked = with_checksum(has_checksum, base_versions)?;
     let platform_checked = with_checksum(has_checksum, platform_versions)?;
     Ok((base_checked, platform_checked))
-}
-
-/// Whether a checksum is appended, from the key `version_checksum`; not where it is missing.
-fn checksum_in(table: &Table) -> Result<bool, FileFault>
-    ensures { result ≡ checksum_in (table_view table.now) }
-{
-    match value_if_any(table, "version_checksum") {
-        Some(value) => value.as_bool().ok_or(FileFault::WrongKind),
-        None => Ok(false),
-    }
 }
 
 /// The versions, and where it is asked for, their checksum after them (DSP0240, "GetPLDMVersion command");

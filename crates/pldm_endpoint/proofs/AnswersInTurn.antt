@@ -4,37 +4,43 @@ use Rattle.std.specs.FinMap as map
 use Rattle.std.proofs.Common.{◌≡◌, ℕ, ◌+◌, ◌⊎◌, inl, inr, Bool, true, false, cond, not, ◌&&◌, ◌==◌, List, [], ◌∷◌, length, Option, Some, None, IfSome, Result, Ok, Err, if◌then◌else◌, refl, sym, ap, ◌∙◌, subst, arith}
 use Rattle.std.specs.Prelude.{map as list_map, option_map, take}
 use Rattle.std.specs.List.{take-map}
+use Rattle.std.proofs.Math.Seq.{take-nil}
 use Rattle.std.proofs.lemmas.List.{map-id as list_map-id}
 use Rattle.std.proofs.lemmas.Bool.{eq-eqb, eqb-false, eqb-true}
 use Rattle.std.specs.Cmp.{eq_by_cmp_equiv}
 use Rattle.std.specs.Ordering.{eq_by_cmp}
+use Rattle.mctp_packet.specs.Passing.{passed}
+use Rattle.mctp_packet.specs.Reading.{packet_of, unless}
+use Rattle.mctp_packet.specs.declared.TheConstants.{NULL_EID}
 use Rattle.mctp_packet.specs.declared.reason.Reason.{Reason}
 use Rattle.mctp_assembly.specs.Laws as assembly
 use Rattle.pldm_wire.specs.CommandReading.{command_of}
-use Rattle.pldm_wire.specs.HandingOn.{hands_on}
+use Rattle.pldm_wire.specs.HandingOn.{hands_on, none_handed_on}
 use Rattle.pldm_wire.specs.Headers.{id_at}
 use Rattle.pldm_wire.specs.Requests.{Request, request_of}
 use Rattle.pldm_wire.specs.declared.busy_time.BusyTime.{BusyTime}
+use Rattle.pldm_wire.specs.declared.busy_time.BusyTime.TheVariants.{All}
 use Rattle.pldm_wire.specs.declared.command.Command.{Command}
 use Rattle.pldm_wire.specs.declared.handed_on.HandedOn.{HandedOn}
-use Rattle.pldm_responder.specs.Arrivals.{Arrival, Drop, Part, Whole, packets_back}
+use Rattle.pldm_responder.specs.Arrivals.{Arrival, Drop, Part, Whole, is_expected, packets_back, passed_arrival, request_packet}
 use Rattle.pldm_responder.specs.Asked.{Given, IsAsGiven, IsGivenBy, gives, over}
-use Rattle.pldm_responder.specs.Calls.{Call, Received, Restart, Ended, outcome}
-use Rattle.pldm_responder.specs.Events.{Message}
+use Rattle.pldm_responder.specs.Calls.{Call, Received, Sensed, Restart, Updated, Ended, Assigned, events, fed, looked_back, outcome, with_arrival}
+use Rattle.pldm_responder.specs.Events.{Event, Message, Place, Restarted, recent}
 use Rattle.pldm_responder.specs.OutsideAnswers.{message_in, outcome_of_answer}
-use Rattle.pldm_responder.specs.Held.{Entry, Held, id_in}
-use Rattle.pldm_responder.specs.Laws.{IsLeftBy}
+use Rattle.pldm_responder.specs.Held.{Entry, Held, IsHeld, held_at_first, id_in}
+use Rattle.pldm_responder.specs.Laws.{IsLeftBy, entry_at}
 use Rattle.pldm_responder.specs.Performing.{Perform, Respond, Rules, Task, after_command, busy_reply, next_after, reply, tasks_at, tasks_in, tasks_of}
 use Rattle.pldm_responder.specs.Recency.{of_number, renewed, replaced, without}
-use Rattle.pldm_responder.specs.Steps.{arrival_asks, arrival_held, arrival_outcome, copied_packets, entry_for, entry_of, performs, received_arrival, received_held, received_outcome, received_tasks, refuses_now, repeats, restarted_held, served}
+use Rattle.pldm_responder.specs.Steps.{assigned_held, arrival_asks, arrival_held, arrival_outcome, copied_packets, entry_for, entry_of, performs, received_arrival, received_held, received_outcome, received_tasks, refuses_now, repeats, restarted_held, served}
 use Rattle.pldm_responder.specs.declared.outcome.Outcome.TheVariants.{Answered}
 use Rattle.pldm_responder.proofs.AnswersFromOutside.{answer_decides, none_is_asked}
-use Rattle.pldm_responder.proofs.CallsLookBack.{ended_looks_back, new_looks_back, received_looks_back, restarted_looks_back, same_is_left}
+use Rattle.pldm_responder.proofs.CallsLookBack.{assigned_looks_back, ended_looks_back, new_looks_back, received_looks_back, restarted_looks_back, same_is_left}
 use Rattle.pldm_responder.proofs.KeptEntries.{found_holds}
 use Rattle.pldm_responder.proofs.RecentFirst.{by_test, dropped, found_in_map, renewed_in_map, stays, without_in_map}
 use Rattle.pldm_responder.proofs.ServedRequests.{performed_outcome}
+use Rattle.pldm_responder.proofs.WithoutEid.{drops_without_eid}
 use Rattle.pldm_endpoint.specs.RequestKeys.{PendingCommands, request_key, request_key_cmp, request_key_of}
-use Rattle.pldm_endpoint.specs.Histories.{AnsweredInTurn, AreUnderTheirIds, AskedLooksBack, EndedInTurn, IsFree, IsLeftInTurn, NewInTurn, ReceivedInTurn, RestartedInTurn, SameInTurn, TwoStepsAreOne, UnaskedLooksBack, entry_to_be, in_turn, to_be}
+use Rattle.pldm_endpoint.specs.Histories.{AnsweredInTurn, AreUnderTheirIds, AskedLooksBack, AssignedInTurn, EndedInTurn, IsFree, IsLeftInTurn, NewInTurn, ReceivedInTurn, RestartedInTurn, SameInTurn, TwoStepsAreOne, UnaskedLooksBack, entry_to_be, in_turn, to_be}
 use Rattle.pldm_endpoint.specs.TwoSteps.{arrival_tasks, asked_now, command_at, count_after, entry_given, held_after, kept_by, pending_after, pending_by, request_in, stepped, unasked, waiting, with_waiting}
 use Rattle.pldm_endpoint.specs.declared.pending_commands.PendingCommand.{PendingCommand}
 use Rattle.pldm_endpoint.specs.declared.pending_commands.RequestKey.{RequestKey}
@@ -591,6 +597,82 @@ restarted_in_turn new own handed busy window keep answers count pending held cal
     serves_from = refl;
     last = refl;
   }) (restarted_looks_back (in_turn handed answers) new own busy window keep 0 (over count (to_be handed answers pending held)) calls moment left.left);
+}
+
+-- ---- another endpoint ID is assigned
+-- while there is none, no request comes, and so nothing is kept
+none_comes : (bytes : List ℕ) → (reason : Reason) × (request_packet NULL_EID bytes ≡ Err reason)
+none_comes bytes =
+    let dropped = drops_without_eid (in_turn none_handed_on (λ _. unasked)) (held_at_first NULL_EID All 1 1 0) 0 bytes refl in
+    (dropped.0, ap (λ r. passed is_expected (unless r (packet_of bytes))) dropped.1)
+
+module _ (busy : BusyTime) (window keep : ℕ) where
+  assigned_recent : (t : Bool) (moment : ℕ) (h : List (Event ℕ)) (source : ℕ) → (t ≡ true → recent busy window keep h source ≡ []) → recent busy window keep (if t then h else Restarted moment ∷ h) source ≡ []
+  assigned_recent true moment h source none = none refl
+  assigned_recent false moment h source none = refl
+
+  none_recent : (calls : List (Call ℕ)) (source : ℕ) → recent busy window keep (events NULL_EID calls) source ≡ []
+  none_recent [] source = refl
+  none_recent (Received moment bytes ∷ calls) source =
+      ap (λ p. recent busy window keep (with_arrival (passed_arrival (looked_back (fed NULL_EID calls)) moment p) (events NULL_EID calls)) source) (none_comes bytes).1
+      ∙ none_recent calls source
+  none_recent (Sensed id value ∷ calls) source = none_recent calls source
+  none_recent (Restart moment ∷ calls) source = refl
+  none_recent (Updated state ∷ calls) source = none_recent calls source
+  none_recent (Ended key ∷ calls) source = none_recent calls source
+  none_recent (Assigned moment before ∷ calls) source =
+      assigned_recent (before == NULL_EID) moment (events before calls) source
+      (λ is. ap (λ own. recent busy window keep (events own calls) source) (eqb-true before NULL_EID is) ∙ none_recent calls source)
+
+map_none : {A B : Type 0} (f : A → B) (xs : List A) → list_map f xs ≡ [] → xs ≡ []
+map_none f [] none = refl
+map_none f (x ∷ xs) none = cc
+
+none_kept : (own : ℕ) (handed : HandedOn) (busy : BusyTime) (window keep : ℕ) (answers : ℕ → Given) (count : ℕ) (pending : PendingCommands) (held : Held (Unit {0})) (calls : List (Call ℕ))
+    → IsLeftInTurn own handed busy window keep answers count pending held calls → own ≡ NULL_EID → (source : ℕ) → held.kept source ≡ []
+none_kept own handed busy window keep answers count pending held calls left none source =
+    map_none (λ e. entry_to_be handed answers (map.get pending (request_key source (id_in e))) e) (held.kept source)
+    (left.left.kept source
+    ∙ ap (λ o. list_map (entry_at (in_turn handed answers) busy window keep 0) (take window (recent busy window keep (events o calls) source))) none
+    ∙ ap (λ places. list_map (entry_at (in_turn handed answers) busy window keep 0) (take window places)) (none_recent busy window keep calls source)
+    ∙ ap (list_map (entry_at (in_turn handed answers) busy window keep 0)) (take-nil {A = Place ℕ} window))
+
+-- t where there was no endpoint ID before: then nothing is kept
+assigned_alike : (t : Bool) (handed : HandedOn) (answers : ℕ → Given) (count : ℕ) (pending : PendingCommands) (held : Held (Unit {0})) (moment eid : ℕ) → (t ≡ true → (source : ℕ) → held.kept source ≡ [])
+    → IsHeld (over count (to_be handed answers map.empty (record (if t then held else restarted_held held moment) { own = eid; open_messages = map.empty; last = moment })))
+    (record (if t then over count (to_be handed answers pending held) else restarted_held (over count (to_be handed answers pending held)) moment) { own = eid; open_messages = map.empty; last = moment })
+assigned_alike true handed answers count pending held moment eid none = record {
+  own = refl;
+  busy = refl;
+  window = refl;
+  keep = refl;
+  open_messages = refl;
+  kept = λ source.
+      ap (list_map (λ e. entry_to_be handed answers (map.get map.empty (request_key source (id_in e))) e)) (none refl source)
+      ∙ sym (ap (list_map (λ e. entry_to_be handed answers (map.get pending (request_key source (id_in e))) e)) (none refl source));
+  state = refl;
+  serves_from = refl;
+  last = refl;
+}
+assigned_alike false handed answers count pending held moment eid none = record {
+  own = refl;
+  busy = refl;
+  window = refl;
+  keep = refl;
+  open_messages = refl;
+  kept = λ source. refl;
+  state = refl;
+  serves_from = refl;
+  last = refl;
+}
+
+pub assigned_in_turn : assembly.NewLooksBack → AssignedInTurn
+assigned_in_turn new own handed busy window keep answers count pending held calls moment eid left = record {
+  ids = none_under_ids;
+  left = same_is_left (in_turn handed answers) eid busy window keep 0 _ (assigned_held (over count (to_be handed answers pending held)) moment eid) (Assigned moment own ∷ calls)
+      (assigned_alike (held.own == NULL_EID) handed answers count pending held moment eid
+      (λ t. none_kept own handed busy window keep answers count pending held calls left (sym left.left.endpoint ∙ eqb-true held.own NULL_EID t)))
+      (assigned_looks_back (in_turn handed answers) new own busy window keep 0 (over count (to_be handed answers pending held)) calls moment eid left.left);
 }
 
 pub ended_in_turn : assembly.ForgetLooksBack → EndedInTurn

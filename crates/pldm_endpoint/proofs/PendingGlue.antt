@@ -1,6 +1,6 @@
 -- What is pending stays with a known request, and what is kept has its answer or is pending.
 use Rattle.std.specs.FinMap as map
-use Rattle.std.proofs.Common.{◌≡◌, ℕ, ◌+◌, ◌-◌, ◌<◌, ◌≤◌, Bool, true, false, cond, ◌==◌, List, [], length, Option, Some, None, is_some, IfSome, if◌then◌else◌, refl, sym, ap, ◌∙◌, subst, arith}
+use Rattle.std.proofs.Common.{◌≡◌, ℕ, ◌+◌, ◌-◌, ◌<◌, ◌≤◌, Bool, true, false, cond, ◌==◌, List, [], length, Option, Some, None, is_some, IfSome, IsSome, if◌then◌else◌, refl, sym, ap, ◌∙◌, subst, arith}
 use Rattle.std.specs.Prelude.{slice_index_or, take}
 use Rattle.std.specs.List.{All}
 use Rattle.std.proofs.lemmas.List.Elements.{All-map}
@@ -10,6 +10,7 @@ use Rattle.std.specs.Cmp.{eq_by_cmp_equiv}
 use Rattle.std.specs.Ordering.{eq_by_cmp, is_eq}
 use Rattle.std.specs.declared.cmp.Ordering.{Ordering}
 use Rattle.std.specs.declared.cmp.Ordering.TheVariants.{Less, Equal, Greater}
+use Rattle.mctp_packet.specs.declared.TheConstants.{NULL_EID}
 use Rattle.pldm_wire.specs.Headers.{id_at}
 use Rattle.pldm_wire.specs.declared.handed_on.HandedOn.{HandedOn}
 use Rattle.pldm_responder.specs.Arrivals.{Arrival, Drop, Part, Whole}
@@ -20,7 +21,8 @@ use Rattle.pldm_responder.specs.OutsideAnswers.{message_in}
 use Rattle.pldm_responder.specs.Recency.{renewed, replaced}
 use Rattle.pldm_responder.specs.Slots.{entry_in, kept_in}
 use Rattle.pldm_responder.proofs.KeptEntries.{all_renewed, found_holds}
-use Rattle.pldm_endpoint.specs.RequestKeys.{PendingCommands, request_key, request_key_cmp, request_key_of, numbered}
+use Rattle.pldm_endpoint.specs.declared.step.CommandHandle.{CommandHandle}
+use Rattle.pldm_endpoint.specs.RequestKeys.{PendingCommands, pending_at, request_key, request_key_cmp, request_key_of, numbered}
 use Rattle.pldm_endpoint.specs.TwoSteps.{ArePending, IsThereOrPending, IsWithDevice}
 use Rattle.pldm_endpoint.specs.declared.pending_commands.PendingCommand.{PendingCommand}
 use Rattle.pldm_endpoint.specs.declared.pending_commands.RequestKey.{RequestKey}
@@ -33,6 +35,15 @@ none_pending handed end pending count most is none = record {
   few = subst (λ n. n ≤ most) (sym (ap map.len is ∙ map.len-empty request_key_cmp PendingCommand)) (omega arith);
   kept = λ source. subst (All (IsThereOrPending pending source)) (sym (none source)) (λ k d below. absurd (omega (arith, below)));
 }
+
+-- where something is pending, there is an endpoint ID
+pub pending_needs_eid : (own : ℕ) (pending : PendingCommands) (handle : CommandHandle) → (own ≡ NULL_EID → pending ≡ map.empty) → IsSome (pending_at pending handle) → own ≡ NULL_EID → ⊥
+pending_needs_eid own pending handle none some is =
+    none_there (pending_at pending handle) (ap (numbered handle.number) (ap (λ (p : PendingCommands). map.get p (request_key handle.source handle.id)) (none is) ∙ map.get-empty request_key_cmp (request_key handle.source handle.id))) some
+  where
+    none_there : (o : Option PendingCommand) → o ≡ None → IsSome o → ⊥
+    none_there None e h = cc
+    none_there (Some a) e h = cc
 
 -- ---- keys that are alike are one
 equal_by : (o : Ordering) → is_eq o ≡ true → o ≡ Equal

@@ -11,14 +11,14 @@ use Rattle.pldm_wire.specs.declared.busy_time.BusyTime.{BusyTime}
 use Rattle.pldm_wire.specs.declared.handed_on.HandedOn.{HandedOn}
 use Rattle.pldm_platform.specs.declared.platform.ReadingFault.TheVariants.{NoSuchSensor}
 use Rattle.pldm_responder.specs.Asked.{Given, answer_in, gives, over, response_in}
-use Rattle.pldm_responder.specs.Calls.{Call, Received, Restart, Ended, outcome}
+use Rattle.pldm_responder.specs.Calls.{Call, Received, Restart, Ended, Assigned, outcome}
 use Rattle.pldm_responder.specs.Events.{Message}
 use Rattle.pldm_responder.specs.OutsideAnswers.{outcome_of_answer}
 use Rattle.pldm_responder.specs.Held.{Entry, Held, IsHeld, held_at_first, id_in}
 use Rattle.pldm_responder.specs.Laws.{IsLeftBy}
 use Rattle.pldm_responder.specs.OpenOrder.{ended_held}
 use Rattle.pldm_responder.specs.Performing.{Rules, Task}
-use Rattle.pldm_responder.specs.Steps.{received_held, received_outcome, restarted_held}
+use Rattle.pldm_responder.specs.Steps.{assigned_held, received_held, received_outcome, restarted_held}
 use Rattle.pldm_endpoint.specs.RequestKeys.{PendingCommands, pending_at, request_key, request_key_of}
 use Rattle.pldm_endpoint.specs.TwoSteps.{answered_held, asked_now, command_at, count_after, entry_given, handle_of, held_after, pending_after, request_in, unasked}
 use Rattle.pldm_endpoint.specs.declared.pending_commands.PendingCommand.{PendingCommand}
@@ -127,6 +127,16 @@ RestartedInTurn =
     (calls : List (Call ℕ)) (moment : ℕ)
     → IsLeftInTurn own handed busy window keep answers count pending held calls
     → IsLeftInTurn own handed busy window keep answers count map.empty (restarted_held held moment) (Restart moment ∷ calls)
+
+-- another endpoint ID is assigned: what is pending counts as performed, as at a restart
+abbrev pub AssignedInTurn : Type 0
+AssignedInTurn =
+    (own : ℕ) (handed : HandedOn) (busy : BusyTime) (window keep : ℕ) (answers : ℕ → Given)
+    (count : ℕ) (pending : PendingCommands) (held : Held (Unit {0}))
+    (calls : List (Call ℕ)) (moment eid : ℕ)
+    → IsLeftInTurn own handed busy window keep answers count pending held calls
+    → IsLeftInTurn eid handed busy window keep answers count map.empty (assigned_held held moment eid)
+    (Assigned moment own ∷ calls)
 
 -- an open message that ends: to its sender it is a lost packet
 abbrev pub EndedInTurn : Type 0

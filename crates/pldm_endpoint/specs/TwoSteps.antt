@@ -5,6 +5,7 @@ use Rattle.std.specs.FinMap as map
 use Rattle.std.specs.Prelude.{◌≡◌, ℕ, ◌+◌, ◌<◌, ◌≤◌, ◌==◌, List, [], ◌∷◌, length, drop, take, Option, Some, None, IfSome, IsSome, option_map, if◌then◌else◌, refl}
 use Rattle.std.specs.List.{All}
 use Rattle.std.specs.Coded.{Coded, code_by, coded×, coded_ℕ}
+use Rattle.mctp_packet.specs.declared.TheConstants.{NULL_EID}
 use Rattle.pldm_wire.specs.Answers.{IsAnswerTo}
 use Rattle.pldm_wire.specs.Commands.{kind_of}
 use Rattle.pldm_wire.specs.HandingOn.{hands_on}
@@ -101,6 +102,10 @@ pub record ArePending (end : End) (handed : HandedOn) (pending : PendingCommands
   pub each : (key : RequestKey) → IfSome (map.get pending key) (IsWithDevice handed count key)
   pub few : map.len pending ≤ max_pending
   pub kept : (source : ℕ) → All (IsThereOrPending pending source) (kept_in end.rows source)
+
+-- while it has no endpoint ID, nothing is pending
+abbrev pub NoneWithoutEid : End → PendingCommands → Type 0
+NoneWithoutEid end pending = end.own ≡ NULL_EID → pending ≡ map.empty
 
 -- ---- a packet that comes
 

@@ -8,11 +8,12 @@ ghost use Rattle.pldm_wire.specs.declared.limits.TheConstants.{MAX_REQUEST_DATA}
 ghost use Rattle.pldm_responder.specs.Answering.{HasReply, answering};
 ghost use Rattle.pldm_responder.specs.Asked.{Answered, Given, Responded};
 ghost use Rattle.pldm_responder.specs.Counts.{CountsKept};
+ghost use Rattle.pldm_responder.specs.Ends.{eid_or_null};
 ghost use Rattle.pldm_responder.specs.Held.{IsHeld, held_at_first};
 ghost use Rattle.pldm_responder.specs.Looking.{message_at};
 ghost use Rattle.pldm_responder.specs.Performing.{tasks_of};
 ghost use Rattle.pldm_responder.specs.Slots.{source_count};
-ghost use Rattle.pldm_responder.specs.Steps.{kept_for, performs, restarted_held};
+ghost use Rattle.pldm_responder.specs.Steps.{assigned_held, kept_for, performs, restarted_held};
 ghost use Rattle.pldm_endpoint.specs.Receiving.{HasAnswered, HasReceived, HasSameSettings, HasServed, IsNotServed, IsRefused, IsRefusedBy};
 ghost use Rattle.pldm_endpoint.specs.Giving.{IsReplyOf, busy_with, pending_command, response_of};
 ghost use Rattle.pldm_endpoint.specs.Refusing.{is_full};
@@ -57,7 +58,7 @@ pub struct Endpoint {
 }
 
 impl Model for Endpoint {
-    ghost use Rattle.pldm_endpoint.specs.TwoSteps.{ArePending, EndpointView, coded_endpoint};
+    ghost use Rattle.pldm_endpoint.specs.TwoSteps.{ArePending, EndpointView, NoneWithoutEid, coded_endpoint};
 
     ghost Value = { EndpointView };
 
@@ -71,24 +72,26 @@ impl Model for Endpoint {
       max_pending = e.max_pending;
     } };
 
-    ghost invariant = { λ e. ArePending e.end e.handed_on e.pending e.count e.max_pending };
+    ghost invariant = { λ e.
+        ArePending e.end e.handed_on e.pending e.count e.max_pending × NoneWithoutEid e.end e.pending };
 }
 
 impl Endpoint {
-    /// The endpoint `own`, which keeps answers so, and at a time no more than `bounds` allow. Where one more message
-    /// would be open than that, the one that began first ends, as if a packet of it were lost. The requests of
+    /// The endpoint `own`, or one that gets its endpoint ID later ([`Endpoint::assign`]). It keeps answers so, and at a
+    /// time no more than `bounds` allow. Where one more message would be open than that, the one that began first ends,
+    /// as if a packet of it were lost. The requests of
     /// `handed_on` are handed on as bytes; where only what sets something is refused in the busy time, they are refused
     /// too. At most `max_pending` commands and such requests are pending at a time. Its last moment is 0.
     pub fn new(
         alloc: Global,
-        own: Eid,
+        own: Option<Eid>,
         keeping: Keeping,
         handed_on: HandedOn,
         bounds: Bounds,
         max_pending: usize,
     ) -> Endpoint
         ensures held { IsHeld (held_in result)
-            (held_at_first own (busy_with handed_on keeping.busy) keeping.window keeping.keep tt) }
+            (held_at_first (eid_or_null own) (busy_with handed_on keeping.busy) keeping.window keeping.keep tt) }
         ensures handed_on { result.handed_on ≡ handed_on }
         ensures bounds { result.end.bounds ≡ bounds }
         ensures ends_oldest { result.end.ends_oldest ≡ true }
@@ -108,8 +111,15 @@ impl Endpoint {
         }
     }
 
-    /// The moment of the last packet that was done with or of the last `restart`, whichever was later, 0 before the
-    /// first.
+    /// Its endpoint ID: `None` before it got one.
+    pub fn own(&self) -> Option<Eid>
+        ensures { eid_or_null result ≡ (held_in self.now).own }
+    {
+        self.end.own()
+    }
+
+    /// The moment of the last packet that was done with, of the last `restart` or of the last `assign`, whichever was
+    /// later, 0 before the first.
     pub fn last_moment(&self) -> Moment
         ensures { result ≡ (held_in self.now).last }
     {
@@ -248,7 +258,8 @@ impl Endpoint {
         request: &Request<'_>,
         reply: &mut Body,
     ) -> Result<MessageStep, ReceiveRefusal>
-        requires { request.now.source ≢ self.old.end.own }
+        requires other { request.now.source ≢ self.old.end.own }
+        requires here { request.now.destination ≡ self.old.end.own }
         ensures served { IfOk result (HasServed self.old now request.now self.new reply.new.items) }
         ensures refused { IfErr result (IsNotServed self.old now request.now self.new) }
     {
@@ -262,7 +273,7 @@ impl Endpoint {
         }
         if self.end.standing(now, request, reply) != Standing::Fresh {
             self.end.finish(now, request);
-            let route = request.way_back(self.end.own());
+            let route = request.way_back();
             return Ok(MessageStep::Done(not_performed(route)));
         }
         if self.handed_on.has(request.read().kind()) {
@@ -285,6 +296,7 @@ impl Endpoint {
         command: Option<Command>,
     ) -> Result<MessageStep, ReceiveRefusal>
         requires other { request.now.source ≢ self.old.end.own }
+        requires here { request.now.destination ≡ self.old.end.own }
         requires free { map.get self.old.pending (request_key_of (message_at now request.now)) ≡ None }
         requires fresh { performs (held_in self.old) (message_at now request.now) ≡ true }
         requires asked { tasks_of (hands_on self.old.handed_on) request.now.bytes
@@ -295,6 +307,7 @@ impl Endpoint {
         if self.is_full() {
             return Err(ReceiveRefusal::Full);
         }
+        let _own = request.destination(); // for the proof: an endpoint ID
         let reserved = self.end.reserve(request)?;
         let (source, id, number) = (request.source(), request.id(), self.count);
         let bytes = RequestBytes::copied(self.alloc, request.bytes())?;
@@ -323,6 +336,7 @@ impl Endpoint {
         reply: &mut Body,
     ) -> Result<MessageStep, ReceiveRefusal>
         requires other { request.now.source ≢ self.old.end.own }
+        requires here { request.now.destination ≡ self.old.end.own }
         requires free { map.get self.old.pending (request_key_of (message_at now request.now)) ≡ None }
         requires fresh { performs (held_in self.old) (message_at now request.now) ≡ true }
         requires refused { IsRefusedBy self.old.handed_on code request.now.bytes }
@@ -334,7 +348,7 @@ impl Endpoint {
         self.end.put_room(request, reserved);
         self.end.keep(now, request, reply);
         self.end.finish(now, request);
-        let route = request.way_back(self.end.own());
+        let route = request.way_back();
         Ok(MessageStep::Done(performed(false, route)))
     }
 
@@ -482,10 +496,13 @@ impl Endpoint {
         let Some(pending) = self.pending.at(handle) else {
             unreachable!() // it is pending
         };
+        let Some(own) = self.end.own() else {
+            unreachable!() // nothing is pending without an endpoint ID
+        };
         let (source, id) = (handle.source, handle.id);
         let route = Route {
             destination: source,
-            source: self.end.own(),
+            source: own,
             owner: false,
             tag: pending.tag,
         };
@@ -518,6 +535,22 @@ impl Endpoint {
     {
         self.pending = PendingCommands::new(self.alloc); // the device may have performed them or not
         self.end.restart(now);
+    }
+
+    /// Gives it the endpoint ID `eid` at the moment `now`, which must not be before [`Endpoint::last_moment`] (DSP0236,
+    /// "Set Endpoint ID"). Where it had one before, that is a restart: what was kept, begun and pending is forgotten,
+    /// and for the keeping time from then on nothing is performed. Where it had none, nothing was, and it serves as
+    /// before.
+    pub fn assign(&mut self, now: Moment, eid: Eid)
+        requires { (held_in self.old).last ≤ now }
+        ensures held { IsHeld (held_in self.new) (assigned_held (held_in self.old) now eid) }
+        ensures idle { self.new.pending ≡ map.empty }
+        ensures count { self.new.count ≡ self.old.count }
+        ensures no_rows { source_count self.new.end.rows ≡ 0 }
+        ensures settings { HasSameSettings self.new self.old }
+    {
+        self.pending = PendingCommands::new(self.alloc); // as at a restart
+        self.end.assign(now, eid);
     }
 }
 

@@ -1,6 +1,6 @@
 //! Laws of an endpoint over any list of its calls: each function does nothing and ensures its law.
 
-ghost use Rattle.pldm_endpoint.specs.Histories.{AnsweredInTurn, AskedLooksBack, EndedInTurn, NewInTurn, ReceivedInTurn, RestartedInTurn, SameInTurn, TwoStepsAreOne, UnaskedLooksBack};
+ghost use Rattle.pldm_endpoint.specs.Histories.{AnsweredInTurn, AskedLooksBack, AssignedInTurn, EndedInTurn, NewInTurn, ReceivedInTurn, RestartedInTurn, SameInTurn, TwoStepsAreOne, UnaskedLooksBack};
 ghost use Rattle.pldm_endpoint.specs.RoundRobin.{NewInTurnIsFresh};
 ghost use Rattle.pldm_endpoint.specs.Turns.{AnswersItsOrigin, CopiesAreAnsweredAgain, CountsAskings, IsAskedInTurn};
 
@@ -15,6 +15,7 @@ pub fn answers_come_in_turn()
     ensures asked { AskedLooksBack }
     ensures answered { AnsweredInTurn }
     ensures restarted { RestartedInTurn }
+    ensures assigned { AssignedInTurn }
     ensures ended { EndedInTurn }
     ensures new { NewInTurn }
     ensures same { SameInTurn }

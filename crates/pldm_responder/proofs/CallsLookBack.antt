@@ -5,7 +5,7 @@ use Rattle.std.specs.List.{take-map}
 use Rattle.std.proofs.Math.Seq.{take-nil}
 use Rattle.mctp_packet.specs.Packets.{Packet}
 use Rattle.mctp_packet.specs.declared.reason.Reason.{Reason}
-use Rattle.mctp_packet.specs.declared.TheConstants.{MAX_PACKETS}
+use Rattle.mctp_packet.specs.declared.TheConstants.{MAX_PACKETS, NULL_EID}
 use Rattle.mctp_assembly.specs.Histories as histories
 use Rattle.mctp_assembly.specs.Laws as assembly
 use Rattle.mctp_assembly.specs.Steps as steps
@@ -15,12 +15,12 @@ use Rattle.pldm_platform.specs.Changes.{changed_or}
 use Rattle.pldm_responder.specs.Arrivals.{Arrival, Drop, Part, Whole, fed_arrival, passed_arrival, arrival, request_packet, packets_back}
 use Rattle.pldm_responder.specs.Calls as calls
 use Rattle.pldm_responder.specs.Calls.{Call, Received, Sensed, with_packet, fed, looked_back, arrived, with_arrival, events, last_moment, outcome}
-use Rattle.pldm_responder.specs.Events.{Message, Event, Came, Place, busy_until, id_of, is_copy_of, is_fresh, is_kept, is_refused, origin, recent}
+use Rattle.pldm_responder.specs.Events.{Message, Event, Came, Restarted, Place, busy_until, id_of, is_copy_of, is_fresh, is_kept, is_refused, origin, recent}
 use Rattle.pldm_responder.specs.Held.{Entry, Held, id_in}
-use Rattle.pldm_responder.specs.Laws.{entry_at, kept_to, IsLeftBy, ReceivedLooksBack, SensedLooksBack, RestartedLooksBack, EndedLooksBack, UpdatedLooksBack, PutIsUpdated, NewLooksBack, SameIsLeft, KeptWhereFresh}
+use Rattle.pldm_responder.specs.Laws.{entry_at, kept_to, IsLeftBy, ReceivedLooksBack, SensedLooksBack, RestartedLooksBack, AssignedLooksBack, EndedLooksBack, UpdatedLooksBack, PutIsUpdated, NewLooksBack, SameIsLeft, KeptWhereFresh}
 use Rattle.pldm_responder.specs.Performing.{Rules, reply, next, changes, busy_reply, performed, reply_at, answered_by}
 use Rattle.pldm_responder.specs.Recency.{of_number, renewed}
-use Rattle.pldm_responder.specs.Steps.{repeats, copied_packets, open_after, kept_for, served, message_outcome, entry_of, kept_after, state_after, arrival_outcome, arrival_held, received_outcome, received_held}
+use Rattle.pldm_responder.specs.Steps.{repeats, restarted_held, copied_packets, open_after, kept_for, served, message_outcome, entry_of, kept_after, state_after, arrival_outcome, arrival_held, received_outcome, received_held}
 use Rattle.pldm_responder.specs.declared.outcome.Outcome.TheVariants.{Answered}
 use Rattle.pldm_responder.proofs.NoIdFallsOut.{recent_apart}
 use Rattle.pldm_responder.proofs.RecentFirst.{found_in_map, renewed_in_map, front_renewed}
@@ -218,6 +218,43 @@ module _ {S : Type 0} (device : Rules S) where
     serves_from = ap (λ k. moment + k) left.keeping;
     last = refl;
   }
+
+  -- t where there was no endpoint ID before
+  assigned_kept : (t : Bool) (busy : BusyTime) (window keep : ℕ) (start : S) (held : Held S) (moment : ℕ) (h : List (Event S)) (source : ℕ) → held.kept source ≡ kept_to device busy window keep start h source
+      → (if t then held else restarted_held held moment).kept source ≡ kept_to device busy window keep start (if t then h else Restarted moment ∷ h) source
+  assigned_kept true busy window keep start held moment h source kept = kept
+  assigned_kept false busy window keep start held moment h source kept = sym (ap (map (entry_at device busy window keep start)) (take-nil {A = Place S} window))
+
+  assigned_state : (t : Bool) (busy : BusyTime) (window keep : ℕ) (start : S) (held : Held S) (moment : ℕ) (h : List (Event S)) → held.state ≡ performed device busy window keep start h
+      → (if t then held else restarted_held held moment).state ≡ performed device busy window keep start (if t then h else Restarted moment ∷ h)
+  assigned_state true busy window keep start held moment h state = state
+  assigned_state false busy window keep start held moment h state = state
+
+  assigned_serves : (t : Bool) (keep : ℕ) (held : Held S) (moment : ℕ) (h : List (Event S)) → held.keep ≡ keep → held.serves_from ≡ busy_until keep h
+      → (if t then held else restarted_held held moment).serves_from ≡ busy_until keep (if t then h else Restarted moment ∷ h)
+  assigned_serves true keep held moment h keeping serves = serves
+  assigned_serves false keep held moment h keeping serves = ap (λ k. moment + k) keeping
+
+  -- what an assignment leaves of the settings
+  same_settings : (t : Bool) (held : Held S) (moment : ℕ) → ((if t then held else restarted_held held moment).busy ≡ held.busy) × ((if t then held else restarted_held held moment).window ≡ held.window) × ((if t then held else restarted_held held moment).keep ≡ held.keep)
+  same_settings true held moment = (refl, refl, refl)
+  same_settings false held moment = (refl, refl, refl)
+
+  pub assigned_looks_back : assembly.NewLooksBack → AssignedLooksBack device
+  assigned_looks_back looks own busy window keep start held before moment eid left =
+      let same = same_settings (held.own == NULL_EID) held moment in
+      let h = events own before in
+      record {
+        endpoint = refl;
+        refusing = same.0 ∙ left.refusing;
+        windows = same.1 ∙ left.windows;
+        keeping = same.2 ∙ left.keeping;
+        open_messages = looks MAX_PACKETS;
+        kept = λ source. ap (λ o. (if o == NULL_EID then held else restarted_held held moment).kept source) left.endpoint ∙ assigned_kept (own == NULL_EID) busy window keep start held moment h source (left.kept source);
+        state = ap (λ o. (if o == NULL_EID then held else restarted_held held moment).state) left.endpoint ∙ assigned_state (own == NULL_EID) busy window keep start held moment h left.state;
+        serves_from = ap (λ o. (if o == NULL_EID then held else restarted_held held moment).serves_from) left.endpoint ∙ assigned_serves (own == NULL_EID) keep held moment h left.keeping left.serves_from;
+        last = refl;
+      }
 
   pub ended_looks_back : assembly.ForgetLooksBack → EndedLooksBack device
   ended_looks_back looks own busy window keep start held before key left = record {

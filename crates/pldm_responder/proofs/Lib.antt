@@ -27,3 +27,5 @@ pub mod SlotOrders
 pub mod NumberSearches
 pub mod SourceAnswers
 pub mod KeptRows
+pub mod WithoutEid
+pub mod NoId

@@ -3,14 +3,14 @@
 use Rattle.std.specs.FinMap as map
 use Rattle.std.proofs.Common.{◌≡◌, ℕ, ℤ, pos, true, false, List, [], ◌∷◌, refl}
 use Rattle.std.specs.List.{IsDistinct}
-use Rattle.mctp_packet.specs.declared.reason.Reason.TheVariants.{Short, BadTag, NotRequest}
+use Rattle.mctp_packet.specs.declared.reason.Reason.TheVariants.{Short, BadTag, NotRequest, UnknownDestination}
 use Rattle.mctp_assembly.specs.Keys.{key_cmp}
 use Rattle.pldm_wire.specs.CommandReading.{command_of}
 use Rattle.pldm_wire.specs.Requests.{request_of}
 use Rattle.pldm_wire.specs.declared.busy_time.BusyTime.TheVariants.{All, Sets}
 use Rattle.pldm_wire.specs.declared.command.Command.TheVariants.{GetTid}
 use Rattle.pldm_responder.specs.Arrivals.{Arrival, Whole, message_of}
-use Rattle.pldm_responder.specs.Calls.{Call, Received, Sensed, Restart, Updated, events, outcome}
+use Rattle.pldm_responder.specs.Calls.{Call, Received, Sensed, Restart, Updated, Assigned, events, outcome}
 use Rattle.pldm_responder.proofs.WorkedLight.{light_answer, light_after, light_sensed}
 use Rattle.pldm_responder.specs.Events.{is_kept}
 use Rattle.pldm_responder.specs.Counts.{CountsKept}
@@ -186,6 +186,43 @@ unknown_one_is_refused_while_busy = refl
 restart_forgets_the_pairs : is_kept All 32 1000 (events 9 restarted) 8 1 ≡ false
 unfolding request_of command_of
 restart_forgets_the_pairs = refl
+
+-- ---- an endpoint ID is assigned
+-- before the first no packet is for it, and then it serves at once
+outcome_at : ℕ → List (Call ℤ) → ℕ → List ℕ → Outcome
+outcome_at own calls moment bytes = outcome light own All 32 1000 (pos 0) calls moment bytes
+
+dropped_before_the_first : outcome_at 0 [] 0 set_40 ≡ Dropped UnknownDestination
+unfolding outcome_at
+dropped_before_the_first = refl
+
+dropped_at_the_null_one : outcome_at 0 [] 0 (1 ∷ 0 ∷ 8 ∷ 200 ∷ 1 ∷ 128 ∷ 0 ∷ 2 ∷ []) ≡ Dropped UnknownDestination
+unfolding outcome_at
+dropped_at_the_null_one = refl
+
+abbrev got_9 : List (Call ℤ)
+got_9 = Assigned 100 0 ∷ Received 0 set_40 ∷ []
+
+served_from_the_first_on : outcome_at 9 got_9 100 set_40 ≡ Answered true true was_set
+unfolding outcome_at request_of command_of
+served_from_the_first_on = refl
+
+-- it gets 10 and then 9 back: a copy of what was performed before is not performed in the busy time, and not a copy
+-- after it
+abbrev got_9_back : List (Call ℤ)
+got_9_back = Assigned 300 10 ∷ Assigned 200 9 ∷ Received 100 set_40 ∷ got_9
+
+busy_with_9_again : outcome_at 9 got_9_back 1299 set_40 ≡ Answered false false ((1 ∷ 8 ∷ 9 ∷ 193 ∷ 1 ∷ 1 ∷ 2 ∷ 49 ∷ 4 ∷ []) ∷ [])
+unfolding outcome_at request_of command_of
+busy_with_9_again = refl
+
+served_with_9_again : outcome_at 9 got_9_back 1300 set_40 ≡ Answered true true was_set
+unfolding outcome_at request_of command_of
+served_with_9_again = refl
+
+dropped_at_9_with_10 : outcome_at 10 (Assigned 200 9 ∷ got_9) 201 set_40 ≡ Dropped UnknownDestination
+unfolding outcome_at
+dropped_at_9_with_10 = refl
 
 -- ---- the premises can be met
 abbrev new_light : Held ℤ

@@ -1,8 +1,10 @@
 -- What contracts see of an answering end: what it holds, and the rows in which answers are kept.
 use Rattle.std.specs.FinMap as map
-use Rattle.std.specs.Prelude.{◌≡◌, ◌≢◌, ℕ, ◌+◌, ◌<◌, ◌≤◌, Bool, true, ◌||◌, ◌==◌, List, length, None, is_some, if◌then◌else◌, refl}
+use Rattle.std.specs.Prelude.{◌≡◌, ◌≢◌, ℕ, ◌+◌, ◌<◌, ◌≤◌, Bool, true, ◌||◌, ◌==◌, ◌⊎◌, List, length, Option, None, Some, is_some, if◌then◌else◌, refl}
 use Rattle.std.specs.List.{All}
 use Rattle.std.specs.Coded.{Coded, code_by, coded×, coded_ℕ, coded_bool, coded_list}
+use Rattle.mctp_packet.specs.Ids.{IsEid}
+use Rattle.mctp_packet.specs.declared.TheConstants.{NULL_EID}
 use Rattle.mctp_assembly.specs.Keys.{IsKey, key_cmp, coded_key}
 use Rattle.mctp_assembly.specs.Opened.{Opened, coded_opened}
 use Rattle.mctp_assembly.specs.declared.key.Key.{Key}
@@ -12,9 +14,9 @@ use Rattle.pldm_responder.specs.Held.{Held}
 use Rattle.pldm_responder.specs.Slots.{Rows, coded_rows, kept_in, row_of, source_count}
 use Rattle.pldm_responder.specs.declared.bounds.Bounds.{Bounds}
 
--- its endpoint ID, what it refuses in the busy time, its keeping time and bounds, whether its oldest open message ends
--- where one more would pass its bound, what is open on each key, the keys on which messages began, the oldest first, the
--- rows of kept answers, the moment from which it serves, and the last moment
+-- its endpoint ID, the null one where it has none yet, what it refuses in the busy time, its keeping time and bounds,
+-- whether its oldest open message ends where one more would pass its bound, what is open on each key, the keys on which
+-- messages began, the oldest first, the rows of kept answers, the moment from which it serves, and the last moment
 pub record End : Type 0 where
   pub own : ℕ
   pub busy : BusyTime
@@ -26,6 +28,15 @@ pub record End : Type 0 where
   pub rows : Rows
   pub serves_from : ℕ
   pub last : ℕ
+
+-- an endpoint ID as a number, the null one where there is none
+abbrev pub eid_or_null : Option ℕ → ℕ
+eid_or_null None = NULL_EID
+eid_or_null (Some eid) = eid
+
+-- it is one, or there is none
+abbrev pub IsOwn : ℕ → Type 0
+IsOwn own = (own ≡ NULL_EID) ⊎ IsEid own
 
 -- they are stored as their parts
 abbrev pub coded_bounds : Coded Bounds
@@ -106,6 +117,10 @@ pub record IsAsked (own : ℕ) (key : Key) : Type 0 where
 -- what is open is of such packets
 abbrev pub AreAsked : ℕ → map.FinMap key_cmp Opened → Type 0
 AreAsked own open_messages = (key : Key) → map.contains_key open_messages key ≡ true → IsAsked own key
+
+-- while it has no endpoint ID, nothing is open and nothing is kept
+abbrev pub IsIdle : ℕ → map.FinMap key_cmp Opened → Rows → Type 0
+IsIdle own open_messages rows = own ≡ NULL_EID → (map.len open_messages ≡ 0) × (source_count rows ≡ 0)
 
 -- no answer to the endpoint itself is kept
 abbrev pub KeepsForOthers : ℕ → Rows → Type 0

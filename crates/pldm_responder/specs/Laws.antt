@@ -1,6 +1,9 @@
 -- What a responder holds after any list of calls, read by looking back over the list.
 use Rattle.std.specs.Prelude.{◌≡◌, ◌≤◌, ℕ, ℤ, Bool, true, List, [], ◌∷◌, map, take, Some, is_some, Ok}
 use Rattle.mctp_packet.specs.Packets.{packet, written}
+use Rattle.mctp_packet.specs.Refusals.{refusal}
+use Rattle.mctp_packet.specs.declared.TheConstants.{NULL_EID}
+use Rattle.mctp_packet.specs.declared.reason.Reason.{Reason}
 use Rattle.mctp_packet.specs.Pieces.{packets, written_packets}
 use Rattle.mctp_packet.specs.declared.packet.Route.{Route}
 use Rattle.mctp_assembly.specs.Histories as assembly
@@ -15,12 +18,13 @@ use Rattle.pldm_wire.specs.declared.busy_time.BusyTime.TheVariants.{All}
 use Rattle.pldm_responder.specs.EachId as each_id
 use Rattle.pldm_responder.specs.Events.{Event, Message, Place, busy_until, is_copy, is_fresh, is_kept, origin, recent}
 use Rattle.pldm_responder.specs.Performing.{Rules, answered, performed, reply_at, busy_reply}
-use Rattle.pldm_responder.specs.Calls.{Call, Received, Sensed, Restart, Updated, Ended, fed, events, last_moment, outcome}
+use Rattle.pldm_responder.specs.Calls.{Call, Received, Sensed, Restart, Updated, Ended, Assigned, fed, events, last_moment, outcome}
 use Rattle.pldm_responder.specs.Held.{Entry, Held, IsHeld, held_at_first}
 use Rattle.pldm_responder.specs.Counts.{CountsKept, CountsPairs}
 use Rattle.pldm_responder.specs.OpenOrder.{ended_held}
 use Rattle.pldm_responder.specs.Stations.{Station, held_of, with_platform}
-use Rattle.pldm_responder.specs.Steps.{kept_for, received_outcome, received_held, sensed_held, restarted_held, updated_held}
+use Rattle.pldm_responder.specs.declared.outcome.Outcome.TheVariants.{Dropped}
+use Rattle.pldm_responder.specs.Steps.{kept_for, received_commands, received_outcome, received_held, sensed_held, restarted_held, assigned_held, updated_held}
 
 module _ {S : Type 0} (device : Rules S) (busy : BusyTime) (window keep : ℕ) (start : S) where
   -- the answer that is kept to the message at a place
@@ -79,6 +83,20 @@ module _ {S : Type 0} (device : Rules S) where
       (own : ℕ) (busy : BusyTime) (window keep : ℕ) (start : S) (held : Held S) (calls : List (Call S)) (moment : ℕ)
       → IsLeftBy device own busy window keep start held calls
       → IsLeftBy device own busy window keep start (restarted_held held moment) (Restart moment ∷ calls)
+
+  -- so does another endpoint ID that is assigned
+  abbrev pub AssignedLooksBack : Type 0
+  AssignedLooksBack =
+      (own : ℕ) (busy : BusyTime) (window keep : ℕ) (start : S) (held : Held S) (calls : List (Call S)) (moment eid : ℕ)
+      → IsLeftBy device own busy window keep start held calls
+      → IsLeftBy device eid busy window keep start (assigned_held held moment eid) (Assigned moment own ∷ calls)
+
+  -- while it has no endpoint ID it drops each packet, as a packet that is for nobody, and nothing is performed
+  abbrev pub DropsWithoutEid : Type 0
+  DropsWithoutEid =
+      (held : Held S) (moment : ℕ) (bytes : List ℕ) → held.own ≡ NULL_EID
+      → (reason : Reason) × (refusal (Some NULL_EID) bytes ≡ Some reason)
+      × (received_outcome device held moment bytes ≡ Dropped reason) × (received_commands held moment bytes ≡ [])
 
   -- an open message that ends leaves what the longer list leaves: to its sender it is a lost packet
   abbrev pub EndedLooksBack : Type 0

@@ -22,9 +22,9 @@ use Rattle.pldm_responder.specs.declared.arriving.Standing.TheVariants.{Busy, Co
 abbrev pub message_at : ℕ → Requested → Message
 message_at moment r = message_of r.source r.tag moment r.bytes
 
--- its packets are assembled on this key
-abbrev pub assembly_key : Requested → Key
-assembly_key r = record { source = r.source; tag = r.tag; owner = true }
+-- the packets of a request of this source and tag are assembled on this key
+abbrev pub assembly_key : ℕ → ℕ → Key
+assembly_key source tag = record { source = source; tag = tag; owner = true }
 
 -- ---- a packet is looked at
 abbrev pub arrival_in : ℕ → Arrived → Arrival
@@ -44,18 +44,23 @@ end_after end moment bytes = record end {
   last = moment;
 }
 
--- the end once this request, which came at this moment, was done with: its packets are no longer open
-abbrev pub end_finished : End → ℕ → Requested → End
-end_finished end moment r = record end {
-  open_messages = map.remove end.open_messages (assembly_key r);
+-- the end once what is open of this source and tag has ended
+abbrev pub end_closed : End → ℕ → ℕ → ℕ → End
+end_closed end moment source tag = record end {
+  open_messages = map.remove end.open_messages (assembly_key source tag);
   last = moment;
 }
+
+-- the end once this request, which came at this moment, was done with: its packets are no longer open
+abbrev pub end_finished : End → ℕ → Requested → End
+end_finished end moment r = end_closed end moment r.source r.tag
 
 abbrev pub IsLeftByPacket : End → ℕ → Packet → End → Arrived → Type 0
 IsLeftByPacket old moment p new (Dropped reason) = new ≡ end_fed old moment p
 IsLeftByPacket old moment p new Partial = new ≡ end_fed old moment p
 IsLeftByPacket old moment p new (Request r) =
     (new ≡ old) × (r.source ≡ p.route.source) × (end_finished old moment r ≡ end_fed old moment p)
+    × (r.destination ≡ p.route.destination)
 
 -- nothing is done with a request yet
 abbrev pub IsLookedAt : End → ℕ → List ℕ → End → Arrived → Type 0
@@ -63,6 +68,7 @@ IsLookedAt old moment bytes new (Dropped reason) = new ≡ end_after old moment 
 IsLookedAt old moment bytes new Partial = new ≡ end_after old moment bytes
 IsLookedAt old moment bytes new (Request r) =
     (new ≡ old) × (r.source ≢ old.own) × (end_finished old moment r ≡ end_after old moment bytes)
+    × (r.destination ≡ old.own)
 
 -- the packet was taken
 pub record HasArrived (old : End) (moment : ℕ) (bytes : List ℕ) (new : End) (arrived : Arrived) : Type 0 where
@@ -76,11 +82,11 @@ pub record HasComeBy (old : End) (moment : ℕ) (p : Packet) (new : End) (arrive
 
 -- a whole message was read whose packets had this route
 abbrev pub IsReadBy : End → ℕ → Route → List ℕ → End → Arrived → Type 0
-IsReadBy old moment route bytes new (Dropped reason) =
-    new ≡ end_finished old moment (record { source = route.source; tag = route.tag; bytes = bytes })
+IsReadBy old moment route bytes new (Dropped reason) = new ≡ end_closed old moment route.source route.tag
 IsReadBy old moment route bytes new Partial = ⊥
 IsReadBy old moment route bytes new (Request r) =
-    (new ≡ old) × (r ≡ record { source = route.source; tag = route.tag; bytes = bytes })
+    (new ≡ old)
+    × (r ≡ record { source = route.source; destination = route.destination; tag = route.tag; bytes = bytes })
 
 -- these bytes begin a message for which there is no room
 abbrev pub is_past_open : End → List ℕ → Bool

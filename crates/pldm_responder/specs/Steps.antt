@@ -2,6 +2,7 @@
 use Rattle.std.specs.FinMap as map
 use Rattle.std.specs.Prelude.{ℕ, ◌+◌, ℤ, List, [], take, Bool, true, false, ◌&&◌, ◌==◌, not, nat_lt, bytes_eq, Option, Some, None, Result, Ok, Err, if◌then◌else◌}
 use Rattle.mctp_packet.specs.Packets.{Packet}
+use Rattle.mctp_packet.specs.declared.TheConstants.{NULL_EID}
 use Rattle.mctp_packet.specs.declared.reason.Reason.{Reason}
 use Rattle.mctp_assembly.specs.Steps as assembly
 use Rattle.pldm_wire.specs.Headers.{id_at}
@@ -72,6 +73,15 @@ module _ {S : Type 0} (held : Held S) where
     open_messages = map.empty;
     kept = λ source. [];
     serves_from = moment + held.keep;
+    last = moment;
+  }
+
+  -- what is held once another endpoint ID was assigned: what a restart leaves; where it had none before, it held nothing
+  -- and serves as before
+  abbrev pub assigned_held : ℕ → ℕ → Held S
+  assigned_held moment eid = record (if held.own == NULL_EID then held else restarted_held moment) {
+    own = eid;
+    open_messages = map.empty;
     last = moment;
   }
 

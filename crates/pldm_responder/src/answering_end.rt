@@ -3,22 +3,23 @@
 
 ghost use Rattle.std.specs.FinMap as map;
 ghost use Rattle.std.specs.Prelude.{◌≡◌, ◌≢◌, ◌↔◌, ℕ, [], Ok, ◌+◌, ◌*◌, ◌≤◌, ◌<◌, ◌==◌, false, true, length, take, nat_lt, IfOk, IfErr, IfSome, IsErrOf, IsSome, OnOk, OnErr, if◌then◌else◌};
-ghost use Rattle.mctp_packet.specs.declared.TheConstants.{MAX_MESSAGE_BYTES as most};
+ghost use Rattle.mctp_packet.specs.Ids.{IsEid};
+ghost use Rattle.mctp_packet.specs.declared.TheConstants.{MAX_MESSAGE_BYTES as most, NULL_EID};
 ghost use Rattle.mctp_assembly.specs.declared.key.Key.{Key as KeyValue};
 ghost use Rattle.pldm_responder.specs.Counts.{CountsKept};
-ghost use Rattle.pldm_responder.specs.Ends.{End, GetsRow, IsSameEnd, has_row, held_by};
+ghost use Rattle.pldm_responder.specs.Ends.{End, GetsRow, IsOwn, IsSameEnd, eid_or_null, has_row, held_by};
 ghost use Rattle.pldm_responder.specs.Arrivals.{Part, message_arrival};
-ghost use Rattle.pldm_responder.specs.Looking.{HasArrived, HasComeBy, IsReadBy, IsReply, arrival_in, end_finished, is_past_open, message_at, standing};
+ghost use Rattle.pldm_responder.specs.Looking.{HasArrived, HasComeBy, IsReadBy, IsReply, arrival_in, end_closed, end_finished, is_past_open, message_at, standing};
 ghost use Rattle.pldm_responder.specs.OpenOrder.{begins, is_shut_out, is_shut_out_on, way_for};
 ghost use Rattle.mctp_assembly.specs.Keys.{IsKey};
 ghost use Rattle.mctp_assembly.specs.Steps.{answer};
 ghost use Rattle.mctp_assembly.specs.declared.fed.Fed.TheVariants.{Partial};
 ghost use Rattle.pldm_responder.specs.Needs.{NeedsMemory};
 ghost use Rattle.pldm_responder.specs.Reserving.{IsRoomFor, IsWhyNoRow, IsWithinSources};
-ghost use Rattle.pldm_responder.specs.Held.{id_in};
+ghost use Rattle.pldm_responder.specs.Held.{IsHeld, id_in};
 ghost use Rattle.pldm_responder.specs.Recency.{renewed, replaced};
 ghost use Rattle.pldm_responder.specs.Slots.{entry_in, kept_in, row_of, source_count};
-ghost use Rattle.pldm_responder.specs.Steps.{received_arrival};
+ghost use Rattle.pldm_responder.specs.Steps.{assigned_held, received_arrival};
 ghost use Rattle.pldm_wire.specs.Headers.{id_at};
 ghost use Rattle.pldm_wire.specs.declared.assigned.TheConstants.{INSTANCE_IDS as ids};
 
@@ -30,8 +31,8 @@ use crate::open_order::{end_message, first_open, put_begun, reserve_begun};
 use crate::performing::refuse;
 use mctp_assembly::{Assembler, FedInto, Key};
 use mctp_packet::{
-    Body, Eid, Keep, MAX_EID, MAX_MESSAGE_BYTES, MIN_EID, Memory, Moment, PacketRef, Reason, Route,
-    TAGS, Tag, read_for,
+    Body, Eid, Keep, MAX_EID, MAX_MESSAGE_BYTES, MIN_EID, Memory, Moment, NULL_EID, PacketRef,
+    Reason, Route, TAGS, Tag, read_for, reason_without_eid,
 };
 use pldm_wire::{BusyTime, Code, INSTANCE_IDS, read_request};
 use std::alloc::Global;
@@ -53,7 +54,8 @@ pub const MAX_PENDING: usize = OTHER_ENDPOINTS * TAGS as usize;
 #[derive(Drop)]
 pub struct AnsweringEnd {
     alloc: Global,
-    own: Eid,
+    /// Its endpoint ID: `None` before it got one.
+    own: Option<Eid>,
     keep: Keep,
     busy: BusyTime,
     bounds: Bounds,
@@ -70,7 +72,7 @@ pub struct AnsweringEnd {
 }
 
 impl Model for AnsweringEnd {
-    ghost use Rattle.pldm_responder.specs.Ends.{End, coded_end, AreAsked, IsWithin, KeepsForOthers};
+    ghost use Rattle.pldm_responder.specs.Ends.{End, coded_end, eid_or_null, AreAsked, IsIdle, IsWithin, KeepsForOthers};
     ghost use Rattle.pldm_responder.specs.OpenOrder.{IsOrdered};
 
     ghost Value = { End };
@@ -78,7 +80,7 @@ impl Model for AnsweringEnd {
     ghost coded = { coded_end };
 
     ghost view = { λ e. record {
-      own = e.own;
+      own = eid_or_null e.own;
       busy = e.busy;
       keep = e.keep;
       bounds = e.bounds;
@@ -91,22 +93,24 @@ impl Model for AnsweringEnd {
     } };
 
     ghost invariant = { λ e.
-        AreAsked e.own e.assembler × KeepsForOthers e.own e.kept × IsWithin e.bounds e.assembler e.kept
-        × IsOrdered e.ends_oldest e.assembler e.begun.items };
+        AreAsked (eid_or_null e.own) e.assembler × KeepsForOthers (eid_or_null e.own) e.kept
+        × IsWithin e.bounds e.assembler e.kept × IsOrdered e.ends_oldest e.assembler e.begun.items
+        × IsIdle (eid_or_null e.own) e.assembler e.kept };
 }
 
 impl AnsweringEnd {
-    /// The endpoint `own`, which keeps answers so, and at a time no more than `bounds` allow. Where one more message
-    /// would be open than that, the one that began first ends where `ends_oldest`, else the new one is refused. Nothing
-    /// is open or kept, and its last moment is 0. It takes no memory.
+    /// The endpoint `own`, or one that gets its endpoint ID later ([`AnsweringEnd::assign`]). It keeps answers so, and
+    /// at a time no more than `bounds` allow. Where one more message would be open than that, the one that began first
+    /// ends where `ends_oldest`, else the new one is refused. Nothing is open or kept, and its last moment is 0. It
+    /// takes no memory.
     pub fn new(
         alloc: Global,
-        own: Eid,
+        own: Option<Eid>,
         keeping: Keeping,
         bounds: Bounds,
         ends_oldest: bool,
     ) -> AnsweringEnd
-        ensures own { result.own ≡ own }
+        ensures own { result.own ≡ eid_or_null own }
         ensures busy { result.busy ≡ keeping.busy }
         ensures keep { result.keep ≡ keeping.keep }
         ensures bounds { result.bounds ≡ bounds }
@@ -133,16 +137,27 @@ impl AnsweringEnd {
         }
     }
 
-    /// Its endpoint ID.
+    /// Its endpoint ID: `None` before it got one.
     #[inline(always)]
-    pub fn own(&self) -> Eid
-        ensures { result ≡ self.now.own }
+    pub fn own(&self) -> Option<Eid>
+        ensures { eid_or_null result ≡ self.now.own }
     {
         self.own
     }
 
-    /// The moment of the last packet that was done with or of the last `restart`, whichever was later, 0 before the
-    /// first.
+    /// Its endpoint ID as a number, the null one before it got one.
+    fn own_number(&self) -> u8
+        ensures value { result ≡ self.now.own }
+        ensures range { IsOwn self.now.own }
+    {
+        match self.own {
+            None => NULL_EID,
+            Some(own) => own.get(),
+        }
+    }
+
+    /// The moment of the last packet that was done with, of the last `restart` or of the last `assign`, whichever was
+    /// later, 0 before the first.
     pub fn last_moment(&self) -> Moment
         ensures { result ≡ self.now.last }
     {
@@ -192,6 +207,38 @@ impl AnsweringEnd {
         self.last = now;
     }
 
+    /// Gives it the endpoint ID `eid` at the moment `now`. Where it had one before, that is a restart: packets to that
+    /// one may still come, and it may get that one back. Where it had none, nothing was performed, and it serves as
+    /// before.
+    pub fn assign(&mut self, now: Moment, eid: Eid)
+        ensures held { IsHeld (held_by self.new) (assigned_held (held_by self.old) now eid) }
+        ensures bounds { self.new.bounds ≡ self.old.bounds }
+        ensures ends_oldest { self.new.ends_oldest ≡ self.old.ends_oldest }
+        ensures no_rows { source_count self.new.rows ≡ 0 }
+        ensures none { (source : ℕ) → kept_in self.new.rows source ≡ [] }
+    {
+        let serves_from = self.serves_once_assigned(now);
+        self.restart(now);
+        self.serves_from = serves_from;
+        self.own = Some(eid);
+    }
+
+    /// The moment from which it serves, once another endpoint ID was assigned at the moment `now`. Where it has none now,
+    /// nothing is kept.
+    fn serves_once_assigned(&self, now: Moment) -> u64
+        ensures moment { result
+            ≡ (if self.now.own == NULL_EID then self.now.serves_from else now + self.now.keep) }
+        ensures idle { self.now.own ≡ NULL_EID → source_count self.now.rows ≡ 0 }
+    {
+        match self.own {
+            None => self.serves_from, // it performed nothing
+            Some(own) => {
+                let _eid = own.get(); // for the proof: not the null one
+                now.get() + u64::from(self.keep.get())
+            }
+        }
+    }
+
     /// Takes the bytes of a packet that came at the moment `now`. A packet that is dropped or a part of a message is
     /// done with. A request that it completes is returned, and nothing is done with it: that is the caller's, up to
     /// [`AnsweringEnd::finish`]. The bytes of a request of several packets are put into `room`.
@@ -215,7 +262,10 @@ impl AnsweringEnd {
         ensures part { OnErr result (received_arrival (held_by self.old) now bytes.now ≡ Part) }
         ensures needs { OnErr result (NeedsMemory (held_by self.old) true now bytes.now) }
     {
-        let packet = match read_for(self.own, bytes) {
+        let Some(own) = self.own else {
+            return Ok(self.dropped(now, reason_without_eid(bytes)));
+        };
+        let packet = match read_for(own, bytes) {
             Ok(packet) => packet,
             Err(reason) => return Ok(self.dropped(now, reason)),
         };
@@ -240,6 +290,8 @@ impl AnsweringEnd {
     ) -> Result<Arrived<'a>, RoomRefusal>
         requires owner { packet.now.route.owner ≡ true }
         requires other { packet.now.route.source ≢ self.old.own }
+        requires here { packet.now.route.destination ≡ self.old.own }
+        requires home { IsEid self.old.own }
         ensures ok { IfOk result (HasComeBy self.old now packet.now self.new) }
         ensures err { OnErr result (self.new ≡ self.old) }
         ensures sources { IsErrOf result RoomRefusal.Sources → ⊥ }
@@ -280,7 +332,7 @@ impl AnsweringEnd {
         ensures left { IsReadBy self.old now route.now message.now self.new result }
     {
         match read_request(message) {
-            Ok(read) => Arrived::Request(Request::new(route.source, route.tag, message, read)),
+            Ok(read) => Arrived::Request(Request::new(route, message, read)),
             Err(reason) => {
                 self.forget(now, route.source, route.tag);
                 Arrived::Dropped(reason)
@@ -303,6 +355,8 @@ impl AnsweringEnd {
         requires begins { begins packet.now ≡ true }
         requires owner { packet.now.route.owner ≡ true }
         requires other { packet.now.route.source ≢ self.old.own }
+        requires here { packet.now.route.destination ≡ self.old.own }
+        requires home { IsEid self.old.own }
         ensures ok { IfOk result (HasComeBy self.old now packet.now self.new) }
         ensures err { OnErr result (self.new ≡ self.old) }
         ensures sources { IsErrOf result RoomRefusal.Sources → ⊥ }
@@ -383,12 +437,14 @@ impl AnsweringEnd {
     #[inline(always)]
     pub fn put_room(&mut self, request: &Request<'_>, reserved: Reserved)
         requires other { request.now.source ≢ self.old.own }
+        requires here { request.now.destination ≡ self.old.own }
         requires room { IsRoomFor self.old.rows request.now.source reserved }
         requires few { IsWithinSources self.old.rows self.old.bounds.sources reserved }
         ensures gets { GetsRow request.now.source self.new.rows self.old.rows }
         ensures some { IsSome (row_of self.new.rows request.now.source) }
         ensures rest { self.new ≡ record self.old { rows = self.new.rows } }
     {
+        let _own = request.destination(); // for the proof: an endpoint ID
         self.kept.put_row(request.source(), reserved);
     }
 
@@ -446,7 +502,7 @@ impl AnsweringEnd {
     /// Ends what is open of a source and tag, at the moment `now`.
     #[inline(always)]
     fn forget(&mut self, now: Moment, source: Eid, tag: Tag)
-        ensures { self.new ≡ end_finished self.old now (record { source = source; tag = tag; bytes = [] }) }
+        ensures { self.new ≡ end_closed self.old now source tag }
     {
         self.assembler.forget(Key {
             source,
@@ -465,7 +521,7 @@ impl AnsweringEnd {
         ensures small { (source id : ℕ) → IfSome (entry_in self.now.rows source id)
             (λ entry. length entry.answer ≤ MAX_MESSAGE_BYTES) }
     {
-        let _range = self.own.get(); // for the proof: an endpoint ID
+        let _range = self.own_number(); // for the proof: an endpoint ID, or none
         self.kept.count()
     }
 
@@ -486,7 +542,7 @@ impl AnsweringEnd {
         ensures small { (key : KeyValue) → IfSome (map.get self.now.open_messages key)
             (λ o. length o.bytes ≤ MAX_MESSAGE_BYTES) }
     {
-        let _range = self.own.get(); // for the proof: an endpoint ID
+        let _range = self.own_number(); // for the proof: an endpoint ID, or none
         self.assembler.pending()
     }
 }

@@ -1,6 +1,7 @@
 //! What one packet brings an answering end.
 
 ghost use Rattle.std.specs.Prelude.{◌≡◌, ◌<◌, ◌≤◌, ◌≢◌, false, Ok, length};
+ghost use Rattle.mctp_packet.specs.Ids.{IsEid};
 ghost use Rattle.mctp_packet.specs.declared.TheConstants.{MAX_MESSAGE_BYTES as most};
 ghost use Rattle.pldm_wire.specs.Headers.{id_at};
 ghost use Rattle.pldm_wire.specs.Requests.{request_of};
@@ -15,6 +16,7 @@ use thiserror::Error;
 #[derive(Debug, Drop)]
 pub struct Request<'a> {
     source: Eid,
+    destination: Eid,
     tag: Tag,
     bytes: &'a [u8],
     read: RequestRef<'a>,
@@ -28,22 +30,33 @@ impl<'a> Model for Request<'a> {
 
     ghost Value = { Requested };
 
-    ghost view = { λ r. record { source = r.source; tag = r.tag; bytes = r.bytes.now } };
+    ghost view = { λ r. record {
+      source = r.source;
+      destination = r.destination;
+      tag = r.tag;
+      bytes = r.bytes.now;
+    } };
 
     ghost invariant = { λ r. (request_of r.bytes.now ≡ Ok r.read) × (length r.bytes.now ≤ MAX_MESSAGE_BYTES) };
 }
 
 impl<'a> Request<'a> {
-    /// The request of these bytes, whose packets had this source and tag, as it was read.
+    /// The request of these bytes, whose packets had this route, as it was read.
     #[inline(always)]
-    pub(crate) fn new(source: Eid, tag: Tag, bytes: &'a [u8], read: RequestRef<'a>) -> Request<'a>
+    pub(crate) fn new(route: &Route, bytes: &'a [u8], read: RequestRef<'a>) -> Request<'a>
         requires read { request_of bytes.now ≡ Ok read }
         requires few { length bytes.now ≤ most }
-        ensures { result ≡ record { source = source; tag = tag; bytes = bytes.now } }
+        ensures { result ≡ record {
+          source = route.now.source;
+          destination = route.now.destination;
+          tag = route.now.tag;
+          bytes = bytes.now;
+        } }
     {
         Request {
-            source,
-            tag,
+            source: route.source,
+            destination: route.destination,
+            tag: route.tag,
             bytes,
             read,
         }
@@ -55,6 +68,16 @@ impl<'a> Request<'a> {
         ensures { result ≡ self.now.source }
     {
         self.source
+    }
+
+    /// The endpoint that it was sent to.
+    #[inline(always)]
+    pub fn destination(&self) -> Eid
+        ensures value { result ≡ self.now.destination }
+        ensures range { IsEid self.now.destination }
+    {
+        let _range = self.destination.get(); // for the proof: an endpoint ID
+        self.destination
     }
 
     /// The tag of its packets.
@@ -83,14 +106,19 @@ impl<'a> Request<'a> {
         self.bytes
     }
 
-    /// The way of the packets that answer it, from the endpoint `own`: back to its source, with TO 0 and its tag.
+    /// The way of the packets that answer it: back to its source from where it was sent to, with TO 0 and its tag.
     #[inline(always)]
-    pub fn way_back(&self, own: Eid) -> Route
-        ensures { result ≡ record { destination = self.now.source; source = own; owner = false; tag = self.now.tag } }
+    pub fn way_back(&self) -> Route
+        ensures { result ≡ record {
+          destination = self.now.source;
+          source = self.now.destination;
+          owner = false;
+          tag = self.now.tag;
+        } }
     {
         Route {
             destination: self.source,
-            source: own,
+            source: self.destination,
             owner: false,
             tag: self.tag,
         }

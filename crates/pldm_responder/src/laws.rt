@@ -2,7 +2,7 @@
 
 ghost use Rattle.pldm_responder.specs.Asked.{AnswerDecides, NoneIsAsked};
 ghost use Rattle.pldm_responder.specs.Askings.{AskedApart, CommandsLookBack, SetsAfterBusyTime, TasksLookBack};
-ghost use Rattle.pldm_responder.specs.Laws.{AllIdsAreNoWindow, AllIdsPerformAlike, BusyAnswersAreOnePacket, EndedLooksBack, KeptWhereFresh, NewLooksBack, OneCount, PutIsUpdated, ReceivedLooksBack, RestartedLooksBack, SameIsLeft, SensedLooksBack, UpdatedLooksBack};
+ghost use Rattle.pldm_responder.specs.Laws.{AllIdsAreNoWindow, AllIdsPerformAlike, AssignedLooksBack, BusyAnswersAreOnePacket, DropsWithoutEid, EndedLooksBack, KeptWhereFresh, NewLooksBack, OneCount, PutIsUpdated, ReceivedLooksBack, RestartedLooksBack, SameIsLeft, SensedLooksBack, UpdatedLooksBack};
 ghost use Rattle.pldm_responder.specs.Performing.{rules_of};
 ghost use Rattle.pldm_responder.specs.TheRule.{CopiesByTheRule, FreshPastTheWindow};
 
@@ -16,6 +16,7 @@ pub fn looks_back<P: Platform>()
     ensures updated { UpdatedLooksBack (rules_of P.answer P.after P.sensed) }
     ensures put { PutIsUpdated P.state }
     ensures restarted { RestartedLooksBack (rules_of P.answer P.after P.sensed) }
+    ensures assigned { AssignedLooksBack (rules_of P.answer P.after P.sensed) }
     ensures ended { EndedLooksBack (rules_of P.answer P.after P.sensed) }
     ensures new { NewLooksBack (rules_of P.answer P.after P.sensed) }
     ensures same { SameIsLeft (rules_of P.answer P.after P.sensed) }
@@ -32,6 +33,11 @@ pub fn one_count()
 /// The answer to a request while the responder is busy is one packet.
 pub fn busy_answers_are_one_packet()
     ensures { BusyAnswersAreOnePacket }
+{}
+
+/// While it has no endpoint ID, each packet is dropped as one that is for nobody, and nothing is performed.
+pub fn nothing_is_for_an_end_without_an_id<P: Platform>()
+    ensures { DropsWithoutEid (rules_of P.answer P.after P.sensed) }
 {}
 
 /// Where bytes ask something of the platform, what it gives for that says what they give and what they leave, and the

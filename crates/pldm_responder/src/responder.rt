@@ -15,8 +15,8 @@ ghost use Rattle.pldm_responder.specs.Serving.{IsNotPerformed, IsNotServed, IsPe
 ghost use Rattle.pldm_responder.specs.Reserving.{IsWhyNoRoom};
 ghost use Rattle.pldm_responder.specs.Slots.{source_count};
 ghost use Rattle.pldm_responder.specs.Stations.{held_of, with_platform};
-ghost use Rattle.pldm_responder.specs.Steps.{kept_for, restarted_held, sensed_held, updated_held};
-ghost use Rattle.pldm_responder.specs.Ends.{unreached};
+ghost use Rattle.pldm_responder.specs.Steps.{assigned_held, kept_for, restarted_held, sensed_held, updated_held};
+ghost use Rattle.pldm_responder.specs.Ends.{eid_or_null, unreached};
 ghost use Rattle.pldm_responder.specs.contracts.responder.Responder.{the_row};
 
 use crate::answering_end::{AnsweringEnd, MAX_KEPT, MAX_PENDING};
@@ -67,24 +67,24 @@ impl<P: Platform> Responder<P> {
     {
         Responder::bounded(
             alloc,
-            own,
+            Some(own),
             Keeping::each_for(keep),
             Bounds::UNREACHED,
             platform,
         )
     }
 
-    /// The endpoint `own` with this platform behind it, which keeps answers so, and at a time no more than `bounds`
-    /// allow.
+    /// The endpoint `own`, or one that gets its endpoint ID later ([`Responder::assign`]), with this platform behind it,
+    /// which keeps answers so, and at a time no more than `bounds` allow.
     pub fn bounded(
         alloc: Global,
-        own: Eid,
+        own: Option<Eid>,
         keeping: Keeping,
         bounds: Bounds,
         platform: P,
     ) -> Responder<P>
         ensures held { IsHeld (held_of result)
-            (held_at_first own keeping.busy keeping.window keeping.keep (P.state platform)) }
+            (held_at_first (eid_or_null own) keeping.busy keeping.window keeping.keep (P.state platform)) }
         ensures bounds { result.end.bounds ≡ bounds }
         ensures platform { result.platform ≡ platform }
     {
@@ -96,8 +96,15 @@ impl<P: Platform> Responder<P> {
         }
     }
 
-    /// The moment of the last `receive` that did not answer Memory or of the last `restart`, whichever
-    /// was later, 0 before the first.
+    /// Its endpoint ID: `None` before it got one.
+    pub fn own(&self) -> Option<Eid>
+        ensures { eid_or_null result ≡ (held_of self.now).own }
+    {
+        self.end.own()
+    }
+
+    /// The moment of the last `receive` that did not answer Memory, of the last `restart` or of the last `assign`,
+    /// whichever was later, 0 before the first.
     pub fn last_moment(&self) -> Moment
         ensures { result ≡ (held_of self.now).last }
     {
@@ -152,6 +159,20 @@ impl<P: Platform> Responder<P> {
         ensures platform { self.new.platform ≡ self.old.platform }
     {
         self.end.restart(now);
+    }
+
+    /// Gives it the endpoint ID `eid` at the moment `now`, which must not be before [`Responder::last_moment`] (DSP0236,
+    /// "Set Endpoint ID"). Messages that have begun and kept answers are lost. Where it had an endpoint ID before, that
+    /// is a restart: a packet to that one may still come when it has that one again. Where it had none, it serves as
+    /// before.
+    pub fn assign(&mut self, now: Moment, eid: Eid)
+        requires { (held_of self.old).last ≤ now }
+        ensures held { IsHeld (held_of self.new) (assigned_held (held_of self.old) now eid) }
+        ensures bounds { self.new.end.bounds ≡ self.old.end.bounds }
+        ensures no_rows { source_count self.new.end.rows ≡ 0 }
+        ensures platform { self.new.platform ≡ self.old.platform }
+    {
+        self.end.assign(now, eid);
     }
 
     /// Puts another platform in the place of this one, and leaves all else as it is: a change from outside, to
@@ -255,12 +276,13 @@ impl<P: Platform> Responder<P> {
         request: &Request<'_>,
         reply: &mut Body,
     ) -> Result<MessageOutcome, Memory>
-        requires { request.now.source ≢ self.old.end.own }
+        requires other { request.now.source ≢ self.old.end.own }
+        requires here { request.now.destination ≡ self.old.end.own }
         ensures ok { IfOk result (IsServed P.performed self.old now request.now self.new
             (rules_of P.answer P.after P.sensed) reply.new.items) }
         ensures err { OnErr result (IsNotServed P.performed self.old now request.now self.new P.STEADY) }
     {
-        let route = request.way_back(self.end.own());
+        let route = request.way_back();
         if self.end.standing(now, request, reply) != Standing::Fresh {
             self.end.finish(now, request);
             return Ok(not_performed(route));
@@ -279,7 +301,8 @@ impl<P: Platform> Responder<P> {
         request: &Request<'_>,
         reply: &mut Body,
     ) -> Result<bool, Memory>
-        requires { request.now.source ≢ self.old.end.own }
+        requires other { request.now.source ≢ self.old.end.own }
+        requires here { request.now.destination ≡ self.old.end.own }
         ensures ok { IfOk result (IsPerformed P.performed self.old now request.now self.new
             (rules_of P.answer P.after P.sensed) reply.new.items) }
         ensures err { OnErr result (IsNotPerformed P.performed self.old now request.now self.new P.STEADY) }

@@ -1,5 +1,5 @@
 -- A packet, by what came of it at the responder.
-use Rattle.std.proofs.Common.{◌≡◌, refl, rules}
+use Rattle.std.proofs.Common.{◌≡◌, refl, rules, ap, sym, subst, ◌∙◌}
 use Rattle.std.specs.Io.KnownBytes.{Appends}
 use Rattle.std.specs.List.{flat_map}
 use Rattle.mctp_packet.specs.Pieces.{written_packets}
@@ -8,10 +8,10 @@ use Rattle.mctpctl_serve.proofs.PacketsHeard.{packet_heard}
 use Rattle.mctpctl_serve.proofs.SameHeld.{same_held}
 use Rattle.mctpctl_serve.specs.Events.{Sent}
 use Rattle.mctpctl_serve.specs.Heard.{shown}
-use Rattle.mctpctl_serve.specs.Serving.{moment_after}
+use Rattle.mctpctl_serve.specs.Serving.{answerers, in_step, moment_after, with_eid}
 use Rattle.pldm_responder.specs.Performing.{rules_of}
 use Rattle.pldm_responder.specs.Stations.{held_of}
-use Rattle.pldm_responder.specs.Steps.{received_held, received_outcome}
+use Rattle.pldm_responder.specs.Steps.{received_commands, received_held, received_outcome}
 use Rattle.pldm_responder.specs.declared.outcome.Outcome.TheVariants as outcome
 use Rattle.mctpctl_serve.proofs.line.hear_packet.Goals as goal
 
@@ -22,17 +22,23 @@ returns-in_ok-answer_drop-in-Dropped-clause-heard g c =
     let now = c.moment_after-now.result in
     let same : now ≡ moment_after held.last c.in-Ok.reading = search rules in
     let gives : received_outcome device held now c.args.packet.now ≡ outcome.Dropped c.in-Dropped.reason = search rules in
+    let control = c.answer_drop.new.control in
+    let received = received_held device held now c.args.packet.now in
+    let moved : held_of c.keep_in_step.new.responder ≡ with_eid received now control.eid =
+    same_held c.keep_in_step.ensures.held ∙ ap (λ h. with_eid h now control.eid) (same_held {held = received} c.in-Ok-receive_message.ensures.received.held) in
     let after = record c.args.line.now {
-      responder = c.receive_message.new.self;
+      responder = c.keep_in_step.new.responder;
       control = c.answer_drop.new.control;
       ticks = c.tick.new.self;
       watch = c.answer_drop.new.watch;
     } in
     packet_heard g.P.Platform.performed device g.L.Watch.sees (shown g.C.Ticks.to_come g.W.Write.contents c.args.line.now c.args.writer.now) c.args.packet.now
     (shown g.C.Ticks.to_come g.W.Write.contents after c.answer_drop.new.writer) c.in-Ok.reading now c.saw.new.self (outcome.Dropped c.in-Dropped.reason)
-    same c.in-Ok.ensures gives (same_held {held = received_held device held now c.args.packet.now} c.in-Ok-receive_message.ensures.received.held) c.in_ok-answer_drop-in-Dropped.ensures.control
+    same c.in-Ok.ensures gives
+    (ap (λ h. answerers h control) moved ∙ ap (in_step received now) c.in_ok-answer_drop-in-Dropped.ensures.control)
     c.in_ok-answer_drop-in-Dropped.ensures.bytes c.saw.ensures c.in_ok-answer_drop-in-Dropped.ensures.told
-    c.in-Ok-receive_message.ensures.received.performed c.in-Ok-receive_message.ensures.received.bounds
+    (subst (λ p. g.P.Platform.performed c.args.line.now.responder.platform (received_commands held now c.args.packet.now) p) (sym c.keep_in_step.ensures.platform) c.in-Ok-receive_message.ensures.received.performed)
+    (c.keep_in_step.ensures.bounds ∙ c.in-Ok-receive_message.ensures.received.bounds)
 
 pub returns-in_ok-send-in-Answered-clause-heard : goal.returns-in_ok-send-in-Answered-clause-heard
 returns-in_ok-send-in-Answered-clause-heard g c =
@@ -51,5 +57,6 @@ returns-in_ok-send-in-Answered-clause-heard g c =
     } in
     packet_heard g.P.Platform.performed device g.L.Watch.sees (shown g.C.Ticks.to_come g.W.Write.contents c.args.line.now c.args.writer.now) c.args.packet.now
     (shown g.C.Ticks.to_come g.W.Write.contents after c.send.new.writer) c.in-Ok.reading now c.saw.new.self answer
-    same c.in-Ok.ensures gives (same_held {held = received_held device held now c.args.packet.now} c.in-Ok-receive_message.ensures.received.held) refl wrote c.saw.ensures (c.saw-in-Answered.new.self, sent, refl)
+    same c.in-Ok.ensures gives
+    (ap (λ h. answerers h c.args.line.now.control) (same_held {held = received_held device held now c.args.packet.now} c.in-Ok-receive_message.ensures.received.held)) wrote c.saw.ensures (c.saw-in-Answered.new.self, sent, refl)
     c.in-Ok-receive_message.ensures.received.performed c.in-Ok-receive_message.ensures.received.bounds

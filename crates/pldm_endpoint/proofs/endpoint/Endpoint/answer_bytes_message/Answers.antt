@@ -31,7 +31,7 @@ returns-clause-answered c =
     let inside : pending_at c.self.inside.pending handle ≡ Some a = search rules in
     let key = request_key handle.source handle.id in
     let known : IsWithDevice c.self.inside.handed_on c.self.inside.count key a =
-    subst (λ o. IfSome o (IsWithDevice c.self.inside.handed_on c.self.inside.count key)) (numbered_is handle.number (map.get c.self.inside.pending key) a inside).0 (c.self.invariant.each key) in
+    subst (λ o. IfSome o (IsWithDevice c.self.inside.handed_on c.self.inside.count key)) (numbered_is handle.number (map.get c.self.inside.pending key) a inside).0 (c.self.invariant.0.each key) in
     let unnamed : is_some a.command ≡ false = search rules in
     let none : a.command ≡ None = none_of a.command unnamed in
     let asked : tasks_of (hands_on handed) a.request ≡ Respond (request_at a.request) ∷ [] =

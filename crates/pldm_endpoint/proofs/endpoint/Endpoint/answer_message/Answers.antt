@@ -25,7 +25,7 @@ returns-clause-answered c =
     let inside : pending_at c.self.inside.pending handle ≡ Some a = search rules in
     let key = request_key handle.source handle.id in
     let known : IsWithDevice c.self.inside.handed_on c.self.inside.count key a =
-    subst (λ o. IfSome o (IsWithDevice c.self.inside.handed_on c.self.inside.count key)) (numbered_is handle.number (map.get c.self.inside.pending key) a inside).0 (c.self.invariant.each key) in
+    subst (λ o. IfSome o (IsWithDevice c.self.inside.handed_on c.self.inside.count key)) (numbered_is handle.number (map.get c.self.inside.pending key) a inside).0 (c.self.invariant.0.each key) in
     let named : a.command ≡ Some command = search rules in
     let asked : tasks_of (hands_on handed) a.request ≡ Perform command ∷ [] =
     subst (λ (e : EndpointView). tasks_of (hands_on e.handed_on) a.request ≡ task_for a ∷ []) c.self.view_is known.task ∙ ap (λ o. task_in o a.request ∷ []) named in

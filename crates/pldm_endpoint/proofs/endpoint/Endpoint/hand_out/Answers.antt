@@ -1,5 +1,5 @@
 use Rattle.std.specs.FinMap as map
-use Rattle.std.proofs.Common.{◌≡◌, [], ◌∷◌, ◌+◌, true, false, None, is_some, if◌then◌else◌, rules, sym, ap, ◌∙◌, subst, refl}
+use Rattle.std.proofs.Common.{◌≡◌, arith, [], ◌∷◌, ◌+◌, true, false, None, is_some, if◌then◌else◌, rules, sym, ap, ◌∙◌, subst, refl}
 use Rattle.pldm_wire.specs.HandingOn.{hands_on}
 use Rattle.pldm_responder.specs.Ends.{End}
 use Rattle.pldm_responder.specs.Events.{Message}
@@ -26,10 +26,13 @@ invariant_of-self-2 c =
     let front = is_in_front e.end c.reserve.new.self c.put_room.new.self c.keep.new.self c.finish.new.self c.args.now r (waiting m) c.reserve.ensures.same c.put_room.ensures.gets c.put_room.ensures.rest c.keep.ensures.kept c.keep.ensures.window c.keep.ensures.rows c.keep.ensures.sources c.keep.ensures.rest c.finish.ensures in
     let rest = finished_is e.end c.reserve.new.self c.put_room.new.self c.keep.new.self c.finish.new.self c.args.now r (waiting m) c.reserve.ensures.same c.put_room.ensures.gets c.put_room.ensures.rest c.keep.ensures.kept c.keep.ensures.window c.keep.ensures.rows c.keep.ensures.sources c.keep.ensures.rest c.finish.ensures in
     let pending_is : c.insert.new.self ≡ map.insert e.pending (request_key_of m) (command_at m e.count (task_in c.args.command r.bytes)) = search rules in
-    subst (λ (pending : PendingCommands). ArePending c.finish.new.self e.handed_on pending (e.count + 1) e.max_pending) (sym pending_is)
-    (pending_out e c.finish.new.self c.args.now r c.args.command (subst (λ (x : EndpointView). tasks_of (hands_on x.handed_on) r.bytes ≡ task_in c.args.command r.bytes ∷ []) back c.requires.asked) c.id-id.ensures.range
-    (subst (λ (x : EndpointView). map.get x.pending (request_key_of m) ≡ None) back c.requires.free)
-    (subst (λ (x : EndpointView). is_full x ≡ false) back (sym c.is_full.ensures ∙ c.if-is_full.false)) front c.self.invariant)
+    let here : r.destination ≡ e.end.own = subst (λ (x : EndpointView). r.destination ≡ x.end.own) back c.requires.here in (
+      subst (λ (pending : PendingCommands). ArePending c.finish.new.self e.handed_on pending (e.count + 1) e.max_pending) (sym pending_is)
+          (pending_out e c.finish.new.self c.args.now r c.args.command (subst (λ (x : EndpointView). tasks_of (hands_on x.handed_on) r.bytes ≡ task_in c.args.command r.bytes ∷ []) back c.requires.asked) c.id-id.ensures.range
+          (subst (λ (x : EndpointView). map.get x.pending (request_key_of m) ≡ None) back c.requires.free)
+          (subst (λ (x : EndpointView). is_full x ≡ false) back (sym c.is_full.ensures ∙ c.if-is_full.false)) front c.self.invariant.0),
+      λ none. absurd (omega (arith, c.destination-own.ensures.range.0, here ∙ sym (ap (λ (x : End). x.own) rest) ∙ none)),
+    )
 
 pub returns-clause-served : goal.returns-clause-served
 returns-clause-served c = λ reply.

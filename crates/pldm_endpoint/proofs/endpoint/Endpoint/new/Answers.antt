@@ -4,4 +4,4 @@ use Rattle.pldm_endpoint.proofs.PendingGlue.{none_pending}
 use Rattle.pldm_endpoint.proofs.endpoint.Endpoint.new.Goals as goal
 
 pub invariant_of-result : goal.invariant_of-result
-invariant_of-result c = none_pending _ _ _ _ _ c.new-2.ensures (λ source. ap (λ rows. kept_in rows source) c.new.ensures.none)
+invariant_of-result c = (none_pending _ _ _ _ _ c.new-2.ensures (λ source. ap (λ rows. kept_in rows source) c.new.ensures.none), λ _. c.new-2.ensures)

@@ -23,10 +23,15 @@ use Rattle.pldm_endpoint.proofs.endpoint.Endpoint.refuse.Goals as goal
 
 pub invariant_of-self-2 : goal.invariant_of-self-2
 invariant_of-self-2 c =
-    let entry : Entry = record { moment = c.args.now; bytes = c.args.request.now.bytes; answer = c.deref.result.now } in
+    let e : End = c.self.inside.end in
+    let r = c.args.request.now in
+    let entry : Entry = record { moment = c.args.now; bytes = r.bytes; answer = c.deref.result.now } in
     let some : 0 < length c.deref.result.now = search rules in
-    pending_in_front c.self.inside.handed_on c.self.inside.end c.finish.new.self c.self.inside.pending c.self.inside.count c.self.inside.max_pending c.args.request.now.source c.self.inside.end.rows.window entry some
-    (is_in_front c.self.inside.end c.reserve.new.self c.put_room.new.self c.keep.new.self c.finish.new.self c.args.now c.args.request.now entry c.reserve.ensures.same c.put_room.ensures.gets c.put_room.ensures.rest c.keep.ensures.kept c.keep.ensures.window c.keep.ensures.rows c.keep.ensures.sources c.keep.ensures.rest c.finish.ensures) c.self.invariant
+    let rest = finished_is e c.reserve.new.self c.put_room.new.self c.keep.new.self c.finish.new.self c.args.now r entry c.reserve.ensures.same c.put_room.ensures.gets c.put_room.ensures.rest c.keep.ensures.kept c.keep.ensures.window c.keep.ensures.rows c.keep.ensures.sources c.keep.ensures.rest c.finish.ensures in (
+      pending_in_front c.self.inside.handed_on e c.finish.new.self c.self.inside.pending c.self.inside.count c.self.inside.max_pending r.source e.rows.window entry some
+          (is_in_front e c.reserve.new.self c.put_room.new.self c.keep.new.self c.finish.new.self c.args.now r entry c.reserve.ensures.same c.put_room.ensures.gets c.put_room.ensures.rest c.keep.ensures.kept c.keep.ensures.window c.keep.ensures.rows c.keep.ensures.sources c.keep.ensures.rest c.finish.ensures) c.self.invariant.0,
+      λ none. c.self.invariant.1 (sym (ap (λ (x : End). x.own) rest) ∙ none),
+    )
 
 pub returns-clause-served : goal.returns-clause-served
 returns-clause-served c =

@@ -21,7 +21,7 @@ returns-then-ne-clause-served c =
     let e : EndpointView = record { end = c.self.inside.end; handed_on = c.self.inside.handed_on; pending = c.self.inside.pending; count = c.self.inside.count; max_pending = c.self.inside.max_pending } in
     let done : c.standing.result ≡ Fresh → ⊥ = λ fresh. search rules in
     let some = reply_has_bytes (held_by c.self.inside.end) m c.standing.new.reply.items c.standing.result c.standing.ensures.standing c.standing.ensures.reply
-    (free_is_answered c.self.inside.handed_on c.self.inside.end c.self.inside.pending c.self.inside.count c.self.inside.max_pending r.source (id_at m.bytes) c.self.invariant (search rules)) done in
+    (free_is_answered c.self.inside.handed_on c.self.inside.end c.self.inside.pending c.self.inside.count c.self.inside.max_pending r.source (id_at m.bytes) c.self.invariant.0 (search rules)) done in
     let none : performs (held_in e) m ≡ false = not_true _ (not_performed (held_by c.self.inside.end) m c.standing.result c.standing.ensures.standing done) in
     let quiet = subst (λ (x : EndpointView). performs (held_in x) m ≡ false) c.self.view_is none in
     record {

@@ -1,5 +1,5 @@
--- What control messages find at a served device where its description does not say it.
-use Rattle.std.specs.Prelude.{ℕ, List, [], ◌∷◌}
+-- What control messages find at a served device where its description does not say it, and its endpoint ID at first.
+use Rattle.std.specs.Prelude.{ℕ, Bool, List, [], ◌∷◌, Option, None, Some, if◌then◌else◌}
 
 -- of version 8 (RFC 9562); the last byte is the endpoint ID
 abbrev pub default_uuid : ℕ → List ℕ
@@ -13,3 +13,7 @@ default_base_version = 0xf1 ∷ 0xf3 ∷ 0xf1 ∷ 0x00 ∷ []
 -- 1.0.0 of PLDM over MCTP (DSP0241)
 abbrev pub default_pldm_version : List ℕ
 default_pldm_version = 0xf1 ∷ 0xf0 ∷ 0xf0 ∷ 0x00 ∷ []
+
+-- the endpoint ID at first: none where a bus owner is to assign one
+abbrev pub eid_at_first : ℕ → Bool → Option ℕ
+eid_at_first eid assigned = if assigned then None else Some eid

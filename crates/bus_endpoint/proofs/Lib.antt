@@ -1,0 +1,2 @@
+pub mod Come
+pub mod OneEid

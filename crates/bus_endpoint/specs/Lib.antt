@@ -1,0 +1,2 @@
+pub mod BusViews
+pub mod Coming
