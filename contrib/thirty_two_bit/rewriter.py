@@ -70,6 +70,7 @@ WITH_RESULT = [
 ]
 WITHOUT_RESULT = [
     rf"store {NUMBER} {VALUE}, ptr {VALUE}, align \d+",
+    rf"store i128 0, ptr {VALUE}, align \d+",
     rf"br label {LOCAL}",
     rf"br i1 {VALUE}, label {LOCAL}, label {LOCAL}",
     rf"switch {WORD} {VALUE}, label {LOCAL} \[",

@@ -86,6 +86,7 @@ join.12:                                          ; preds = %start
   call void @"a::c"(ptr %r0, i1 true) #2
   call void @llvm.trap()
   store i64 %r0, ptr %r1, align 1
+  store i128 0, ptr %r1, align 1
   br label %join.1
   br i1 %r0, label %join.1, label %else.2
   switch i8 %r0, label %default.1 [
@@ -105,6 +106,8 @@ STOPPING = {
     "loads a struct with a pointer, and notes something": "  %r0 = load { i8, ptr }, ptr %r1, align 8, !noundef !1",
     "stores a struct with a pointer whole": "  store { i8, ptr } %r0, ptr %r1, align 8",
     "loads a wide value that it does not return": "  %r0 = load [2 x i64], ptr %r1, align 8",
+    "stores a number of 16 bytes": "  store i128 %r0, ptr %r1, align 1",
+    "loads a number of 16 bytes": "  %r0 = load i128, ptr %r1, align 1",
     "stores a wide value that no call gave": "  store [2 x i64] %r0, ptr %r1, align 8",
     "returns a wide value that it did not load": "  ret [2 x i64] %r0",
     "a constant that holds a pointer": "@one = private unnamed_addr constant { ptr, i64 } { ptr @two, i64 1 }, align 8",
