@@ -1,6 +1,6 @@
 /*
  * Calls each codec with pseudo-random values, and prints how often it took them, and a hash of all that it wrote and
- * read. examples/check_c compares what it prints on two processors.
+ * read. tests/check_c compares what it prints on two processors.
  */
 #include "rounds.h"
 

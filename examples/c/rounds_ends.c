@@ -1,6 +1,6 @@
 /*
  * Makes each call of both ends, with pseudo-random requests and answers, packets that are lost or changed, and
- * restarts; prints how often things came, and a hash of all that the calls gave. examples/check_c compares what it
+ * restarts; prints how often things came, and a hash of all that the calls gave. tests/check_c compares what it
  * prints on two processors.
  */
 #include "rounds.h"

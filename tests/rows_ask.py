@@ -1,0 +1,215 @@
+"""Rows for `tests/check` over `ask`: the device that `serve` serves is at the other end of a pseudoterminal.
+
+The commands' answers are those that DSP0240 and DSP0248 give for the description of `device.toml`; the words of the
+lines are those of the rows of `show --decode`.
+"""
+import os
+import subprocess
+import tempfile
+import time
+
+from support import programs
+from support.frames import frame
+from support.programs import PIPES, SECONDS, run
+from support.terminals import Terminal
+
+SILENT = {**PIPES, "stdin": subprocess.DEVNULL}
+MORE = "\n\nFor more information, try '--help'.\n"
+
+# The endpoints of the description, and times for a line on which nothing is lost: 600 ms pass before the first request.
+ENDS = ("--own", "8", "--device", "9")
+TIMES = ("--keep", "300", "--timeout", "150", "--tries", "2")
+
+GET_TID = bytes.fromhex("010908c801800002")
+ANSWER = frame(bytes.fromhex("010809c0010000020001"))
+TID_IS_1 = "  response 0 GetTID tid 1\n"
+
+
+class Place(programs.Place):
+    """The same, with a device that is asked."""
+
+    def ask(self, *words, **how):
+        """The status, standard output and standard error."""
+        ran = run([self.program, "ask", *words], **{"stdin": subprocess.DEVNULL, **how})
+        return ran.returncode, ran.stdout, ran.stderr
+
+    def serve(self, terminal, *words):
+        words = [self.program, "serve", "--device", self.device, *words]
+        return subprocess.Popen(words, stdin=terminal.ours, stdout=terminal.ours, stderr=subprocess.DEVNULL)
+
+    def served(self, *words, log=None):
+        """The same where the described device is at the other end."""
+        with Terminal() as terminal:
+            served = self.serve(terminal, *(("--log", log) if log else ()))
+            try:
+                return self.ask("--line", terminal.name, *words)
+            finally:
+                served.terminate()
+                served.wait(timeout=SECONDS)
+
+
+def answered(rows, place):
+    """What is printed of an answer, and the status of its completion code."""
+    asked = (
+        ("an answer", ("gettid",), 0, TID_IS_1),
+        ("an answer in hex", ("--hex", "gettid"), 0, "010000020001\n"),
+        ("a set", ("setnum", "1", "uint8", "40"), 0, "  response 0 SetNumericEffecterValue SUCCESS\n"),
+        ("no such sensor", ("sensor", "99"), 1, "  response 0 GetSensorReading refused INVALID_SENSOR_ID\n"),
+        ("a refusal in hex", ("--hex", "sensor", "99"), 1, "0100021180\n"),
+    )
+    for name, words, status, out in asked:
+        ran = place.served(*ENDS, *TIMES, *words)
+        rows.check(f"asked: {name}", ran == (status, out.encode(), b""), repr(ran))
+
+
+def filed(rows, place):
+    """The commands of a file, one after another: each has the next instance ID, and the greatest status counts."""
+    text = "# set it, and read it back\nsetnum 1 uint8 40\n\n  getnum 1\n"
+    want = "  response 0 SetNumericEffecterValue SUCCESS\n"
+    want += "  response 1 GetNumericEffecterValue uint8 value 40 pending 40 operational enabled-noUpdatePending\n"
+    ran = place.served(*ENDS, *TIMES, "--file", place.write("commands", text))
+    rows.check("asked: two commands of a file", ran[0] == 0 and ran[1].decode() == want and ran[2] == b"", repr(ran))
+    text = "sensor 99\r\ngettid\r\n"
+    ran = place.served(*ENDS, *TIMES, "--hex", f"--file={place.write('commands', text)}")
+    rows.check("asked: a refusal, then an answer", ran == (1, b"0100021180\n010100020001\n", b""), repr(ran))
+    ran = place.served(*ENDS, *TIMES, "--file", place.write("commands", "\n# none\n"))
+    rows.check("asked: a file without a command", ran == (0, b"", b""), repr(ran))
+
+
+def unanswered(rows, place):
+    """No answer in the tries: nothing more is asked of a device that is not there, and each try is one frame."""
+    for name, words, err in (
+        ("another endpoint ID", ("gettid",), "mctpctl: no answer\n"),
+        ("a line of a file", ("--file", place.write("commands", "\ngettid\n")), "mctpctl: line 2: no answer\n"),
+    ):
+        ran = place.served("--own", "8", "--device", "10", *TIMES, *words)
+        rows.check(f"asked: {name} without an answer", ran == (3, b"", err.encode()), repr(ran))
+    with Terminal() as terminal:
+        ran = place.ask("--line", terminal.name, *ENDS, *TIMES, "gettid")
+        sent = terminal.read(0)
+    rows.check("asked: nobody is there", ran == (3, b"", b"mctpctl: no answer\n"), repr(ran))
+    rows.check("asked: as many frames as tries", sent == frame(GET_TID) * 2, sent.hex())
+
+
+def wait_until_open(asking, terminal):
+    """Until the program has the line open for reading and for writing; a second where the system does not tell."""
+    files, end = f"/proc/{asking.pid}/fd", time.monotonic() + (SECONDS if os.path.isdir("/proc/self/fd") else 1)
+    while time.monotonic() < end and asking.poll() is None:
+        try:
+            names = [os.readlink(os.path.join(files, file)) for file in os.listdir(files)]
+        except OSError:
+            names = []
+        if names.count(terminal.name) == 2:
+            return
+        time.sleep(0.02)
+
+
+def ended(rows, place):
+    """A line that ended, by reads of nothing at once, and one that cannot be opened, read or written."""
+    ran = place.ask("--line", "/dev/null", *ENDS, *TIMES, "gettid")
+    rows.check("asked: a line that ended", ran == (3, b"", b"mctpctl: the line ended\n"), repr(ran))
+    name = os.path.join(place.folder, "none")
+    ran = place.ask("--line", name, *ENDS, *TIMES, "gettid")
+    want = f"mctpctl: {name}: No such file or directory (os error 2)\n".encode()
+    rows.check("asked: a line that is not there", ran == (3, b"", want) and not os.path.exists(name), repr(ran))
+    with Terminal() as terminal:
+        words = [place.program, "ask", "--line", terminal.name, *ENDS, "gettid"]  # it waits for twelve seconds
+        asking = subprocess.Popen(words, **SILENT)
+        wait_until_open(asking, terminal)
+        os.close(terminal.ours)
+        terminal.ours = None
+        out, err = asking.communicate(timeout=SECONDS)
+    gone = (b"mctpctl: the line ended\n", b"mctpctl: read fault\n")  # the system tells a hangup in one of these ways
+    well = (asking.returncode, out) == (3, b"") and err in gone
+    rows.check("asked: a terminal that goes away", well, repr((asking.returncode, out, err)))
+
+
+def refused(rows, place):
+    """Command lines, commands and timings that are refused, before a byte is written."""
+    none = "either a COMMAND or '--file <FILE>' is needed"
+    commands = place.write("commands", "gettid\n")
+    lines = (
+        ("an endpoint ID that is none", ("--own", "7", "--device", "9", "gettid"), "invalid value for '--own <EID>'"),
+        ("a device that is none", ("--own", "8", "--device", "255", "gettid"), "invalid value for '--device <EID>'"),
+        ("a keeping time of 0", (*ENDS, "--keep", "0", "gettid"), "invalid value for '--keep <MS>'"),
+        ("a timeout that is no number", (*ENDS, "--timeout", "x", "gettid"), "invalid value for '--timeout <MS>'"),
+        ("nine tries", (*ENDS, "--tries", "9", "gettid"), "invalid value for '--tries <N>'"),
+        ("tries that take too long", (*ENDS, "--keep", "300", "gettid"), "the tries take longer than the keeping time"),
+        ("a timeout of 0", (*ENDS, "--timeout", "0", "gettid"), "the timeout is 0"),
+        ("no tries", (*ENDS, "--tries", "0", "gettid"), "the tries are not 1 to 8"),
+        ("the device itself", ("--own", "9", "--device", "9", "gettid"), "the device has the same endpoint ID"),
+        ("no command", ENDS, none),
+        ("a command and a file", (*ENDS, "--file", commands, "gettid"), none),
+        ("a comment for a command", (*ENDS, "# gettid"), none),
+        ("a word that is no command", (*ENDS, "getid"), "COMMAND: Words"),
+        ("a number out of range", (*ENDS, "settid", "256"), "COMMAND: Number"),
+    )
+    for name, words, err in lines:
+        with Terminal() as terminal:
+            ran = place.ask("--line", terminal.name, *words)
+            sent = terminal.read(0)
+        rows.check(f"asked: {name}", (*ran, sent) == (2, b"", f"error: {err}{MORE}".encode(), b""), repr(ran))
+    for words in (("gettid",), ("--own", "8", "gettid"), (*ENDS, *ENDS, "gettid"), (*ENDS, "--explain", "gettid")):
+        status, out, err = place.ask(*words)
+        rows.check(f"asked: refused words {words}", (status, out) == (2, b"") and b"Usage: mctpctl" in err, repr(err))
+    files = (
+        ("a line that is no command", "gettid\n\nsettid\n", 2, "line 3: Words"),
+        ("a file that is too long", "#" * 1048577, 2, "input too large"),
+        ("a file that is not there", None, 3, "No such file or directory (os error 2)"),
+    )
+    for name, text, status, line in files:
+        path = os.path.join(place.folder, "none") if text is None else place.write("commands", text)
+        ran = place.ask("--line", "/dev/null", *ENDS, "--file", path)
+        rows.check(f"asked: {name}", ran == (status, b"", f"mctpctl: {path}: {line}\n".encode()), repr(ran))
+
+
+def waited(rows, place):
+    """Twice the keeping time passes first, whatever comes meanwhile: an answer to an earlier request is none."""
+    with Terminal() as terminal:
+        words = [place.program, "ask", "--line", terminal.name, *ENDS, *TIMES, "gettid"]
+        began = time.monotonic()
+        asking = subprocess.Popen(words, **SILENT)
+        terminal.write(frame(bytes.fromhex("010809c001000002007e")))  # the answer of an earlier one
+        sent = terminal.read()
+        passed = time.monotonic() - began
+        terminal.write(ANSWER)
+        out, err = asking.communicate(timeout=SECONDS)
+    well = (asking.returncode, out, err, sent) == (0, TID_IS_1.encode(), b"", frame(GET_TID))
+    rows.check("asked: after twice the keeping time", well and passed >= 0.6, repr((passed, sent.hex(), out, err)))
+
+
+def lost(rows, place):
+    """A request that got no answer is sent again: the second copy is answered, amid garbage and cut frames."""
+    with Terminal() as terminal:
+        words = [place.program, "ask", "--line", terminal.name, *ENDS, *TIMES, "gettid"]
+        asking = subprocess.Popen(words, **SILENT)
+        sent = []
+        for back in (b"\x00\xff" * 40 + ANSWER[:9], ANSWER):
+            sent.append(terminal.read())
+            terminal.write(back)
+        out, err = asking.communicate(timeout=SECONDS)
+    well = (asking.returncode, out, err) == (0, TID_IS_1.encode(), b"") and sent == [frame(GET_TID)] * 2
+    rows.check("asked: a request that is sent again", well, repr((out, err, sent)))
+
+
+def on_standard_input(rows, place):
+    """Without `--line` the line is standard input and output, and answers are on standard error."""
+    with Terminal() as terminal:
+        served = place.serve(terminal)
+        try:
+            ends = {"stdin": terminal.its, "stdout": terminal.its}
+            status, _, err = place.ask(*ENDS, *TIMES, "gettid", **ends)
+        finally:
+            served.terminate()
+            served.wait(timeout=SECONDS)
+    rows.check("asked: on standard input and output", (status, err) == (0, TID_IS_1.encode()), repr(err))
+    ran = place.ask(*ENDS, *TIMES, "gettid")
+    rows.check("asked: standard input that ended", ran == (3, b"", b"mctpctl: the line ended\n"), repr(ran))
+
+
+def check(rows, program, device):
+    """Checks each row over the program, with the description of this text."""
+    with tempfile.TemporaryDirectory() as folder:
+        place = Place(program, folder, device)
+        for part in (answered, filed, unanswered, ended, refused, waited, lost, on_standard_input):
+            part(rows, place)

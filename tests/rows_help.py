@@ -1,0 +1,127 @@
+"""The help of the program: whole, as `crates/mctpctl/src/help.rt` and clap's layout have it, and its examples run."""
+import os
+import re
+import tempfile
+
+from support import programs
+from support.examples import ROOT
+
+ABOUT = {
+    "answer": "Answers the packets of a capture as the described device does",
+    "run": "Runs requesters and the described device over a schedule of what is delivered",
+    "show": "Shows the packets of a capture and the messages that they complete",
+}
+SERVES = "Serves the described device on a serial line, standard input and output"
+ASKS = "Asks a device on a serial line, and prints its answers"
+TOP_OPTIONS = "Options:\n  -h, --help     Print help\n  -V, --version  Print version\n"
+
+
+def constants():
+    """The texts of the source file, by their names."""
+    with open(os.path.join(ROOT, "crates", "mctpctl", "src", "help.rt")) as source:
+        found = re.findall(r'pub const (\w+): &str =\s+"(?:\\\n)?(.*?)";', source.read(), re.S)
+    return {name: text.replace('\\"', '"').replace("\\n", "\n") for name, text in found}
+
+
+def examples_in(text):
+    """The indented runs of lines, without their indent."""
+    runs = re.findall(r"(?:^  .*\n|^\n(?=  ))+", text + "\n", re.M)
+    return [re.sub(r"^  ", "", run.strip("\n"), flags=re.M) + "\n" for run in runs]
+
+
+def options_of(texts, subcommand):
+    """The options of a subcommand that takes a text, in a column as wide as the longest."""
+    found = [("--explain", texts["EXPLAIN"])]
+    if subcommand == "show":
+        found += [("--decode", texts["DECODE"]), (f"--binding <{texts['BINDINGS']}>", texts["BINDING"])]
+    width = 2 + max(len(option) for option, _ in found)
+    lines = "".join(f"      {option:<{width}}{about}\n" for option, about in found)
+    return f"Options:\n{lines}  -h, {'--help':<{width}}Print help\n"
+
+
+def whole(texts):
+    """Each command line that asks for help, and all that is to be written for it."""
+    commands = "".join(f"  {name:<8}{about}\n" for name, about in (*ABOUT.items(), ("serve", SERVES), ("ask", ASKS)))
+    commands += "  help    Print this message or the help of the given subcommand(s)\n"
+    first = "A simulated PLDM device behind MCTP, on standard input and output\n\nUsage: mctpctl <COMMAND>\n\n"
+    top = f"{first}Commands:\n{commands}\n{TOP_OPTIONS}\n{texts['STATUSES']}\n"
+    yield ["--version"], f"mctpctl {texts['VERSION']}\n"
+    yield ["-V"], f"mctpctl {texts['VERSION']}\n"
+    yield ["--help"], top
+    yield ["-h"], top
+    yield ["help"], top
+    for name, about in ABOUT.items():
+        flags = options_of(texts, name)
+        page = f"{about}\n\nUsage: mctpctl {name} [OPTIONS]\n\n{flags}\n{texts[name.upper()]}\n"
+        yield [name, "--help"], page
+        yield ["help", name], page
+    options = (("--device <FILE>", "DEVICE"), ("--log <FILE>", "LOG"), ("--verbose", "VERBOSE"))
+    flags = "".join(f"      {option:<17}{texts[name]}\n" for option, name in options)
+    flags += "  -h, --help           Print help\n"
+    page = f"{SERVES}\n\nUsage: mctpctl serve [OPTIONS] --device <FILE>\n\nOptions:\n{flags}\n{texts['SERVE']}\n"
+    yield ["serve", "--help"], page
+    yield ["help", "serve"], page
+    page = help_of_ask(texts)
+    yield ["ask", "--help"], page
+    yield ["help", "ask"], page
+
+
+# The options of `ask`, and the texts of the source file that say what they are.
+ASKED = (
+    ("--line <PATH>", "LINE"),
+    ("--own <EID>", "OWN"),
+    ("--device <EID>", "ASKED"),
+    ("--keep <MS>", "KEEP"),
+    ("--timeout <MS>", "TIMEOUT"),
+    ("--tries <N>", "TRIES"),
+    ("--hex", "HEX"),
+    ("--file <FILE>", "COMMANDS"),
+)
+
+
+def help_of_ask(texts):
+    """Its options, whose column is as wide as the longest, and the words of the command before them."""
+    flags = "".join(f"      {option:<16}{texts[name]}\n" for option, name in ASKED)
+    flags += "  -h, --help          Print help\n"
+    words = f"Arguments:\n  [COMMAND]...  {texts['COMMAND']}\n"
+    usage = "Usage: mctpctl ask [OPTIONS] --own <EID> --device <EID> [COMMAND]..."
+    return f"{ASKS}\n\n{usage}\n\n{words}\nOptions:\n{flags}\n{texts['ASK']}\n"
+
+
+def served(rows, program, device, text):
+    """The frames in the help of `serve`, which stand there in hex."""
+    asked, answered = (bytes.fromhex(example) for example in examples_in(text)[:2])
+    with tempfile.NamedTemporaryFile("w", suffix=".toml") as file:
+        file.write(device)
+        file.flush()
+        ran = programs.run([program, "serve", "--device", file.name], input=asked)
+    rows.check("the example in the help of serve", (ran.returncode, ran.stdout) == (0, answered), repr(ran))
+
+
+def toolchain(rows, version):
+    """The version and the README name one toolchain, and its logic is that of the one that is here."""
+    named = re.search(r"\((.* logic (\w+))\)$", version)
+    with open(os.path.join(ROOT, "README.md")) as text:
+        well = named is not None and f"`{named[1]}`" in text.read()
+    rows.check("the version names the README's toolchain", well, version)
+    kit = programs.run(["rt", "version"], text=True).stdout.strip()
+    rows.check("the version names the toolchain's logic", named is not None and kit.endswith(f" logic {named[2]}"), kit)
+
+
+def check(rows, run, program):
+    """Checks each row; `run(arguments, text)` runs the program, whose name is None where `serve` cannot be run."""
+    texts = constants()
+    for arguments, text in whole(texts):
+        ran = run(arguments, "")
+        well = (ran.returncode, ran.stdout.decode(), ran.stderr) == (0, text, b"")
+        rows.check(f"the whole help of {arguments}", well, repr(ran.stdout[:80]))
+    toolchain(rows, texts["VERSION"])
+    given, answered = examples_in(texts["ANSWER"])[:2]
+    device = given[: given.index("%%")]
+    _, schedule, report = examples_in(texts["RUN"])[:3]
+    capture, shown = examples_in(texts["SHOW"])[:2]
+    for name, text, want in (("answer", given, answered), ("run", f"{device}%%\n{schedule}", report), ("show", capture, shown)):
+        ran = run([name], text)
+        rows.check(f"the example in the help of {name}", ran.stdout.decode() == want, repr(ran.stdout[:80]))
+    if program:
+        served(rows, program, device, texts["SERVE"])

@@ -1,0 +1,37 @@
+"""A serial line that is a pseudoterminal."""
+import os
+import select
+import termios
+import tty
+
+from support.programs import SECONDS
+
+
+class Terminal:
+    """A pseudoterminal that is set as the help of `ask` says. `ask` opens it by its name; the test has its other end."""
+
+    def __init__(self):
+        self.ours, self.its = os.openpty()
+        tty.setraw(self.its)
+        how = termios.tcgetattr(self.its)
+        how[6][termios.VMIN], how[6][termios.VTIME] = 0, 1
+        termios.tcsetattr(self.its, termios.TCSANOW, how)
+        self.name = os.ttyname(self.its)
+
+    def fileno(self):
+        return self.ours
+
+    def read(self, seconds=SECONDS):
+        """What was written on the line, or nothing where nothing is in that time."""
+        return os.read(self.ours, 4096) if select.select([self.ours], [], [], seconds)[0] else b""
+
+    def write(self, data):
+        os.write(self.ours, data)
+
+    def __enter__(self):
+        return self
+
+    def __exit__(self, *_):
+        for end in (self.ours, self.its):
+            if end is not None:
+                os.close(end)
