@@ -28,14 +28,17 @@ class Examples:
         self.devices = []
         self.captures = []
         for name in sorted(os.listdir(EXAMPLES)):
-            with open(os.path.join(EXAMPLES, name), "rb") as file:
-                text = file.read()
-            if name.endswith(".toml"):
-                self.devices.append(text)
-            elif name.endswith(".txt") and b"\n%%\n" in text:
-                device, capture = text.split(b"\n%%\n", 1)
-                self.devices.append(device + b"\n")
-                self.captures.append(capture)
+            if name.endswith((".toml", ".txt")):
+                with open(os.path.join(EXAMPLES, name), "rb") as file:
+                    self.add(name, file.read())
+
+    def add(self, name, text):
+        if name.endswith(".toml"):
+            self.devices.append(text)
+        elif b"\n%%\n" in text:
+            device, lines = text.split(b"\n%%\n", 1)
+            self.devices.append(device + b"\n")
+            self.captures.append(lines)
 
 
 def eid_of(device):
