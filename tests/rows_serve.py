@@ -1,7 +1,7 @@
 """Rows for `tests/check` over `serve`: frames through pipes and a pseudoterminal, and how the program ends.
 
-The frames are made and read by `support/frames.py`, and the packets of the answers are those of the examples' expected
-files. Moments are those of the clock, so only such examples are served whose answers do not depend on them.
+The frames are made and read by `tests/support/frames.py`, and the packets of the answers are those of the examples'
+expected files. Moments are those of the clock, so only such examples are served whose answers do not depend on them.
 """
 import os
 import pty

@@ -8,7 +8,7 @@ from support.programs import SECONDS
 
 
 class Terminal:
-    """A pseudoterminal that is set as the help of `ask` says. `ask` opens it by its name; the test has its other end."""
+    """A pseudoterminal, set as the help of `ask` says. `ask` opens it by its name; the other end is the test's."""
 
     def __init__(self):
         self.ours, self.its = os.openpty()
