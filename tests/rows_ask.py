@@ -178,6 +178,46 @@ def waited(rows, place):
     rows.check("asked: after twice the keeping time", well and passed >= 0.6, repr((passed, sent.hex(), out, err)))
 
 
+def first_wait(place, *words):
+    """The seconds until the first request comes, which is then answered, and how the run ended."""
+    with Terminal() as terminal:
+        words = [place.program, "ask", "--line", terminal.name, *ENDS, *TIMES, *words, "gettid"]
+        began = time.monotonic()
+        asking = subprocess.Popen(words, **PIPES)
+        terminal.read()
+        passed = time.monotonic() - began
+        terminal.write(ANSWER)
+        out, err = asking.communicate(timeout=SECONDS)
+    return passed, (asking.returncode, out, err)
+
+
+def stated(rows, place):
+    """The file of a state: a run waits only as long as answers to the one before may still come."""
+    path, ended = os.path.join(place.folder, "last"), (0, TID_IS_1.encode(), b"")
+    began = int(time.time() * 1000)
+    passed, ran = first_wait(place, "--state", path)
+    with open(path) as file:
+        kept = file.read()
+    well = kept.isdecimal() and began <= int(kept) <= time.time() * 1000
+    rows.check("asked: a new state", ran == ended and passed >= 0.6 and well, repr((passed, ran, kept)))
+    time.sleep(0.7)
+    passed, ran = first_wait(place, "--state", path)
+    rows.check("asked: a state of long ago", ran == ended and passed < 0.5, repr((passed, ran)))
+    for name, text in (("to come", str(int(time.time() * 1000) + 60000)), ("of a run that broke off", "")):
+        passed, ran = first_wait(place, "--state", place.write("last", text))
+        rows.check(f"asked: a state {name}", ran == ended and passed >= 0.6, repr((passed, ran)))
+    for text in ("12x", "1\n", "12345678901234567"):
+        ran = place.ask("--line", "/dev/null", *ENDS, *TIMES, "--state", place.write("last", text), "gettid")
+        with open(path) as file:
+            well = file.read() == text
+        want = (2, b"", f"mctpctl: {path}: no state of a device\n".encode())
+        rows.check(f"asked: a state of {text!r}", ran == want and well, repr(ran))
+    path = os.path.join(place.folder, "none", "last")
+    ran = place.ask("--line", "/dev/null", *ENDS, *TIMES, "--state", path, "gettid")
+    want = (3, b"", f"mctpctl: {path}: No such file or directory (os error 2)\n".encode())
+    rows.check("asked: a state that cannot be kept", ran == want, repr(ran))
+
+
 def lost(rows, place):
     """A request that got no answer is sent again: the second copy is answered, amid garbage and cut frames."""
     with Terminal() as terminal:
@@ -211,5 +251,5 @@ def check(rows, program, device):
     """Checks each row over the program, with the description of this text."""
     with tempfile.TemporaryDirectory() as folder:
         place = Place(program, folder, device)
-        for part in (answered, filed, unanswered, ended, refused, waited, lost, on_standard_input):
+        for part in (answered, filed, unanswered, ended, refused, waited, stated, lost, on_standard_input):
             part(rows, place)

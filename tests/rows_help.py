@@ -74,6 +74,7 @@ ASKED = (
     ("--keep <MS>", "KEEP"),
     ("--timeout <MS>", "TIMEOUT"),
     ("--tries <N>", "TRIES"),
+    ("--state <FILE>", "STATE"),
     ("--hex", "HEX"),
     ("--file <FILE>", "COMMANDS"),
 )

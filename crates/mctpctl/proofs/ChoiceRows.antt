@@ -132,6 +132,7 @@ by_words count = record {
   timeout = None;
   tries = None;
   hex = false;
+  state = None;
   file = None;
   count = count;
 }
@@ -147,7 +148,7 @@ ask = refl
 asked_with_all :
     choice_of
     (codes "mctpctl" ∷ codes "ask" ∷ codes "--line=tty" ∷ codes "--own=8" ∷ codes "--device=9" ∷ codes "--keep=1000"
-    ∷ codes "--timeout=300" ∷ codes "--tries=3" ∷ codes "--hex" ∷ codes "setnum" ∷ codes "1" ∷ codes "sint8" ∷ codes "-5"
+    ∷ codes "--timeout=300" ∷ codes "--tries=3" ∷ codes "--state=last" ∷ codes "--hex" ∷ codes "setnum" ∷ codes "1" ∷ codes "sint8" ∷ codes "-5"
     ∷ [])
     ≡ Some (to_ask (record (by_words 4) {
       line = Some (codes "tty");
@@ -155,6 +156,7 @@ asked_with_all :
       timeout = Some (codes "300");
       tries = Some (codes "3");
       hex = true;
+      state = Some (codes "last");
     }))
 unfolding clap_on_literals
 asked_with_all = refl

@@ -82,6 +82,10 @@ timed_subcommand =
     with_rule (with_rule (with_rule line_subcommand (value_option (codes "keep"))) (value_option (codes "timeout")))
     (value_option (codes "tries"))
 
+-- and the file of its state
+abbrev pub stated_subcommand : App
+stated_subcommand = with_rule timed_subcommand (value_option (codes "state"))
+
 abbrev pub one_or_more : ValueRange
 one_or_more = record { start_inclusive = 1; end_inclusive = usize_max }
 
@@ -96,7 +100,7 @@ command_words = record (new_rule (codes "command")) {
 
 abbrev pub ask_subcommand : App
 ask_subcommand =
-    with_rule (with_rule (with_rule timed_subcommand (flag (codes "hex"))) (value_option (codes "file")))
+    with_rule (with_rule (with_rule stated_subcommand (flag (codes "hex"))) (value_option (codes "file")))
     command_words
 
 abbrev pub command : App
@@ -139,6 +143,7 @@ pub record Questioned : Type 0 where
   pub timeout : Option (List ℕ)
   pub tries : Option (List ℕ)
   pub hex : Bool
+  pub state : Option (List ℕ)
   pub file : Option (List ℕ)
   -- how many words at the end of the line are the command
   pub count : ℕ
@@ -163,6 +168,7 @@ questioned q = record {
   timeout = option_map (λ text. text.now) q.timeout;
   tries = option_map (λ text. text.now) q.tries;
   hex = q.hex;
+  state = option_map (λ text. text.now) q.state;
   file = option_map (λ text. text.now) q.file;
   count = q.count;
 }
@@ -198,6 +204,7 @@ question_in rows =
       timeout = first_of (codes "timeout") rows;
       tries = first_of (codes "tries") rows;
       hex = is_given (codes "hex") rows;
+      state = first_of (codes "state") rows;
       file = first_of (codes "file") rows;
       count = values_given (codes "command") rows;
     }) (first_of (codes "device") rows)) (first_of (codes "own") rows)

@@ -5,3 +5,4 @@ pub mod FaultNumbers
 pub mod LineFaults
 pub mod ServedTexts
 pub mod Settings
+pub mod States

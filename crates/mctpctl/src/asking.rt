@@ -1,6 +1,6 @@
 //! `ask`: commands go out to a device on a serial line, and their answers are printed.
 
-ghost use Rattle.std.specs.Prelude.{◌≡◌, ◌++◌, IfOk, OnOk, false};
+ghost use Rattle.std.specs.Prelude.{◌≡◌, ◌++◌, ◌<◌, ◌^◌, IfOk, OnOk, false};
 ghost use Rattle.mctpctl.specs.AskedTexts.{Tells, message_text, status_of_message};
 ghost use Rattle.mctpctl_ask.specs.Asked.{shown};
 ghost use Rattle.mctpctl_input.specs.Ports.{has_failed, inner_of};
@@ -9,8 +9,9 @@ use crate::choose::Question;
 use crate::commands::{CommandsFault, read_commands};
 use crate::help::{NO_COMMAND, TRY_HELP};
 use crate::settings::{Settings, settings_of};
+use crate::state::{StateFault, begin_state, end_state};
 use mctp_packet::Memory;
-use mctpctl_ask::{AskFault, Asked, AskingLine, BeginFault, SystemTicks, Ticks, ask, begin};
+use mctpctl_ask::{AskFault, Asked, AskingLine, BeginFault, SystemTicks, Ticks, ask, begin_after};
 use mctpctl_decode::push_decoded_line;
 use mctpctl_input::Port;
 use mctpctl_texts::{write_data, write_text};
@@ -38,6 +39,8 @@ const FAILED: u8 = 3;
 struct Talk<'q> {
     question: &'q Question<'q>,
     settings: Settings,
+    /// For how many milliseconds answers to earlier requests may still come.
+    span: u64,
     commands: &'q Schedule,
 }
 
@@ -54,10 +57,39 @@ pub fn ask_device(rt: &HostRuntime, question: &Question<'_>, words: &[&str]) -> 
         Ok(commands) => commands,
         Err(fault) => return commands_failed(rt, question, &fault),
     };
+    match ask_all(rt, question, &settings, &commands) {
+        Ok(status) => status,
+        Err(fault) => state_failed(rt, question, &fault),
+    }
+}
+
+/// Asks each command, with the state that a file keeps, and returns the exit status.
+fn ask_all(
+    rt: &HostRuntime,
+    question: &Question<'_>,
+    settings: &Settings,
+    commands: &Schedule,
+) -> Result<u8, StateFault> {
+    let span = begin_state(rt, question.state, settings.timing.keep)?;
+    let status = talk_on_line(rt, question, settings, span, commands);
+    end_state(rt, question.state, status)
+}
+
+/// Asks each command over the line that is named, and returns the exit status.
+fn talk_on_line(
+    rt: &HostRuntime,
+    question: &Question<'_>,
+    settings: &Settings,
+    span: u64,
+    commands: &Schedule,
+) -> u8
+    requires { span < 2 ^ 60 }
+{
     let talk = Talk {
         question: &*question,
-        settings,
-        commands: &commands,
+        settings: *settings,
+        span,
+        commands: &*commands,
     };
     let Some(path) = question.line else {
         return talk_over(rt, &talk, rt.stdin(), rt.stdout(), rt.stderr());
@@ -66,6 +98,25 @@ pub fn ask_device(rt: &HostRuntime, question: &Question<'_>, words: &[&str]) -> 
         Ok((reader, writer)) => talk_over(rt, &talk, reader, writer, rt.stdout()),
         Err(error) => {
             let _ = eprintln!(rt; "mctpctl: {path}: {error}");
+            FAILED
+        }
+    }
+}
+
+/// Says why the file of the state is of no use, and returns the exit status.
+fn state_failed(rt: &HostRuntime, question: &Question<'_>, fault: &StateFault) -> u8 {
+    let file = question.state.unwrap_or("");
+    match fault {
+        StateFault::File(error) => {
+            let _ = eprintln!(rt; "mctpctl: {file}: {error}");
+            FAILED
+        }
+        StateFault::Content => {
+            let _ = eprintln!(rt; "mctpctl: {file}: no state of a device");
+            USAGE
+        }
+        StateFault::Clock => {
+            let _ = eprintln!(rt; "mctpctl: clock fault");
             FAILED
         }
     }
@@ -116,7 +167,9 @@ fn talk_over<R: Read + Drop, W: Write + Drop, O: Write + Drop>(
     reader: R,
     writer: W,
     out: O,
-) -> u8 {
+) -> u8
+    requires { talk.now.span < 2 ^ 60 }
+{
     let Ok(ticks) = SystemTicks::new(rt) else {
         return line_failed(rt, AskFault::Clock);
     };
@@ -127,11 +180,12 @@ fn talk_over<R: Read + Drop, W: Write + Drop, O: Write + Drop>(
     } = talk.settings;
     let mut reader = Port::new(reader);
     let mut writer = Port::new(writer);
-    let mut line = match begin(
+    let mut line = match begin_after(
         rt.alloc(),
         own,
         device,
         timing,
+        talk.span,
         ticks,
         &mut reader,
         &mut writer,

@@ -4,11 +4,12 @@ ghost use Rattle.std.specs.Prelude.{◌≡◌, IfOk, IfErr, Some, false, map, op
 ghost use Rattle.mctp_packet.specs.Memories.{out_of_memory};
 ghost use Rattle.clap.specs.Words.{app_of, first_of, found_of, kind_of, rows_of, rule_of, subcommand_rows_of};
 ghost use Rattle.mctpctl.specs.FaultNumbers.{number_of_choose_fault};
-ghost use Rattle.mctpctl.specs.Choice.{ask_subcommand as the_ask_subcommand, asked, binding_in, binding_named, choice_in as the_choice, choice_of, command as the_command, command_words as the_command_words, device_command as the_device_command, flag as the_flag, has_globals, is_given, line_command as the_line_command, line_subcommand as the_line_subcommand, program as the_program, question_in, questioned, serve_subcommand as the_serve_subcommand, served, service_in, show_subcommand as the_show_subcommand, task_named, text_command as the_text_command, text_subcommand as the_text_subcommand, text_task_in, timed_subcommand as the_timed_subcommand, value_option as the_value_option, values_given, ReportsKind, ReportsRefusal};
+ghost use Rattle.mctpctl.specs.Choice.{ask_subcommand as the_ask_subcommand, asked, binding_in, binding_named, choice_in as the_choice, choice_of, command as the_command, command_words as the_command_words, device_command as the_device_command, flag as the_flag, has_globals, is_given, line_command as the_line_command, line_subcommand as the_line_subcommand, program as the_program, question_in, questioned, serve_subcommand as the_serve_subcommand, served, service_in, show_subcommand as the_show_subcommand, stated_subcommand as the_stated_subcommand, task_named, text_command as the_text_command, text_subcommand as the_text_subcommand, text_task_in, timed_subcommand as the_timed_subcommand, value_option as the_value_option, values_given, ReportsKind, ReportsRefusal};
 
 use crate::help::{
     ANSWER, ASK, ASKED, BINDING, BINDINGS, COMMAND, COMMANDS, DECODE, DEVICE, EXPLAIN, HEX, KEEP,
-    LINE, LOG, NO_BINDING, OWN, RUN, SERVE, SHOW, STATUSES, TIMEOUT, TRIES, VERBOSE, VERSION,
+    LINE, LOG, NO_BINDING, OWN, RUN, SERVE, SHOW, STATE, STATUSES, TIMEOUT, TRIES, VERBOSE,
+    VERSION,
 };
 use clap::error::ErrorKind;
 use clap::{Arg, ArgAction, ArgMatches, Command};
@@ -80,6 +81,8 @@ pub struct Question<'a> {
     pub tries: Option<&'a str>,
     /// Whether answers are printed in hex (`--hex`).
     pub hex: bool,
+    /// The file that keeps when the device was asked last (`--state`).
+    pub state: Option<&'a str>,
     /// The file of the commands (`--file`).
     pub file: Option<&'a str>,
     /// So many words at the end of the command line are the command.
@@ -216,10 +219,18 @@ fn ask_subcommand<'a>(alloc: Global) -> Result<Command<'a>, AllocError>
     ensures app { IfOk result (λ command. app_of command ≡ the_ask_subcommand) }
     ensures local { IfOk result (λ command. has_globals command ≡ false) }
 {
-    timed_subcommand(alloc)?
+    stated_subcommand(alloc)?
         .arg(flag(alloc, "hex", HEX))?
         .arg(value_option(alloc, "file", "FILE", COMMANDS))?
         .arg(command_words(alloc))
+}
+
+/// The subcommand `ask`, with the options of its line, of time and of its state.
+fn stated_subcommand<'a>(alloc: Global) -> Result<Command<'a>, AllocError>
+    ensures app { IfOk result (λ command. app_of command ≡ the_stated_subcommand) }
+    ensures local { IfOk result (λ command. has_globals command ≡ false) }
+{
+    timed_subcommand(alloc)?.arg(value_option(alloc, "state", "FILE", STATE))
 }
 
 /// The subcommand `ask`, with the options of its line and of time.
@@ -383,6 +394,7 @@ fn question_of<'a>(matches: &ArgMatches<'a>) -> Option<Question<'a>>
         timeout: value(matches, "timeout"),
         tries: value(matches, "tries"),
         hex: is_given(matches, "hex"),
+        state: value(matches, "state"),
         file: value(matches, "file"),
         count: count_of(matches, "command"),
     })

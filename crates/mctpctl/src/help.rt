@@ -54,6 +54,9 @@ pub const TRIES: &str = "How often a request is sent at most, 1 to 8 [default: 3
 /// What `--hex` does.
 pub const HEX: &str = "Print answers as bytes in hex";
 
+/// What `--state` names.
+pub const STATE: &str = "Keep in this file when the device was asked last, and wait less";
+
 /// What `--file` names.
 pub const COMMANDS: &str = "Ask the commands on the lines of this file, one after another";
 
@@ -232,7 +235,8 @@ error:
 
 Instance IDs begin at 0 each time. So twice the keeping time passes first, and what comes
 then is dropped: an answer to an earlier request is none to a new one. Where the device
-keeps its answers for less time, --keep 1000 --timeout 300 makes that two seconds.
+keeps its answers for less time, --keep 1000 --timeout 300 makes that two seconds. With
+--state FILE, a file for each device and --own, the time since the last 'ask' counts.
 
 Exit status, the greatest where there are several commands:
   0  the answer has the completion code SUCCESS

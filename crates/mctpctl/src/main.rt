@@ -12,6 +12,7 @@ mod faults;
 mod help;
 mod serial_line;
 mod settings;
+mod state;
 
 ghost use Rattle.std.specs.Prelude.{◌≡◌, false};
 ghost use Rattle.mctpctl_input.specs.Ports.{has_failed};

@@ -8,7 +8,7 @@ mod quiet;
 mod turn;
 
 pub use fault::{AskFault, BeginFault};
-pub use line::{Asked, AskingLine, Ended, ask, begin, listen};
+pub use line::{Asked, AskingLine, Ended, ask, begin, begin_after, listen};
 pub use mctpctl_input::Port;
 pub use mctpctl_serve::{ListTicks, SystemTicks, Ticks};
 pub use quiet::{END_MS, END_READS};

@@ -99,6 +99,38 @@ pub fn begin<C: Ticks + Drop, R: Read, W: Write>(
     ensures write { IsErrOf result (BeginFault.Line AskFault.Write) ↔ (has_failed writer.new ≡ true) }
 {
     let span = settling_time(&timing);
+    begin_after(alloc, own, device, timing, span, ticks, reader, writer)
+}
+
+/// As [`begin`], where answers to earlier requests of `own` may come for so many milliseconds yet, up to twice the keeping
+/// time after the last of them was opened: that time passes, reading, before a request may be opened. Packets that come meanwhile are dropped, and nothing is written.
+///
+/// # Errors
+///
+/// `Timing` where the requester refuses the timing; nothing is read then. `Line` as from [`listen`].
+pub fn begin_after<C: Ticks + Drop, R: Read, W: Write>(
+    alloc: Global,
+    own: Eid,
+    device: Eid,
+    timing: Timing,
+    span: u64,
+    ticks: C,
+    reader: &mut Port<R>,
+    writer: &mut Port<W>,
+) -> Result<AskingLine<C>, BeginFault>
+    requires reads { has_failed reader.old ≡ false }
+    requires writes { has_failed writer.old ≡ false }
+    requires span { span < 2 ^ 60 }
+    ensures begun { IfOk result (λ line. Listens span
+        (begun_as C.to_come R.remaining W.contents own device timing ticks reader.old writer.old)
+        (shown C.to_come R.remaining W.contents line reader.new writer.new)) }
+    ensures silent { result ≢ Err (BeginFault.Line AskFault.Write)
+        → Keeps (W.contents (inner_of writer.old)) (W.contents (inner_of writer.new)) }
+    ensures ok { OnOk result (timing_fault own device timing ≡ None) }
+    ensures refused { IfErr result (RefusesTiming own device timing) }
+    ensures read { IsErrOf result (BeginFault.Line AskFault.Read) ↔ (has_failed reader.new ≡ true) }
+    ensures write { IsErrOf result (BeginFault.Line AskFault.Write) ↔ (has_failed writer.new ≡ true) }
+{
     let requester = match Requester::new(alloc, own, device, timing) {
         Ok(requester) => requester,
         Err(fault) => return Err(BeginFault::Timing(fault)),

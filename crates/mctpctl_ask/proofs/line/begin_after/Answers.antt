@@ -1,29 +1,29 @@
 -- A new line listened, and nothing was written.
-use Rattle.std.proofs.Common.{◌≡◌, ◌*◌, refl, ap, ◌∙◌, rules, Err}
+use Rattle.std.proofs.Common.{◌≡◌, refl, ap, ◌∙◌, rules, Err}
 use Rattle.mctpctl_ask.proofs.Going.{begun_so}
 use Rattle.mctpctl_ask.proofs.SameHeld.{same_held}
 use Rattle.mctpctl_ask.proofs.Silent.{listens_silent, stops_silent}
 use Rattle.mctpctl_ask.specs.Asked.{begun_as, shown}
 use Rattle.mctpctl_ask.specs.Turns.{quiet_from}
 use Rattle.mctpctl_ask.specs.declared.fault.BeginFault.TheVariants.{Line}
-use Rattle.mctpctl_ask.proofs.line.begin.Goals as goal
+use Rattle.mctpctl_ask.proofs.line.begin_after.Goals as goal
 
 pub returns-in-Ok-listen-clause-begun : goal.returns-in-Ok-listen-clause-begun
 returns-in-Ok-listen-clause-begun g c =
     let none : c.unwrap.result ≡ 0 = search rules in
-    begun_so c.settling_time-span.result (2 * c.args.timing.keep)
+    begun_so c.args.span c.args.span
     (shown g.C.Ticks.to_come g.R.Read.remaining g.W.Write.contents
     (record { frames = c.new-2.result; requester = c.in-Ok.requester; quiet = c.new-4.result; ticks = c.args.ticks })
     c.args.reader.now c.args.writer.now)
     (begun_as g.C.Ticks.to_come g.R.Read.remaining g.W.Write.contents c.args.own c.args.device c.args.timing c.args.ticks c.args.reader.now c.args.writer.now)
     (shown g.C.Ticks.to_come g.R.Read.remaining g.W.Write.contents c.listen.new.line c.listen.new.reader c.listen.new.writer)
-    c.settling_time-span.ensures.value (same_held c.in-Ok.ensures.held) c.new-2.ensures (c.new-4.ensures ∙ ap quiet_from none)
+    refl (same_held c.in-Ok.ensures.held) c.new-2.ensures (c.new-4.ensures ∙ ap quiet_from none)
     refl refl refl c.in-Ok-listen.ensures.listened
 
 pub returns-in-Ok-listen-clause-silent : goal.returns-in-Ok-listen-clause-silent
 returns-in-Ok-listen-clause-silent g c =
     λ other.
-    listens_silent c.settling_time-span.result
+    listens_silent c.args.span
     (shown g.C.Ticks.to_come g.R.Read.remaining g.W.Write.contents
     (record { frames = c.new-2.result; requester = c.in-Ok.requester; quiet = c.new-4.result; ticks = c.args.ticks })
     c.args.reader.now c.args.writer.now)
@@ -33,7 +33,7 @@ returns-in-Ok-listen-clause-silent g c =
 pub returns-in-Err-listen-clause-silent : goal.returns-in-Err-listen-clause-silent
 returns-in-Err-listen-clause-silent g c =
     λ other.
-    stops_silent c.settling_time-span.result c.in-Err-listen.fault
+    stops_silent c.args.span c.in-Err-listen.fault
     (shown g.C.Ticks.to_come g.R.Read.remaining g.W.Write.contents
     (record { frames = c.new-2.result; requester = c.in-Ok.requester; quiet = c.new-4.result; ticks = c.args.ticks })
     c.args.reader.now c.args.writer.now)

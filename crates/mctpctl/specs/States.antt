@@ -1,0 +1,14 @@
+-- What the file of a state keeps, and how long answers to the requests of before may still come.
+use Rattle.std.specs.Prelude.{ℕ, ◌-◌, ◌*◌, ◌∷◌, [], nat_le, List, if◌then◌else◌, Option, None, Some, option_map}
+use Rattle.line_words.specs.Numbers.{number_of}
+use Rattle.mctpctl.specs.declared.state.TheConstants.{MAX_MOMENT}
+
+-- the moment at which a device was asked last, where one is kept; nothing where the text is none of these
+abbrev pub last_in : List ℕ → Option (Option ℕ)
+last_in [] = Some None
+last_in (byte ∷ rest) = option_map Some (number_of MAX_MOMENT (byte ∷ rest))
+
+-- up to twice the keeping time after that moment; from now on, where none is kept, or one to come
+abbrev pub settling_in : ℕ → Option ℕ → ℕ → ℕ
+settling_in keep None now = 2 * keep
+settling_in keep (Some last) now = if nat_le last now then 2 * keep - (now - last) else 2 * keep
