@@ -4,12 +4,13 @@ The commands' answers are those that DSP0240 and DSP0248 give for the descriptio
 lines are those of the rows of `show --decode`.
 """
 import os
+import select
 import subprocess
 import tempfile
 import time
 
 from support import programs
-from support.frames import frame
+from support.frames import frame, read_frames
 from support.programs import PIPES, SECONDS, run
 from support.terminals import Terminal
 
@@ -232,6 +233,57 @@ def lost(rows, place):
     rows.check("asked: a request that is sent again", well, repr((out, err, sent)))
 
 
+# To a GetTID of instance ID 0 on tag 0: answers of another instance ID, on another tag, from and to another endpoint, to
+# another command, and one that is no response by its tag owner bit.
+OTHERS = ("010809c001010002007e", "010809c101000002007e", "01080ac001000002007e", "010b09c001000002007e")
+OTHERS += ("010809c001000004000500000000000000", "010809c801000002007e")
+
+
+def others(rows, place):
+    """Answers to other requests are none, and its own is taken after them."""
+    with Terminal() as terminal:
+        words = [place.program, "ask", "--line", terminal.name, *ENDS, *TIMES, "gettid"]
+        asking = subprocess.Popen(words, **SILENT)
+        terminal.read()
+        terminal.write(b"".join(frame(bytes.fromhex(packet)) for packet in OTHERS) + ANSWER)
+        out, err = asking.communicate(timeout=SECONDS)
+    ran = (asking.returncode, out, err)
+    rows.check("asked: answers to other requests", ran == (0, TID_IS_1.encode(), b""), repr(ran))
+
+
+def late(rows, place):
+    """An answer that comes after its request was given up is no answer to the next request."""
+    with Terminal() as terminal:
+        file = place.write("commands", "gettid\ngettypes\n")
+        words = [place.program, "ask", "--line", terminal.name, *ENDS, *TIMES, "--hex", "--file", file]
+        asking = subprocess.Popen(words, **SILENT)
+        packet = b""
+        while packet[5:6] != b"\x81":  # the request with instance ID 1
+            packet = read_frames(terminal.read())[-1]
+        own = bytes([1, 8, 9, 0xC0 | packet[3] & 7]) + bytes.fromhex("01010004000500000000000000")
+        terminal.write(ANSWER + frame(own))
+        out, err = asking.communicate(timeout=SECONDS)
+    ran = (asking.returncode, out, err)
+    want = (3, b"01010004000500000000000000\n", b"mctpctl: line 1: no answer\n")
+    rows.check("asked: a late answer", ran == want, repr(ran))
+
+
+def garbage(rows, place):
+    """A line on which garbage comes for ever ends no try later, and is no end of the line."""
+    with Terminal() as terminal:
+        words = [place.program, "ask", "--line", terminal.name, *ENDS, *TIMES, "gettid"]
+        asking = subprocess.Popen(words, **SILENT)
+        began = time.monotonic()
+        while asking.poll() is None and time.monotonic() < began + SECONDS:
+            if select.select([], [terminal], [], 0.1)[1]:
+                terminal.write(bytes(range(256)))
+            terminal.read(0)
+        out, err = asking.communicate(timeout=SECONDS)
+        passed = time.monotonic() - began
+    ran = (asking.returncode, out, err)
+    rows.check("asked: garbage for ever", ran == (3, b"", b"mctpctl: no answer\n") and passed < 5, repr((passed, ran)))
+
+
 def on_standard_input(rows, place):
     """Without `--line` the line is standard input and output, and answers are on standard error."""
     with Terminal() as terminal:
@@ -247,9 +299,12 @@ def on_standard_input(rows, place):
     rows.check("asked: standard input that ended", ran == (3, b"", b"mctpctl: the line ended\n"), repr(ran))
 
 
+PARTS = (answered, filed, unanswered, ended, refused, waited, stated, lost, others, late, garbage, on_standard_input)
+
+
 def check(rows, program, device):
     """Checks each row over the program, with the description of this text."""
     with tempfile.TemporaryDirectory() as folder:
         place = Place(program, folder, device)
-        for part in (answered, filed, unanswered, ended, refused, waited, stated, lost, on_standard_input):
+        for part in PARTS:
             part(rows, place)
