@@ -17,9 +17,10 @@ from support.terminals import Terminal
 SILENT = {**PIPES, "stdin": subprocess.DEVNULL}
 MORE = "\n\nFor more information, try '--help'.\n"
 
-# The endpoints of the description, and times for a line on which nothing is lost: 600 ms pass before the first request.
+# The endpoints of the description, and times for a line on which nothing is lost; the seconds before the first request.
 ENDS = ("--own", "8", "--device", "9")
-TIMES = ("--keep", "300", "--timeout", "150", "--tries", "2")
+TIMES = ("--keep", "500", "--timeout", "250", "--tries", "2")
+SETTLING = 1.0
 
 GET_TID = bytes.fromhex("010908c801800002")
 ANSWER = frame(bytes.fromhex("010809c0010000020001"))
@@ -176,7 +177,7 @@ def waited(rows, place):
         terminal.write(ANSWER)
         out, err = asking.communicate(timeout=SECONDS)
     well = (asking.returncode, out, err, sent) == (0, TID_IS_1.encode(), b"", frame(GET_TID))
-    rows.check("asked: after twice the keeping time", well and passed >= 0.6, repr((passed, sent.hex(), out, err)))
+    rows.check("asked: after twice the keeping time", well and passed >= SETTLING, repr((passed, sent.hex(), out, err)))
 
 
 def first_wait(place, *words):
@@ -200,13 +201,13 @@ def stated(rows, place):
     with open(path) as file:
         kept = file.read()
     well = kept.isdecimal() and began <= int(kept) <= time.time() * 1000
-    rows.check("asked: a new state", ran == ended and passed >= 0.6 and well, repr((passed, ran, kept)))
-    time.sleep(0.7)
+    rows.check("asked: a new state", ran == ended and passed >= SETTLING and well, repr((passed, ran, kept)))
+    time.sleep(SETTLING + 0.1)
     passed, ran = first_wait(place, "--state", path)
-    rows.check("asked: a state of long ago", ran == ended and passed < 0.5, repr((passed, ran)))
+    rows.check("asked: a state of long ago", ran == ended and passed < 0.8 * SETTLING, repr((passed, ran)))
     for name, text in (("to come", str(int(time.time() * 1000) + 60000)), ("of a run that broke off", "")):
         passed, ran = first_wait(place, "--state", place.write("last", text))
-        rows.check(f"asked: a state {name}", ran == ended and passed >= 0.6, repr((passed, ran)))
+        rows.check(f"asked: a state {name}", ran == ended and passed >= SETTLING, repr((passed, ran)))
     for text in ("12x", "1\n", "12345678901234567"):
         ran = place.ask("--line", "/dev/null", *ENDS, *TIMES, "--state", place.write("last", text), "gettid")
         with open(path) as file:
@@ -281,7 +282,7 @@ def garbage(rows, place):
         out, err = asking.communicate(timeout=SECONDS)
         passed = time.monotonic() - began
     ran = (asking.returncode, out, err)
-    rows.check("asked: garbage for ever", ran == (3, b"", b"mctpctl: no answer\n") and passed < 5, repr((passed, ran)))
+    rows.check("asked: garbage for ever", ran == (3, b"", b"mctpctl: no answer\n") and passed < 10 * SETTLING, repr((passed, ran)))
 
 
 def on_standard_input(rows, place):
