@@ -1,7 +1,7 @@
 /*
  * Needleoat for C: MCTP packets (DSP0236) and PLDM messages (DSP0240, DSP0248) read and written, platform data
- * records (DSP0248) written and answered for, control messages (DSP0236) answered, the frames of packets on I2C
- * (DSP0237) and I3C (DSP0233), and both ends.
+ * records (DSP0248) written and answered for, the frames of packets on I2C (DSP0237) and I3C (DSP0233), and both
+ * ends.
  *
  * libneedleoat_wire_c.a has what stands before the section on the two ends. It takes no memory, keeps
  * nothing between two calls, and needs memcpy, memmove and memset alone. libneedleoat_c.a has what comes then.
@@ -554,42 +554,6 @@ enum needleoat_records_fault {
 uint8_t needleoat_records_answer(const uint8_t *records, uint64_t length, const uint8_t update_time[13],
                                  const uint8_t oem_update_time[13], const struct needleoat_command *command,
                                  struct needleoat_answer *fields);
-
-/* ---- Control messages ----
- *
- * A bus owner finds an endpoint by MCTP control messages (DSP0236, message type 0). needleoat_endpoint_receive answers
- * them by itself where `answers_control` of its settings is true. What is here is for a program without that: it keeps
- * nothing, the settings are the caller's, and no message changes them.
- */
-
-/*
- * What a simple endpoint with a static endpoint ID answers a bus owner. A version has four bytes, as on the wire
- * (DSP0236, "Version field encoding"): 1.3.1 is F1 F3 F1 00.
- */
-struct needleoat_control {
-    uint8_t eid;                /* its endpoint ID, 8 to 254: the `own` of its answering end. It takes no other */
-    uint8_t uuid[16];           /* its UUID, in the order of RFC 4122 */
-    uint8_t base_version[4];    /* the version of the base specification (DSP0236) that it keeps to */
-    uint8_t control_version[4]; /* the version of the control protocol that it keeps to */
-    uint8_t pldm_version[4];    /* the version of PLDM over MCTP (DSP0241) that it keeps to */
-};
-
-/*
- * Writes the packet that answers a control message to the front of `out`, and returns its length in bytes, 8 to
- * 24. Call it with a packet that was dropped and the reason: where a step of needleoat_endpoint_receive is
- * NEEDLEOAT_STEP_DROPPED and `answers_control` is false, with the `reason` of the step. Send what it gives to where the
- * packet came from. Each control message is one packet. Set Endpoint ID to another endpoint ID is answered, and rejected.
- *
- * It returns 0 and leaves `out` as it was where there is no answer: `reason` is neither NEEDLEOAT_NOT_PLDM nor,
- * of a packet to the null endpoint ID (0), NEEDLEOAT_UNKNOWN_DESTINATION, nor, of a packet from the null endpoint
- * ID, NEEDLEOAT_BAD_SOURCE; the packet is no control request to `eid` or to the null endpoint ID; or `eid` is not
- * 8 to 254. The answer to a packet from the null endpoint ID goes back to that ID.
- *
- * With the codecs alone the reason is that of needleoat_packet_read or, where that is 0 and the packet has a
- * whole message, that of needleoat_request_read.
- */
-uint32_t needleoat_control_reply(const struct needleoat_control *fields, uint8_t reason, const uint8_t *packet,
-                                 uint64_t length, uint8_t out[NEEDLEOAT_PACKET_BYTES]);
 
 /* ---- Packets on I2C and I3C ----
  *
@@ -1255,12 +1219,6 @@ NEEDLEOAT_AT(needleoat_entity_name, length, 4);
 NEEDLEOAT_AT(needleoat_entity_name, change_number, 8);
 NEEDLEOAT_AT(needleoat_entity_name, entity, 10);
 NEEDLEOAT_AT(needleoat_entity_name, text, 16);
-NEEDLEOAT_ASSERT(sizeof(struct needleoat_control) == 29);
-NEEDLEOAT_AT(needleoat_control, eid, 0);
-NEEDLEOAT_AT(needleoat_control, uuid, 1);
-NEEDLEOAT_AT(needleoat_control, base_version, 17);
-NEEDLEOAT_AT(needleoat_control, control_version, 21);
-NEEDLEOAT_AT(needleoat_control, pldm_version, 25);
 NEEDLEOAT_ASSERT(sizeof(struct needleoat_i2c_frame) == 12);
 NEEDLEOAT_AT(needleoat_i2c_frame, fault, 0);
 NEEDLEOAT_AT(needleoat_i2c_frame, source_address, 1);

@@ -323,53 +323,8 @@ static void written_answers(void) {
 
 /* ---- Control messages ---- */
 
-/* The answer to a packet that was dropped for this reason, at the endpoint ID `eid`. */
-static void control(const char *what, uint8_t eid, uint8_t reason, const char *hex) {
-    struct needleoat_control settings = {.eid = eid};
-    uint8_t bytes[80], out[NEEDLEOAT_PACKET_BYTES];
-    for (size_t i = 0; i < sizeof settings.uuid; i++) settings.uuid[i] = (uint8_t)(0x10 + i);
-    for (size_t i = 0; i < sizeof settings.base_version; i++) {
-        settings.base_version[i] = (uint8_t)(0xa1 + i);
-        settings.control_version[i] = (uint8_t)(0xb1 + i);
-        settings.pldm_version[i] = (uint8_t)(0xc1 + i);
-    }
-    memset(out, UNTOUCHED, sizeof out);
-    uint32_t count = needleoat_control_reply(&settings, reason, bytes, from_hex(hex, bytes), out);
-    printf("control, %s: %" PRIu32 " ", what, count);
-    print_bytes(out, count);
-    printf(" %s\n", rest(out, count, sizeof out));
-}
-
-static void controls(void) {
-    control("endpoint ID", 200, NEEDLEOAT_NOT_PLDM, "01c808cb" "008302");
-    control("UUID", 200, NEEDLEOAT_NOT_PLDM, "01c808cc" "008403");
-    control("versions of the base specification", 200, NEEDLEOAT_NOT_PLDM, "01c808cd" "008504ff");
-    control("versions of the control protocol", 200, NEEDLEOAT_NOT_PLDM, "01c808ce" "00860400");
-    control("versions of PLDM over MCTP", 200, NEEDLEOAT_NOT_PLDM, "01c808cf" "00870401");
-    control("message types", 200, NEEDLEOAT_NOT_PLDM, "01c808c8" "008805");
-    control("to be the endpoint 200", 200, NEEDLEOAT_NOT_PLDM, "01c8fec9" "00890100c8");
-    control("to be the endpoint 201", 200, NEEDLEOAT_NOT_PLDM, "01c8feca" "009f0100c9");
-    control("to the null endpoint ID", 200, NEEDLEOAT_UNKNOWN_DESTINATION, "010008c8" "008002");
-    control("from the null endpoint ID", 200, NEEDLEOAT_UNKNOWN_DESTINATION, "010000c8" "008002");
-    control("endpoint ID of the lowest", 8, NEEDLEOAT_NOT_PLDM, "0108fec8" "008002");
-    control("to another endpoint", 200, NEEDLEOAT_UNKNOWN_DESTINATION, "01c908c8" "008002");
-    control("to this one, unknown", 200, NEEDLEOAT_UNKNOWN_DESTINATION, "01c808c8" "008002");
-    control("a source that is none", 200, NEEDLEOAT_BAD_SOURCE, "010008c8" "008002");
-    control("from the null endpoint ID to this one", 200, NEEDLEOAT_BAD_SOURCE, "01c800c8" "008002");
-    control("from a reserved endpoint ID", 200, NEEDLEOAT_BAD_SOURCE, "01c807c8" "008002");
-    control("from this one to itself", 200, NEEDLEOAT_BAD_SOURCE, "01c8c8c8" "008002");
-    control("no reason", 200, 0, "010008c8" "008002");
-    control("a reason that is none", 200, 21, "010008c8" "008002");
-    control("not an endpoint", 200, NEEDLEOAT_NOT_AN_ENDPOINT, "010008c8" "008002");
-    control("a reserved endpoint ID", 7, NEEDLEOAT_UNKNOWN_DESTINATION, "010008c8" "008002");
-    control("the broadcast endpoint ID", 255, NEEDLEOAT_UNKNOWN_DESTINATION, "010008c8" "008002");
-    control("a response", 200, NEEDLEOAT_NOT_PLDM, "01c808c8" "000002");
-    control("a packet of PLDM", 200, NEEDLEOAT_NOT_PLDM, "01c808c8" "01800002");
-    control("no bytes", 200, NEEDLEOAT_UNKNOWN_DESTINATION, "");
-}
-
-/* The same asked of an endpoint that answers control messages itself. */
-static void asked_itself(const char *what, const char *hex) {
+/* What an endpoint answers that answers control messages. */
+static void control(const char *what, const char *hex) {
     static struct needleoat_endpoint endpoint = NEEDLEOAT_ENDPOINT_NONE;
     struct needleoat_endpoint_settings settings = {.own = 200, .keep_ms = 1000, .answers_control = true};
     struct needleoat_command command;
@@ -391,14 +346,23 @@ static void asked_itself(const char *what, const char *hex) {
     needleoat_endpoint_free(&endpoint);
 }
 
-static void controls_itself(void) {
-    asked_itself("endpoint ID", "01c808cb" "008302");
-    asked_itself("UUID", "01c808cc" "008403");
-    asked_itself("versions of the base specification", "01c808cd" "008504ff");
-    asked_itself("versions of the control protocol", "01c808ce" "00860400");
-    asked_itself("versions of PLDM over MCTP", "01c808cf" "00870401");
-    asked_itself("to be the endpoint 201", "01c8feca" "009f0100c9");
-    asked_itself("a response", "01c808c8" "000002");
+static void controls(void) {
+    control("endpoint ID", "01c808cb" "008302");
+    control("UUID", "01c808cc" "008403");
+    control("versions of the base specification", "01c808cd" "008504ff");
+    control("versions of the control protocol", "01c808ce" "00860400");
+    control("versions of PLDM over MCTP", "01c808cf" "00870401");
+    control("message types", "01c808c8" "008805");
+    control("to be the endpoint 200", "01c8fec9" "00890100c8");
+    control("to be the endpoint 201", "01c8feca" "009f0100c9");
+    control("to the null endpoint ID", "010008c8" "008002");
+    control("from the null endpoint ID", "010000c8" "008002");
+    control("from the null endpoint ID to this one", "01c800c8" "008002");
+    control("to another endpoint", "01c908c8" "008002");
+    control("from a reserved endpoint ID", "01c807c8" "008002");
+    control("from this one to itself", "01c8c8c8" "008002");
+    control("a response", "01c808c8" "000002");
+    control("no bytes", "");
 }
 
 /* ---- Steps of an endpoint ---- */
@@ -608,7 +572,6 @@ int main(void) {
     written_commands();
     written_answers();
     controls();
-    controls_itself();
     bus_frames();
     steps();
     windows();

@@ -11,7 +11,7 @@ static uint8_t request[NEEDLEOAT_REQUEST_BYTES], response[NEEDLEOAT_MESSAGE_BYTE
 static uint32_t request_length, response_length, packet_length;
 static struct needleoat_command command;
 static struct needleoat_answer answer;
-static unsigned written, read, answered, packets, replies, frames;
+static unsigned written, read, answered, packets, frames;
 
 /* A number of any size, of either sign. */
 static int64_t some_value(void) {
@@ -112,23 +112,6 @@ static void read_packet(void) {
     mix_number(found.payload_length);
 }
 
-/* A control message to the own endpoint ID or to the null one. */
-static void reply(void) {
-    uint8_t out[NEEDLEOAT_PACKET_BYTES] = {0}, asked[12] = {1, 0, OTHER};
-    struct needleoat_control control;
-    fill(&control, sizeof control);
-    fill(asked + 6, sizeof asked - 6);
-    control.eid = OWN;
-    asked[1] = one_in(3) ? 0 : OWN;
-    asked[3] = (uint8_t)(0xc0 + below(16));
-    asked[5] = (uint8_t)(0x80 + below(64));
-    uint8_t reason = asked[1] ? NEEDLEOAT_NOT_PLDM : NEEDLEOAT_UNKNOWN_DESTINATION;
-    uint32_t count = needleoat_control_reply(&control, reason, asked, 7 + below(4), out);
-    replies += count > 0;
-    mix_number(count);
-    mix(out, sizeof out);
-}
-
 /* A frame of any bytes, which may be as long as a frame can be, on both buses. */
 static void frame(void) {
     uint8_t bytes[MOST], out[MOST] = {0};
@@ -166,11 +149,10 @@ int main(void) {
         read_messages();
         write_packet();
         read_packet();
-        reply();
         frame();
     }
-    printf("rounds %d, written %u, read %u, answered %u, packets %u, replies %u, frames %u\n", ROUNDS, written, read,
-           answered, packets, replies, frames);
+    printf("rounds %d, written %u, read %u, answered %u, packets %u, frames %u\n", ROUNDS, written, read,
+           answered, packets, frames);
     print_hash();
     return 0;
 }

@@ -101,13 +101,6 @@ static void records_answer(void) {
     needleoat_records_answer(record, record_length, never, never, &ask_record, &record_answer);
 }
 
-/* An endpoint whose versions a bus owner asks for. */
-static const struct needleoat_control control = {.eid = 9};
-static void control_reply(void) {
-    static const uint8_t versions[] = {1, 9, 8, 0xc8, 0x00, 0x80, 0x04, 0xff};
-    needleoat_control_reply(&control, NEEDLEOAT_NOT_PLDM, versions, sizeof versions, packet);
-}
-
 /* An endpoint that is asked for that part: its answer has five packets. */
 static struct needleoat_endpoint endpoint = NEEDLEOAT_ENDPOINT_NONE;
 static struct needleoat_command pending;
@@ -204,7 +197,7 @@ static const struct {
     {"needleoat_numeric_sensor_record_write", sensor_write},
     {"needleoat_entity_name_record_write", name_write},
     {"needleoat_records_answer", records_answer},
-    {"needleoat_control_reply", control_reply}, {"needleoat_endpoint_new", endpoint_new},
+    {"needleoat_endpoint_new", endpoint_new},
     {"needleoat_endpoint_receive, not ready", receive_busy},
     {"needleoat_endpoint_receive, a command", receive_request},
     {"needleoat_endpoint_answer", endpoint_answer},

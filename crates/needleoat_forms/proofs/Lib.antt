@@ -1,4 +1,3 @@
 pub mod FirstStates
 pub mod Constants
-pub mod WorkedControl
 pub mod WorkedRows

@@ -1,7 +1,6 @@
 pub mod Answers
 pub mod AnswersToRequests
 pub mod Commands
-pub mod Control
 pub mod Messages
 pub mod Packets
 pub mod States

@@ -1,5 +1,5 @@
 //! The plain structs in which packets (DSP0236), messages, commands and answers (DSP0240, DSP0248)
-//! cross to C, and the calls that fill and read them; the answer to a control message (DSP0236). No call takes memory.
+//! cross to C, and the calls that fill and read them. No call takes memory.
 #![tactic(auto)]
 
 mod answer;
@@ -8,7 +8,6 @@ mod answer_writing;
 mod command;
 mod command_reading;
 mod command_writing;
-mod control;
 mod message;
 mod packet;
 mod room;
@@ -20,7 +19,6 @@ pub use answer_writing::{answer_write, put_answer_of, record_checksum};
 pub use command::CommandFields;
 pub use command_reading::{CommandReading, command_read};
 pub use command_writing::command_write;
-pub use control::{ControlFields, control_reply};
 pub use message::{MessageFields, request_read, response_read};
 pub use packet::{NOT_AN_ENDPOINT, PacketFields, packet_count, packet_read, packet_write};
 pub use states::{EffecterState, SensorState, SetState};

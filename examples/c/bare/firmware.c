@@ -30,14 +30,6 @@ static struct needleoat_answer perform(const struct needleoat_command *command) 
     return answer;
 }
 
-static const struct needleoat_control control = {
-    .eid = OWN,
-    .uuid = {0x4e, 0x65, 0x65, 0x64, 0x6c, 0x65, 0x8f, 0x61, 0x80, 0x74, 0, 0, 0, 0, 0, OWN},
-    .base_version = {0xf1, 0xf3, 0xf1, 0x00},
-    .control_version = {0xf1, 0xf3, 0xf1, 0x00},
-    .pldm_version = {0xf1, 0xf0, 0xf0, 0x00},
-};
-
 /* ---- The endpoint ---- */
 
 /* Whether it ever ran before the firmware does not know, so it begins busy for the keeping time. */
@@ -48,7 +40,13 @@ static const struct needleoat_endpoint_settings settings = {.own = OWN,
                                                             .open_messages = 1,
                                                             .pending_commands = 1,
                                                             .window = 4,
-                                                            .busy = NEEDLEOAT_BUSY_SETS};
+                                                            .busy = NEEDLEOAT_BUSY_SETS,
+                                                            .answers_control = true,
+                                                            .uuid = {0x4e, 0x65, 0x65, 0x64, 0x6c, 0x65, 0x8f, 0x61,
+                                                                     0x80, 0x74, 0, 0, 0, 0, 0, OWN},
+                                                            .base_version = {0xf1, 0xf3, 0xf1, 0x00},
+                                                            .control_version = {0xf1, 0xf3, 0xf1, 0x00},
+                                                            .pldm_version = {0xf1, 0xf0, 0xf0, 0x00}};
 static struct needleoat_endpoint endpoint = NEEDLEOAT_ENDPOINT_NONE;
 static uint8_t packets[NEEDLEOAT_PACKETS][NEEDLEOAT_PACKET_BYTES];
 
@@ -73,9 +71,6 @@ static void serve(const uint8_t *packet, size_t length) {
     if (step.kind == NEEDLEOAT_STEP_PERFORM) {
         struct needleoat_answer answer = perform(&command);
         step = needleoat_endpoint_answer(&endpoint, &step.handle, &answer, packets);
-    } else if (step.kind == NEEDLEOAT_STEP_DROPPED) {
-        step.lengths[0] = needleoat_control_reply(&control, step.reason, packet, length, packets[0]);
-        step.count = step.lengths[0] > 0;
     }
     for (uint32_t i = 0; i < step.count; i++) send_packet(packets[i], step.lengths[i]);
 }
