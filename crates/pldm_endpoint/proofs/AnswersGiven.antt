@@ -15,7 +15,7 @@ use Rattle.pldm_wire.specs.declared.command.Command.{Command}
 use Rattle.pldm_wire.specs.declared.handed_on.HandedOn.{HandedOn}
 use Rattle.pldm_wire.proofs.ReadCommands.{found}
 use Rattle.pldm_responder.specs.Asked.{Answered, Responded, gives}
-use Rattle.pldm_responder.specs.Performing.{Perform, Respond, Response, Task, answer_to, changes, changes_at, changes_by, reply, reply_to, response_to, tasks_at, tasks_in, tasks_of}
+use Rattle.pldm_responder.specs.Performing.{Perform, Respond, Response, answer_to, changes, changes_at, changes_by, reply, reply_to, response_to, tasks_at, tasks_in, tasks_of}
 use Rattle.pldm_responder.proofs.ServedRequests.{id_of_request}
 use Rattle.pldm_endpoint.specs.TwoSteps.{request_at}
 

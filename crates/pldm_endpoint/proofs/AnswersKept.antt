@@ -1,5 +1,5 @@
 -- What an endpoint is after the device has given what is pending.
-use Rattle.std.proofs.Common.{◌≡◌, ℕ, Bool, ◌&&◌, ◌==◌, true, List, Option, Some, if◌then◌else◌, refl, sym, ap, ◌∙◌, subst}
+use Rattle.std.proofs.Common.{◌≡◌, ℕ, Bool, ◌==◌, true, List, Option, Some, if◌then◌else◌, refl, sym, ap, ◌∙◌, subst}
 use Rattle.pldm_wire.specs.HandingOn.{hands_on}
 use Rattle.pldm_wire.specs.declared.handed_on.HandedOn.{HandedOn}
 use Rattle.pldm_responder.specs.Answering.{answering}

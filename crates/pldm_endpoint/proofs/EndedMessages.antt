@@ -1,10 +1,10 @@
 -- What is open after a packet is what assembly leaves, but for the message that ended for it.
-use Rattle.std.proofs.Common.{◌≡◌, ℕ, ◌+◌, Bool, true, false, List, [], length, Some, None, Ok, Err, if◌then◌else◌, refl, sym, ap, subst, ◌∙◌, arith}
+use Rattle.std.proofs.Common.{◌≡◌, ℕ, ◌+◌, Bool, true, false, List, length, Some, Ok, Err, if◌then◌else◌, refl, sym, ap, subst, ◌∙◌, arith}
 use Rattle.std.specs.Prelude.{Result}
 use Rattle.mctp_packet.specs.Packets.{Packet}
 use Rattle.mctp_packet.specs.declared.reason.Reason.{Reason}
 use Rattle.pldm_wire.specs.HandingOn.{hands_on}
-use Rattle.pldm_responder.specs.Arrivals.{Arrival, Drop, request_packet}
+use Rattle.pldm_responder.specs.Arrivals.{Drop, request_packet}
 use Rattle.pldm_responder.specs.Asked.{gives}
 use Rattle.pldm_responder.specs.Ends.{End, has_row}
 use Rattle.pldm_responder.specs.Looking.{end_after, is_past_open}

@@ -17,7 +17,7 @@ use Rattle.pldm_responder.specs.Performing.{Perform, Respond, Task, tasks_of}
 use Rattle.pldm_responder.specs.Recency.{renewed}
 use Rattle.pldm_responder.specs.Requested.{Requested}
 use Rattle.pldm_responder.specs.Reserving.{IsRoomFor, IsWithinSources, is_past_sources}
-use Rattle.pldm_responder.specs.Slots.{Answers, Rows, answers_in, kept_in, row_of, source_count}
+use Rattle.pldm_responder.specs.Slots.{Answers, Rows, answers_in, kept_in, source_count}
 use Rattle.pldm_responder.specs.Steps.{arrival_held, message_outcome, performs}
 use Rattle.pldm_endpoint.specs.Receiving.{HasServed}
 use Rattle.pldm_endpoint.specs.Refusing.{is_full, refused_fresh, refused_while}

@@ -1,5 +1,5 @@
 -- A request that is not performed changes nothing that is held but its open packets and the moment.
-use Rattle.std.proofs.Common.{◌≡◌, ℕ, Bool, true, false, ◌&&◌, ◌==◌, List, [], if◌then◌else◌, refl, sym, ap, ◌∙◌}
+use Rattle.std.proofs.Common.{◌≡◌, ℕ, Bool, true, false, ◌&&◌, ◌==◌, [], if◌then◌else◌, refl, sym, ap, ◌∙◌}
 use Rattle.std.specs.Prelude.{take}
 use Rattle.pldm_wire.specs.HandingOn.{hands_on}
 use Rattle.pldm_wire.specs.declared.handed_on.HandedOn.{HandedOn}

@@ -4,18 +4,18 @@ use Rattle.std.proofs.Common.{◌≡◌, ℕ, ◌+◌, ◌<◌, Bool, true, fals
 use Rattle.std.specs.Prelude.{take}
 use Rattle.pldm_wire.specs.HandingOn.{hands_on}
 use Rattle.pldm_responder.specs.Answering.{answering}
-use Rattle.pldm_responder.specs.Arrivals.{Whole, packets_back, way_back}
+use Rattle.pldm_responder.specs.Arrivals.{Whole, way_back}
 use Rattle.pldm_responder.specs.Asked.{gives}
 use Rattle.pldm_responder.specs.Ends.{End, count_with, has_row}
 use Rattle.pldm_responder.specs.Events.{Message}
-use Rattle.pldm_responder.specs.Held.{Entry, Held, IsHeld, id_in}
+use Rattle.pldm_responder.specs.Held.{Held, IsHeld, id_in}
 use Rattle.pldm_responder.specs.Looking.{end_finished, message_at}
-use Rattle.pldm_responder.specs.Performing.{Task, changes, reply, tasks_of}
+use Rattle.pldm_responder.specs.Performing.{Task, reply, tasks_of}
 use Rattle.pldm_responder.specs.Recency.{renewed}
 use Rattle.pldm_responder.specs.Requested.{Requested}
 use Rattle.pldm_responder.specs.Reserving.{is_past_sources}
 use Rattle.pldm_responder.specs.Slots.{kept_in, source_count}
-use Rattle.pldm_responder.specs.Steps.{arrival_held, entry_of, message_outcome, performs}
+use Rattle.pldm_responder.specs.Steps.{arrival_held, message_outcome, performs}
 use Rattle.pldm_responder.specs.declared.outcome.MessageOutcome.TheVariants.{Answered}
 use Rattle.pldm_responder.proofs.ServedRequests.{performed_outcome}
 use Rattle.pldm_endpoint.specs.Receiving.{HasServed, IsRefusedBy}

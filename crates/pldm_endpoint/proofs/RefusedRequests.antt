@@ -1,6 +1,6 @@
 -- Where a request is refused, so is its packet, and all is as before.
 use Rattle.std.specs.FinMap as map
-use Rattle.std.proofs.Common.{◌≡◌, ℕ, Bool, true, false, List, [], ◌∷◌, ◌⊎◌, inl, inr, Some, None, Result, Ok, Err, IfErr, if◌then◌else◌, refl, sym, ap, ◌∙◌, subst}
+use Rattle.std.proofs.Common.{◌≡◌, ℕ, Bool, true, false, List, [], ◌∷◌, ◌⊎◌, inl, inr, Some, Result, Ok, Err, IfErr, if◌then◌else◌, refl, sym, ap, ◌∙◌, subst}
 use Rattle.pldm_wire.specs.HandingOn.{hands_on}
 use Rattle.pldm_responder.specs.Arrivals.{Whole, request_packet}
 use Rattle.pldm_responder.specs.Looking.{is_past_open, message_at}

@@ -1,17 +1,16 @@
 -- A new request in turn is never taken for an earlier one with its instance ID.
-use Rattle.std.proofs.Common.{◌≡◌, ℕ, zero, suc, ◌+◌, ◌*◌, ◌/◌, ◌%◌, ◌<◌, ◌≤◌, Bool, true, false, not, ◌&&◌, ◌==◌, List, [], ◌∷◌, ◌++◌, length, if◌then◌else◌, refl, sym, ap, ◌∙◌, subst, arith, length-append}
-use Rattle.std.specs.Prelude.{filter, map, nat_le}
-use Rattle.std.proofs.lemmas.Bool.{cond-true, cond-false, leb-false, leb-true, le-leb, eqb-true}
+use Rattle.std.proofs.Common.{◌≡◌, ℕ, ◌+◌, ◌%◌, ◌<◌, ◌≤◌, Bool, true, false, ◌&&◌, ◌==◌, List, [], ◌∷◌, ◌++◌, length, if◌then◌else◌, refl, sym, ap, ◌∙◌, arith, length-append}
+use Rattle.std.specs.Prelude.{map, nat_le}
+use Rattle.std.proofs.lemmas.Bool.{cond-true, cond-false, leb-false, leb-true, eqb-true}
 use Rattle.std.proofs.lemmas.List.{length-map}
 use Rattle.pldm_wire.specs.Headers.{id_at}
-use Rattle.pldm_wire.specs.declared.assigned.TheConstants.{INSTANCE_IDS}
 use Rattle.pldm_wire.specs.declared.busy_time.BusyTime.{BusyTime}
 use Rattle.pldm_responder.specs.Events.{Message, Event, Came, Set, Restarted, Changed, is_fresh}
 use Rattle.pldm_responder.specs.Recency.{renewed, without}
 use Rattle.pldm_responder.specs.TheRule.{others_since}
 use Rattle.pldm_responder.proofs.CopiesByTheRule.{fresh_past_the_window}
 use Rattle.pldm_responder.proofs.RecentFirst.{by_test, dropped, stays}
-use Rattle.pldm_endpoint.specs.RoundRobin.{AreInTurn, IsNumbered, NewInTurnIsFresh, among_last, fresh_of}
+use Rattle.pldm_endpoint.specs.RoundRobin.{AreInTurn, NewInTurnIsFresh, among_last, fresh_of}
 
 -- the other instance IDs of a list of requests, up to the first with this one
 abbrev others_in : List Message → ℕ → List ℕ

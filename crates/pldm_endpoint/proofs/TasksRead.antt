@@ -1,5 +1,5 @@
 -- What a request asks, by what was read of it.
-use Rattle.std.proofs.Common.{◌≡◌, ℕ, Bool, true, false, ◌&&◌, ◌==◌, List, [], ◌∷◌, Option, Some, None, Result, Ok, Err, if◌then◌else◌, refl, sym, ap, ◌∙◌}
+use Rattle.std.proofs.Common.{◌≡◌, ℕ, Bool, true, false, ◌==◌, List, [], ◌∷◌, Option, Some, None, Ok, if◌then◌else◌, ap, ◌∙◌}
 use Rattle.mctp_packet.specs.Reading.{unless}
 use Rattle.mctp_packet.specs.declared.reason.Reason.{Reason}
 use Rattle.pldm_wire.specs.Answers.{answer_message}
@@ -11,7 +11,7 @@ use Rattle.pldm_wire.specs.declared.assigned.TheConstants.{SUCCESS}
 use Rattle.pldm_wire.specs.declared.command.Command.{Command}
 use Rattle.pldm_wire.specs.declared.handed_on.HandedOn.{HandedOn}
 use Rattle.pldm_responder.specs.Asked.{Given, gives}
-use Rattle.pldm_responder.specs.Performing.{Perform, Respond, Task, answer_to, changes, changes_at, changes_by, reply, reply_to, response_to, tasks_at, tasks_in, tasks_of}
+use Rattle.pldm_responder.specs.Performing.{Perform, Respond, answer_to, changes, changes_at, changes_by, reply, reply_to, response_to, tasks_at, tasks_in, tasks_of}
 use Rattle.pldm_endpoint.specs.Receiving.{IsRefusedBy}
 use Rattle.pldm_endpoint.specs.TwoSteps.{request_at}
 

@@ -1,6 +1,6 @@
 -- A requester that uses its instance IDs in turn, each again when all others were used: a new request never gets the answer
 -- to an earlier one with its instance ID, where enough of those between arrived.
-use Rattle.std.specs.Prelude.{◌≡◌, ◌<◌, ◌≤◌, ℕ, ◌+◌, ◌%◌, Bool, ◌&&◌, ◌==◌, not, nat_le, List, [], ◌∷◌, filter, length, if◌then◌else◌}
+use Rattle.std.specs.Prelude.{◌≡◌, ◌<◌, ◌≤◌, ℕ, ◌+◌, ◌%◌, ◌&&◌, ◌==◌, not, nat_le, List, [], ◌∷◌, filter, length, if◌then◌else◌}
 use Rattle.pldm_wire.specs.Headers.{id_at}
 use Rattle.pldm_wire.specs.declared.assigned.TheConstants.{INSTANCE_IDS}
 use Rattle.pldm_wire.specs.declared.busy_time.BusyTime.{BusyTime}

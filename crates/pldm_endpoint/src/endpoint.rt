@@ -1,16 +1,17 @@
 //! An endpoint whose device is outside.
 
 ghost use Rattle.std.specs.FinMap as map;
-ghost use Rattle.std.specs.Prelude.{◌≡◌, ◌≢◌, ◌<◌, ◌≤◌, ◌*◌, ℕ, true, List, [], ◌∷◌, length, None, option_map, IfOk, IfErr, IfSome, IsErrOf, IsSome, OnErr, OnOk};
+ghost use Rattle.std.specs.Prelude.{◌≡◌, ◌≢◌, ◌<◌, ◌≤◌, ◌*◌, ℕ, true, List, [], ◌∷◌, Ok, length, None, option_map, IfOk, IfErr, IfSome, IsErrOf, IsSome, OnErr, OnOk};
 ghost use Rattle.mctp_packet.specs.declared.TheConstants.{MAX_MESSAGE_BYTES};
 ghost use Rattle.pldm_wire.specs.HandingOn.{hands_on};
 ghost use Rattle.pldm_wire.specs.declared.limits.TheConstants.{MAX_REQUEST_DATA};
 ghost use Rattle.pldm_responder.specs.Answering.{HasReply, answering};
+ghost use Rattle.pldm_responder.specs.Arrivals.{request_packet};
 ghost use Rattle.pldm_responder.specs.Asked.{Answered, Given, Responded};
 ghost use Rattle.pldm_responder.specs.Counts.{CountsKept};
 ghost use Rattle.pldm_responder.specs.Ends.{eid_or_null};
 ghost use Rattle.pldm_responder.specs.Held.{IsHeld, held_at_first};
-ghost use Rattle.pldm_responder.specs.Looking.{message_at};
+ghost use Rattle.pldm_responder.specs.Looking.{IsLastFor, message_at};
 ghost use Rattle.pldm_responder.specs.Performing.{tasks_of};
 ghost use Rattle.pldm_responder.specs.Slots.{source_count};
 ghost use Rattle.pldm_responder.specs.Steps.{assigned_held, kept_for, performs, restarted_held};
@@ -26,9 +27,9 @@ use crate::request_bytes::RequestBytes;
 use crate::step::{
     AnswerRefusal, CommandHandle, MessageStep, ReceiveRefusal, Step, asking, is_answer_to,
 };
-use mctp_packet::{Body, Eid, Moment, Route};
+use mctp_packet::{Body, Eid, Moment, PacketRef, Route};
 use pldm_responder::{
-    AnsweringEnd, Arrived, Bounds, Keeping, MessageOutcome, Outcome, Request, Standing,
+    AnsweringEnd, Arrived, Bounds, Keeping, MessageOutcome, Outcome, Request, Standing, Taken,
     not_performed, performed, refuse,
 };
 use pldm_wire::{
@@ -242,12 +243,38 @@ impl Endpoint {
         ensures some { IfOk result (StepHasReply reply.new.items) }
         ensures refused { IfErr result (IsRefused self.old now bytes.now self.new) }
     {
-        let mut room = None;
-        match self.end.take(now, bytes, &mut room) {
-            Ok(Arrived::Dropped(reason)) => Ok(MessageStep::Done(MessageOutcome::Dropped(reason))),
-            Ok(Arrived::Partial) => Ok(MessageStep::Done(MessageOutcome::Partial)),
-            Ok(Arrived::Request(request)) => self.serve(now, &request, reply),
+        match self.end.take(now, bytes) {
+            Ok(Taken::Arrived(Arrived::Dropped(reason))) => {
+                Ok(MessageStep::Done(MessageOutcome::Dropped(reason)))
+            }
+            Ok(Taken::Arrived(Arrived::Partial)) => Ok(MessageStep::Done(MessageOutcome::Partial)),
+            Ok(Taken::Arrived(Arrived::Request(request))) => self.serve(now, &request, reply),
+            Ok(Taken::Last(packet)) => self.receive_last(now, &packet, reply),
             Err(refusal) => Err(refusal.into()),
+        }
+    }
+
+    /// Takes the last packet of a message of several packets. The message that answers it is put into `reply`.
+    // Not inlined: the room for its bytes is cleared and on the stack for such a message alone.
+    #[inline(never)]
+    fn receive_last(
+        &mut self,
+        now: Moment,
+        packet: &PacketRef<'_>,
+        reply: &mut Body,
+    ) -> Result<MessageStep, ReceiveRefusal>
+        requires last { IsLastFor self.old.end packet.now }
+        ensures received { (bytes : List ℕ) → request_packet self.old.end.own bytes ≡ Ok packet.now
+            → IfOk result (λ step. HasReceived self.old now bytes self.new (stepping reply.new.items step)) }
+        ensures some { IfOk result (StepHasReply reply.new.items) }
+        ensures refused { (bytes : List ℕ) → request_packet self.old.end.own bytes ≡ Ok packet.now
+            → IfErr result (IsRefused self.old now bytes self.new) }
+    {
+        let mut room = Body::new();
+        match self.end.take_last(now, packet, &mut room) {
+            Arrived::Dropped(reason) => Ok(MessageStep::Done(MessageOutcome::Dropped(reason))),
+            Arrived::Partial => Ok(MessageStep::Done(MessageOutcome::Partial)),
+            Arrived::Request(request) => self.serve(now, &request, reply),
         }
     }
 

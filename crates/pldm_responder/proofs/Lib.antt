@@ -3,6 +3,7 @@ pub mod AskedKeys
 pub mod CountedPairs
 pub mod KeptEntries
 pub mod KeptCounts
+pub mod DroppedPackets
 pub mod ServedRequests
 pub mod RecentFirst
 pub mod NoIdFallsOut

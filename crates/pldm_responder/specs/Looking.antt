@@ -1,6 +1,7 @@
 -- What an answering end makes of a packet by looking at it, and of the request that it completes.
 use Rattle.std.specs.FinMap as map
-use Rattle.std.specs.Prelude.{◌≡◌, ◌≢◌, ℕ, ◌<◌, Bool, true, List, length, IfSome, Option, Ok, if◌then◌else◌}
+use Rattle.std.specs.Prelude.{◌≡◌, ◌≢◌, ℕ, ◌<◌, Bool, true, false, List, length, IfSome, Option, Ok, if◌then◌else◌}
+use Rattle.mctp_packet.specs.Ids.{IsEid}
 use Rattle.mctp_packet.specs.Packets.{Packet}
 use Rattle.mctp_packet.specs.declared.packet.Route.{Route}
 use Rattle.mctp_assembly.specs.Steps as assembly
@@ -17,6 +18,8 @@ use Rattle.pldm_responder.specs.declared.arriving.Arrived.{Arrived}
 use Rattle.pldm_responder.specs.declared.arriving.Arrived.TheVariants.{Dropped, Partial, Request}
 use Rattle.pldm_responder.specs.declared.arriving.Standing.{Standing}
 use Rattle.pldm_responder.specs.declared.arriving.Standing.TheVariants.{Busy, Copy, Fresh}
+use Rattle.pldm_responder.specs.declared.arriving.Taken.{Taken}
+use Rattle.pldm_responder.specs.declared.arriving.Taken.TheVariants as taken
 
 -- the message that it is, whose last packet came at this moment
 abbrev pub message_at : ℕ → Requested → Message
@@ -79,6 +82,25 @@ pub record HasArrived (old : End) (moment : ℕ) (bytes : List ℕ) (new : End) 
 pub record HasComeBy (old : End) (moment : ℕ) (p : Packet) (new : End) (arrived : Arrived) : Type 0 where
   pub arrival : arrival_in moment arrived ≡ passed_arrival (assembly.answer old.open_messages) moment (Ok p)
   pub left : IsLeftByPacket old moment p new arrived
+
+-- the last packet of several, which another endpoint sent to this one with TO 1
+pub record IsLastFor (end : End) (p : Packet) : Type 0 where
+  pub goes_on : p.start ≡ false
+  pub ends : p.end ≡ true
+  pub owner : p.route.owner ≡ true
+  pub other : p.route.source ≢ end.own
+  pub here : p.route.destination ≡ end.own
+  pub home : IsEid end.own
+
+-- the packet of these bytes is one, and nothing is done with it yet
+pub record IsLast (old : End) (bytes : List ℕ) (new : End) (p : Packet) : Type 0 where
+  pub packet : request_packet old.own bytes ≡ Ok p
+  pub last : IsLastFor old p
+  pub same : new ≡ old
+
+abbrev pub HasTaken : End → ℕ → List ℕ → End → Taken → Type 0
+HasTaken old moment bytes new (taken.Arrived arrived) = HasArrived old moment bytes new arrived
+HasTaken old moment bytes new (taken.Last p) = IsLast old bytes new p
 
 -- a whole message was read whose packets had this route
 abbrev pub IsReadBy : End → ℕ → Route → List ℕ → End → Arrived → Type 0

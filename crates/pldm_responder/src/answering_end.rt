@@ -2,14 +2,14 @@
 //! then it is done what it asks for.
 
 ghost use Rattle.std.specs.FinMap as map;
-ghost use Rattle.std.specs.Prelude.{◌≡◌, ◌≢◌, ◌↔◌, ℕ, [], Ok, ◌+◌, ◌*◌, ◌≤◌, ◌<◌, ◌==◌, false, true, length, take, nat_lt, IfOk, IfErr, IfSome, IsErrOf, IsSome, OnOk, OnErr, if◌then◌else◌};
+ghost use Rattle.std.specs.Prelude.{◌≡◌, ◌≢◌, ◌↔◌, ℕ, List, [], Ok, ◌+◌, ◌*◌, ◌≤◌, ◌<◌, ◌==◌, false, true, length, take, nat_lt, IfOk, IfErr, IfSome, IsErrOf, IsSome, OnOk, OnErr, if◌then◌else◌};
 ghost use Rattle.mctp_packet.specs.Ids.{IsEid};
 ghost use Rattle.mctp_packet.specs.declared.TheConstants.{MAX_MESSAGE_BYTES as most, NULL_EID};
 ghost use Rattle.mctp_assembly.specs.declared.key.Key.{Key as KeyValue};
 ghost use Rattle.pldm_responder.specs.Counts.{CountsKept};
 ghost use Rattle.pldm_responder.specs.Ends.{End, GetsRow, IsOwn, IsSameEnd, eid_or_null, has_row, held_by};
-ghost use Rattle.pldm_responder.specs.Arrivals.{Part, message_arrival};
-ghost use Rattle.pldm_responder.specs.Looking.{HasArrived, HasComeBy, IsReadBy, IsReply, arrival_in, end_closed, end_finished, is_past_open, message_at, standing};
+ghost use Rattle.pldm_responder.specs.Arrivals.{Part, message_arrival, request_packet};
+ghost use Rattle.pldm_responder.specs.Looking.{HasArrived, HasComeBy, HasTaken, IsLastFor, IsReadBy, IsReply, arrival_in, end_closed, end_finished, is_past_open, message_at, standing};
 ghost use Rattle.pldm_responder.specs.OpenOrder.{begins, is_shut_out, is_shut_out_on, way_for};
 ghost use Rattle.mctp_assembly.specs.Keys.{IsKey};
 ghost use Rattle.mctp_assembly.specs.Steps.{answer};
@@ -23,7 +23,7 @@ ghost use Rattle.pldm_responder.specs.Steps.{assigned_held, received_arrival};
 ghost use Rattle.pldm_wire.specs.Headers.{id_at};
 ghost use Rattle.pldm_wire.specs.declared.assigned.TheConstants.{INSTANCE_IDS as ids};
 
-use crate::arriving::{Arrived, Request, RoomRefusal, Standing};
+use crate::arriving::{Arrived, Request, RoomRefusal, Standing, Taken};
 use crate::bounds::Bounds;
 use crate::keeping::Keeping;
 use crate::kept_answers::{KeptAnswers, Reserved};
@@ -241,7 +241,8 @@ impl AnsweringEnd {
 
     /// Takes the bytes of a packet that came at the moment `now`. A packet that is dropped or a part of a message is
     /// done with. A request that it completes is returned, and nothing is done with it: that is the caller's, up to
-    /// [`AnsweringEnd::finish`]. The bytes of a request of several packets are put into `room`.
+    /// [`AnsweringEnd::finish`]. The last packet of several is returned as it was read, for
+    /// [`AnsweringEnd::take_last`]: only that needs room for a message.
     ///
     /// # Errors
     ///
@@ -249,13 +250,8 @@ impl AnsweringEnd {
     /// are open as [`Bounds::open_messages`] allow: where the oldest ends, only if none may be open at all. `Memory`
     /// where a growth was refused, which only a start packet that gives `Partial` wants.
     #[inline(always)]
-    pub fn take<'a>(
-        &mut self,
-        now: Moment,
-        bytes: &'a [u8],
-        room: &'a mut Option<Body>,
-    ) -> Result<Arrived<'a>, RoomRefusal>
-        ensures ok { IfOk result (HasArrived self.old now bytes.now self.new) }
+    pub fn take<'a>(&mut self, now: Moment, bytes: &'a [u8]) -> Result<Taken<'a>, RoomRefusal>
+        ensures ok { IfOk result (HasTaken self.old now bytes.now self.new) }
         ensures err { OnErr result (self.new ≡ self.old) }
         ensures sources { IsErrOf result RoomRefusal.Sources → ⊥ }
         ensures open_messages { IsErrOf result RoomRefusal.OpenMessages ↔ (is_past_open self.old bytes.now ≡ true) }
@@ -263,31 +259,35 @@ impl AnsweringEnd {
         ensures needs { OnErr result (NeedsMemory (held_by self.old) true now bytes.now) }
     {
         let Some(own) = self.own else {
-            return Ok(self.dropped(now, reason_without_eid(bytes)));
+            return Ok(Taken::Arrived(self.dropped(now, reason_without_eid(bytes))));
         };
         let packet = match read_for(own, bytes) {
             Ok(packet) => packet,
-            Err(reason) => return Ok(self.dropped(now, reason)),
+            Err(reason) => return Ok(Taken::Arrived(self.dropped(now, reason))),
         };
         let route = packet.route();
         if !route.owner {
-            return Ok(self.dropped(now, Reason::BadTag));
+            return Ok(Taken::Arrived(self.dropped(now, Reason::BadTag)));
         }
-        if packet.start() && packet.end() {
-            return Ok(self.read(now, &route, packet.payload()));
+        if !packet.end() {
+            return Ok(Taken::Arrived(self.take_part(now, &packet)?));
         }
-        self.take_piece(now, &packet, room)
+        if !packet.start() {
+            return Ok(Taken::Last(packet));
+        }
+        Ok(Taken::Arrived(self.read(now, &route, packet.payload())))
     }
 
-    /// Takes a packet of a message of several packets. It is addressed to the endpoint by another one, with TO 1.
+    /// Takes a packet of a message of several packets that is not its last one. It is addressed to the endpoint by
+    /// another one, with TO 1.
     // Not inlined: a message of one packet, the usual one, then needs none of its stack.
     #[inline(never)]
-    fn take_piece<'a>(
+    fn take_part<'a>(
         &mut self,
         now: Moment,
         packet: &PacketRef<'_>,
-        room: &'a mut Option<Body>,
     ) -> Result<Arrived<'a>, RoomRefusal>
+        requires goes_on { packet.now.end ≡ false }
         requires owner { packet.now.route.owner ≡ true }
         requires other { packet.now.route.source ≢ self.old.own }
         requires here { packet.now.route.destination ≡ self.old.own }
@@ -299,28 +299,41 @@ impl AnsweringEnd {
         ensures partial { OnErr result (answer self.old.open_messages packet.now ≡ Partial) }
         ensures at_start { OnErr result (packet.now.start ≡ true) }
     {
-        if packet.start() && !packet.end() {
+        if packet.start() {
             return self.begin(now, packet);
         }
-        if !packet.end() {
-            let given = self.assembler.feed_open(packet)?;
-            self.last = now;
-            return Ok(match given {
-                FedInto::Whole | FedInto::Partial => Arrived::Partial,
-                FedInto::Dropped(reason) => Arrived::Dropped(reason),
-            });
-        }
-        let message = room.insert(Body::new());
-        match self.assembler.feed_piece(packet, message)? {
-            FedInto::Whole => Ok(self.read(now, &packet.route(), message)),
-            FedInto::Partial => {
+        let given = self.assembler.feed_open(packet)?;
+        self.last = now;
+        Ok(match given {
+            FedInto::Whole | FedInto::Partial => Arrived::Partial,
+            FedInto::Dropped(reason) => Arrived::Dropped(reason),
+        })
+    }
+
+    /// Takes the last packet of a message of several packets, as [`AnsweringEnd::take`] returned it and with nothing
+    /// done since: a request that it completes is returned, and its bytes are put into `room`.
+    pub fn take_last<'a>(
+        &mut self,
+        now: Moment,
+        packet: &PacketRef<'_>,
+        room: &'a mut Body,
+    ) -> Arrived<'a>
+        requires last { IsLastFor self.old packet.now }
+        ensures by_packet { HasComeBy self.old now packet.now self.new result }
+        ensures arrived { (bytes : List ℕ) → request_packet self.old.own bytes ≡ Ok packet.now
+            → HasArrived self.old now bytes self.new result }
+    {
+        match self.assembler.feed_piece(packet, room) {
+            Ok(FedInto::Whole) => self.read(now, &packet.route(), room),
+            Ok(FedInto::Partial) => {
                 self.last = now;
-                Ok(Arrived::Partial)
+                Arrived::Partial
             }
-            FedInto::Dropped(reason) => {
+            Ok(FedInto::Dropped(reason)) => {
                 self.last = now;
-                Ok(Arrived::Dropped(reason))
+                Arrived::Dropped(reason)
             }
+            Err(_) => unreachable!(), // only a first packet takes memory
         }
     }
 

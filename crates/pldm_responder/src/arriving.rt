@@ -7,7 +7,7 @@ ghost use Rattle.pldm_wire.specs.Headers.{id_at};
 ghost use Rattle.pldm_wire.specs.Requests.{request_of};
 ghost use Rattle.pldm_wire.specs.declared.assigned.TheConstants.{INSTANCE_IDS as ids};
 
-use mctp_packet::{Eid, Memory, Reason, Route, Tag};
+use mctp_packet::{Eid, Memory, PacketRef, Reason, Route, Tag};
 use pldm_wire::RequestRef;
 use std::marker::Model;
 use thiserror::Error;
@@ -131,6 +131,16 @@ impl<'a> Request<'a> {
     {
         &self.read
     }
+}
+
+/// What becomes of the bytes of a packet as they are read.
+#[derive(Debug, Drop)]
+pub enum Taken<'a> {
+    /// This, and all is done with them.
+    Arrived(Arrived<'a>),
+    /// They are the last packet of a message of several packets, with which nothing is done yet:
+    /// [`crate::AnsweringEnd::take_last`] does.
+    Last(PacketRef<'a>),
 }
 
 /// What becomes of the bytes of a packet, as far as they are only looked at.

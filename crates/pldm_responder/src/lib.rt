@@ -20,7 +20,7 @@ mod slot;
 mod slot_table;
 
 pub use answering_end::{AnsweringEnd, MAX_KEPT, MAX_PENDING};
-pub use arriving::{Arrived, Request, RoomRefusal, Standing};
+pub use arriving::{Arrived, Request, RoomRefusal, Standing, Taken};
 pub use bounds::Bounds;
 pub use keeping::Keeping;
 pub use kept_answers::Reserved;

@@ -1,16 +1,17 @@
 ghost use Rattle.std.specs.Borrow.{Lends, sem};
 ghost use Rattle.std.specs.FinMap as map;
-ghost use Rattle.std.specs.Prelude.{◌≡◌, ◌≢◌, ℕ, ◌*◌, ◌≤◌, ◌<◌, [], length, nat_lt, IfOk, IfSome, OnErr};
+ghost use Rattle.std.specs.Prelude.{◌≡◌, ◌≢◌, ℕ, ◌*◌, ◌≤◌, ◌<◌, List, [], Ok, length, nat_lt, IfOk, IfSome, OnErr};
 ghost use Rattle.mctp_assembly.specs.declared.key.Key.{Key as KeyValue};
 ghost use Rattle.pldm_platform.specs.Changes.{made_of};
 ghost use Rattle.pldm_wire.specs.declared.assigned.TheConstants.{INSTANCE_IDS};
 ghost use Rattle.pldm_wire.specs.declared.busy_time.BusyTime.TheVariants.{All};
 ghost use Rattle.pldm_responder.specs.Answering.{HasReply, answering};
+ghost use Rattle.pldm_responder.specs.Arrivals.{request_packet};
 ghost use Rattle.pldm_responder.specs.Counts.{CountsKept};
 ghost use Rattle.pldm_responder.specs.Held.{IsHeld, held_at_first};
 ghost use Rattle.pldm_responder.specs.Performing.{rules_of};
 ghost use Rattle.pldm_responder.specs.Receiving.{HasReceived, IsRefusedMemory};
-ghost use Rattle.pldm_responder.specs.Looking.{message_at};
+ghost use Rattle.pldm_responder.specs.Looking.{IsLastFor, message_at};
 ghost use Rattle.pldm_responder.specs.Serving.{IsNotPerformed, IsNotServed, IsPerformed, IsServed};
 ghost use Rattle.pldm_responder.specs.Reserving.{IsWhyNoRoom};
 ghost use Rattle.pldm_responder.specs.Slots.{source_count};
@@ -20,13 +21,13 @@ ghost use Rattle.pldm_responder.specs.Ends.{eid_or_null, unreached};
 ghost use Rattle.pldm_responder.specs.contracts.responder.Responder.{the_row};
 
 use crate::answering_end::{AnsweringEnd, MAX_KEPT, MAX_PENDING};
-use crate::arriving::{Arrived, Request, RoomRefusal, Standing};
+use crate::arriving::{Arrived, Request, RoomRefusal, Standing, Taken};
 use crate::bounds::Bounds;
 use crate::keeping::Keeping;
 use crate::outcome::{MessageOutcome, Outcome};
 use crate::performing::perform;
 use crate::routes::{not_performed, performed};
-use mctp_packet::{Body, Eid, Keep, MAX_MESSAGE_BYTES, Memory, Moment};
+use mctp_packet::{Body, Eid, Keep, MAX_MESSAGE_BYTES, Memory, Moment, PacketRef};
 use pldm_platform::{Platform, ReadingFault};
 use pldm_wire::Answer;
 use std::alloc::Global;
@@ -259,12 +260,37 @@ impl<P: Platform> Responder<P> {
         ensures some { IfOk result (HasReply reply.new.items) }
         ensures refused { OnErr result (IsRefusedMemory P.performed self.old now bytes.now self.new P.STEADY) }
     {
-        let mut room = None;
-        match self.end.take(now, bytes, &mut room) {
-            Ok(Arrived::Dropped(reason)) => Ok(MessageOutcome::Dropped(reason)),
-            Ok(Arrived::Partial) => Ok(MessageOutcome::Partial),
-            Ok(Arrived::Request(request)) => self.serve(now, &request, reply),
+        match self.end.take(now, bytes) {
+            Ok(Taken::Arrived(Arrived::Dropped(reason))) => Ok(MessageOutcome::Dropped(reason)),
+            Ok(Taken::Arrived(Arrived::Partial)) => Ok(MessageOutcome::Partial),
+            Ok(Taken::Arrived(Arrived::Request(request))) => self.serve(now, &request, reply),
+            Ok(Taken::Last(packet)) => self.receive_last(now, &packet, reply),
             Err(refusal) => Err(self.memory_of(refusal)),
+        }
+    }
+
+    /// Takes the last packet of a message of several packets. The message that answers it is put into `reply`.
+    // Not inlined: the room for its bytes is cleared and on the stack for such a message alone.
+    #[inline(never)]
+    fn receive_last(
+        &mut self,
+        now: Moment,
+        packet: &PacketRef<'_>,
+        reply: &mut Body,
+    ) -> Result<MessageOutcome, Memory>
+        requires last { IsLastFor self.old.end packet.now }
+        ensures received { (bytes : List ℕ) → request_packet self.old.end.own bytes ≡ Ok packet.now
+            → IfOk result (λ taken. HasReceived P.performed self.old now bytes self.new
+            (rules_of P.answer P.after P.sensed) (answering reply.new.items taken)) }
+        ensures some { IfOk result (HasReply reply.new.items) }
+        ensures refused { (bytes : List ℕ) → request_packet self.old.end.own bytes ≡ Ok packet.now
+            → OnErr result (IsRefusedMemory P.performed self.old now bytes self.new P.STEADY) }
+    {
+        let mut room = Body::new();
+        match self.end.take_last(now, packet, &mut room) {
+            Arrived::Dropped(reason) => Ok(MessageOutcome::Dropped(reason)),
+            Arrived::Partial => Ok(MessageOutcome::Partial),
+            Arrived::Request(request) => self.serve(now, &request, reply),
         }
     }
 

@@ -2,7 +2,6 @@ use Rattle.std.specs.FinMap as map
 use Rattle.std.proofs.Common.{◌≡◌, ◌==◌, false, [], ◌∷◌, Option, Some, None, IfSome, is_some, rules, ap, sym, subst, ◌∙◌}
 use Rattle.pldm_wire.specs.HandingOn.{hands_on}
 use Rattle.pldm_wire.specs.Headers.{kind_at}
-use Rattle.pldm_wire.specs.Kinds.{TypeAndCommand}
 use Rattle.pldm_wire.specs.Messages.{response_message}
 use Rattle.pldm_wire.specs.Requests.{Request}
 use Rattle.pldm_wire.specs.declared.assigned.TheConstants.{SUCCESS}

@@ -1,4 +1,4 @@
-use Rattle.std.proofs.Common.{◌≡◌, ℕ, ◌&&◌, ◌==◌, true, false, Some, if◌then◌else◌, ap, sym, subst, ◌∙◌, rules, arith}
+use Rattle.std.proofs.Common.{◌≡◌, ℕ, ◌==◌, true, false, Some, if◌then◌else◌, ap, sym, subst, ◌∙◌, rules}
 use Rattle.pldm_responder.specs.Answering.{answering}
 use Rattle.pldm_responder.specs.Ends.{End, eid_or_null, held_by}
 use Rattle.pldm_responder.specs.Held.{Entry, IsHeld, id_in}

@@ -1,4 +1,4 @@
-use Rattle.std.proofs.Common.{rules, ◌≡◌, ◌<◌, false, None, ap, length, subst}
+use Rattle.std.proofs.Common.{rules, ◌≡◌, false, subst}
 use Rattle.pldm_wire.specs.Headers.{id_at}
 use Rattle.pldm_responder.specs.Arrivals.{Whole}
 use Rattle.pldm_responder.specs.Ends.{held_by}
@@ -11,7 +11,7 @@ use Rattle.pldm_endpoint.specs.TwoSteps.{EndpointView, held_in, stepped}
 use Rattle.pldm_endpoint.proofs.EndedMessages.{not_true}
 use Rattle.pldm_endpoint.proofs.PendingGlue.{free_is_answered}
 use Rattle.pldm_endpoint.proofs.QuietRequests.{still_held}
-use Rattle.pldm_endpoint.proofs.TasksRead.{asks_command, asks_response}
+use Rattle.pldm_endpoint.proofs.TasksRead.{asks_response}
 use Rattle.pldm_endpoint.proofs.endpoint.Endpoint.serve.Goals as goal
 
 pub returns-then-ne-clause-served : goal.returns-then-ne-clause-served
