@@ -4,6 +4,7 @@ pub mod Examples
 pub mod HandedOn
 pub mod KeptOnce
 pub mod Numbers
+pub mod Queried
 pub mod ReadAnswers
 pub mod ReadCommands
 pub mod ReadMessages

@@ -13,6 +13,7 @@ use Rattle.mctp_control.specs.Dropped.{control_left, control_reply}
 use Rattle.mctp_control.specs.Histories.{AreAlike, IsAnsweredAsBefore, TimedPacket, after, assigning, assigns, is_copy}
 use Rattle.mctp_control.specs.Messages.{IsRequest, IsResponse, Request, Response}
 use Rattle.mctp_control.specs.Packets.{is_whole_request, left_by, reply_to}
+use Rattle.mctp_control.specs.Queries.{ControlQuery, IsAnswer}
 use Rattle.mctp_control.specs.declared.answer.Answer.{Answer}
 use Rattle.mctp_control.specs.declared.assigned.TheConstants.{CONTROL}
 use Rattle.mctp_control.specs.declared.command.Command.{Command}
@@ -124,3 +125,23 @@ AssignedApart =
     → AreAlike again first
     → (first.moment + e.keep ≤ again.moment)
     ⊎ (KEPT_ASSIGNMENTS ≤ length (assigning (after e (first ∷ before)) later))
+
+-- two queries of one endpoint, that go to one device with one tag, instance ID and command
+pub record AskAlike (q other : ControlQuery) : Type 0 where
+  pub own : q.own ≡ other.own
+  pub device : q.device ≡ other.device
+  pub tag : q.tag ≡ other.tag
+  pub id : q.id ≡ other.id
+  pub command : number_of q.command ≡ number_of other.command
+
+-- a packet that answers a query answers none that asks otherwise
+abbrev pub AnswersNoOther : Type 0
+AnswersNoOther =
+    (q other : ControlQuery) (bytes message again : List ℕ)
+    → IsAnswer q bytes message → IsAnswer other bytes again → AskAlike q other
+
+-- and it answers with one message
+abbrev pub OneAnswerMessage : Type 0
+OneAnswerMessage =
+    (q : ControlQuery) (bytes message again : List ℕ)
+    → IsAnswer q bytes message → IsAnswer q bytes again → message ≡ again

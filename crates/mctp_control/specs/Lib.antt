@@ -10,6 +10,7 @@ pub mod Laws
 pub mod Lists
 pub mod Messages
 pub mod Packets
+pub mod Queries
 pub mod Responding
 pub mod Settings
 pub mod Written

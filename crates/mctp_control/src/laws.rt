@@ -1,6 +1,8 @@
 //! Laws over the definitions alone: each is the contract of a function that does nothing.
 
-ghost use Rattle.mctp_control.specs.Laws.{AnswerReadBack, CommandReadBack, AssignedApart, CopiesAnsweredAlike, CopiesChangeNothing, HeaderDropsSeen, NoIdDropsSeen, OneAnswer, OneCommand, OneRequest, OneResponse, OtherMessagesUnanswered, OtherTypesSeen, OtherVersionsUnanswered, PartsUnanswered, RequestOrResponse, ShortUnanswered};
+ghost use Rattle.mctp_control.specs.Laws.{AnswerReadBack, AnswersNoOther, CommandReadBack, AssignedApart, CopiesAnsweredAlike, CopiesChangeNothing, HeaderDropsSeen, NoIdDropsSeen, OneAnswer, OneAnswerMessage, OneCommand, OneRequest, OneResponse, OtherMessagesUnanswered, OtherTypesSeen, OtherVersionsUnanswered, PartsUnanswered, RequestOrResponse, ShortUnanswered};
+
+use mctp_packet::laws::bytes_spell_one_packet;
 
 /// Bytes are one request or one response at most, and never both.
 pub fn messages_are_told_apart()
@@ -44,3 +46,12 @@ pub fn assignments_are_accepted_once()
     ensures alike { CopiesAnsweredAlike }
     ensures apart { AssignedApart }
 {}
+
+/// No answer to another request is believed: a packet that answers a query answers none of another endpoint, to another
+/// device, on another tag, with another instance ID or of another command. It answers with one message.
+pub fn answers_are_of_one_query()
+    ensures apart { AnswersNoOther }
+    ensures one { OneAnswerMessage }
+{
+    bytes_spell_one_packet();
+}

@@ -1,5 +1,5 @@
 //! MCTP control messages (DSP0236, "MCTP control protocol") of a simple endpoint: commands and answers, read and
-//! written, and what such an endpoint answers, which has a static endpoint ID or is assigned one.
+//! written, what such an endpoint answers, which has a static endpoint ID or is assigned one, and what asks it.
 #![tactic(auto)]
 
 mod answer;
@@ -17,6 +17,7 @@ pub mod laws;
 mod message;
 mod message_types;
 mod packet_header;
+mod query;
 mod versions;
 
 pub use answer::{Answer, Assignment, EidKind, EndpointKind};
@@ -37,4 +38,5 @@ pub use control_responder::{ControlPacket, ControlResponder};
 pub use kept_assignments::{KEPT_ASSIGNMENTS, KeptAssignment, KeptAssignments};
 pub use message::{RequestRef, ResponseRef, read_request, read_response};
 pub use message_types::MessageTypes;
+pub use query::Query;
 pub use versions::Versions;
