@@ -13,7 +13,7 @@ const DIVISOR: u64 = 0x1_04c1_1db7;
 /// The checksum that follows version data (DSP0240, "GetPLDMVersion command"): CRC-32 as IEEE 802.3 has it, each byte
 /// from its least significant bit on. Versions are few bytes, so each bit is a step of a long division.
 #[tactic(auto, unfolding(crate::specs::Crc32::divided_bits))]
-pub(crate) fn crc32(bytes: &[u8]) -> u32
+pub fn crc32(bytes: &[u8]) -> u32
     ensures value { result ≡ crc32 bytes.now }
     ensures remainder { IsCrc32 bytes.now result }
 {

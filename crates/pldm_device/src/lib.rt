@@ -2,7 +2,7 @@
 #![tactic(auto)]
 
 mod control_table;
-mod crc32;
+pub mod crc32;
 mod description;
 mod description_fault;
 mod device;
