@@ -5,3 +5,5 @@
 mod asked;
 #[cfg(test)]
 mod lines;
+#[cfg(test)]
+mod queried;

@@ -1,3 +1,4 @@
+pub mod Awaiting
 pub mod Going
 pub mod Numbers
 pub mod Opening

@@ -1,10 +1,12 @@
 -- A turn that was taken.
-use Rattle.std.proofs.Common.{◌≡◌, ℕ, zero, suc, ◌≤◌, ◌==◌, Bool, List, [], ◌∷◌, length, take, refl, ap, subst, ◌∙◌, rules, arith}
+use Rattle.std.proofs.Common.{◌≡◌, ℕ, zero, suc, ◌≤◌, ◌==◌, Bool, List, [], ◌∷◌, length, take, Result, Ok, Err, OnOk, refl, ap, subst, ◌∙◌, rules, arith}
 use Rattle.std.specs.Io.KnownBytes.{Appends, Consumes}
 use Rattle.std.proofs.lemmas.Bool.Decides.{nat_tests}
 use Rattle.mctp_serial.specs.Readings.{after}
 use Rattle.mctpctl_ask.specs.Asked.{Shown, TakesTurn}
+use Rattle.mctpctl_ask.specs.Queries.{TakesTurnSeeing, WantedAnswer, all_seen}
 use Rattle.mctpctl_ask.specs.Turns.{frames_of, is_none, quiet_after, received}
+use Rattle.mctpctl_ask.specs.declared.fault.AskFault.{AskFault}
 use Rattle.mctpctl_serve.specs.Serving.{moment_after, packets_in}
 use Rattle.pldm_requester.specs.Steps.{Held, again_at, ticked_held}
 
@@ -13,7 +15,7 @@ none_taken zero xs few = refl
 none_taken (suc n) [] few = absurd (omega arith)
 none_taken (suc n) (x ∷ xs) few = search (rules, nat_tests)
 
-pub turn_taken : (s s1 : Shown) (bytes : List ℕ) (clock now : ℕ) (heard : Held) (none : Bool)
+pub turn_taken : (s s1 : Shown) (bytes : List ℕ) (clock now : ℕ) (heard : Held) (none : Bool) (w w1 : WantedAnswer)
     → now ≡ moment_after s.asking.held.last clock
     → heard ≡ received s.asking.held now (packets_in s.asking.reading bytes)
     → s1.asking.held ≡ ticked_held heard now
@@ -21,8 +23,9 @@ pub turn_taken : (s s1 : Shown) (bytes : List ℕ) (clock now : ℕ) (heard : He
     → none ≡ is_none bytes → s1.asking.quiet ≡ quiet_after none s.asking.quiet now
     → Consumes s.left s1.left bytes → Consumes s.clock s1.clock (clock ∷ [])
     → Appends s.written s1.written (frames_of heard (again_at heard now))
-    → TakesTurn s s1
-turn_taken s s1 bytes clock now heard none at hears ticks reads empty quiet left ticked wrote =
+    → w1 ≡ all_seen w (packets_in s.asking.reading bytes)
+    → TakesTurnSeeing w w1 s s1
+turn_taken s s1 bytes clock now heard none w w1 at hears ticks reads empty quiet left ticked wrote seen =
     let m = moment_after s.asking.held.last clock in
     let hear : ℕ → Held = λ n. received s.asking.held n (packets_in s.asking.reading bytes) in
     let heard_at : heard ≡ hear m = hears ∙ ap hear at in
@@ -39,4 +42,9 @@ turn_taken s s1 bytes clock now heard none at hears ticks reads empty quiet left
             subst (λ (h : Held). Appends s.written s1.written (frames_of h (again_at h m))) heard_at
             (subst (λ n. Appends s.written s1.written (frames_of heard (again_at heard n))) at wrote);
       };
+      seen = seen;
     }
+
+pub turn_of : (w w1 : WantedAnswer) (s s1 : Shown) (r : Result (Unit {0}) AskFault) → OnOk r (TakesTurnSeeing w w1 s s1) → OnOk r (TakesTurn s s1)
+turn_of w w1 s s1 (Ok done) h = record { turn = h.turn; turned = h.turned }
+turn_of w w1 s s1 (Err fault) h = tt

@@ -1,4 +1,5 @@
 pub mod Asked
 pub mod AskFaults
 pub mod Ends
+pub mod Queries
 pub mod Turns

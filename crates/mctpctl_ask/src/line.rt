@@ -59,6 +59,13 @@ impl<C> AskingLine<C> {
         }
     }
 
+    /// The last reading of the clock, in milliseconds since the line was begun; it never goes back.
+    pub fn moment(&self) -> Moment
+        ensures { result ≡ (held_of self.now.requester).last }
+    {
+        self.requester.last_moment()
+    }
+
     /// How a request ended, where it has.
     fn ended(&self, number: u64) -> Option<Ended>
         ensures { result ≡ ended_of (held_of self.now.requester) number }
@@ -102,8 +109,9 @@ pub fn begin<C: Ticks + Drop, R: Read, W: Write>(
     begin_after(alloc, own, device, timing, span, ticks, reader, writer)
 }
 
-/// As [`begin`], where answers to earlier requests of `own` may come for so many milliseconds yet, up to twice the keeping
-/// time after the last of them was opened: that time passes, reading, before a request may be opened. Packets that come meanwhile are dropped, and nothing is written.
+/// As [`begin`], where answers to earlier requests of `own` may come for so many milliseconds yet, up to twice the
+/// keeping time after the last of them was opened: that time passes, reading, before a request may be opened. Packets
+/// that come meanwhile are dropped, and nothing is written.
 ///
 /// # Errors
 ///

@@ -6,6 +6,7 @@ ghost use Rattle.std.specs.List.{flat_map};
 ghost use Rattle.mctp_packet.specs.Ids.{IsMoment};
 ghost use Rattle.mctp_serial.specs.Readings.{after};
 ghost use Rattle.mctpctl_ask.specs.Asked.{TakesTurn, shown};
+ghost use Rattle.mctpctl_ask.specs.Queries.{SeesByte, TakesTurnSeeing, all_seen};
 ghost use Rattle.mctpctl_ask.specs.Turns.{HearsByte, framed, frames_of, memo_frames, received};
 ghost use Rattle.mctpctl_input.specs.Ports.{inner_of, has_failed};
 ghost use Rattle.mctpctl_serve.specs.Serving.{moment_after, packets_in};
@@ -14,6 +15,7 @@ ghost use Rattle.pldm_requester.specs.Steps.{again_at, ticked_held};
 
 use crate::fault::AskFault;
 use crate::line::AskingLine;
+use crate::wanted::Wanted;
 use mctp_packet::{MAX_MOMENT, Moment, Packets};
 use mctp_serial::{FrameBytes, FrameEvent, FrameReader, frame};
 use mctpctl_input::Port;
@@ -42,6 +44,27 @@ pub(crate) fn take_turn<C: Ticks, R: Read, W: Write>(
     ensures read { IsErrOf result AskFault.Read ↔ (has_failed reader.new ≡ true) }
     ensures write { IsErrOf result AskFault.Write ↔ (has_failed writer.new ≡ true) }
 {
+    take_turn_seeing(line, &mut Wanted::nothing(), reader, writer)
+}
+
+/// Takes a turn, as [`take_turn`] does. The packets are seen by what wants an answer, too.
+pub(crate) fn take_turn_seeing<C: Ticks, R: Read, W: Write>(
+    line: &mut AskingLine<C>,
+    wanted: &mut Wanted<'_>,
+    reader: &mut Port<R>,
+    writer: &mut Port<W>,
+) -> Result<(), AskFault>
+    requires reads { has_failed reader.old ≡ false }
+    requires writes { has_failed writer.old ≡ false }
+    ensures turned { OnOk result (TakesTurnSeeing wanted.old wanted.new
+        (shown C.to_come R.remaining W.contents line.old reader.old writer.old)
+        (shown C.to_come R.remaining W.contents line.new reader.new writer.new)) }
+    ensures kept { IfErr result (λ fault. fault ≢ AskFault.Write
+        → Keeps (W.contents (inner_of writer.old)) (W.contents (inner_of writer.new))) }
+    ensures end { result ≢ Err AskFault.LineEnded }
+    ensures read { IsErrOf result AskFault.Read ↔ (has_failed reader.new ≡ true) }
+    ensures write { IsErrOf result AskFault.Write ↔ (has_failed writer.new ≡ true) }
+{
     let mut room = [0; PIECE];
     let Ok(count) = reader.read(&mut room) else {
         return Err(AskFault::Read);
@@ -50,7 +73,13 @@ pub(crate) fn take_turn<C: Ticks, R: Read, W: Write>(
         return Err(AskFault::Clock);
     };
     let now = moment_after(line.requester.last_moment(), reading);
-    hear(&mut line.frames, &mut line.requester, now, &room[..count])?;
+    hear(
+        &mut line.frames,
+        &mut line.requester,
+        wanted,
+        now,
+        &room[..count],
+    )?;
     send_due(&mut line.requester, now, writer)?;
     line.quiet.take(count == 0, now);
     Ok(())
@@ -66,10 +95,11 @@ fn moment_after(last: Moment, reading: u64) -> Moment
     Moment::new(latest).unwrap()
 }
 
-/// Hands the packets whose frames end in a piece of input to the requester.
+/// Hands the packets whose frames end in a piece of input to the requester, and to what wants an answer.
 fn hear(
     frames: &mut FrameReader,
     requester: &mut Requester,
+    wanted: &mut Wanted<'_>,
     now: Moment,
     piece: &[u8],
 ) -> Result<(), AskFault>
@@ -77,36 +107,42 @@ fn hear(
     ensures frames { OnOk result (frames.new ≡ after frames.old piece.now) }
     ensures held { OnOk result (held_of requester.new
         ≡ received (held_of requester.old) now (packets_in frames.old piece.now)) }
+    ensures seen { OnOk result (wanted.new ≡ all_seen wanted.old (packets_in frames.old piece.now)) }
     ensures last { OnOk result ((held_of requester.new).last ≤ now) }
     ensures fault { IfErr result (λ fault. fault ≡ AskFault.Memory) }
 {
     let mut rest = piece;
     while let Some((byte, others)) = rest.split_first() {
-        hear_byte(frames, requester, now, *byte)?;
+        hear_byte(frames, requester, wanted, now, *byte)?;
         rest = others;
     }
     Ok(())
 }
 
-/// Takes a byte. Where it ends the frame of a packet, the requester gets that.
+/// Takes a byte. Where it ends the frame of a packet, the requester gets that, and what wants an answer sees it.
 #[tactic(auto, using(crate::proofs::SameHeld::same_held))]
 fn hear_byte(
     frames: &mut FrameReader,
     requester: &mut Requester,
+    wanted: &mut Wanted<'_>,
     now: Moment,
     byte: u8,
 ) -> Result<(), AskFault>
     requires { (held_of requester.old).last ≤ now }
     ensures heard { OnOk result (HearsByte (held_of requester.old) frames.old now byte (held_of requester.new)
         frames.new) }
+    ensures seen { OnOk result (SeesByte wanted.old frames.old byte wanted.new) }
     ensures last { OnOk result ((held_of requester.new).last ≤ now) }
     ensures fault { IfErr result (λ fault. fault ≡ AskFault.Memory) }
 {
     match frames.take(byte) {
-        FrameEvent::Packet(packet) => match requester.receive(now, &packet) {
-            Ok(_) => Ok(()),
-            Err(_) => Err(AskFault::Memory),
-        },
+        FrameEvent::Packet(packet) => {
+            wanted.see(&packet);
+            match requester.receive(now, &packet) {
+                Ok(_) => Ok(()),
+                Err(_) => Err(AskFault::Memory),
+            }
+        }
         FrameEvent::Nothing | FrameEvent::Dropped(_) => Ok(()),
     }
 }
@@ -193,7 +229,7 @@ fn send_packets<W: Write>(packets: &Packets, writer: &mut Port<W>) -> Result<(),
 }
 
 /// The frame of a packet, where it has one.
-fn framed(packet: &[u8]) -> FrameBytes
+pub(crate) fn framed(packet: &[u8]) -> FrameBytes
     ensures { result.items ≡ framed packet.now }
 {
     match frame(packet) {

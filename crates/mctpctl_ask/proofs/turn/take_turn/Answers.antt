@@ -1,25 +1,11 @@
--- A turn, by its parts.
-use Rattle.std.proofs.Common.{◌≡◌, ◌==◌, take, rules}
-use Rattle.mctpctl_ask.proofs.Turning.{none_taken, turn_taken}
+-- The turn that was taken.
+use Rattle.mctpctl_ask.proofs.Turning.{turn_of}
 use Rattle.mctpctl_ask.specs.Asked.{shown}
-use Rattle.mctpctl_serve.specs.Serving.{moment_after}
-use Rattle.pldm_requester.specs.Slots.{held_of}
 use Rattle.mctpctl_ask.proofs.turn.take_turn.Goals as goal
 
 pub returns-clause-turned : goal.returns-clause-turned
 returns-clause-turned g c =
-    let now = c.moment_after-now.result in
-    let at : now ≡ moment_after (held_of c.args.line.now.requester).last c.in-Ok-tick.reading = search rules in
-    let after = record c.args.line.now {
-      frames = c.hear.new.frames;
-      requester = c.send_due.new.requester;
-      quiet = c.take.new.self;
-      ticks = c.tick.new.self;
-    } in
-    turn_taken
+    turn_of c.nothing.result c.take_turn_seeing.new.wanted
     (shown g.C.Ticks.to_come g.R.Read.remaining g.W.Write.contents c.args.line.now c.args.reader.now c.args.writer.now)
-    (shown g.C.Ticks.to_come g.R.Read.remaining g.W.Write.contents after c.read.new.self c.send_due.new.writer)
-    (take c.in-Ok.count c.read.new.buf) c.in-Ok-tick.reading now (held_of c.hear.new.requester) (c.in-Ok.count == 0)
-    at c.in_ok-hear.ensures.held c.in_ok-send_due.ensures.held c.in_ok-hear.ensures.frames
-    (none_taken c.in-Ok.count c.read.new.buf c.in-Ok.ensures.bound.0) c.take.ensures
-    c.in-Ok.ensures.bytes.0 c.in-Ok-tick.ensures c.in_ok-send_due.ensures.bytes
+    (shown g.C.Ticks.to_come g.R.Read.remaining g.W.Write.contents c.take_turn_seeing.new.line c.take_turn_seeing.new.reader c.take_turn_seeing.new.writer)
+    c.take_turn_seeing.result c.take_turn_seeing.ensures.turned

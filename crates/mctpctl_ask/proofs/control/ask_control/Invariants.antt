@@ -1,0 +1,14 @@
+-- The answer was awaited meanwhile.
+use Rattle.std.proofs.Common.{◌≡◌, false}
+use Rattle.mctpctl_ask.specs.Asked.{shown}
+use Rattle.mctpctl_ask.specs.Queries.{AwaitsSo}
+use Rattle.mctpctl_ask.proofs.control.ask_control.Given as goal
+
+abbrev pub invariant-loop : goal.invariant-loop
+invariant-loop g l = record {
+  so : AwaitsSo l.query l.again l.tries l.wanted l.tried
+      (shown g.C.Ticks.to_come g.R.Read.remaining g.W.Write.contents l.fn.line l.fn.reader l.fn.writer)
+      (shown g.C.Ticks.to_come g.R.Read.remaining g.W.Write.contents l.line l.reader l.writer);
+  reads : l.reader.failed ≡ false;
+  writes : l.writer.failed ≡ false;
+}

@@ -1,0 +1,10 @@
+pub mod Decimals
+pub mod Real32s
+pub mod Values
+pub mod Replies
+pub mod States
+pub mod Names
+pub mod Tables
+pub mod Marks
+pub mod Logs
+pub mod Rows

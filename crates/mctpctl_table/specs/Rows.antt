@@ -1,0 +1,115 @@
+-- The rows of a sensor or an effecter.
+use Rattle.std.specs.Prelude.{ℕ, ◌+◌, ◌==◌, List, [], ◌∷◌, length, Option, None, Some, Result, Ok, Err, unwrap_or}
+use Rattle.std.specs.Prelude.{option_map, if◌then◌else◌}
+use Rattle.pldm_pdr.specs.Records.{PlatformRecord, record_of}
+use Rattle.pldm_pdr.specs.declared.conversion.Conversion.{Conversion}
+use Rattle.pldm_pdr.specs.declared.data.RecordData.{RecordData}
+use Rattle.pldm_pdr.specs.declared.data.RecordData.TheVariants.{NumericSensor, StateSensor, NumericEffecter}
+use Rattle.pldm_pdr.specs.declared.data.RecordData.TheVariants.{StateEffecter}
+use Rattle.pldm_pdr.specs.declared.data.RecordData.TheVariants.{SensorNames, EffecterNames}
+use Rattle.pldm_pdr.specs.declared.fault.RecordFault.{RecordFault}
+use Rattle.pldm_pdr.specs.declared.names.EffecterNames as effecter_names
+use Rattle.pldm_pdr.specs.declared.names.SensorNames as sensor_names
+use Rattle.pldm_pdr.specs.declared.possible_states.PossibleStates.{PossibleStates}
+use Rattle.pldm_pdr.specs.declared.units.Units.{Units}
+use Rattle.mctpctl_table.specs.Names.{name_text}
+use Rattle.mctpctl_table.specs.Replies.{numeric_reading, reply_to, state_reading}
+use Rattle.mctpctl_table.specs.States.{missing_text, numeric_kind, operation_text, state_kind, state_value_text}
+use Rattle.mctpctl_table.specs.States.{states_text, what_text}
+use Rattle.mctpctl_table.specs.Tables.{Cells, cells}
+use Rattle.mctpctl_table.specs.Values.{value_text}
+use Rattle.mctpctl_table.specs.declared.reading.NumericReading.{NumericReading}
+use Rattle.mctpctl_table.specs.declared.reading.StateReading.{StateReading}
+use Rattle.mctpctl_table.specs.declared.reply.Reply.{Reply}
+use Rattle.mctpctl_table.specs.declared.thing.Thing.{Thing}
+use Rattle.mctpctl_table.specs.declared.thing.Thing.TheVariants.{Sensor, Effecter}
+
+-- the auxiliary names of a sensor or an effecter, where a record has them
+
+abbrev pub names_of_sensor : Thing → sensor_names.SensorNames → Option (List ℕ)
+names_of_sensor (Sensor id) names = if names.sensor_id == id then Some names.names.items else None
+names_of_sensor (Effecter id) names = None
+
+abbrev pub names_of_effecter : Thing → effecter_names.EffecterNames → Option (List ℕ)
+names_of_effecter (Sensor id) names = None
+names_of_effecter (Effecter id) names = if names.effecter_id == id then Some names.names.items else None
+
+abbrev pub names_in : Thing → RecordData → Option (List ℕ)
+names_in thing (SensorNames names) = names_of_sensor thing names
+names_in thing (EffecterNames names) = names_of_effecter thing names
+names_in thing contents = None
+
+unfoldable pub names_of : Thing → Result PlatformRecord RecordFault → Option (List ℕ)
+names_of thing (Ok r) = names_in thing r.contents
+names_of thing (Err fault) = None
+
+-- The name of the sensor or effecter at a place of a composite one: the first of the first record that has its names; a
+-- dash where there is none.
+unfoldable pub name_cell : Thing → ℕ → List (List ℕ) → List ℕ
+name_cell thing place [] = 45 ∷ []
+name_cell thing place (bytes ∷ records) =
+    unwrap_or (option_map (name_text place) (names_of thing (record_of bytes))) (name_cell thing place records)
+
+-- a numeric sensor or effecter
+
+abbrev pub numeric_value : Conversion → Units → Option NumericReading → List ℕ
+numeric_value conversion units None = 45 ∷ []
+numeric_value conversion units (Some reading) = value_text conversion units reading.value
+
+abbrev pub numeric_state : Thing → Reply → Option NumericReading → List ℕ
+numeric_state thing reply None = missing_text (numeric_kind thing) reply
+numeric_state thing reply (Some reading) = states_text thing reading.state reading.operational
+
+unfoldable pub numeric_row : Thing → Conversion → Units → List (List ℕ) → Reply → Cells
+numeric_row thing conversion units records reply =
+    cells (what_text thing) (name_cell thing 0 records) (numeric_value conversion units (numeric_reading reply))
+    (numeric_state thing reply (numeric_reading reply))
+
+-- one field of a state sensor or effecter, which has so many
+
+abbrev pub field_value : PossibleStates → Option StateReading → List ℕ
+field_value states None = 45 ∷ []
+field_value states (Some reading) = state_value_text states reading.state
+
+abbrev pub field_state : Thing → Reply → Option StateReading → List ℕ
+field_state thing reply None = missing_text (state_kind thing) reply
+field_state thing reply (Some reading) = operation_text thing reading.operational
+
+unfoldable pub field_row : Thing → ℕ → ℕ → PossibleStates → List (List ℕ) → Reply → Cells
+field_row thing count place states records reply =
+    cells (what_text thing) (name_cell thing place records) (field_value states (state_reading count place reply))
+    (field_state thing reply (state_reading count place reply))
+
+-- each field, from a place on
+unfoldable pub field_rows : Thing → ℕ → ℕ → List PossibleStates → List (List ℕ) → Reply → List Cells
+field_rows thing count place [] records reply = []
+field_rows thing count place (states ∷ sets) records reply =
+    field_row thing count place states records reply ∷ field_rows thing count (place + 1) sets records reply
+
+-- what a record describes, its names among records, and the message that came for it
+
+abbrev pub numeric_rows : Thing → Conversion → Units → List (List ℕ) → Option (List ℕ) → List Cells
+numeric_rows thing conversion units records message =
+    numeric_row thing conversion units records (reply_to (numeric_kind thing) message) ∷ []
+
+abbrev pub state_rows : Thing → List PossibleStates → List (List ℕ) → Option (List ℕ) → List Cells
+state_rows thing sets records message =
+    field_rows thing (length sets) 0 sets records (reply_to (state_kind thing) message)
+
+unfoldable pub data_rows : RecordData → List (List ℕ) → Option (List ℕ) → List Cells
+data_rows (NumericSensor sensor) records message =
+    numeric_rows (Sensor sensor.sensor_id) sensor.conversion sensor.units records message
+data_rows (NumericEffecter effecter) records message =
+    numeric_rows (Effecter effecter.effecter_id) effecter.conversion effecter.units records message
+data_rows (StateSensor sensor) records message = state_rows (Sensor sensor.sensor_id) sensor.sets.items records message
+data_rows (StateEffecter effecter) records message =
+    state_rows (Effecter effecter.effecter_id) effecter.sets.items records message
+data_rows contents records message = []
+
+abbrev pub rows_in : Result PlatformRecord RecordFault → List (List ℕ) → Option (List ℕ) → List Cells
+rows_in (Ok r) records message = data_rows r.contents records message
+rows_in (Err fault) records message = []
+
+-- the rows of the bytes of a record: none where they are no record of a sensor or an effecter
+abbrev pub rows_of : List ℕ → List (List ℕ) → Option (List ℕ) → List Cells
+rows_of bytes records message = rows_in (record_of bytes) records message

@@ -1,0 +1,99 @@
+//! What an answer tells of a sensor or an effecter.
+
+ghost use Rattle.std.specs.Prelude.{◌≡◌};
+ghost use Rattle.mctpctl_table.specs.Replies.{field_at, numeric_reading, of_effecter, of_sensor, state_reading};
+
+use crate::reply::Reply;
+use pldm_wire::{Answer, EffecterStateField, SensorStateField};
+
+/// What a numeric sensor or effecter tells.
+#[derive(Clone, Copy, Debug)]
+pub(crate) struct NumericReading {
+    /// The present value.
+    pub(crate) value: i64,
+    /// The present state, of a sensor.
+    pub(crate) state: Option<u8>,
+    /// The operational state.
+    pub(crate) operational: u8,
+}
+
+/// What one field of a state sensor or effecter tells.
+#[derive(Clone, Copy, Debug)]
+pub(crate) struct StateReading {
+    /// The present state.
+    pub(crate) state: u8,
+    /// The operational state.
+    pub(crate) operational: u8,
+}
+
+/// What a numeric sensor or effecter tells.
+pub(crate) fn numeric_reading(reply: &Reply) -> Option<NumericReading>
+    ensures { result ≡ numeric_reading reply.now }
+{
+    match reply {
+        Reply::Told(
+            Answer::GetSensorReading {
+                operational,
+                present,
+                reading,
+                ..
+            },
+        ) => Some(NumericReading {
+            value: reading.value(),
+            state: Some(*present),
+            operational: *operational,
+        }),
+        Reply::Told(
+            Answer::GetNumericEffecterValue {
+                operational,
+                values,
+            },
+        ) => Some(NumericReading {
+            value: values.present().value(),
+            state: None,
+            operational: *operational,
+        }),
+        _ => None,
+    }
+}
+
+/// What the field at a place tells, where there are so many fields.
+pub(crate) fn state_reading(count: usize, place: usize, reply: &Reply) -> Option<StateReading>
+    ensures { result ≡ state_reading count place reply.now }
+{
+    match reply {
+        Reply::Told(Answer::GetStateSensorReadings { fields }) => {
+            sensor_field(count, place, fields.as_slice())
+        }
+        Reply::Told(Answer::GetStateEffecterStates { fields }) => {
+            effecter_field(count, place, fields.as_slice())
+        }
+        _ => None,
+    }
+}
+
+fn sensor_field(count: usize, place: usize, fields: &[SensorStateField]) -> Option<StateReading>
+    ensures { result ≡ field_at of_sensor count place fields.now }
+{
+    if fields.len() != count {
+        return None;
+    }
+    let field = fields.get(place)?;
+    Some(StateReading {
+        state: field.present,
+        operational: field.operational,
+    })
+}
+
+fn effecter_field(count: usize, place: usize, fields: &[EffecterStateField]) -> Option<StateReading>
+    ensures { result ≡ field_at of_effecter count place fields.now }
+{
+    if fields.len() != count {
+        return None;
+    }
+    let field = fields.get(place)?;
+    Some(StateReading {
+        state: field.present,
+        operational: field.operational,
+    })
+}

@@ -1,0 +1,102 @@
+//! A real32 (IEEE 754, binary32) as the shortest decimal that is rounded to it.
+
+ghost use Rattle.std.specs.Prelude.{◌≡◌, ◌≤◌, ◌<◌, ◌+◌, ◌*◌, ◌^◌, IfSome};
+ghost use Rattle.mctpctl_table.specs.Real32s.{fewest, is_rounded, nearest, real32_decimal, with_sign};
+
+use crate::decimal::{Decimal, MAX_PLACES, power_of_ten};
+
+/// The bits of a fraction.
+const FRACTION: u32 = 0x80_0000;
+
+/// The decimal of the real32 of these bits; none for one that is no number, of 2 ^ 24 or more, or that has more than
+/// [`MAX_PLACES`] places.
+#[tactic(auto, unfolding(crate::specs::Real32s::real32_decimal))]
+pub(crate) fn real32_decimal(bits: u32) -> Option<Decimal>
+    ensures value { result ≡ real32_decimal bits }
+    ensures places { IfSome result (λ decimal. decimal.places ≤ MAX_PLACES) }
+{
+    if bits % 0x8000_0000 == 0 {
+        return Some(Decimal {
+            number: 0,
+            places: 0,
+        });
+    }
+    let exponent = bits / FRACTION % 0x100;
+    if !(90 <= exponent && exponent <= 150) {
+        return None;
+    }
+    let significand = FRACTION + bits % FRACTION;
+    let found = shortest(significand.into(), power_of_two(150 - exponent))?;
+    Some(with_sign(bits >= 0x8000_0000, &found))
+}
+
+/// 2 to this power.
+fn power_of_two(power: u32) -> u64
+    requires { power ≤ 60 }
+    ensures value { result ≡ 2 ^ power }
+    ensures range { (0 < result) × (result ≤ 2 ^ 60) }
+{
+    2u64.pow(power)
+}
+
+/// Of n / unit, the digits and places of the shortest decimal that is rounded to it.
+fn shortest(n: u64, unit: u64) -> Option<(u64, u8)>
+    requires n { n < 2 ^ 24 }
+    requires unit { (0 < unit) × (unit ≤ 2 ^ 60) }
+    ensures value { result ≡ fewest (MAX_PLACES + 1) 0 n unit }
+    ensures places { IfSome result (λ found. found.1 ≤ MAX_PLACES) }
+{
+    for places in 0..MAX_PLACES + 1 {
+        let scale = power_of_ten(places);
+        let digits = nearest(n, unit, scale);
+        if is_rounded(n, unit, scale, digits) {
+            return Some((digits, places));
+        }
+    }
+    None
+}
+
+/// Of n / unit, the nearest decimal with the places of which there are so many parts in 1; of two, the even one.
+fn nearest(n: u64, unit: u64, scale: u64) -> u64
+    requires n { n < 2 ^ 24 }
+    requires unit { (0 < unit) × (unit ≤ 2 ^ 60) }
+    requires scale { scale ≤ 10_000_000_000 }
+    ensures value { result ≡ nearest n unit scale }
+    ensures near { 2 * (result * unit) ≤ 2 * (n * scale) + unit }
+{
+    let twice = 2 * (n * scale) + unit;
+    let up = twice / (2 * unit);
+    if twice % (2 * unit) == 0 {
+        up - up % 2
+    } else {
+        up
+    }
+}
+
+/// Whether a decimal is rounded to n / unit.
+fn is_rounded(n: u64, unit: u64, scale: u64, digits: u64) -> bool
+    requires n { n < 2 ^ 24 }
+    requires unit { (0 < unit) × (unit ≤ 2 ^ 60) }
+    requires scale { scale ≤ 10_000_000_000 }
+    requires near { 2 * (digits * unit) ≤ 2 * (n * scale) + unit }
+    ensures { result ≡ is_rounded n unit scale digits }
+{
+    let number = n * scale;
+    let decimal = digits * unit;
+    let half_steps = if n == 0x80_0000 { 1 } else { 2 };
+    4 * decimal < 4 * number + 2 * scale && 4 * number < 4 * decimal + half_steps * scale
+}
+
+/// Digits and places with a sign.
+fn with_sign(negative: bool, found: &(u64, u8)) -> Decimal
+    ensures value { result ≡ with_sign negative found.now }
+    ensures places { result.places ≡ found.now.1 }
+{
+    let (digits, places) = *found;
+    let number = if negative {
+        -i128::from(digits)
+    } else {
+        digits.into()
+    };
+    Decimal { number, places }
+}

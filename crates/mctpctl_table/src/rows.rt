@@ -1,0 +1,252 @@
+//! The rows of a sensor or an effecter.
+
+ghost use Rattle.std.specs.Prelude.{◌≡◌, ◌++◌, IfOk, OnOk, length, map, option_map};
+ghost use Rattle.mctpctl_table.specs.Replies.{numeric_reading};
+ghost use Rattle.mctpctl_table.specs.Rows.{data_rows, field_rows, field_state, field_value, name_cell, numeric_row, numeric_rows, numeric_state, numeric_value, rows_of, state_rows};
+ghost use Rattle.mctpctl_table.specs.States.{what_text};
+ghost use Rattle.mctpctl_table.specs.Tables.{cells};
+
+use crate::reading::{StateReading, numeric_reading, state_reading};
+use crate::record_names::{dash, name_cell};
+use crate::reply::{Reply, reply_to};
+use crate::row::Row;
+use crate::state_text::{push_missing, push_operation, push_state_value, push_states};
+use crate::thing::Thing;
+use crate::value::push_value;
+use mctp_packet::Memory;
+use pldm_pdr::{Conversion, PossibleStates, RecordData, Units};
+use std::alloc::Global;
+
+/// Adds the rows of the sensor or effecter that a record's bytes describe.
+pub(crate) fn push_rows_of(
+    rows: &mut Vec<Row>,
+    alloc: Global,
+    record: &[u8],
+    records: &[Vec<u8>],
+    message: Option<&[u8]>,
+) -> Result<(), Memory>
+    ensures { OnOk result (rows.new.items ≡ rows.old.items ++ rows_of record.now
+        (map (λ bytes. bytes.items) records.now) (option_map (λ bytes. bytes.now) message.entry)) }
+{
+    match pldm_pdr::read(record) {
+        Ok(record) => push_data_rows(rows, alloc, record.contents(), records, message),
+        Err(_) => Ok(()),
+    }
+}
+
+/// Adds the rows of the sensor or effecter that a record describes.
+#[tactic(auto, unfolding(crate::specs::Rows::data_rows))]
+fn push_data_rows(
+    rows: &mut Vec<Row>,
+    alloc: Global,
+    contents: &RecordData,
+    records: &[Vec<u8>],
+    message: Option<&[u8]>,
+) -> Result<(), Memory>
+    ensures { OnOk result (rows.new.items ≡ rows.old.items ++ data_rows contents.now
+        (map (λ bytes. bytes.items) records.now) (option_map (λ bytes. bytes.now) message.entry)) }
+{
+    match contents {
+        RecordData::NumericSensor(sensor) => {
+            let thing = Thing::Sensor(sensor.sensor_id);
+            push_numeric_row(
+                rows,
+                alloc,
+                &thing,
+                &sensor.conversion,
+                &sensor.units,
+                records,
+                message,
+            )
+        }
+        RecordData::NumericEffecter(effecter) => {
+            let thing = Thing::Effecter(effecter.effecter_id);
+            push_numeric_row(
+                rows,
+                alloc,
+                &thing,
+                &effecter.conversion,
+                &effecter.units,
+                records,
+                message,
+            )
+        }
+        RecordData::StateSensor(sensor) => {
+            let thing = Thing::Sensor(sensor.sensor_id);
+            push_state_rows(rows, alloc, &thing, &sensor.sets, records, message)
+        }
+        RecordData::StateEffecter(effecter) => {
+            let thing = Thing::Effecter(effecter.effecter_id);
+            push_state_rows(rows, alloc, &thing, &effecter.sets, records, message)
+        }
+        _ => Ok(()),
+    }
+}
+
+/// Adds the row of a numeric sensor or effecter.
+fn push_numeric_row(
+    rows: &mut Vec<Row>,
+    alloc: Global,
+    thing: &Thing,
+    conversion: &Conversion,
+    units: &Units,
+    records: &[Vec<u8>],
+    message: Option<&[u8]>,
+) -> Result<(), Memory>
+    ensures { OnOk result (rows.new.items ≡ rows.old.items ++ numeric_rows thing.now conversion.now units.now
+        (map (λ bytes. bytes.items) records.now) (option_map (λ bytes. bytes.now) message.entry)) }
+{
+    let reply = reply_to(&thing.numeric_command(), message);
+    let row = numeric_row(alloc, thing, conversion, units, records, &reply)?;
+    rows.push(row)?;
+    Ok(())
+}
+
+/// The row of a numeric sensor or effecter.
+#[tactic(auto, unfolding(crate::specs::Rows::numeric_row))]
+fn numeric_row(
+    alloc: Global,
+    thing: &Thing,
+    conversion: &Conversion,
+    units: &Units,
+    records: &[Vec<u8>],
+    reply: &Reply,
+) -> Result<Row, Memory>
+    ensures { IfOk result (λ row. row
+        ≡ numeric_row thing.now conversion.now units.now (map (λ bytes. bytes.items) records.now) reply.now) }
+{
+    let what = what_cell(alloc, thing)?;
+    let name = name_cell(alloc, thing, 0, records)?;
+    let value = numeric_value(alloc, conversion, units, reply)?;
+    let state = numeric_state(alloc, thing, reply)?;
+    Ok(Row::new(what, name, value, state))
+}
+
+/// What it is.
+fn what_cell(alloc: Global, thing: &Thing) -> Result<Vec<u8>, Memory>
+    ensures { IfOk result (λ cell. cell.items ≡ what_text thing.now) }
+{
+    let mut cell = Vec::new(alloc);
+    thing.push_what(&mut cell)?;
+    Ok(cell)
+}
+
+/// The value of a numeric sensor or effecter.
+fn numeric_value(
+    alloc: Global,
+    conversion: &Conversion,
+    units: &Units,
+    reply: &Reply,
+) -> Result<Vec<u8>, Memory>
+    ensures { IfOk result (λ cell. cell.items
+        ≡ numeric_value conversion.now units.now (numeric_reading reply.now)) }
+{
+    let Some(reading) = numeric_reading(reply) else {
+        return dash(alloc);
+    };
+    let mut cell = Vec::new(alloc);
+    push_value(&mut cell, conversion, units, reading.value)?;
+    Ok(cell)
+}
+
+/// The state of a numeric sensor or effecter.
+fn numeric_state(alloc: Global, thing: &Thing, reply: &Reply) -> Result<Vec<u8>, Memory>
+    ensures { IfOk result (λ cell. cell.items ≡ numeric_state thing.now reply.now (numeric_reading reply.now)) }
+{
+    let mut cell = Vec::new(alloc);
+    match numeric_reading(reply) {
+        Some(reading) => push_states(&mut cell, thing, reading.state, reading.operational)?,
+        None => push_missing(&mut cell, thing.numeric_command().kind(), reply)?,
+    }
+    Ok(cell)
+}
+
+/// Adds the rows of a state sensor or effecter, one for each of its fields.
+fn push_state_rows(
+    rows: &mut Vec<Row>,
+    alloc: Global,
+    thing: &Thing,
+    sets: &[PossibleStates],
+    records: &[Vec<u8>],
+    message: Option<&[u8]>,
+) -> Result<(), Memory>
+    ensures { OnOk result (rows.new.items ≡ rows.old.items ++ state_rows thing.now sets.now
+        (map (λ bytes. bytes.items) records.now) (option_map (λ bytes. bytes.now) message.entry)) }
+{
+    let reply = reply_to(&thing.state_command(), message);
+    push_field_rows(rows, alloc, thing, sets, records, &reply)
+}
+
+/// Adds a row for each field.
+fn push_field_rows(
+    rows: &mut Vec<Row>,
+    alloc: Global,
+    thing: &Thing,
+    sets: &[PossibleStates],
+    records: &[Vec<u8>],
+    reply: &Reply,
+) -> Result<(), Memory>
+    ensures { OnOk result (rows.new.items ≡ rows.old.items
+        ++ field_rows thing.now (length sets.now) 0 sets.now (map (λ bytes. bytes.items) records.now) reply.now) }
+{
+    for place in 0..sets.len() {
+        let reading = state_reading(sets.len(), place, reply);
+        let row = field_row(alloc, thing, place, &sets[place], records, reply, &reading)?;
+        rows.push(row)?;
+    }
+    Ok(())
+}
+
+/// The row of a field that told this.
+fn field_row(
+    alloc: Global,
+    thing: &Thing,
+    place: usize,
+    states: &PossibleStates,
+    records: &[Vec<u8>],
+    reply: &Reply,
+    reading: &Option<StateReading>,
+) -> Result<Row, Memory>
+    ensures { IfOk result (λ row. row
+        ≡ cells (what_text thing.now) (name_cell thing.now place (map (λ bytes. bytes.items) records.now))
+        (field_value states.now reading.now) (field_state thing.now reply.now reading.now)) }
+{
+    let what = what_cell(alloc, thing)?;
+    let name = name_cell(alloc, thing, place, records)?;
+    let value = field_value(alloc, states, reading)?;
+    let state = field_state(alloc, thing, reply, reading)?;
+    Ok(Row::new(what, name, value, state))
+}
+
+/// The state of a field, its state set and the states that are possible.
+fn field_value(
+    alloc: Global,
+    states: &PossibleStates,
+    reading: &Option<StateReading>,
+) -> Result<Vec<u8>, Memory>
+    ensures { IfOk result (λ cell. cell.items ≡ field_value states.now reading.now) }
+{
+    let Some(reading) = reading else {
+        return dash(alloc);
+    };
+    let mut cell = Vec::new(alloc);
+    push_state_value(&mut cell, alloc, states, reading.state)?;
+    Ok(cell)
+}
+
+/// The operational state of a field.
+fn field_state(
+    alloc: Global,
+    thing: &Thing,
+    reply: &Reply,
+    reading: &Option<StateReading>,
+) -> Result<Vec<u8>, Memory>
+    ensures { IfOk result (λ cell. cell.items ≡ field_state thing.now reply.now reading.now) }
+{
+    let mut cell = Vec::new(alloc);
+    match reading {
+        Some(reading) => push_operation(&mut cell, thing, reading.operational)?,
+        None => push_missing(&mut cell, thing.state_command().kind(), reply)?,
+    }
+    Ok(cell)
+}

@@ -1,0 +1,6 @@
+pub mod ChecksumTests
+pub mod FetchSteps
+pub mod TypesLeft
+pub mod WalkSteps
+pub mod WalksEnd
+pub mod WorkedWalks

@@ -1,0 +1,18 @@
+//! What a device is asked when it is found, by the answers so far (DSP0240, DSP0248).
+#![tactic(auto)]
+
+mod answers;
+mod handles;
+pub mod laws;
+mod limits;
+mod message;
+mod stage;
+mod subject;
+mod types;
+mod versions;
+mod walk;
+mod whole_record;
+
+pub use limits::MAX_COMMANDS;
+pub use subject::{Found, Subject};
+pub use walk::Walk;

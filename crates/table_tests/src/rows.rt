@@ -1,0 +1,173 @@
+//! Rows of sensors and effecters, in columns.
+
+use mctpctl_table::Table;
+use std::alloc::Global;
+use std::process::Abort;
+
+/// The names of sensors 1 (two of them), 2 and 5 and of effecters 1 and 300. Effecter 300 has two fields, the first one
+/// without a name, and the other with control characters in it.
+const NAMES: [&str; 5] = [
+    "05000000010600002000010001000102656e0000460061006e0000656e00006f00740068006500720000",
+    "05000000010600002100010002000101656e0000540065006d007000e90072006100740075007200650000",
+    "05000000010600001500010005000101656e000050006f0077006500720000",
+    "05000000010d00001d00010001000101656e0000460061006e0020007300700065006500640000",
+    "05000000010d0000120001002c01020001656e000062001b00850000",
+];
+
+/// Numeric sensor 1, RPM.
+const FAN: &str = concat!(
+    "0200000001020000470001000100400001000000000113000000000000000001020000803f",
+    "0000000000000000000000000000000000000000000000000200000000000000000000000000000000000000",
+);
+
+/// Numeric sensor 2, tenths of a degree C.
+const INLET: &str = concat!(
+    "0200000001020000470001000200400001000000000102ff0000000000000001030000803f",
+    "0000000000000000000000000000000000000000000000000300000000000000000000000000000000000000",
+);
+
+/// Numeric sensor 3, millivolts, without a name.
+const VOLTS: &str = concat!(
+    "0200000001020000470001000300400001000000000105fd0000000000000001020000803f",
+    "0000000000000000000000000000000000000000000000000200000000000000000000000000000000000000",
+);
+
+/// State sensor 5: of the state set 260 it has the states 1 and 5.
+const POWER: &str = "040000000104000011000100050040000100000000010104010122";
+
+/// Numeric effecter 1, percent.
+const SPEED: &str = concat!(
+    "030000000109000035000100010040000100000000000001410000000000000001000000803f",
+    "00000000000000000000000000000000000000000000000000",
+);
+
+/// State effecter 300 of two fields: state set 1 with the states 1 and 2, and 196 with 1 and 15.
+const PAIR: &str = "06000000010b0000180001002c01400001000000000000000201000106c400020280";
+
+/// The bytes that these hex digits are.
+fn bytes(rt: &impl Abort, alloc: Global, digits: &str) -> Vec<u8> {
+    hex::decode(alloc, digits).expect(rt, "hex digits")
+}
+
+/// Adds what a record describes, and what came for it.
+fn add(rt: &impl Abort, alloc: Global, table: &mut Table, record: &str, message: Option<&str>) {
+    let mut records = Vec::new(alloc);
+    for name in NAMES {
+        records.push(bytes(rt, alloc, name)).expect(rt, "memory");
+    }
+    let record = bytes(rt, alloc, record);
+    match message {
+        Some(message) => {
+            let message = bytes(rt, alloc, message);
+            table
+                .add(&record, &records, Some(&message))
+                .expect(rt, "memory");
+        }
+        None => table.add(&record, &records, None).expect(rt, "memory"),
+    }
+}
+
+/// Checks the text of a table.
+fn expect(rt: &impl Abort, alloc: Global, table: &Table, text: &str) {
+    let mut out = Vec::new(alloc);
+    table.push_text(&mut out).expect(rt, "memory");
+    assert_eq!(rt; out.as_slice(), text.as_bytes());
+}
+
+#[test]
+fn answers(rt: HostRuntime) {
+    let mut table = Table::new(rt.alloc());
+    add(
+        &rt,
+        rt.alloc(),
+        &mut table,
+        FAN,
+        Some("01000211000200000101016810"),
+    );
+    add(
+        &rt,
+        rt.alloc(),
+        &mut table,
+        INLET,
+        Some("01000211000301000801089f01"),
+    );
+    add(
+        &rt,
+        rt.alloc(),
+        &mut table,
+        VOLTS,
+        Some("0100021100020000000101082f"),
+    );
+    add(
+        &rt,
+        rt.alloc(),
+        &mut table,
+        POWER,
+        Some("01000221000100010101"),
+    );
+    add(
+        &rt,
+        rt.alloc(),
+        &mut table,
+        SPEED,
+        Some("010002320000003228"),
+    );
+    add(
+        &rt,
+        rt.alloc(),
+        &mut table,
+        PAIR,
+        Some("0100023a0002010102090f0f"),
+    );
+    let text = "\
+sensor 1      Fan          4200 rpm                   normal
+sensor 2      Température  41.5 degrees_c             upperWarning, disabled
+sensor 3      -            12.040 volts               unknown
+sensor 5      Power        state 1 (set 260: 1, 5)    enabled
+effecter 1    Fan speed    40 percent                 enabled-updatePending
+effecter 300  -            state 2 (set 1: 1, 2)      enabled-noUpdatePending
+effecter 300  b\u{fffd}\u{fffd}          state 15 (set 196: 1, 15)  state 9
+";
+    expect(&rt, rt.alloc(), &table, text);
+}
+
+#[test]
+fn no_answers(rt: HostRuntime) {
+    let mut table = Table::new(rt.alloc());
+    expect(&rt, rt.alloc(), &table, "");
+    add(&rt, rt.alloc(), &mut table, FAN, None);
+    add(&rt, rt.alloc(), &mut table, FAN, Some("0100021180"));
+    add(
+        &rt,
+        rt.alloc(),
+        &mut table,
+        FAN,
+        Some("01000221000100010101"),
+    );
+    add(
+        &rt,
+        rt.alloc(),
+        &mut table,
+        FAN,
+        Some("010002110002000001010168"),
+    );
+    add(
+        &rt,
+        rt.alloc(),
+        &mut table,
+        POWER,
+        Some("0100022100020001010100010101"),
+    );
+    add(&rt, rt.alloc(), &mut table, SPEED, Some("01000232c0"));
+    add(&rt, rt.alloc(), &mut table, NAMES[0], None);
+    add(&rt, rt.alloc(), &mut table, "00", None);
+    let text = "\
+sensor 1    Fan        -  no answer
+sensor 1    Fan        -  refused INVALID_SENSOR_ID
+sensor 1    Fan        -  wrong answer
+sensor 1    Fan        -  wrong answer
+sensor 5    Power      -  wrong answer
+effecter 1  Fan speed  -  refused c0
+";
+    expect(&rt, rt.alloc(), &table, text);
+}
