@@ -9,45 +9,19 @@ import subprocess
 import tempfile
 import time
 
-from support import programs
+from support.askers import ENDS, TIMES, Place
 from support.frames import frame, read_frames
-from support.programs import PIPES, SECONDS, run
+from support.programs import PIPES, SECONDS
 from support.terminals import Terminal
 
 SILENT = {**PIPES, "stdin": subprocess.DEVNULL}
 MORE = "\n\nFor more information, try '--help'.\n"
 
-# The endpoints of the description, and times for a line on which nothing is lost; the seconds before the first request.
-ENDS = ("--own", "8", "--device", "9")
-TIMES = ("--keep", "500", "--timeout", "250", "--tries", "2")
-SETTLING = 1.0
+SETTLING = 1.0  # the seconds before the first request, by these times
 
 GET_TID = bytes.fromhex("010908c801800002")
 ANSWER = frame(bytes.fromhex("010809c0010000020001"))
 TID_IS_1 = "  response 0 GetTID tid 1\n"
-
-
-class Place(programs.Place):
-    """The same, with a device that is asked."""
-
-    def ask(self, *words, **how):
-        """The status, standard output and standard error."""
-        ran = run([self.program, "ask", *words], **{"stdin": subprocess.DEVNULL, **how})
-        return ran.returncode, ran.stdout, ran.stderr
-
-    def serve(self, terminal, *words):
-        words = [self.program, "serve", "--device", self.device, *words]
-        return subprocess.Popen(words, stdin=terminal.ours, stdout=terminal.ours, stderr=subprocess.DEVNULL)
-
-    def served(self, *words, log=None):
-        """The same where the described device is at the other end."""
-        with Terminal() as terminal:
-            served = self.serve(terminal, *(("--log", log) if log else ()))
-            try:
-                return self.ask("--line", terminal.name, *words)
-            finally:
-                served.terminate()
-                served.wait(timeout=SECONDS)
 
 
 def answered(rows, place):
@@ -60,7 +34,7 @@ def answered(rows, place):
         ("a refusal in hex", ("--hex", "sensor", "99"), 1, "0100021180\n"),
     )
     for name, words, status, out in asked:
-        ran = place.served(*ENDS, *TIMES, *words)
+        ran = place.served("ask", *ENDS, *TIMES, *words)
         rows.check(f"asked: {name}", ran == (status, out.encode(), b""), repr(ran))
 
 
@@ -69,12 +43,12 @@ def filed(rows, place):
     text = "# set it, and read it back\nsetnum 1 uint8 40\n\n  getnum 1\n"
     want = "  response 0 SetNumericEffecterValue SUCCESS\n"
     want += "  response 1 GetNumericEffecterValue uint8 value 40 pending 40 operational enabled-noUpdatePending\n"
-    ran = place.served(*ENDS, *TIMES, "--file", place.write("commands", text))
+    ran = place.served("ask", *ENDS, *TIMES, "--file", place.write("commands", text))
     rows.check("asked: two commands of a file", ran[0] == 0 and ran[1].decode() == want and ran[2] == b"", repr(ran))
     text = "sensor 99\r\ngettid\r\n"
-    ran = place.served(*ENDS, *TIMES, "--hex", f"--file={place.write('commands', text)}")
+    ran = place.served("ask", *ENDS, *TIMES, "--hex", f"--file={place.write('commands', text)}")
     rows.check("asked: a refusal, then an answer", ran == (1, b"0100021180\n010100020001\n", b""), repr(ran))
-    ran = place.served(*ENDS, *TIMES, "--file", place.write("commands", "\n# none\n"))
+    ran = place.served("ask", *ENDS, *TIMES, "--file", place.write("commands", "\n# none\n"))
     rows.check("asked: a file without a command", ran == (0, b"", b""), repr(ran))
 
 
@@ -84,10 +58,10 @@ def unanswered(rows, place):
         ("another endpoint ID", ("gettid",), "mctpctl: no answer\n"),
         ("a line of a file", ("--file", place.write("commands", "\ngettid\n")), "mctpctl: line 2: no answer\n"),
     ):
-        ran = place.served("--own", "8", "--device", "10", *TIMES, *words)
+        ran = place.served("ask", "--own", "8", "--device", "10", *TIMES, *words)
         rows.check(f"asked: {name} without an answer", ran == (3, b"", err.encode()), repr(ran))
     with Terminal() as terminal:
-        ran = place.ask("--line", terminal.name, *ENDS, *TIMES, "gettid")
+        ran = place.run("ask", "--line", terminal.name, *ENDS, *TIMES, "gettid")
         sent = terminal.read(0)
     rows.check("asked: nobody is there", ran == (3, b"", b"mctpctl: no answer\n"), repr(ran))
     rows.check("asked: as many frames as tries", sent == frame(GET_TID) * 2, sent.hex())
@@ -108,10 +82,10 @@ def wait_until_open(asking, terminal):
 
 def ended(rows, place):
     """A line that ended, by reads of nothing at once, and one that cannot be opened, read or written."""
-    ran = place.ask("--line", "/dev/null", *ENDS, *TIMES, "gettid")
+    ran = place.run("ask", "--line", "/dev/null", *ENDS, *TIMES, "gettid")
     rows.check("asked: a line that ended", ran == (3, b"", b"mctpctl: the line ended\n"), repr(ran))
     name = os.path.join(place.folder, "none")
-    ran = place.ask("--line", name, *ENDS, *TIMES, "gettid")
+    ran = place.run("ask", "--line", name, *ENDS, *TIMES, "gettid")
     want = f"mctpctl: {name}: No such file or directory (os error 2)\n".encode()
     rows.check("asked: a line that is not there", ran == (3, b"", want) and not os.path.exists(name), repr(ran))
     with Terminal() as terminal:
@@ -148,11 +122,11 @@ def refused(rows, place):
     )
     for name, words, err in lines:
         with Terminal() as terminal:
-            ran = place.ask("--line", terminal.name, *words)
+            ran = place.run("ask", "--line", terminal.name, *words)
             sent = terminal.read(0)
         rows.check(f"asked: {name}", (*ran, sent) == (2, b"", f"error: {err}{MORE}".encode(), b""), repr(ran))
     for words in (("gettid",), ("--own", "8", "gettid"), (*ENDS, *ENDS, "gettid"), (*ENDS, "--explain", "gettid")):
-        status, out, err = place.ask(*words)
+        status, out, err = place.run("ask", *words)
         rows.check(f"asked: refused words {words}", (status, out) == (2, b"") and b"Usage: mctpctl" in err, repr(err))
     files = (
         ("a line that is no command", "gettid\n\nsettid\n", 2, "line 3: Words"),
@@ -161,7 +135,7 @@ def refused(rows, place):
     )
     for name, text, status, line in files:
         path = os.path.join(place.folder, "none") if text is None else place.write("commands", text)
-        ran = place.ask("--line", "/dev/null", *ENDS, "--file", path)
+        ran = place.run("ask", "--line", "/dev/null", *ENDS, "--file", path)
         rows.check(f"asked: {name}", ran == (status, b"", f"mctpctl: {path}: {line}\n".encode()), repr(ran))
 
 
@@ -200,22 +174,22 @@ def stated(rows, place):
     passed, ran = first_wait(place, "--state", path)
     with open(path) as file:
         kept = file.read()
-    well = kept.isdecimal() and began <= int(kept) <= time.time() * 1000
+    well = kept[:-1].isdecimal() and kept.endswith("\n") and began <= int(kept) <= time.time() * 1000
     rows.check("asked: a new state", ran == ended and passed >= SETTLING and well, repr((passed, ran, kept)))
     time.sleep(SETTLING + 0.1)
     passed, ran = first_wait(place, "--state", path)
     rows.check("asked: a state of long ago", ran == ended and passed < 0.8 * SETTLING, repr((passed, ran)))
-    for name, text in (("to come", str(int(time.time() * 1000) + 60000)), ("of a run that broke off", "")):
+    for name, text in (("to come", f"{int(time.time() * 1000) + 60000}\n"), ("of a run that broke off", "")):
         passed, ran = first_wait(place, "--state", place.write("last", text))
         rows.check(f"asked: a state {name}", ran == ended and passed >= SETTLING, repr((passed, ran)))
-    for text in ("12x", "1\n", "12345678901234567"):
-        ran = place.ask("--line", "/dev/null", *ENDS, *TIMES, "--state", place.write("last", text), "gettid")
+    for text in ("12x\n", "1", "\n", "1\n\n", "12345678901234567\n"):
+        ran = place.run("ask", "--line", "/dev/null", *ENDS, *TIMES, "--state", place.write("last", text), "gettid")
         with open(path) as file:
             well = file.read() == text
         want = (2, b"", f"mctpctl: {path}: no state of a device\n".encode())
         rows.check(f"asked: a state of {text!r}", ran == want and well, repr(ran))
     path = os.path.join(place.folder, "none", "last")
-    ran = place.ask("--line", "/dev/null", *ENDS, *TIMES, "--state", path, "gettid")
+    ran = place.run("ask", "--line", "/dev/null", *ENDS, *TIMES, "--state", path, "gettid")
     want = (3, b"", f"mctpctl: {path}: No such file or directory (os error 2)\n".encode())
     rows.check("asked: a state that cannot be kept", ran == want, repr(ran))
 
@@ -291,12 +265,12 @@ def on_standard_input(rows, place):
         served = place.serve(terminal)
         try:
             ends = {"stdin": terminal.its, "stdout": terminal.its}
-            status, _, err = place.ask(*ENDS, *TIMES, "gettid", **ends)
+            status, _, err = place.run("ask", *ENDS, *TIMES, "gettid", **ends)
         finally:
             served.terminate()
             served.wait(timeout=SECONDS)
     rows.check("asked: on standard input and output", (status, err) == (0, TID_IS_1.encode()), repr(err))
-    ran = place.ask(*ENDS, *TIMES, "gettid")
+    ran = place.run("ask", *ENDS, *TIMES, "gettid")
     rows.check("asked: standard input that ended", ran == (3, b"", b"mctpctl: the line ended\n"), repr(ran))
 
 

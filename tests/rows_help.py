@@ -12,7 +12,11 @@ ABOUT = {
     "show": "Shows the packets of a capture and the messages that they complete",
 }
 SERVES = "Serves the described device on a serial line, standard input and output"
-ASKS = "Asks a device on a serial line, and prints its answers"
+ON_A_LINE = {
+    "ask": "Asks a device on a serial line, and prints its answers",
+    "walk": "Asks a device on a serial line for all that it has, and prints a table of it",
+    "watch": "Reads the sensors and effecters of a device on a serial line again and again",
+}
 TOP_OPTIONS = "Options:\n  -h, --help     Print help\n  -V, --version  Print version\n"
 
 
@@ -41,7 +45,7 @@ def options_of(texts, subcommand):
 
 def whole(texts):
     """Each command line that asks for help, and all that is to be written for it."""
-    commands = "".join(f"  {name:<8}{about}\n" for name, about in (*ABOUT.items(), ("serve", SERVES), ("ask", ASKS)))
+    commands = "".join(f"  {name:<8}{about}\n" for name, about in {**ABOUT, "serve": SERVES, **ON_A_LINE}.items())
     commands += "  help    Print this message or the help of the given subcommand(s)\n"
     first = "A simulated PLDM device behind MCTP, on standard input and output\n\nUsage: mctpctl <COMMAND>\n\n"
     top = f"{first}Commands:\n{commands}\n{TOP_OPTIONS}\n{texts['STATUSES']}\n"
@@ -61,13 +65,14 @@ def whole(texts):
     page = f"{SERVES}\n\nUsage: mctpctl serve [OPTIONS] --device <FILE>\n\nOptions:\n{flags}\n{texts['SERVE']}\n"
     yield ["serve", "--help"], page
     yield ["help", "serve"], page
-    page = help_of_ask(texts)
-    yield ["ask", "--help"], page
-    yield ["help", "ask"], page
+    for name in ON_A_LINE:
+        yield [name, "--help"], help_on_a_line(texts, name)
+        yield ["help", name], help_on_a_line(texts, name)
 
 
-# The options of `ask`, and the texts of the source file that say what they are.
-ASKED = (
+# The options of what asks on a line, and those of each subcommand, with the texts of the source file that say what they
+# are.
+LINKED = (
     ("--line <PATH>", "LINE"),
     ("--own <EID>", "OWN"),
     ("--device <EID>", "ASKED"),
@@ -75,18 +80,23 @@ ASKED = (
     ("--timeout <MS>", "TIMEOUT"),
     ("--tries <N>", "TRIES"),
     ("--state <FILE>", "STATE"),
-    ("--hex", "HEX"),
-    ("--file <FILE>", "COMMANDS"),
 )
+ASKED = {
+    "ask": (("--hex", "HEX"), ("--file <FILE>", "COMMANDS")),
+    "walk": (("--records <FILE>", "RECORDS"),),
+    "watch": (("--every <MS>", "EVERY"), ("--count <N>", "COUNT"), ("--log <FILE>", "READINGS")),
+}
 
 
-def help_of_ask(texts):
-    """Its options, whose column is as wide as the longest, and the words of the command before them."""
-    flags = "".join(f"      {option:<16}{texts[name]}\n" for option, name in ASKED)
-    flags += "  -h, --help          Print help\n"
-    words = f"Arguments:\n  [COMMAND]...  {texts['COMMAND']}\n"
-    usage = "Usage: mctpctl ask [OPTIONS] --own <EID> --device <EID> [COMMAND]..."
-    return f"{ASKS}\n\n{usage}\n\n{words}\nOptions:\n{flags}\n{texts['ASK']}\n"
+def help_on_a_line(texts, name):
+    """Its options, whose column is as wide as the longest; of `ask` the words of the command before them."""
+    options = (*LINKED, *ASKED[name])
+    width = 2 + max(len(option) for option, _ in options)
+    flags = "".join(f"      {option:<{width}}{texts[key]}\n" for option, key in options)
+    flags += f"  -h, {'--help':<{width}}Print help\n"
+    words = f"Arguments:\n  [COMMAND]...  {texts['COMMAND']}\n\n" if name == "ask" else ""
+    usage = f"Usage: mctpctl {name} [OPTIONS] --own <EID> --device <EID>{' [COMMAND]...' if words else ''}"
+    return f"{ON_A_LINE[name]}\n\n{usage}\n\n{words}Options:\n{flags}\n{texts[name.upper()]}\n"
 
 
 def served(rows, program, device, text):

@@ -7,6 +7,8 @@ import subprocess
 import threading
 import tty
 
+from support.terminals import set_ticking
+
 
 class LossyLine:
     """A line of two raw terminals. Of each direction's bytes, about one in `one_in` is lost, by a stated seed."""
@@ -52,11 +54,13 @@ class LossyLine:
                 os.write(self.masters[1 - side], kept)
 
 
-def converse(device, requester, one_in, seed, seconds=120):
+def converse(device, requester, one_in, seed, seconds=120, ticking=False):
     """Runs `device` with one end of a line as its standard input and output, and `requester` until it ends: lists of
     words, in which LINE is the name of the end that is theirs. Returns the requester's status, what it wrote, and how
-    many bytes were lost."""
+    many bytes were lost. Where it is `ticking`, a read of the requester ends after a tenth of a second."""
     with LossyLine(one_in, seed) as line:
+        if ticking:
+            set_ticking(line.ends[1])
         named = [line.name(0) if word == "LINE" else word for word in device]
         server = subprocess.Popen(named, stdin=line.ends[0], stdout=line.ends[0], stderr=subprocess.DEVNULL)
         try:

@@ -7,15 +7,20 @@ import tty
 from support.programs import SECONDS
 
 
+def set_ticking(end):
+    """Sets a terminal as the help of `ask` says: raw, and a read ends after a tenth of a second."""
+    tty.setraw(end)
+    how = termios.tcgetattr(end)
+    how[6][termios.VMIN], how[6][termios.VTIME] = 0, 1
+    termios.tcsetattr(end, termios.TCSANOW, how)
+
+
 class Terminal:
     """A pseudoterminal, set as the help of `ask` says. `ask` opens it by its name; the other end is the test's."""
 
     def __init__(self):
         self.ours, self.its = os.openpty()
-        tty.setraw(self.its)
-        how = termios.tcgetattr(self.its)
-        how[6][termios.VMIN], how[6][termios.VTIME] = 0, 1
-        termios.tcsetattr(self.its, termios.TCSANOW, how)
+        set_ticking(self.its)
         self.name = os.ttyname(self.its)
 
     def fileno(self):

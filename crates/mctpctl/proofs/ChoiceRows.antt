@@ -6,7 +6,7 @@ use Rattle.clap.specs.declared.error.kind.ErrorKind.TheVariants.{ArgumentConflic
 use Rattle.mctpctl_bindings.specs.declared.binding.Binding.{Binding}
 use Rattle.mctpctl_bindings.specs.declared.binding.Binding.TheVariants.{I2c, I3c, Serial}
 use Rattle.mctpctl.specs.Choice.{command as the_command}
-use Rattle.mctpctl.specs.Choice.{choice_of, Asked, Questioned, to_ask, to_perform, to_serve}
+use Rattle.mctpctl.specs.Choice.{choice_of, Asked, Linked, Questioned, to_ask, to_perform, to_serve, to_walk, to_watch}
 use Rattle.mctpctl.specs.declared.choose.Task.{Task}
 use Rattle.mctpctl.specs.declared.choose.Task.TheVariants.{Answer, Run, Show}
 
@@ -123,19 +123,19 @@ unfolding clap_on_literals
 not_explained = refl
 
 -- endpoint 8 asks endpoint 9 by so many words at the end of the line
-abbrev by_words : ℕ → Questioned
-by_words count = record {
+abbrev from_8_to_9 : Linked
+from_8_to_9 = record {
   line = None;
   own = codes "8";
   device = codes "9";
   keep = None;
   timeout = None;
   tries = None;
-  hex = false;
   state = None;
-  file = None;
-  count = count;
 }
+
+abbrev by_words : ℕ → Questioned
+by_words count = record { link = from_8_to_9; hex = false; file = None; count = count }
 
 ask :
     choice_of
@@ -151,12 +151,14 @@ asked_with_all :
     ∷ codes "--timeout=300" ∷ codes "--tries=3" ∷ codes "--state=last" ∷ codes "--hex" ∷ codes "setnum" ∷ codes "1" ∷ codes "sint8" ∷ codes "-5"
     ∷ [])
     ≡ Some (to_ask (record (by_words 4) {
-      line = Some (codes "tty");
-      keep = Some (codes "1000");
-      timeout = Some (codes "300");
-      tries = Some (codes "3");
+      link = record from_8_to_9 {
+        line = Some (codes "tty");
+        keep = Some (codes "1000");
+        timeout = Some (codes "300");
+        tries = Some (codes "3");
+        state = Some (codes "last");
+      };
       hex = true;
-      state = Some (codes "last");
     }))
 unfolding clap_on_literals
 asked_with_all = refl
@@ -173,3 +175,26 @@ device_after_the_command :
     (codes "mctpctl" ∷ codes "ask" ∷ codes "--own=8" ∷ codes "gettid" ∷ codes "--device=9" ∷ []) ≡ None
 unfolding clap_on_literals
 device_after_the_command = refl
+
+walk : choice_of (codes "mctpctl" ∷ codes "walk" ∷ codes "--own=8" ∷ codes "--device=9" ∷ []) ≡ Some (to_walk (record { link = from_8_to_9; records = None }))
+unfolding clap_on_literals
+walk = refl
+
+walk_with_all :
+    choice_of
+    (codes "mctpctl" ∷ codes "walk" ∷ codes "--line=tty" ∷ codes "--own=8" ∷ codes "--device=9" ∷ codes "--records" ∷ codes "pdr" ∷ [])
+    ≡ Some (to_walk (record { link = record from_8_to_9 { line = Some (codes "tty") }; records = Some (codes "pdr") }))
+unfolding clap_on_literals
+walk_with_all = refl
+
+-- a walk takes no command
+walk_with_a_word : choice_of (codes "mctpctl" ∷ codes "walk" ∷ codes "--own=8" ∷ codes "--device=9" ∷ codes "gettid" ∷ []) ≡ None
+unfolding clap_on_literals
+walk_with_a_word = refl
+
+watch_with_all :
+    choice_of
+    (codes "mctpctl" ∷ codes "watch" ∷ codes "--own=8" ∷ codes "--device=9" ∷ codes "--every=500" ∷ codes "--count=3" ∷ codes "--log=csv" ∷ [])
+    ≡ Some (to_watch (record { link = from_8_to_9; every = Some (codes "500"); count = Some (codes "3"); readings = Some (codes "csv") }))
+unfolding clap_on_literals
+watch_with_all = refl

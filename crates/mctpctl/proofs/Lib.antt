@@ -1,3 +1,5 @@
 mod ChoiceRows
+pub mod FirstRecords
 pub mod FoundSubcommands
 pub mod GivenFlags
+pub mod WalkedOn

@@ -11,7 +11,7 @@ use Rattle.pldm_wire.specs.Responses.{Response, response_of}
 use Rattle.pldm_wire.specs.declared.assigned.TheConstants.{SUCCESS}
 use Rattle.pldm_wire.specs.declared.command.Command.{Command}
 use Rattle.mctp_packet.specs.declared.reason.Reason.{Reason}
-use Rattle.mctpctl.specs.declared.asking.TheConstants.{DONE, FAILED, REFUSED}
+use Rattle.mctpctl.specs.declared.talk.TheConstants.{DONE, FAILED, REFUSED}
 
 -- as `show --decode` writes it, or its bytes
 abbrev pub message_text : Bool → List ℕ → List ℕ
@@ -25,15 +25,19 @@ status_of_response (Err reason) = REFUSED
 abbrev pub status_of_message : List ℕ → ℕ
 status_of_message message = status_of_response (response_of message)
 
--- an answer is printed, and its code is the status; where there is none, nothing is printed
-abbrev pub Prints : Bool → Option (List ℕ) → ℕ → Option (List ℕ) → Option (List ℕ) → Type 0
-Prints hex (Some message) status out out1 =
-    (status ≡ status_of_message message) × Appends out out1 (message_text hex message)
-Prints hex None status out out1 = (status ≡ FAILED) × (out1 ≡ out)
+-- where none came, too
+abbrev pub status_of_answer : Option (List ℕ) → ℕ
+status_of_answer (Some message) = status_of_message message
+status_of_answer None = FAILED
+
+-- an answer is printed; where there is none, nothing is
+abbrev pub Prints : Bool → Option (List ℕ) → Option (List ℕ) → Option (List ℕ) → Type 0
+Prints hex (Some message) out out1 = Appends out out1 (message_text hex message)
+Prints hex None out out1 = out1 ≡ out
 
 -- a request for the command was opened and has ended, and the answer to that very request was printed
-pub record Tells (hex : Bool) (command : Command) (status : ℕ) (s s1 : Shown) (out out1 : Option (List ℕ)) : Type 0 where
-  pub number : ℕ
+pub record Tells (hex : Bool) (command : Command) (number : ℕ) (s s1 : Shown) (out out1 : Option (List ℕ))
+    : Type 0 where
   pub ended : Ended
   pub asks : Asks command number ended s s1
-  pub prints : Prints hex (answer_of s1.asking.held number) status out out1
+  pub prints : Prints hex (answer_of s1.asking.held number) out out1

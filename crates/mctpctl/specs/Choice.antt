@@ -15,11 +15,14 @@ use Rattle.mctpctl_bindings.specs.declared.binding.Binding.{Binding}
 use Rattle.mctpctl_bindings.specs.declared.binding.Binding.TheVariants.{I2c, I3c, Serial}
 use Rattle.mctpctl.specs.declared.choose.Choice.{Choice}
 use Rattle.mctpctl.specs.declared.choose.Choice.TheVariants as choice
+use Rattle.mctpctl.specs.declared.choose.Link.{Link}
 use Rattle.mctpctl.specs.declared.choose.Question.{Question}
 use Rattle.mctpctl.specs.declared.choose.Service.{Service}
+use Rattle.mctpctl.specs.declared.choose.Survey.{Survey}
 use Rattle.mctpctl.specs.declared.choose.TextTask.{TextTask}
 use Rattle.mctpctl.specs.declared.choose.Task.{Task}
 use Rattle.mctpctl.specs.declared.choose.Task.TheVariants.{Answer, Run, Show}
+use Rattle.mctpctl.specs.declared.choose.Vigil.{Vigil}
 use Rattle.mctpctl.specs.declared.choose.ChooseFault.{ChooseFault}
 use Rattle.mctpctl.specs.declared.choose.ChooseFault.TheVariants.{Help, Refused, Memory}
 
@@ -69,22 +72,22 @@ text_command = with_subcommand device_command show_subcommand.top
 abbrev pub line_command : App
 line_command = with_subcommand text_command serve_subcommand.top
 
--- `ask` requires both endpoint IDs, and may be told the line
-abbrev pub line_subcommand : App
-line_subcommand =
-    with_rule (with_rule (with_rule (new_app (codes "ask")) (value_option (codes "line")))
+-- what asks a device requires both endpoint IDs, and may be told the line
+abbrev pub line_subcommand : List ℕ → App
+line_subcommand name =
+    with_rule (with_rule (with_rule (new_app name) (value_option (codes "line")))
     (record (value_option (codes "own")) { required = true }))
     (record (value_option (codes "device")) { required = true })
 
 -- and the times
-abbrev pub timed_subcommand : App
-timed_subcommand =
-    with_rule (with_rule (with_rule line_subcommand (value_option (codes "keep"))) (value_option (codes "timeout")))
-    (value_option (codes "tries"))
+abbrev pub timed_subcommand : List ℕ → App
+timed_subcommand name =
+    with_rule (with_rule (with_rule (line_subcommand name) (value_option (codes "keep")))
+    (value_option (codes "timeout"))) (value_option (codes "tries"))
 
 -- and the file of its state
-abbrev pub stated_subcommand : App
-stated_subcommand = with_rule timed_subcommand (value_option (codes "state"))
+abbrev pub stated_subcommand : List ℕ → App
+stated_subcommand name = with_rule (timed_subcommand name) (value_option (codes "state"))
 
 abbrev pub one_or_more : ValueRange
 one_or_more = record { start_inclusive = 1; end_inclusive = usize_max }
@@ -100,11 +103,27 @@ command_words = record (new_rule (codes "command")) {
 
 abbrev pub ask_subcommand : App
 ask_subcommand =
-    with_rule (with_rule (with_rule stated_subcommand (flag (codes "hex"))) (value_option (codes "file")))
-    command_words
+    with_rule (with_rule (with_rule (stated_subcommand (codes "ask")) (flag (codes "hex")))
+    (value_option (codes "file"))) command_words
+
+abbrev pub asking_command : App
+asking_command = with_subcommand line_command ask_subcommand.top
+
+-- `walk` may be told where the records go
+abbrev pub walk_subcommand : App
+walk_subcommand = with_rule (stated_subcommand (codes "walk")) (value_option (codes "records"))
+
+abbrev pub walking_command : App
+walking_command = with_subcommand asking_command walk_subcommand.top
+
+-- `watch` may be told how long a period is, how many there are, and where the readings go
+abbrev pub watch_subcommand : App
+watch_subcommand =
+    with_rule (with_rule (with_rule (stated_subcommand (codes "watch")) (value_option (codes "every")))
+    (value_option (codes "count"))) (value_option (codes "log"))
 
 abbrev pub command : App
-command = with_subcommand line_command ask_subcommand.top
+command = with_subcommand walking_command watch_subcommand.top
 
 -- whether `clap` takes the words, of which the first is the program's name
 abbrev pub takes_line : List (List ℕ) → Bool
@@ -134,49 +153,85 @@ pub record Served : Type 0 where
   pub log : Option (List ℕ)
   pub verbose : Bool
 
--- what a device is asked: the words of the line, with the numbers as they are spelled
-pub record Questioned : Type 0 where
+-- who asks whom on which line, and when again: the words of the line, with the numbers as they are spelled
+pub record Linked : Type 0 where
   pub line : Option (List ℕ)
   pub own : List ℕ
   pub device : List ℕ
   pub keep : Option (List ℕ)
   pub timeout : Option (List ℕ)
   pub tries : Option (List ℕ)
-  pub hex : Bool
   pub state : Option (List ℕ)
+
+-- what a device is asked
+pub record Questioned : Type 0 where
+  pub link : Linked
+  pub hex : Bool
   pub file : Option (List ℕ)
   -- how many words at the end of the line are the command
   pub count : ℕ
+
+-- a device that is asked for all that it has
+pub record Surveyed : Type 0 where
+  pub link : Linked
+  pub records : Option (List ℕ)
+
+-- a device whose sensors and effecters are read again and again
+pub record Watched : Type 0 where
+  pub link : Linked
+  pub every : Option (List ℕ)
+  pub count : Option (List ℕ)
+  pub readings : Option (List ℕ)
 
 -- what a command line may ask for
 pub data Asked : Type 0 where
   to_perform : TextTask → Asked
   to_serve : Served → Asked
   to_ask : Questioned → Asked
+  to_walk : Surveyed → Asked
+  to_watch : Watched → Asked
 
 -- what a value of the code asks for
 abbrev pub served : Service → Served
 served service =
     record { device = service.device.now; log = option_map (λ file. file.now) service.log; verbose = service.verbose }
 
+abbrev pub linked : Link → Linked
+linked l = record {
+  line = option_map (λ text. text.now) l.line;
+  own = l.own.now;
+  device = l.device.now;
+  keep = option_map (λ text. text.now) l.keep;
+  timeout = option_map (λ text. text.now) l.timeout;
+  tries = option_map (λ text. text.now) l.tries;
+  state = option_map (λ text. text.now) l.state;
+}
+
 abbrev pub questioned : Question → Questioned
 questioned q = record {
-  line = option_map (λ text. text.now) q.line;
-  own = q.own.now;
-  device = q.device.now;
-  keep = option_map (λ text. text.now) q.keep;
-  timeout = option_map (λ text. text.now) q.timeout;
-  tries = option_map (λ text. text.now) q.tries;
+  link = linked q.link;
   hex = q.hex;
-  state = option_map (λ text. text.now) q.state;
   file = option_map (λ text. text.now) q.file;
   count = q.count;
+}
+
+abbrev pub surveyed : Survey → Surveyed
+surveyed survey = record { link = linked survey.link; records = option_map (λ text. text.now) survey.records }
+
+abbrev pub kept_vigil : Vigil → Watched
+kept_vigil vigil = record {
+  link = linked vigil.link;
+  every = option_map (λ text. text.now) vigil.every;
+  count = option_map (λ text. text.now) vigil.count;
+  readings = option_map (λ text. text.now) vigil.readings;
 }
 
 abbrev pub asked : Choice → Asked
 asked (choice.Text task) = to_perform task
 asked (choice.Serve service) = to_serve (served service)
 asked (choice.Ask question) = to_ask (questioned question)
+asked (choice.Walk survey) = to_walk (surveyed survey)
+asked (choice.Watch vigil) = to_watch (kept_vigil vigil)
 
 -- what is asked for by what was found of the arguments of `serve`
 abbrev pub service_in : List Row → Option Served
@@ -193,9 +248,9 @@ service_in rows =
 abbrev pub values_given : List ℕ → List Row → ℕ
 values_given name rows = option_map_or (λ values. length values) (all_of name rows) 0
 
--- what is asked for by what was found of the arguments of `ask`
-abbrev pub question_in : List Row → Option Questioned
-question_in rows =
+-- who asks whom, by what was found of the arguments
+abbrev pub link_in : List Row → Option Linked
+link_in rows =
     option_and_then (λ own. option_map (λ device. record {
       line = first_of (codes "line") rows;
       own = own;
@@ -203,11 +258,32 @@ question_in rows =
       keep = first_of (codes "keep") rows;
       timeout = first_of (codes "timeout") rows;
       tries = first_of (codes "tries") rows;
-      hex = is_given (codes "hex") rows;
       state = first_of (codes "state") rows;
+    }) (first_of (codes "device") rows)) (first_of (codes "own") rows)
+
+-- what is asked for by what was found of the arguments of `ask`
+abbrev pub question_in : List Row → Option Questioned
+question_in rows =
+    option_map (λ link. record {
+      link = link;
+      hex = is_given (codes "hex") rows;
       file = first_of (codes "file") rows;
       count = values_given (codes "command") rows;
-    }) (first_of (codes "device") rows)) (first_of (codes "own") rows)
+    }) (link_in rows)
+
+-- and of `walk`
+abbrev pub survey_in : List Row → Option Surveyed
+survey_in rows = option_map (λ link. record { link = link; records = first_of (codes "records") rows }) (link_in rows)
+
+-- and of `watch`
+abbrev pub vigil_in : List Row → Option Watched
+vigil_in rows =
+    option_map (λ link. record {
+      link = link;
+      every = first_of (codes "every") rows;
+      count = first_of (codes "count") rows;
+      readings = first_of (codes "log") rows;
+    }) (link_in rows)
 
 -- the binding that is asked for, if one is: a name that is none's asks for nothing
 abbrev pub binding_asked : Option (List ℕ) → Option (Option Binding)
@@ -235,6 +311,8 @@ abbrev pub choice_in : List ℕ × List Row → Option Asked
 choice_in found =
     if bytes_eq found.0 (codes "serve") then option_map to_serve (service_in found.1)
     else if bytes_eq found.0 (codes "ask") then option_map to_ask (question_in found.1)
+    else if bytes_eq found.0 (codes "walk") then option_map to_walk (survey_in found.1)
+    else if bytes_eq found.0 (codes "watch") then option_map to_watch (vigil_in found.1)
     else option_map to_perform (text_task_in found)
 
 -- what a line that is taken asks for

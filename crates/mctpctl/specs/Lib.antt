@@ -6,3 +6,5 @@ pub mod LineFaults
 pub mod ServedTexts
 pub mod Settings
 pub mod States
+pub mod WalkedTexts
+pub mod WatchedTexts

@@ -4,12 +4,12 @@ ghost use Rattle.std.specs.Prelude.{◌≡◌, IfOk, IfErr, Some, false, map, op
 ghost use Rattle.mctp_packet.specs.Memories.{out_of_memory};
 ghost use Rattle.clap.specs.Words.{app_of, first_of, found_of, kind_of, rows_of, rule_of, subcommand_rows_of};
 ghost use Rattle.mctpctl.specs.FaultNumbers.{number_of_choose_fault};
-ghost use Rattle.mctpctl.specs.Choice.{ask_subcommand as the_ask_subcommand, asked, binding_in, binding_named, choice_in as the_choice, choice_of, command as the_command, command_words as the_command_words, device_command as the_device_command, flag as the_flag, has_globals, is_given, line_command as the_line_command, line_subcommand as the_line_subcommand, program as the_program, question_in, questioned, serve_subcommand as the_serve_subcommand, served, service_in, show_subcommand as the_show_subcommand, stated_subcommand as the_stated_subcommand, task_named, text_command as the_text_command, text_subcommand as the_text_subcommand, text_task_in, timed_subcommand as the_timed_subcommand, value_option as the_value_option, values_given, ReportsKind, ReportsRefusal};
+ghost use Rattle.mctpctl.specs.Choice.{ask_subcommand as the_ask_subcommand, asked, asking_command as the_asking_command, binding_in, binding_named, choice_in as the_choice, choice_of, command as the_command, command_words as the_command_words, device_command as the_device_command, flag as the_flag, has_globals, is_given, line_command as the_line_command, line_subcommand as the_line_subcommand, link_in, linked, program as the_program, question_in, questioned, serve_subcommand as the_serve_subcommand, served, service_in, show_subcommand as the_show_subcommand, stated_subcommand as the_stated_subcommand, survey_in, surveyed, task_named, text_command as the_text_command, text_subcommand as the_text_subcommand, text_task_in, timed_subcommand as the_timed_subcommand, value_option as the_value_option, values_given, vigil_in, kept_vigil, walk_subcommand as the_walk_subcommand, walking_command as the_walking_command, watch_subcommand as the_watch_subcommand, ReportsKind, ReportsRefusal};
 
 use crate::help::{
-    ANSWER, ASK, ASKED, BINDING, BINDINGS, COMMAND, COMMANDS, DECODE, DEVICE, EXPLAIN, HEX, KEEP,
-    LINE, LOG, NO_BINDING, OWN, RUN, SERVE, SHOW, STATE, STATUSES, TIMEOUT, TRIES, VERBOSE,
-    VERSION,
+    ANSWER, ASK, ASKED, BINDING, BINDINGS, COMMAND, COMMANDS, COUNT, DECODE, DEVICE, EVERY,
+    EXPLAIN, HEX, KEEP, LINE, LOG, NO_BINDING, OWN, READINGS, RECORDS, RUN, SERVE, SHOW, STATE,
+    STATUSES, TIMEOUT, TRIES, VERBOSE, VERSION, WALK, WATCH,
 };
 use clap::error::ErrorKind;
 use clap::{Arg, ArgAction, ArgMatches, Command};
@@ -27,6 +27,10 @@ pub enum Choice<'a> {
     Serve(Service<'a>),
     /// Commands to a device on a serial line.
     Ask(Question<'a>),
+    /// All that a device on a serial line has.
+    Walk(Survey<'a>),
+    /// What the sensors and effecters of a device on a serial line say, again and again.
+    Watch(Vigil<'a>),
 }
 
 /// What is done with a text.
@@ -64,9 +68,9 @@ pub struct Service<'a> {
     pub verbose: bool,
 }
 
-/// What a device is asked, and how: the numbers as they are spelled.
+/// Who asks whom on which line, and when again: the numbers as they are spelled.
 #[derive(Clone, Copy, Debug)]
-pub struct Question<'a> {
+pub struct Link<'a> {
     /// The line, a terminal (`--line`); standard input and output where there is none.
     pub line: Option<&'a str>,
     /// The endpoint ID of the requester (`--own`).
@@ -79,14 +83,43 @@ pub struct Question<'a> {
     pub timeout: Option<&'a str>,
     /// How many tries there are (`--tries`).
     pub tries: Option<&'a str>,
-    /// Whether answers are printed in hex (`--hex`).
-    pub hex: bool,
     /// The file that keeps when the device was asked last (`--state`).
     pub state: Option<&'a str>,
+}
+
+/// What a device is asked.
+#[derive(Clone, Copy, Debug)]
+pub struct Question<'a> {
+    /// Who asks whom.
+    pub link: Link<'a>,
+    /// Whether answers are printed in hex (`--hex`).
+    pub hex: bool,
     /// The file of the commands (`--file`).
     pub file: Option<&'a str>,
     /// So many words at the end of the command line are the command.
     pub count: usize,
+}
+
+/// A device that is asked for all that it has.
+#[derive(Clone, Copy, Debug)]
+pub struct Survey<'a> {
+    /// Who asks whom.
+    pub link: Link<'a>,
+    /// The file that its records are written to (`--records`).
+    pub records: Option<&'a str>,
+}
+
+/// A device whose sensors and effecters are read again and again: the numbers as they are spelled.
+#[derive(Clone, Copy, Debug)]
+pub struct Vigil<'a> {
+    /// Who asks whom.
+    pub link: Link<'a>,
+    /// How long a period is (`--every`).
+    pub every: Option<&'a str>,
+    /// How many periods there are (`--count`).
+    pub count: Option<&'a str>,
+    /// The file that the readings are written to (`--log`).
+    pub readings: Option<&'a str>,
 }
 
 /// Why there is no task.
@@ -144,6 +177,26 @@ pub fn choose<'a>(alloc: Global, words: &'a [&'a str]) -> Result<Choice<'a>, Cho
 /// The command line's definition for `clap`.
 fn command<'a>(alloc: Global) -> Result<Command<'a>, AllocError>
     ensures { IfOk result (λ command. app_of command ≡ the_command) }
+{
+    let watch = watch_subcommand(alloc)?
+        .about("Reads the sensors and effecters of a device on a serial line again and again")
+        .after_help(WATCH);
+    walking_command(alloc)?.subcommand(watch)
+}
+
+/// The program with the subcommands that simulate a device, with `ask` and with `walk`.
+fn walking_command<'a>(alloc: Global) -> Result<Command<'a>, AllocError>
+    ensures { IfOk result (λ command. app_of command ≡ the_walking_command) }
+{
+    let walk = walk_subcommand(alloc)?
+        .about("Asks a device on a serial line for all that it has, and prints a table of it")
+        .after_help(WALK);
+    asking_command(alloc)?.subcommand(walk)
+}
+
+/// The program with the subcommands that simulate a device, and with `ask`.
+fn asking_command<'a>(alloc: Global) -> Result<Command<'a>, AllocError>
+    ensures { IfOk result (λ command. app_of command ≡ the_asking_command) }
 {
     let ask = ask_subcommand(alloc)?
         .about("Asks a device on a serial line, and prints its answers")
@@ -219,39 +272,58 @@ fn ask_subcommand<'a>(alloc: Global) -> Result<Command<'a>, AllocError>
     ensures app { IfOk result (λ command. app_of command ≡ the_ask_subcommand) }
     ensures local { IfOk result (λ command. has_globals command ≡ false) }
 {
-    stated_subcommand(alloc)?
+    stated_subcommand(alloc, "ask")?
         .arg(flag(alloc, "hex", HEX))?
         .arg(value_option(alloc, "file", "FILE", COMMANDS))?
         .arg(command_words(alloc))
 }
 
-/// The subcommand `ask`, with the options of its line, of time and of its state.
-fn stated_subcommand<'a>(alloc: Global) -> Result<Command<'a>, AllocError>
-    ensures app { IfOk result (λ command. app_of command ≡ the_stated_subcommand) }
+/// The subcommand `walk`, with its options.
+fn walk_subcommand<'a>(alloc: Global) -> Result<Command<'a>, AllocError>
+    ensures app { IfOk result (λ command. app_of command ≡ the_walk_subcommand) }
     ensures local { IfOk result (λ command. has_globals command ≡ false) }
 {
-    timed_subcommand(alloc)?.arg(value_option(alloc, "state", "FILE", STATE))
+    stated_subcommand(alloc, "walk")?.arg(value_option(alloc, "records", "FILE", RECORDS))
 }
 
-/// The subcommand `ask`, with the options of its line and of time.
-fn timed_subcommand<'a>(alloc: Global) -> Result<Command<'a>, AllocError>
-    ensures app { IfOk result (λ command. app_of command ≡ the_timed_subcommand) }
+/// The subcommand `watch`, with its options.
+fn watch_subcommand<'a>(alloc: Global) -> Result<Command<'a>, AllocError>
+    ensures app { IfOk result (λ command. app_of command ≡ the_watch_subcommand) }
     ensures local { IfOk result (λ command. has_globals command ≡ false) }
 {
-    line_subcommand(alloc)?
+    stated_subcommand(alloc, "watch")?
+        .arg(value_option(alloc, "every", "MS", EVERY))?
+        .arg(value_option(alloc, "count", "N", COUNT))?
+        .arg(value_option(alloc, "log", "FILE", READINGS))
+}
+
+/// A subcommand of this name, with the options of a line, of time and of the state.
+fn stated_subcommand<'a>(alloc: Global, name: &'static str) -> Result<Command<'a>, AllocError>
+    ensures app { IfOk result (λ command. app_of command ≡ the_stated_subcommand name.now) }
+    ensures local { IfOk result (λ command. has_globals command ≡ false) }
+{
+    timed_subcommand(alloc, name)?.arg(value_option(alloc, "state", "FILE", STATE))
+}
+
+/// A subcommand of this name, with the options of a line and of time.
+fn timed_subcommand<'a>(alloc: Global, name: &'static str) -> Result<Command<'a>, AllocError>
+    ensures app { IfOk result (λ command. app_of command ≡ the_timed_subcommand name.now) }
+    ensures local { IfOk result (λ command. has_globals command ≡ false) }
+{
+    line_subcommand(alloc, name)?
         .arg(value_option(alloc, "keep", "MS", KEEP))?
         .arg(value_option(alloc, "timeout", "MS", TIMEOUT))?
         .arg(value_option(alloc, "tries", "N", TRIES))
 }
 
-/// The subcommand `ask`, with the options of its line.
-fn line_subcommand<'a>(alloc: Global) -> Result<Command<'a>, AllocError>
-    ensures app { IfOk result (λ command. app_of command ≡ the_line_subcommand) }
+/// A subcommand of this name, with the options of a line.
+fn line_subcommand<'a>(alloc: Global, name: &'static str) -> Result<Command<'a>, AllocError>
+    ensures app { IfOk result (λ command. app_of command ≡ the_line_subcommand name.now) }
     ensures local { IfOk result (λ command. has_globals command ≡ false) }
 {
     let own = value_option(alloc, "own", "EID", OWN).required(true);
     let device = value_option(alloc, "device", "EID", ASKED).required(true);
-    Command::new(alloc, "ask")
+    Command::new(alloc, name)
         .arg(value_option(alloc, "line", "PATH", LINE))?
         .arg(own)?
         .arg(device)
@@ -325,6 +397,8 @@ fn choice_for<'a>(name: &str, matches: &ArgMatches<'a>) -> Option<Choice<'a>>
     match name {
         "serve" => Some(Choice::Serve(service_of(matches)?)),
         "ask" => Some(Choice::Ask(question_of(matches)?)),
+        "walk" => Some(Choice::Walk(survey_of(matches)?)),
+        "watch" => Some(Choice::Watch(vigil_of(matches)?)),
         _ => Some(Choice::Text(text_task(name, matches)?)),
     }
 }
@@ -384,19 +458,53 @@ fn service_of<'a>(matches: &ArgMatches<'a>) -> Option<Service<'a>>
 fn question_of<'a>(matches: &ArgMatches<'a>) -> Option<Question<'a>>
     ensures { option_map questioned result ≡ question_in (rows_of (found_of matches.now)) }
 {
+    let link = link_of(matches)?;
+    Some(Question {
+        link,
+        hex: is_given(matches, "hex"),
+        file: value(matches, "file"),
+        count: count_of(matches, "command"),
+    })
+}
+
+/// The device that is asked for all that it has, by the arguments of `walk`.
+fn survey_of<'a>(matches: &ArgMatches<'a>) -> Option<Survey<'a>>
+    ensures { option_map surveyed result ≡ survey_in (rows_of (found_of matches.now)) }
+{
+    let link = link_of(matches)?;
+    Some(Survey {
+        link,
+        records: value(matches, "records"),
+    })
+}
+
+/// The device that is read again and again, by the arguments of `watch`.
+fn vigil_of<'a>(matches: &ArgMatches<'a>) -> Option<Vigil<'a>>
+    ensures { option_map kept_vigil result ≡ vigil_in (rows_of (found_of matches.now)) }
+{
+    let link = link_of(matches)?;
+    Some(Vigil {
+        link,
+        every: value(matches, "every"),
+        count: value(matches, "count"),
+        readings: value(matches, "log"),
+    })
+}
+
+/// Who asks whom, by the arguments of a subcommand that asks.
+fn link_of<'a>(matches: &ArgMatches<'a>) -> Option<Link<'a>>
+    ensures { option_map linked result ≡ link_in (rows_of (found_of matches.now)) }
+{
     let own = value(matches, "own")?;
     let device = value(matches, "device")?;
-    Some(Question {
+    Some(Link {
         line: value(matches, "line"),
         own,
         device,
         keep: value(matches, "keep"),
         timeout: value(matches, "timeout"),
         tries: value(matches, "tries"),
-        hex: is_given(matches, "hex"),
         state: value(matches, "state"),
-        file: value(matches, "file"),
-        count: count_of(matches, "command"),
     })
 }
 

@@ -55,7 +55,7 @@ pub fn read_commands(
             if text.len() > MAX_DESCRIPTION {
                 return Err(CommandsFault::TooLarge);
             }
-            commands_in(alloc, question.own, &text)
+            commands_in(alloc, question.link.own, &text)
         }
         None if count > 0 => {
             let mut line = Vec::new(alloc);
@@ -63,7 +63,7 @@ pub fn read_commands(
                 line.extend_from_slice(word.as_bytes())?;
                 line.push(b' ')?;
             }
-            match commands_in(alloc, question.own, &line) {
+            match commands_in(alloc, question.link.own, &line) {
                 Ok(commands) if commands.steps().is_empty() => Err(CommandsFault::None), // a comment
                 Err(CommandsFault::Line(_, kind)) => Err(CommandsFault::Word(kind)),
                 read => read,

@@ -57,6 +57,18 @@ pub const HEX: &str = "Print answers as bytes in hex";
 /// What `--state` names.
 pub const STATE: &str = "Keep in this file when the device was asked last, and wait less";
 
+/// What `--records` names.
+pub const RECORDS: &str = "Write the records of the device to this file, as they were read";
+
+/// What `--every` is.
+pub const EVERY: &str = "How long a period is, up to a day [default: 1000]";
+
+/// What `--count` is.
+pub const COUNT: &str = "How many periods there are; without end where it is not said";
+
+/// What `--log` of `watch` names.
+pub const READINGS: &str = "Write the readings to this file, as comma-separated values";
+
 /// What `--file` names.
 pub const COMMANDS: &str = "Ask the commands on the lines of this file, one after another";
 
@@ -242,5 +254,63 @@ Exit status, the greatest where there are several commands:
   0  the answer has the completion code SUCCESS
   1  it has another one
   2  the command line was refused, or a line of the file
+  3  no answer came in the tries, or the line ended; or a file, a read, a write or the
+     clock failed, or there was no memory. One line on standard error says which";
+
+/// What `walk` reads and writes.
+pub const WALK: &str = "\
+The device is asked what a management controller asks that has found it: its endpoint ID,
+UUID and message types, by control messages; its terminus ID and PLDM types, the versions
+and commands of each type, how many records its repository has, each record, and the
+reading, value or states of each sensor and effecter that a record describes. Nothing is
+set. The line, the endpoint IDs, the times and --state are those of 'ask'. As an instance
+ID is used again after twice the keeping time, 32 commands are asked in that time at most:
+
+  stty -F /dev/ttyS1 raw -echo min 0 time 1
+  mctpctl walk --line /dev/ttyS1 --own 8 --device 9
+
+Output: the answers as they come, as 'show --decode' writes them, and at the end a table.
+What was not answered, or refused, is passed over, with what depends on it:
+
+    response 0 GetTID tid 1
+
+  sensor 1    Fan        4200 rpm    normal
+  effecter 1  Fan speed  40 percent  enabled-noUpdatePending
+
+A --records file gets the bytes of the records, one after another.
+
+Exit status, the greatest of all commands:
+  0  the answer has the completion code SUCCESS
+  1  it has another one
+  2  the command line was refused
+  3  no answer came in the tries, or the line ended; or a file, a read, a write or the
+     clock failed, or there was no memory. One line on standard error says which";
+
+/// What `watch` reads and writes.
+pub const WATCH: &str = "\
+The device is asked for its records as by 'walk', with nothing printed. Then, in each
+period, each sensor and effecter that a record describes is asked for its reading, value
+or states. Nothing is set. The line, the endpoint IDs, the times and --state are those of
+'ask'. A period lasts longer where 32 commands in twice the keeping time are not enough:
+
+  stty -F /dev/ttyS1 raw -echo min 0 time 1
+  mctpctl watch --line /dev/ttyS1 --own 8 --device 9 --every 500 --log readings.csv
+
+Output: for each period its moment, in milliseconds since the start, the table of 'walk',
+and a blank line. A row whose value or state is another than in the period before begins
+with '*':
+
+  12500 ms
+  * sensor 1    Fan        4260 rpm    normal
+    effecter 1  Fan speed  40 percent  enabled-noUpdatePending
+
+A --log file gets a line for each row: the moment, what it is of, and its value:
+
+  12500,sensor 1,\"4260 rpm\"
+
+Exit status, the greatest of all commands:
+  0  the answer has the completion code SUCCESS
+  1  it has another one
+  2  the command line was refused
   3  no answer came in the tries, or the line ended; or a file, a read, a write or the
      clock failed, or there was no memory. One line on standard error says which";

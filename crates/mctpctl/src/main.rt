@@ -1,5 +1,5 @@
-//! `mctpctl` answers captures of MCTP packets as a simulated PLDM device would, serves the device on
-//! a serial line, asks a device on one, runs requesters and the device over a schedule, and shows what
+//! `mctpctl` answers captures of MCTP packets as a simulated PLDM device would, serves the device on a serial line,
+//! asks a device on one or walks over all that it has, runs requesters and the device over a schedule, and shows what
 //! packets say.
 #![tactic(auto)]
 
@@ -13,6 +13,9 @@ mod help;
 mod serial_line;
 mod settings;
 mod state;
+mod talk;
+mod walking;
+mod watching;
 
 ghost use Rattle.std.specs.Prelude.{◌≡◌, false};
 ghost use Rattle.mctpctl_input.specs.Ports.{has_failed};
@@ -21,6 +24,8 @@ use crate::asking::ask_device;
 use crate::choose::{Choice, ChooseFault, Task, TextTask, choose};
 use crate::faults::print_fault;
 use crate::serial_line::serve_device;
+use crate::walking::survey_device;
+use crate::watching::keep_watch;
 use mctpctl_decode::decode_all;
 use mctpctl_engines::{answer_all, run_all, show_all};
 use mctpctl_explain::{Keeping, Subject, explain, warnings};
@@ -62,6 +67,8 @@ fn perform(rt: &HostRuntime) -> Result<u8, ChooseFault> {
         Ok(Choice::Text(text)) => Ok(perform_text(rt, text)),
         Ok(Choice::Serve(service)) => Ok(serve_device(rt, &service)),
         Ok(Choice::Ask(question)) => Ok(ask_device(rt, &question, &words)),
+        Ok(Choice::Walk(survey)) => Ok(survey_device(rt, &survey)),
+        Ok(Choice::Watch(vigil)) => Ok(keep_watch(rt, &vigil)),
         Err(fault) => Err(fault),
     }
 }

@@ -1,10 +1,10 @@
 //! The numbers of `ask`: endpoint IDs and times.
 
 ghost use Rattle.std.specs.Prelude.{◌≡◌, ◌≤◌, IfErr, IfOk, IfSome, Some, option_map};
-ghost use Rattle.mctpctl.specs.Choice.{questioned};
-ghost use Rattle.mctpctl.specs.Settings.{eid_in, keep_in, number_in, refused_option, settings_in};
+ghost use Rattle.mctpctl.specs.Choice.{kept_vigil, linked};
+ghost use Rattle.mctpctl.specs.Settings.{eid_in, keep_in, number_in, periods_in, refused_option, refused_period, settings_in};
 
-use crate::choose::Question;
+use crate::choose::{Link, Vigil};
 use line_words::read_number;
 use mctp_packet::{Eid, Keep, MAX_KEEP};
 use pldm_requester::{MAX_TRIES, Timing};
@@ -32,24 +32,42 @@ pub struct Settings {
     pub timing: Timing,
 }
 
-/// The settings of a question; else the name of the first option whose value is none.
-pub fn settings_of(question: &Question<'_>) -> Result<Settings, &'static str>
-    ensures ok { IfOk result (λ settings. settings_in (questioned question.now) ≡ Some settings) }
-    ensures err { IfErr result (λ option. refused_option (questioned question.now) ≡ Some option.now) }
+/// How long a period is where nothing is said, in milliseconds.
+pub const EVERY_MS: u64 = 1_000;
+
+/// The longest period, in milliseconds: a day.
+pub const MAX_EVERY: u64 = 86_400_000;
+
+/// How many periods there are where nothing is said, and at most.
+pub const MAX_COUNT: u64 = 1_000_000_000_000;
+
+/// How long a period is, and how many there are.
+#[derive(Clone, Copy, Debug)]
+pub struct Periods {
+    /// In milliseconds.
+    pub every: u64,
+    /// How many.
+    pub count: u64,
+}
+
+/// The settings that the words spell; else the name of the first option whose value is none.
+pub fn settings_of(link: &Link<'_>) -> Result<Settings, &'static str>
+    ensures ok { IfOk result (λ settings. settings_in (linked link.now) ≡ Some settings) }
+    ensures err { IfErr result (λ option. refused_option (linked link.now) ≡ Some option.now) }
 {
-    let Some(own) = eid(question.own) else {
+    let Some(own) = eid(link.own) else {
         return Err("--own <EID>");
     };
-    let Some(device) = eid(question.device) else {
+    let Some(device) = eid(link.device) else {
         return Err("--device <EID>");
     };
-    let Some(keep) = keep(question.keep) else {
+    let Some(keep) = keep(link.keep) else {
         return Err("--keep <MS>");
     };
-    let Some(timeout) = number(question.timeout, u64::from(MAX_KEEP), TIMEOUT_MS) else {
+    let Some(timeout) = number(link.timeout, u64::from(MAX_KEEP), TIMEOUT_MS) else {
         return Err("--timeout <MS>");
     };
-    let Some(tries) = number(question.tries, u64::from(MAX_TRIES), TRIES) else {
+    let Some(tries) = number(link.tries, u64::from(MAX_TRIES), TRIES) else {
         return Err("--tries <N>");
     };
     Ok(Settings {
@@ -61,6 +79,21 @@ pub fn settings_of(question: &Question<'_>) -> Result<Settings, &'static str>
             tries: tries as u8,
         },
     })
+}
+
+/// The periods that the words spell; else the name of the first option whose value is none.
+pub fn periods_of(vigil: &Vigil<'_>) -> Result<Periods, &'static str>
+    ensures ok { IfOk result (λ periods. periods_in (kept_vigil vigil.now) ≡ Some periods) }
+    ensures err { IfErr result (λ option. refused_period (kept_vigil vigil.now) ≡ Some option.now) }
+    ensures range { IfOk result (λ periods. periods.every ≤ MAX_EVERY) }
+{
+    let Some(every) = number(vigil.every, MAX_EVERY, EVERY_MS) else {
+        return Err("--every <MS>");
+    };
+    let Some(count) = number(vigil.count, MAX_COUNT, MAX_COUNT) else {
+        return Err("--count <N>");
+    };
+    Ok(Periods { every, count })
 }
 
 /// The endpoint ID that a word spells.

@@ -13,6 +13,9 @@ use std::time::{SystemTime, UNIX_EPOCH};
 /// The last moment that a file can keep, in milliseconds since 1970: one of 16 digits.
 pub const MAX_MOMENT: u64 = 9_999_999_999_999_999;
 
+/// What the moment of a file ends with.
+const LINE_END: u8 = b'\n';
+
 /// Why the file of a state is of no use.
 #[derive(Drop)]
 pub enum StateFault {
@@ -50,28 +53,33 @@ pub fn begin_state(rt: &HostRuntime, file: Option<&str>, keep: Keep) -> Result<u
     Ok(settling_time(keep, last, now(rt)?))
 }
 
-/// Keeps in the file of this name, where there is one, that the last request was opened before now, and returns the exit
-/// status of the requests.
+/// Keeps in the file of this name, where there is one, that the last request was opened before now, and returns the
+/// exit status of the requests.
 pub fn end_state(rt: &HostRuntime, file: Option<&str>, status: u8) -> Result<u8, StateFault> {
     let Some(name) = file else {
         return Ok(status);
     };
     let moment = now(rt)?;
-    let Ok(text) = format!(in rt.alloc(); "{moment}") else {
+    let Ok(text) = format!(in rt.alloc(); "{moment}\n") else {
         return Err(StateFault::File(ErrorKind::OutOfMemory.into()));
     };
     write(rt, name, text.as_bytes())?;
     Ok(status)
 }
 
-/// What a file keeps: no moment where it is empty. `None` where it holds something else.
+/// What a file keeps: no moment where it is empty, else one with a line end, so that a moment which was cut off is
+/// none. `None` where it holds something else.
 fn last_moment(text: &[u8]) -> Option<Option<u64>>
     ensures { result ≡ last_in text.now }
 {
     if text.is_empty() {
         return Some(None);
     }
-    Some(Some(read_number(text, MAX_MOMENT)?))
+    let (digits, end) = text.split_at(text.len() - 1);
+    if end[0] != LINE_END {
+        return None;
+    }
+    Some(Some(read_number(digits, MAX_MOMENT)?))
 }
 
 /// For how many milliseconds from the moment `now` on answers may come to requests that were opened up to the moment

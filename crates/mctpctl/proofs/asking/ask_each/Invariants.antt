@@ -1,6 +1,6 @@
 -- Neither port has failed.
 use Rattle.std.proofs.Common.{◌≡◌, false}
-use Rattle.mctpctl.proofs.asking.talk_over.Given as goal
+use Rattle.mctpctl.proofs.asking.ask_each.Given as goal
 
 abbrev pub invariant-loop-step : goal.invariant-loop-step
 invariant-loop-step g l = record {

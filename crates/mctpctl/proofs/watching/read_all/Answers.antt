@@ -1,0 +1,15 @@
+-- One sensor or effecter more was read.
+use native.Mathlib.Numerals.{unary_clauses}
+use Rattle.std.proofs.Common.{ap, length, rules}
+use Rattle.mctpctl_ask.specs.Asked.{shown}
+use Rattle.mctpctl.proofs.watching.read_all.Goals as goal
+
+pub loop-place-preserved : goal.loop-place-preserved
+loop-place-preserved g c =
+    let mid = shown g.C.Ticks.to_come g.R.Read.remaining g.W.Write.contents c.loop-place.line c.loop-place.reader c.loop-place.writer in
+    record {
+      read = simp unary_clauses (mid, c.loop-place.table, c.loop-place.invariant.read, c.in-Ok.ensures.read);
+      reads = search rules;
+      writes = search rules;
+      end = ap length c.found-place-end.ensures;
+    }

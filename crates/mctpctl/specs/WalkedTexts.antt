@@ -1,0 +1,113 @@
+-- What `walk` asks and prints.
+use Rattle.std.specs.Prelude.{◌≡◌, ◌==◌, ℕ, zero, suc, false, List, [], ◌∷◌, ◌++◌, length, slice_get, unwrap_or, Option, None, Some}
+use Rattle.std.specs.Prelude.{if◌then◌else◌}
+use Rattle.mctp_control.specs.Messages.{Response, response_of}
+use Rattle.mctp_control.specs.Queries.{ControlQuery}
+use Rattle.mctp_control.specs.declared.assigned.TheConstants.{SUCCESS}
+use Rattle.mctp_control.specs.declared.command.Command.{Command as ControlCommand}
+use Rattle.mctpctl_ask.specs.Asked.{Shown, shown}
+use Rattle.mctpctl_ask.specs.Ends.{answer_of}
+use Rattle.mctpctl_ask.specs.Queries.{AsksQuery}
+use Rattle.mctpctl_ask.specs.declared.line.AskingLine.{AskingLine}
+use Rattle.mctpctl_input.specs.Ports.{inner_of}
+use Rattle.mctpctl_input.specs.declared.port.Port.{Port}
+use Rattle.mctpctl_table.specs.Rows.{rows_of}
+use Rattle.mctpctl_table.specs.Tables.{Cells, table_text}
+use Rattle.mctpctl_walk.specs.Steps.{after}
+use Rattle.mctpctl_walk.specs.Walks.{Walking, next_command, reading_at}
+use Rattle.mctpctl_walk.specs.declared.subject.Found.{Found}
+use Rattle.pldm_wire.specs.declared.command.Command.{Command}
+use Rattle.pldm_requester.specs.declared.timing.Timing.{Timing}
+use Rattle.mctpctl.specs.AskedTexts.{Prints, Tells}
+use Rattle.mctpctl.specs.declared.settings.Settings.{Settings}
+use Rattle.mctpctl.specs.declared.talk.TheConstants.{DONE, FAILED, REFUSED}
+
+-- ---- the endpoint: control messages, on tag 0, which no request has yet
+abbrev pub query_of : Settings → ℕ → ControlCommand → ControlQuery
+query_of settings id command =
+    record { own = settings.own; device = settings.device; tag = 0; id = id; command = command }
+
+abbrev pub status_of_response : Option Response → ℕ
+status_of_response None = REFUSED
+status_of_response (Some response) = if response.code == SUCCESS then DONE else REFUSED
+
+-- the exit status of an answer, by its completion code
+abbrev pub status_of_query : List ℕ → ℕ
+status_of_query message = status_of_response (response_of message)
+
+abbrev pub status_for : Option (List ℕ) → ℕ
+status_for (Some message) = status_of_query message
+status_for None = FAILED
+
+-- the query went out until it was answered or had its tries, and its own answer was printed
+pub record TellsQuery (timing : Timing) (q : ControlQuery) (status : ℕ) (s s1 : Shown) (out out1 : Option (List ℕ))
+    : Type 0 where
+  pub answer : Option (List ℕ)
+  pub asks : AsksQuery q timing.timeout timing.tries answer s s1
+  pub prints : Prints false answer out out1
+  pub status_is : status ≡ status_for answer
+
+-- ---- the walk
+-- how far a walk has come, on which line, and what was printed, where that is known
+pub record Standing : Type 0 where
+  pub walking : Walking
+  pub shown : Shown
+  pub out : Option (List ℕ)
+
+abbrev pub standing :
+    {C R W O : Type 0} → (C → Option (List ℕ)) → (R → Option (List ℕ)) → (W → Option (List ℕ)) → (O → Option (List ℕ))
+    → Walking → AskingLine C → Port R → Port W → Port O → Standing
+standing to_come remaining contents printed walking line reader writer out = record {
+  walking = walking;
+  shown = shown to_come remaining contents line reader writer;
+  out = printed (inner_of out);
+}
+
+-- the next command was asked, the answer to that very request was printed, and the walk took it
+pub record Visits (a b : Standing) : Type 0 where
+  pub command : Command
+  pub next : next_command a.walking ≡ Some command
+  pub number : ℕ
+  pub tells : Tells false command number a.shown b.shown a.out b.out
+  pub takes : b.walking ≡ after a.walking (answer_of b.shown.asking.held number)
+
+-- at the walk's end nothing was done
+abbrev pub StepsOn : Option ℕ → Standing → Standing → Type 0
+StepsOn None a b = (next_command a.walking ≡ None) × (b ≡ a)
+StepsOn (Some status) a b = Visits a b
+
+-- command after command was asked; these were the standings before each, the newest first
+abbrev pub Walked : Standing → List Standing → Standing → Type 0
+Walked a [] b = b ≡ a
+Walked a (mid ∷ before) b = Walked a before mid × Visits mid b
+
+-- up to the walk's end
+pub record WalksThrough (a b : Standing) : Type 0 where
+  pub before : List Standing
+  pub walked : Walked a before b
+  pub ends : next_command b.walking ≡ None
+
+-- ---- the table
+-- the record by which something was found
+abbrev pub record_at : Walking → Found → List ℕ
+record_at w found = unwrap_or (slice_get w.records found.place) []
+
+abbrev pub rows_for : Walking → ℕ → Option Found → List Cells
+rows_for w place None = []
+rows_for w place (Some found) = rows_of (record_at w found) w.records (reading_at w place)
+
+-- the rows of what was found at a place: by its record, and by what answered for it
+abbrev pub rows_at : Walking → ℕ → List Cells
+rows_at w place = rows_for w place (slice_get w.found place)
+
+-- of what was found at the first places, so many
+abbrev pub first_rows : Walking → ℕ → List Cells
+first_rows w zero = []
+first_rows w (suc place) = first_rows w place ++ rows_at w place
+
+abbrev pub walked_rows : Walking → List Cells
+walked_rows w = first_rows w (length w.found)
+
+-- after a blank line, where something was found
+abbrev pub walk_text : Walking → List ℕ
+walk_text w = (if length w.found == 0 then [] else 10 ∷ []) ++ table_text (walked_rows w)

@@ -1,0 +1,39 @@
+-- What `watch` asks and prints.
+use Rattle.std.specs.Fmt.{decimal}
+use Rattle.std.specs.Prelude.{◌≡◌, ℕ, zero, suc, List, [], ◌∷◌, ◌++◌, codes, length, slice_get, Option, Some}
+use Rattle.mctpctl_ask.specs.Asked.{Asks, Shown}
+use Rattle.mctpctl_ask.specs.Ends.{answer_of}
+use Rattle.mctpctl_ask.specs.declared.line.Ended.{Ended}
+use Rattle.mctpctl_table.specs.Rows.{rows_of}
+use Rattle.mctpctl_table.specs.Marks.{marked_text}
+use Rattle.mctpctl_table.specs.Tables.{Cells}
+use Rattle.mctpctl_walk.specs.Subjects.{question}
+use Rattle.mctpctl_walk.specs.Walks.{Walking}
+use Rattle.mctpctl_walk.specs.declared.subject.Found.{Found}
+use Rattle.mctpctl.specs.WalkedTexts.{record_at}
+
+-- the rows of what was found, by its record and by what answered for it
+abbrev pub rows_by : Walking → Found → Option (List ℕ) → List Cells
+rows_by w found message = rows_of (record_at w found) w.records message
+
+-- its question was asked, and the answer to that very request gave its rows
+pub record ReadsOne (w : Walking) (place : ℕ) (s s1 : Shown) (rows rows1 : List Cells) : Type 0 where
+  pub found : Found
+  pub is_found : slice_get w.found place ≡ Some found
+  pub number : ℕ
+  pub ended : Ended
+  pub asks : Asks (question found.subject) number ended s s1
+  pub rows_are : rows1 ≡ rows ++ rows_by w found (answer_of s1.asking.held number)
+
+-- what was found at the first places, so many, was read one after the other
+abbrev pub ReadsFirst : Walking → ℕ → Shown → Shown → List Cells → Type 0
+ReadsFirst w zero s s1 rows = (s1 ≡ s) × (rows ≡ [])
+ReadsFirst w (suc place) s s1 rows =
+    (mid : Shown) × (before : List Cells) × ReadsFirst w place s mid before × ReadsOne w place mid s1 before rows
+
+abbrev pub ReadsAll : Walking → Shown → Shown → List Cells → Type 0
+ReadsAll w s s1 rows = ReadsFirst w (length w.found) s s1 rows
+
+-- the moment, the rows with those that have changed marked, and a blank line
+abbrev pub round_text : ℕ → List Cells → List Cells → List ℕ
+round_text moment rows before = decimal moment ++ codes " ms" ++ 10 ∷ marked_text rows before ++ 10 ∷ []

@@ -1,0 +1,217 @@
+//! A conversation with a device on a serial line: the line is opened, and the answers to earlier requests pass first.
+
+ghost use Rattle.std.specs.Prelude.{◌<◌, ◌^◌};
+
+use crate::asking::ask_each;
+use crate::choose::{Link, Question, Survey, Vigil};
+use crate::help::TRY_HELP;
+use crate::settings::{Periods, Settings, settings_of};
+use crate::state::{StateFault, begin_state, end_state};
+use crate::walking::walk_device;
+use crate::watching::watch_device;
+use mctpctl_ask::{AskFault, BeginFault, SystemTicks, begin_after};
+use mctpctl_input::Port;
+use schedule_text::Schedule;
+use std::fs::{File, OpenOptions};
+use std::io::{Read, Write};
+use std::{fs, io};
+
+/// The exit status where each command has an answer with the code SUCCESS.
+pub const DONE: u8 = 0;
+
+/// That where an answer has another code.
+pub const REFUSED: u8 = 1;
+
+/// That of a command line or a file of commands that is refused.
+pub const USAGE: u8 = 2;
+
+/// That where a command has no answer, or something failed.
+pub const FAILED: u8 = 3;
+
+/// What is asked of a device.
+#[derive(Clone, Copy)]
+pub enum Errand<'q> {
+    /// These commands.
+    Ask(&'q Question<'q>, &'q Schedule),
+    /// All that it has.
+    Walk(&'q Survey<'q>),
+    /// What its sensors and effecters say, in each of these periods.
+    Watch(&'q Vigil<'q>, &'q Periods),
+}
+
+/// Who asks, and what.
+#[derive(Clone, Copy)]
+struct Talk<'q> {
+    settings: Settings,
+    /// For how many milliseconds answers to earlier requests may still come.
+    span: u64,
+    errand: Errand<'q>,
+}
+
+/// The settings that the words spell; else the exit status, and the refused option is said on standard error.
+pub fn read_settings(rt: &HostRuntime, link: &Link<'_>) -> Result<Settings, u8> {
+    match settings_of(link) {
+        Ok(settings) => Ok(settings),
+        Err(option) => {
+            let _ = eprint!(rt; "error: invalid value for '{option}'{TRY_HELP}");
+            Err(USAGE)
+        }
+    }
+}
+
+/// Does an errand on a line, with the state that a file keeps, and returns the exit status. What fails is said on
+/// standard error.
+pub fn do_errand(rt: &HostRuntime, link: &Link<'_>, settings: &Settings, errand: Errand<'_>) -> u8 {
+    match do_with_state(rt, link, settings, errand) {
+        Ok(status) => status,
+        Err(fault) => state_failed(rt, link, &fault),
+    }
+}
+
+/// Does an errand on a line, with the state that a file keeps, and returns the exit status.
+fn do_with_state(
+    rt: &HostRuntime,
+    link: &Link<'_>,
+    settings: &Settings,
+    errand: Errand<'_>,
+) -> Result<u8, StateFault> {
+    let span = begin_state(rt, link.state, settings.timing.keep)?;
+    let talk = Talk {
+        settings: *settings,
+        span,
+        errand,
+    };
+    let status = talk_on_line(rt, link, &talk);
+    end_state(rt, link.state, status)
+}
+
+/// Does an errand over the line that is named, and returns the exit status.
+fn talk_on_line(rt: &HostRuntime, link: &Link<'_>, talk: &Talk<'_>) -> u8
+    requires { talk.now.span < 2 ^ 60 }
+{
+    let Some(path) = link.line else {
+        return talk_over(rt, talk, rt.stdin(), rt.stdout(), rt.stderr());
+    };
+    match open_line(rt, path) {
+        Ok((reader, writer)) => talk_over(rt, talk, reader, writer, rt.stdout()),
+        Err(error) => {
+            let _ = eprintln!(rt; "mctpctl: {path}: {error}");
+            FAILED
+        }
+    }
+}
+
+/// The line of this name, opened for reading and for writing. None is made.
+fn open_line(rt: &HostRuntime, path: &str) -> io::Result<(File, File)> {
+    let reader = fs::open(rt, path)?;
+    let writer = OpenOptions::new().write(true).open(rt, path)?;
+    Ok((reader, writer))
+}
+
+/// Does an errand over a line, prints what comes of it, and returns the exit status.
+fn talk_over<R: Read + Drop, W: Write + Drop, O: Write + Drop>(
+    rt: &HostRuntime,
+    talk: &Talk<'_>,
+    reader: R,
+    writer: W,
+    out: O,
+) -> u8
+    requires { talk.now.span < 2 ^ 60 }
+{
+    let Ok(ticks) = SystemTicks::new(rt) else {
+        return line_failed(rt, AskFault::Clock);
+    };
+    let Settings {
+        own,
+        device,
+        timing,
+    } = talk.settings;
+    let mut reader = Port::new(reader);
+    let mut writer = Port::new(writer);
+    let mut line = match begin_after(
+        rt.alloc(),
+        own,
+        device,
+        timing,
+        talk.span,
+        ticks,
+        &mut reader,
+        &mut writer,
+    ) {
+        Ok(line) => line,
+        Err(fault) => return begin_failed(rt, fault),
+    };
+    let mut out = Port::new(out);
+    let done = match talk.errand {
+        Errand::Ask(question, commands) => ask_each(
+            rt,
+            question,
+            commands,
+            &mut line,
+            &mut reader,
+            &mut writer,
+            &mut out,
+        ),
+        Errand::Walk(survey) => {
+            let settings = &talk.settings;
+            walk_device(
+                rt,
+                settings,
+                survey,
+                &mut line,
+                &mut reader,
+                &mut writer,
+                &mut out,
+            )
+        }
+        Errand::Watch(vigil, periods) => watch_device(
+            rt,
+            vigil,
+            periods,
+            &mut line,
+            &mut reader,
+            &mut writer,
+            &mut out,
+        ),
+    };
+    match done {
+        Ok(status) => status,
+        Err(fault) => line_failed(rt, fault),
+    }
+}
+
+/// Says why nothing can be asked, and returns the exit status.
+fn begin_failed(rt: &HostRuntime, fault: BeginFault) -> u8 {
+    match fault {
+        BeginFault::Timing(fault) => {
+            let _ = eprint!(rt; "error: {fault}{TRY_HELP}");
+            USAGE
+        }
+        BeginFault::Line(fault) => line_failed(rt, fault),
+    }
+}
+
+/// Says why nothing more was asked, and returns the exit status.
+fn line_failed(rt: &HostRuntime, fault: AskFault) -> u8 {
+    let _ = eprintln!(rt; "mctpctl: {fault}");
+    FAILED
+}
+
+/// Says why the file of the state is of no use, and returns the exit status.
+fn state_failed(rt: &HostRuntime, link: &Link<'_>, fault: &StateFault) -> u8 {
+    let file = link.state.unwrap_or("");
+    match fault {
+        StateFault::File(error) => {
+            let _ = eprintln!(rt; "mctpctl: {file}: {error}");
+            FAILED
+        }
+        StateFault::Content => {
+            let _ = eprintln!(rt; "mctpctl: {file}: no state of a device");
+            USAGE
+        }
+        StateFault::Clock => {
+            let _ = eprintln!(rt; "mctpctl: clock fault");
+            FAILED
+        }
+    }
+}

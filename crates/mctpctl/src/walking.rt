@@ -1,0 +1,298 @@
+//! `walk`: a device is asked for all that it has, its answers are printed, and a table of what it measures and sets.
+
+ghost use Rattle.std.specs.Prelude.{◌≡◌, ◌<◌, ◌++◌, IfOk, OnOk, false, length, map};
+ghost use Rattle.std.specs.Io.KnownBytes.{Appends};
+ghost use Rattle.mctp_control.specs.declared.assigned.TheConstants.{INSTANCE_IDS};
+ghost use Rattle.mctpctl.specs.WalkedTexts.{StepsOn, TellsQuery, WalksThrough, query_of, status_of_query, rows_at, standing, walk_text, walked_rows};
+ghost use Rattle.mctpctl_ask.specs.Asked.{shown};
+ghost use Rattle.mctpctl_input.specs.Ports.{has_failed, inner_of};
+
+use crate::asking::{ask_command, print_message, print_text, status_of_answer};
+use crate::choose::Survey;
+use crate::settings::Settings;
+use crate::talk::{DONE, Errand, FAILED, REFUSED, do_errand, read_settings};
+use mctp_control::{Command, Query, SUCCESS, read_response};
+use mctp_packet::{Memory, Tag};
+use mctpctl_ask::{AskFault, AskingLine, Ticks, ask_control};
+use mctpctl_input::Port;
+use mctpctl_table::Table;
+use mctpctl_texts::write_text;
+use mctpctl_walk::Walk;
+use std::alloc::Global;
+use std::fs;
+use std::io::{self, IsTerminal, Read, Write};
+
+/// Asks the device for all that it has, and returns the exit status. What fails is said on standard error.
+pub fn survey_device(rt: &HostRuntime, survey: &Survey<'_>) -> u8 {
+    match read_settings(rt, &survey.link) {
+        Ok(settings) => do_errand(rt, &survey.link, &settings, Errand::Walk(survey)),
+        Err(status) => status,
+    }
+}
+
+/// Asks the device for all that it has over a line, prints its answers and the table, and returns the exit status.
+pub fn walk_device<C: Ticks, R: Read, W: Write, O: Write>(
+    rt: &HostRuntime,
+    settings: &Settings,
+    survey: &Survey<'_>,
+    line: &mut AskingLine<C>,
+    reader: &mut Port<R>,
+    writer: &mut Port<W>,
+    out: &mut Port<O>,
+) -> Result<u8, AskFault>
+    requires reads { has_failed reader.old ≡ false }
+    requires writes { has_failed writer.old ≡ false }
+{
+    let found = ask_endpoint(rt, settings, line, reader, writer, out)?;
+    let mut walk = Walk::new(rt.alloc());
+    let walked = ask_all(rt, &mut walk, line, reader, writer, out)?;
+    print_table(rt.alloc(), &walk, out)?;
+    match write_records(rt, survey, &walk) {
+        Ok(()) => Ok(found.max(walked)),
+        Err(error) => {
+            let file = survey.records.unwrap_or("");
+            let _ = eprintln!(rt; "mctpctl: {file}: {error}");
+            Ok(FAILED)
+        }
+    }
+}
+
+/// Asks the device what a bus owner asks an endpoint that it has found (DSP0236, "MCTP control protocol"): its endpoint
+/// ID, its UUID and its message types; and returns the greatest of the exit statuses.
+fn ask_endpoint<C: Ticks, R: Read, W: Write, O: Write>(
+    rt: &HostRuntime,
+    settings: &Settings,
+    line: &mut AskingLine<C>,
+    reader: &mut Port<R>,
+    writer: &mut Port<W>,
+    out: &mut Port<O>,
+) -> Result<u8, AskFault>
+    requires reads { has_failed reader.old ≡ false }
+    requires writes { has_failed writer.old ≡ false }
+    ensures reads { OnOk result (has_failed reader.new ≡ false) }
+    ensures writes { OnOk result (has_failed writer.new ≡ false) }
+{
+    let eid = query(settings, 0, Command::GetEndpointId);
+    let eid = ask_query(rt, settings, &eid, line, reader, writer, out)?;
+    let uuid = query(settings, 1, Command::GetEndpointUuid);
+    let uuid = ask_query(rt, settings, &uuid, line, reader, writer, out)?;
+    let types = query(settings, 2, Command::GetMessageTypeSupport);
+    let types = ask_query(rt, settings, &types, line, reader, writer, out)?;
+    Ok(eid.max(uuid).max(types))
+}
+
+/// The query of a command with this instance ID.
+fn query(settings: &Settings, id: u8, command: Command) -> Query
+    requires { id < INSTANCE_IDS }
+    ensures { result ≡ query_of settings.now id command }
+{
+    Query::new(
+        settings.own,
+        settings.device,
+        Tag::new(0).unwrap(),
+        id,
+        command,
+    )
+}
+
+/// Asks a query and prints its own answer, and returns the exit status. Where none came, that is said on standard
+/// error.
+fn ask_query<C: Ticks, R: Read, W: Write, O: Write>(
+    rt: &HostRuntime,
+    settings: &Settings,
+    query: &Query,
+    line: &mut AskingLine<C>,
+    reader: &mut Port<R>,
+    writer: &mut Port<W>,
+    out: &mut Port<O>,
+) -> Result<u8, AskFault>
+    requires reads { has_failed reader.old ≡ false }
+    requires writes { has_failed writer.old ≡ false }
+    ensures told { IfOk result (λ status. TellsQuery settings.now.timing query.now status
+        (shown C.to_come R.remaining W.contents line.old reader.old writer.old)
+        (shown C.to_come R.remaining W.contents line.new reader.new writer.new)
+        (O.contents (inner_of out.old)) (O.contents (inner_of out.new))) }
+    ensures reads { OnOk result (has_failed reader.new ≡ false) }
+    ensures writes { OnOk result (has_failed writer.new ≡ false) }
+{
+    let (timeout, tries) = (settings.timing.timeout, settings.timing.tries);
+    let answer = match ask_control(line, query, timeout, tries, reader, writer) {
+        Ok(answer) => answer,
+        Err(fault) => return Err(fault),
+    };
+    let Some(message) = answer else {
+        say_no_answer(rt);
+        return Ok(FAILED);
+    };
+    print_message(rt.alloc(), false, &message, out)?;
+    Ok(status_of_query(&message))
+}
+
+/// The exit status of an answer to a query, by its completion code.
+fn status_of_query(message: &[u8]) -> u8
+    ensures { result ≡ status_of_query message.now }
+{
+    match read_response(message) {
+        Some(response) if response.code() == SUCCESS => DONE,
+        _ => REFUSED,
+    }
+}
+
+/// Says that a request got no answer.
+fn say_no_answer(rt: &HostRuntime) {
+    let _ = eprintln!(rt; "mctpctl: no answer");
+}
+
+/// Asks the commands of a walk one after another, up to its end, and returns the greatest of their exit statuses.
+pub fn ask_all<C: Ticks, R: Read, W: Write, O: Write>(
+    rt: &HostRuntime,
+    walk: &mut Walk,
+    line: &mut AskingLine<C>,
+    reader: &mut Port<R>,
+    writer: &mut Port<W>,
+    out: &mut Port<O>,
+) -> Result<u8, AskFault>
+    requires reads { has_failed reader.old ≡ false }
+    requires writes { has_failed writer.old ≡ false }
+    ensures walked { OnOk result (WalksThrough
+        (standing C.to_come R.remaining W.contents O.contents walk.old line.old reader.old writer.old out.old)
+        (standing C.to_come R.remaining W.contents O.contents walk.new line.new reader.new writer.new out.new)) }
+    ensures reads { OnOk result (has_failed reader.new ≡ false) }
+    ensures writes { OnOk result (has_failed writer.new ≡ false) }
+{
+    let shows_progress = rt.stderr().is_terminal() && !rt.stdout().is_terminal();
+    let mut status = DONE;
+    for _ in 0..u64::MAX {
+        let asked = match ask_next(rt.alloc(), walk, line, reader, writer, out) {
+            Ok(asked) => asked,
+            Err(fault) => return Err(fault),
+        };
+        match asked {
+            Some(one) => status = status.max(one),
+            None => return Ok(status),
+        }
+        if asked == Some(FAILED) {
+            say_no_answer(rt);
+        }
+        if shows_progress {
+            say_progress(rt, walk);
+        }
+    }
+    Err(AskFault::TooMany)
+}
+
+/// Asks the next command of a walk, prints its own answer, hands it to the walk, and returns the exit status; `None` at
+/// the walk's end, where nothing is done.
+fn ask_next<C: Ticks, R: Read, W: Write, O: Write>(
+    alloc: Global,
+    walk: &mut Walk,
+    line: &mut AskingLine<C>,
+    reader: &mut Port<R>,
+    writer: &mut Port<W>,
+    out: &mut Port<O>,
+) -> Result<Option<u8>, AskFault>
+    requires reads { has_failed reader.old ≡ false }
+    requires writes { has_failed writer.old ≡ false }
+    ensures stepped { IfOk result (λ status. StepsOn status
+        (standing C.to_come R.remaining W.contents O.contents walk.old line.old reader.old writer.old out.old)
+        (standing C.to_come R.remaining W.contents O.contents walk.new line.new reader.new writer.new out.new)) }
+    ensures reads { OnOk result (has_failed reader.new ≡ false) }
+    ensures writes { OnOk result (has_failed writer.new ≡ false) }
+{
+    let Some(command) = walk.next() else {
+        return Ok(None);
+    };
+    let number = match ask_command(alloc, false, &command, line, reader, writer, out) {
+        Ok(number) => number,
+        Err(fault) => return Err(fault),
+    };
+    let answer = line.answer(number);
+    if walk.take(answer).is_err() {
+        return Err(AskFault::Memory);
+    }
+    Ok(Some(status_of_answer(answer)))
+}
+
+/// Says on standard error how many records were read, and of how many.
+fn say_progress(rt: &HostRuntime, walk: &Walk) {
+    if let Some(expected) = walk.expected_records() {
+        let _ = eprint!(rt; "\rrecord {} of {expected}", walk.record_count());
+    }
+}
+
+/// Prints the table of what a walk has found.
+fn print_table<O: Write>(alloc: Global, walk: &Walk, out: &mut Port<O>) -> Result<(), AskFault>
+    ensures { OnOk result (Appends (O.contents (inner_of out.old)) (O.contents (inner_of out.new))
+        (walk_text walk.now)) }
+{
+    let mut text = Vec::new(alloc);
+    if push_table(alloc, walk, &mut text).is_err() {
+        return Err(AskFault::Memory);
+    }
+    print_text(&text, out)
+}
+
+/// Adds the table of what a walk has found, after a blank line.
+fn push_table(alloc: Global, walk: &Walk, out: &mut Vec<u8>) -> Result<(), Memory>
+    ensures { OnOk result (out.new.items ≡ out.old.items ++ walk_text walk.now) }
+{
+    let table = table_of(alloc, walk)?;
+    if !walk.found().is_empty() {
+        write_text(out, "\n")?;
+    }
+    table.push_text(out)
+}
+
+/// The table of what a walk has found.
+fn table_of(alloc: Global, walk: &Walk) -> Result<Table, Memory>
+    ensures { IfOk result (λ table. table ≡ walked_rows walk.now) }
+{
+    let records = records_of(alloc, walk)?;
+    let mut table = Table::new(alloc);
+    for place in 0..walk.found().len() {
+        add_found(&mut table, walk, &records, place)?;
+    }
+    Ok(table)
+}
+
+/// Adds the rows of what was found at this place.
+fn add_found(
+    table: &mut Table,
+    walk: &Walk,
+    records: &[Vec<u8>],
+    place: usize,
+) -> Result<(), Memory>
+    requires records { map (λ pdr. pdr.items) records.now ≡ walk.now.records }
+    requires place { place < length walk.now.found }
+    ensures { OnOk result (table.new ≡ table.old ++ rows_at walk.now place) }
+{
+    let found = walk.found()[place];
+    let record = walk.record(found.place).unwrap_or(&[]);
+    table.add(record, records, walk.reading(place))
+}
+
+/// The records of a walk, in the order in which they were read.
+pub fn records_of(alloc: Global, walk: &Walk) -> Result<Vec<Vec<u8>>, Memory>
+    ensures { IfOk result (λ records. map (λ pdr. pdr.items) records.items ≡ walk.now.records) }
+{
+    let mut records = Vec::new(alloc);
+    for place in 0..walk.record_count() {
+        let record = walk.record(place).unwrap_or(&[]);
+        records.push(record.to_vec(alloc)?)?;
+    }
+    Ok(records)
+}
+
+/// The records of a walk, one after another.
+fn write_records(rt: &HostRuntime, survey: &Survey<'_>, walk: &Walk) -> io::Result<()> {
+    let Some(name) = survey.records else {
+        return Ok(());
+    };
+    let mut file = fs::create(rt, name)?;
+    for place in 0..walk.record_count() {
+        if let Some(record) = walk.record(place) {
+            file.write_all(record)?;
+        }
+    }
+    file.flush()
+}

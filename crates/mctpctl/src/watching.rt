@@ -1,0 +1,230 @@
+//! `watch`: the sensors and effecters of a device are read again and again, and their table is printed each time.
+
+ghost use Rattle.std.specs.Prelude.{◌≡◌, ◌++◌, ◌<◌, IfOk, OnOk, false, length, map};
+ghost use Rattle.std.specs.Io.KnownBytes.{Appends};
+ghost use Rattle.mctpctl.specs.WatchedTexts.{ReadsAll, ReadsOne, round_text};
+ghost use Rattle.mctpctl_ask.specs.Asked.{shown};
+ghost use Rattle.mctpctl_input.specs.Ports.{has_failed, inner_of};
+
+use crate::asking::{print_text, status_of_answer};
+use crate::choose::Vigil;
+use crate::help::TRY_HELP;
+use crate::settings::{MAX_EVERY, Periods, periods_of};
+use crate::talk::{DONE, Errand, FAILED, USAGE, do_errand, read_settings};
+use crate::walking::{ask_all, records_of};
+use mctp_packet::{Memory, Moment};
+use mctpctl_ask::{AskFault, AskingLine, Ticks, ask, listen};
+use mctpctl_input::Port;
+use mctpctl_table::Table;
+use mctpctl_texts::{write_number, write_text};
+use mctpctl_walk::Walk;
+use std::alloc::Global;
+use std::fs::{self, File};
+use std::io::{self, Read, Write};
+
+/// Reads the sensors and effecters of the device, as often as the command line says, and returns the exit status. What
+/// fails is said on standard error.
+pub fn keep_watch(rt: &HostRuntime, vigil: &Vigil<'_>) -> u8 {
+    let settings = match read_settings(rt, &vigil.link) {
+        Ok(settings) => settings,
+        Err(status) => return status,
+    };
+    match periods_of(vigil) {
+        Ok(periods) => do_errand(rt, &vigil.link, &settings, Errand::Watch(vigil, &periods)),
+        Err(option) => {
+            let _ = eprint!(rt; "error: invalid value for '{option}'{TRY_HELP}");
+            USAGE
+        }
+    }
+}
+
+/// Finds the sensors and effecters of the device over a line, reads them in each period, prints their table, and
+/// returns the exit status.
+pub fn watch_device<C: Ticks, R: Read, W: Write, O: Write>(
+    rt: &HostRuntime,
+    vigil: &Vigil<'_>,
+    periods: &Periods,
+    line: &mut AskingLine<C>,
+    reader: &mut Port<R>,
+    writer: &mut Port<W>,
+    out: &mut Port<O>,
+) -> Result<u8, AskFault>
+    requires reads { has_failed reader.old ≡ false }
+    requires writes { has_failed writer.old ≡ false }
+{
+    let mut log = match log_of(rt, vigil) {
+        Ok(log) => log,
+        Err(error) => return Ok(log_failed(rt, vigil, &error)),
+    };
+    let mut walk = Walk::new(rt.alloc());
+    let mut unprinted = Port::new(Vec::new(rt.alloc()));
+    let mut status = ask_all(rt, &mut walk, line, reader, writer, &mut unprinted)?;
+    let Ok(records) = records_of(rt.alloc(), &walk) else {
+        return Err(AskFault::Memory);
+    };
+    let mut before = Table::new(rt.alloc());
+    for period in 0..periods.count {
+        let began = line.moment();
+        let (table, one) = read_all(rt.alloc(), &walk, &records, line, reader, writer)?;
+        status = status.max(one);
+        let last = if period > 0 { &before } else { &table };
+        print_round(rt.alloc(), began, &table, last, out)?;
+        if let Err(error) = log_round(rt.alloc(), began, &table, &mut log) {
+            return Ok(log_failed(rt, vigil, &error));
+        }
+        before = table;
+        if period + 1 < periods.count {
+            rest(line, began, periods.every, reader, writer)?;
+        }
+    }
+    Ok(status)
+}
+
+/// The file that the readings are written to, made anew, where one is named.
+fn log_of(rt: &HostRuntime, vigil: &Vigil<'_>) -> io::Result<Option<File>> {
+    match vigil.readings {
+        Some(name) => Ok(Some(fs::create(rt, name)?)),
+        None => Ok(None),
+    }
+}
+
+/// Says why the readings are not written, and returns the exit status.
+fn log_failed(rt: &HostRuntime, vigil: &Vigil<'_>, error: &io::Error) -> u8 {
+    let file = vigil.readings.unwrap_or("");
+    let _ = eprintln!(rt; "mctpctl: {file}: {error}");
+    FAILED
+}
+
+/// Reads each sensor and effecter of a walk once, and returns the table of what they say, with the greatest exit
+/// status.
+fn read_all<C: Ticks, R: Read, W: Write>(
+    alloc: Global,
+    walk: &Walk,
+    records: &[Vec<u8>],
+    line: &mut AskingLine<C>,
+    reader: &mut Port<R>,
+    writer: &mut Port<W>,
+) -> Result<(Table, u8), AskFault>
+    requires records { map (λ pdr. pdr.items) records.now ≡ walk.now.records }
+    requires reads { has_failed reader.old ≡ false }
+    requires writes { has_failed writer.old ≡ false }
+    ensures read { IfOk result (λ read. ReadsAll walk.now
+        (shown C.to_come R.remaining W.contents line.old reader.old writer.old)
+        (shown C.to_come R.remaining W.contents line.new reader.new writer.new) read.0) }
+    ensures reads { OnOk result (has_failed reader.new ≡ false) }
+    ensures writes { OnOk result (has_failed writer.new ≡ false) }
+{
+    let mut table = Table::new(alloc);
+    let mut status = DONE;
+    for place in 0..walk.found().len() {
+        match read_one(walk, records, place, line, reader, writer, &mut table) {
+            Ok(one) => status = status.max(one),
+            Err(fault) => return Err(fault),
+        }
+    }
+    Ok((table, status))
+}
+
+/// Reads the sensor or effecter at this place of a walk, adds its rows to a table, and returns the exit status.
+fn read_one<C: Ticks, R: Read, W: Write>(
+    walk: &Walk,
+    records: &[Vec<u8>],
+    place: usize,
+    line: &mut AskingLine<C>,
+    reader: &mut Port<R>,
+    writer: &mut Port<W>,
+    table: &mut Table,
+) -> Result<u8, AskFault>
+    requires records { map (λ pdr. pdr.items) records.now ≡ walk.now.records }
+    requires place { place < length walk.now.found }
+    requires reads { has_failed reader.old ≡ false }
+    requires writes { has_failed writer.old ≡ false }
+    ensures read { OnOk result (ReadsOne walk.now place
+        (shown C.to_come R.remaining W.contents line.old reader.old writer.old)
+        (shown C.to_come R.remaining W.contents line.new reader.new writer.new) table.old table.new) }
+    ensures reads { OnOk result (has_failed reader.new ≡ false) }
+    ensures writes { OnOk result (has_failed writer.new ≡ false) }
+{
+    let found = walk.found()[place];
+    let asked = match ask(line, &found.subject.question(), reader, writer) {
+        Ok(asked) => asked,
+        Err(fault) => return Err(fault),
+    };
+    let answer = line.answer(asked.number);
+    let record = walk.record(found.place).unwrap_or(&[]);
+    if table.add(record, records, answer).is_err() {
+        return Err(AskFault::Memory);
+    }
+    Ok(status_of_answer(answer))
+}
+
+/// Listens until a period has passed since a moment, for a day at most.
+fn rest<C: Ticks, R: Read, W: Write>(
+    line: &mut AskingLine<C>,
+    began: Moment,
+    every: u64,
+    reader: &mut Port<R>,
+    writer: &mut Port<W>,
+) -> Result<(), AskFault>
+    requires reads { has_failed reader.old ≡ false }
+    requires writes { has_failed writer.old ≡ false }
+    ensures reads { OnOk result (has_failed reader.new ≡ false) }
+    ensures writes { OnOk result (has_failed writer.new ≡ false) }
+{
+    let passed = line.moment().get().saturating_sub(began.get());
+    match every.saturating_sub(passed).min(MAX_EVERY) {
+        0 => Ok(()),
+        span => listen(line, span, reader, writer),
+    }
+}
+
+/// Prints the table of a period: the moment, the rows, and a blank line. Rows that have changed are marked.
+fn print_round<O: Write>(
+    alloc: Global,
+    moment: Moment,
+    table: &Table,
+    before: &Table,
+    out: &mut Port<O>,
+) -> Result<(), AskFault>
+    ensures { OnOk result (Appends (O.contents (inner_of out.old)) (O.contents (inner_of out.new))
+        (round_text moment table.now before.now)) }
+{
+    let mut text = Vec::new(alloc);
+    if push_round(&mut text, moment, table, before).is_err() {
+        return Err(AskFault::Memory);
+    }
+    print_text(&text, out)
+}
+
+/// Adds the table of a period.
+fn push_round(
+    out: &mut Vec<u8>,
+    moment: Moment,
+    table: &Table,
+    before: &Table,
+) -> Result<(), Memory>
+    ensures { OnOk result (out.new.items ≡ out.old.items ++ round_text moment table.now before.now) }
+{
+    write_number(out, moment.get())?;
+    write_text(out, " ms\n")?;
+    table.push_marked(before, out)?;
+    write_text(out, "\n")
+}
+
+/// Writes the readings of a period to the log, where one is kept.
+fn log_round(
+    alloc: Global,
+    moment: Moment,
+    table: &Table,
+    log: &mut Option<File>,
+) -> io::Result<()> {
+    let Some(file) = log else {
+        return Ok(());
+    };
+    let mut text = Vec::new(alloc);
+    if table.push_log(moment.get(), &mut text).is_err() {
+        return Err(io::ErrorKind::OutOfMemory.into());
+    }
+    file.write_all(&text)?;
+    file.flush()
+}

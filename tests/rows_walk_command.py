@@ -1,0 +1,146 @@
+"""Rows for `tests/check` over the program's own `walk`: the device that `serve` serves is at the other end of a line.
+
+The tables were written by hand from the texts of descriptions, with the words of `show --decode` for units and states;
+the records are those of the texts. What is printed of each answer is what `show --decode` shows of the capture that
+`serve` writes.
+"""
+import os
+import tempfile
+import tomllib
+
+from support.askers import ENDS, TIMES, Place
+from support.examples import text_of
+from support.lossy import converse
+from support.programs import run
+
+ENABLED, ON = "enabled-noUpdatePending", "state 1 (set 260: 1, 5)"
+BOARD = (
+    ("sensor 1", "Fan", "4200 rpm", "normal"),
+    ("sensor 2", "Inlet temperature", "41.5 degrees_c", "normal"),
+    ("sensor 3", "12 V", "12.040 volts", "normal"),
+    ("sensor 4", "3.3 V", "3.310 volts", "normal"),
+    ("sensor 5", "Power", ON, "enabled"),
+    ("effecter 1", "Fan speed", "40 percent", ENABLED),
+    ("effecter 2", "Power", ON, ENABLED),
+)
+OPENBMC = (("sensor 1", "-", "40 degrees_c", "normal"), ("effecter 1", "-", "10 percent", ENABLED))
+PLATFORM = (
+    ("sensor 1", "-", "200", "normal"),
+    ("sensor 2", "-", "-5", "upperWarning"),
+    ("sensor 3", "-", "4000", "normal"),
+    ("sensor 4", "-", "-300", "normal"),
+    ("sensor 5", "-", "100000", "warning"),
+    ("sensor 6", "-", "-70000", "normal"),
+    ("sensor 10", "-", "state 1 (set 0: 0, 1)", "enabled"),
+    ("sensor 10", "-", "state 2 (set 0: 1, 2)", "enabled"),
+    ("effecter 1", "-", "50", ENABLED),
+    ("effecter 2", "-", "-20", ENABLED),
+    ("effecter 4", "-", "state 1 (set 0: 1, 2)", ENABLED),
+    ("effecter 4", "-", "state 4 (set 0: 1, 2, 3, 4)", ENABLED),
+)
+
+# An example, what is added to its text, its endpoint ID, its records, and its table. A walk asks seven commands before
+# the first record: terminus ID, types, versions and commands of two types, repository.
+TABLES = (
+    ("board", "", "9", 16, BOARD),
+    ("openbmc", "", "9", 3, OPENBMC),
+    ("platform", "[records]\n", "20", 10, PLATFORM),
+)
+FOUND = 7
+
+
+def columns(rows):
+    """Each column but the last as wide as its longest cell, and two spaces between."""
+    widths = [max(map(len, column)) for column in list(zip(*rows))[:3]]
+    cells = (("  ".join((*(text.ljust(width) for text, width in zip(row, widths)), row[3]))) for row in rows)
+    return "".join(f"{line}\n" for line in cells)
+
+
+def parts_of(printed):
+    """The answers, and the table after the blank line."""
+    answers, _, table = printed.decode().partition("\n\n")
+    return [line for line in answers.splitlines() if line.startswith("  response")], table
+
+
+def tables(rows, place):
+    for name, added, eid, records, table in TABLES:
+        place.write("device.toml", text_of(f"{name}.toml") + added)
+        log = os.path.join(place.folder, "log")
+        status, out, err = place.served("walk", "--own", "8", "--device", eid, *TIMES, log=log)
+        answers, printed = parts_of(out)
+        ran = (status, err, printed)
+        rows.check(f"walked: the table of {name}.toml", ran == (0, b"", columns(table)), repr(ran))
+        subjects = len({row[0] for row in table})
+        well = len(answers) >= FOUND + records + subjects
+        rows.check(f"walked: {name}.toml, each record and each reading", well, repr(answers))
+        with open(log, "rb") as capture:
+            shown = run([place.program, "show", "--decode"], input=capture.read()).stdout.decode()
+        wanted = [line for line in shown.splitlines() if line.startswith("  response")]
+        rows.check(f"walked: {name}.toml, the answers by name", answers == wanted, repr((answers, wanted)))
+
+
+def records(rows, place):
+    """The file of the records has the bytes of the description's, one record after another."""
+    text = text_of("openbmc.toml")
+    place.write("device.toml", text)
+    path = os.path.join(place.folder, "pdr")
+    status, _, err = place.served("walk", *ENDS, *TIMES, "--records", path)
+    with open(path, "rb") as file:
+        found = file.read()
+    wanted = b"".join(bytes.fromhex(record["hex"]) for record in tomllib.loads(text)["pdr"])
+    ran = (status, err, found)
+    rows.check("walked: a file of the records", ran == (0, b"", wanted), repr(ran))
+    path = os.path.join(place.folder, "none", "pdr")
+    status, out, err = place.served("walk", *ENDS, *TIMES, "--records", path)
+    want = f"mctpctl: {path}: No such file or directory (os error 2)\n".encode()
+    well = (status, err) == (3, want) and columns(OPENBMC).encode() in out
+    rows.check("walked: records that cannot be written", well, repr(err))
+
+
+def refused(rows, place):
+    """A sensor of a record that the device has not, a device without records, and nobody."""
+    text = text_of("openbmc.toml").replace("3b00010001001d", "3b00010009001d")
+    place.write("device.toml", text)
+    status, out, err = place.served("walk", *ENDS, *TIMES)
+    _, table = parts_of(out)
+    want = columns((("sensor 9", "-", "-", "refused INVALID_SENSOR_ID"), OPENBMC[1]))
+    rows.check("walked: a sensor that is not there", (status, err, table) == (1, b"", want), repr((status, err, table)))
+    place.write("device.toml", text_of("openbmc.toml").split("# record 1")[0])
+    status, out, err = place.served("walk", *ENDS, *TIMES)
+    answers, table = parts_of(out)
+    well = (status, err, table) == (0, b"", "") and "records 0 " in answers[-1]
+    rows.check("walked: a device without records", well, repr((status, out, err)))
+    status, out, err = place.served("walk", "--own", "8", "--device", "10", *TIMES)
+    unanswered = b"mctpctl: no answer\n" * 5  # three control messages, the terminus ID and the types
+    rows.check("walked: nobody", (status, out, err) == (3, b"", unanswered), repr((status, out, err)))
+    ran = place.run("walk", "--line", "/dev/null", *ENDS, *TIMES)
+    rows.check("walked: a line that ended", ran == (3, b"", b"mctpctl: the line ended\n"), repr(ran))
+    for words in ((), ("--own", "8"), (*ENDS, "gettid"), (*ENDS, "--hex"), (*ENDS, "--file", "x")):
+        status, out, err = place.run("walk", *words)
+        well = (status, out) == (2, b"") and b"Usage: mctpctl walk" in err
+        rows.check(f"walked: refused words {words}", well, repr(err))
+    status, out, err = place.run("walk", "--own", "7", "--device", "9")
+    rows.check("walked: an endpoint ID that is none", (status, out) == (2, b"") and b"--own <EID>" in err, repr(err))
+
+
+def lossy(rows, place):
+    """A line that loses one byte in 60: what was answered is right, and most is."""
+    place.write("device.toml", text_of("openbmc.toml"))
+    device = [place.program, "serve", "--device", place.device]
+    times = ("--keep", "900", "--timeout", "100", "--tries", "8")
+    words = [place.program, "walk", "--line", "LINE", *ENDS, *times]
+    status, out, lost = converse(device, words, 60, 7, ticking=True)
+    _, table = parts_of(out)
+    well = status == 0 and table == columns(OPENBMC) and lost > 0
+    rows.check("walked: over a line that loses bytes", well, repr((status, out, lost)))
+
+
+PARTS = (tables, records, refused, lossy)
+
+
+def check(rows, program, device):
+    """Checks each row over the program."""
+    with tempfile.TemporaryDirectory() as folder:
+        place = Place(program, folder, device)
+        for part in PARTS:
+            part(rows, place)
