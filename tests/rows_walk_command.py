@@ -5,13 +5,19 @@ the records are those of the texts. What is printed of each answer is what `show
 `serve` writes.
 """
 import os
+import signal
+import subprocess
+import sys
 import tempfile
 import tomllib
 
 from support.askers import ENDS, TIMES, Place
-from support.examples import text_of
+from support.examples import ROOT, text_of
 from support.lossy import converse
 from support.programs import run
+from support.terminals import Terminal
+
+CHANGER = os.path.join(ROOT, "tests", "changed_answers.py")
 
 ENABLED, ON = "enabled-noUpdatePending", "state 1 (set 260: 1, 5)"
 BOARD = (
@@ -97,6 +103,32 @@ def records(rows, place):
     rows.check("walked: records that cannot be written", well, repr(err))
 
 
+# A state effecter of eight fields, each of which can be in state 1 or 2, and its record (DSP0248, "State effecter
+# PDR"), of 305 bytes: two parts.
+LONG = """
+[[state_effecter]]
+id = 2
+allowed = [[1, 2], [1, 2], [1, 2], [1, 2], [1, 2], [1, 2], [1, 2], [1, 2]]
+values = [1, 2, 1, 2, 1, 2, 1, 2]
+
+[[pdr]]
+hex = "04000000010b00002701010002001d00010000000000000008{}"
+""".format(("010020" + "06" + "00" * 31) * 8)
+FIELDS = tuple(("effecter 2", "-", f"state {1 + field % 2} (set 1: 1, 2)", ENABLED) for field in range(8))
+
+
+def joined(rows, place):
+    """A record that comes in two parts is printed once it is whole."""
+    place.write("device.toml", text_of("openbmc.toml") + LONG)
+    status, out, err = place.served("walk", *ENDS, *TIMES)
+    lines, (_, table) = out.decode().splitlines(), parts_of(out)
+    ran = (status, err, table)
+    rows.check("walked: a record in two parts", ran == (0, b"", columns((*OPENBMC, *FIELDS))), repr(ran))
+    at = [number for number, line in enumerate(lines) if line == "    record 4 version 1 type StateEffecter change 0"]
+    well = len(at) == 1 and " GetPDR next 0 transfer 0 End " in lines[at[0] - 1]
+    rows.check("walked: its fields are below its last part", well, repr([line[:80] for line in lines]))
+
+
 def refused(rows, place):
     """A sensor of a record that the device has not, a device without records, and nobody."""
     text = text_of("openbmc.toml").replace("3b00010001001d", "3b00010009001d")
@@ -123,6 +155,36 @@ def refused(rows, place):
     rows.check("walked: an endpoint ID that is none", (status, out) == (2, b"") and b"--own <EID>" in err, repr(err))
 
 
+# What is changed in the answers of board.toml's device: the bytes, what stands in their place; the exit status, and the
+# table that is left: a record that names itself as the next one, one that has another handle than was asked for, and
+# readings of 16 bits, which are refused. The first two end the records, before one of a sensor.
+WORDS, NOT_SAID = ("sensor 1", "sensor 3", "sensor 4"), ("-", "refused INVALID_SENSOR_ID")
+CHANGED = (
+    ("a record that comes again", "02510003000000", "02510002000000", 0, ()),
+    ("a record of another handle", "020000000110", "030000000110", 0, ()),
+    ("refusals", "02110002", "02118002", 1, tuple((*row[:2], *NOT_SAID) if row[0] in WORDS else row for row in BOARD)),
+)
+
+
+def changed(rows, place):
+    """A device whose answers are not those of its description: the walk ends, and shows what it was told."""
+    place.write("device.toml", text_of("board.toml"))
+    for name, old, new, wanted, table in CHANGED:
+        with Terminal() as terminal:
+            words = [sys.executable, CHANGER, old, new, place.program, "serve", "--device", place.device]
+            ends = {"stdin": terminal.ours, "stdout": terminal.ours}
+            served = subprocess.Popen(words, stderr=subprocess.DEVNULL, start_new_session=True, **ends)
+            try:
+                ran = place.run("walk", "--line", terminal.name, *ENDS, *TIMES)
+            finally:
+                os.killpg(served.pid, signal.SIGKILL)
+                served.wait()
+        status, out, err = ran
+        _, printed = parts_of(out)
+        well = (status, err, printed) == (wanted, b"", columns(table) if table else "")
+        rows.check(f"walked: {name}", well, repr((status, err, printed)))
+
+
 def lossy(rows, place):
     """A line that loses one byte in 60: what was answered is right, and most is."""
     place.write("device.toml", text_of("openbmc.toml"))
@@ -135,7 +197,7 @@ def lossy(rows, place):
     rows.check("walked: over a line that loses bytes", well, repr((status, out, lost)))
 
 
-PARTS = (tables, records, refused, lossy)
+PARTS = (tables, records, joined, refused, changed, lossy)
 
 
 def check(rows, program, device):

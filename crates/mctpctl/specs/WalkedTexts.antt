@@ -1,5 +1,6 @@
 -- What `walk` asks and prints.
-use Rattle.std.specs.Prelude.{◌≡◌, ◌==◌, ℕ, zero, suc, false, List, [], ◌∷◌, ◌++◌, length, slice_get, unwrap_or, Option, None, Some}
+use Rattle.std.specs.Io.KnownBytes.{Appends}
+use Rattle.std.specs.Prelude.{◌≡◌, ◌==◌, ℕ, zero, suc, Bool, false, List, [], ◌∷◌, ◌++◌, length, slice_get, unwrap_or, Option, None, Some}
 use Rattle.std.specs.Prelude.{if◌then◌else◌}
 use Rattle.mctp_control.specs.Messages.{Response, response_of}
 use Rattle.mctp_control.specs.Queries.{ControlQuery}
@@ -9,6 +10,7 @@ use Rattle.mctpctl_ask.specs.Asked.{Shown, shown}
 use Rattle.mctpctl_ask.specs.Ends.{answer_of}
 use Rattle.mctpctl_ask.specs.Queries.{AsksQuery}
 use Rattle.mctpctl_ask.specs.declared.line.AskingLine.{AskingLine}
+use Rattle.mctpctl_decode.specs.RecordTexts.{record_lines}
 use Rattle.mctpctl_input.specs.Ports.{inner_of}
 use Rattle.mctpctl_input.specs.declared.port.Port.{Port}
 use Rattle.mctpctl_table.specs.Rows.{rows_of}
@@ -16,7 +18,9 @@ use Rattle.mctpctl_table.specs.Tables.{Cells, table_text}
 use Rattle.mctpctl_walk.specs.Steps.{after}
 use Rattle.mctpctl_walk.specs.Walks.{Walking, next_command, reading_at}
 use Rattle.mctpctl_walk.specs.declared.subject.Found.{Found}
+use Rattle.pldm_wire.specs.declared.limits.TheConstants.{GET_NEXT_PART}
 use Rattle.pldm_wire.specs.declared.command.Command.{Command}
+use Rattle.pldm_wire.specs.declared.command.Command.TheVariants.{GetPdr}
 use Rattle.pldm_requester.specs.declared.timing.Timing.{Timing}
 use Rattle.mctpctl.specs.AskedTexts.{Prints, Tells}
 use Rattle.mctpctl.specs.declared.settings.Settings.{Settings}
@@ -63,13 +67,31 @@ standing to_come remaining contents printed walking line reader writer out = rec
   out = printed (inner_of out);
 }
 
--- the next command was asked, the answer to that very request was printed, and the walk took it
+-- whether a command asks for another part than the first of a record
+abbrev pub goes_on : Command → Bool
+goes_on (GetPdr record_handle data_transfer_handle transfer_operation_flag request_count record_change_number) =
+    transfer_operation_flag == GET_NEXT_PART
+goes_on command = false
+
+abbrev pub joined_text : Option (List ℕ) → List ℕ
+joined_text (Some pdr) = record_lines pdr
+joined_text None = []
+
+-- the fields of the record at a place, where it is there and the command asked for its last part: one that came in one
+-- part stands below its answer
+abbrev pub record_text : Command → ℕ → Walking → List ℕ
+record_text command place w = if goes_on command then joined_text (slice_get w.records place) else []
+
+-- the next command was asked, the answer to that very request was printed, and the walk took it; then the record that it
+-- completed was printed, where that came in several parts
 pub record Visits (a b : Standing) : Type 0 where
   pub command : Command
   pub next : next_command a.walking ≡ Some command
   pub number : ℕ
-  pub tells : Tells false command number a.shown b.shown a.out b.out
+  pub answered : Option (List ℕ)
+  pub tells : Tells false command number a.shown b.shown a.out answered
   pub takes : b.walking ≡ after a.walking (answer_of b.shown.asking.held number)
+  pub joined : Appends answered b.out (record_text command (length a.walking.records) b.walking)
 
 -- at the walk's end nothing was done
 abbrev pub StepsOn : Option ℕ → Standing → Standing → Type 0

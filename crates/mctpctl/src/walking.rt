@@ -3,7 +3,7 @@
 ghost use Rattle.std.specs.Prelude.{◌≡◌, ◌<◌, ◌++◌, IfOk, OnOk, false, length, map};
 ghost use Rattle.std.specs.Io.KnownBytes.{Appends};
 ghost use Rattle.mctp_control.specs.declared.assigned.TheConstants.{INSTANCE_IDS};
-ghost use Rattle.mctpctl.specs.WalkedTexts.{StepsOn, TellsQuery, WalksThrough, query_of, status_of_query, rows_at, standing, walk_text, walked_rows};
+ghost use Rattle.mctpctl.specs.WalkedTexts.{StepsOn, TellsQuery, WalksThrough, goes_on, query_of, record_text, status_of_query, rows_at, standing, walk_text, walked_rows};
 ghost use Rattle.mctpctl_ask.specs.Asked.{shown};
 ghost use Rattle.mctpctl_input.specs.Ports.{has_failed, inner_of};
 
@@ -11,13 +11,15 @@ use crate::asking::{ask_command, print_message, print_text, status_of_answer};
 use crate::choose::Survey;
 use crate::settings::Settings;
 use crate::talk::{DONE, Errand, FAILED, REFUSED, do_errand, read_settings};
-use mctp_control::{Command, Query, SUCCESS, read_response};
+use mctp_control::{Command as ControlCommand, Query, SUCCESS, read_response};
 use mctp_packet::{Memory, Tag};
 use mctpctl_ask::{AskFault, AskingLine, Ticks, ask_control};
+use mctpctl_decode::push_record;
 use mctpctl_input::Port;
 use mctpctl_table::Table;
 use mctpctl_texts::write_text;
 use mctpctl_walk::Walk;
+use pldm_wire::{Command, GET_NEXT_PART};
 use std::alloc::Global;
 use std::fs;
 use std::io::{self, IsTerminal, Read, Write};
@@ -72,17 +74,17 @@ fn ask_endpoint<C: Ticks, R: Read, W: Write, O: Write>(
     ensures reads { OnOk result (has_failed reader.new ≡ false) }
     ensures writes { OnOk result (has_failed writer.new ≡ false) }
 {
-    let eid = query(settings, 0, Command::GetEndpointId);
+    let eid = query(settings, 0, ControlCommand::GetEndpointId);
     let eid = ask_query(rt, settings, &eid, line, reader, writer, out)?;
-    let uuid = query(settings, 1, Command::GetEndpointUuid);
+    let uuid = query(settings, 1, ControlCommand::GetEndpointUuid);
     let uuid = ask_query(rt, settings, &uuid, line, reader, writer, out)?;
-    let types = query(settings, 2, Command::GetMessageTypeSupport);
+    let types = query(settings, 2, ControlCommand::GetMessageTypeSupport);
     let types = ask_query(rt, settings, &types, line, reader, writer, out)?;
     Ok(eid.max(uuid).max(types))
 }
 
 /// The query of a command with this instance ID.
-fn query(settings: &Settings, id: u8, command: Command) -> Query
+fn query(settings: &Settings, id: u8, command: ControlCommand) -> Query
     requires { id < INSTANCE_IDS }
     ensures { result ≡ query_of settings.now id command }
 {
@@ -207,10 +209,62 @@ fn ask_next<C: Ticks, R: Read, W: Write, O: Write>(
         Err(fault) => return Err(fault),
     };
     let answer = line.answer(number);
+    let count = walk.record_count();
     if walk.take(answer).is_err() {
         return Err(AskFault::Memory);
     }
+    print_record(alloc, &command, walk, count, out)?;
     Ok(Some(status_of_answer(answer)))
+}
+
+/// Prints the fields of the record at this place of a walk, where it is there and the command asked for its last part:
+/// one that came in one part stands below its answer.
+fn print_record<O: Write>(
+    alloc: Global,
+    command: &Command,
+    walk: &Walk,
+    place: usize,
+    out: &mut Port<O>,
+) -> Result<(), AskFault>
+    ensures { OnOk result (Appends (O.contents (inner_of out.old)) (O.contents (inner_of out.new))
+        (record_text command.now place walk.now)) }
+{
+    let mut text = Vec::new(alloc);
+    if push_joined_record(command, walk, place, &mut text).is_err() {
+        return Err(AskFault::Memory);
+    }
+    print_text(&text, out)
+}
+
+/// Adds the fields of that record.
+fn push_joined_record(
+    command: &Command,
+    walk: &Walk,
+    place: usize,
+    out: &mut Vec<u8>,
+) -> Result<(), Memory>
+    ensures { OnOk result (out.new.items ≡ out.old.items ++ record_text command.now place walk.now) }
+{
+    if !goes_on(command) {
+        return Ok(());
+    }
+    match walk.record(place) {
+        Some(record) => push_record(out, record),
+        None => Ok(()),
+    }
+}
+
+/// Whether a command asks for another part than the first of a record.
+fn goes_on(command: &Command) -> bool
+    ensures { result ≡ goes_on command.now }
+{
+    match command {
+        Command::GetPdr {
+            transfer_operation_flag,
+            ..
+        } => *transfer_operation_flag == GET_NEXT_PART,
+        _ => false,
+    }
 }
 
 /// Says on standard error how many records were read, and of how many.

@@ -32,5 +32,6 @@ pub use decode::{ByName, decode_all};
 pub use field_text::push_code;
 pub use message_line::push_decoded_line;
 pub use own_answer::read_own_answer;
+pub use record_text::push_record;
 pub use state_names::{effecter_state_name, sensor_operation_name, sensor_state_name};
 pub use unit_names::unit_name;
