@@ -56,8 +56,8 @@ def changed(rows, place):
         words = [place.program, "watch", "--line", line.name(1), *ENDS, *TIMES, "--every", "400", "--count", "6"]
         watching = subprocess.Popen(words, **PIPES)
         out = b""
-        while out.count(b"\n\n") < 2:
-            out += os.read(watching.stdout.fileno(), 4096)
+        while out.count(b"\n\n") < 2 and (more := os.read(watching.stdout.fileno(), 4096)):
+            out += more
         time.sleep(0.1)
         os.write(line.masters[0], frame(SET))
         rest, err = watching.communicate(timeout=SECONDS)
@@ -81,14 +81,15 @@ def flat(rows, place):
         watching = subprocess.Popen(words, stdout=subprocess.PIPE, stderr=subprocess.DEVNULL)
         held, periods = [], 0
         for wanted in (50, 400):
-            while periods < wanted:
-                periods += watching.stdout.readline().endswith(b" ms\n")
+            while periods < wanted and (line := watching.stdout.readline()):
+                periods += line.endswith(b" ms\n")
             with open(f"/proc/{watching.pid}/status") as status:
                 held += [int(line.split()[1]) for line in status if line.startswith("VmRSS:")]
         watching.communicate(timeout=SECONDS)
         served.kill()
         served.wait()
-    rows.check("watched: its memory stays flat", held[1] - held[0] <= 64, repr(held))
+    well = periods == 400 and len(held) == 2 and held[1] - held[0] <= 64
+    rows.check("watched: its memory stays flat", well, repr((periods, held)))
 
 
 def refused(rows, place):
