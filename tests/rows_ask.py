@@ -208,8 +208,8 @@ def lost(rows, place):
     rows.check("asked: a request that is sent again", well, repr((out, err, sent)))
 
 
-# To a GetTID of instance ID 0 on tag 0: answers of another instance ID, on another tag, from and to another endpoint, to
-# another command, and one that is no response by its tag owner bit.
+# To a GetTID of instance ID 0 on tag 0: answers of another instance ID, on another tag, from and to another endpoint,
+# to another command, and one that is no response by its tag owner bit.
 OTHERS = ("010809c001010002007e", "010809c101000002007e", "01080ac001000002007e", "010b09c001000002007e")
 OTHERS += ("010809c001000004000500000000000000", "010809c801000002007e")
 

@@ -108,6 +108,36 @@ DESCRIPTIONS = [
         "line 27, column 1: pdr[0].hex: the count of data, bytes 8 and 9, lowest first, is not that of the bytes after the header",
     ),
     (RECORD, RECORD + RECORD, "Duplicate", "line 28, column 1: pdr[1]: found 1, which pdr[0] has already"),
+    # each key that has to be there, and what else is refused of the lists
+    (SENSOR, SENSOR.replace('size = "uint8"\n', ""), "MissingKey", "line 8, column 1: numeric_sensor[0].size: the key is missing, needed is the name of a data size"),
+    ("states = [1, 1, 1]\n", "", "MissingKey", "line 8, column 1: numeric_sensor[0].states: the key is missing, needed is an array of 3 states"),
+    ("value = 40\n", "", "MissingKey", "line 8, column 1: numeric_sensor[0].value: the key is missing, needed is an integer of that size"),
+    ("fields = [[0, 1, 1, 1]]\n", "", "MissingKey", "line 13, column 1: state_sensor[0].fields: the key is missing, needed is an array of 1 to 8 arrays of 4 states"),
+    ("min = 0\n", "", "MissingKey", "line 16, column 1: numeric_effecter[0].min: the key is missing, needed is an integer of that size"),
+    ("max = 100\n", "", "MissingKey", "line 16, column 1: numeric_effecter[0].max: the key is missing, needed is an integer not below min"),
+    ("value = 10\n", "", "MissingKey", "line 16, column 1: numeric_effecter[0].value: the key is missing, needed is an integer from min to max"),
+    ("allowed = [[1, 2], [1, 2]]\n", "", "MissingKey", "line 22, column 1: state_effecter[0].allowed: the key is missing, needed is an array of 1 to 8 arrays of states"),
+    ("values = [1, 1]\n", "", "MissingKey", "line 22, column 1: state_effecter[0].values: the key is missing, needed is a state for each field"),
+    ('hex = "01000000010100000100ff"\n', "", "MissingKey", "line 26, column 1: pdr[0].hex: the key is missing, needed is a record as hex text"),
+    ("values = [1, 1]", "values = []", "OutOfRange", "line 25, column 1: state_effecter[0].values: found an array of 0, allowed is as many states as allowed has arrays"),
+    (
+        "values = [1, 1]",
+        "values = [1, 1, 1, 1, 1, 1, 1, 1, 1]",
+        "OutOfRange",
+        "line 25, column 1: state_effecter[0].values: found an array of 9, allowed is an array of 0 to 8 integers from 0 to 255",
+    ),
+    ("values = [1, 1]", "values = [1, 256]", "OutOfRange", "line 25, column 14: state_effecter[0].values[1]: found 256, allowed is an integer from 0 to 255"),
+    ("[[1, 2], [1, 2]]", "[]", "OutOfRange", "line 24, column 1: state_effecter[0].allowed: found an array of 0, allowed is an array of 1 to 8 arrays of states"),
+    ("[[1, 2], [1, 2]]", "[[1, 256]]", "OutOfRange", "line 24, column 16: state_effecter[0].allowed[0][1]: found 256, allowed is an integer from 0 to 255"),
+    ("[[1, 2], [1, 2]]", "[[1, 'x']]", "WrongKind", "line 24, column 16: state_effecter[0].allowed[0][1]: found 'x', allowed is an integer"),
+    (SENSOR, SENSOR + "entity = [1, 2, 70000]\n[records]\n", "OutOfRange", "line 13, column 17: numeric_sensor[0].entity[2]: found 70000, allowed is an integer from 0 to 65535"),
+    (STATES, STATES + STATES, "Duplicate", "line 16, column 1: state_sensor[1]: found 2, which state_sensor[0] has already"),
+    (
+        RECORD,
+        RECORD.replace("01000000", "ffffffff", 1) + "[records]\n",
+        "OutOfRange",
+        "line 28, column 1: records: found a table, allowed is a table with handles and room left for its records",
+    ),
 ]
 
 # lines of a capture after a comment, the number and the name of the fault, and the explanation

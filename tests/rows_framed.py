@@ -144,7 +144,7 @@ def changed(rows, run):
 
 
 def packets(rows, run):
-    """What a frame carries is read as a packet: a short one and a long one are dropped by name, parts are put together."""
+    """What a frame carries is read as a packet: a short and a long one are dropped by name, parts are put together."""
     bare = lambda packet: bytes([0x3A, 0x0F, 1 + len(packet), 0x21]) + packet
     long = bytes.fromhex("010908c801") + bytes(249)
     for name, frame, line in (

@@ -1,7 +1,8 @@
 /*
  * Prints how many bytes of heap the ends take, and ends with status 1 where an endpoint takes more than docs/C.md says,
- * where an open message that has ended leaves more than its place in a list, or where some are left at the end. Its
- * allocator has the size of each block in front of it. It copies a block that grows, so for a moment both count.
+ * where an open message that has ended leaves more than its room, for the next one, and its place in a list, or where
+ * some are left at the end. Its allocator has the size of each block in front of it. It copies a block that grows, so for
+ * a moment both count.
  */
 #include "needleoat.h"
 #include <stddef.h>
@@ -10,8 +11,8 @@
 #include <string.h>
 
 enum { FRONT = 16, MANY_SOURCES = 4, MANY_COMMANDS = 5 };
-/* the list of the order in which messages began: 4 keys of 3 bytes */
-enum { ORDER = 12 };
+/* the room of a message, and the list of the order in which messages began: 4 keys of 3 bytes */
+enum { ROOM = 328, ORDER = 12 };
 
 static size_t in_use, most;
 
@@ -79,11 +80,11 @@ static const struct load loads[] = {{4, 1, 1, 1},  {1, 1, 1, 1},    {1, 200, 1, 
                                     {4, 9, 65, 8}, {32, 1, 8, 32}};
 
 /* The most bytes of the first of these, a small device with one requester; and those of an open message. */
-enum { SMALL_MOST = 3600, OPEN_MESSAGE = 400 };
+enum { SMALL_MOST = 3800, OPEN_MESSAGE = 400 };
 
 /* What docs/C.md says. */
 static size_t bound_of(const struct load *load) {
-    return 256 + load->sources * (700 * load->window + 80) + OPEN_MESSAGE * load->open_messages + 420 * load->commands;
+    return 256 + load->sources * (700 * load->window + 140) + OPEN_MESSAGE * load->open_messages + 420 * load->commands;
 }
 
 /* Each source sends a request with each instance ID, which is refused by its code and kept. */
@@ -166,7 +167,7 @@ static bool print_steps(void) {
     printf("heap of an endpoint with an open message too %zu\n", in_use);
     if (receive_packet(14, 0, two_packets, sizeof two_packets, 1).kind != NEEDLEOAT_STEP_DROPPED) return false;
     printf("heap of an endpoint after that message %zu\n", in_use);
-    if (in_use != before + ORDER) return false;
+    if (in_use != before + ROOM + ORDER) return false;
     needleoat_endpoint_free(&endpoint);
     return true;
 }

@@ -9,8 +9,8 @@ use pldm_requester::Timing;
 use std::alloc::Global;
 use std::process::Abort;
 
-/// The frame by which endpoint 8 asks device 9 for its endpoint ID, on tag 2 with instance ID 5. The check sequences were
-/// computed by another program, which also gives those in the help of `serve`.
+/// The frame by which endpoint 8 asks device 9 for its endpoint ID, on tag 2 with instance ID 5. The check sequences
+/// were computed by another program, which also gives those in the help of `serve`.
 const QUERY: &[u8] = &[
     0x7E, 0x01, 0x07, 0x01, 0x09, 0x08, 0xCA, 0x00, 0x85, 0x02, 0x49, 0x7C, 0x7E,
 ];

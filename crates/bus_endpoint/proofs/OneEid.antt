@@ -15,7 +15,7 @@ use Rattle.pldm_responder.specs.Arrivals.{Arrival, Drop, Part, Whole}
 use Rattle.pldm_responder.specs.Asked.{gives}
 use Rattle.pldm_responder.specs.Ends.{eid_or_null}
 use Rattle.pldm_responder.specs.Events.{Message}
-use Rattle.pldm_responder.specs.Held.{Held}
+use Rattle.pldm_responder.specs.ResponderStates.{ResponderState}
 use Rattle.pldm_responder.specs.Performing.{Task}
 use Rattle.pldm_responder.specs.Steps.{arrival_held, received_arrival}
 use Rattle.pldm_wire.specs.HandingOn.{hands_on}
@@ -24,11 +24,11 @@ use Rattle.bus_endpoint.specs.BusViews.{HaveOneEid}
 use Rattle.bus_endpoint.specs.Coming.{IsAssigned, IsInStep, control_after, eid_in}
 
 -- ---- the endpoint alone keeps its endpoint ID
-kept_by_own : {S : Type 0} (tasks : List Task) (m : Message) (answered held : Held S) → answered.own ≡ held.own → (kept_by tasks m answered held).own ≡ held.own
+kept_by_own : {S : Type 0} (tasks : List Task) (m : Message) (answered held : ResponderState S) → answered.own ≡ held.own → (kept_by tasks m answered held).own ≡ held.own
 kept_by_own [] m answered held same = same
 kept_by_own (task ∷ tasks) m answered held same = refl
 
-stepped_own : (handed : HandedOn) (held : Held (Unit {0})) (a : Arrival) → (stepped handed held a).own ≡ held.own
+stepped_own : (handed : HandedOn) (held : ResponderState (Unit {0})) (a : Arrival) → (stepped handed held a).own ≡ held.own
 stepped_own handed held (Drop reason) = refl
 stepped_own handed held Part = refl
 stepped_own handed held (Whole m) =

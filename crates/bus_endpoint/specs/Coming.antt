@@ -11,7 +11,7 @@ use Rattle.pldm_endpoint.specs.Stepping.{StepHasReply, stepping}
 use Rattle.pldm_endpoint.specs.TwoSteps.{EndpointView, held_in}
 use Rattle.pldm_endpoint.specs.declared.step.Step.{Step}
 use Rattle.pldm_endpoint.specs.declared.step.Step.TheVariants as step
-use Rattle.pldm_responder.specs.Held.{IsHeld}
+use Rattle.pldm_responder.specs.ResponderStates.{IsHeld}
 use Rattle.pldm_responder.specs.Slots.{source_count}
 use Rattle.pldm_responder.specs.Steps.{assigned_held}
 use Rattle.pldm_responder.specs.declared.outcome.Outcome.TheVariants as outcome

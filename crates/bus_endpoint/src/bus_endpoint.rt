@@ -11,7 +11,7 @@ ghost use Rattle.pldm_endpoint.specs.TwoSteps.{IsHandedOn, IsItsAnswer, held_in}
 ghost use Rattle.pldm_responder.specs.Answering.{HasReply, answering};
 ghost use Rattle.pldm_responder.specs.Asked.{Answered};
 ghost use Rattle.pldm_responder.specs.Ends.{eid_or_null};
-ghost use Rattle.pldm_responder.specs.Held.{IsHeld};
+ghost use Rattle.pldm_responder.specs.ResponderStates.{IsHeld};
 ghost use Rattle.pldm_responder.specs.Slots.{source_count};
 ghost use Rattle.pldm_responder.specs.Steps.{restarted_held};
 ghost use Rattle.bus_endpoint.specs.BusViews.{HaveOneEid};
@@ -65,7 +65,7 @@ impl Place {
         &self.responder
     }
 
-    /// The packet that answers one that the endpoint dropped for this reason.
+    /// The packet that answers a packet which the endpoint dropped for this reason, if one does.
     fn receive_dropped(
         &mut self,
         now: Moment,
@@ -143,11 +143,11 @@ impl BusEndpoint {
         }
     }
 
-    /// Takes the bytes of a packet that came at the moment `now`, which must not be before
-    /// [`Endpoint::last_moment`]: first as [`Endpoint::receive_message`] does. A packet that this drops goes to the
-    /// control responder ([`ControlResponder::receive_dropped`]). Where that then has another endpoint ID than the
-    /// endpoint, the endpoint gets it, as [`Endpoint::assign`] gives it; the packet that answers comes from the endpoint
-    /// ID of before.
+    /// Takes the bytes of a packet that came at the moment `now`, which must not be before [`Endpoint::last_moment`]:
+    /// first as [`Endpoint::receive_message`] does. A packet that this drops goes to the control responder
+    /// ([`ControlResponder::receive_dropped`]). Where the control responder then has another endpoint ID than the
+    /// endpoint, the endpoint is given that one, as by [`Endpoint::assign`]; the packet that answers still comes from
+    /// the earlier endpoint ID.
     ///
     /// # Errors
     ///
@@ -171,10 +171,10 @@ impl BusEndpoint {
         Ok(self.take_drop(now, reason, bytes, step))
     }
 
-    /// Takes a packet that the endpoint dropped for this reason, with what became of it there: the control responder may
-    /// answer it, and the endpoint has the endpoint ID of that then.
-    // Not inlined: what the answer to a control message takes of the stack is not there while the endpoint takes
-    // a packet.
+    /// Takes a packet that the endpoint dropped for this reason, with what became of it there. The control responder
+    /// may answer it; the endpoint then has the same endpoint ID as the control responder.
+    // Not inlined: the stack that the answer to a control message needs is then not in use while the endpoint takes a
+    // packet.
     #[inline(never)]
     fn take_drop(
         &mut self,
@@ -307,7 +307,7 @@ fn eid_in(control: &Option<Place>) -> Option<Eid>
     }
 }
 
-/// The packet that answers one that the endpoint dropped for this reason, where control messages are answered.
+/// The packet that answers a packet which the endpoint dropped for this reason, where control messages are answered.
 fn answer_drop(
     control: &mut Option<Place>,
     now: Moment,

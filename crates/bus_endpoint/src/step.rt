@@ -1,4 +1,4 @@
-//! What becomes of a packet.
+//! What becomes of a packet at a bus endpoint: what its PLDM endpoint makes of it, or the answer to a control message.
 
 ghost use Rattle.std.specs.Prelude.{◌≡◌, ℕ, ◌<◌, IfSome, List, length, option_map};
 ghost use Rattle.pldm_endpoint.specs.Stepping.{StepHasReply, stepping};
@@ -12,7 +12,7 @@ use pldm_responder::MessageOutcome;
 /// What becomes of the bytes of a packet, as [`crate::BusEndpoint::receive_message`] returns it.
 #[derive(Debug, Drop)]
 pub enum BusStep {
-    /// What becomes of them at the endpoint: they are no control message that is answered.
+    /// They are no control message that is answered: this is what becomes of them at the endpoint.
     Pldm(MessageStep),
     /// They are a control message, and this packet answers it.
     Control(ControlPacket),

@@ -1,3 +1,5 @@
+//! A description is read with no memory at first, and with a little more after each refusal.
+
 use example_device::description;
 use memory_hoard::Hoard;
 use pldm_device::{Description, FileFault};

@@ -1,3 +1,5 @@
+//! The simulated device of the example, and another platform, each asked through the same trait.
+
 use crate::recorder::{Recorder, reported_tid};
 use example_device::description;
 use mctp_packet::{Eid, Keep};

@@ -1,4 +1,4 @@
-//! The longest record.
+//! The longest record that a description may have.
 
 use example_device::description;
 use pldm_device::{Description, FileFault};

@@ -1,3 +1,5 @@
+//! A requester by itself: requests that it opens, sends again and gives up, and answers that it takes.
+
 ghost use Rattle.std.specs.Prelude.{◌≤◌, IfOk};
 ghost use Rattle.pldm_requester.specs.Slots.{held_of};
 

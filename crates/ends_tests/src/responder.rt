@@ -1,3 +1,5 @@
+//! A responder by itself: what it performs, which answers it keeps, and what it refuses after a restart.
+
 use example_device::description;
 use lamp_board::Dimmer;
 use mctp_packet::{Eid, Keep, MAX_EID, MIN_EID, Memory, Moment, Reason};

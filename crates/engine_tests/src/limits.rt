@@ -6,9 +6,16 @@ use example_device::description;
 use mctpctl_engines::{EngineFault, LineKind, Port};
 use std::alloc::{AllocError, Global};
 use std::io;
-use std::io::Read;
+use std::io::{Cursor, Read};
 use std::process::Abort;
 use std::test::Fail;
+
+/// A reader of these bytes, which it owns.
+fn reader_of(alloc: Global, text: &str) -> Result<Cursor<Vec<u8>>, AllocError> {
+    let mut bytes = Vec::new(alloc);
+    bytes.extend_from_slice(text.as_bytes())?;
+    Ok(Cursor::new(bytes))
+}
 
 /// Checks what an engine makes of some bytes, then one byte so many times, then some more.
 fn expect(
@@ -20,7 +27,8 @@ fn expect(
     text: &str,
 ) -> Result<(), AllocError> {
     let filling = io::repeat(byte).take(count as u64);
-    let mut reader = Port::new(first.as_bytes().chain(filling).chain(last.as_bytes()));
+    let (first, last) = (reader_of(alloc, first)?, reader_of(alloc, last)?);
+    let mut reader = Port::new(first.chain(filling).chain(last));
     let mut writer = Port::new(Vec::with_capacity(alloc, TEXT_ROOM)?);
     let result = engine.run(alloc, &mut reader, &mut writer);
     assert_eq!(rt; result, want, "{engine:?} {byte} {count}");

@@ -1,3 +1,5 @@
+//! `mctpctl run` over schedules: the report that it writes, and the inputs that it refuses.
+
 use crate::engines::{Engine, RETRY, RETRY_TOLD};
 use crate::fakes::TEXT_ROOM;
 use crate::refused_growths::refuse_each_growth;

@@ -1,3 +1,5 @@
+//! `mctpctl show` over captures: the lines that it writes, and the lines that it refuses.
+
 use crate::engines::{QUESTION, QUESTION_SHOWN};
 use crate::fakes::TEXT_ROOM;
 use mctpctl_engines::{EngineFault, LineKind, Port, show_all};

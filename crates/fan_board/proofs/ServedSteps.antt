@@ -9,7 +9,7 @@ use Rattle.pldm_wire.specs.declared.handed_on.HandedOn.{HandedOn}
 use Rattle.pldm_responder.specs.Arrivals.{Arrival, Drop, Part, Whole}
 use Rattle.pldm_responder.specs.Asked.{Given, gives, listed}
 use Rattle.pldm_responder.specs.Events.{Message}
-use Rattle.pldm_responder.specs.Held.{Held, IsHeld}
+use Rattle.pldm_responder.specs.ResponderStates.{ResponderState, IsHeld}
 use Rattle.pldm_responder.specs.Looking.{ended_by}
 use Rattle.pldm_responder.specs.OpenOrder.{ended_held, without}
 use Rattle.pldm_responder.specs.Performing.{Task}
@@ -70,7 +70,7 @@ pending_under : (handle : CommandHandle) (step : Step) (pending : PendingCommand
 pending_under handle step pending tasks (inl is) asked = (subst (λ s. IsAskedBy s pending tasks) is asked).0
 pending_under handle step pending tasks (inr is) asked = (subst (λ s. IsAskedBy s pending tasks) is asked).0
 
-module _ (handed : HandedOn) (held : Held (Unit {0})) where
+module _ (handed : HandedOn) (held : ResponderState (Unit {0})) where
   -- an arrival that has nothing performed leaves what a responder leaves
   stepped_done : (a : Arrival) → arrival_tasks handed held a ≡ [] → stepped handed held a ≡ arrival_held (gives (hands_on handed) unasked) held a
   stepped_done (Drop reason) none = refl
@@ -87,7 +87,7 @@ module _ (handed : HandedOn) (held : Held (Unit {0})) where
       of_tasks (task ∷ tasks) = refl
 
 module _ (old : EndpointView) (moment : ℕ) (bytes : List ℕ) (idle : old.pending ≡ map.empty) where
-  abbrev held : Held (Unit {0})
+  abbrev held : ResponderState (Unit {0})
   held = held_in old
 
   done_by : (request : Option Message) (tasks : List Task) (outcome : Outcome) → Done outcome ≡ step_by (received_outcome (gives (hands_on old.handed_on) unasked) held moment bytes) old.count request tasks
@@ -108,7 +108,7 @@ module _ (old : EndpointView) (moment : ℕ) (bytes : List ℕ) (idle : old.pend
     served_done board =
         let same = ap (answer_given board moment) received.command in
         let left : IsHeld (held_in new) (ended_held (ended_by old.end bytes) (received_held (gives (hands_on old.handed_on) unasked) held moment bytes)) =
-        subst (λ (h : Held (Unit {0})). IsHeld (held_in new) (record h {
+        subst (λ (h : ResponderState (Unit {0})). IsHeld (held_in new) (record h {
           open_messages = without (ended_by old.end bytes) (held_after old.handed_on held moment bytes).open_messages;
           last = moment;
         })) (stepped_done old.handed_on held (received_arrival held moment bytes) received.command) received.held in
@@ -190,7 +190,7 @@ module _ (old : EndpointView) (moment : ℕ) (bytes : List ℕ) (idle : old.pend
         let answer_is : given ≡ answer_given board moment (asked_now handed held moment bytes) =
         answer ∙ ap (board_given board moment) told ∙ sym (ap (answer_given board moment) is.tasks) in
         let same : held_in middle ≡ ended_held (ended_by old.end bytes) (held_after handed held moment bytes) = same_held received.held in
-        let own : middle.end.own ≡ held.own = ap (λ (h : Held (Unit {0})). h.own) same ∙ own_stepped handed held (received_arrival held moment bytes) in
+        let own : middle.end.own ≡ held.own = ap (λ (h : ResponderState (Unit {0})). h.own) same ∙ own_stepped handed held (received_arrival held moment bytes) in
         let one = law handed held moment bytes old.count is.m is.task given is.arrives is.tasks in
         record {
           returned =
@@ -203,7 +203,7 @@ module _ (old : EndpointView) (moment : ℕ) (bytes : List ℕ) (idle : old.pend
           left = subst (λ g. IsHeld (held_in new) (ended_held (ended_by old.end bytes) (received_held (gives (hands_on handed) g) held moment bytes))) answer_is
               (subst (λ h. IsHeld (held_in new) (ended_held (ended_by old.end bytes) h)) (same_held one.1)
               (subst (λ h. IsHeld (held_in new) (answered_held handed (ended_held (ended_by old.end bytes) (held_after handed held moment bytes)) h given (Some a))) is.handle_is
-              (subst (λ (h : Held (Unit {0})). IsHeld (held_in new) (answered_held handed h handle given (Some a))) same
+              (subst (λ (h : ResponderState (Unit {0})). IsHeld (held_in new) (answered_held handed h handle given (Some a))) same
               (subst (λ o. IsHeld (held_in new) (answered_held handed (held_in middle) handle given o)) found
               (subst (λ h. IsHeld (held_in new) (answered_held h (held_in middle) handle given (pending_at middle.pending handle))) received.settings.handed_on answered.held)))));
           board_is = after ∙ ap (board_asked board moment) told ∙ sym (ap (board_served board moment) is.tasks);

@@ -3,7 +3,7 @@
 use Rattle.std.specs.Prelude.{◌≡◌, ℕ, List, [], ◌∷◌, Option, Some, None}
 use Rattle.pldm_wire.specs.HandingOn.{hands_on}
 use Rattle.pldm_responder.specs.Asked.{Answered, Given, Responded, gives}
-use Rattle.pldm_responder.specs.Held.{IsHeld}
+use Rattle.pldm_responder.specs.ResponderStates.{IsHeld}
 use Rattle.pldm_responder.specs.Looking.{ended_by}
 use Rattle.pldm_responder.specs.OpenOrder.{ended_held}
 use Rattle.pldm_responder.specs.Performing.{Perform, Respond, Task}

@@ -11,7 +11,7 @@ ghost use Rattle.std.specs.Prelude.{◌≡◌};
 ghost use Rattle.pldm_wire.specs.declared.assigned.TheConstants.{INSTANCE_IDS};
 ghost use Rattle.pldm_wire.specs.declared.busy_time.BusyTime.TheVariants.{All};
 ghost use Rattle.pldm_endpoint.specs.TwoSteps.{held_in};
-ghost use Rattle.pldm_responder.specs.Held.{IsHeld, held_at_first};
+ghost use Rattle.pldm_responder.specs.ResponderStates.{IsHeld, held_at_first};
 
 use crate::board::Board;
 use crate::packet_line::{LineFault, TimedPacket, read_line};
@@ -34,7 +34,7 @@ const BOUNDS: Bounds = Bounds {
     open_messages: 2,
 };
 
-/// The board does one thing at a time.
+/// At most one command is pending: the board does one thing at a time.
 const COMMANDS: usize = 1;
 
 /// The requests of PLDM type 63 (OEM) are handed on to the board as bytes.

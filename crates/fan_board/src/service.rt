@@ -1,4 +1,4 @@
-//! The board behind its endpoint.
+//! A packet handed to the endpoint of the fan board, and the command in it performed by the board.
 
 ghost use Rattle.std.specs.FinMap as map;
 ghost use Rattle.std.specs.Prelude.{◌≡◌, ◌≤◌, length, IfOk, IfErr, OnErr};

@@ -1,4 +1,4 @@
-//! A lamp.
+//! A lamp whose level is set and read: the least that a platform has to be.
 
 ghost use Rattle.std.specs.Prelude.{◌≡◌, true, false, IfSome, is_some};
 ghost use Rattle.pldm_wire.specs.Numbers.{sized};
@@ -37,7 +37,8 @@ impl Lamp {
         self.level.value()
     }
 
-    /// Turns it by hand to a level in percent. What is no level leaves it as it is, and is `false`.
+    /// Turns it by hand to a level in percent, 0 to 100, and returns `true`. For any other number it returns `false`
+    /// and leaves the lamp as it is.
     pub fn turn(&mut self, percent: i64) -> bool
         ensures test { result ≡ is_level percent }
         ensures turned { result ≡ true → self.new.level ≡ sized Size.Uint8 percent }

@@ -1,3 +1,5 @@
+//! Schedules are read and run with little memory at first, and with more after each refusal.
+
 use crate::runs::{SEVERAL_PACKETS, SINGLE_PACKETS, example, run_example};
 use mctp_schedule::{LineFaultKind, RunFault, Schedule, run};
 use memory_hoard::Hoard;

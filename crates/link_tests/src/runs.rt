@@ -1,3 +1,5 @@
+//! Schedules of requesters and the example device, and what a run of each tells.
+
 use crate::told::told;
 use example_device::description;
 use lamp_board::Lamp;

@@ -1,3 +1,5 @@
+//! Schedules read from text, and the first line that is refused.
+
 use mctp_schedule::{LineFaultKind, Schedule};
 use std::test::Fail;
 

@@ -9,7 +9,7 @@ use Rattle.mctp_packet.specs.Packets.{Packet}
 use Rattle.mctp_assembly.specs.Keys.{key_cmp, key_of}
 use Rattle.mctp_assembly.specs.Opened.{Opened}
 use Rattle.mctp_assembly.specs.Rows.{next_within}
-use Rattle.mctp_assembly.specs.Steps.{Held, answer_to, carried_on, stays_open, answer_within, after_within}
+use Rattle.mctp_assembly.specs.Steps.{OpenMessages, answer_to, carried_on, stays_open, answer_within, after_within}
 use Rattle.mctp_assembly.specs.Histories.{Call, feed, since, opened, left_open_within, IsLeftWithin}
 use Rattle.mctp_assembly.specs.Laws.{FeedLooksBack, ForgetLooksBack, NewLooksBack, HeldWhereBegun}
 use Rattle.mctp_assembly.specs.declared.key.Key.{Key}
@@ -25,12 +25,12 @@ tied Greater h = cc
 same_key : (k q : Key) → eq_by_cmp key_cmp k q ≡ true → k ≡ q
 same_key k q h = keys_exact k q (tied (key_cmp k q) h)
 
-held_after : (stays : Bool) (held : Held) (k q : Key) (v : Opened)
+held_after : (stays : Bool) (held : OpenMessages) (k q : Key) (v : Opened)
     → map.get (cond stays (map.insert held k v) (map.remove held k)) q ≡ cond (eq_by_cmp key_cmp q k) (cond stays (Some v) None) (map.get held q)
 held_after true held k q v = map.get-insert keys_total held k v q
 held_after false held k q v = map.get-remove keys_total held k q
 
-module _ (n : ℕ) (held : Held) (calls : List Call) (p : Packet) (left : IsLeftWithin (suc n) held calls) where
+module _ (n : ℕ) (held : OpenMessages) (calls : List Call) (p : Packet) (left : IsLeftWithin (suc n) held calls) where
   here : (k : Key) (b : Bool) → eq_by_cmp key_cmp k (key_of p) ≡ b
       → cond b (cond (stays_open (answer_within (suc n) held p)) (Some (carried_on (map.get held (key_of p)) p)) None) (map.get held k) ≡ left_open_within (suc n) (cond b (p ∷ since k calls) (since k calls))
   here k false h = left k

@@ -9,7 +9,7 @@ use Rattle.mctp_packet.specs.Pieces.{piece_count, piece, packet_at}
 use Rattle.mctp_packet.specs.declared.reason.Reason.{Reason}
 use Rattle.mctp_packet.specs.declared.reason.Reason.TheVariants.{OutOfSequence, TooLong, WrongUnit}
 use Rattle.mctp_packet.specs.declared.packet.Route.{Route}
-use Rattle.mctp_packet.specs.declared.TheConstants.{UNIT, SEQUENCE_NUMBERS}
+use Rattle.mctp_packet.specs.declared.TheConstants.{BASELINE_UNIT, SEQUENCE_NUMBERS}
 use Rattle.mctp_assembly.specs.Rows.{unit_of, follows, is_middle, is_end, is_row, is_message, newest, joined, given}
 use Rattle.mctp_assembly.specs.Laws.{CopiesGiveNoOther}
 use Rattle.mctp_assembly.specs.declared.fed.Fed.{Fed}
@@ -49,14 +49,14 @@ module _ (route : Route) (message : List ℕ) where
   first zero = []
   first (suc k) = packet_at route message k ∷ first k
 
-  joined_first : (k : ℕ) → joined (first k) ≡ take (UNIT * k) message
+  joined_first : (k : ℕ) → joined (first k) ≡ take (BASELINE_UNIT * k) message
   joined_first zero = refl
   joined_first (suc k) =
-      let more : UNIT * k + UNIT ≡ UNIT * suc k = omega arith in
-      ap (λ front. front ++ piece message k) (joined_first k) ∙ take_two (UNIT * k) UNIT message ∙ ap (λ n. take n message) more
+      let more : BASELINE_UNIT * k + BASELINE_UNIT ≡ BASELINE_UNIT * suc k = omega arith in
+      ap (λ front. front ++ piece message k) (joined_first k) ∙ take_two (BASELINE_UNIT * k) BASELINE_UNIT message ∙ ap (λ n. take n message) more
 
   whole_joined : joined (first (piece_count message)) ≡ message
-  whole_joined = joined_first (piece_count message) ∙ take_all (UNIT * piece_count message) message (omega arith)
+  whole_joined = joined_first (piece_count message) ∙ take_all (BASELINE_UNIT * piece_count message) message (omega arith)
 
   -- ---- each packet of a row stands in its place
   abbrev IsCopy : Packet → Type 0

@@ -5,24 +5,24 @@ use Rattle.std.specs.List.{All}
 use Rattle.std.proofs.Math.Nat.{mul-le-mul}
 use Rattle.std.proofs.lemmas.Option.{IfSome_then}
 use Rattle.mctp_packet.specs.Packets.{Packet}
-use Rattle.mctp_packet.specs.declared.TheConstants.{MAX_PACKETS, UNIT, MAX_MESSAGE_BYTES}
+use Rattle.mctp_packet.specs.declared.TheConstants.{MAX_PACKETS, BASELINE_UNIT, MAX_MESSAGE_BYTES}
 use Rattle.mctp_assembly.specs.Keys.{IsKey, key_of}
 use Rattle.mctp_assembly.specs.NumberLists.{Changes, at}
 use Rattle.mctp_assembly.specs.Numbered.{Numbered, IsEntry, held_in, number_of}
 use Rattle.mctp_assembly.specs.Opened.{Opened, IsOpened}
-use Rattle.mctp_assembly.specs.Steps.{Held, answer_to, carried_on, stays_open, left_by, unless_whole, after_piece}
+use Rattle.mctp_assembly.specs.Steps.{OpenMessages, answer_to, carried_on, stays_open, left_by, unless_whole, after_without_ending}
 use Rattle.mctp_assembly.specs.declared.key.Key.{Key}
 use Rattle.mctp_assembly.specs.declared.fed.Fed.{Fed}
 use Rattle.mctp_assembly.specs.declared.fed.Fed.TheVariants.{Whole, Partial, Dropped}
 use Rattle.mctp_assembly.proofs.KeyNumbers.{get_held, got, inserted_held, removed_held, unchanged_held, is_key}
 
 -- what stands under a key's number is what is held at the packet's key
-pub held_at : (l : Numbered) (held : Held) (k q : Key) (n : ℕ) → held_in l ≡ held → IsKey k → n ≡ number_of k → k ≡ q → at l n ≡ map.get held q
+pub held_at : (l : Numbered) (held : OpenMessages) (k q : Key) (n : ℕ) → held_in l ≡ held → IsKey k → n ≡ number_of k → k ≡ q → at l n ≡ map.get held q
 held_at l held k q n made valid number same =
     ap (at l) number ∙ sym (get_held l k valid) ∙ ap (λ m. map.get m k) made ∙ ap (map.get held) same
 
 -- what is held after a packet that gave this, where a whole message is left
-abbrev held_after : Held → Packet → Fed → Held
+abbrev held_after : OpenMessages → Packet → Fed → OpenMessages
 held_after held p fed =
     unless_whole fed held (cond (stays_open fed) (map.insert held (key_of p) (carried_on (map.get held (key_of p)) p)) (map.remove held (key_of p)))
 
@@ -35,8 +35,8 @@ left_at l new k p Partial valid change here same =
 left_at l new k p (Dropped reason) valid change here same = removed_held l new k valid change ∙ ap (map.remove (held_in l)) same
 
 -- a list that has, under the number of the packet's key, what the packet leaves there
-pub left_in : (l new : Numbered) (held : Held) (k : Key) (n : ℕ) (p : Packet) → held_in l ≡ held → IsKey k → n ≡ number_of k → k ≡ key_of p
-    → Changes l new n (left_by (answer_to MAX_PACKETS (at l n) p) (at l n) p) → held_in new ≡ after_piece held p
+pub left_in : (l new : Numbered) (held : OpenMessages) (k : Key) (n : ℕ) (p : Packet) → held_in l ≡ held → IsKey k → n ≡ number_of k → k ≡ key_of p
+    → Changes l new n (left_by (answer_to MAX_PACKETS (at l n) p) (at l n) p) → held_in new ≡ after_without_ending held p
 left_in l new held k n p made valid number same change =
     let under : Changes l new (number_of k) (left_by (answer_to MAX_PACKETS (at l (number_of k)) p) (at l (number_of k)) p)
     = subst (λ n. Changes l new n (left_by (answer_to MAX_PACKETS (at l n) p) (at l n) p)) number change in
@@ -46,7 +46,7 @@ left_in l new held k n p made valid number same change =
 
 fits : (o : Opened) → IsOpened o → length o.bytes ≤ MAX_MESSAGE_BYTES
 fits o h =
-    let product : o.count * o.unit ≤ MAX_PACKETS * UNIT = mul-le-mul h.few h.baseline in
+    let product : o.count * o.unit ≤ MAX_PACKETS * BASELINE_UNIT = mul-le-mul h.few h.baseline in
     omega (arith, h.full)
 
 -- what stands under a number is begun and not ended
@@ -64,7 +64,7 @@ if_key true x h = h
 if_key false x h = tt
 
 -- what is open on each key fits in a message
-pub small_held : (l : Numbered) (held : Held) → held_in l ≡ held → All IsEntry l → (key : Key) → IfSome (map.get held key) (λ o. length o.bytes ≤ MAX_MESSAGE_BYTES)
+pub small_held : (l : Numbered) (held : OpenMessages) → held_in l ≡ held → All IsEntry l → (key : Key) → IfSome (map.get held key) (λ o. length o.bytes ≤ MAX_MESSAGE_BYTES)
 small_held l held made each key =
     IfSome_then (map.get held key)
     (subst (λ o. IfSome o IsOpened) (sym (got l key) ∙ ap (λ m. map.get m key) made) (if_key (is_key key) (at l (number_of key)) (opened_at l each (number_of key))))

@@ -11,8 +11,8 @@ use Rattle.mctp_assembly.specs.NumberLists.{Changes, IsAt, IsGapFor, Rises, at}
 use Rattle.mctp_assembly.specs.Numbered.{Numbered, AreOpen, IsEntry, none_open}
 use Rattle.mctp_assembly.specs.Opened.{Opened, IsOpened}
 use Rattle.mctp_assembly.specs.Steps.{answer_alone, answer_to, begun_by, carried_on, left_by}
-use Rattle.mctp_assembly.specs.declared.fed.FedInto.{FedInto}
-use Rattle.mctp_assembly.specs.declared.fed.FedInto.TheVariants.{Whole, Partial, Dropped}
+use Rattle.mctp_assembly.specs.declared.fed.Assembled.{Assembled}
+use Rattle.mctp_assembly.specs.declared.fed.Assembled.TheVariants.{Whole, Partial, Dropped}
 use Rattle.mctp_assembly.proofs.PacketEnds.{none_partial}
 use Rattle.mctp_assembly.proofs.NumberPlaces.{read_at, written_at, removed_at, inserted_at, change_of, unchanged}
 use Rattle.mctp_assembly.proofs.OpenPlaces.{open_written, open_removed}
@@ -21,18 +21,18 @@ use Rattle.mctp_assembly.proofs.OpenPlaces.{open_written, open_removed}
 abbrev Leaves : Numbered → Numbered → ℕ → Packet → Type 0
 Leaves old new k p = Changes old new k (left_by (answer_to MAX_PACKETS (at old k) p) (at old k) p)
 
-kept : (given : FedInto) (body : List ℕ) (o v : Opened) (p : Packet) → (given ≡ Partial → v ≡ carried_on (Some o) p) → (given ≢ Partial → v ≡ o)
+kept : (given : Assembled) (body : List ℕ) (o v : Opened) (p : Packet) → (given ≡ Partial → v ≡ carried_on (Some o) p) → (given ≢ Partial → v ≡ o)
     → ((reason : Reason) → given ≡ Dropped reason → ⊥) → Some v ≡ left_by (fed_with body given) (Some o) p
 kept Whole body o v p partial other stays = ap Some (other (λ same. cc))
 kept Partial body o v p partial other stays = ap Some (partial refl)
 kept (Dropped reason) body o v p partial other stays = absurd (stays reason refl)
 
-not_begun : (given : FedInto) (body : List ℕ) (p : Packet) → (given ≡ Partial → ⊥) → None ≡ left_by (fed_with body given) None p
+not_begun : (given : Assembled) (body : List ℕ) (p : Packet) → (given ≡ Partial → ⊥) → None ≡ left_by (fed_with body given) None p
 not_begun Whole body p other = refl
 not_begun Partial body p other = absurd (other refl)
 not_begun (Dropped reason) body p other = refl
 
-left_kept : (given : FedInto) (body : List ℕ) (o : Option Opened) (p : Packet) → p.end ≡ true → fed_with body given ≡ answer_to MAX_PACKETS o p
+left_kept : (given : Assembled) (body : List ℕ) (o : Option Opened) (p : Packet) → p.end ≡ true → fed_with body given ≡ answer_to MAX_PACKETS o p
     → ((reason : Reason) → given ≡ Dropped reason → ⊥) → o ≡ left_by (answer_to MAX_PACKETS o p) o p
 left_kept Whole body o p ended fed stays = ap (λ f. left_by f o p) fed
 left_kept Partial body o p ended fed stays = absurd (none_partial o p ended fed)
@@ -62,7 +62,7 @@ module _ (l m : Numbered) (same : l ≡ m) (rises : Rises none_open l) (k place 
   open_dropped new removed entry each =
       subst AreOpen (sym (removed ∙ ap (λ (list : Numbered). remove list place) (as_it_was entry))) (open_removed l rises k place is each)
 
-  module _ (p : Packet) (given : FedInto) (body : List ℕ) (fed : fed_with body given ≡ answer_to MAX_PACKETS (Some d.1) p) where
+  module _ (p : Packet) (given : Assembled) (body : List ℕ) (fed : fed_with body given ≡ answer_to MAX_PACKETS (Some d.1) p) where
     pub fed_here : fed_with body given ≡ answer_to MAX_PACKETS (at m k) p
     fed_here = fed ∙ ap (λ o. answer_to MAX_PACKETS o p) here
 
@@ -89,7 +89,7 @@ module _ (l m : Numbered) (same : l ≡ m) (rises : Rises none_open l) (k place 
         ended_here new reason (removed ∙ ap (λ (list : Numbered). remove list place) (as_it_was entry)) dropped
 
 -- ---- where nothing is open under the number
-module _ (m : Numbered) (k : ℕ) (nothing : at m k ≡ None) (p : Packet) (given : FedInto) (body : List ℕ) (fed : fed_with body given ≡ answer_alone p) where
+module _ (m : Numbered) (k : ℕ) (nothing : at m k ≡ None) (p : Packet) (given : Assembled) (body : List ℕ) (fed : fed_with body given ≡ answer_alone p) where
   none : None ≡ at m k
   none = sym nothing
 

@@ -7,7 +7,7 @@ use Rattle.mctp_packet.specs.declared.TheConstants.{MAX_PACKETS}
 use Rattle.mctp_assembly.specs.Keys.{key_cmp, key_of}
 use Rattle.mctp_assembly.specs.Opened.{Opened}
 use Rattle.mctp_assembly.specs.Rows.{unit_of, is_row, newest, joined}
-use Rattle.mctp_assembly.specs.Steps.{Held}
+use Rattle.mctp_assembly.specs.Steps.{OpenMessages}
 use Rattle.mctp_assembly.specs.declared.key.Key.{Key}
 
 -- a packet that was fed, or a key that was forgotten
@@ -35,8 +35,8 @@ abbrev pub left_open : List Packet → Option Opened
 left_open packets = left_open_within MAX_PACKETS packets
 
 -- what is held is what the calls leave open on each key
-abbrev pub IsLeftWithin : ℕ → Held → List Call → Type 0
+abbrev pub IsLeftWithin : ℕ → OpenMessages → List Call → Type 0
 IsLeftWithin limit held calls = (key : Key) → map.get held key ≡ left_open_within limit (since key calls)
 
-abbrev pub IsLeftBy : Held → List Call → Type 0
+abbrev pub IsLeftBy : OpenMessages → List Call → Type 0
 IsLeftBy held calls = IsLeftWithin MAX_PACKETS held calls

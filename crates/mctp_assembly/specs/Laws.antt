@@ -5,10 +5,10 @@ use Rattle.std.specs.List.{AllByRecursion}
 use Rattle.mctp_packet.specs.Packets.{Packet}
 use Rattle.mctp_packet.specs.Pieces.{piece_count, packet_at}
 use Rattle.mctp_packet.specs.declared.packet.Route.{Route}
-use Rattle.mctp_packet.specs.declared.TheConstants.{UNIT, SEQUENCE_NUMBERS}
+use Rattle.mctp_packet.specs.declared.TheConstants.{BASELINE_UNIT, SEQUENCE_NUMBERS}
 use Rattle.mctp_assembly.specs.Keys.{key_of}
 use Rattle.mctp_assembly.specs.Rows.{is_row, newest, next_within}
-use Rattle.mctp_assembly.specs.Steps.{Held, answer_within, after_within}
+use Rattle.mctp_assembly.specs.Steps.{OpenMessages, answer_within, after_within}
 use Rattle.mctp_assembly.specs.Histories.{Call, feed, forget, since, IsLeftWithin}
 use Rattle.mctp_assembly.specs.declared.key.Key.{Key}
 use Rattle.mctp_assembly.specs.declared.fed.Fed.TheVariants.{Whole}
@@ -16,14 +16,14 @@ use Rattle.mctp_assembly.specs.declared.fed.Fed.TheVariants.{Whole}
 -- a packet gives what looking back over the packets of its key says, and leaves what the longer list leaves
 abbrev pub FeedLooksBack : Type 0
 FeedLooksBack =
-    (limit : ℕ) (held : Held) (calls : List Call) (p : Packet) → 1 ≤ limit → IsLeftWithin limit held calls
+    (limit : ℕ) (held : OpenMessages) (calls : List Call) (p : Packet) → 1 ≤ limit → IsLeftWithin limit held calls
     → (answer_within limit held p ≡ next_within limit (since (key_of p) calls) p)
     × IsLeftWithin limit (after_within limit held p) (feed p ∷ calls)
 
 -- a key that is forgotten leaves what the longer list leaves
 abbrev pub ForgetLooksBack : Type 0
 ForgetLooksBack =
-    (limit : ℕ) (held : Held) (calls : List Call) (key : Key) → IsLeftWithin limit held calls
+    (limit : ℕ) (held : OpenMessages) (calls : List Call) (key : Key) → IsLeftWithin limit held calls
     → IsLeftWithin limit (map.remove held key) (forget key ∷ calls)
 
 -- a new value holds what the empty list leaves
@@ -33,7 +33,7 @@ NewLooksBack = (limit : ℕ) → IsLeftWithin limit map.empty []
 -- the keys held are those whose last packets are a row
 abbrev pub HeldWhereBegun : Type 0
 HeldWhereBegun =
-    (limit : ℕ) (held : Held) (calls : List Call) (key : Key) → IsLeftWithin limit held calls
+    (limit : ℕ) (held : OpenMessages) (calls : List Call) (key : Key) → IsLeftWithin limit held calls
     → map.contains_key held key ≡ is_some (newest limit is_row (since key calls))
 
 -- no two counts of last packets are both rows: SOM is on the first packet alone
@@ -52,5 +52,5 @@ AreCopies route message packets =
 abbrev pub CopiesGiveNoOther : Type 0
 CopiesGiveNoOther =
     (limit : ℕ) (route : Route) (message : List ℕ) (before : List Packet) (p : Packet) (body : List ℕ)
-    → limit ≤ SEQUENCE_NUMBERS + 1 → length message ≤ limit * UNIT → AreCopies route message (p ∷ before)
+    → limit ≤ SEQUENCE_NUMBERS + 1 → length message ≤ limit * BASELINE_UNIT → AreCopies route message (p ∷ before)
     → next_within limit before p ≡ Whole (record { items = body }) → body ≡ message

@@ -7,7 +7,7 @@ use Rattle.mctp_packet.specs.declared.TheConstants.{MIN_EID, MAX_EID, TAGS}
 use Rattle.mctp_assembly.specs.Keys.{key_cmp}
 use Rattle.mctp_assembly.specs.NumberLists.{NumberList, Rises, map_in}
 use Rattle.mctp_assembly.specs.Opened.{Opened, IsOpened, coded_opened}
-use Rattle.mctp_assembly.specs.Steps.{Held}
+use Rattle.mctp_assembly.specs.Steps.{OpenMessages}
 use Rattle.mctp_assembly.specs.declared.key.Key.{Key}
 
 -- numbers and what is open under them
@@ -49,5 +49,5 @@ pub record AreOpen (list : Numbered) : Type 0 where
   pub each : All IsEntry list
 
 -- what is open on each key
-abbrev pub held_in : Numbered → Held
+abbrev pub held_in : Numbered → OpenMessages
 held_in list = map_in key_cmp key_at list

@@ -3,7 +3,7 @@
 use Rattle.std.specs.Prelude.{◌≡◌, ℕ, ◌*◌, ◌≤◌, List, length, refl}
 use Rattle.std.specs.Coded.{Coded, code_by, coded×, coded_ℕ, coded_list}
 use Rattle.mctp_packet.specs.Ids.{IsSeq}
-use Rattle.mctp_packet.specs.declared.TheConstants.{UNIT, MAX_PACKETS}
+use Rattle.mctp_packet.specs.declared.TheConstants.{BASELINE_UNIT, MAX_PACKETS}
 
 pub record Opened : Type 0 where
   -- the payload length of the start packet, which is the unit of the message
@@ -24,7 +24,7 @@ coded_opened =
 
 pub record IsOpened (o : Opened) : Type 0 where
   pub some : 1 ≤ o.unit
-  pub baseline : o.unit ≤ UNIT
+  pub baseline : o.unit ≤ BASELINE_UNIT
   pub begun : 1 ≤ o.count
   pub few : o.count ≤ MAX_PACKETS
   pub full : length o.bytes ≡ o.count * o.unit

@@ -11,8 +11,8 @@ use Rattle.mctp_assembly.specs.Rows.{unit_of, follows}
 use Rattle.mctp_assembly.specs.declared.fed.Fed.{Fed}
 use Rattle.mctp_assembly.specs.declared.fed.Fed.TheVariants.{Whole, Partial, Dropped}
 
-abbrev pub Held : Type 0
-Held = map.FinMap key_cmp Opened
+abbrev pub OpenMessages : Type 0
+OpenMessages = map.FinMap key_cmp Opened
 
 -- a packet that has no assembly to go on, or begins a new one
 abbrev pub answer_alone : Packet → Fed
@@ -58,28 +58,28 @@ left_by Partial o p = Some (carried_on o p)
 left_by (Dropped reason) o p = None
 
 -- what a packet gives, where a message has at most this many
-abbrev pub answer_within : ℕ → Held → Packet → Fed
+abbrev pub answer_within : ℕ → OpenMessages → Packet → Fed
 answer_within limit held p = answer_to limit (map.get held (key_of p)) p
 
 -- what is held after it
-abbrev pub after_within : ℕ → Held → Packet → Held
+abbrev pub after_within : ℕ → OpenMessages → Packet → OpenMessages
 after_within limit held p =
     if stays_open (answer_within limit held p)
     then map.insert held (key_of p) (carried_on (map.get held (key_of p)) p)
     else map.remove held (key_of p)
 
-abbrev pub answer : Held → Packet → Fed
+abbrev pub answer : OpenMessages → Packet → Fed
 answer held p = answer_within MAX_PACKETS held p
 
-abbrev pub after : Held → Packet → Held
+abbrev pub after : OpenMessages → Packet → OpenMessages
 after held p = after_within MAX_PACKETS held p
 
 -- the old, where a message is whole, else the new
-abbrev pub unless_whole : Fed → Held → Held → Held
+abbrev pub unless_whole : Fed → OpenMessages → OpenMessages → OpenMessages
 unless_whole (Whole body) old new = old
 unless_whole Partial old new = new
 unless_whole (Dropped reason) old new = new
 
 -- what is held after a packet, where a whole message is left to be ended
-abbrev pub after_piece : Held → Packet → Held
-after_piece held p = unless_whole (answer held p) held (after held p)
+abbrev pub after_without_ending : OpenMessages → Packet → OpenMessages
+after_without_ending held p = unless_whole (answer held p) held (after held p)

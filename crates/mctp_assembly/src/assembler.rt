@@ -1,13 +1,15 @@
+//! The assembler: it takes packets in the order in which they come, and returns whole messages (DSP0236).
+
 ghost use Rattle.std.specs.FinMap as map;
 ghost use Rattle.std.specs.Prelude.{◌≡◌, ◌≤◌, true, false, [], length, IfOk, OnOk, OnErr, IfSome};
 ghost use Rattle.mctp_assembly.specs.Fed.{fed_with};
-ghost use Rattle.mctp_assembly.specs.Steps.{answer, after, after_piece};
+ghost use Rattle.mctp_assembly.specs.Steps.{answer, after, after_without_ending};
 ghost use Rattle.mctp_assembly.specs.declared.key.Key.{Key};
 ghost use Rattle.mctp_assembly.specs.declared.fed.Fed.TheVariants.{Partial};
 
 use crate::buffer::look_alone;
 use crate::messages::Messages;
-use crate::{Fed, FedInto, Key};
+use crate::{Assembled, Fed, Key};
 use mctp_packet::{Body, MAX_EID, MAX_MESSAGE_BYTES, MIN_EID, Memory, PacketRef, TAGS};
 use std::alloc::Global;
 use std::marker::Model;
@@ -49,13 +51,12 @@ impl Assembler {
     /// Takes a packet, and gives what it gives after the packets of its key (DSP0236, "Message
     /// assembly" and "Terminating message assembly/dropped packets").
     ///
-    /// A start packet ends an assembly in progress on its key. Any other packet ends it too, but
-    /// one that gives `Partial`.
+    /// A start packet ends an assembly in progress on its key. Any other packet ends it too, unless it gives `Partial`.
     ///
     /// # Errors
     ///
-    /// `Memory` where a growth was refused, which only a start packet that gives `Partial` wants: it
-    /// takes the room for a whole message. The assembler is then as before.
+    /// `Memory` where a growth was refused. Only a start packet that gives `Partial` needs memory: it takes the room
+    /// for a whole message. The assembler is then as before.
     pub fn feed(&mut self, packet: &PacketRef<'_>) -> Result<Fed, Memory>
         ensures fed { IfOk result (λ fed. fed ≡ answer self.old packet.now) }
         ensures ok { OnOk result (self.new ≡ after self.old packet.now) }
@@ -68,8 +69,8 @@ impl Assembler {
         Ok(given.with(message))
     }
 
-    /// As [`Assembler::feed`], with a message that the packet completes in `message`, which else holds
-    /// nothing of use.
+    /// As [`Assembler::feed`], with a message that the packet completes put into `message`. Where it completes none,
+    /// what `message` then holds is not specified.
     ///
     /// # Errors
     ///
@@ -78,15 +79,15 @@ impl Assembler {
         &mut self,
         packet: &PacketRef<'_>,
         message: &mut Body,
-    ) -> Result<FedInto, Memory>
+    ) -> Result<Assembled, Memory>
         ensures fed { IfOk result (λ given. fed_with message.new.items given ≡ answer self.old packet.now) }
         ensures ok { OnOk result (self.new ≡ after self.old packet.now) }
         ensures memory { OnErr result (answer self.old packet.now ≡ Partial) }
         ensures at_start { OnErr result (packet.now.start ≡ true) }
         ensures err { OnErr result (self.new ≡ self.old) }
     {
-        let given = self.feed_piece(packet, message)?;
-        if let FedInto::Whole = given {
+        let given = self.feed_without_ending(packet, message)?;
+        if let Assembled::Whole = given {
             self.forget(Key::of(packet));
         }
         Ok(given)
@@ -99,13 +100,13 @@ impl Assembler {
     /// # Errors
     ///
     /// As [`Assembler::feed`].
-    pub fn feed_piece(
+    pub fn feed_without_ending(
         &mut self,
         packet: &PacketRef<'_>,
         message: &mut Body,
-    ) -> Result<FedInto, Memory>
+    ) -> Result<Assembled, Memory>
         ensures fed { IfOk result (λ given. fed_with message.new.items given ≡ answer self.old packet.now) }
-        ensures ok { OnOk result (self.new ≡ after_piece self.old packet.now) }
+        ensures ok { OnOk result (self.new ≡ after_without_ending self.old packet.now) }
         ensures memory { OnErr result (answer self.old packet.now ≡ Partial) }
         ensures at_start { OnErr result (packet.now.start ≡ true) }
         ensures err { OnErr result (self.new ≡ self.old) }
@@ -119,7 +120,7 @@ impl Assembler {
     /// # Errors
     ///
     /// As [`Assembler::feed`].
-    pub fn feed_open(&mut self, packet: &PacketRef<'_>) -> Result<FedInto, Memory>
+    pub fn feed_part(&mut self, packet: &PacketRef<'_>) -> Result<Assembled, Memory>
         requires { packet.now.end ≡ false }
         ensures fed { IfOk result (λ given. fed_with [] given ≡ answer self.old packet.now) }
         ensures ok { OnOk result (self.new ≡ after self.old packet.now) }
@@ -127,7 +128,7 @@ impl Assembler {
         ensures at_start { OnErr result (packet.now.start ≡ true) }
         ensures err { OnErr result (self.new ≡ self.old) }
     {
-        self.messages.take_open(Key::of(packet).number(), packet)
+        self.messages.take_part(Key::of(packet).number(), packet)
     }
 
     /// What [`Assembler::feed`] would give for this packet; nothing is changed.
@@ -139,8 +140,9 @@ impl Assembler {
         given.with(message)
     }
 
-    /// As [`Assembler::look`], with a message that the packet completes in `message`, which else holds nothing of use.
-    pub fn look_into(&self, packet: &PacketRef<'_>, message: &mut Body) -> FedInto
+    /// As [`Assembler::look`], with a message that the packet completes put into `message`. Where it completes none,
+    /// what `message` then holds is not specified.
+    pub fn look_into(&self, packet: &PacketRef<'_>, message: &mut Body) -> Assembled
         ensures { fed_with message.new.items result ≡ answer self.now packet.now }
     {
         match self.messages.get(Key::of(packet).number()) {

@@ -1,13 +1,14 @@
-ghost use Rattle.std.specs.Prelude.{◌≡◌, ◌≢◌, ◌+◌, ◌≤◌, ◌++◌, length, Some, IfOk, false};
+//! The bytes of one message that has begun and not ended, and what the next packet does to it.
+
+ghost use Rattle.std.specs.Prelude.{◌≡◌, ◌≢◌, ◌+◌, ◌≤◌, ◌++◌, length, Some, false};
 ghost use Rattle.mctp_assembly.specs.Opened.{IsOpened};
 ghost use Rattle.mctp_assembly.specs.Fed.{fed_with};
 ghost use Rattle.mctp_assembly.specs.Steps.{answer_alone, answer_to, begun_by, carried_on};
 ghost use Rattle.mctp_assembly.specs.declared.fed.Fed.TheVariants.{Partial};
-ghost use Rattle.mctp_assembly.specs.declared.fed.FedInto.TheVariants as FedInto;
+ghost use Rattle.mctp_assembly.specs.declared.fed.Assembled.TheVariants as Assembled;
 
-use crate::FedInto;
+use crate::Assembled;
 use mctp_packet::{Body, MAX_MESSAGE_BYTES, MAX_PACKETS, PacketRef, Reason, SEQUENCE_NUMBERS, Seq};
-use std::alloc::{AllocError, Global};
 use std::marker::Model;
 
 /// The packets of a message that has begun and not ended, under the number of its key.
@@ -25,7 +26,7 @@ pub(crate) struct Buffer {
     bytes: Box<Body>,
 }
 
-// The list of all that is open is then short and moves fast, and most packets are judged by it alone.
+// A buffer is small, so that the list of the open ones is moved fast; most packets are judged by that list alone.
 const _: () = prove!(size_of::<Buffer>() == 16);
 
 impl Model for Buffer {
@@ -58,27 +59,28 @@ impl Model for Buffer {
 }
 
 impl Buffer {
-    /// The buffer that a start packet opens, under this number.
-    // Not inlined: what it needs of the stack is then needed for this call alone.
-    #[inline(never)]
-    pub(crate) fn new(
-        alloc: Global,
-        number: u16,
-        packet: &PacketRef<'_>,
-    ) -> Result<Buffer, AllocError>
-        ensures value { IfOk result (λ buffer. buffer ≡ (number, begun_by packet.now)) }
-        ensures range { IfOk result (λ buffer. IsOpened buffer.1) }
+    /// The buffer that a start packet opens, under this number. Its bytes are put into `room`.
+    pub(crate) fn new(number: u16, packet: &PacketRef<'_>, room: Box<Body>) -> Buffer
+        ensures value { result ≡ (number, begun_by packet.now) }
+        ensures range { IsOpened result.1 }
     {
         let payload = packet.payload();
-        let mut bytes = Box::new(alloc, Body::new())?;
+        let mut bytes = room;
+        bytes.clear();
         bytes.try_extend_from_slice(payload).unwrap();
-        Ok(Buffer {
+        Buffer {
             number,
             unit: payload.len() as u8,
             last: packet.seq(),
             count: 1,
             bytes,
-        })
+        }
+    }
+
+    /// Its room for bytes, for another message to use.
+    pub(crate) fn into_room(self) -> Box<Body> {
+        let Buffer { bytes, .. } = self;
+        bytes
     }
 
     /// The number of its key.
@@ -90,17 +92,17 @@ impl Buffer {
 
     /// Takes a packet, and gives what it gives. One that gives `Partial` begins the buffer anew, or is added; any
     /// other changes nothing.
-    pub(crate) fn take(&mut self, packet: &PacketRef<'_>) -> FedInto
+    pub(crate) fn take(&mut self, packet: &PacketRef<'_>) -> Assembled
         ensures given { fed_with (carried_on (Some self.old.1) packet.now).bytes result
             ≡ answer_to MAX_PACKETS (Some self.old.1) packet.now }
         ensures number { self.new.0 ≡ self.old.0 }
-        ensures partial { result ≡ FedInto.Partial → self.new.1 ≡ carried_on (Some self.old.1) packet.now }
-        ensures other { result ≢ FedInto.Partial → self.new ≡ self.old }
+        ensures partial { result ≡ Assembled.Partial → self.new.1 ≡ carried_on (Some self.old.1) packet.now }
+        ensures other { result ≢ Assembled.Partial → self.new ≡ self.old }
         ensures range { IsOpened self.new.1 }
     {
         let _range = self.count; // for the proof: a message that has begun
         let given = self.judge(packet);
-        if let FedInto::Partial = given {
+        if let Assembled::Partial = given {
             if packet.start() {
                 self.begin(packet);
             } else {
@@ -111,21 +113,21 @@ impl Buffer {
     }
 
     /// What a packet gives after the packets here, with a message that it completes in `message`.
-    pub(crate) fn look_into(&self, packet: &PacketRef<'_>, message: &mut Body) -> FedInto
+    pub(crate) fn look_into(&self, packet: &PacketRef<'_>, message: &mut Body) -> Assembled
         ensures { fed_with message.new.items result ≡ answer_to MAX_PACKETS (Some self.now.1) packet.now }
     {
         let given = self.judge(packet);
-        if let FedInto::Whole = given {
+        if let Assembled::Whole = given {
             join(message, self.before(packet), packet.payload());
         }
         given
     }
 
     /// What a packet gives after the packets here.
-    fn judge(&self, packet: &PacketRef<'_>) -> FedInto
+    fn judge(&self, packet: &PacketRef<'_>) -> Assembled
         ensures given { fed_with (carried_on (Some self.now.1) packet.now).bytes result
             ≡ answer_to MAX_PACKETS (Some self.now.1) packet.now }
-        ensures fits { result ≡ FedInto.Whole
+        ensures fits { result ≡ Assembled.Whole
             → length (carried_on (Some self.now.1) packet.now).bytes ≤ MAX_MESSAGE_BYTES }
     {
         let payload = packet.payload();
@@ -133,21 +135,21 @@ impl Buffer {
             return judge_alone(packet);
         }
         if packet.seq().get() != (self.last.get() + 1) % SEQUENCE_NUMBERS {
-            return FedInto::Dropped(Reason::OutOfSequence);
+            return Assembled::Dropped(Reason::OutOfSequence);
         }
         if usize::from(self.count) == MAX_PACKETS {
-            return FedInto::Dropped(Reason::TooLong);
+            return Assembled::Dropped(Reason::TooLong);
         }
         if packet.end() {
             if payload.len() > usize::from(self.unit) {
-                return FedInto::Dropped(Reason::WrongUnit);
+                return Assembled::Dropped(Reason::WrongUnit);
             }
-            return FedInto::Whole;
+            return Assembled::Whole;
         }
         if payload.len() != usize::from(self.unit) {
-            return FedInto::Dropped(Reason::WrongUnit);
+            return Assembled::Dropped(Reason::WrongUnit);
         }
-        FedInto::Partial
+        Assembled::Partial
     }
 
     /// The bytes that a message has before the payload of this packet.
@@ -187,30 +189,30 @@ impl Buffer {
 
 /// What a packet gives where nothing is open on its key, and what a start packet gives in any case, with
 /// a message that it completes in `message`.
-pub(crate) fn look_alone(packet: &PacketRef<'_>, message: &mut Body) -> FedInto
+pub(crate) fn look_alone(packet: &PacketRef<'_>, message: &mut Body) -> Assembled
     ensures { fed_with message.new.items result ≡ answer_alone packet.now }
 {
     let given = judge_alone(packet);
-    if let FedInto::Whole = given {
+    if let Assembled::Whole = given {
         join(message, &[], packet.payload());
     }
     given
 }
 
 /// What a packet gives where nothing is open on its key, and what a start packet gives in any case.
-pub(crate) fn judge_alone(packet: &PacketRef<'_>) -> FedInto
+pub(crate) fn judge_alone(packet: &PacketRef<'_>) -> Assembled
     ensures { fed_with packet.now.payload result ≡ answer_alone packet.now }
 {
     if !packet.start() {
-        return FedInto::Dropped(Reason::UnexpectedMiddleOrEnd);
+        return Assembled::Dropped(Reason::UnexpectedMiddleOrEnd);
     }
     if packet.end() {
-        return FedInto::Whole;
+        return Assembled::Whole;
     }
-    FedInto::Partial
+    Assembled::Partial
 }
 
-/// Puts a message in its place: the bytes that came before its last packet, and that one's payload.
+/// Puts a whole message into `message`: the bytes that came before its last packet, and that packet's payload.
 fn join(message: &mut Body, before: &[u8], payload: &[u8])
     requires { length before.now + length payload.now ≤ MAX_MESSAGE_BYTES }
     ensures { message.new ≡ record { items = before.now ++ payload.now } }

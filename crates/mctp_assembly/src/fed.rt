@@ -1,4 +1,4 @@
-//! What a packet gives at its place among those of its key.
+//! What an assembler returns for one packet: a whole message, a part of one, or why the packet was dropped.
 
 ghost use Rattle.std.specs.Prelude.{◌≡◌};
 ghost use Rattle.mctp_assembly.specs.Fed.{fed_with};
@@ -19,7 +19,7 @@ pub enum Fed {
 /// What a packet gives, as [`crate::Assembler::feed_into`] returns it: the message that it completes is in a place of
 /// its own.
 #[derive(Clone, Copy, Debug, PartialEq, Eq)]
-pub enum FedInto {
+pub enum Assembled {
     /// It completes a message.
     Whole,
     /// It begins a message of several packets, or goes on with one.
@@ -28,15 +28,15 @@ pub enum FedInto {
     Dropped(Reason),
 }
 
-impl FedInto {
+impl Assembled {
     /// The same, with the message that it completes.
     pub(crate) fn with(self, message: Body) -> Fed
         ensures { result ≡ fed_with message.items self }
     {
         match self {
-            FedInto::Whole => Fed::Whole(message),
-            FedInto::Partial => Fed::Partial,
-            FedInto::Dropped(reason) => Fed::Dropped(reason),
+            Assembled::Whole => Fed::Whole(message),
+            Assembled::Partial => Fed::Partial,
+            Assembled::Dropped(reason) => Fed::Dropped(reason),
         }
     }
 }

@@ -1,11 +1,13 @@
+//! The key that the packets of one message share: source, tag and tag owner bit (DSP0236, "Message assembly").
+
 ghost use Rattle.std.specs.Prelude.{◌≡◌};
 ghost use Rattle.mctp_assembly.specs.Keys.{IsKey, key_of};
 ghost use Rattle.mctp_assembly.specs.Numbered.{IsNumber, number_of};
 
 use mctp_packet::{Eid, PacketRef, TAGS, Tag};
 
-/// Whose messages are assembled one at a time: packets of one source, tag and tag owner bit
-/// (DSP0236, "Message assembly").
+/// Packets of one key belong to one message at a time: the key is their source, tag and tag owner bit (DSP0236,
+/// "Message assembly").
 #[derive(Clone, Copy, Debug, PartialEq, Eq, PartialOrd, Ord)]
 pub struct Key {
     /// The endpoint that the packets come from.

@@ -1,4 +1,5 @@
 //! Laws of assembly, over the definitions alone: each function does nothing and ensures its law.
+
 ghost use Rattle.mctp_assembly.specs.Laws.{FeedLooksBack, ForgetLooksBack, NewLooksBack, HeldWhereBegun, OneRow, CopiesGiveNoOther};
 
 /// What an assembler holds after any list of calls, and what it gives then, is told by looking
@@ -11,8 +12,8 @@ pub fn looks_back()
     ensures one { OneRow }
 {}
 
-/// Where only copies of one message's packets came since their key was last forgotten, no other
-/// message is given.
+/// Where only copies of the packets of one message came since their key was last forgotten, no other message is
+/// returned.
 pub fn copies_give_no_other()
     ensures { CopiesGiveNoOther }
 {}

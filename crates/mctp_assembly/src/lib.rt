@@ -9,5 +9,5 @@ pub mod laws;
 mod messages;
 
 pub use assembler::{Assembler, MAX_ASSEMBLIES};
-pub use fed::{Fed, FedInto};
+pub use fed::{Assembled, Fed};
 pub use key::Key;

@@ -1,3 +1,5 @@
+//! The messages that have begun and not ended, by the numbers of their keys.
+
 ghost use Rattle.std.specs.Prelude.{◌≡◌, ◌≢◌, ◌<◌, ◌≤◌, true, false, ℕ, List, [], length};
 ghost use Rattle.std.specs.Prelude.{Some, None, IfOk, IfErr, OnOk, OnErr};
 ghost use Rattle.std.specs.Option.{option_copied, option_map};
@@ -10,12 +12,12 @@ ghost use Rattle.mctp_assembly.specs.Opened.{IsOpened};
 ghost use Rattle.mctp_assembly.specs.Steps.{answer_to, begun_by, carried_on, left_by};
 ghost use Rattle.mctp_assembly.specs.declared.assembler.TheConstants.{MAX_ASSEMBLIES};
 ghost use Rattle.mctp_assembly.specs.declared.fed.Fed.TheVariants.{Partial};
-ghost use Rattle.mctp_assembly.specs.declared.fed.FedInto.TheVariants as FedInto;
+ghost use Rattle.mctp_assembly.specs.declared.fed.Assembled.TheVariants as Assembled;
 
-use crate::FedInto;
+use crate::Assembled;
 use crate::buffer::{Buffer, judge_alone, look_alone};
 use mctp_packet::{Body, Memory, PacketRef};
-use std::alloc::Global;
+use std::alloc::{AllocError, Global};
 use std::marker::Model;
 
 /// The open messages by the numbers of their keys, which rise: a look-up is a binary search.
@@ -23,6 +25,8 @@ use std::marker::Model;
 pub(crate) struct Messages {
     alloc: Global,
     list: Vec<Buffer>,
+    /// The room of a message that has ended, for the next one that begins.
+    spare: Option<Box<Body>>,
 }
 
 impl Model for Messages {
@@ -38,13 +42,14 @@ impl Model for Messages {
 }
 
 impl Messages {
-    /// None.
+    /// No messages.
     pub(crate) fn new(alloc: Global) -> Messages
         ensures { result ≡ [] }
     {
         Messages {
             alloc,
             list: Vec::new(alloc),
+            spare: None,
         }
     }
 
@@ -85,7 +90,7 @@ impl Messages {
         number: u16,
         packet: &PacketRef<'_>,
         message: &mut Body,
-    ) -> Result<FedInto, Memory>
+    ) -> Result<Assembled, Memory>
         requires { IsNumber number }
         ensures fed { IfOk result (λ given. fed_with message.new.items given
             ≡ answer_to MAX_PACKETS (at self.old number) packet.now) }
@@ -98,16 +103,16 @@ impl Messages {
         if packet.end() {
             Ok(self.take_end(number, packet, message))
         } else {
-            self.take_open(number, packet)
+            self.take_part(number, packet)
         }
     }
 
     /// Takes a packet that is not an end packet, as [`Messages::take`] does.
-    pub(crate) fn take_open(
+    pub(crate) fn take_part(
         &mut self,
         number: u16,
         packet: &PacketRef<'_>,
-    ) -> Result<FedInto, Memory>
+    ) -> Result<Assembled, Memory>
         requires number { IsNumber number }
         requires unended { packet.now.end ≡ false }
         ensures fed { (bytes : List ℕ) → IfOk result (λ given. fed_with bytes given
@@ -121,15 +126,16 @@ impl Messages {
         match self.search(number) {
             Ok(place) => {
                 let given = self.list[place].take(packet);
-                if let FedInto::Dropped(_) = given {
-                    end_at(&mut self.list, place);
+                if let Assembled::Dropped(_) = given {
+                    end_at(&mut self.list, &mut self.spare, place);
                 }
                 Ok(given)
             }
             Err(place) => {
                 let given = judge_alone(packet);
-                if let FedInto::Partial = given {
-                    let begun = Buffer::new(self.alloc, number, packet)?;
+                if let Assembled::Partial = given {
+                    let room = room_for_bytes(self.alloc, &mut self.spare)?;
+                    let begun = Buffer::new(number, packet, room);
                     self.list.insert(place, begun)?;
                 }
                 Ok(given)
@@ -138,7 +144,7 @@ impl Messages {
     }
 
     /// Takes an end packet, as [`Messages::take`] does.
-    fn take_end(&mut self, number: u16, packet: &PacketRef<'_>, message: &mut Body) -> FedInto
+    fn take_end(&mut self, number: u16, packet: &PacketRef<'_>, message: &mut Body) -> Assembled
         requires { packet.now.end ≡ true }
         ensures fed { fed_with message.new.items result ≡ answer_to MAX_PACKETS (at self.old number) packet.now }
         ensures left { Changes self.old self.new number (left_by
@@ -147,8 +153,8 @@ impl Messages {
         match self.search(number) {
             Ok(place) => {
                 let given = self.list[place].look_into(packet, message);
-                if let FedInto::Dropped(_) = given {
-                    end_at(&mut self.list, place);
+                if let Assembled::Dropped(_) = given {
+                    end_at(&mut self.list, &mut self.spare, place);
                 }
                 given
             }
@@ -162,18 +168,29 @@ impl Messages {
         ensures { Changes self.old self.new number None }
     {
         if let Ok(place) = self.search(number) {
-            end_at(&mut self.list, place);
+            end_at(&mut self.list, &mut self.spare, place);
         }
     }
 }
 
-/// Ends the message at this place. A list of few messages gives room back that was for many, and one of none all of it.
-fn end_at(list: &mut Vec<Buffer>, place: usize)
+/// Room for the bytes of a message: that of a message that has ended, where it was kept, else new room.
+// Not inlined: the stack that making new room needs is then used during this call alone.
+#[inline(never)]
+fn room_for_bytes(alloc: Global, spare: &mut Option<Box<Body>>) -> Result<Box<Body>, AllocError> {
+    Ok(match spare.take() {
+        Some(room) => room,
+        None => Box::new(alloc, Body::new())?,
+    })
+}
+
+/// Ends the message at this place, and keeps its room for the next one. A list that has room for more than four times
+/// its messages gives back all but twice their room; an empty one gives back all of it.
+fn end_at(list: &mut Vec<Buffer>, spare: &mut Option<Box<Body>>, place: usize)
     requires there { place < length list.old.items }
     requires few { length list.old.items ≤ MAX_ASSEMBLIES }
     ensures { list.new.items ≡ remove list.old.items place }
 {
-    list.remove(place);
+    *spare = Some(list.remove(place).into_room());
     if list.capacity() > 4 * list.len() {
         list.shrink_to(2 * list.len());
     }

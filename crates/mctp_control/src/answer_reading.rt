@@ -1,3 +1,5 @@
+//! The answer in a response to a control command, read from its data (DSP0236).
+
 ghost use Rattle.std.specs.Prelude.{◌≡◌, Some, IfSome};
 ghost use Rattle.mctp_control.specs.AnswerReading.{answer_of, endpoint_id_of, set_of, success_of, types_of, uuid_of, versions_of};
 ghost use Rattle.mctp_control.specs.Answers.{AnswerFields};
@@ -30,7 +32,7 @@ fn answer_at(command: u8, code: u8, bytes: &[u8]) -> Option<Answer>
     answer_in(command, code, bytes)
 }
 
-/// The same, by place.
+/// As `answer_at`, in the order of the definition.
 #[tactic(auto, unfolding(crate::specs::AnswerReading::answer_of))]
 fn answer_in(command: u8, code: u8, bytes: &[u8]) -> Option<Answer>
     ensures { result ≡ answer_of command code bytes.now }

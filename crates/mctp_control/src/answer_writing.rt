@@ -1,3 +1,5 @@
+//! The message of an answer to a control command (DSP0236, "MCTP control message format").
+
 ghost use Rattle.std.specs.Prelude.{◌≡◌, ◌<◌, ◌++◌, ◌≤◌, ◌+◌, length};
 ghost use Rattle.mctp_control.specs.Answers.{answer_data, code_of};
 ghost use Rattle.mctp_control.specs.Written.{answer_message};
@@ -6,11 +8,11 @@ ghost use Rattle.arrayvec.specs.ArrayVec.{array_vec_len};
 
 use crate::{Answer, CONTROL, SUCCESS, VERSION_BYTES};
 use arrayvec::ArrayVec;
-use mctp_packet::UNIT;
+use mctp_packet::BASELINE_UNIT;
 
 /// The message of an answer to a command of this number, with this instance ID, 0 to 31: at most 64 bytes, so one
 /// packet has it whole (DSP0236, "MCTP control message format"). Reserved bits are 0.
-pub fn write_answer(id: u8, command: u8, answer: &Answer) -> ArrayVec<u8, UNIT>
+pub fn write_answer(id: u8, command: u8, answer: &Answer) -> ArrayVec<u8, BASELINE_UNIT>
     requires { id < INSTANCE_IDS }
     ensures { result.items ≡ answer_message id command answer.now }
 {
@@ -34,7 +36,7 @@ fn code_of(answer: &Answer) -> u8
 }
 
 /// Adds the data of an answer.
-fn push_data(message: &mut ArrayVec<u8, UNIT>, answer: &Answer)
+fn push_data(message: &mut ArrayVec<u8, BASELINE_UNIT>, answer: &Answer)
     requires { array_vec_len message.old + MAX_DATA ≤ 64 }
     ensures { message.new.items ≡ message.old.items ++ answer_data answer.now }
 {
@@ -70,7 +72,7 @@ fn push_data(message: &mut ArrayVec<u8, UNIT>, answer: &Answer)
 }
 
 /// Adds these bytes.
-fn push_bytes(message: &mut ArrayVec<u8, UNIT>, bytes: &[u8])
+fn push_bytes(message: &mut ArrayVec<u8, BASELINE_UNIT>, bytes: &[u8])
     requires { array_vec_len message.old + length bytes.now ≤ 64 }
     ensures { message.new.items ≡ message.old.items ++ bytes.now }
 {

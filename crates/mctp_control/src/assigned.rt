@@ -1,6 +1,6 @@
 //! The numbers that DSP0236 assigns, and the limits that follow from them.
 
-use mctp_packet::UNIT;
+use mctp_packet::BASELINE_UNIT;
 
 /// The message type of MCTP control messages (DSP0239, "MCTP message types").
 pub const CONTROL: u8 = 0;
@@ -12,8 +12,8 @@ pub const PLDM: u8 = 1;
 /// Support").
 pub const BASE_SPECIFICATION: u8 = 0xff;
 
-/// Rq, the highest bit of the byte with the instance ID: set in a request, and not in a response (DSP0236, "MCTP control
-/// message format").
+/// Rq, the highest bit of the byte with the instance ID: set in a request, and not in a response (DSP0236, "MCTP
+/// control message format").
 pub(crate) const RQ: u8 = 0x80;
 
 /// D, the bit below Rq: set in a datagram, a request that wants no response (DSP0236, "MCTP control message format").
@@ -30,7 +30,7 @@ pub const REQUEST_HEADER: usize = 3;
 pub const RESPONSE_HEADER: usize = 4;
 
 /// The most bytes of data in a response: one packet has it whole.
-pub const MAX_DATA: usize = UNIT - RESPONSE_HEADER;
+pub const MAX_DATA: usize = BASELINE_UNIT - RESPONSE_HEADER;
 
 /// The command Set Endpoint ID (DSP0236, "Set Endpoint ID").
 pub const SET_ENDPOINT_ID: u8 = 0x01;

@@ -1,3 +1,5 @@
+//! The completion codes by which a control command is refused (DSP0236, "MCTP control message completion codes").
+
 ghost use Rattle.std.specs.Prelude.{◌≡◌, ℕ, ◌↔◌, IsSome, IfSome};
 ghost use Rattle.mctp_control.specs.Codes.{IsCode};
 

@@ -52,7 +52,7 @@ impl EidOperation {
 pub enum Command {
     /// Gives the endpoint an endpoint ID.
     SetEndpointId {
-        /// How.
+        /// What is to be done with the endpoint ID.
         operation: EidOperation,
         /// The endpoint ID to take.
         eid: u8,

@@ -1,3 +1,5 @@
+//! The control command in a request, or the completion code by which it is refused.
+
 ghost use Rattle.std.specs.Prelude.{◌≡◌, Ok, IfOk};
 ghost use Rattle.mctp_control.specs.CommandReading.{command_of, of_length};
 ghost use Rattle.mctp_control.specs.Commands.{CommandFields};
@@ -28,7 +30,7 @@ fn command_at(number: u8, bytes: &[u8]) -> Result<Command, CompletionCode>
     command_in(number, bytes)
 }
 
-/// The same, by place.
+/// As `command_at`, in the order of the definition.
 #[tactic(auto, unfolding(crate::specs::CommandReading::command_of))]
 fn command_in(number: u8, bytes: &[u8]) -> Result<Command, CompletionCode>
     ensures { result ≡ command_of number bytes.now }

@@ -1,3 +1,5 @@
+//! The message of a control command (DSP0236, "MCTP control message format").
+
 ghost use Rattle.std.specs.Prelude.{◌≡◌, ◌<◌};
 ghost use Rattle.mctp_control.specs.Commands.{command_data};
 ghost use Rattle.mctp_control.specs.Written.{command_message};

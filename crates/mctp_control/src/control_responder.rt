@@ -30,7 +30,7 @@ pub struct ControlResponder {
     pub static_eid: Option<Eid>,
     /// Whether it takes another endpoint ID from a bus owner.
     pub takes_eid: bool,
-    /// For how long a later copy of a request that assigned an endpoint ID is known as one.
+    /// For how long a later copy of a request that assigned an endpoint ID is known as a copy.
     pub keep: Keep,
     /// Its UUID, in the order of RFC 4122.
     pub uuid: [u8; UUID_BYTES],
@@ -47,8 +47,8 @@ pub struct ControlResponder {
 impl ControlResponder {
     /// Takes the bytes of a packet that came at the moment `now`, and returns the packet that answers it; `None` where
     /// it is no control request to this endpoint ID or, by its physical address, to the null one. Each message is one
-    /// packet. What is asked of an endpoint that a simple one doesn't have is answered with ERROR_UNSUPPORTED_CMD,
-    /// another length than a command's with ERROR_INVALID_LENGTH. The answer comes from the endpoint ID that it had
+    /// packet. A command that a simple endpoint doesn't have is answered with ERROR_UNSUPPORTED_CMD, and data of
+    /// another length than the command's with ERROR_INVALID_LENGTH. The answer comes from the endpoint ID that it had
     /// when it was asked, the null one where it had none.
     ///
     /// A Set Endpoint ID that is accepted is kept. A later request of the same source with the same bytes is a copy of
@@ -118,8 +118,8 @@ impl ControlResponder {
         }
     }
 
-    /// Answers a request of this source, whose message this is. Where it is no copy and assigns an endpoint ID, that is
-    /// taken.
+    /// Answers a request of this source with this message. Where it is no copy and assigns an endpoint ID, the
+    /// responder takes that endpoint ID.
     fn answered(
         &mut self,
         now: Moment,
@@ -148,7 +148,7 @@ impl ControlResponder {
         }
     }
 
-    /// Takes the endpoint ID that a command assigns, where it does, and keeps the assignment.
+    /// Takes the endpoint ID that a command assigns, where it assigns one, and keeps the assignment.
     fn take(&mut self, now: Moment, source: u8, message: &[u8], command: &Command)
         requires { length message.now ≡ REQUEST_HEADER + length (command_data command.now) }
         ensures { self.new ≡ left_with self.old
@@ -209,8 +209,9 @@ impl ControlResponder {
         }
     }
 
-    /// The endpoint ID with which it accepts Set Endpoint ID, if it does. Force is accepted where Set is; Reset with
-    /// the static endpoint ID, where there is one. It has no flag of discovery.
+    /// The endpoint ID with which it accepts Set Endpoint ID, if it does. Force is accepted where Set is. Reset is
+    /// accepted with the static endpoint ID, where there is one. The endpoint has no discovered flag, so SetDiscovered
+    /// is not accepted.
     fn accepted_eid(&self, operation: EidOperation, wanted: u8) -> Option<Eid>
         ensures { result ≡ accepted_eid self.now operation wanted }
     {
@@ -248,8 +249,8 @@ impl ControlResponder {
         }
     }
 
-    /// What it answers to Set Endpoint ID where it does not accept it: an endpoint ID that might be taken is rejected,
-    /// and all else is no data that it takes.
+    /// What it answers to Set Endpoint ID where it does not accept it: Set and Force with a number that is an endpoint
+    /// ID are rejected, and all else is refused with ERROR_INVALID_DATA.
     fn unaccepted_answer(&self, operation: EidOperation, wanted: u8) -> Answer
         ensures { result ≡ unaccepted_answer self.now operation wanted }
     {

@@ -9,8 +9,8 @@ use mctp_packet::{Moment, NULL_EID, Reason};
 impl ControlResponder {
     /// Takes the bytes of a packet that came at the moment `now`, and that the responder of PLDM with the same endpoint
     /// ID, or with none as this one, dropped for this reason. Returns the packet that answers it, as
-    /// [`ControlResponder::receive`] does. Only a packet that was dropped as `NotPldm`, as `UnknownDestination` where it
-    /// was sent to the null endpoint ID, or as `BadSource` where it was sent from the null one, is looked at; every
+    /// [`ControlResponder::receive`] does. Only a packet that was dropped as `NotPldm`, as `UnknownDestination` where
+    /// it was sent to the null endpoint ID, or as `BadSource` where it was sent from the null one, is looked at; every
     /// other gets `None`, and nothing changes. No other reason is that of a control request to this endpoint
     /// ([`crate::laws::drops_are_answered_as_received`]).
     #[tactic(auto, using(crate::proofs::DroppedReplies::replies_have_bytes))]

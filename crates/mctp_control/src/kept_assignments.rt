@@ -25,7 +25,7 @@ pub struct KeptAssignment {
 }
 
 impl Default for KeptAssignment {
-    /// What stands where none is kept.
+    /// What fills a place in which no assignment is kept.
     fn default() -> Self {
         KeptAssignment {
             source: NULL_EID,
@@ -67,7 +67,7 @@ impl Model for KeptAssignments {
 }
 
 impl KeptAssignments {
-    /// None.
+    /// No assignments.
     pub fn new() -> KeptAssignments
         ensures { result ≡ [] }
     {
@@ -84,7 +84,7 @@ impl KeptAssignments {
         self.list.as_slice()
     }
 
-    /// The newest one of which a message is a copy, that came from this source at the moment `now`.
+    /// The newest assignment that a message repeats, which came from this source at the moment `now`.
     pub(crate) fn copied(
         &self,
         keep: Keep,
@@ -100,7 +100,7 @@ impl KeptAssignments {
             .find(|kept| kept.is_copied(keep, now, source, message))
     }
 
-    /// Keeps one more in front. The oldest goes where there are too many.
+    /// Keeps one more, as the newest. Where there are then too many, the oldest is dropped.
     pub(crate) fn put(&mut self, new: KeptAssignment)
         ensures { self.new ≡ kept_with new self.old }
     {

@@ -1,4 +1,4 @@
-//! The messages that carry commands and answers.
+//! The headers of control messages: requests and responses read from bytes (DSP0236).
 
 ghost use Rattle.std.specs.Prelude.{◌≡◌, ◌<◌, Some, IfSome};
 ghost use Rattle.mctp_control.specs.Messages.{IsRequest, IsResponse, Request, Response, request_of, response_of};
@@ -121,7 +121,7 @@ pub fn read_request(message: &[u8]) -> Option<RequestRef<'_>>
     request_in(message)
 }
 
-/// As `read_request`, by place.
+/// As `read_request`, byte by byte.
 #[tactic(auto, unfolding(crate::specs::Messages::request_of))]
 fn request_in(message: &[u8]) -> Option<RequestRef<'_>>
     ensures { result ≡ request_of message.now }
@@ -149,7 +149,7 @@ pub fn read_response(message: &[u8]) -> Option<ResponseRef<'_>>
     response_in(message)
 }
 
-/// As `read_response`, by place.
+/// As `read_response`, byte by byte.
 #[tactic(auto, unfolding(crate::specs::Messages::response_of))]
 fn response_in(message: &[u8]) -> Option<ResponseRef<'_>>
     ensures { result ≡ response_of message.now }

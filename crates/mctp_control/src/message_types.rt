@@ -1,3 +1,5 @@
+//! The message types that an endpoint supports (DSP0236, "Get Message Type Support").
+
 ghost use Rattle.std.specs.Prelude.{◌≡◌, ◌↔◌, nat_le, length, IsSome, IfSome, is_some};
 ghost use Rattle.mctp_control.specs.Lists.{IsTypes};
 ghost use Rattle.mctp_control.specs.declared.assigned.TheConstants.{MAX_MESSAGE_TYPES};

@@ -1,5 +1,6 @@
 //! The first and the fourth byte of the header of a packet that has a whole control message (DSP0236, "MCTP packet
 //! fields").
+
 // `mctp_packet` reads and writes flags with a `Route` alone, which has no null endpoint ID, so they are done here.
 
 ghost use Rattle.std.specs.Prelude.{◌≡◌, ◌%◌, ◌==◌};

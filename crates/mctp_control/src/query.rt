@@ -84,7 +84,7 @@ impl Query {
         self.answer_in(packet)
     }
 
-    /// As `answer`, by place.
+    /// As `answer`, byte by byte.
     fn answer_in<'a>(&self, packet: &'a [u8]) -> Option<&'a [u8]>
         ensures exact { option_map (λ message. message.now) result ≡ answer_in self.now packet.now }
         ensures size { IfSome result (λ message. HasPayloadSize message.now) }

@@ -1,3 +1,5 @@
+//! The versions of a message type that an endpoint supports (DSP0236, "Get MCTP Version Support").
+
 ghost use Rattle.std.specs.Prelude.{◌≡◌, ◌↔◌, IsSome, IfSome, is_some};
 ghost use Rattle.mctp_control.specs.Lists.{IsVersions, is_versions};
 

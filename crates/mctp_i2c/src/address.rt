@@ -1,4 +1,4 @@
-//! The 7-bit addresses of the two buses.
+//! The 7-bit addresses of devices on SMBus and I2C, and of targets on I3C.
 
 ghost use Rattle.std.specs.Prelude.{◌≡◌, ℕ, ◌*◌, ◌↔◌, IsSome, IfSome};
 ghost use Rattle.mctp_i2c.specs.Addresses.{IsSmbusAddress, IsDynamicAddress};

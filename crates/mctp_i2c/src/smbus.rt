@@ -146,7 +146,7 @@ pub fn read(own: SmbusAddress, bytes: &[u8]) -> Result<Received<'_>, FrameFault>
     read_in_turn(own, bytes)
 }
 
-/// As `read`, by place.
+/// As `read`, check by check.
 fn read_in_turn(own: SmbusAddress, bytes: &[u8]) -> Result<Received<'_>, FrameFault>
     ensures refused { IfErr result (λ fault. refusal own bytes.now ≡ Some fault) }
     ensures answer { result ≡ reading own bytes.now }

@@ -9,16 +9,16 @@ use Rattle.mctp_packet.specs.Packets.{Packet, IsPacket, HasPayloadSize}
 use Rattle.mctp_packet.specs.Laws.{IsRoute}
 use Rattle.mctp_packet.specs.Pieces.{piece_count, piece, packet_at, packets}
 use Rattle.mctp_packet.specs.declared.packet.Route.{Route}
-use Rattle.mctp_packet.specs.declared.TheConstants.{UNIT}
+use Rattle.mctp_packet.specs.declared.TheConstants.{BASELINE_UNIT}
 
 -- a piece has its bytes, up to a unit of them
-length-piece : (message : List ℕ) (i : ℕ) → length (piece message i) ≡ min UNIT (length message - UNIT * i)
-length-piece message i = length-take UNIT (drop (UNIT * i) message) ∙ ap (min UNIT) (length-drop (UNIT * i) message)
+length-piece : (message : List ℕ) (i : ℕ) → length (piece message i) ≡ min BASELINE_UNIT (length message - BASELINE_UNIT * i)
+length-piece message i = length-take BASELINE_UNIT (drop (BASELINE_UNIT * i) message) ∙ ap (min BASELINE_UNIT) (length-drop (BASELINE_UNIT * i) message)
 
 pub piece_size : (message : List ℕ) (i : ℕ) → i < piece_count message → HasPayloadSize (piece message i)
 piece_size message i h = (omega (arith, length-piece message i), omega (arith, length-piece message i))
 
-pub piece_is_full : (message : List ℕ) (i : ℕ) → i + 1 < piece_count message → length (piece message i) ≡ UNIT
+pub piece_is_full : (message : List ℕ) (i : ℕ) → i + 1 < piece_count message → length (piece message i) ≡ BASELINE_UNIT
 piece_is_full message i h = omega (arith, length-piece message i)
 
 pub each_is_packet : (route : Route) (message : List ℕ) (i : ℕ) → IsRoute route → i < piece_count message → IsPacket (packet_at route message i)
@@ -34,23 +34,23 @@ abbrev payload_of : Packet → List ℕ
 payload_of p = p.payload
 
 -- the first n packets carry the front of the message
-joined_front : (route : Route) (message : List ℕ) (n : ℕ) → flat_map payload_of (map (packet_at route message) (range_with_len 0 n)) ≡ take (UNIT * n) message
+joined_front : (route : Route) (message : List ℕ) (n : ℕ) → flat_map payload_of (map (packet_at route message) (range_with_len 0 n)) ≡ take (BASELINE_UNIT * n) message
 joined_front route message zero = refl
 joined_front route message (suc n) =
     let f = packet_at route message in
     let more = map-range_with_len_more f 0 n n (zero-add n) in
-    let size : UNIT * n + UNIT ≡ UNIT * suc n = omega arith in
+    let size : BASELINE_UNIT * n + BASELINE_UNIT ≡ BASELINE_UNIT * suc n = omega arith in
     ap (λ k. flat_map payload_of (map f (range_with_len 0 k))) (sym (add-one n))
     ∙ ap (flat_map payload_of) more
     ∙ flat_map-append payload_of (map f (range_with_len 0 n)) (f n ∷ [])
     ∙ ap (λ front. front ++ (piece message n ++ [])) (joined_front route message n)
-    ∙ ap (λ last. take (UNIT * n) message ++ last) (append-nil (piece message n))
-    ∙ sym (take-add (UNIT * n) UNIT message)
+    ∙ ap (λ last. take (BASELINE_UNIT * n) message ++ last) (append-nil (piece message n))
+    ∙ sym (take-add (BASELINE_UNIT * n) BASELINE_UNIT message)
     ∙ ap (λ k. take k message) size
 
 pub packets_join : (route : Route) (message : List ℕ) → flat_map payload_of (packets route message) ≡ message
 packets_join route message =
-    joined_front route message (piece_count message) ∙ take_all (UNIT * piece_count message) message (omega arith)
+    joined_front route message (piece_count message) ∙ take_all (BASELINE_UNIT * piece_count message) message (omega arith)
 
 -- one item more, and one place more
 pub map_more : {A B : Type 0} (g : A → B) (f : ℕ → B) (old new : List A) (x : A) (i : ℕ) → map g old ≡ map f (range_with_len 0 i) → new ≡ old ++ x ∷ [] → g x ≡ f i → map g new ≡ map f (range_with_len 0 (i + 1))

@@ -1,6 +1,6 @@
 -- Every constant of the source, told a second time: the standard's and this profile's own numbers.
 use Rattle.std.proofs.Common.{◌≡◌, refl}
-use Rattle.mctp_packet.specs.declared.TheConstants.{NULL_EID, MIN_EID, MAX_EID, TAGS, MAX_MOMENT, MAX_KEEP, MAX_PACKETS, UNIT, SEQUENCE_NUMBERS, VERSION, HEADER, MAX_PACKET_BYTES, MAX_MESSAGE_BYTES}
+use Rattle.mctp_packet.specs.declared.TheConstants.{NULL_EID, MIN_EID, MAX_EID, TAGS, MAX_MOMENT, MAX_KEEP, MAX_PACKETS, BASELINE_UNIT, SEQUENCE_NUMBERS, VERSION, HEADER, MAX_PACKET_BYTES, MAX_MESSAGE_BYTES}
 
 null_endpoint_id : NULL_EID ≡ 0
 null_endpoint_id = refl
@@ -23,7 +23,7 @@ longest_keep_in_milliseconds = refl
 packets_of_a_message : MAX_PACKETS ≡ 5
 packets_of_a_message = refl
 
-payload_bytes : UNIT ≡ 64
+payload_bytes : BASELINE_UNIT ≡ 64
 payload_bytes = refl
 
 sequence_numbers : SEQUENCE_NUMBERS ≡ 4

@@ -7,7 +7,7 @@ use Rattle.mctp_packet.specs.Packets.{Packet, IsPacket, Spells, IsFor, written}
 use Rattle.mctp_packet.specs.Pieces.{piece_count, packet_at, packets, written_packets}
 use Rattle.mctp_packet.specs.Reading.{reading}
 use Rattle.mctp_packet.specs.declared.packet.Route.{Route}
-use Rattle.mctp_packet.specs.declared.TheConstants.{UNIT}
+use Rattle.mctp_packet.specs.declared.TheConstants.{BASELINE_UNIT}
 
 -- what is written spells the packet
 abbrev pub WrittenSpells : Type 0
@@ -56,7 +56,7 @@ EachIsPacket =
 abbrev pub EachButTheLastIsFull : Type 0
 EachButTheLastIsFull =
     (route : Route) (message : List ℕ) (i : ℕ)
-    → i + 1 < piece_count message → length (packet_at route message i).payload ≡ UNIT
+    → i + 1 < piece_count message → length (packet_at route message i).payload ≡ BASELINE_UNIT
 
 -- the joined payloads of a message's packets are the message
 abbrev pub PacketsJoin : Type 0

@@ -3,7 +3,7 @@ use Rattle.std.specs.Prelude.{◌≡◌, ◌≢◌, ℕ, ◌+◌, ◌*◌, ◌<�
 use Rattle.mctp_packet.specs.Bits.{bit}
 use Rattle.mctp_packet.specs.Ids.{IsEid, IsTag, IsSeq}
 use Rattle.mctp_packet.specs.declared.packet.Route.{Route}
-use Rattle.mctp_packet.specs.declared.TheConstants.{UNIT, VERSION}
+use Rattle.mctp_packet.specs.declared.TheConstants.{BASELINE_UNIT, VERSION}
 
 pub record Packet : Type 0 where
   pub route : Route
@@ -18,7 +18,7 @@ packet route start end seq payload =
 
 -- one byte at least, and no more than the baseline transmission unit
 abbrev pub HasPayloadSize : List ℕ → Type 0
-HasPayloadSize bytes = (1 ≤ length bytes) × (length bytes ≤ UNIT)
+HasPayloadSize bytes = (1 ≤ length bytes) × (length bytes ≤ BASELINE_UNIT)
 
 -- each part of the packet is in its range
 pub record IsPacket (p : Packet) : Type 0 where

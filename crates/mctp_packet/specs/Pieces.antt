@@ -3,15 +3,15 @@ use Rattle.std.specs.Prelude.{ℕ, ◌+◌, ◌-◌, ◌*◌, ◌/◌, ◌%◌, 
 use Rattle.std.specs.List.{range_with_len}
 use Rattle.mctp_packet.specs.Packets.{Packet, packet, written}
 use Rattle.mctp_packet.specs.declared.packet.Route.{Route}
-use Rattle.mctp_packet.specs.declared.TheConstants.{UNIT, SEQUENCE_NUMBERS}
+use Rattle.mctp_packet.specs.declared.TheConstants.{BASELINE_UNIT, SEQUENCE_NUMBERS}
 
 -- how many pieces of a unit each a message has, the last of them perhaps shorter
 abbrev pub piece_count : List ℕ → ℕ
-piece_count message = (length message + (UNIT - 1)) / UNIT
+piece_count message = (length message + (BASELINE_UNIT - 1)) / BASELINE_UNIT
 
 -- piece i of a message
 abbrev pub piece : List ℕ → ℕ → List ℕ
-piece message i = take UNIT (drop (UNIT * i) message)
+piece message i = take BASELINE_UNIT (drop (BASELINE_UNIT * i) message)
 
 -- packet i carries piece i: the first starts the message, the last ends it, and numbers rise from 0
 abbrev pub packet_at : Route → List ℕ → ℕ → Packet

@@ -1,3 +1,5 @@
+//! Packets read from bytes and written as bytes (DSP0236, "MCTP packet fields").
+
 ghost use Rattle.std.specs.Prelude.{◌≡◌, ◌+◌, ◌*◌, ◌++◌, length, drop, Option, Some, None, Ok, Err, IfOk, IfErr, IfSome, if◌then◌else◌};
 ghost use Rattle.mctp_packet.specs.Ids.{IsEid};
 ghost use Rattle.mctp_packet.specs.Packets.{Packet, Spells, IsFor, written, header};

@@ -1,3 +1,5 @@
+//! The fourth byte of a packet's header, part by part (DSP0236, "MCTP packet fields").
+
 ghost use Rattle.std.specs.Prelude.{◌≡◌, ◌/◌, ◌%◌};
 ghost use Rattle.mctp_packet.specs.Flags.{flags_byte};
 ghost use Rattle.mctp_packet.specs.Bits.{is_set};

@@ -2,14 +2,15 @@
 
 ghost use Rattle.mctp_packet.specs.Laws.{WrittenSpells, OnePacket, OnlyReservedDiffer, SpelledIsRead, SpelledIsReadFor, ReadIsSpelled, ReadForIsSpelled, EachIsPacket, EachButTheLastIsFull, PacketsJoin, OneMessage, SplitsToWritten, SplitsReadBack};
 
-/// What is written spells the packet and no other, and the reserved bits alone are free.
+/// The bytes that are written of a packet spell that packet and no other; in bytes that spell it, only reserved bits
+/// may differ.
 pub fn bytes_spell_one_packet()
     ensures written { WrittenSpells }
     ensures one { OnePacket }
     ensures reserved { OnlyReservedDiffer }
 {}
 
-/// The reading by place and the spelling agree, so what is written is read back.
+/// Reading bytes gives the packet that they spell, so a packet that was written is read back.
 pub fn reading_is_spelling()
     ensures read { SpelledIsRead }
     ensures read_for { SpelledIsReadFor }

@@ -44,7 +44,7 @@ pub const MAX_PACKETS: usize = 5;
 
 /// The most payload bytes of one packet, the header not counted: DSP0236's baseline transmission
 /// unit.
-pub const UNIT: usize = 64;
+pub const BASELINE_UNIT: usize = 64;
 
 /// How many packet sequence numbers there are: they are counted modulo this (DSP0236, "MCTP packet
 /// fields").
@@ -57,10 +57,10 @@ pub const VERSION: u8 = 1;
 pub const HEADER: usize = 4;
 
 /// The most bytes of a packet, header and payload.
-pub const MAX_PACKET_BYTES: usize = HEADER + UNIT;
+pub const MAX_PACKET_BYTES: usize = HEADER + BASELINE_UNIT;
 
 /// The most bytes of one message: as many as its packets carry.
-pub const MAX_MESSAGE_BYTES: usize = MAX_PACKETS * UNIT;
+pub const MAX_MESSAGE_BYTES: usize = MAX_PACKETS * BASELINE_UNIT;
 
 /// The bytes of a message, at most [`MAX_MESSAGE_BYTES`].
 pub type Body = ArrayVec<u8, MAX_MESSAGE_BYTES>;

@@ -1,6 +1,8 @@
+//! A packet: its route, its flags and its payload (DSP0236, "MCTP packet fields").
+
 ghost use Rattle.std.specs.Prelude.{◌≡◌, ◌↔◌, IsSome, IfSome};
 
-use crate::{Eid, Seq, Tag, UNIT};
+use crate::{BASELINE_UNIT, Eid, Seq, Tag};
 use std::marker::Model;
 
 /// Where a packet goes and whose message it carries (DSP0236, "MCTP packet fields").
@@ -52,7 +54,7 @@ impl<'a> PacketRef<'a> {
         ensures some { IsSome result ↔ HasPayloadSize payload.entry.now }
         ensures value { IfSome result (λ p. p ≡ packet route start end seq payload.entry.now) }
     {
-        if payload.is_empty() || payload.len() > UNIT {
+        if payload.is_empty() || payload.len() > BASELINE_UNIT {
             return None;
         }
         Some(PacketRef {

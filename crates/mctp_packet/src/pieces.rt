@@ -1,3 +1,5 @@
+//! A message cut into packets of the baseline transmission unit (DSP0236, "Packetizing a message").
+
 ghost use Rattle.std.specs.Prelude.{◌≡◌, ◌<◌, ◌%◌, ◌↔◌, [], length, slice_get, option_map, IfOk, IfSome, IsErrOf, IsSome, OnErr, OnOk, ◌≤◌, map};
 ghost use Rattle.mctp_packet.specs.Packets.{written, HasPayloadSize};
 ghost use Rattle.mctp_packet.specs.Pieces.{piece, piece_count, packet_at, written_packets};
@@ -5,7 +7,8 @@ ghost use Rattle.mctp_packet.specs.SplitFaults.{number_of_split_fault};
 
 use crate::codec::header_of;
 use crate::{
-    MAX_MESSAGE_BYTES, MAX_PACKET_BYTES, MAX_PACKETS, PacketRef, Route, SEQUENCE_NUMBERS, Seq, UNIT,
+    BASELINE_UNIT, MAX_MESSAGE_BYTES, MAX_PACKET_BYTES, MAX_PACKETS, PacketRef, Route,
+    SEQUENCE_NUMBERS, Seq,
 };
 use arrayvec::ArrayVec;
 use std::marker::Model;
@@ -70,7 +73,7 @@ impl Packets {
     }
 }
 
-/// Cuts a message into packets on this route: pieces of [`UNIT`] bytes, the last of 1 to [`UNIT`],
+/// Cuts a message into packets on this route: pieces of [`BASELINE_UNIT`] bytes, the last of 1 to [`BASELINE_UNIT`],
 /// SOM on the first, EOM on the last, and sequence numbers from 0 (DSP0236, "Packetizing a
 /// message").
 pub fn split(route: &Route, message: &[u8]) -> Result<Packets, SplitFault>
@@ -127,7 +130,7 @@ fn put_packets(
     ensures written { map (λ packet. packet.items) packets.new.items ≡ written_packets route.now message.now }
 {
     packets.clear();
-    for i in 0..message.len().div_ceil(UNIT) {
+    for i in 0..message.len().div_ceil(BASELINE_UNIT) {
         // Written in its place, so that no bytes are moved.
         packets.push(ArrayVec::new());
         put_packet(&mut packets[i], *route, message, i);
@@ -140,7 +143,7 @@ pub fn packet_at<'a>(route: &Route, message: &'a [u8], index: usize) -> Option<P
     ensures some { IsSome result ↔ (index < piece_count message.now) }
     ensures value { IfSome result (λ packet. packet ≡ packet_at route.now message.now index) }
 {
-    if index < message.len().div_ceil(UNIT) {
+    if index < message.len().div_ceil(BASELINE_UNIT) {
         Some(packet_of(*route, message, index))
     } else {
         None
@@ -152,7 +155,7 @@ fn packet_of<'a>(route: Route, message: &'a [u8], i: usize) -> PacketRef<'a>
     requires { i < piece_count message.now }
     ensures { result ≡ packet_at route message.now i }
 {
-    let is_last = i + 1 == message.len().div_ceil(UNIT);
+    let is_last = i + 1 == message.len().div_ceil(BASELINE_UNIT);
     PacketRef::new(route, i == 0, is_last, number_at(i), piece_at(message, i)).unwrap()
 }
 
@@ -180,10 +183,10 @@ fn piece_at(message: &[u8], i: usize) -> &[u8]
     ensures value { result.now ≡ piece message.now i }
     ensures size { HasPayloadSize result.now }
 {
-    let (_, rest) = message.split_at(UNIT * i);
-    if rest.len() <= UNIT {
+    let (_, rest) = message.split_at(BASELINE_UNIT * i);
+    if rest.len() <= BASELINE_UNIT {
         return rest;
     }
-    let (piece, _) = rest.split_at(UNIT);
+    let (piece, _) = rest.split_at(BASELINE_UNIT);
     piece
 }

@@ -1,3 +1,5 @@
+//! The reasons to drop a packet or the message that it completes, by number and by name.
+
 ghost use Rattle.std.specs.Prelude.{◌≡◌};
 ghost use Rattle.mctp_packet.specs.Reasons.{number_of, name_of};
 

@@ -12,7 +12,7 @@ use Rattle.pldm_requester.specs.Courses.{Course}
 use Rattle.pldm_requester.specs.Laws.{IsLeftBy, ReceiveLooksBack, SameIsLeft, memo_of}
 use Rattle.pldm_requester.specs.Slots.{held_of}
 use Rattle.pldm_requester.specs.Steps as held_steps
-use Rattle.pldm_requester.specs.Steps.{Held, IsHeld, Memo, arrived_by, got_at, is_recent, received_held}
+use Rattle.pldm_requester.specs.Steps.{RequesterState, IsHeld, Memo, arrived_by, got_at, is_recent, received_held}
 use Rattle.pldm_requester.specs.declared.results.Got.{Got}
 use Rattle.pldm_requester.specs.declared.results.Got.TheVariants as got
 use Rattle.pldm_requester.specs.declared.timing.Timing.{Timing}
@@ -24,7 +24,7 @@ use Rattle.mctp_schedule.specs.Journals.{answered_as}
 use Rattle.mctp_schedule.specs.Logs.{Asked, asked_at, count_of}
 use Rattle.mctp_schedule.specs.Running.{IsOpened, IsRunning, IsSide, answer_action}
 use Rattle.schedule_text.specs.Schedules.{has_requester}
-use Rattle.mctp_schedule.specs.Worlds.{Setting, World, handed, is_timely, requests_of, source_of, tag_is_own, time_now, timing_of, with_call, world}
+use Rattle.mctp_schedule.specs.Worlds.{BothEnds, World, handed, is_timely, requests_of, source_of, tag_is_own, time_now, timing_of, with_call, world}
 use Rattle.mctp_schedule.specs.declared.askers.AnsweredRequest.{AnsweredRequest}
 use Rattle.mctp_schedule.specs.declared.entry.Entry.TheVariants as entry
 use Rattle.mctp_schedule.specs.declared.journal.Journal.{Journal}
@@ -83,7 +83,7 @@ tag_kept count own = go (cases_Bool (nat_le (count - 8) own)) (cases_Bool (nat_l
     go (inl t) (inr u) = absurd (let x = leb-true (count - 8) own t in let y = leb-false count (own + 8) u in omega (arith, x, y))
     go (inr t) (inl u) = absurd (let x = leb-false (count - 8) own t in let y = leb-true count (own + 8) u in omega (arith, x, y))
 
-module _ {S : Type 0} (setting : Setting S) (w : World) (moment e : ℕ) (bytes : List ℕ) (side new : Side) (s : IsSide setting w moment e side) (answered : Option AnsweredRequest) where
+module _ {S : Type 0} (setting : BothEnds S) (w : World) (moment e : ℕ) (bytes : List ℕ) (side new : Side) (s : IsSide setting w moment e side) (answered : Option AnsweredRequest) where
   abbrev v : World
   v = record { calls = with_call w.calls e (requester.Receive moment bytes); log = w.log }
 
@@ -179,7 +179,7 @@ module _ {S : Type 0} (setting : Setting S) (w : World) (moment e : ℕ) (bytes 
             both (inl at_e) (inr other) = away (λ a b. other (sym b))
             both (inr other) own = away (λ a b. other a)
 
-module _ {P S : Type 0} (setting : Setting S) (past : List Step) (run : HeldRun P S) (journal : Journal) (running : IsRunning setting past run) (moment : ℕ) (later : time_now past ≤ moment) where
+module _ {P S : Type 0} (setting : BothEnds S) (past : List Step) (run : HeldRun P S) (journal : Journal) (running : IsRunning setting past run) (moment : ℕ) (later : time_now past ≤ moment) where
   module _ (busy : Bool) (k packet : ℕ) (bytes : List ℕ) (q : Asked) (is : asked_at (world setting past).log k ≡ Some q) (brings : delivered setting (world setting past) busy k packet ≡ Some bytes) (new : Side) (taken : Got) (answered : Option AnsweredRequest) (in_time : Bool) where
     abbrev has : has_requester setting.requesters q.source ≡ true
     has = (running.opened k q is).source
@@ -236,7 +236,7 @@ module _ {P S : Type 0} (setting : Setting S) (past : List Step) (run : HeldRun 
             ap Some (answered_stands setting (world setting past) moment q.source bytes (running.sides q.source has).0 new (later_side_of q.source (running.sides q.source has).0 (running.sides q.source has).2) answered x j r at (running.opened j r at))
 
 -- ---- the request that is told as answered has been opened
-pub told_below : {S : Type 0} (setting : Setting S) (w : World) (now e : ℕ) (side : Side) → IsSide setting w now e side → (bytes : List ℕ) (answered : Option AnsweredRequest) (bound : ℕ) → count_of w.log ≡ bound
+pub told_below : {S : Type 0} (setting : BothEnds S) (w : World) (now e : ℕ) (side : Side) → IsSide setting w now e side → (bytes : List ℕ) (answered : Option AnsweredRequest) (bound : ℕ) → count_of w.log ≡ bound
     → ReportsReply side.numbers (arrived_by (held_of side.station) (held_steps.passed (held_of side.station) bytes)) answered → IfSome answered (λ a. a.number < bound)
 told_below setting w now e side s bytes answered bound all tells = go (arrived_by (held_of side.station) (held_steps.passed (held_of side.station) bytes)) refl tells
   where

@@ -18,7 +18,7 @@ use Rattle.mctp_schedule.specs.Requests.{Request}
 use Rattle.mctp_schedule.specs.Running.{IsCarried, IsDevice, IsOpened, IsRunning, IsSide}
 use Rattle.mctp_schedule.specs.Timely.{ids_arrived}
 use Rattle.schedule_text.specs.Schedules.{has_requester}
-use Rattle.mctp_schedule.specs.Worlds.{Setting, World, is_timely, requests_of, time_now, timing_of, with_call, world}
+use Rattle.mctp_schedule.specs.Worlds.{BothEnds, World, is_timely, requests_of, time_now, timing_of, with_call, world}
 use Rattle.mctp_schedule.specs.declared.entry.Entry.{Entry}
 use Rattle.mctp_schedule.specs.declared.journal.Journal.{Journal}
 use Rattle.schedule_text.specs.declared.step.Action.{Action}
@@ -51,7 +51,7 @@ pub record Writes (old new : Journal) (x : Entry) : Type 0 where
   pub traffic : new.traffic.items ≡ old.traffic.items
   pub order : new.order.items ≡ old.order.items
 
-module _ {P S : Type 0} (setting : Setting S) (past : List Step) (run : HeldRun P S) (journal : Journal) (running : IsRunning setting past run) (moment : ℕ) (later : time_now past ≤ moment) (a : Action) where
+module _ {P S : Type 0} (setting : BothEnds S) (past : List Step) (run : HeldRun P S) (journal : Journal) (running : IsRunning setting past run) (moment : ℕ) (later : time_now past ≤ moment) (a : Action) where
   abbrev w : World
   w = world setting past
 

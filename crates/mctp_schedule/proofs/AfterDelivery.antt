@@ -15,11 +15,11 @@ use Rattle.pldm_responder.specs.Calls.{answer_expected, events, fed, looked_back
 use Rattle.pldm_responder.specs.Calls as responder
 use Rattle.pldm_responder.specs.Events.{Message, Event, Came, Place, is_busy, id_of, is_copy, is_copy_of, is_fresh, origin, recent, refuses_bytes}
 use Rattle.pldm_responder.specs.Fitting.{ArrivalFits, Fits, ReceivedFits}
-use Rattle.pldm_responder.specs.Held.{Held, IsHeld, id_in}
+use Rattle.pldm_responder.specs.ResponderStates.{ResponderState, IsHeld, id_in}
 use Rattle.pldm_responder.specs.Recency.{of_number, renewed}
 use Rattle.pldm_responder.specs.Laws.{IsLeftBy, ReceivedLooksBack, SameIsLeft, entry_at}
 use Rattle.pldm_responder.specs.Performing.{Rules, answered, busy_reply, changes, performed, reply}
-use Rattle.pldm_responder.specs.Stations.{Station, held_of}
+use Rattle.pldm_responder.specs.ResponderViews.{ResponderView, held_of}
 use Rattle.pldm_responder.specs.Steps.{performs, received_arrival, received_held, received_outcome, repeats}
 use Rattle.pldm_responder.specs.declared.outcome.Outcome.{Outcome}
 use Rattle.pldm_responder.specs.declared.outcome.Outcome.TheVariants.{Answered}
@@ -35,7 +35,7 @@ use Rattle.mctp_schedule.specs.Logs.{Asked, asked_at, message_at, told, told_of}
 use Rattle.mctp_schedule.specs.OncePerformed.{FitsPackets}
 use Rattle.mctp_schedule.specs.Requests.{Request}
 use Rattle.mctp_schedule.specs.Running.{IsCarried, IsOpened, IsRunning, busy_packets, device_calls, received}
-use Rattle.mctp_schedule.specs.Worlds.{Setting, World, answer_packets, comes_in_time, is_timely, time_now, world}
+use Rattle.mctp_schedule.specs.Worlds.{BothEnds, World, answer_packets, comes_in_time, is_timely, time_now, world}
 use Rattle.mctp_schedule.specs.Timely.{ids_arrived, with_first}
 use Rattle.mctp_schedule.specs.declared.arrivals.Arrivals.{Arrivals}
 use Rattle.mctp_schedule.specs.declared.entry.Entry.{Entry}
@@ -78,7 +78,7 @@ module _ {S : Type 0} (device : Rules S) (own window keep : ℕ) (start : S) (es
       go false false = refl
 
 -- what is held when the responder, what is written down and the instance IDs that arrived have changed
-abbrev pub with_delivery : {P S : Type 0} → HeldRun P S → Station P S → Journal → Arrivals → HeldRun P S
+abbrev pub with_delivery : {P S : Type 0} → HeldRun P S → ResponderView P S → Journal → Arrivals → HeldRun P S
 with_delivery run new journal arrivals = record {
   keep = run.keep;
   window = run.window;
@@ -89,7 +89,7 @@ with_delivery run new journal arrivals = record {
 }
 
 -- ---- a message is performed exactly where it is fresh
-module _ {S : Type 0} (device : Rules S) (own window keep : ℕ) (start : S) (held : Held S) (calls : List (responder.Call S)) (left : IsLeftBy device own All window keep start held calls) where
+module _ {S : Type 0} (device : Rules S) (own window keep : ℕ) (start : S) (held : ResponderState S) (calls : List (responder.Call S)) (left : IsLeftBy device own All window keep start held calls) where
   repeats_is : (m : Message) (place : Option (Place S)) → repeats keep m (option_map (entry_at device All window keep start) place) ≡ is_copy_of keep m place
   repeats_is m None = refl
   repeats_is m (Some place) = refl
@@ -111,7 +111,7 @@ listed true xs n = refl
 listed false xs n = append_none xs
 
 -- ---- the packet of a request, of which the header and the message stand apart
-pub carried_packet : {P S : Type 0} (setting : Setting S) (past : List Step) (run : HeldRun P S) → IsRunning setting past run
+pub carried_packet : {P S : Type 0} (setting : BothEnds S) (past : List Step) (run : HeldRun P S) → IsRunning setting past run
     → (n : ℕ) (r : Asked) → asked_at (world setting past).log n ≡ Some r → (bytes : List ℕ)
     → Some bytes ≡ packet_of_request (slice_get run.journal.traffic.items n) (slice_get run.journal.requests.items n)
     → bytes ≡ packet_bytes r.source setting.eid r.own r.message
@@ -122,7 +122,7 @@ carried_packet setting past run running n r is bytes made =
     let whole : bytes ≡ t.0.header ++ r.message = cc in
     whole ∙ t.2.packet
 
-module _ {P S : Type 0} (setting : Setting S) (past : List Step) (run : HeldRun P S) (journal : Journal) (running : IsRunning setting past run) (moment n : ℕ) (later : time_now past ≤ moment) where
+module _ {P S : Type 0} (setting : BothEnds S) (past : List Step) (run : HeldRun P S) (journal : Journal) (running : IsRunning setting past run) (moment n : ℕ) (later : time_now past ≤ moment) where
   abbrev w : World
   w = world setting past
 
@@ -161,7 +161,7 @@ module _ {P S : Type 0} (setting : Setting S) (past : List Step) (run : HeldRun 
   }
 
   -- ---- a request that was opened
-  module _ (r : Asked) (is : asked_at w.log n ≡ Some r) (new : Station P S) (arrivals : Arrivals) (bytes : List ℕ) (outcome : Outcome) (arrived busy in_time : Bool) where
+  module _ (r : Asked) (is : asked_at w.log n ≡ Some r) (new : ResponderView P S) (arrivals : Arrivals) (bytes : List ℕ) (outcome : Outcome) (arrived busy in_time : Bool) where
     abbrev m : Message
     m = message_at moment r
 

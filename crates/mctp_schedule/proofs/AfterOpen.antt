@@ -28,7 +28,7 @@ use Rattle.mctp_schedule.specs.Places.{side_at}
 use Rattle.mctp_schedule.specs.Requests.{Request, begun}
 use Rattle.mctp_schedule.specs.Running.{IsCarried, IsDevice, IsOpened, IsRunning, IsSide, busy_packets}
 use Rattle.schedule_text.specs.Schedules.{has_requester}
-use Rattle.mctp_schedule.specs.Worlds.{Setting, World, answer_packets, asked_by, requests_of, time_now, timing_of, with_call, world}
+use Rattle.mctp_schedule.specs.Worlds.{BothEnds, World, answer_packets, asked_by, requests_of, time_now, timing_of, with_call, world}
 use Rattle.mctp_schedule.specs.declared.askers.SentRequest.{SentRequest}
 use Rattle.mctp_schedule.specs.declared.entry.Entry.TheVariants as entry
 use Rattle.mctp_schedule.specs.declared.journal.Journal.{Journal}
@@ -80,7 +80,7 @@ module _ (S : Type 0) where
       go None is = refl
       go (Some place) is = absurd (let below = first_below S keep log k place is in omega (arith, below, l))
 
-module _ {P S : Type 0} (setting : Setting S) (past : List Step) (run : HeldRun P S) (journal : Journal) (running : IsRunning setting past run) (moment : ℕ) (later : time_now past ≤ moment) (e : ℕ) (has : has_requester setting.requesters e ≡ true) (command : Command) (new : Side) (looks : OpenLooksBack) (same : SameIsLeft) where
+module _ {P S : Type 0} (setting : BothEnds S) (past : List Step) (run : HeldRun P S) (journal : Journal) (running : IsRunning setting past run) (moment : ℕ) (later : time_now past ≤ moment) (e : ℕ) (has : has_requester setting.requesters e ≡ true) (command : Command) (new : Side) (looks : OpenLooksBack) (same : SameIsLeft) where
   abbrev w : World
   w = world setting past
 

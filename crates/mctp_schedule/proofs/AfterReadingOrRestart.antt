@@ -2,17 +2,17 @@
 use Rattle.std.proofs.Common.{◌≡◌, ℕ, ◌≤◌, List, [], ◌∷◌, ◌++◌, refl, sym, ap, subst, ◌∙◌, arith}
 use Rattle.std.specs.Prelude.{ℤ, length, slice_get}
 use Rattle.pldm_wire.specs.declared.busy_time.BusyTime.TheVariants.{All}
-use Rattle.pldm_responder.specs.Held.{IsHeld}
+use Rattle.pldm_responder.specs.ResponderStates.{IsHeld}
 use Rattle.pldm_responder.specs.Laws.{RestartedLooksBack, SameIsLeft, SensedLooksBack}
 use Rattle.pldm_responder.specs.Events.{Set, Restarted}
-use Rattle.pldm_responder.specs.Stations.{Station, held_of}
+use Rattle.pldm_responder.specs.ResponderViews.{ResponderView, held_of}
 use Rattle.pldm_responder.specs.Steps.{restarted_held, sensed_held}
 use Rattle.mctp_schedule.specs.Entries.{entry_of}
 use Rattle.mctp_schedule.specs.HeldRuns.{HeldRun}
 use Rattle.mctp_schedule.specs.Journals.{Carried}
 use Rattle.mctp_schedule.specs.Requests.{Request}
 use Rattle.mctp_schedule.specs.Running.{IsCarried, IsRunning, device_calls}
-use Rattle.mctp_schedule.specs.Worlds.{Setting, World, time_now, world}
+use Rattle.mctp_schedule.specs.Worlds.{BothEnds, World, time_now, world}
 use Rattle.mctp_schedule.specs.declared.entry.Entry.{Entry}
 use Rattle.mctp_schedule.specs.declared.journal.Journal.{Journal}
 use Rattle.schedule_text.specs.declared.step.Action.TheVariants as actions
@@ -20,7 +20,7 @@ use Rattle.schedule_text.specs.declared.step.Step.{Step}
 use Rattle.mctp_schedule.proofs.KeptByAStep.{still_carried, still_opened, still_side}
 
 -- what is held when the responder and what is written down have changed
-abbrev pub with_responder : {P S : Type 0} → HeldRun P S → Station P S → Journal → HeldRun P S
+abbrev pub with_responder : {P S : Type 0} → HeldRun P S → ResponderView P S → Journal → HeldRun P S
 with_responder run new journal = record {
   keep = run.keep;
   window = run.window;
@@ -38,7 +38,7 @@ pub record Enters (old new : Journal) (entry : Entry) : Type 0 where
   pub order : new.order.items ≡ old.order.items
   pub timely : new.timely ≡ old.timely
 
-module _ {P S : Type 0} (setting : Setting S) (past : List Step) (run : HeldRun P S) (new : Station P S) (journal : Journal) (running : IsRunning setting past run) (moment : ℕ) (later : time_now past ≤ moment) where
+module _ {P S : Type 0} (setting : BothEnds S) (past : List Step) (run : HeldRun P S) (new : ResponderView P S) (journal : Journal) (running : IsRunning setting past run) (moment : ℕ) (later : time_now past ≤ moment) where
   abbrev w : World
   w = world setting past
 

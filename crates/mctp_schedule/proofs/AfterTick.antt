@@ -19,7 +19,7 @@ use Rattle.mctp_schedule.specs.Journals.{progress_after}
 use Rattle.mctp_schedule.specs.Logs.{Asked, asked_at}
 use Rattle.mctp_schedule.specs.Running.{IsOpened, IsRunning}
 use Rattle.schedule_text.specs.Schedules.{has_requester}
-use Rattle.mctp_schedule.specs.Worlds.{Setting, World, requests_of, time_now, timing_of, with_call, world}
+use Rattle.mctp_schedule.specs.Worlds.{BothEnds, World, requests_of, time_now, timing_of, with_call, world}
 use Rattle.mctp_schedule.specs.declared.entry.Entry.TheVariants as entry
 use Rattle.mctp_schedule.specs.declared.journal.Journal.{Journal}
 use Rattle.schedule_text.specs.declared.step.Action.TheVariants as actions
@@ -39,7 +39,7 @@ ticked_progress timing moment course = go (is_given_up timing moment course) (is
 pub one_asked : (o : Option Asked) (q r : Asked) → o ≡ Some q → o ≡ Some r → q ≡ r
 one_asked o q r e f = let both : ◌≡◌ {A = Option Asked} (Some q) (Some r) = sym e ∙ f in cc
 
-module _ {S : Type 0} (setting : Setting S) (w : World) (moment e : ℕ) where
+module _ {S : Type 0} (setting : BothEnds S) (w : World) (moment e : ℕ) where
   abbrev v : World
   v = record { calls = with_call w.calls e (requester.Tick moment); log = w.log }
 
@@ -94,7 +94,7 @@ pub due_is : (due : DueNumbers) (again given_up : List ℕ) → due.again.items 
 due_is due again given_up a b =
     ap (λ (xs : List ℕ). record { again = record { items = xs }; given_up = due.given_up }) a ∙ ap (λ (xs : List ℕ). record { again = record { items = again }; given_up = record { items = xs } }) b
 
-module _ {P S : Type 0} (setting : Setting S) (past : List Step) (run : HeldRun P S) (journal : Journal) (running : IsRunning setting past run) (moment : ℕ) (later : time_now past ≤ moment) (e : ℕ) (has : has_requester setting.requesters e ≡ true) (new : Side) (due : DueNumbers) where
+module _ {P S : Type 0} (setting : BothEnds S) (past : List Step) (run : HeldRun P S) (journal : Journal) (running : IsRunning setting past run) (moment : ℕ) (later : time_now past ≤ moment) (e : ℕ) (has : has_requester setting.requesters e ≡ true) (new : Side) (due : DueNumbers) where
   pub record Ticks : Type 0 where
     pub held : IsHeld (held_of new.station) (ticked_held (held_of (running.sides e has).0.station) moment)
     pub same_numbers : new.numbers ≡ (running.sides e has).0.numbers

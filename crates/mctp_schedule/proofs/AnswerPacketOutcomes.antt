@@ -29,7 +29,7 @@ use Rattle.mctp_schedule.specs.FirstArrivals.{first}
 use Rattle.mctp_schedule.specs.OncePerformed.{FitsPackets, bytes_of, given_once, once, reply_from, was_busy}
 use Rattle.mctp_schedule.specs.RequesterHalf.{IsSound}
 use Rattle.mctp_schedule.specs.Taken.{brought, came, completes, completes_for, is_ready, is_waiting, part_count, replies, reply_of, row, way_to}
-use Rattle.mctp_schedule.specs.Worlds.{Setting, World, answer_packets, busy_from, busy_packet, packet_of, reply_packet, requests_of, timing_of, world}
+use Rattle.mctp_schedule.specs.Worlds.{BothEnds, World, answer_packets, busy_from, busy_packet, packet_of, reply_packet, requests_of, timing_of, world}
 use Rattle.schedule_text.specs.declared.step.Step.{Step}
 use Rattle.mctp_schedule.proofs.RepliesAreTaken.{AnswersRequest, answer_arrives, busy_refuses, reply_answers, whole_arrival}
 use Rattle.mctp_schedule.proofs.DeliveriesExpected.{given_is_the_reply, the_reply_fits}
@@ -53,7 +53,7 @@ arrival_by (Whole body) = Drop NotReady
 arrival_by Partial = Part
 arrival_by (Dropped reason) = Drop reason
 
-module _ {S : Type 0} (setting : Setting S) (lower : Lower) (past : List Step) (timely : IsTimelyLog S setting.window setting.keep (world setting past).log) (sound : IsSound setting past) (k : ℕ) (r : Asked) (is : asked_at (world setting past).log k ≡ Some r) where
+module _ {S : Type 0} (setting : BothEnds S) (lower : Lower) (past : List Step) (timely : IsTimelyLog S setting.window setting.keep (world setting past).log) (sound : IsSound setting past) (k : ℕ) (r : Asked) (is : asked_at (world setting past).log k ≡ Some r) where
   abbrev w : World
   w = world setting past
 

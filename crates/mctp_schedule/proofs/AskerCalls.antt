@@ -9,7 +9,7 @@ use Rattle.mctp_packet.specs.Pieces.{piece, piece_count, written_packets}
 use Rattle.mctp_packet.specs.declared.packet.Route.{Route}
 use Rattle.mctp_packet.specs.declared.reason.Reason.{Reason}
 use Rattle.mctp_packet.specs.declared.reason.Reason.TheVariants.{NotMine, NotReady}
-use Rattle.mctp_packet.specs.declared.TheConstants.{HEADER, SEQUENCE_NUMBERS, UNIT}
+use Rattle.mctp_packet.specs.declared.TheConstants.{HEADER, SEQUENCE_NUMBERS, BASELINE_UNIT}
 use Rattle.mctp_assembly.specs.Steps as assembly
 use Rattle.mctp_assembly.specs.declared.fed.Fed.{Fed}
 use Rattle.mctp_assembly.specs.declared.fed.Fed.TheVariants as feds
@@ -23,7 +23,7 @@ use Rattle.pldm_requester.specs.Courses.{Course, is_open}
 use Rattle.pldm_requester.specs.Numbering.{message_of, opened_as, route_of}
 use Rattle.pldm_requester.specs.Slots.{held_of, remembered_in}
 use Rattle.pldm_requester.specs.declared.requester.TheConstants.{MAX_OPEN, MAX_REMEMBERED}
-use Rattle.pldm_requester.specs.Steps.{Held, IsHeld, Memo, arrived_by, goes_to, got_at, is_mine, is_open_in, latest_on, new_memo, opened_held, passed, passes, received_held, recent_numbers, remembered_after, where_open, with_course}
+use Rattle.pldm_requester.specs.Steps.{RequesterState, IsHeld, Memo, arrived_by, goes_to, got_at, is_mine, is_open_in, latest_on, new_memo, opened_held, passed, passes, received_held, recent_numbers, remembered_after, where_open, with_course}
 use Rattle.pldm_requester.specs.declared.results.Got.{Got}
 use Rattle.pldm_requester.specs.declared.results.Got.TheVariants as gots
 use Rattle.pldm_requester.specs.declared.results.Opened.{Opened}
@@ -37,10 +37,10 @@ abbrev counted : Route → List ℕ → ℕ → List (List ℕ)
 counted route message n =
     map (λ i. written (packet route (i == 0) (i + 1 == n) (i % SEQUENCE_NUMBERS) (piece message i))) (range_with_len 0 n)
 
-pub one_packet : (route : Route) (message : List ℕ) → 0 < length message → length message ≤ UNIT → written_packets route message ≡ written (packet route true true 0 message) ∷ []
+pub one_packet : (route : Route) (message : List ℕ) → 0 < length message → length message ≤ BASELINE_UNIT → written_packets route message ≡ written (packet route true true 0 message) ∷ []
 one_packet route message some few =
     let one : piece_count message ≡ 1 = omega arith in
-    ap (counted route message) one ∙ ap (λ m. written (packet route true true 0 m) ∷ []) (take_all UNIT message few)
+    ap (counted route message) one ∙ ap (λ m. written (packet route true true 0 m) ∷ []) (take_all BASELINE_UNIT message few)
 
 -- ---- an accepted open
 pub accepted_as : (tag id : Bool) (number : ℕ) (opened : Opened) → open_answer tag id number ≡ Ok opened → opened ≡ opened_as number
@@ -48,20 +48,20 @@ accepted_as true id number opened e = absurd (cc)
 accepted_as false true number opened e = absurd (cc)
 accepted_as false false number opened e = cc
 
-pub opened_memo : (new held : Held) (moment : ℕ) (command : Command) → IsHeld new (opened_held held moment command) → new.remembered held.count ≡ Some (new_memo held moment command)
+pub opened_memo : (new held : RequesterState) (moment : ℕ) (command : Command) → IsHeld new (opened_held held moment command) → new.remembered held.count ≡ Some (new_memo held moment command)
 opened_memo new held moment command h = h.remembered held.count ∙ cond-true (held.count == held.count) _ _ (eq-eqb held.count held.count refl)
 
 -- it is the one packet of the request
-pub opened_packet : (new held : Held) (moment number : ℕ) (command : Command) → IsHeld new (opened_held held moment command) → number ≡ held.count
-    → 0 < length (message_of held.count command) → length (message_of held.count command) ≤ UNIT
+pub opened_packet : (new held : RequesterState) (moment number : ℕ) (command : Command) → IsHeld new (opened_held held moment command) → number ≡ held.count
+    → 0 < length (message_of held.count command) → length (message_of held.count command) ≤ BASELINE_UNIT
     → option_map (λ (memo : Memo). memo.packets) (new.remembered number) ≡ Some (packet_bytes held.own held.device held.count (message_of held.count command) ∷ [])
 opened_packet new held moment number command h same some few =
     ap (λ n. option_map (λ (memo : Memo). memo.packets) (new.remembered n)) same
     ∙ ap (option_map (λ (memo : Memo). memo.packets)) (opened_memo new held moment command h)
     ∙ ap Some (one_packet (route_of held.own held.device held.count) (message_of held.count command) some few)
 
-pub sent_packet : (new held : Held) (moment number : ℕ) (command : Command) (bytes : List ℕ) → IsHeld new (opened_held held moment command) → number ≡ held.count
-    → 0 < length (message_of held.count command) → length (message_of held.count command) ≤ UNIT
+pub sent_packet : (new held : RequesterState) (moment number : ℕ) (command : Command) (bytes : List ℕ) → IsHeld new (opened_held held moment command) → number ≡ held.count
+    → 0 < length (message_of held.count command) → length (message_of held.count command) ≤ BASELINE_UNIT
     → option_map (λ (memo : Memo). memo.packets) (new.remembered number) ≡ Some (bytes ∷ [])
     → bytes ≡ packet_bytes held.own held.device held.count (message_of held.count command)
 sent_packet new held moment number command bytes h same some few here =
@@ -70,7 +70,7 @@ sent_packet new held moment number command bytes h same some few here =
     cc
 
 -- what is told of it is what its packet tells
-module _ (held new : Held) (moment : ℕ) (command : Command) (own : ℕ) (after : IsHeld new (opened_held held moment command)) (is : IsOpenedAs held moment command own) (some : 0 < length (message_of held.count command)) (few : length (message_of held.count command) ≤ UNIT) where
+module _ (held new : RequesterState) (moment : ℕ) (command : Command) (own : ℕ) (after : IsHeld new (opened_held held moment command)) (is : IsOpenedAs held moment command own) (some : 0 < length (message_of held.count command)) (few : length (message_of held.count command) ≤ BASELINE_UNIT) where
   pub has_packet : HasPacket new own
   has_packet = (
     packet_bytes held.own held.device held.count (message_of held.count command),
@@ -116,7 +116,7 @@ open_number opens (Some number) n e = go (opens number) refl e
     go true o e = let same : number ≡ n = cc in ap opens (sym same) ∙ o
     go false o e = absurd (cc)
 
-goes_open : (held : Held) (p : Packet) (n : ℕ) → goes_to held p ≡ Some n → is_open_in held n ≡ true
+goes_open : (held : RequesterState) (p : Packet) (n : ℕ) → goes_to held p ≡ Some n → is_open_in held n ≡ true
 goes_open held p n e = go (is_from_device held.device p) e
   where
     go : (b : Bool) → (if b then where_open (is_open_in held) (latest_on held.count p.route.tag) else None) ≡ Some n → is_open_in held n ≡ true
@@ -127,7 +127,7 @@ some_memo : (test : Course → Bool) (memo : Option Memo) → passes test memo �
 some_memo test None e = absurd (cc)
 some_memo test (Some m) e = (m, refl)
 
-pub answer_remembered : (held : Held) (read : Result Packet Reason) (n : ℕ) (message : List ℕ) → arrived_by held read ≡ Answer n message → (memo : Memo) × (held.remembered n ≡ Some memo)
+pub answer_remembered : (held : RequesterState) (read : Result Packet Reason) (n : ℕ) (message : List ℕ) → arrived_by held read ≡ Answer n message → (memo : Memo) × (held.remembered n ≡ Some memo)
 answer_remembered held (Err reason) n message e = absurd (cc)
 answer_remembered held (Ok p) n message e =
     some_memo is_open (held.remembered n) (goes_open held p n (packet_number (goes_to held p) (λ number q. assembly.answer held.open_messages q) (is_mine held) p n message e))
@@ -138,7 +138,7 @@ answer_of_got Part own e = absurd (cc)
 answer_of_got (Answer number message) own e = let same : number ≡ own = cc in (message, ap (λ n. Answer n message) same)
 
 -- what is held after an answer to this request
-pub progress_left : (held new : Held) (moment : ℕ) (bytes : List ℕ) (own : ℕ) (message : List ℕ) → IsHeld new (received_held held moment bytes) → arrived_by held (passed held bytes) ≡ Answer own message
+pub progress_left : (held new : RequesterState) (moment : ℕ) (bytes : List ℕ) (own : ℕ) (message : List ℕ) → IsHeld new (received_held held moment bytes) → arrived_by held (passed held bytes) ≡ Answer own message
     → option_map (λ (memo : Memo). memo.course.progress) (new.remembered own) ≡ Some (courses.Answered message)
 progress_left held new moment bytes own message h e =
     let memo = answer_remembered held (passed held bytes) own message e in
@@ -173,7 +173,7 @@ pub same_answer : (progress : Option courses.Progress) (a b : List ℕ) → prog
 same_answer progress a b e f = let both : ◌≡◌ {A = Option courses.Progress} (Some (courses.Answered a)) (Some (courses.Answered b)) = sym e ∙ f in cc
 
 module _ (old new : Side) (moment : ℕ) (bytes : List ℕ) (got : Got) (after : IsHeld (held_of new.station) (received_held (held_of old.station) moment bytes)) (gave : got ≡ got_at (held_of old.station) bytes) (same : new.numbers ≡ old.numbers) where
-  abbrev held : Held
+  abbrev held : RequesterState
   held = held_of old.station
 
   pub is_answered : length old.numbers ≡ held.count → IsAnswered new got

@@ -7,9 +7,9 @@ use Rattle.mctp_packet.specs.Laws.{SpelledIsReadFor, WrittenSpells}
 use Rattle.mctp_assembly.specs.Steps as assembly
 use Rattle.pldm_responder.specs.Arrivals.{Whole, arrival}
 use Rattle.pldm_responder.specs.Events.{is_busy, is_copy, is_fresh}
-use Rattle.pldm_responder.specs.Held.{Held}
+use Rattle.pldm_responder.specs.ResponderStates.{ResponderState}
 use Rattle.pldm_responder.specs.Performing.{commands_of}
-use Rattle.pldm_responder.specs.Stations.{held_of}
+use Rattle.pldm_responder.specs.ResponderViews.{held_of}
 use Rattle.pldm_responder.specs.Steps.{arrival_commands, performs, received_arrival, received_commands}
 use Rattle.mctp_schedule.specs.Askers.{packet_bytes}
 use Rattle.mctp_schedule.specs.DeviceHalf.{FreshWhereFirst}
@@ -19,7 +19,7 @@ use Rattle.mctp_schedule.specs.Logs.{Asked, Happening, Opened, Delivered, Sensed
 use Rattle.mctp_schedule.specs.Timely.{IsTimelyLog}
 use Rattle.mctp_schedule.specs.PerformedCommands.{commands_at_delivery, commands_at_step, commands_if, commands_once, commands_performed}
 use Rattle.mctp_schedule.specs.Running.{IsRunning, answer_action, device_calls}
-use Rattle.mctp_schedule.specs.Worlds.{Setting, World, done, handed, world}
+use Rattle.mctp_schedule.specs.Worlds.{BothEnds, World, done, handed, world}
 use Rattle.schedule_text.specs.declared.step.Action.{Action}
 use Rattle.schedule_text.specs.declared.step.Action.TheVariants as actions
 use Rattle.schedule_text.specs.declared.step.Step.{Step}
@@ -33,12 +33,12 @@ opened_or_not : (S : Type 0) (window keep : ℕ) (accepted : Bool) (r : Asked) (
 opened_or_not S window keep true r log = refl
 opened_or_not S window keep false r log = refl
 
-handed_log : {S : Type 0} (setting : Setting S) (w : World) (moment e : ℕ) (packet : Option (List ℕ))
+handed_log : {S : Type 0} (setting : BothEnds S) (w : World) (moment e : ℕ) (packet : Option (List ℕ))
     → (handed setting w moment e packet).log ≡ w.log
 handed_log setting w moment e None = refl
 handed_log setting w moment e (Some bytes) = refl
 
-module _ {S : Type 0} (setting : Setting S) where
+module _ {S : Type 0} (setting : BothEnds S) where
   pub commands_added : (w : World) (moment : ℕ) (action : Action)
       → commands_performed S setting.window setting.keep (done setting w moment action).log
       ≡ commands_at_step S setting.window setting.keep w.log moment action ++ commands_performed S setting.window setting.keep w.log
@@ -60,11 +60,11 @@ chosen : (b : Bool) (r : Asked) → (if b then commands_of r.message else []) �
 chosen true r = refl
 chosen false r = refl
 
-module _ {P S : Type 0} (setting : Setting S) (past : List Step) (run : HeldRun P S) (running : IsRunning setting past run) where
+module _ {P S : Type 0} (setting : BothEnds S) (past : List Step) (run : HeldRun P S) (running : IsRunning setting past run) where
   abbrev log : List Happening
   log = (world setting past).log
 
-  abbrev held : Held S
+  abbrev held : ResponderState S
   held = held_of run.responder
 
   module _ (moment n : ℕ) (r : Asked) (is : asked_at log n ≡ Some r) (bytes : List ℕ) (packet_is : bytes ≡ packet_bytes r.source setting.eid r.own r.message) (spells : WrittenSpells) (read_for : SpelledIsReadFor) where

@@ -8,7 +8,7 @@ use Rattle.mctp_packet.specs.Ids.{IsEid}
 use Rattle.mctp_packet.specs.Laws.{SpelledIsReadFor, WrittenSpells}
 use Rattle.mctp_packet.specs.Packets.{IsPacket, Packet, packet, written}
 use Rattle.mctp_packet.specs.Passing.{passed}
-use Rattle.mctp_packet.specs.declared.TheConstants.{UNIT, MAX_PACKETS}
+use Rattle.mctp_packet.specs.declared.TheConstants.{BASELINE_UNIT, MAX_PACKETS}
 use Rattle.mctp_assembly.specs.Histories as histories
 use Rattle.mctp_assembly.specs.Keys.{key_of}
 use Rattle.mctp_assembly.specs.Opened.{Opened as Began}
@@ -101,7 +101,7 @@ module _ (S : Type 0) (keep : ℕ) (past : List Happening) (moment n : ℕ) wher
 abbrev pub packet_for : ℕ → Asked → Packet
 packet_for eid r = packet (route_of r.source eid r.own) true true 0 r.message
 
-pub held_whole : (held : assembly.Held) (eid : ℕ) (r : Asked) → assembly.answer held (packet_for eid r) ≡ feds.Whole (record { items = r.message })
+pub held_whole : (held : assembly.OpenMessages) (eid : ℕ) (r : Asked) → assembly.answer held (packet_for eid r) ≡ feds.Whole (record { items = r.message })
 held_whole held eid r = go (map.get held (key_of (packet_for eid r)))
   where
     go : (o : Option Began) → assembly.answer_to MAX_PACKETS o (packet_for eid r) ≡ feds.Whole (record { items = r.message })
@@ -111,7 +111,7 @@ held_whole held eid r = go (map.get held (key_of (packet_for eid r)))
 pub looked_whole : (calls : List histories.Call) (eid : ℕ) (r : Asked) → looked_back calls (packet_for eid r) ≡ feds.Whole (record { items = r.message })
 looked_whole calls eid r = refl
 
-pub brings_message : WrittenSpells → SpelledIsReadFor → (gives : Packet → Fed) (eid moment : ℕ) (r : Asked) (request : requests.Request) → IsEid eid → IsEid r.source → r.source ≢ eid → 0 < length r.message → length r.message ≤ UNIT → request_of r.message ≡ Ok request
+pub brings_message : WrittenSpells → SpelledIsReadFor → (gives : Packet → Fed) (eid moment : ℕ) (r : Asked) (request : requests.Request) → IsEid eid → IsEid r.source → r.source ≢ eid → 0 < length r.message → length r.message ≤ BASELINE_UNIT → request_of r.message ≡ Ok request
     → gives (packet_for eid r) ≡ feds.Whole (record { items = r.message }) → arrival gives eid moment (packet_bytes r.source eid r.own r.message) ≡ Whole (message_at moment r)
 brings_message spells read_for gives eid moment r request own source other some few readable whole =
     let p = packet_for eid r in

@@ -9,7 +9,7 @@ use Rattle.pldm_device.specs.Devices.{Device}
 use Rattle.pldm_device.specs.SensorAnswers.{sensed}
 use Rattle.pldm_device.specs.StateEffecters.{fields_of_states}
 use Rattle.pldm_responder.specs.Performing.{rules_of}
-use Rattle.mctp_schedule.specs.Worlds.{Setting}
+use Rattle.mctp_schedule.specs.Worlds.{BothEnds}
 use Rattle.schedule_text.specs.declared.step.Action.{Action}
 use Rattle.schedule_text.specs.declared.step.Action.TheVariants.{Open}
 use Rattle.schedule_text.specs.declared.step.Step.{Step}
@@ -30,7 +30,7 @@ with_values reading value = record {
 }
 
 -- how often the requesters at 8 and 10 send a request at most
-abbrev pub with_tries : ℕ → ℕ → Setting Device
+abbrev pub with_tries : ℕ → ℕ → BothEnds Device
 with_tries eight ten = record {
   device = rules_of answer after sensed;
   start = with_values (pos 40) (pos 10);

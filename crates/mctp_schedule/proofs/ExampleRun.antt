@@ -22,7 +22,7 @@ use Rattle.mctp_schedule.specs.RequesterHalf.{IsTimelySchedule}
 use Rattle.mctp_schedule.specs.Runs.{newest_first}
 use Rattle.schedule_text.specs.Schedules.{IsSchedule, Spelled}
 use Rattle.mctp_schedule.specs.Taken.{is_waiting, replies, taken}
-use Rattle.mctp_schedule.specs.Worlds.{Setting, is_timely, requests_of, world}
+use Rattle.mctp_schedule.specs.Worlds.{BothEnds, is_timely, requests_of, world}
 use Rattle.schedule_text.specs.declared.step.Action.TheVariants.{Open, Tick, Request, Reply, Sense, Restart, Busy}
 use Rattle.schedule_text.specs.declared.step.Step.{Step}
 use Rattle.mctp_schedule.proofs.DeliveriesExpected.{state_is_once}
@@ -31,7 +31,7 @@ use Rattle.mctp_schedule.proofs.SourcesOfRequests.{each_known_opens_at, sources_
 use Rattle.mctp_schedule.proofs.PremiseTests.{all_fit, all_known, all_read, apart, are_requests, each_is_known, goes_on, in_order, in_time, is_schedule, never_went_back, replies_fit, timely_log}
 use Rattle.mctp_schedule.proofs.TimelyTests.{timely_is_tested}
 
-abbrev setting : Setting Device
+abbrev setting : BothEnds Device
 setting = with_tries 3 5
 
 -- the request of 10 comes before that of 8, and comes again; the answer to that of 8 is lost, and the one to its retry

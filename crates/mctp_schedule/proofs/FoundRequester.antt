@@ -9,20 +9,20 @@ use Rattle.mctp_schedule.specs.Logs.{Asked, asked_at}
 use Rattle.mctp_schedule.specs.Places.{side_at}
 use Rattle.mctp_schedule.specs.Requests.{Request}
 use Rattle.mctp_schedule.specs.Running.{IsRunning, IsSide}
-use Rattle.mctp_schedule.specs.Worlds.{Setting, World, time_now, world}
+use Rattle.mctp_schedule.specs.Worlds.{BothEnds, World, time_now, world}
 use Rattle.schedule_text.specs.declared.step.Step.{Step}
 use Rattle.mctp_schedule.proofs.HandedAnswerPackets.{asked_of, delivered, written}
 use Rattle.mctp_schedule.proofs.ListPlaces.{or_get}
 
 -- the packet is of an answer to q; what is written down of q, and the place of its requester
-pub record Found {S : Type 0} (setting : Setting S) (w : World) (busy : Bool) (k packet : ℕ) (bytes : List ℕ) (request : Request) (place : ℕ) : Type 0 where
+pub record Found {S : Type 0} (setting : BothEnds S) (w : World) (busy : Bool) (k packet : ℕ) (bytes : List ℕ) (request : Request) (place : ℕ) : Type 0 where
   pub q : Asked
   pub is : asked_at w.log k ≡ Some q
   pub brings : delivered setting w busy k packet ≡ Some bytes
   pub request_is : request ≡ as_it_stands setting w q
   pub at : place ≡ q.source
 
-module _ {P S : Type 0} (setting : Setting S) (past : List Step) (run : HeldRun P S) (running : IsRunning setting past run) (busy : Bool) (k packet : ℕ) (bytes : List ℕ) (request : Request) (place : ℕ) where
+module _ {P S : Type 0} (setting : BothEnds S) (past : List Step) (run : HeldRun P S) (running : IsRunning setting past run) (busy : Bool) (k packet : ℕ) (bytes : List ℕ) (request : Request) (place : ℕ) where
   abbrev pub finds : (busy ≡ true → packet ≡ 0) → Some bytes ≡ packet_at run.journal.entries packet busy (slice_get run.journal.traffic.items k)
       → request ≡ slice_index_or run.journal.requests.items k request → place ≡ request.asked.source
       → Found setting (world setting past) busy k packet bytes request place

@@ -8,12 +8,12 @@ use Rattle.mctp_schedule.specs.Journals.{packet_at}
 use Rattle.mctp_schedule.specs.Logs.{Asked, asked_at, count_of}
 use Rattle.mctp_schedule.specs.OncePerformed.{given, was_busy}
 use Rattle.mctp_schedule.specs.Running.{IsRunning, answer_action, busy_packets}
-use Rattle.mctp_schedule.specs.Worlds.{Setting, World, answer_packets, busy_from, busy_packet, done, handed, is_timely_action, packet_of, reply_packet, source_of, tag_is_own, world}
+use Rattle.mctp_schedule.specs.Worlds.{BothEnds, World, answer_packets, busy_from, busy_packet, done, handed, is_timely_action, packet_of, reply_packet, source_of, tag_is_own, world}
 use Rattle.schedule_text.specs.declared.step.Step.{Step}
 use Rattle.mctp_schedule.proofs.LoggedRequests.{none_above}
 use Rattle.mctp_schedule.proofs.ListPlaces.{get_past}
 
-module _ {S : Type 0} (setting : Setting S) (w : World) where
+module _ {S : Type 0} (setting : BothEnds S) (w : World) where
   -- the packet that the step delivers
   abbrev pub delivered : Bool → ℕ → ℕ → Option (List ℕ)
   delivered true k packet = busy_packet setting w k
@@ -36,15 +36,15 @@ module _ {S : Type 0} (setting : Setting S) (w : World) where
   none_delivered false k packet none = ap (λ o. packet_of setting o (given setting.device setting.window setting.keep setting.start w.log k) packet) none
 
 -- as it is written down
-reply_in : {S : Type 0} (setting : Setting S) (r : Asked) (message : Option (List ℕ)) (packet : ℕ) → option_and_then (λ packets. slice_get packets packet) (option_map (answer_packets setting.eid r) message) ≡ packet_of setting (Some r) message packet
+reply_in : {S : Type 0} (setting : BothEnds S) (r : Asked) (message : Option (List ℕ)) (packet : ℕ) → option_and_then (λ packets. slice_get packets packet) (option_map (answer_packets setting.eid r) message) ≡ packet_of setting (Some r) message packet
 reply_in setting r None packet = refl
 reply_in setting r (Some message) packet = refl
 
-busy_in : {S : Type 0} (setting : Setting S) (r : Asked) (busy : Bool) → option_and_then (λ packets. slice_get packets 0) (busy_packets setting.eid r busy) ≡ busy_from setting (Some r) busy
+busy_in : {S : Type 0} (setting : BothEnds S) (r : Asked) (busy : Bool) → option_and_then (λ packets. slice_get packets 0) (busy_packets setting.eid r busy) ≡ busy_from setting (Some r) busy
 busy_in setting r true = refl
 busy_in setting r false = refl
 
-module _ {P S : Type 0} (setting : Setting S) (past : List Step) (run : HeldRun P S) (running : IsRunning setting past run) where
+module _ {P S : Type 0} (setting : BothEnds S) (past : List Step) (run : HeldRun P S) (running : IsRunning setting past run) where
   pub written : (busy : Bool) (k packet : ℕ) → (busy ≡ true → packet ≡ 0) → packet_at run.journal.entries packet busy (slice_get run.journal.traffic.items k) ≡ delivered setting (world setting past) busy k packet
   written busy k packet first = go (asked_at (world setting past).log k) refl
     where
@@ -73,7 +73,7 @@ module _ {P S : Type 0} (setting : Setting S) (past : List Step) (run : HeldRun 
           ap (packet_at run.journal.entries packet busy) (get_past run.journal.traffic.items k (omega (arith, above, count))) ∙ sym (none_delivered setting (world setting past) busy k packet none)
       go (Some r) is = some r is busy first
 
-pub asked_of : {S : Type 0} (setting : Setting S) (w : World) (busy : Bool) (k packet : ℕ) (bytes : List ℕ) → delivered setting w busy k packet ≡ Some bytes → (q : Asked) × (asked_at w.log k ≡ Some q)
+pub asked_of : {S : Type 0} (setting : BothEnds S) (w : World) (busy : Bool) (k packet : ℕ) (bytes : List ℕ) → delivered setting w busy k packet ≡ Some bytes → (q : Asked) × (asked_at w.log k ≡ Some q)
 asked_of setting w busy k packet bytes brings = go (asked_at w.log k) refl
   where
     go : (o : Option Asked) → asked_at w.log k ≡ o → (q : Asked) × (asked_at w.log k ≡ Some q)

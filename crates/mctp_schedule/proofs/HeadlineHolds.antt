@@ -6,7 +6,7 @@ use Rattle.pldm_wire.specs.declared.busy_time.BusyTime.TheVariants.{All}
 use Rattle.pldm_platform.specs.Changes.{made_of}
 use Rattle.pldm_responder.specs.Events.{is_busy}
 use Rattle.pldm_responder.specs.Performing.{performed}
-use Rattle.pldm_responder.specs.Stations as responder_stations
+use Rattle.pldm_responder.specs.ResponderViews as responder_stations
 use Rattle.pldm_wire.specs.declared.command.Command.{Command}
 use Rattle.mctp_schedule.specs.DeviceHalf.{DeliveryIsExpected, FreshInOrderOfFirsts, FreshWhereFirst, StateIsOnce}
 use Rattle.mctp_schedule.specs.Entries.{as_it_stands, delivery_entry, entries, entry_of, got_entry}
@@ -20,7 +20,7 @@ use Rattle.mctp_schedule.specs.RequesterHalf.{AnsweredWasPerformed, AnsweredWher
 use Rattle.mctp_schedule.specs.PerformedCommands.{commands_performed}
 use Rattle.mctp_schedule.specs.Requests.{Request as EndedRequest}
 use Rattle.mctp_schedule.specs.Running.{IsRunning}
-use Rattle.mctp_schedule.specs.Worlds.{NeverWentBack, Setting, world}
+use Rattle.mctp_schedule.specs.Worlds.{NeverWentBack, BothEnds, world}
 use Rattle.mctp_schedule.specs.declared.entry.Entry.TheVariants.{Delivered, Sensed}
 use Rattle.schedule_text.specs.declared.step.Action.{Action}
 use Rattle.schedule_text.specs.declared.step.Action.TheVariants as actions
@@ -29,7 +29,7 @@ use Rattle.mctp_schedule.proofs.CommandsPerformed.{performed_once_each}
 use Rattle.mctp_schedule.proofs.AnsweredWhereTaken.{sound_before}
 
 -- the laws of both halves
-pub record Halves {S : Type 0} (setting : Setting S) : Type 0 where
+pub record Halves {S : Type 0} (setting : BothEnds S) : Type 0 where
   pub log : LogIsTimely setting
   pub tested : TimelyIsTested setting
   pub state : StateIsOnce setting.device
@@ -41,7 +41,7 @@ pub record Halves {S : Type 0} (setting : Setting S) : Type 0 where
   pub answered : AnsweredWhereTaken setting
   pub performed : AnsweredWasPerformed setting
 
-module _ {S : Type 0} (setting : Setting S) (laws : Halves setting) where
+module _ {S : Type 0} (setting : BothEnds S) (laws : Halves setting) where
   log_of : (steps : List Step) → IsTimelySchedule setting steps → IsTimelyLog S setting.window setting.keep (world setting steps).log
   log_of steps s = laws.log steps s.order s.timely
 
@@ -88,7 +88,7 @@ module _ {S : Type 0} (setting : Setting S) (laws : Halves setting) where
   }
 
 -- ---- a run discharges the premises
-module _ {P S : Type 0} (setting : Setting S) (past : List Step) (run : HeldRun P S) (running : IsRunning setting past run) (reads : (kind : TypeAndCommand) → setting.device.hands_on kind ≡ false) where
+module _ {P S : Type 0} (setting : BothEnds S) (past : List Step) (run : HeldRun P S) (running : IsRunning setting past run) (reads : (kind : TypeAndCommand) → setting.device.hands_on kind ≡ false) where
   is_sound : IsSound setting past
   is_sound = record {
     device = running.device.endpoint;

@@ -2,7 +2,7 @@
 use Rattle.std.proofs.Common.{◌≡◌, ℕ, ◌≤◌, List, [], ◌∷◌, ◌++◌, length, Option, Some, None, refl, sym, ap, subst, ◌∙◌, arith, eq-eqb, length-append}
 use Rattle.std.specs.Prelude.{◌==◌, option_and_then, option_map, slice_get}
 use Rattle.std.proofs.lemmas.Bool.{cond-true, cond-false, ne_eqb}
-use Rattle.pldm_responder.specs.Stations as responder_stations
+use Rattle.pldm_responder.specs.ResponderViews as responder_stations
 use Rattle.pldm_responder.specs.declared.outcome.Outcome.{Outcome}
 use Rattle.pldm_requester.specs.Calls as requester
 use Rattle.pldm_requester.specs.Calls.{requests}
@@ -17,7 +17,7 @@ use Rattle.mctp_schedule.specs.Journals.{Carried, packets_in}
 use Rattle.mctp_schedule.specs.Logs.{Asked, asked_at}
 use Rattle.mctp_schedule.specs.OncePerformed.{given, was_busy}
 use Rattle.mctp_schedule.specs.Running.{IsBefore, IsCarried, IsDevice, IsOpened, IsSide, busy_packets}
-use Rattle.mctp_schedule.specs.Worlds.{Setting, World, answer_packets, requests_of, timing_of, with_call}
+use Rattle.mctp_schedule.specs.Worlds.{BothEnds, World, answer_packets, requests_of, timing_of, with_call}
 use Rattle.mctp_schedule.specs.declared.entry.Entry.{Entry}
 use Rattle.mctp_schedule.proofs.EntriesSpelled.{column_more}
 use Rattle.mctp_schedule.proofs.ListPlaces.{get_before}
@@ -41,7 +41,7 @@ before_more entries x (Some i) within =
     let l = ap (λ (os : List Outcome). length os) (column_more outcomes_in_entry entries x) ∙ length-append (outcomes_in entries) (outcomes_in_entry x) in
     omega (arith, within, l)
 
-module _ {S : Type 0} (setting : Setting S) where
+module _ {S : Type 0} (setting : BothEnds S) where
   pub still_opened : (w v : World) (k : ℕ) (r : Asked) → (requests_of setting w r.source).count ≤ (requests_of setting v r.source).count
       → (slice_get (numbers_of w.log r.source) r.own ≡ Some k → slice_get (numbers_of v.log r.source) r.own ≡ Some k) → IsOpened setting w k r → IsOpened setting v k r
   still_opened w v k r grows stays o = record {
@@ -78,7 +78,7 @@ module _ {S : Type 0} (setting : Setting S) where
     busy_place = before_more entries x c.busy s.busy_place;
   }
 
-  pub still_device : {P : Type 0} (w v : World) (now moment : ℕ) (station : responder_stations.Station P S) → v.log ≡ w.log → now ≤ moment → IsDevice setting w now station → IsDevice setting v moment station
+  pub still_device : {P : Type 0} (w v : World) (now moment : ℕ) (station : responder_stations.ResponderView P S) → v.log ≡ w.log → now ≤ moment → IsDevice setting w now station → IsDevice setting v moment station
   still_device w v now moment station same later d =
       subst (λ log. IsDevice setting (record { calls = v.calls; log = log }) moment station) (sym same)
       (record { endpoint = d.endpoint; left = d.left; events = d.events; called = let x = d.called in omega (arith, x, later) })

@@ -11,7 +11,7 @@ use Rattle.pldm_requester.specs.Calls.{Call, Open, Tick, Receive, Request, Reque
 use Rattle.pldm_requester.specs.Numbering.{message_of}
 use Rattle.pldm_requester.specs.declared.timing.Timing.{Timing}
 use Rattle.mctp_schedule.specs.Logs.{Asked, Happening, Opened, Delivered, Sensed, WentDown, asked_at, count_of}
-use Rattle.mctp_schedule.specs.Worlds.{Setting, World, asked_by, busy_packet, done, handed, log_opened, reply_packet, requests_of, source_of, timing_of, with_call, world}
+use Rattle.mctp_schedule.specs.Worlds.{BothEnds, World, asked_by, busy_packet, done, handed, log_opened, reply_packet, requests_of, source_of, timing_of, with_call, world}
 use Rattle.schedule_text.specs.declared.step.Action.{Action}
 use Rattle.schedule_text.specs.declared.step.Action.TheVariants as actions
 use Rattle.schedule_text.specs.declared.step.Step.{Step}
@@ -75,7 +75,7 @@ asked_stays (Delivered _ _) log k r is = is
 asked_stays (Sensed _ _ _) log k r is = is
 asked_stays (WentDown _) log k r is = is
 
-module _ {S : Type 0} (setting : Setting S) where
+module _ {S : Type 0} (setting : BothEnds S) where
   pub handed_log : (w : World) (moment e : ℕ) (packet : Option (List ℕ)) → (handed setting w moment e packet).log ≡ w.log
   handed_log w moment e None = refl
   handed_log w moment e (Some bytes) = refl

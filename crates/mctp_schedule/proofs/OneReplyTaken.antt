@@ -24,7 +24,7 @@ use Rattle.mctp_schedule.specs.Timely.{IsTimelyLog}
 use Rattle.mctp_schedule.specs.OncePerformed.{given, was_busy}
 use Rattle.mctp_schedule.specs.RequesterHalf.{AnsweredWasPerformed, AnsweredWhereTaken, BusyIsExpected, IsTimelySchedule, OwnAssembly, OwnDeliveries, ReplyIsExpected, ProgressIs, TakenOnce}
 use Rattle.mctp_schedule.specs.Taken.{brought, busy_expected, busy_expected_to, came, completes, completes_for, got_by, if_waiting, is_waiting, part_count, reply_of, reply_expected, reply_expected_to, taken, way_to}
-use Rattle.mctp_schedule.specs.Worlds.{IsTimelyAction, Setting, TagIsOwn, World, answer_packets, busy_from, busy_packet, packet_of, reply_packet, source_of, timing_of, world}
+use Rattle.mctp_schedule.specs.Worlds.{IsTimelyAction, BothEnds, TagIsOwn, World, answer_packets, busy_from, busy_packet, packet_of, reply_packet, source_of, timing_of, world}
 use Rattle.schedule_text.specs.declared.step.Action.TheVariants.{Reply, Busy}
 use Rattle.schedule_text.specs.declared.step.Step.{Step}
 use Rattle.mctp_schedule.proofs.AnswerPacketOutcomes.{Lower, arrival_by, arrival_expected, busy_brings, busy_is, busy_is_one, mine, packet_is, performed_at, reads_back, reply_brings}
@@ -50,7 +50,7 @@ listed_at k (n ∷ numbers) e = go (n == k) refl (listed_at k numbers) e
     go true same rest e = (0, ap Some (eqb-true n k same))
     go false other rest e = let later = rest e in (suc later.0, later.1)
 
-module _ {S : Type 0} (setting : Setting S) (lower : Lower) where
+module _ {S : Type 0} (setting : BothEnds S) (lower : Lower) where
   all_of : (steps : List Step) → IsTimelySchedule setting steps → AllHold setting steps
   all_of steps s = all_hold setting lower steps s.order s.timely s.sound
 

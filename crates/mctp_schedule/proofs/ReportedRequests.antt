@@ -5,11 +5,11 @@ use Rattle.std.proofs.lemmas.Bool.{cases_Bool, cases_eq, cond-false, ltb-false, 
 use Rattle.mctp_schedule.specs.Entries.{as_it_stands, requests_in}
 use Rattle.mctp_schedule.specs.Logs.{Happening, Opened, Delivered, Sensed, WentDown, asked_at, count_of}
 use Rattle.mctp_schedule.specs.Requests.{Request}
-use Rattle.mctp_schedule.specs.Worlds.{Setting, World}
+use Rattle.mctp_schedule.specs.Worlds.{BothEnds, World}
 use Rattle.mctp_schedule.proofs.LoggedRequests.{asked_here}
 use Rattle.mctp_schedule.proofs.ListPlaces.{get_front, get_last, get_past, length_pushed, same_places}
 
-module _ {S : Type 0} (setting : Setting S) (w : World) where
+module _ {S : Type 0} (setting : BothEnds S) (w : World) where
   counted : (log : List Happening) → length (requests_in setting w log) ≡ count_of log
   counted [] = refl
   counted (Opened r ∷ past) = length_pushed (requests_in setting w past) (as_it_stands setting w r) ∙ ap suc (counted past)

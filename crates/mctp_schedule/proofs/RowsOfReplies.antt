@@ -10,7 +10,7 @@ use Rattle.mctp_packet.specs.Pieces.{packet_at, piece, piece_count}
 use Rattle.mctp_packet.specs.declared.packet.Route.{Route}
 use Rattle.mctp_packet.specs.declared.reason.Reason.{Reason}
 use Rattle.mctp_packet.specs.declared.reason.Reason.TheVariants.{OutOfSequence, TooLong, WrongUnit}
-use Rattle.mctp_packet.specs.declared.TheConstants.{UNIT, SEQUENCE_NUMBERS}
+use Rattle.mctp_packet.specs.declared.TheConstants.{BASELINE_UNIT, SEQUENCE_NUMBERS}
 use Rattle.mctp_assembly.specs.Rows.{unit_of, follows, is_middle, is_end, is_row, is_message, newest, joined, given, next_within}
 use Rattle.mctp_assembly.specs.declared.fed.Fed.TheVariants.{Whole, Dropped}
 use Rattle.mctp_schedule.specs.Taken.{row}
@@ -164,7 +164,7 @@ module _ (route : Route) (message : List ℕ) (other : Packet) (other_starts : o
       (λ x. Some (here x) ∷ before.0 x) ∙ ap rising all
 
   -- ---- and those are one
-  full : (j : ℕ) → suc j < count → length (piece message j) ≡ UNIT
+  full : (j : ℕ) → suc j < count → length (piece message j) ≡ BASELINE_UNIT
   full j more = simp (length-take, length-drop) (omega arith)
 
   follow_up : (n : ℕ) → follows (pick (Some (suc n))) (pick (Some n)).seq ≡ true
@@ -195,7 +195,7 @@ module _ (route : Route) (message : List ℕ) (other : Packet) (other_starts : o
       let flags = and_from (not p.start) p.end (not_zero n) (eq-eqb (suc n + 1) count (omega arith)) in
       let number = and_from (not p.start && p.end) (follows p q.seq) flags (follow_up n) in
       let before = full n (omega arith) in
-      let last : unit_of p ≤ UNIT = simp (length-take, length-drop) (omega arith) in
+      let last : unit_of p ≤ BASELINE_UNIT = simp (length-take, length-drop) (omega arith) in
       let units = le-leb (unit_of p) (unit_of q) (omega (arith, before, last)) in
       and_from (is_end p q) (is_row (picked (rising (suc n)))) (and_from (not p.start && p.end && follows p q.seq) (nat_le (unit_of p) (unit_of q)) number units) (rising_is_row n (omega arith))
 
@@ -205,14 +205,14 @@ module _ (route : Route) (message : List ℕ) (other : Packet) (other_starts : o
       ∙ ap (λ front. front ++ drop a (take (a + b) xs)) (sym (take-take a (a + b) xs (omega arith)))
       ∙ take-append-drop a (take (a + b) xs)
 
-  joined_rising : (n : ℕ) → joined (picked (rising n)) ≡ take (UNIT * n) message
+  joined_rising : (n : ℕ) → joined (picked (rising n)) ≡ take (BASELINE_UNIT * n) message
   joined_rising zero = refl
   joined_rising (suc n) =
-      let more : UNIT * n + UNIT ≡ UNIT * suc n = omega arith in
-      ap (λ front. front ++ piece message n) (joined_rising n) ∙ take_two (UNIT * n) UNIT message ∙ ap (λ k. take k message) more
+      let more : BASELINE_UNIT * n + BASELINE_UNIT ≡ BASELINE_UNIT * suc n = omega arith in
+      ap (λ front. front ++ piece message n) (joined_rising n) ∙ take_two (BASELINE_UNIT * n) BASELINE_UNIT message ∙ ap (λ k. take k message) more
 
   whole_joined : joined (picked (rising count)) ≡ message
-  whole_joined = joined_rising count ∙ take_all (UNIT * count) message (omega arith)
+  whole_joined = joined_rising count ∙ take_all (BASELINE_UNIT * count) message (omega arith)
 
   -- ---- the message is given where its packets came in a row
   pub given_in_row : (limit j : ℕ) (js : List (Option ℕ)) → count ≤ limit → 0 < count → Below count (Some j ∷ js) → row count (Some j ∷ js) ≡ true → next_within limit (map pick js) (packet_at route message j) ≡ Whole (record { items = message })

@@ -4,9 +4,9 @@ use Rattle.std.specs.Prelude.{reverse, slice_get}
 use Rattle.std.proofs.lemmas.List.{reverse-append}
 use Rattle.pldm_wire.specs.declared.busy_time.BusyTime.TheVariants.{All}
 use Rattle.mctp_packet.specs.Ids.{IsEid}
-use Rattle.pldm_responder.specs.Held as device_held
+use Rattle.pldm_responder.specs.ResponderStates as device_held
 use Rattle.pldm_responder.specs.Laws as device_laws
-use Rattle.pldm_responder.specs.Stations as responder_stations
+use Rattle.pldm_responder.specs.ResponderViews as responder_stations
 use Rattle.pldm_requester.specs.Laws.{NewLooksBack, SameIsLeft}
 use Rattle.pldm_requester.specs.Slots.{held_of}
 use Rattle.pldm_requester.specs.Steps.{held_at_first}
@@ -16,7 +16,7 @@ use Rattle.mctp_schedule.specs.HeldRuns.{HeldRun}
 use Rattle.mctp_schedule.specs.Places.{BeginEach, Begins}
 use Rattle.mctp_schedule.specs.Running.{IsRunning, IsSide, MayCome}
 use Rattle.schedule_text.specs.Schedules.{AreKnown, NeverGoBack, is_known}
-use Rattle.mctp_schedule.specs.Worlds.{Setting, time_now, timing_of, world}
+use Rattle.mctp_schedule.specs.Worlds.{BothEnds, time_now, timing_of, world}
 use Rattle.mctp_schedule.specs.declared.journal.Journal.{Journal}
 use Rattle.schedule_text.specs.declared.step.RequesterLine.{RequesterLine}
 use Rattle.schedule_text.specs.declared.step.Step.{Step}
@@ -29,7 +29,7 @@ pub record IsEmpty (journal : Journal) : Type 0 where
   pub order : journal.order.items ≡ []
   pub timely : journal.timely ≡ true
 
-pub begins : {P S : Type 0} (setting : Setting S) (run : HeldRun P S) → run.keep ≡ setting.keep → run.window ≡ setting.window → IsEid setting.eid → device_laws.NewLooksBack setting.device → device_laws.SameIsLeft setting.device
+pub begins : {P S : Type 0} (setting : BothEnds S) (run : HeldRun P S) → run.keep ≡ setting.keep → run.window ≡ setting.window → IsEid setting.eid → device_laws.NewLooksBack setting.device → device_laws.SameIsLeft setting.device
     → NewLooksBack → SameIsLeft → device_held.IsHeld (responder_stations.held_of run.responder) (device_held.held_at_first setting.eid All setting.window setting.keep setting.start) → BeginEach setting.eid setting.keep setting.requesters run.places → IsEmpty run.journal → ((source : ℕ) → ids_at run.arrivals source ≡ [])
     → IsRunning setting [] run
 begins setting run times window eid device_new device_same new same held each empty none_arrived = record {

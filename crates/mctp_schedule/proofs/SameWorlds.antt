@@ -6,7 +6,7 @@ use Rattle.pldm_responder.specs.Performing.{Rules}
 use Rattle.mctp_schedule.specs.FirstArrivals.{arrives_at}
 use Rattle.mctp_schedule.specs.Logs.{Asked, Happening, Opened, Delivered, Sensed, WentDown, asked_at, message_at, told}
 use Rattle.mctp_schedule.specs.OncePerformed.{answered_to, given}
-use Rattle.mctp_schedule.specs.Worlds.{Setting, World, handed, packet_of, source_of, IsTimely, IsTimelyAction, done, reply_packet, world}
+use Rattle.mctp_schedule.specs.Worlds.{BothEnds, World, handed, packet_of, source_of, IsTimely, IsTimelyAction, done, reply_packet, world}
 use Rattle.schedule_text.specs.declared.step.Action.{Action}
 use Rattle.schedule_text.specs.declared.step.Action.TheVariants as actions
 use Rattle.schedule_text.specs.declared.step.Step.{Step}
@@ -30,7 +30,7 @@ module _ {S : Type 0} (device : Rules S) (alike : AllIdsPerformAlike device) (wi
       then Some (same_answered_to moment past (asked_at past k) i)
       else same_given past k i
 
-module _ {S : Type 0} (setting : Setting S) (alike : AllIdsPerformAlike setting.device) (wide : INSTANCE_IDS ≤ setting.window) where
+module _ {S : Type 0} (setting : BothEnds S) (alike : AllIdsPerformAlike setting.device) (wide : INSTANCE_IDS ≤ setting.window) where
   same_packet : (w : World) (k j : ℕ) → reply_packet setting w k j ≡ each_id.reply_packet setting w k j
   same_packet w k j = ap (λ m. packet_of setting (asked_at w.log k) m j) (same_given setting.device alike setting.window setting.keep setting.start wide w.log k)
 
@@ -81,6 +81,6 @@ module _ {S : Type 0} (setting : Setting S) (alike : AllIdsPerformAlike setting.
     timely_to past t.1,
   )
 
-pub all_ids_are_no_window : {S : Type 0} (setting : Setting S) → AllIdsPerformAlike setting.device → AllIdsAreNoWindow setting
+pub all_ids_are_no_window : {S : Type 0} (setting : BothEnds S) → AllIdsPerformAlike setting.device → AllIdsAreNoWindow setting
 all_ids_are_no_window setting alike steps wide =
     (same_world setting alike wide steps, (timely_to setting alike wide steps, timely_from setting alike wide steps))

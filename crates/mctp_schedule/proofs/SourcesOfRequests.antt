@@ -6,7 +6,7 @@ use Rattle.std.specs.List.{AllByRecursion}
 use Rattle.pldm_requester.specs.Calls.{accepts}
 use Rattle.mctp_schedule.specs.Logs.{Asked, Happening, Opened, asked_at, count_of}
 use Rattle.schedule_text.specs.Schedules.{has_requester, is_known}
-use Rattle.mctp_schedule.specs.Worlds.{Setting, World, asked_by, busy_packet, done, reply_packet, requests_of, source_of, timing_of, world}
+use Rattle.mctp_schedule.specs.Worlds.{BothEnds, World, asked_by, busy_packet, done, reply_packet, requests_of, source_of, timing_of, world}
 use Rattle.schedule_text.specs.declared.step.RequesterLine.{RequesterLine}
 use Rattle.schedule_text.specs.declared.step.Action.{Action}
 use Rattle.schedule_text.specs.declared.step.Action.TheVariants as actions
@@ -28,7 +28,7 @@ abbrev pub EachOpensAt : (ℕ → Type 0) → List Step → Type 0
 EachOpensAt P [] = Unit {0}
 EachOpensAt P (step ∷ past) = OpensAt P step.action × EachOpensAt P past
 
-module _ {S : Type 0} (setting : Setting S) (P : ℕ → Type 0) where
+module _ {S : Type 0} (setting : BothEnds S) (P : ℕ → Type 0) where
   abbrev Sources : World → Type 0
   Sources w = (k : ℕ) (r : Asked) → asked_at w.log k ≡ Some r → P r.source
 

@@ -13,7 +13,7 @@ use Rattle.pldm_requester.specs.Laws.{FoundOnItsTag}
 use Rattle.pldm_requester.specs.Numbering.{tag_of}
 use Rattle.pldm_requester.specs.declared.timing.Timing.{Timing}
 use Rattle.mctp_schedule.specs.Logs.{Asked, Happening}
-use Rattle.mctp_schedule.specs.Worlds.{Setting, World, requests_of, timing_of, with_call}
+use Rattle.mctp_schedule.specs.Worlds.{BothEnds, World, requests_of, timing_of, with_call}
 use Rattle.mctp_schedule.proofs.AnswerPacketsAtRequester.{IsOf, Moved, nothing_moves, one_moves, put_here, put_other, with_arrival}
 use Rattle.mctp_schedule.proofs.KnownRequests.{Known}
 use Rattle.mctp_schedule.proofs.UntouchedRequests.{Kept, same_kept}
@@ -39,7 +39,7 @@ ticked_kept timing moment x y fed course = go (is_given_up timing moment x.cours
         let now : y.course ≡ x.course = course ∙ cond-false (is_given_up timing moment x.course) _ _ stays ∙ cond-false (is_sent_again timing moment x.course) _ _ e in
         record { fed = fed; progress = inl (ap (λ (c : Course). c.progress) now) }
 
-module _ {S : Type 0} (setting : Setting S) (w : World) (log : List Happening) where
+module _ {S : Type 0} (setting : BothEnds S) (w : World) (log : List Happening) where
   abbrev at : ℕ → List Call → Requests
   at d calls = requests d setting.eid (timing_of setting d) calls
 

@@ -10,7 +10,7 @@ use Rattle.pldm_requester.specs.Numbering.{id_of, message_of}
 use Rattle.mctp_schedule.specs.Laws.{LogIsTimely}
 use Rattle.mctp_schedule.specs.Logs as logs
 use Rattle.mctp_schedule.specs.Logs.{Asked, Happening, Opened, Delivered, Sensed, WentDown, Apart, ComesLate, InOrder, asked_at, count_of, last_of}
-use Rattle.mctp_schedule.specs.Worlds.{NeverWentBack, Setting, World, asked_by, busy_packet, handed, log_opened, requests_of, source_of, time_now, timing_from, timing_of, with_call, IsTimely, IsTimelyAction, done, reply_packet, world}
+use Rattle.mctp_schedule.specs.Worlds.{NeverWentBack, BothEnds, World, asked_by, busy_packet, handed, log_opened, requests_of, source_of, time_now, timing_from, timing_of, with_call, IsTimely, IsTimelyAction, done, reply_packet, world}
 use Rattle.mctp_schedule.specs.Timely.{InTime}
 use Rattle.schedule_text.specs.declared.step.RequesterLine.{RequesterLine}
 use Rattle.schedule_text.specs.declared.step.Step.{Step}
@@ -23,7 +23,7 @@ use Rattle.mctp_schedule.proofs.LogsAndCalls.{Grows, call_grows, call_last}
 id_of_message : (number : ℕ) (command : Command) → id_at (message_of number command) ≡ id_of number
 id_of_message number command = omega arith
 
-module _ {S : Type 0} (setting : Setting S) where
+module _ {S : Type 0} (setting : BothEnds S) where
   keep_of : (o : Option RequesterLine) → (timing_from setting.keep o).keep ≡ setting.keep
   keep_of None = refl
   keep_of (Some line) = refl

@@ -6,7 +6,7 @@ use Rattle.mctp_packet.specs.declared.TheConstants.{TAGS}
 use Rattle.mctp_schedule.specs.Laws.{TimelyIsTested}
 use Rattle.mctp_schedule.specs.FirstArrivals.{has_arrived}
 use Rattle.mctp_schedule.specs.Logs.{Asked, Happening, asked_at}
-use Rattle.mctp_schedule.specs.Worlds.{Setting, TagIsOwn, World, busy_packet, requests_of, tag_is_own, IsTimely, IsTimelyAction, comes_in_time, is_timely, is_timely_action, reply_packet, world}
+use Rattle.mctp_schedule.specs.Worlds.{BothEnds, TagIsOwn, World, busy_packet, requests_of, tag_is_own, IsTimely, IsTimelyAction, comes_in_time, is_timely, is_timely_action, reply_packet, world}
 use Rattle.mctp_schedule.specs.Timely.{ComesInTime, is_in_window}
 use Rattle.schedule_text.specs.declared.step.Action.{Action}
 use Rattle.schedule_text.specs.declared.step.Action.TheVariants.{Open, Tick, Request, Reply, Sense, Restart, Busy}
@@ -15,7 +15,7 @@ use Rattle.schedule_text.specs.declared.step.Step.{Step}
 same : (P : Asked → Type 0) (q : Asked) → P q → (r : Asked) → Some q ≡ Some r → P r
 same P q x r e = subst P (let y : q ≡ r = cc in y) x
 
-module _ {S : Type 0} (setting : Setting S) where
+module _ {S : Type 0} (setting : BothEnds S) where
   within_told : (came within : Bool) → (not came || within) ≡ true → came ≡ true → within ≡ true
   within_told true within t c = t
   within_told false within t c = absurd (cc)

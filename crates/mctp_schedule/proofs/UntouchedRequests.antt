@@ -11,7 +11,7 @@ use Rattle.mctp_schedule.specs.FirstArrivals.{arrives, earlier, first}
 use Rattle.mctp_schedule.specs.OncePerformed.{bytes_of, given_once, reply_from, the_reply, was_busy}
 use Rattle.mctp_schedule.specs.RequesterHalf.{ProgressIs}
 use Rattle.mctp_schedule.specs.Taken.{brought, came, completes_for, is_waiting, part_count, replies, reply_of, taken, takes, with_delivery}
-use Rattle.mctp_schedule.specs.Worlds.{Setting, World, requests_of, world}
+use Rattle.mctp_schedule.specs.Worlds.{BothEnds, World, requests_of, world}
 use Rattle.schedule_text.specs.declared.step.Action.{Action}
 use Rattle.schedule_text.specs.declared.step.Action.TheVariants as actions
 use Rattle.schedule_text.specs.declared.step.Step.{Step}
@@ -65,7 +65,7 @@ kept_opens x y kept opens = go kept.progress
     go (inl same) = ap waits (sym same) ∙ opens
     go (inr both) = absurd (let wrong = ap waits (both.1) in cc)
 
-module _ {S : Type 0} (setting : Setting S) where
+module _ {S : Type 0} (setting : BothEnds S) where
   abbrev Log : List Step → List Happening
   Log steps = (world setting steps).log
 

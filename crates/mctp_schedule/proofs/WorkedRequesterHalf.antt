@@ -20,7 +20,7 @@ use Rattle.pldm_requester.specs.Courses.{Progress}
 use Rattle.pldm_requester.specs.declared.results.Got.TheVariants.{Dropped, Partial, Answered}
 use Rattle.mctp_schedule.specs.HandedPackets.{got_of_reply, got_of_busy}
 use Rattle.mctp_schedule.specs.Taken.{busy_expected, replies, reply_of, reply_expected, taken}
-use Rattle.mctp_schedule.specs.Worlds.{Setting, requests_of, world}
+use Rattle.mctp_schedule.specs.Worlds.{BothEnds, requests_of, world}
 use Rattle.schedule_text.specs.declared.step.Action.{Action}
 use Rattle.schedule_text.specs.declared.step.Action.TheVariants.{Open, Tick, Request, Reply, Sense, Restart, Busy}
 use Rattle.schedule_text.specs.declared.step.Step.{Step}
@@ -36,7 +36,7 @@ long_answer state _ = answers.GetPldmVersion 0 (replicate 190 7)
 abbrev long_device : Rules ℕ
 long_device = rules_of long_answer (λ state command. state) (λ state id value. Err NoSuchSensor)
 
-abbrev long : Setting ℕ
+abbrev long : BothEnds ℕ
 long = record {
   device = long_device;
   start = 0;
@@ -119,7 +119,7 @@ unfolding request_of command_of response_of
 nothing_to_a_number_that_was_never_opened = refl
 
 -- ---- a light at endpoint 9, which keeps answers for a second
-abbrev light : Setting ℤ
+abbrev light : BothEnds ℤ
 light = record {
   device = rules_of light_answer light_after light_sensed;
   start = pos 10;
@@ -189,7 +189,7 @@ cut_row_is_not_taken = refl
 abbrev tid_asked : List Step
 tid_asked = at 0 (Request 0) ∷ at 0 (Open 8 GetTid) ∷ []
 
-abbrev progress : {S : Type 0} → Setting S → List Step → ℕ → Progress
+abbrev progress : {S : Type 0} → BothEnds S → List Step → ℕ → Progress
 progress setting steps n = ((requests_of setting (world setting steps) 8).each n).course.progress
 
 tid_comes : reply_expected long tid_asked 0 0 ≡ Some (Answered 0)
@@ -208,7 +208,7 @@ tid_is_taken = refl
 abbrev gauge_answer : ℤ → Command → Answer
 gauge_answer level command = answers.GetSensorReading 0 0 1 1 1 (sized Uint8 level)
 
-abbrev gauge : Setting ℤ
+abbrev gauge : BothEnds ℤ
 gauge = record {
   device = rules_of gauge_answer (λ level command. level) light_sensed;
   start = pos 40;

@@ -19,7 +19,7 @@ use Rattle.mctp_schedule.specs.Headline.{entries_expected, state_once}
 use Rattle.mctp_schedule.specs.Logs.{told}
 use Rattle.mctp_schedule.specs.Requests.{Request as EndedRequest}
 use Rattle.mctp_schedule.specs.Taken.{reply_of, reply_expected, taken}
-use Rattle.mctp_schedule.specs.Worlds.{Setting, is_timely, world}
+use Rattle.mctp_schedule.specs.Worlds.{BothEnds, is_timely, world}
 use Rattle.mctp_schedule.specs.declared.entry.Entry.{Entry}
 use Rattle.mctp_schedule.specs.declared.entry.Entry.TheVariants.{Nothing, Opened, Due, Delivered, Received, Sensed, Restarted}
 use Rattle.schedule_text.specs.declared.step.Action.{Action}
@@ -27,7 +27,7 @@ use Rattle.schedule_text.specs.declared.step.Action.TheVariants.{Open, Tick, Req
 use Rattle.schedule_text.specs.declared.step.Step.{Step}
 use Rattle.mctp_schedule.proofs.ExampleDevice.{at, set_to, with_tries, with_values}
 
-abbrev setting : Setting Device
+abbrev setting : BothEnds Device
 setting = with_tries 3 3
 
 -- entries in short

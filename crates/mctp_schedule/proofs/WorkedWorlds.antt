@@ -15,7 +15,7 @@ use Rattle.mctp_schedule.specs.FirstArrivals.{order}
 use Rattle.mctp_schedule.specs.Logs.{count_of}
 use Rattle.mctp_schedule.specs.OncePerformed.{once}
 use Rattle.mctp_schedule.specs.PerformedCommands.{commands_once, commands_performed}
-use Rattle.mctp_schedule.specs.Worlds.{Setting, busy_packet, is_timely, reply_packet, requests_of, world}
+use Rattle.mctp_schedule.specs.Worlds.{BothEnds, busy_packet, is_timely, reply_packet, requests_of, world}
 use Rattle.schedule_text.specs.declared.step.Action.{Action}
 use Rattle.schedule_text.specs.declared.step.Action.TheVariants.{Open, Tick, Request, Reply, Restart, Busy}
 use Rattle.schedule_text.specs.declared.step.Step.{Step}
@@ -23,7 +23,7 @@ use Rattle.schedule_text.specs.declared.step.Step.{Step}
 abbrev at : ℕ → Action → Step
 at moment action = record { moment = moment; action = action }
 
-abbrev setting : Setting ℤ
+abbrev setting : BothEnds ℤ
 setting = record {
   device = rules_of light_answer light_after light_sensed;
   start = pos 10;

@@ -8,8 +8,8 @@ use Rattle.pldm_wire.specs.declared.command.Command.{Command}
 use Rattle.pldm_requester.specs.Arrivals.{Arrival, Drop, Part, Answer}
 use Rattle.pldm_requester.specs.Courses as courses
 use Rattle.pldm_requester.specs.Numbering.{message_of, opened_as, route_of}
-use Rattle.pldm_requester.specs.Slots.{Station, coded_station, held_of}
-use Rattle.pldm_requester.specs.Steps.{Held, opening_answer}
+use Rattle.pldm_requester.specs.Slots.{RequesterView, coded_view, held_of}
+use Rattle.pldm_requester.specs.Steps.{RequesterState, opening_answer}
 use Rattle.pldm_requester.specs.declared.results.Got.{Got}
 use Rattle.pldm_requester.specs.declared.results.Got.TheVariants as gots
 use Rattle.mctp_schedule.specs.declared.askers.AnsweredRequest.{AnsweredRequest}
@@ -17,13 +17,13 @@ use Rattle.mctp_schedule.specs.declared.askers.SentRequest.{SentRequest}
 
 -- a requester, and the numbers of its requests over all requests
 pub record Side : Type 0 where
-  pub station : Station
+  pub station : RequesterView
   pub numbers : List ℕ
 
 -- it is stored as its parts
 abbrev pub coded_side : Coded Side
 coded_side =
-    code_by (Station × List ℕ) (coded× coded_station (coded_list coded_ℕ))
+    code_by (RequesterView × List ℕ) (coded× coded_view (coded_list coded_ℕ))
     (λ s. (s.station, s.numbers))
     (λ c. record { station = c.0; numbers = c.1 })
     (λ _. refl)
@@ -33,13 +33,13 @@ abbrev pub packet_bytes : ℕ → ℕ → ℕ → List ℕ → List ℕ
 packet_bytes own device number message = written (packet (route_of own device number) true true 0 message)
 
 -- the next request is opened for a command that can be written, and has this number
-pub record IsOpenedAs (held : Held) (moment : ℕ) (command : Command) (own : ℕ) : Type 0 where
+pub record IsOpenedAs (held : RequesterState) (moment : ℕ) (command : Command) (own : ℕ) : Type 0 where
   pub opened : opening_answer held moment ≡ Ok (opened_as held.count)
   pub numbered : own ≡ held.count
   pub readable : IsCommand command
 
 -- a request that was opened for a command
-pub record IsSent (held : Held) (moment : ℕ) (command : Command) (sent : SentRequest) : Type 0 where
+pub record IsSent (held : RequesterState) (moment : ℕ) (command : Command) (sent : SentRequest) : Type 0 where
   pub opened : opening_answer held moment ≡ Ok (opened_as held.count)
   pub own : sent.own ≡ held.count
   pub message : sent.message.now ≡ message_of held.count command
@@ -48,13 +48,13 @@ pub record IsSent (held : Held) (moment : ℕ) (command : Command) (sent : SentR
   pub readable : IsCommand command
 
 -- a request is remembered, and has one packet, which has a header
-abbrev pub HasPacket : Held → ℕ → Type 0
+abbrev pub HasPacket : RequesterState → ℕ → Type 0
 HasPacket held number =
     (bytes : List ℕ) × (option_map (λ memo. memo.packets) (held.remembered number) ≡ Some (bytes ∷ []))
     × (HEADER ≤ length bytes)
 
 -- a request is remembered, and was answered
-abbrev pub HasAnswer : Held → ℕ → Type 0
+abbrev pub HasAnswer : RequesterState → ℕ → Type 0
 HasAnswer held number =
     (message : List ℕ)
     × (option_map (λ memo. memo.course.progress) (held.remembered number) ≡ Some (courses.Answered message))

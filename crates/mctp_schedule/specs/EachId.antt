@@ -6,7 +6,7 @@ use Rattle.pldm_responder.specs.Performing.{Rules}
 use Rattle.pldm_requester.specs.Calls as requester
 use Rattle.mctp_schedule.specs.FirstArrivals.{arrives_at}
 use Rattle.mctp_schedule.specs.Logs.{Asked, Happening, Delivered, Sensed, WentDown, Apart, InOrder, asked_at, message_at, told}
-use Rattle.mctp_schedule.specs.Worlds.{Setting, World, TagIsOwn, busy_packet, handed, log_opened, packet_of, source_of, with_call}
+use Rattle.mctp_schedule.specs.Worlds.{BothEnds, World, TagIsOwn, busy_packet, handed, log_opened, packet_of, source_of, with_call}
 use Rattle.schedule_text.specs.declared.step.Action.{Action}
 use Rattle.schedule_text.specs.declared.step.Action.TheVariants.{Open, Tick, Request, Reply, Sense, Restart, Busy}
 use Rattle.schedule_text.specs.declared.step.Step.{Step}
@@ -39,7 +39,7 @@ module _ {S : Type 0} (device : Rules S) (keep : ℕ) (start : S) where
   given (_ ∷ past) k = given past k
 
 -- both ends; of the setting all counts but its window
-module _ {S : Type 0} (setting : Setting S) where
+module _ {S : Type 0} (setting : BothEnds S) where
   -- packet j of the latest reply that the device gave to request k, busy answers aside; `None` where there is none
   abbrev pub reply_packet : World → ℕ → ℕ → Option (List ℕ)
   reply_packet world k j =

@@ -14,7 +14,7 @@ use Rattle.mctp_schedule.specs.HandedPackets.{got_of_busy, got_of_reply}
 use Rattle.mctp_schedule.specs.Logs as logs
 use Rattle.mctp_schedule.specs.Logs.{Asked, Happening, asked_at, count_of, message_at, told}
 use Rattle.mctp_schedule.specs.Requests.{Request as EndedRequest}
-use Rattle.mctp_schedule.specs.Worlds.{Setting, World, requests_of, timing_of, world}
+use Rattle.mctp_schedule.specs.Worlds.{BothEnds, World, requests_of, timing_of, world}
 use Rattle.mctp_schedule.specs.declared.entry.Entry.{Entry}
 use Rattle.mctp_schedule.specs.declared.entry.Entry.TheVariants.{Nothing, Opened, NotOpened, Due, Delivered, Received, Sensed, Restarted}
 use Rattle.schedule_text.specs.declared.step.Action.{Action}
@@ -47,7 +47,7 @@ abbrev pub got_entry : Option Got → Entry
 got_entry None = Nothing
 got_entry (Some got) = Received got
 
-module _ {S : Type 0} (setting : Setting S) where
+module _ {S : Type 0} (setting : BothEnds S) where
   -- what a tick finds due: what is sent again and what is given up, by the numbers over all requests
   abbrev pub due_at : World → ℕ → ℕ → DueNumbers
   due_at world moment e =

@@ -24,8 +24,8 @@ borrowed_entry (refs.Received got) = Received got
 borrowed_entry (refs.Sensed result) = Sensed result
 borrowed_entry refs.Restarted = Restarted
 
--- the mark of an entry, and what of it stands in a column. A tick that found nothing has a mark of its own, and stands in
--- none
+-- the mark of an entry, and what of it stands in a column. A tick that found nothing has a mark of its own, and stands
+-- in none
 abbrev pub mark_of : Entry → Mark
 mark_of Nothing = marks.Nothing
 mark_of (Opened number) = marks.Opened

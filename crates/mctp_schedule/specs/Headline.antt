@@ -16,14 +16,14 @@ use Rattle.mctp_schedule.specs.PerformedCommands.{commands_once}
 use Rattle.mctp_schedule.specs.Requests.{Request as EndedRequest}
 use Rattle.mctp_schedule.specs.RequesterHalf.{ProgressIs, WasPerformedOnce}
 use Rattle.mctp_schedule.specs.Taken.{busy_expected, reply_expected}
-use Rattle.mctp_schedule.specs.Worlds.{Setting, world}
+use Rattle.mctp_schedule.specs.Worlds.{BothEnds, world}
 use Rattle.mctp_schedule.specs.declared.entry.Entry.{Entry}
 use Rattle.mctp_schedule.specs.declared.entry.Entry.TheVariants.{Nothing, Delivered, Sensed}
 use Rattle.schedule_text.specs.declared.step.Action.{Action}
 use Rattle.schedule_text.specs.declared.step.Action.TheVariants as actions
 use Rattle.schedule_text.specs.declared.step.Step.{Step}
 
-module _ {S : Type 0} (setting : Setting S) where
+module _ {S : Type 0} (setting : BothEnds S) where
   -- the device's state where each request that arrived is performed once, at its first arrival
   abbrev pub state_once : List Step → S
   state_once steps = once setting.device setting.keep setting.start (world setting steps).log

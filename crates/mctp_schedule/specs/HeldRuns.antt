@@ -1,6 +1,6 @@
 -- What a run holds.
 use Rattle.std.specs.Prelude.{ℕ, List, Option}
-use Rattle.pldm_responder.specs.Stations.{Station}
+use Rattle.pldm_responder.specs.ResponderViews.{ResponderView}
 use Rattle.mctp_schedule.specs.Askers.{Side}
 use Rattle.mctp_schedule.specs.declared.arrivals.Arrivals.{Arrivals}
 use Rattle.mctp_schedule.specs.declared.both_ends.Ends.{Ends}
@@ -11,7 +11,7 @@ use Rattle.mctp_schedule.specs.declared.journal.Journal.{Journal}
 pub record HeldRun (P S : Type 0) : Type 0 where
   pub keep : ℕ
   pub window : ℕ
-  pub responder : Station P S
+  pub responder : ResponderView P S
   pub places : List (Option Side)
   pub journal : Journal
   pub arrivals : Arrivals

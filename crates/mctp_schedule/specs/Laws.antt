@@ -5,17 +5,17 @@ use Rattle.pldm_wire.specs.declared.assigned.TheConstants.{INSTANCE_IDS}
 use Rattle.mctp_schedule.specs.EachId as each_id
 use Rattle.mctp_schedule.specs.Logs.{Happening}
 use Rattle.mctp_schedule.specs.Timely.{IsTimelyLog}
-use Rattle.mctp_schedule.specs.Worlds.{IsTimely, NeverWentBack, Setting, is_timely, world}
+use Rattle.mctp_schedule.specs.Worlds.{IsTimely, NeverWentBack, BothEnds, is_timely, world}
 use Rattle.schedule_text.specs.declared.step.Step.{Step}
 
 -- over a timely schedule the log of the link is timely: what the device's half rests on
-abbrev pub LogIsTimely : {S : Type 0} → Setting S → Type 0
+abbrev pub LogIsTimely : {S : Type 0} → BothEnds S → Type 0
 LogIsTimely {S} setting =
     (steps : List Step) → NeverWentBack steps → IsTimely setting steps
     → IsTimelyLog S setting.window setting.keep (world setting steps).log
 
 -- the test of a timely schedule tells just that
-abbrev pub TimelyIsTested : {S : Type 0} → Setting S → Type 0
+abbrev pub TimelyIsTested : {S : Type 0} → BothEnds S → Type 0
 TimelyIsTested setting = (steps : List Step) → (is_timely setting steps ≡ true) ↔ IsTimely setting steps
 
 -- a log is timely where it is with no window
@@ -25,7 +25,7 @@ AllIdsAreInTime S =
     → (IsTimelyLog S window keep log ↔ each_id.IsTimelyLog keep log)
 
 -- both ends do the same, and the same schedules are timely
-abbrev pub AllIdsAreNoWindow : {S : Type 0} → Setting S → Type 0
+abbrev pub AllIdsAreNoWindow : {S : Type 0} → BothEnds S → Type 0
 AllIdsAreNoWindow setting =
     (steps : List Step) → INSTANCE_IDS ≤ setting.window
     → (world setting steps ≡ each_id.world setting steps) × (IsTimely setting steps ↔ each_id.IsTimely setting steps)

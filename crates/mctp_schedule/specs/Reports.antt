@@ -9,7 +9,7 @@ use Rattle.mctp_schedule.specs.Headline.{Headline}
 use Rattle.mctp_schedule.specs.Logs.{told}
 use Rattle.mctp_schedule.specs.PerformedCommands.{commands_performed}
 use Rattle.mctp_schedule.specs.Requests.{Request}
-use Rattle.mctp_schedule.specs.Worlds.{Setting, is_timely, world}
+use Rattle.mctp_schedule.specs.Worlds.{BothEnds, is_timely, world}
 use Rattle.mctp_schedule.specs.declared.entry.Entry.{Entry}
 use Rattle.schedule_text.specs.declared.step.Step.{Step}
 
@@ -24,7 +24,7 @@ pub record Parts (S : Type 0) : Type 0 where
 -- the report is that of these steps, the newest first; `has_performed` says of the platform that came in and the one
 -- that goes out that these commands were performed between them, and no others
 pub record IsReport {S : Type 0}
-    (setting : Setting S) (steps : List Step) (has_performed : List Command → Type 0) (report : Parts S) : Type 0 where
+    (setting : BothEnds S) (steps : List Step) (has_performed : List Command → Type 0) (report : Parts S) : Type 0 where
   -- what came of each step
   pub each_step : report.entries ≡ entries setting steps
   -- each request that was opened, and how it ended

@@ -13,13 +13,13 @@ use Rattle.mctp_schedule.specs.FirstArrivals.{first, order}
 use Rattle.mctp_schedule.specs.OncePerformed.{RepliesFit, once}
 use Rattle.mctp_schedule.specs.HandedPackets.{got_of_busy, got_of_reply}
 use Rattle.mctp_schedule.specs.Taken.{busy_expected, came, completes, is_waiting, reply_of, reply_expected, taken}
-use Rattle.mctp_schedule.specs.Worlds.{IsTimely, IsTimelyAction, NeverWentBack, Setting, requests_of, timing_of, world}
+use Rattle.mctp_schedule.specs.Worlds.{IsTimely, IsTimelyAction, NeverWentBack, BothEnds, requests_of, timing_of, world}
 use Rattle.schedule_text.specs.declared.step.Action.TheVariants.{Reply, Busy}
 use Rattle.schedule_text.specs.declared.step.Step.{Step}
 
 -- the device and each requester that opened a request have endpoint IDs, not the same one, and each reply that the
 -- device made fits packets; no request is handed on to the device as bytes
-pub record IsSound {S : Type 0} (setting : Setting S) (steps : List Step) : Type 0 where
+pub record IsSound {S : Type 0} (setting : BothEnds S) (steps : List Step) : Type 0 where
   pub device : IsEid setting.eid
   pub sources :
       (k : ℕ) (r : Asked) → asked_at (world setting steps).log k ≡ Some r
@@ -28,14 +28,14 @@ pub record IsSound {S : Type 0} (setting : Setting S) (steps : List Step) : Type
   pub reads : (kind : TypeAndCommand) → setting.device.hands_on kind ≡ false
 
 -- a timely schedule of such requesters and such replies
-pub record IsTimelySchedule {S : Type 0} (setting : Setting S) (steps : List Step) : Type 0 where
+pub record IsTimelySchedule {S : Type 0} (setting : BothEnds S) (steps : List Step) : Type 0 where
   pub order : NeverWentBack steps
   pub timely : IsTimely setting steps
   pub sound : IsSound setting steps
 
 -- request k, which is r, arrived, and performing it then gave this reply; it stands once in the order of performing
 pub record WasPerformedOnce {S : Type 0}
-    (setting : Setting S) (steps : List Step) (k : ℕ) (r : Asked) (message : List ℕ) : Type 0 where
+    (setting : BothEnds S) (steps : List Step) (k : ℕ) (r : Asked) (message : List ℕ) : Type 0 where
   pub place : List Happening
   pub arrived : first S setting.keep (world setting steps).log k ≡ Some place
   pub answer : message ≡ reply setting.device (once setting.device setting.keep setting.start place) r.message
@@ -43,7 +43,7 @@ pub record WasPerformedOnce {S : Type 0}
   pub listed : slice_get (order S setting.window setting.keep (world setting steps).log) index ≡ Some k
   pub only : (i : ℕ) → slice_get (order S setting.window setting.keep (world setting steps).log) i ≡ Some k → i ≡ index
 
-module _ {S : Type 0} (setting : Setting S) where
+module _ {S : Type 0} (setting : BothEnds S) where
   -- what came to an open request are the packets that were delivered to it: of its one reply, and busy answers
   abbrev pub OwnDeliveries : Type 0
   OwnDeliveries =

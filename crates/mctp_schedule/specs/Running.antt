@@ -1,11 +1,11 @@
 -- What a run holds after some steps, the newest first: both ends, and what is written down of them.
 use Rattle.std.specs.Prelude.{◌≡◌, ◌≢◌, ℕ, ◌<◌, ◌≤◌, true, false, List, [], ◌∷◌, ◌++◌, length, Option, Some, None, IfSome, is_some, option_map, slice_get, Bool}
 use Rattle.mctp_packet.specs.Ids.{IsEid}
-use Rattle.mctp_packet.specs.declared.TheConstants.{UNIT}
+use Rattle.mctp_packet.specs.declared.TheConstants.{BASELINE_UNIT}
 use Rattle.pldm_responder.specs.Calls as responder
 use Rattle.pldm_responder.specs.Laws as responder_laws
 use Rattle.pldm_responder.specs.Performing.{Rules, busy_reply}
-use Rattle.pldm_responder.specs.Stations as responder_stations
+use Rattle.pldm_responder.specs.ResponderViews as responder_stations
 use Rattle.pldm_wire.specs.declared.busy_time.BusyTime.TheVariants.{All}
 use Rattle.pldm_wire.specs.declared.command.Command.{Command}
 use Rattle.pldm_requester.specs.Laws as requester_laws
@@ -23,7 +23,7 @@ use Rattle.mctp_schedule.specs.PerformedCommands.{commands_at_step}
 use Rattle.mctp_schedule.specs.Places.{side_at}
 use Rattle.mctp_schedule.specs.Timely.{ids_arrived}
 use Rattle.schedule_text.specs.Schedules.{has_requester, is_known}
-use Rattle.mctp_schedule.specs.Worlds.{Setting, World, answer_packets, is_timely, requests_of, time_now, timing_of, world}
+use Rattle.mctp_schedule.specs.Worlds.{BothEnds, World, answer_packets, is_timely, requests_of, time_now, timing_of, world}
 use Rattle.mctp_schedule.specs.declared.entry.Entry.{Entry}
 use Rattle.schedule_text.specs.declared.step.RequesterLine.{RequesterLine}
 use Rattle.schedule_text.specs.declared.step.Action.{Action}
@@ -45,16 +45,16 @@ device_calls eid (Sensed moment id value ∷ past) = responder.Sensed id value �
 device_calls eid (WentDown moment ∷ past) = responder.Restart moment ∷ device_calls eid past
 
 -- a request that was opened: its requester has a line, it has a number there, and one packet, which the device reads
-pub record IsOpened {S : Type 0} (setting : Setting S) (w : World) (k : ℕ) (r : Asked) : Type 0 where
+pub record IsOpened {S : Type 0} (setting : BothEnds S) (w : World) (k : ℕ) (r : Asked) : Type 0 where
   pub source : has_requester setting.requesters r.source ≡ true
   pub within : r.own < (requests_of setting w r.source).count
   pub number : slice_get (numbers_of w.log r.source) r.own ≡ Some k
   pub readable : IsReadable r.message
   pub some : 0 < length r.message
-  pub few : length r.message ≤ UNIT
+  pub few : length r.message ≤ BASELINE_UNIT
 
 -- the requester at the endpoint e holds what its calls leave
-pub record IsSide {S : Type 0} (setting : Setting S) (w : World) (now e : ℕ) (side : Side) : Type 0 where
+pub record IsSide {S : Type 0} (setting : BothEnds S) (w : World) (now e : ℕ) (side : Side) : Type 0 where
   pub endpoint : IsEid e
   pub other : e ≢ setting.eid
   pub left : requester_laws.IsLeftBy e setting.eid (timing_of setting e) (held_of side.station) (w.calls e)
@@ -66,7 +66,7 @@ pub record IsSide {S : Type 0} (setting : Setting S) (w : World) (now e : ℕ) (
 
 -- the responder holds what its calls leave, which are what the link told it
 pub record IsDevice {P S : Type 0}
-    (setting : Setting S) (w : World) (now : ℕ) (station : responder_stations.Station P S) : Type 0 where
+    (setting : BothEnds S) (w : World) (now : ℕ) (station : responder_stations.ResponderView P S) : Type 0 where
   pub endpoint : IsEid setting.eid
   pub left :
       responder_laws.IsLeftBy setting.device setting.eid All setting.window setting.keep setting.start
@@ -84,7 +84,7 @@ busy_packets eid r false = None
 
 -- what is written down of request k, which is r, tells its packet, its latest reply and its latest busy answer
 pub record IsCarried {S : Type 0}
-    (setting : Setting S) (w : World) (entries : List Entry) (k : ℕ) (r : Asked) (carried : Carried) : Type 0 where
+    (setting : BothEnds S) (w : World) (entries : List Entry) (k : ℕ) (r : Asked) (carried : Carried) : Type 0 where
   pub packet : carried.header ++ r.message ≡ packet_bytes r.source setting.eid r.own r.message
   pub reply : packets_in entries carried.reply
       ≡ option_map (answer_packets setting.eid r)
@@ -95,7 +95,7 @@ pub record IsCarried {S : Type 0}
   pub busy_place : IsBefore (length (outcomes_in entries)) carried.busy
 
 -- this is what a run holds after these steps
-pub record IsRunning {P S : Type 0} (setting : Setting S) (past : List Step) (run : HeldRun P S) : Type 0 where
+pub record IsRunning {P S : Type 0} (setting : BothEnds S) (past : List Step) (run : HeldRun P S) : Type 0 where
   pub times : run.keep ≡ setting.keep
   pub window : run.window ≡ setting.window
   pub device : IsDevice setting (world setting past) (time_now past) run.responder
@@ -119,14 +119,14 @@ pub record IsRunning {P S : Type 0} (setting : Setting S) (past : List Step) (ru
   pub fit : RepliesFit setting.device setting.window setting.keep setting.start (world setting past).log
 
 -- what a run is about: the device's first state and endpoint ID, the keeping time, the window, and the requesters
-pub record Terms (S : Type 0) : Type 0 where
+pub record RunSettings (S : Type 0) : Type 0 where
   pub start : S
   pub eid : ℕ
   pub keep : ℕ
   pub window : ℕ
   pub requesters : List RequesterLine
 
-abbrev pub setting_of : {S : Type 0} → Rules S → Terms S → Setting S
+abbrev pub setting_of : {S : Type 0} → Rules S → RunSettings S → BothEnds S
 setting_of device terms = record {
   device = device;
   start = terms.start;
@@ -154,21 +154,21 @@ module _ {P S : Type 0} (device : Rules S) where
   -- some steps led to what a run holds, and this one may come after them
   abbrev pub CanGoOn : HeldRun P S → Step → Type 0
   CanGoOn run step =
-      (terms : Terms S) × (past : List Step)
+      (terms : RunSettings S) × (past : List Step)
       × IsRunning (setting_of device terms) past run
       × MayCome terms.requesters past step
 
   -- whatever steps led to what was held, they and this one lead to what is held now
   abbrev pub GoesOn : HeldRun P S → Step → HeldRun P S → Type 0
   GoesOn old step new =
-      (terms : Terms S) (past : List Step)
+      (terms : RunSettings S) (past : List Step)
       → IsRunning (setting_of device terms) past old → MayCome terms.requesters past step
       → IsRunning (setting_of device terms) (step ∷ past) new
 
   -- and from the platform that was held to the one that is held now the commands of this step were performed
   abbrev pub Performs : (P → List Command → P → Type 0) → HeldRun P S → Step → HeldRun P S → Type 0
   Performs performed old step new =
-      (terms : Terms S) (past : List Step)
+      (terms : RunSettings S) (past : List Step)
       → IsRunning (setting_of device terms) past old → MayCome terms.requesters past step
       → performed old.responder.platform
       (commands_at_step S terms.window terms.keep (world (setting_of device terms) past).log step.moment step.action)

@@ -4,11 +4,11 @@ use Rattle.pldm_wire.specs.declared.busy_time.BusyTime.TheVariants.{All}
 use Rattle.pldm_responder.specs.Performing.{Rules, performed}
 use Rattle.mctp_schedule.specs.Logs.{told}
 use Rattle.schedule_text.specs.Schedules.{Spelled}
-use Rattle.mctp_schedule.specs.Worlds.{Setting, World, world}
+use Rattle.mctp_schedule.specs.Worlds.{BothEnds, World, world}
 use Rattle.schedule_text.specs.declared.step.Step.{Step}
 
 -- a device with these rules and this window, in its first state, at the endpoint `eid`; both ends keep for `keep`
-abbrev pub setting_of_run : {S : Type 0} → Rules S → S → (eid keep window : ℕ) → Spelled → Setting S
+abbrev pub setting_of_run : {S : Type 0} → Rules S → S → (eid keep window : ℕ) → Spelled → BothEnds S
 setting_of_run device start eid keep window schedule = record {
   device = device;
   start = start;
@@ -23,10 +23,10 @@ abbrev pub newest_first : Spelled → List Step
 newest_first schedule = reverse schedule.steps
 
 -- the world after all steps
-abbrev pub final_world : {S : Type 0} → Setting S → Spelled → World
+abbrev pub final_world : {S : Type 0} → BothEnds S → Spelled → World
 final_world setting schedule = world setting (newest_first schedule)
 
 -- the responder's state after all steps
-abbrev pub final_state : {S : Type 0} → Setting S → Spelled → S
+abbrev pub final_state : {S : Type 0} → BothEnds S → Spelled → S
 final_state setting schedule =
     performed setting.device All setting.window setting.keep setting.start (told (final_world setting schedule).log)

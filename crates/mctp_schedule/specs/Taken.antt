@@ -17,7 +17,7 @@ use Rattle.pldm_requester.specs.declared.results.Got.{Got}
 use Rattle.pldm_requester.specs.declared.results.Got.TheVariants as got
 use Rattle.mctp_schedule.specs.Logs.{Asked, asked_at, message_at}
 use Rattle.mctp_schedule.specs.OncePerformed.{the_reply, was_busy}
-use Rattle.mctp_schedule.specs.Worlds.{Setting, World, requests_of, world}
+use Rattle.mctp_schedule.specs.Worlds.{BothEnds, World, requests_of, world}
 use Rattle.schedule_text.specs.declared.step.Action.{Action}
 use Rattle.schedule_text.specs.declared.step.Action.TheVariants.{Reply, Busy}
 use Rattle.schedule_text.specs.declared.step.Step.{Step}
@@ -39,7 +39,7 @@ got_by (fed.Whole body) = got.Dropped NotReady
 got_by fed.Partial = got.Partial
 got_by (fed.Dropped reason) = got.Dropped reason
 
-module _ {S : Type 0} (setting : Setting S) where
+module _ {S : Type 0} (setting : BothEnds S) where
   -- the one reply of request k; no bytes where k has not arrived
   abbrev pub reply_of : World → ℕ → List ℕ
   reply_of world k = the_reply setting.device setting.keep setting.start world.log k

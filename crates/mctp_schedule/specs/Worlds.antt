@@ -26,7 +26,7 @@ pub record World : Type 0 where
 
 -- what both ends are made of: the device's rules, its first state and its endpoint ID, the keeping time of both ends,
 -- the device's window of instance IDs, and the requesters of the schedule
-pub record Setting (S : Type 0) : Type 0 where
+pub record BothEnds (S : Type 0) : Type 0 where
   pub device : Rules S
   pub start : S
   pub eid : ℕ
@@ -39,7 +39,7 @@ timing_from keep None = record { keep = keep; timeout = 0; tries = 0 }
 timing_from keep (Some line) = record { keep = keep; timeout = line.timeout; tries = line.tries }
 
 -- the timing of the requester at an endpoint
-abbrev pub timing_of : {S : Type 0} → Setting S → ℕ → Timing
+abbrev pub timing_of : {S : Type 0} → BothEnds S → ℕ → Timing
 timing_of setting e = timing_from setting.keep (find (is_requester e) setting.requesters)
 
 -- one more call of the requester at endpoint e
@@ -54,7 +54,7 @@ source_of (Some r) = r.source
 abbrev pub answer_packets : ℕ → Asked → List ℕ → List (List ℕ)
 answer_packets own r message = packets_back own (message_at r.opening r) message
 
-module _ {S : Type 0} (setting : Setting S) where
+module _ {S : Type 0} (setting : BothEnds S) where
   -- the requests of the requester at an endpoint
   abbrev pub requests_of : World → ℕ → requester.Requests
   requests_of world e = requests e setting.eid (timing_of setting e) (world.calls e)
@@ -149,7 +149,7 @@ abbrev pub NeverWentBack : List Step → Type 0
 NeverWentBack [] = Unit {0}
 NeverWentBack (step ∷ past) = (time_now past ≤ step.moment) × NeverWentBack past
 
-module _ {S : Type 0} (setting : Setting S) where
+module _ {S : Type 0} (setting : BothEnds S) where
   -- the tests that tell the same
 
   abbrev pub comes_in_time : List Happening → ℕ → ℕ → Option Asked → Bool

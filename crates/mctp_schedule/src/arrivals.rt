@@ -10,12 +10,12 @@ use mctp_packet::{Eid, Memory};
 use pldm_wire::{INSTANCE_IDS, Window};
 use std::alloc::Global;
 
-/// Of each source the instance IDs of its requests by their latest first arrival, the newest first. A restart of
-/// the device changes nothing of them.
+/// For each source, the instance IDs of its requests in the order of the latest first arrival of each, the newest
+/// first. A restart of the device changes none of them.
 #[derive(Debug, Drop)]
 pub(crate) struct Arrivals {
     alloc: Global,
-    /// By endpoint ID, as far as one had a first arrival.
+    /// A list for each endpoint ID, up to the greatest that had a first arrival.
     sources: Vec<Vec<u8>>,
 }
 
@@ -57,7 +57,8 @@ impl Arrivals {
         soon && (!arrived || self.is_in_window(source, id, window))
     }
 
-    /// A request of this source and instance ID came. It arrives where it did not before and the device is not busy.
+    /// Notes that a request of this source and instance ID came. It counts as arriving where it did not arrive before
+    /// and the device is not busy.
     pub(crate) fn note(
         &mut self,
         arrived: bool,

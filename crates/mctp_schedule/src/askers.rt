@@ -1,4 +1,4 @@
-//! The requesters of a run.
+//! The requesters of a run, and the numbers that their requests have among those of all requesters.
 
 ghost use Rattle.std.specs.Prelude.{◌≡◌, ◌≤◌, ◌<◌, ◌∷◌, ◌++◌, [], Ok, Err, Some, IfOk, IfErr, OnOk, drop, take, slice_index, length, option_map};
 ghost use Rattle.std.specs.List.{AllByRecursion};
@@ -88,7 +88,8 @@ impl Asker {
             Err(OpenFault::Memory(memory)) => return Err(memory),
             Err(fault) => return Ok(Err(fault)),
         };
-        // At a refused growth the requester has one request more than `numbers`. Nobody sees it: the run ends.
+        // Where this growth is refused, the requester has one request more than `numbers` has. Nobody sees that: the
+        // run ends.
         self.numbers.push(number)?;
         Ok(Ok(opened.number))
     }
@@ -121,7 +122,7 @@ impl Asker {
         }
     }
 
-    /// Tells what is due, by own numbers.
+    /// Returns what is due, by the numbers of the requester's own requests.
     pub(crate) fn tick(&mut self, now: Moment) -> Due
         requires { (held_of self.old.station).last ≤ now }
         ensures again { result.again.items ≡ again_at (held_of self.old.station) now }
@@ -191,7 +192,7 @@ fn payload_of(packet: &[u8]) -> &[u8]
     &packet[HEADER..]
 }
 
-/// What is due by own numbers, by the numbers over all requests.
+/// What is due, with the numbers over all requests in the place of the requester's own numbers.
 pub(crate) fn over_all(due: &Due, numbers: &[u64]) -> Due
     requires again { AllByRecursion (λ own. own < length numbers.now) due.now.again.items }
     requires given_up { AllByRecursion (λ own. own < length numbers.now) due.now.given_up.items }

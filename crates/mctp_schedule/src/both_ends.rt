@@ -1,11 +1,11 @@
-//! Both ends over a schedule.
+//! A run of requesters and a device over a schedule, and the report of it.
 
 ghost use Rattle.std.specs.Prelude.{◌≡◌, ◌⊎◌, true, None, Some, IfOk, IfErr, OnOk};
 ghost use Rattle.mctp_packet.specs.Memories.{out_of_memory};
 ghost use Rattle.pldm_wire.specs.declared.busy_time.BusyTime.TheVariants.{All};
-ghost use Rattle.pldm_responder.specs.Held.{IsHeld, held_at_first};
+ghost use Rattle.pldm_responder.specs.ResponderStates.{IsHeld, held_at_first};
 ghost use Rattle.pldm_responder.specs.Performing.{rules_of};
-ghost use Rattle.pldm_responder.specs.Stations.{held_of};
+ghost use Rattle.pldm_responder.specs.ResponderViews.{held_of};
 ghost use Rattle.mctp_schedule.specs.Reports.{IsReport};
 ghost use Rattle.mctp_schedule.specs.RunFaults.{refusal};
 ghost use Rattle.mctp_schedule.specs.HeldRuns.{held_by};
@@ -53,10 +53,9 @@ pub struct Report<P: Platform> {
     pub order: Vec<u64>,
     /// The platform at the end.
     pub device: P,
-    /// Whether the schedule was timely: each request came to the device less than the keeping time
-    /// after it was opened, and again only while fewer other instance IDs of its source than the
-    /// window has had a first arrival since its own; and no packet of an answer came after its
-    /// requester had used the request's tag again.
+    /// Whether the schedule was timely: each request came to the device less than the keeping time after it was opened,
+    /// and again only where, since its own first arrival, fewer other instance IDs of its source had a first arrival
+    /// than the window counts; and no packet of an answer came after its requester had used the request's tag again.
     pub timely: bool,
 }
 
@@ -189,11 +188,13 @@ impl<P: Platform> Ends<P> {
         match &step.action {
             ActionRef::Open { requester, command } => self.open(now, *requester, command),
             ActionRef::Tick { requester } => self.tick(now, *requester),
-            ActionRef::Request { number } => self.deliver(now, *number),
-            ActionRef::Reply { packet, number } => self.hand(now, *number, *packet, false),
+            ActionRef::Request { number } => self.deliver_request(now, *number),
+            ActionRef::Reply { packet, number } => self.deliver_answer(
+                now, *number, *packet, false,
+            ),
             ActionRef::Sense { sensor, value } => self.sense(now, *sensor, *value),
             ActionRef::Restart => self.restart(now),
-            ActionRef::Busy { number } => self.hand(now, *number, 0, true),
+            ActionRef::Busy { number } => self.deliver_answer(now, *number, 0, true),
         }
     }
 
@@ -236,7 +237,7 @@ impl<P: Platform> Ends<P> {
     }
 
     /// The packet of a request comes to the device.
-    fn deliver(&mut self, now: Moment, number: u64) -> Result<(), Memory>
+    fn deliver_request(&mut self, now: Moment, number: u64) -> Result<(), Memory>
         requires { CanGoOn (rules_of P.answer P.after P.sensed) (held_by self.old) (at now (actions.Request number)) }
         ensures { OnOk result (HasDone (rules_of P.answer P.after P.sensed) P.performed (held_by self.old)
             (at now (actions.Request number)) (held_by self.new)) }
@@ -269,7 +270,13 @@ impl<P: Platform> Ends<P> {
     }
 
     /// A packet of the latest answer to a request, a busy one or not, comes to its requester.
-    fn hand(&mut self, now: Moment, number: u64, packet: u8, busy: bool) -> Result<(), Memory>
+    fn deliver_answer(
+        &mut self,
+        now: Moment,
+        number: u64,
+        packet: u8,
+        busy: bool,
+    ) -> Result<(), Memory>
         requires first { busy ≡ true → packet ≡ 0 }
         requires steps { CanGoOn (rules_of P.answer P.after P.sensed) (held_by self.old)
             (at now (answer_action busy number packet)) }

@@ -1,4 +1,4 @@
-//! What became of a delivered packet.
+//! What became of a packet that was delivered to the device, with the answer to it.
 
 ghost use Rattle.std.specs.Prelude.{◌≡◌, IfOk, IfSome, option_map};
 ghost use Rattle.std.specs.Rc.{rc_slice_items};
@@ -23,8 +23,8 @@ pub struct Delivery {
 // A run keeps one for each delivery, with a short answer in place.
 const _: () = prove!(size_of::<Delivery>() == 24);
 
-/// What is kept of a delivery. How its answer is stored is told by the same mark as the delivery, so that
-/// what became of the packet lies beside that mark and takes no place of its own.
+/// What is kept of a delivery. Whether its answer is short or shared is the variant of this same type, so that what
+/// became of the packet lies beside the variant's mark and takes no more memory.
 #[derive(Debug, Drop)]
 enum KeptDelivery {
     /// The answer is short. So is that of a packet which was not answered: it has no bytes.

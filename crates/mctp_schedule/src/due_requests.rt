@@ -1,4 +1,4 @@
-//! What a tick found due.
+//! The requests that a tick found due: to be sent again, or given up.
 
 ghost use Rattle.std.specs.Prelude.{◌≡◌, IfOk};
 ghost use Rattle.mctp_schedule.specs.DueNumbers.{found_nothing, nothing_due};
@@ -26,7 +26,7 @@ impl Model for DueRequests {
 }
 
 impl DueRequests {
-    /// None. It takes no memory.
+    /// No requests. It takes no memory.
     pub(crate) fn none() -> DueRequests
         ensures { result ≡ nothing_due }
     {

@@ -58,7 +58,7 @@ impl Model for Entries {
 }
 
 impl Entries {
-    /// Those of no step.
+    /// The entries of no step.
     pub(crate) fn new(alloc: Global) -> Entries
         ensures { result ≡ [] }
     {
@@ -118,7 +118,8 @@ impl Entries {
         ensures ok { OnOk result (self.new ≡ self.old ++ entry ∷ []) }
         ensures err { OnErr result (self.new ≡ self.old) }
     {
-        // Room for the mark comes first: a column that grew without it would have one too many.
+        // The room for the mark is reserved first: a column that grew where the mark has no room would have one entry
+        // too many.
         self.marks.reserve(1)?;
         let mark = push_parts(
             entry,

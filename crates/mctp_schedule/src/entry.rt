@@ -1,3 +1,5 @@
+//! What came of one step of a run: a request opened, a packet delivered, a tick.
+
 use crate::{Delivery, DueRequests};
 use pldm_platform::ReadingFault;
 use pldm_requester::{Got, OpenFault};

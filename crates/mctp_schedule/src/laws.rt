@@ -3,7 +3,7 @@
 ghost use Rattle.pldm_responder.specs.Performing.{rules_of};
 ghost use Rattle.mctp_schedule.specs.InWindow.{InWindowByTheRule};
 ghost use Rattle.mctp_schedule.specs.Laws.{AllIdsAreInTime, AllIdsAreNoWindow, LogIsTimely, TimelyIsTested};
-ghost use Rattle.mctp_schedule.specs.Worlds.{Setting};
+ghost use Rattle.mctp_schedule.specs.Worlds.{BothEnds};
 ghost use Rattle.mctp_schedule.specs.RequesterHalf.{AnsweredWasPerformed, AnsweredWhereTaken, BusyIsExpected, OwnAssembly, OwnDeliveries, ReplyIsExpected, TakenOnce};
 ghost use Rattle.mctp_schedule.specs.DeviceHalf.{DeliveryIsExpected, FreshInOrderOfFirsts, FreshWhereFirst, GivenIsTheReply, NoneOpenedSince, NotPerformedAgain, StateIsOnce, TheReplyFits};
 
@@ -28,25 +28,24 @@ pub fn performs_once<P: Platform>()
     ensures fits { TheReplyFits (rules_of P.answer P.after P.sensed) }
 {}
 
-/// Over a timely schedule the log of what happened on the link is timely, so the laws of
-/// [`fresh_deliveries_are_first`] and [`performs_once`] hold of it; and the test of a timely schedule
-/// tells just that.
+/// Over a timely schedule the log of what happened on the link is timely, so the laws of [`fresh_deliveries_are_first`]
+/// and [`performs_once`] hold of it; and the test of a timely schedule says exactly whether the schedule is timely.
 pub fn logs_are_timely<P: Platform>()
-    ensures log { (setting : Setting P.State) → LogIsTimely setting }
-    ensures tested { (setting : Setting P.State) → TimelyIsTested setting }
+    ensures log { (setting : BothEnds P.State) → LogIsTimely setting }
+    ensures tested { (setting : BothEnds P.State) → TimelyIsTested setting }
 {
     pldm_requester::laws::instance_ids_are_apart();
 }
 
-/// With a window of all instance IDs what is timely is what is timely where the device keeps an answer for each
+/// With a window of all instance IDs, the same schedules are timely as where the device keeps an answer for each
 /// instance ID of a source.
 pub fn all_ids_are_in_time<P: Platform>()
     ensures logs { AllIdsAreInTime P.State }
-    ensures schedules { (setting : Setting P.State) → AllIdsAreNoWindow setting }
+    ensures schedules { (setting : BothEnds P.State) → AllIdsAreNoWindow setting }
 {}
 
-/// A request that has arrived is in the window where fewer other instance IDs of its source than the window has
-/// had a first arrival since its own.
+/// A request that has arrived is in the window where, since its own first arrival, fewer other instance IDs of its
+/// source had a first arrival than the window counts.
 pub fn in_window_by_the_rule<P: Platform>()
     ensures { InWindowByTheRule P.State }
 {}
@@ -55,13 +54,13 @@ pub fn in_window_by_the_rule<P: Platform>()
 /// each packet of an answer gives what is expected to it, and a request is answered exactly where it was
 /// taken, by its one reply, which performing it exactly once gave.
 pub fn requesters_take_the_one_reply<P: Platform>()
-    ensures deliveries { (setting : Setting P.State) → OwnDeliveries setting }
-    ensures assembly { (setting : Setting P.State) → OwnAssembly setting }
-    ensures reply { (setting : Setting P.State) → ReplyIsExpected setting }
-    ensures busy { (setting : Setting P.State) → BusyIsExpected setting }
-    ensures answered { (setting : Setting P.State) → AnsweredWhereTaken setting }
-    ensures once { (setting : Setting P.State) → TakenOnce setting }
-    ensures performed { (setting : Setting P.State) → AnsweredWasPerformed setting }
+    ensures deliveries { (setting : BothEnds P.State) → OwnDeliveries setting }
+    ensures assembly { (setting : BothEnds P.State) → OwnAssembly setting }
+    ensures reply { (setting : BothEnds P.State) → ReplyIsExpected setting }
+    ensures busy { (setting : BothEnds P.State) → BusyIsExpected setting }
+    ensures answered { (setting : BothEnds P.State) → AnsweredWhereTaken setting }
+    ensures once { (setting : BothEnds P.State) → TakenOnce setting }
+    ensures performed { (setting : BothEnds P.State) → AnsweredWasPerformed setting }
 {
     mctp_packet::laws::split_packets_read_back();
     pldm_wire::laws::messages_are_told_apart();

@@ -1,4 +1,4 @@
-//! Where the requesters of a run stand.
+//! The requesters of a run, each at the place of its endpoint ID.
 
 ghost use Rattle.std.specs.Prelude.{◌≡◌, ◌⊎◌, ◌+◌, ◌∷◌, [], None, Some, IfOk, IfErr, length};
 ghost use Rattle.mctp_packet.specs.Memories.{out_of_memory};

@@ -1,3 +1,5 @@
+//! Why a schedule was not run.
+
 ghost use Rattle.std.specs.Prelude.{◌≡◌};
 ghost use Rattle.mctp_schedule.specs.RunFaults.{number_of_run_fault};
 

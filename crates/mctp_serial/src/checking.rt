@@ -19,7 +19,7 @@ pub(crate) fn check_sequence(packet: &[u8]) -> u16
     register
 }
 
-/// The register after one byte more.
+/// The register after one more byte.
 fn byte_further(register: u16, byte: u8) -> u16
     ensures { result ≡ byte_further register byte }
 {
@@ -30,7 +30,7 @@ fn byte_further(register: u16, byte: u8) -> u16
     shifted
 }
 
-/// The register after one bit more.
+/// The register after one more bit.
 #[tactic(auto, unfolding(crate::specs::CheckSequences::bit_further))]
 fn bit_further(register: u16) -> u16
     ensures { result ≡ bit_further register }

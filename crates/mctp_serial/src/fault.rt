@@ -1,3 +1,5 @@
+//! Why bytes on a serial line are no frame of a packet (DSP0253).
+
 ghost use Rattle.std.specs.Prelude.{◌≡◌};
 ghost use Rattle.mctp_serial.specs.FrameFaults.{number_of, name_of};
 

@@ -1,3 +1,5 @@
+//! The frame of a packet on a serial line, with the bytes escaped that would be a flag or an escape (DSP0253).
+
 ghost use Rattle.std.specs.Prelude.{◌≡◌, ◌↔◌, ◌++◌, ◌+◌, ◌<◌, IsSome, IfSome};
 ghost use Rattle.arrayvec.specs.ArrayVec.{array_vec_len};
 ghost use Rattle.mctp_serial.specs.Frames.{HasFrame, spelled, frame};

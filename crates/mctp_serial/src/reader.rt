@@ -1,3 +1,5 @@
+//! A reader of a serial line: it takes the line byte by byte and finds the frames in it (DSP0253).
+
 ghost use Rattle.std.specs.Prelude.{◌≡◌, ◌++◌, ◌∷◌, [], List, ℕ};
 ghost use Rattle.mctp_serial.specs.Places.{reading_of, HasRoom};
 ghost use Rattle.mctp_serial.specs.Readings.{idle, opened, counting, inside, escaped, closing, step, after_end, drops, inside_or_past};

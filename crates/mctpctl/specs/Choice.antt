@@ -18,11 +18,11 @@ use Rattle.mctpctl.specs.declared.choose.Choice.TheVariants as choice
 use Rattle.mctpctl.specs.declared.choose.Link.{Link}
 use Rattle.mctpctl.specs.declared.choose.Question.{Question}
 use Rattle.mctpctl.specs.declared.choose.Service.{Service}
-use Rattle.mctpctl.specs.declared.choose.Survey.{Survey}
+use Rattle.mctpctl.specs.declared.choose.WalkOptions.{WalkOptions}
 use Rattle.mctpctl.specs.declared.choose.TextTask.{TextTask}
 use Rattle.mctpctl.specs.declared.choose.Task.{Task}
 use Rattle.mctpctl.specs.declared.choose.Task.TheVariants.{Answer, Run, Show}
-use Rattle.mctpctl.specs.declared.choose.Vigil.{Vigil}
+use Rattle.mctpctl.specs.declared.choose.WatchOptions.{WatchOptions}
 use Rattle.mctpctl.specs.declared.choose.ChooseFault.{ChooseFault}
 use Rattle.mctpctl.specs.declared.choose.ChooseFault.TheVariants.{Help, Refused, Memory}
 
@@ -172,7 +172,7 @@ pub record Questioned : Type 0 where
   pub count : ℕ
 
 -- a device that is asked for all that it has
-pub record Surveyed : Type 0 where
+pub record WalkAsked : Type 0 where
   pub link : Linked
   pub records : Option (List ℕ)
 
@@ -188,7 +188,7 @@ pub data Asked : Type 0 where
   to_perform : TextTask → Asked
   to_serve : Served → Asked
   to_ask : Questioned → Asked
-  to_walk : Surveyed → Asked
+  to_walk : WalkAsked → Asked
   to_watch : Watched → Asked
 
 -- what a value of the code asks for
@@ -215,23 +215,23 @@ questioned q = record {
   count = q.count;
 }
 
-abbrev pub surveyed : Survey → Surveyed
-surveyed survey = record { link = linked survey.link; records = option_map (λ text. text.now) survey.records }
+abbrev pub walk_options : WalkOptions → WalkAsked
+walk_options options = record { link = linked options.link; records = option_map (λ text. text.now) options.records }
 
-abbrev pub kept_vigil : Vigil → Watched
-kept_vigil vigil = record {
-  link = linked vigil.link;
-  every = option_map (λ text. text.now) vigil.every;
-  count = option_map (λ text. text.now) vigil.count;
-  readings = option_map (λ text. text.now) vigil.readings;
+abbrev pub watch_options : WatchOptions → Watched
+watch_options options = record {
+  link = linked options.link;
+  every = option_map (λ text. text.now) options.every;
+  count = option_map (λ text. text.now) options.count;
+  readings = option_map (λ text. text.now) options.readings;
 }
 
 abbrev pub asked : Choice → Asked
 asked (choice.Text task) = to_perform task
 asked (choice.Serve service) = to_serve (served service)
 asked (choice.Ask question) = to_ask (questioned question)
-asked (choice.Walk survey) = to_walk (surveyed survey)
-asked (choice.Watch vigil) = to_watch (kept_vigil vigil)
+asked (choice.Walk options) = to_walk (walk_options options)
+asked (choice.Watch options) = to_watch (watch_options options)
 
 -- what is asked for by what was found of the arguments of `serve`
 abbrev pub service_in : List Row → Option Served
@@ -272,12 +272,12 @@ question_in rows =
     }) (link_in rows)
 
 -- and of `walk`
-abbrev pub survey_in : List Row → Option Surveyed
-survey_in rows = option_map (λ link. record { link = link; records = first_of (codes "records") rows }) (link_in rows)
+abbrev pub walk_options_in : List Row → Option WalkAsked
+walk_options_in rows = option_map (λ link. record { link = link; records = first_of (codes "records") rows }) (link_in rows)
 
 -- and of `watch`
-abbrev pub vigil_in : List Row → Option Watched
-vigil_in rows =
+abbrev pub watch_options_in : List Row → Option Watched
+watch_options_in rows =
     option_map (λ link. record {
       link = link;
       every = first_of (codes "every") rows;
@@ -311,8 +311,8 @@ abbrev pub choice_in : List ℕ × List Row → Option Asked
 choice_in found =
     if bytes_eq found.0 (codes "serve") then option_map to_serve (service_in found.1)
     else if bytes_eq found.0 (codes "ask") then option_map to_ask (question_in found.1)
-    else if bytes_eq found.0 (codes "walk") then option_map to_walk (survey_in found.1)
-    else if bytes_eq found.0 (codes "watch") then option_map to_watch (vigil_in found.1)
+    else if bytes_eq found.0 (codes "walk") then option_map to_walk (walk_options_in found.1)
+    else if bytes_eq found.0 (codes "watch") then option_map to_watch (watch_options_in found.1)
     else option_map to_perform (text_task_in found)
 
 -- what a line that is taken asks for

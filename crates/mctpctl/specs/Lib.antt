@@ -1,6 +1,7 @@
 pub mod AskedTexts
 pub mod Choice
 pub mod ControlResponders
+pub mod Conversations
 pub mod FaultNumbers
 pub mod LineFaults
 pub mod ServedTexts

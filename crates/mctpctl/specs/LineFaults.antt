@@ -1,6 +1,6 @@
 -- The faults of a serial line as those of an engine, with their lines on standard error and their exit statuses.
 use Rattle.std.specs.Prelude.{Option, None, Some}
-use Rattle.mctpctl_input.specs.LineRuns.{no_memory}
+use Rattle.mctpctl_input.specs.OutsideFaults.{no_memory}
 use Rattle.mctpctl_input.specs.declared.faults.EngineFault.{EngineFault}
 use Rattle.mctpctl_input.specs.declared.faults.EngineFault.TheVariants as engine
 use Rattle.mctpctl_serve.specs.declared.fault.ServeFault.{ServeFault}

@@ -1,6 +1,6 @@
 -- What the text of a served description says: the device, and then what control messages find.
 use Rattle.std.specs.Prelude.{ℕ, List, Result, Ok, Err}
-use Rattle.mctpctl_engines.specs.DescribedPieces.{begun}
+use Rattle.mctpctl_engines.specs.DescriptionLines.{begun}
 use Rattle.mctpctl_input.specs.declared.faults.EngineFault.{EngineFault}
 use Rattle.mctpctl_input.specs.declared.faults.EngineFault.TheVariants.{Device}
 use Rattle.pldm_device.specs.ControlTables.{control_of}

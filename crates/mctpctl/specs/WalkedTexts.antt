@@ -6,13 +6,10 @@ use Rattle.mctp_control.specs.Messages.{Response, response_of}
 use Rattle.mctp_control.specs.Queries.{ControlQuery}
 use Rattle.mctp_control.specs.declared.assigned.TheConstants.{SUCCESS}
 use Rattle.mctp_control.specs.declared.command.Command.{Command as ControlCommand}
-use Rattle.mctpctl_ask.specs.Asked.{Shown, shown}
+use Rattle.mctpctl_ask.specs.Asked.{Shown}
 use Rattle.mctpctl_ask.specs.Ends.{answer_of}
 use Rattle.mctpctl_ask.specs.Queries.{AsksQuery}
-use Rattle.mctpctl_ask.specs.declared.line.AskingLine.{AskingLine}
 use Rattle.mctpctl_decode.specs.RecordTexts.{record_lines}
-use Rattle.mctpctl_input.specs.Ports.{inner_of}
-use Rattle.mctpctl_input.specs.declared.port.Port.{Port}
 use Rattle.mctpctl_table.specs.Rows.{rows_of}
 use Rattle.mctpctl_table.specs.Tables.{Cells, table_text}
 use Rattle.mctpctl_walk.specs.Steps.{after}
@@ -23,6 +20,8 @@ use Rattle.pldm_wire.specs.declared.command.Command.{Command}
 use Rattle.pldm_wire.specs.declared.command.Command.TheVariants.{GetPdr}
 use Rattle.pldm_requester.specs.declared.timing.Timing.{Timing}
 use Rattle.mctpctl.specs.AskedTexts.{Prints, Tells}
+use Rattle.mctpctl.specs.Conversations.{printed_in, shown_in}
+use Rattle.mctpctl.specs.declared.conversation.Conversation.{Conversation}
 use Rattle.mctpctl.specs.declared.settings.Settings.{Settings}
 use Rattle.mctpctl.specs.declared.talk.TheConstants.{DONE, FAILED, REFUSED}
 
@@ -60,11 +59,11 @@ pub record Standing : Type 0 where
 
 abbrev pub standing :
     {C R W O : Type 0} → (C → Option (List ℕ)) → (R → Option (List ℕ)) → (W → Option (List ℕ)) → (O → Option (List ℕ))
-    → Walking → AskingLine C → Port R → Port W → Port O → Standing
-standing to_come remaining contents printed walking line reader writer out = record {
+    → Walking → Conversation C R W O → Standing
+standing to_come remaining contents printed walking conversation = record {
   walking = walking;
-  shown = shown to_come remaining contents line reader writer;
-  out = printed (inner_of out);
+  shown = shown_in to_come remaining contents conversation;
+  out = printed_in printed conversation;
 }
 
 -- whether a command asks for another part than the first of a record
@@ -82,8 +81,8 @@ joined_text None = []
 abbrev pub record_text : Command → ℕ → Walking → List ℕ
 record_text command place w = if goes_on command then joined_text (slice_get w.records place) else []
 
--- the next command was asked, the answer to that very request was printed, and the walk took it; then the record that it
--- completed was printed, where that came in several parts
+-- the next command was asked, the answer to that very request was printed, and the walk took it; then the record that
+-- it completed was printed, where that came in several parts
 pub record Visits (a b : Standing) : Type 0 where
   pub command : Command
   pub next : next_command a.walking ≡ Some command

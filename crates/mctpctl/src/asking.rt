@@ -1,17 +1,18 @@
 //! `ask`: commands go out to a device on a serial line, and their answers are printed.
 
 ghost use Rattle.std.specs.Io.KnownBytes.{Appends};
-ghost use Rattle.std.specs.Prelude.{◌≡◌, ◌++◌, IfOk, OnOk, false, option_map};
+ghost use Rattle.std.specs.Prelude.{◌≡◌, ◌++◌, IfOk, OnOk, option_map};
 ghost use Rattle.mctpctl.specs.AskedTexts.{Tells, message_text, status_of_answer, status_of_message};
-ghost use Rattle.mctpctl_ask.specs.Asked.{shown};
-ghost use Rattle.mctpctl_input.specs.Ports.{has_failed, inner_of};
+ghost use Rattle.mctpctl.specs.Conversations.{IsGoingOn, printed_in, shown_in};
+ghost use Rattle.mctpctl_input.specs.Ports.{inner_of};
 
 use crate::choose::Question;
 use crate::commands::{CommandsFault, read_commands};
+use crate::conversation::Conversation;
 use crate::help::{NO_COMMAND, TRY_HELP};
 use crate::talk::{DONE, Errand, FAILED, REFUSED, USAGE, do_errand, read_settings};
 use mctp_packet::Memory;
-use mctpctl_ask::{AskFault, AskingLine, Ticks, ask};
+use mctpctl_ask::{AskFault, Ticks, ask};
 use mctpctl_decode::push_decoded_line;
 use mctpctl_input::Port;
 use mctpctl_texts::{write_data, write_text};
@@ -73,17 +74,13 @@ pub fn ask_each<C: Ticks, R: Read, W: Write, O: Write>(
     rt: &HostRuntime,
     question: &Question<'_>,
     commands: &Schedule,
-    line: &mut AskingLine<C>,
-    reader: &mut Port<R>,
-    writer: &mut Port<W>,
-    out: &mut Port<O>,
+    conversation: &mut Conversation<C, R, W, O>,
 ) -> Result<u8, AskFault>
-    requires reads { has_failed reader.old ≡ false }
-    requires writes { has_failed writer.old ≡ false }
+    requires going { IsGoingOn conversation.old }
 {
     let mut status = DONE;
     for step in commands.steps().iter() {
-        match ask_step(rt, question, &step, line, reader, writer, out) {
+        match ask_step(rt, question, &step, conversation) {
             Ok(one) => status = status.max(one),
             Err(fault) => return Err(fault),
         }
@@ -96,22 +93,17 @@ fn ask_step<C: Ticks, R: Read, W: Write, O: Write>(
     rt: &HostRuntime,
     question: &Question<'_>,
     step: &StepRef<'_>,
-    line: &mut AskingLine<C>,
-    reader: &mut Port<R>,
-    writer: &mut Port<W>,
-    out: &mut Port<O>,
+    conversation: &mut Conversation<C, R, W, O>,
 ) -> Result<u8, AskFault>
-    requires reads { has_failed reader.old ≡ false }
-    requires writes { has_failed writer.old ≡ false }
-    ensures reads { OnOk result (has_failed reader.new ≡ false) }
-    ensures writes { OnOk result (has_failed writer.new ≡ false) }
+    requires going { IsGoingOn conversation.old }
+    ensures going { OnOk result (IsGoingOn conversation.new) }
 {
     let ActionRef::Open { command, .. } = step.action else {
         return Ok(DONE); // a schedule of commands has no other step
     };
     let hex = question.hex;
-    let number = ask_command(rt.alloc(), hex, command, line, reader, writer, out)?;
-    let status = status_of_answer(line.answer(number));
+    let number = ask_command(rt.alloc(), hex, command, conversation)?;
+    let status = status_of_answer(conversation.line.answer(number));
     if status == FAILED {
         say_no_answer(rt, question, step);
     }
@@ -133,28 +125,28 @@ pub fn ask_command<C: Ticks, R: Read, W: Write, O: Write>(
     alloc: Global,
     hex: bool,
     command: &Command,
-    line: &mut AskingLine<C>,
-    reader: &mut Port<R>,
-    writer: &mut Port<W>,
-    out: &mut Port<O>,
+    conversation: &mut Conversation<C, R, W, O>,
 ) -> Result<u64, AskFault>
-    requires reads { has_failed reader.old ≡ false }
-    requires writes { has_failed writer.old ≡ false }
+    requires going { IsGoingOn conversation.old }
     ensures told { IfOk result (λ number. Tells hex command.now number
-        (shown C.to_come R.remaining W.contents line.old reader.old writer.old)
-        (shown C.to_come R.remaining W.contents line.new reader.new writer.new)
-        (O.contents (inner_of out.old)) (O.contents (inner_of out.new))) }
-    ensures reads { OnOk result (has_failed reader.new ≡ false) }
-    ensures writes { OnOk result (has_failed writer.new ≡ false) }
+        (shown_in C.to_come R.remaining W.contents conversation.old)
+        (shown_in C.to_come R.remaining W.contents conversation.new)
+        (printed_in O.contents conversation.old) (printed_in O.contents conversation.new)) }
+    ensures going { OnOk result (IsGoingOn conversation.new) }
 {
-    let asked = match ask(line, command, reader, writer) {
+    let asked = match ask(
+        &mut conversation.line,
+        command,
+        &mut conversation.reader,
+        &mut conversation.writer,
+    ) {
         Ok(asked) => asked,
         Err(fault) => return Err(fault),
     };
-    let Some(message) = line.answer(asked.number) else {
+    let Some(message) = conversation.line.answer(asked.number) else {
         return Ok(asked.number);
     };
-    print_message(alloc, hex, message, out)?;
+    print_message(alloc, hex, message, &mut conversation.out)?;
     Ok(asked.number)
 }
 

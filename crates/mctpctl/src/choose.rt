@@ -1,10 +1,10 @@
-//! The command line.
+//! What the command line asks for.
 
 ghost use Rattle.std.specs.Prelude.{◌≡◌, IfOk, IfErr, Some, false, map, option_and_then, option_map};
 ghost use Rattle.mctp_packet.specs.Memories.{out_of_memory};
 ghost use Rattle.clap.specs.Words.{app_of, first_of, found_of, kind_of, rows_of, rule_of, subcommand_rows_of};
 ghost use Rattle.mctpctl.specs.FaultNumbers.{number_of_choose_fault};
-ghost use Rattle.mctpctl.specs.Choice.{ask_subcommand as the_ask_subcommand, asked, asking_command as the_asking_command, binding_in, binding_named, choice_in as the_choice, choice_of, command as the_command, command_words as the_command_words, device_command as the_device_command, flag as the_flag, has_globals, is_given, line_command as the_line_command, line_subcommand as the_line_subcommand, link_in, linked, program as the_program, question_in, questioned, serve_subcommand as the_serve_subcommand, served, service_in, show_subcommand as the_show_subcommand, stated_subcommand as the_stated_subcommand, survey_in, surveyed, task_named, text_command as the_text_command, text_subcommand as the_text_subcommand, text_task_in, timed_subcommand as the_timed_subcommand, value_option as the_value_option, values_given, vigil_in, kept_vigil, walk_subcommand as the_walk_subcommand, walking_command as the_walking_command, watch_subcommand as the_watch_subcommand, ReportsKind, ReportsRefusal};
+ghost use Rattle.mctpctl.specs.Choice.{ask_subcommand as the_ask_subcommand, asked, asking_command as the_asking_command, binding_in, binding_named, choice_in as the_choice, choice_of, command as the_command, command_words as the_command_words, device_command as the_device_command, flag as the_flag, has_globals, is_given, line_command as the_line_command, line_subcommand as the_line_subcommand, link_in, linked, program as the_program, question_in, questioned, serve_subcommand as the_serve_subcommand, served, service_in, show_subcommand as the_show_subcommand, stated_subcommand as the_stated_subcommand, walk_options_in, walk_options, task_named, text_command as the_text_command, text_subcommand as the_text_subcommand, text_task_in, timed_subcommand as the_timed_subcommand, value_option as the_value_option, values_given, watch_options_in, watch_options, walk_subcommand as the_walk_subcommand, walking_command as the_walking_command, watch_subcommand as the_watch_subcommand, ReportsKind, ReportsRefusal};
 
 use crate::help::{
     ANSWER, ASK, ASKED, BINDING, BINDINGS, COMMAND, COMMANDS, COUNT, DECODE, DEVICE, EVERY,
@@ -28,9 +28,9 @@ pub enum Choice<'a> {
     /// Commands to a device on a serial line.
     Ask(Question<'a>),
     /// All that a device on a serial line has.
-    Walk(Survey<'a>),
+    Walk(WalkOptions<'a>),
     /// What the sensors and effecters of a device on a serial line say, again and again.
-    Watch(Vigil<'a>),
+    Watch(WatchOptions<'a>),
 }
 
 /// What is done with a text.
@@ -96,13 +96,13 @@ pub struct Question<'a> {
     pub hex: bool,
     /// The file of the commands (`--file`).
     pub file: Option<&'a str>,
-    /// So many words at the end of the command line are the command.
+    /// How many words at the end of the command line are the command.
     pub count: usize,
 }
 
 /// A device that is asked for all that it has.
 #[derive(Clone, Copy, Debug)]
-pub struct Survey<'a> {
+pub struct WalkOptions<'a> {
     /// Who asks whom.
     pub link: Link<'a>,
     /// The file that its records are written to (`--records`).
@@ -111,7 +111,7 @@ pub struct Survey<'a> {
 
 /// A device whose sensors and effecters are read again and again: the numbers as they are spelled.
 #[derive(Clone, Copy, Debug)]
-pub struct Vigil<'a> {
+pub struct WatchOptions<'a> {
     /// Who asks whom.
     pub link: Link<'a>,
     /// How long a period is (`--every`).
@@ -397,8 +397,8 @@ fn choice_for<'a>(name: &str, matches: &ArgMatches<'a>) -> Option<Choice<'a>>
     match name {
         "serve" => Some(Choice::Serve(service_of(matches)?)),
         "ask" => Some(Choice::Ask(question_of(matches)?)),
-        "walk" => Some(Choice::Walk(survey_of(matches)?)),
-        "watch" => Some(Choice::Watch(vigil_of(matches)?)),
+        "walk" => Some(Choice::Walk(walk_options_of(matches)?)),
+        "watch" => Some(Choice::Watch(watch_options_of(matches)?)),
         _ => Some(Choice::Text(text_task(name, matches)?)),
     }
 }
@@ -468,22 +468,22 @@ fn question_of<'a>(matches: &ArgMatches<'a>) -> Option<Question<'a>>
 }
 
 /// The device that is asked for all that it has, by the arguments of `walk`.
-fn survey_of<'a>(matches: &ArgMatches<'a>) -> Option<Survey<'a>>
-    ensures { option_map surveyed result ≡ survey_in (rows_of (found_of matches.now)) }
+fn walk_options_of<'a>(matches: &ArgMatches<'a>) -> Option<WalkOptions<'a>>
+    ensures { option_map walk_options result ≡ walk_options_in (rows_of (found_of matches.now)) }
 {
     let link = link_of(matches)?;
-    Some(Survey {
+    Some(WalkOptions {
         link,
         records: value(matches, "records"),
     })
 }
 
 /// The device that is read again and again, by the arguments of `watch`.
-fn vigil_of<'a>(matches: &ArgMatches<'a>) -> Option<Vigil<'a>>
-    ensures { option_map kept_vigil result ≡ vigil_in (rows_of (found_of matches.now)) }
+fn watch_options_of<'a>(matches: &ArgMatches<'a>) -> Option<WatchOptions<'a>>
+    ensures { option_map watch_options result ≡ watch_options_in (rows_of (found_of matches.now)) }
 {
     let link = link_of(matches)?;
-    Some(Vigil {
+    Some(WatchOptions {
         link,
         every: value(matches, "every"),
         count: value(matches, "count"),

@@ -13,7 +13,7 @@ use std::io;
 pub enum CommandsFault {
     /// Neither a command nor a file is given, or both are, or the command is a comment.
     None,
-    /// The command is none, for this reason.
+    /// The words are no command, for this reason.
     Word(LineFaultKind),
     /// The line of the file with this number is no command, for this reason.
     Line(u64, LineFaultKind),

@@ -1,4 +1,4 @@
-//! The served device as a bus owner finds it.
+//! The control responder of the device that `mctpctl serve` serves, as its description says.
 
 ghost use Rattle.std.specs.Prelude.{◌≡◌, Some, [], unwrap_or};
 ghost use Rattle.mctpctl.specs.ControlResponders.{default_base_version, default_pldm_version, default_uuid, eid_at_first};

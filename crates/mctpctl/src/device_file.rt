@@ -1,7 +1,7 @@
 //! The text of a file, as the description of a device.
 
 ghost use Rattle.mctpctl.specs.ServedTexts.{served_of};
-ghost use Rattle.mctpctl_engines.specs.DescribedPieces.{IsReturned};
+ghost use Rattle.mctpctl_engines.specs.DescriptionLines.{IsReturned};
 
 use mctpctl_engines::read_description;
 use mctpctl_input::{DescriptionFault, EngineFault, MAX_DESCRIPTION};
@@ -25,8 +25,8 @@ pub fn read_served(alloc: Global, text: &[u8]) -> Result<(Description, ControlTa
     ensures { IsReturned (served_of text.now) result }
 {
     let description = read_description(alloc, text)?;
-    match ControlTable::read(alloc, text) {
+    match ControlTable::read_or_refusal(alloc, text) {
         Ok(table) => Ok((description, table)),
-        Err(fault) => Err(EngineFault::Device(DescriptionFault::new(fault)?)),
+        Err(refusal) => Err(EngineFault::Device(DescriptionFault::new(refusal)?)),
     }
 }

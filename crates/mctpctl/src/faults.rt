@@ -19,7 +19,8 @@ pub fn print_fault(rt: &HostRuntime, fault: &EngineFault) -> u8
     status_of(fault)
 }
 
-/// The fault of an engine that a fault of a serial line is; the clock's is none.
+/// The engine's fault for the same cause as a fault of a serial line; `None` for a fault of the clock, which an engine
+/// has not.
 pub fn engine_fault(fault: ServeFault) -> Option<EngineFault>
     ensures { result ≡ engine_fault_of fault }
 {

@@ -7,6 +7,7 @@ mod asking;
 mod choose;
 mod commands;
 mod control_responder;
+mod conversation;
 mod device_file;
 mod faults;
 mod help;
@@ -24,8 +25,8 @@ use crate::asking::ask_device;
 use crate::choose::{Choice, ChooseFault, Task, TextTask, choose};
 use crate::faults::print_fault;
 use crate::serial_line::serve_device;
-use crate::walking::survey_device;
-use crate::watching::keep_watch;
+use crate::walking::run_walk;
+use crate::watching::run_watch;
 use mctpctl_decode::decode_all;
 use mctpctl_engines::{answer_all, run_all, show_all};
 use mctpctl_explain::{Keeping, Subject, explain, warnings};
@@ -67,8 +68,8 @@ fn perform(rt: &HostRuntime) -> Result<u8, ChooseFault> {
         Ok(Choice::Text(text)) => Ok(perform_text(rt, text)),
         Ok(Choice::Serve(service)) => Ok(serve_device(rt, &service)),
         Ok(Choice::Ask(question)) => Ok(ask_device(rt, &question, &words)),
-        Ok(Choice::Walk(survey)) => Ok(survey_device(rt, &survey)),
-        Ok(Choice::Watch(vigil)) => Ok(keep_watch(rt, &vigil)),
+        Ok(Choice::Walk(options)) => Ok(run_walk(rt, &options)),
+        Ok(Choice::Watch(options)) => Ok(run_watch(rt, &options)),
         Err(fault) => Err(fault),
     }
 }

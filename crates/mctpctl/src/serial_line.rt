@@ -6,7 +6,7 @@ use crate::device_file::{device_text, read_served};
 use crate::faults::{engine_fault, print_fault};
 use mctp_serial::FrameReader;
 use mctpctl_input::{EngineFault, Port};
-use mctpctl_serve::{Line, Log, SystemTicks, serve};
+use mctpctl_serve::{Log, ServedLine, SystemTicks, serve};
 use pldm_device::{ControlTable, Description};
 use pldm_responder::{Bounds, Keeping, Responder};
 use std::alloc::AllocError;
@@ -76,7 +76,7 @@ fn run(rt: &HostRuntime, service: &Service<'_>) -> Result<(), ServiceFault> {
     let Ok(ticks) = SystemTicks::new(rt) else {
         return Err(ServiceFault::Clock);
     };
-    let mut line = Line {
+    let mut line = ServedLine {
         frames: FrameReader::new(),
         responder: Responder::bounded(alloc, own, keeping, Bounds::UNREACHED, device),
         control: control_responder(eid, keep, &table),

@@ -1,10 +1,10 @@
 //! The numbers of `ask`: endpoint IDs and times.
 
 ghost use Rattle.std.specs.Prelude.{◌≡◌, ◌≤◌, IfErr, IfOk, IfSome, Some, option_map};
-ghost use Rattle.mctpctl.specs.Choice.{kept_vigil, linked};
+ghost use Rattle.mctpctl.specs.Choice.{watch_options, linked};
 ghost use Rattle.mctpctl.specs.Settings.{eid_in, keep_in, number_in, periods_in, refused_option, refused_period, settings_in};
 
-use crate::choose::{Link, Vigil};
+use crate::choose::{Link, WatchOptions};
 use line_words::read_number;
 use mctp_packet::{Eid, Keep, MAX_KEEP};
 use pldm_requester::{MAX_TRIES, Timing};
@@ -50,7 +50,7 @@ pub struct Periods {
     pub count: u64,
 }
 
-/// The settings that the words spell; else the name of the first option whose value is none.
+/// The settings that the words spell; else the name of the first option whose value is not valid.
 pub fn settings_of(link: &Link<'_>) -> Result<Settings, &'static str>
     ensures ok { IfOk result (λ settings. settings_in (linked link.now) ≡ Some settings) }
     ensures err { IfErr result (λ option. refused_option (linked link.now) ≡ Some option.now) }
@@ -81,16 +81,16 @@ pub fn settings_of(link: &Link<'_>) -> Result<Settings, &'static str>
     })
 }
 
-/// The periods that the words spell; else the name of the first option whose value is none.
-pub fn periods_of(vigil: &Vigil<'_>) -> Result<Periods, &'static str>
-    ensures ok { IfOk result (λ periods. periods_in (kept_vigil vigil.now) ≡ Some periods) }
-    ensures err { IfErr result (λ option. refused_period (kept_vigil vigil.now) ≡ Some option.now) }
+/// The periods that the words spell; else the name of the first option whose value is not valid.
+pub fn periods_of(options: &WatchOptions<'_>) -> Result<Periods, &'static str>
+    ensures ok { IfOk result (λ periods. periods_in (watch_options options.now) ≡ Some periods) }
+    ensures err { IfErr result (λ option. refused_period (watch_options options.now) ≡ Some option.now) }
     ensures range { IfOk result (λ periods. periods.every ≤ MAX_EVERY) }
 {
-    let Some(every) = number(vigil.every, MAX_EVERY, EVERY_MS) else {
+    let Some(every) = number(options.every, MAX_EVERY, EVERY_MS) else {
         return Err("--every <MS>");
     };
-    let Some(count) = number(vigil.count, MAX_COUNT, MAX_COUNT) else {
+    let Some(count) = number(options.count, MAX_COUNT, MAX_COUNT) else {
         return Err("--count <N>");
     };
     Ok(Periods { every, count })

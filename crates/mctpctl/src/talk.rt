@@ -3,7 +3,8 @@
 ghost use Rattle.std.specs.Prelude.{◌<◌, ◌^◌};
 
 use crate::asking::ask_each;
-use crate::choose::{Link, Question, Survey, Vigil};
+use crate::choose::{Link, Question, WalkOptions, WatchOptions};
+use crate::conversation::Conversation;
 use crate::help::TRY_HELP;
 use crate::settings::{Periods, Settings, settings_of};
 use crate::state::{StateFault, begin_state, end_state};
@@ -34,9 +35,9 @@ pub enum Errand<'q> {
     /// These commands.
     Ask(&'q Question<'q>, &'q Schedule),
     /// All that it has.
-    Walk(&'q Survey<'q>),
+    Walk(&'q WalkOptions<'q>),
     /// What its sensors and effecters say, in each of these periods.
-    Watch(&'q Vigil<'q>, &'q Periods),
+    Watch(&'q WatchOptions<'q>, &'q Periods),
 }
 
 /// Who asks, and what.
@@ -48,7 +49,7 @@ struct Talk<'q> {
     errand: Errand<'q>,
 }
 
-/// The settings that the words spell; else the exit status, and the refused option is said on standard error.
+/// The settings that the words spell; else the exit status, once the refused option is named on standard error.
 pub fn read_settings(rt: &HostRuntime, link: &Link<'_>) -> Result<Settings, u8> {
     match settings_of(link) {
         Ok(settings) => Ok(settings),
@@ -128,7 +129,7 @@ fn talk_over<R: Read + Drop, W: Write + Drop, O: Write + Drop>(
     } = talk.settings;
     let mut reader = Port::new(reader);
     let mut writer = Port::new(writer);
-    let mut line = match begin_after(
+    let line = match begin_after(
         rt.alloc(),
         own,
         device,
@@ -141,38 +142,16 @@ fn talk_over<R: Read + Drop, W: Write + Drop, O: Write + Drop>(
         Ok(line) => line,
         Err(fault) => return begin_failed(rt, fault),
     };
-    let mut out = Port::new(out);
+    let mut conversation = Conversation {
+        line,
+        reader,
+        writer,
+        out: Port::new(out),
+    };
     let done = match talk.errand {
-        Errand::Ask(question, commands) => ask_each(
-            rt,
-            question,
-            commands,
-            &mut line,
-            &mut reader,
-            &mut writer,
-            &mut out,
-        ),
-        Errand::Walk(survey) => {
-            let settings = &talk.settings;
-            walk_device(
-                rt,
-                settings,
-                survey,
-                &mut line,
-                &mut reader,
-                &mut writer,
-                &mut out,
-            )
-        }
-        Errand::Watch(vigil, periods) => watch_device(
-            rt,
-            vigil,
-            periods,
-            &mut line,
-            &mut reader,
-            &mut writer,
-            &mut out,
-        ),
+        Errand::Ask(question, commands) => ask_each(rt, question, commands, &mut conversation),
+        Errand::Walk(options) => walk_device(rt, &talk.settings, options, &mut conversation),
+        Errand::Watch(options, periods) => watch_device(rt, options, periods, conversation),
     };
     match done {
         Ok(status) => status,

@@ -1,19 +1,20 @@
 //! `walk`: a device is asked for all that it has, its answers are printed, and a table of what it measures and sets.
 
-ghost use Rattle.std.specs.Prelude.{◌≡◌, ◌<◌, ◌++◌, IfOk, OnOk, false, length, map};
+ghost use Rattle.std.specs.Prelude.{◌≡◌, ◌<◌, ◌++◌, IfOk, OnOk, length, map};
 ghost use Rattle.std.specs.Io.KnownBytes.{Appends};
 ghost use Rattle.mctp_control.specs.declared.assigned.TheConstants.{INSTANCE_IDS};
+ghost use Rattle.mctpctl.specs.Conversations.{IsGoingOn, printed_in, shown_in};
 ghost use Rattle.mctpctl.specs.WalkedTexts.{StepsOn, TellsQuery, WalksThrough, goes_on, query_of, record_text, status_of_query, rows_at, standing, walk_text, walked_rows};
-ghost use Rattle.mctpctl_ask.specs.Asked.{shown};
-ghost use Rattle.mctpctl_input.specs.Ports.{has_failed, inner_of};
+ghost use Rattle.mctpctl_input.specs.Ports.{inner_of};
 
 use crate::asking::{ask_command, print_message, print_text, status_of_answer};
-use crate::choose::Survey;
+use crate::choose::WalkOptions;
+use crate::conversation::Conversation;
 use crate::settings::Settings;
 use crate::talk::{DONE, Errand, FAILED, REFUSED, do_errand, read_settings};
 use mctp_control::{Command as ControlCommand, Query, SUCCESS, read_response};
 use mctp_packet::{Memory, Tag};
-use mctpctl_ask::{AskFault, AskingLine, Ticks, ask_control};
+use mctpctl_ask::{AskFault, Ticks, ask_control};
 use mctpctl_decode::push_record;
 use mctpctl_input::Port;
 use mctpctl_table::Table;
@@ -25,9 +26,9 @@ use std::fs;
 use std::io::{self, IsTerminal, Read, Write};
 
 /// Asks the device for all that it has, and returns the exit status. What fails is said on standard error.
-pub fn survey_device(rt: &HostRuntime, survey: &Survey<'_>) -> u8 {
-    match read_settings(rt, &survey.link) {
-        Ok(settings) => do_errand(rt, &survey.link, &settings, Errand::Walk(survey)),
+pub fn run_walk(rt: &HostRuntime, options: &WalkOptions<'_>) -> u8 {
+    match read_settings(rt, &options.link) {
+        Ok(settings) => do_errand(rt, &options.link, &settings, Errand::Walk(options)),
         Err(status) => status,
     }
 }
@@ -36,23 +37,19 @@ pub fn survey_device(rt: &HostRuntime, survey: &Survey<'_>) -> u8 {
 pub fn walk_device<C: Ticks, R: Read, W: Write, O: Write>(
     rt: &HostRuntime,
     settings: &Settings,
-    survey: &Survey<'_>,
-    line: &mut AskingLine<C>,
-    reader: &mut Port<R>,
-    writer: &mut Port<W>,
-    out: &mut Port<O>,
+    options: &WalkOptions<'_>,
+    conversation: &mut Conversation<C, R, W, O>,
 ) -> Result<u8, AskFault>
-    requires reads { has_failed reader.old ≡ false }
-    requires writes { has_failed writer.old ≡ false }
+    requires going { IsGoingOn conversation.old }
 {
-    let found = ask_endpoint(rt, settings, line, reader, writer, out)?;
+    let found = ask_endpoint(rt, settings, conversation)?;
     let mut walk = Walk::new(rt.alloc());
-    let walked = ask_all(rt, &mut walk, line, reader, writer, out)?;
-    print_table(rt.alloc(), &walk, out)?;
-    match write_records(rt, survey, &walk) {
+    let walked = ask_all(rt, &mut walk, conversation)?;
+    print_table(rt.alloc(), &walk, &mut conversation.out)?;
+    match write_records(rt, options, &walk) {
         Ok(()) => Ok(found.max(walked)),
         Err(error) => {
-            let file = survey.records.unwrap_or("");
+            let file = options.records.unwrap_or("");
             let _ = eprintln!(rt; "mctpctl: {file}: {error}");
             Ok(FAILED)
         }
@@ -64,22 +61,17 @@ pub fn walk_device<C: Ticks, R: Read, W: Write, O: Write>(
 fn ask_endpoint<C: Ticks, R: Read, W: Write, O: Write>(
     rt: &HostRuntime,
     settings: &Settings,
-    line: &mut AskingLine<C>,
-    reader: &mut Port<R>,
-    writer: &mut Port<W>,
-    out: &mut Port<O>,
+    conversation: &mut Conversation<C, R, W, O>,
 ) -> Result<u8, AskFault>
-    requires reads { has_failed reader.old ≡ false }
-    requires writes { has_failed writer.old ≡ false }
-    ensures reads { OnOk result (has_failed reader.new ≡ false) }
-    ensures writes { OnOk result (has_failed writer.new ≡ false) }
+    requires going { IsGoingOn conversation.old }
+    ensures going { OnOk result (IsGoingOn conversation.new) }
 {
     let eid = query(settings, 0, ControlCommand::GetEndpointId);
-    let eid = ask_query(rt, settings, &eid, line, reader, writer, out)?;
+    let eid = ask_query(rt, settings, &eid, conversation)?;
     let uuid = query(settings, 1, ControlCommand::GetEndpointUuid);
-    let uuid = ask_query(rt, settings, &uuid, line, reader, writer, out)?;
+    let uuid = ask_query(rt, settings, &uuid, conversation)?;
     let types = query(settings, 2, ControlCommand::GetMessageTypeSupport);
-    let types = ask_query(rt, settings, &types, line, reader, writer, out)?;
+    let types = ask_query(rt, settings, &types, conversation)?;
     Ok(eid.max(uuid).max(types))
 }
 
@@ -103,20 +95,21 @@ fn ask_query<C: Ticks, R: Read, W: Write, O: Write>(
     rt: &HostRuntime,
     settings: &Settings,
     query: &Query,
-    line: &mut AskingLine<C>,
-    reader: &mut Port<R>,
-    writer: &mut Port<W>,
-    out: &mut Port<O>,
+    conversation: &mut Conversation<C, R, W, O>,
 ) -> Result<u8, AskFault>
-    requires reads { has_failed reader.old ≡ false }
-    requires writes { has_failed writer.old ≡ false }
+    requires going { IsGoingOn conversation.old }
     ensures told { IfOk result (λ status. TellsQuery settings.now.timing query.now status
-        (shown C.to_come R.remaining W.contents line.old reader.old writer.old)
-        (shown C.to_come R.remaining W.contents line.new reader.new writer.new)
-        (O.contents (inner_of out.old)) (O.contents (inner_of out.new))) }
-    ensures reads { OnOk result (has_failed reader.new ≡ false) }
-    ensures writes { OnOk result (has_failed writer.new ≡ false) }
+        (shown_in C.to_come R.remaining W.contents conversation.old)
+        (shown_in C.to_come R.remaining W.contents conversation.new)
+        (printed_in O.contents conversation.old) (printed_in O.contents conversation.new)) }
+    ensures going { OnOk result (IsGoingOn conversation.new) }
 {
+    let Conversation {
+        line,
+        reader,
+        writer,
+        out,
+    } = conversation;
     let (timeout, tries) = (settings.timing.timeout, settings.timing.tries);
     let answer = match ask_control(line, query, timeout, tries, reader, writer) {
         Ok(answer) => answer,
@@ -149,23 +142,18 @@ fn say_no_answer(rt: &HostRuntime) {
 pub fn ask_all<C: Ticks, R: Read, W: Write, O: Write>(
     rt: &HostRuntime,
     walk: &mut Walk,
-    line: &mut AskingLine<C>,
-    reader: &mut Port<R>,
-    writer: &mut Port<W>,
-    out: &mut Port<O>,
+    conversation: &mut Conversation<C, R, W, O>,
 ) -> Result<u8, AskFault>
-    requires reads { has_failed reader.old ≡ false }
-    requires writes { has_failed writer.old ≡ false }
+    requires going { IsGoingOn conversation.old }
     ensures walked { OnOk result (WalksThrough
-        (standing C.to_come R.remaining W.contents O.contents walk.old line.old reader.old writer.old out.old)
-        (standing C.to_come R.remaining W.contents O.contents walk.new line.new reader.new writer.new out.new)) }
-    ensures reads { OnOk result (has_failed reader.new ≡ false) }
-    ensures writes { OnOk result (has_failed writer.new ≡ false) }
+        (standing C.to_come R.remaining W.contents O.contents walk.old conversation.old)
+        (standing C.to_come R.remaining W.contents O.contents walk.new conversation.new)) }
+    ensures going { OnOk result (IsGoingOn conversation.new) }
 {
     let shows_progress = rt.stderr().is_terminal() && !rt.stdout().is_terminal();
     let mut status = DONE;
     for _ in 0..u64::MAX {
-        let asked = match ask_next(rt.alloc(), walk, line, reader, writer, out) {
+        let asked = match ask_next(rt.alloc(), walk, conversation) {
             Ok(asked) => asked,
             Err(fault) => return Err(fault),
         };
@@ -188,32 +176,27 @@ pub fn ask_all<C: Ticks, R: Read, W: Write, O: Write>(
 fn ask_next<C: Ticks, R: Read, W: Write, O: Write>(
     alloc: Global,
     walk: &mut Walk,
-    line: &mut AskingLine<C>,
-    reader: &mut Port<R>,
-    writer: &mut Port<W>,
-    out: &mut Port<O>,
+    conversation: &mut Conversation<C, R, W, O>,
 ) -> Result<Option<u8>, AskFault>
-    requires reads { has_failed reader.old ≡ false }
-    requires writes { has_failed writer.old ≡ false }
+    requires going { IsGoingOn conversation.old }
     ensures stepped { IfOk result (λ status. StepsOn status
-        (standing C.to_come R.remaining W.contents O.contents walk.old line.old reader.old writer.old out.old)
-        (standing C.to_come R.remaining W.contents O.contents walk.new line.new reader.new writer.new out.new)) }
-    ensures reads { OnOk result (has_failed reader.new ≡ false) }
-    ensures writes { OnOk result (has_failed writer.new ≡ false) }
+        (standing C.to_come R.remaining W.contents O.contents walk.old conversation.old)
+        (standing C.to_come R.remaining W.contents O.contents walk.new conversation.new)) }
+    ensures going { OnOk result (IsGoingOn conversation.new) }
 {
     let Some(command) = walk.next() else {
         return Ok(None);
     };
-    let number = match ask_command(alloc, false, &command, line, reader, writer, out) {
+    let number = match ask_command(alloc, false, &command, conversation) {
         Ok(number) => number,
         Err(fault) => return Err(fault),
     };
-    let answer = line.answer(number);
+    let answer = conversation.line.answer(number);
     let count = walk.record_count();
     if walk.take(answer).is_err() {
         return Err(AskFault::Memory);
     }
-    print_record(alloc, &command, walk, count, out)?;
+    print_record(alloc, &command, walk, count, &mut conversation.out)?;
     Ok(Some(status_of_answer(answer)))
 }
 
@@ -338,8 +321,8 @@ pub fn records_of(alloc: Global, walk: &Walk) -> Result<Vec<Vec<u8>>, Memory>
 }
 
 /// The records of a walk, one after another.
-fn write_records(rt: &HostRuntime, survey: &Survey<'_>, walk: &Walk) -> io::Result<()> {
-    let Some(name) = survey.records else {
+fn write_records(rt: &HostRuntime, options: &WalkOptions<'_>, walk: &Walk) -> io::Result<()> {
+    let Some(name) = options.records else {
         return Ok(());
     };
     let mut file = fs::create(rt, name)?;

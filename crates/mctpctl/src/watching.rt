@@ -2,12 +2,14 @@
 
 ghost use Rattle.std.specs.Prelude.{◌≡◌, ◌++◌, ◌<◌, IfOk, OnOk, false, length, map};
 ghost use Rattle.std.specs.Io.KnownBytes.{Appends};
+ghost use Rattle.mctpctl.specs.Conversations.{IsGoingOn};
 ghost use Rattle.mctpctl.specs.WatchedTexts.{ReadsAll, ReadsOne, round_text};
 ghost use Rattle.mctpctl_ask.specs.Asked.{shown};
 ghost use Rattle.mctpctl_input.specs.Ports.{has_failed, inner_of};
 
 use crate::asking::{print_text, status_of_answer};
-use crate::choose::Vigil;
+use crate::choose::WatchOptions;
+use crate::conversation::Conversation;
 use crate::help::TRY_HELP;
 use crate::settings::{MAX_EVERY, Periods, periods_of};
 use crate::talk::{DONE, Errand, FAILED, USAGE, do_errand, read_settings};
@@ -24,13 +26,18 @@ use std::io::{self, Read, Write};
 
 /// Reads the sensors and effecters of the device, as often as the command line says, and returns the exit status. What
 /// fails is said on standard error.
-pub fn keep_watch(rt: &HostRuntime, vigil: &Vigil<'_>) -> u8 {
-    let settings = match read_settings(rt, &vigil.link) {
+pub fn run_watch(rt: &HostRuntime, options: &WatchOptions<'_>) -> u8 {
+    let settings = match read_settings(rt, &options.link) {
         Ok(settings) => settings,
         Err(status) => return status,
     };
-    match periods_of(vigil) {
-        Ok(periods) => do_errand(rt, &vigil.link, &settings, Errand::Watch(vigil, &periods)),
+    match periods_of(options) {
+        Ok(periods) => do_errand(
+            rt,
+            &options.link,
+            &settings,
+            Errand::Watch(options, &periods),
+        ),
         Err(option) => {
             let _ = eprint!(rt; "error: invalid value for '{option}'{TRY_HELP}");
             USAGE
@@ -40,57 +47,66 @@ pub fn keep_watch(rt: &HostRuntime, vigil: &Vigil<'_>) -> u8 {
 
 /// Finds the sensors and effecters of the device over a line, reads them in each period, prints their table, and
 /// returns the exit status.
-pub fn watch_device<C: Ticks, R: Read, W: Write, O: Write>(
+pub fn watch_device<C: Ticks + Drop, R: Read + Drop, W: Write + Drop, O: Write + Drop>(
     rt: &HostRuntime,
-    vigil: &Vigil<'_>,
+    options: &WatchOptions<'_>,
     periods: &Periods,
-    line: &mut AskingLine<C>,
-    reader: &mut Port<R>,
-    writer: &mut Port<W>,
-    out: &mut Port<O>,
+    conversation: Conversation<C, R, W, O>,
 ) -> Result<u8, AskFault>
-    requires reads { has_failed reader.old ≡ false }
-    requires writes { has_failed writer.old ≡ false }
+    requires going { IsGoingOn conversation }
 {
-    let mut log = match log_of(rt, vigil) {
+    let mut log = match log_of(rt, options) {
         Ok(log) => log,
-        Err(error) => return Ok(log_failed(rt, vigil, &error)),
+        Err(error) => return Ok(log_failed(rt, options, &error)),
     };
     let mut walk = Walk::new(rt.alloc());
-    let mut unprinted = Port::new(Vec::new(rt.alloc()));
-    let mut status = ask_all(rt, &mut walk, line, reader, writer, &mut unprinted)?;
+    let (mut quiet, mut out) = conversation.printing_to(Port::new(Vec::new(rt.alloc())));
+    let mut status = ask_all(rt, &mut walk, &mut quiet)?;
     let Ok(records) = records_of(rt.alloc(), &walk) else {
         return Err(AskFault::Memory);
     };
     let mut before = Table::new(rt.alloc());
     for period in 0..periods.count {
-        let began = line.moment();
-        let (table, one) = read_all(rt.alloc(), &walk, &records, line, reader, writer)?;
+        let began = quiet.line.moment();
+        let (table, one) = read_all(
+            rt.alloc(),
+            &walk,
+            &records,
+            &mut quiet.line,
+            &mut quiet.reader,
+            &mut quiet.writer,
+        )?;
         status = status.max(one);
         let last = if period > 0 { &before } else { &table };
-        print_round(rt.alloc(), began, &table, last, out)?;
+        print_round(rt.alloc(), began, &table, last, &mut out)?;
         if let Err(error) = log_round(rt.alloc(), began, &table, &mut log) {
-            return Ok(log_failed(rt, vigil, &error));
+            return Ok(log_failed(rt, options, &error));
         }
         before = table;
         if period + 1 < periods.count {
-            rest(line, began, periods.every, reader, writer)?;
+            rest(
+                &mut quiet.line,
+                began,
+                periods.every,
+                &mut quiet.reader,
+                &mut quiet.writer,
+            )?;
         }
     }
     Ok(status)
 }
 
 /// The file that the readings are written to, made anew, where one is named.
-fn log_of(rt: &HostRuntime, vigil: &Vigil<'_>) -> io::Result<Option<File>> {
-    match vigil.readings {
+fn log_of(rt: &HostRuntime, options: &WatchOptions<'_>) -> io::Result<Option<File>> {
+    match options.readings {
         Some(name) => Ok(Some(fs::create(rt, name)?)),
         None => Ok(None),
     }
 }
 
 /// Says why the readings are not written, and returns the exit status.
-fn log_failed(rt: &HostRuntime, vigil: &Vigil<'_>, error: &io::Error) -> u8 {
-    let file = vigil.readings.unwrap_or("");
+fn log_failed(rt: &HostRuntime, options: &WatchOptions<'_>, error: &io::Error) -> u8 {
+    let file = options.readings.unwrap_or("");
     let _ = eprintln!(rt; "mctpctl: {file}: {error}");
     FAILED
 }

@@ -5,7 +5,7 @@ use Rattle.mctpctl_ask.proofs.Sending.{opened_frames}
 use Rattle.mctpctl_ask.specs.Asked as asked
 use Rattle.mctpctl_ask.specs.Turns.{Asking, memo_frames}
 use Rattle.pldm_requester.specs.Calls.{open_answer}
-use Rattle.pldm_requester.specs.Steps.{Held, opened_held, opening_answer, is_tag_in_use, is_id_in_use}
+use Rattle.pldm_requester.specs.Steps.{RequesterState, opened_held, opening_answer, is_tag_in_use, is_id_in_use}
 use Rattle.pldm_requester.specs.declared.results.Opened.{Opened}
 use Rattle.pldm_requester.specs.declared.results.OpenFault.{OpenFault}
 use Rattle.pldm_wire.specs.declared.command.Command.{Command}
@@ -26,7 +26,7 @@ refused_by true id number fault e = refl
 refused_by false true number fault e = refl
 refused_by false false number fault e = cc
 
-opened_at : (a : Asking) (held1 : Held) (command : Command) (opened : Opened) (written written1 : Option (List ℕ))
+opened_at : (a : Asking) (held1 : RequesterState) (command : Command) (opened : Opened) (written written1 : Option (List ℕ))
     → opening_answer a.held a.held.last ≡ Ok opened → held1 ≡ opened_held a.held a.held.last command
     → Appends written written1 (memo_frames (held1.remembered opened.number))
     → asked.Opened command opened.number a (record a { held = held1 }) written written1
@@ -35,17 +35,17 @@ opened_at a held1 command opened written written1 answer held wrote =
     record {
       next = by.1;
       accepted = by.0;
-      asking = ap (λ (h : Held). record a { held = h }) held;
+      asking = ap (λ (h : RequesterState). record a { held = h }) held;
       wrote =
           subst (Appends written written1)
-          (ap (λ (h : Held). memo_frames (h.remembered opened.number)) held
+          (ap (λ (h : RequesterState). memo_frames (h.remembered opened.number)) held
           ∙ ap (λ n. memo_frames ((opened_held a.held a.held.last command).remembered n)) by.1
           ∙ opened_frames a.held a.held.last command)
           wrote;
     }
 
 -- it was opened at the last moment
-pub opened_now : (a : Asking) (held1 : Held) (command : Command) (opened : Opened) (written written1 : Option (List ℕ)) (now : ℕ)
+pub opened_now : (a : Asking) (held1 : RequesterState) (command : Command) (opened : Opened) (written written1 : Option (List ℕ)) (now : ℕ)
     → now ≡ a.held.last → opening_answer a.held now ≡ Ok opened → held1 ≡ opened_held a.held now command
     → Appends written written1 (memo_frames (held1.remembered opened.number))
     → asked.Opened command opened.number a (record a { held = held1 }) written written1

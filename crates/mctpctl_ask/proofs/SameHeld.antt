@@ -1,8 +1,8 @@
 -- What a requester holds is settled by its parts, and of what it remembers by each request.
 use Rattle.std.proofs.Common.{◌≡◌}
-use Rattle.pldm_requester.specs.Steps.{Held, IsHeld}
+use Rattle.pldm_requester.specs.Steps.{RequesterState, IsHeld}
 
-pub same_held : {new held : Held} → IsHeld new held → new ≡ held
+pub same_held : {new held : RequesterState} → IsHeld new held → new ≡ held
 same_held same =
     λ i. record {
       own = same.own i;

@@ -7,7 +7,7 @@ use Rattle.std.proofs.lemmas.Option.{get_or_from_slice_get, slice_get_within}
 use Rattle.mctpctl_ask.specs.Turns.{framed, frames_of, memo_frames}
 use Rattle.pldm_requester.specs.Courses.{Course, ticked}
 use Rattle.pldm_requester.specs.Numbering.{packets_of}
-use Rattle.pldm_requester.specs.Steps.{Held, Memo, is_recent, new_memo, opened_held, ticked_held, with_course}
+use Rattle.pldm_requester.specs.Steps.{RequesterState, Memo, is_recent, new_memo, opened_held, ticked_held, with_course}
 use Rattle.pldm_wire.specs.declared.command.Command.{Command}
 
 one_further : {A : Type 0} (text : A → List ℕ) (xs : List A) (i : ℕ) (d x : A) → i < length xs → get_or xs i d ≡ x
@@ -22,7 +22,7 @@ pub packet_further : (packets : List (List ℕ)) (i : ℕ) (packet : List ℕ) �
 packet_further packets i packet at =
     one_further framed packets i [] packet (slice_get_within packets i packet at) (get_or_from_slice_get packets i packet [] at)
 
-pub request_further : (held : Held) (numbers : List ℕ) (i : ℕ) → i < length numbers
+pub request_further : (held : RequesterState) (numbers : List ℕ) (i : ℕ) → i < length numbers
     → frames_of held (take (i + 1) numbers) ≡ frames_of held (take i numbers) ++ memo_frames (held.remembered (get_or numbers i 0))
 request_further held numbers i within =
     one_further (λ number. memo_frames (held.remembered number)) numbers i 0 (get_or numbers i 0) within refl
@@ -32,14 +32,14 @@ same_packets : (change : Course → Course) (memo : Option Memo) → memo_frames
 same_packets change None = refl
 same_packets change (Some memo) = refl
 
-pub frames_same : (held : Held) (moment : ℕ) (numbers : List ℕ) → frames_of (ticked_held held moment) numbers ≡ frames_of held numbers
+pub frames_same : (held : RequesterState) (moment : ℕ) (numbers : List ℕ) → frames_of (ticked_held held moment) numbers ≡ frames_of held numbers
 frames_same held moment [] = refl
 frames_same held moment (number ∷ numbers) =
     ap (λ l. l ++ frames_of (ticked_held held moment) numbers) (same_packets (ticked held.timing moment) (held.remembered number))
     ∙ ap (λ l. memo_frames (held.remembered number) ++ l) (frames_same held moment numbers)
 
 -- a request that was just opened
-pub opened_frames : (held : Held) (moment : ℕ) (command : Command) → memo_frames ((opened_held held moment command).remembered held.count)
+pub opened_frames : (held : RequesterState) (moment : ℕ) (command : Command) → memo_frames ((opened_held held moment command).remembered held.count)
     ≡ flat_map framed (packets_of held.own held.device held.count command)
 opened_frames held moment command =
     ap (λ b. memo_frames (cond b (Some (new_memo held moment command)) (cond (is_recent (held.count + 1) held.count) (held.remembered held.count) None)))

@@ -7,9 +7,9 @@ use Rattle.mctpctl_ask.specs.Turns.{Asking, Turn, after_turns, all_sent, frames_
 use Rattle.mctpctl_ask.specs.declared.fault.AskFault.{AskFault}
 use Rattle.mctpctl_serve.specs.Serving.{packets_in}
 use Rattle.pldm_requester.specs.Courses.{is_sent_again}
-use Rattle.pldm_requester.specs.Steps.{Held, passes, received_held, recent_numbers}
+use Rattle.pldm_requester.specs.Steps.{RequesterState, passes, received_held, recent_numbers}
 
-same_count : (held : Held) (moment : ℕ) (packets : List (List ℕ)) → (received held moment packets).count ≡ held.count
+same_count : (held : RequesterState) (moment : ℕ) (packets : List (List ℕ)) → (received held moment packets).count ≡ held.count
 same_count held moment [] = refl
 same_count held moment (packet ∷ packets) = same_count (received_held held moment packet) moment packets
 

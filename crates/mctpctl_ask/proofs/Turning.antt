@@ -8,14 +8,14 @@ use Rattle.mctpctl_ask.specs.Queries.{TakesTurnSeeing, WantedAnswer, all_seen}
 use Rattle.mctpctl_ask.specs.Turns.{frames_of, is_none, quiet_after, received}
 use Rattle.mctpctl_ask.specs.declared.fault.AskFault.{AskFault}
 use Rattle.mctpctl_serve.specs.Serving.{moment_after, packets_in}
-use Rattle.pldm_requester.specs.Steps.{Held, again_at, ticked_held}
+use Rattle.pldm_requester.specs.Steps.{RequesterState, again_at, ticked_held}
 
 pub none_taken : (n : ℕ) (xs : List ℕ) → n ≤ length xs → (n == 0) ≡ is_none (take n xs)
 none_taken zero xs few = refl
 none_taken (suc n) [] few = absurd (omega arith)
 none_taken (suc n) (x ∷ xs) few = search (rules, nat_tests)
 
-pub turn_taken : (s s1 : Shown) (bytes : List ℕ) (clock now : ℕ) (heard : Held) (none : Bool) (w w1 : WantedAnswer)
+pub turn_taken : (s s1 : Shown) (bytes : List ℕ) (clock now : ℕ) (heard : RequesterState) (none : Bool) (w w1 : WantedAnswer)
     → now ≡ moment_after s.asking.held.last clock
     → heard ≡ received s.asking.held now (packets_in s.asking.reading bytes)
     → s1.asking.held ≡ ticked_held heard now
@@ -27,9 +27,9 @@ pub turn_taken : (s s1 : Shown) (bytes : List ℕ) (clock now : ℕ) (heard : He
     → TakesTurnSeeing w w1 s s1
 turn_taken s s1 bytes clock now heard none w w1 at hears ticks reads empty quiet left ticked wrote seen =
     let m = moment_after s.asking.held.last clock in
-    let hear : ℕ → Held = λ n. received s.asking.held n (packets_in s.asking.reading bytes) in
+    let hear : ℕ → RequesterState = λ n. received s.asking.held n (packets_in s.asking.reading bytes) in
     let heard_at : heard ≡ hear m = hears ∙ ap hear at in
-    let held : s1.asking.held ≡ ticked_held (hear m) m = ticks ∙ ap (λ n. ticked_held heard n) at ∙ ap (λ (h : Held). ticked_held h m) heard_at in
+    let held : s1.asking.held ≡ ticked_held (hear m) m = ticks ∙ ap (λ n. ticked_held heard n) at ∙ ap (λ (h : RequesterState). ticked_held h m) heard_at in
     let silent : s1.asking.quiet ≡ quiet_after (is_none bytes) s.asking.quiet m =
     quiet ∙ ap (λ b. quiet_after b s.asking.quiet now) empty ∙ ap (λ n. quiet_after (is_none bytes) s.asking.quiet n) at in
     record {
@@ -39,7 +39,7 @@ turn_taken s s1 bytes clock now heard none w w1 at hears ticks reads empty quiet
         read = left;
         ticked = ticked;
         wrote =
-            subst (λ (h : Held). Appends s.written s1.written (frames_of h (again_at h m))) heard_at
+            subst (λ (h : RequesterState). Appends s.written s1.written (frames_of h (again_at h m))) heard_at
             (subst (λ n. Appends s.written s1.written (frames_of heard (again_at heard n))) at wrote);
       };
       seen = seen;

@@ -4,7 +4,7 @@ use Rattle.mctpctl_ask.specs.Turns.{Asking, Turn, after_turns, is_end}
 use Rattle.mctpctl_ask.specs.declared.line.Ended.{Ended}
 use Rattle.mctpctl_ask.specs.declared.line.Ended.TheVariants as ended
 use Rattle.pldm_requester.specs.Courses.{Progress, Waiting, Answered, GaveUp}
-use Rattle.pldm_requester.specs.Steps.{Held, accepts}
+use Rattle.pldm_requester.specs.Steps.{RequesterState, accepts}
 
 -- how a request ended: it was answered or given up, and no answer is kept of one that is remembered no longer
 abbrev pub ended_by : Option Progress → Option Ended
@@ -13,10 +13,10 @@ ended_by (Some Waiting) = None
 ended_by (Some (Answered message)) = Some ended.Answered
 ended_by (Some GaveUp) = Some ended.GaveUp
 
-abbrev pub progress_of : Held → ℕ → Option Progress
+abbrev pub progress_of : RequesterState → ℕ → Option Progress
 progress_of held number = option_map (λ memo. memo.course.progress) (held.remembered number)
 
-abbrev pub ended_of : Held → ℕ → Option Ended
+abbrev pub ended_of : RequesterState → ℕ → Option Ended
 ended_of held number = ended_by (progress_of held number)
 
 abbrev pub message_in : Progress → Option (List ℕ)
@@ -25,7 +25,7 @@ message_in (Answered message) = Some message
 message_in GaveUp = None
 
 -- the message that answered a request
-abbrev pub answer_of : Held → ℕ → Option (List ℕ)
+abbrev pub answer_of : RequesterState → ℕ → Option (List ℕ)
 answer_of held number = option_and_then message_in (progress_of held number)
 
 -- so it was before each of the turns

@@ -8,7 +8,7 @@ use Rattle.mctp_serial.specs.Readings.{Reading, after, idle, step}
 use Rattle.mctpctl_ask.specs.declared.quiet.Quiet.{Quiet}
 use Rattle.mctpctl_ask.specs.declared.quiet.TheConstants.{END_MS, END_READS}
 use Rattle.mctpctl_serve.specs.Serving.{moment_after, packets_in}
-use Rattle.pldm_requester.specs.Steps.{Held, Memo, again_at, held_at_first, received_held, ticked_held}
+use Rattle.pldm_requester.specs.Steps.{RequesterState, Memo, again_at, held_at_first, received_held, ticked_held}
 use Rattle.pldm_requester.specs.declared.timing.Timing.{Timing}
 
 -- the bytes that a read gave, and the reading of the clock after it
@@ -18,7 +18,7 @@ pub record Turn : Type 0 where
 
 -- what the requester holds, where the reader of frames stands, and the reads of 0 bytes in a row
 pub record Asking : Type 0 where
-  pub held : Held
+  pub held : RequesterState
   pub reading : Reading
   pub quiet : Quiet
 
@@ -52,17 +52,17 @@ memo_frames None = []
 memo_frames (Some memo) = flat_map framed memo.packets
 
 -- the frames of the packets of these requests
-abbrev pub frames_of : Held → List ℕ → List ℕ
+abbrev pub frames_of : RequesterState → List ℕ → List ℕ
 frames_of held numbers = flat_map (λ number. memo_frames (held.remembered number)) numbers
 
 -- what is held after packets that came at a moment
-abbrev pub received : Held → ℕ → List (List ℕ) → Held
+abbrev pub received : RequesterState → ℕ → List (List ℕ) → RequesterState
 received held moment [] = held
 received held moment (packet ∷ packets) = received (received_held held moment packet) moment packets
 
 -- a byte was read at a moment, and where it ended the frame of a packet, that came: what is held of more bytes is that
 -- of the rest of them
-pub record HearsByte (h : Held) (r : Reading) (moment byte : ℕ) (h1 : Held) (r1 : Reading)
+pub record HearsByte (h : RequesterState) (r : Reading) (moment byte : ℕ) (h1 : RequesterState) (r1 : Reading)
     : Type 0 where
   pub held :
       (bytes : List ℕ) → received h moment (packets_in r (byte ∷ bytes)) ≡ received h1 moment (packets_in r1 bytes)
@@ -78,7 +78,7 @@ module _ (a : Asking) (turn : Turn) where
   moment_of = moment_after a.held.last turn.clock
 
   -- what is held once the packets came whose frames end in the bytes
-  abbrev pub heard : Held
+  abbrev pub heard : RequesterState
   heard = received a.held moment_of (packets_in a.reading turn.bytes)
 
   -- the frames that go out: those of the requests that the requester then sends again

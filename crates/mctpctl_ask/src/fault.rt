@@ -1,4 +1,4 @@
-//! Why nothing more is asked.
+//! Why a device can't be asked on a line, or can't be asked any more.
 
 ghost use Rattle.std.specs.Prelude.{◌≡◌};
 ghost use Rattle.mctpctl_ask.specs.AskFaults.{text_of};

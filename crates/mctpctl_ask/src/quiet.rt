@@ -5,10 +5,10 @@ ghost use Rattle.mctpctl_ask.specs.Turns.{is_end, quiet_after, quiet_from};
 
 use mctp_packet::Moment;
 
-/// So many reads of 0 bytes in a row are the end of the line.
+/// How many reads of 0 bytes in a row are the end of the line, where they come fast enough: see [`END_MS`].
 pub const END_READS: u8 = 8;
 
-/// That is, where they took less than this many milliseconds.
+/// [`END_READS`] reads of 0 bytes are the end of the line where they took less than this many milliseconds.
 pub const END_MS: u64 = 50;
 
 /// The reads of 0 bytes in a row.

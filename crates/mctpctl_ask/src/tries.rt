@@ -52,7 +52,7 @@ impl Tries {
         self.is_past(now) && self.most <= self.count
     }
 
-    /// Another one begins now, where it does.
+    /// Notes that another one begins now, where `begins`.
     pub(crate) fn take(&mut self, begins: bool, now: Moment)
         requires { begins ≡ true → self.old.count < self.old.most }
         ensures { self.new ≡ tried_again begins self.old now }

@@ -65,7 +65,7 @@ impl<'q> Wanted<'q> {
         self.answer = Some(answer);
     }
 
-    /// Whether none has come.
+    /// Whether no answer has come.
     pub(crate) fn is_open(&self) -> bool
         ensures { result ≡ is_none self.now.answer }
     {

@@ -1,3 +1,5 @@
+//! The bindings whose frames `mctpctl show --binding` reads: SMBus and I2C, I3C, and a serial line.
+
 /// Which frames stand on the lines of a capture, one on each.
 #[derive(Clone, Copy, Debug, PartialEq, Eq)]
 pub enum Binding {

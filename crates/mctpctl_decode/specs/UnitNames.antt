@@ -1,5 +1,5 @@
--- The names of units: those of a description, and in the same form the others of the standard's list; other numbers have
--- none (DSP0248, "Sensor units" and "Rate units").
+-- The names of units: those of a description, and in the same form the others of the standard's list; other numbers
+-- have none (DSP0248, "Sensor units" and "Rate units").
 use Rattle.std.specs.Prelude.{ℕ, ◌==◌, nat_lt, List, codes, Option, Some, None, if◌then◌else◌}
 
 -- the first units of the list: of heat, electricity, light, force and flow

@@ -1,4 +1,4 @@
-//! The fields of an answer by name.
+//! The decoded text of an answer: its fields by name, as DSP0240 and DSP0248 name them.
 
 ghost use Rattle.std.specs.Prelude.{◌≡◌, ◌++◌, OnOk};
 ghost use Rattle.std.specs.List.{flat_map};

@@ -7,7 +7,7 @@ ghost use Rattle.mctpctl_decode.specs.Transfers.{none_between, with_message};
 ghost use Rattle.mctpctl_engines.specs.MessageForms.{whole_message};
 ghost use Rattle.mctpctl_engines.specs.ShowText.{seen_run, show_text};
 ghost use Rattle.mctpctl_input.specs.Ports.{has_failed};
-ghost use Rattle.mctpctl_input.specs.WholeRuns.{ReportsFailed, WritesAll, WritesFront, WritesRead};
+ghost use Rattle.mctpctl_engines.specs.WholeRuns.{ReportsFailed, WritesAll, WritesFront, WritesRead};
 
 use crate::message_line::push_decoded_line;
 use crate::transfers::Transfers;
@@ -18,8 +18,8 @@ use mctpctl_input::{EngineFault, Port};
 use std::alloc::Global;
 use std::io::{Read, Write};
 
-/// The fields by name, as `mctpctl show --decode` writes a message: see [`push_decoded_line`]. Below an answer to GetPDR
-/// that has the last part of a record come the lines of that record, of which the other parts came before.
+/// The fields by name, as `mctpctl show --decode` writes a message: see [`push_decoded_line`]. Below an answer to
+/// GetPDR that has the last part of a record come the lines of that record, of which the other parts came before.
 #[derive(Drop)]
 pub struct ByName {
     transfers: Transfers,

@@ -1,4 +1,4 @@
-//! The names of the fields of records.
+//! The names under which the fields of records are printed.
 
 ghost use Rattle.std.specs.Prelude.{◌≡◌};
 ghost use Rattle.mctpctl_decode.specs.Labels.{label_name, limit_name};

@@ -1,4 +1,4 @@
-//! The line of a whole message, decoded.
+//! The decoded line of a whole message: of PLDM, or a control message.
 
 ghost use Rattle.std.specs.Prelude.{◌≡◌, ◌++◌, OnOk};
 ghost use Rattle.mctpctl_decode.specs.DecodedLines.{answer_line, asked_text, decoded_line, pldm_line, request_line, response_line, subject_text};

@@ -1,4 +1,4 @@
-//! The lines of auxiliary names, read as they are written.
+//! The decoded lines of auxiliary names: of sensors, effecters and entities (DSP0248).
 
 ghost use Rattle.std.specs.Prelude.{◌≡◌, ◌++◌, IfOk, OnOk};
 ghost use Rattle.std.specs.List.{flat_map};

@@ -1,4 +1,4 @@
-//! The lines of a numeric effecter.
+//! The decoded lines of a numeric effecter record (DSP0248, "Numeric effecter PDR").
 
 ghost use Rattle.std.specs.Prelude.{◌≡◌, ◌++◌, OnOk};
 ghost use Rattle.mctpctl_decode.specs.MeasureTexts.{conversion_text};

@@ -1,4 +1,4 @@
-//! The lines of a numeric sensor.
+//! The decoded lines of a numeric sensor record (DSP0248, "Numeric sensor PDR").
 
 ghost use Rattle.std.specs.Prelude.{◌≡◌, ◌++◌, OnOk};
 ghost use Rattle.mctpctl_decode.specs.MeasureTexts.{conversion_text};

@@ -1,4 +1,4 @@
-//! The lines of a platform data record.
+//! The decoded lines of a platform data record: its header, and its fields by name.
 
 ghost use Rattle.std.specs.Prelude.{◌≡◌, ◌++◌, OnOk, slice_get};
 ghost use Rattle.mctpctl_decode.specs.RecordFields.{record_line};

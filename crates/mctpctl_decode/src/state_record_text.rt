@@ -1,4 +1,4 @@
-//! The lines of a state sensor and of a state effecter.
+//! The decoded lines of the records of state sensors and state effecters (DSP0248).
 
 ghost use Rattle.std.specs.Prelude.{◌≡◌, ◌++◌, OnOk};
 ghost use Rattle.std.specs.List.{flat_map};

@@ -1,9 +1,15 @@
 pub mod AnswerRows
 pub mod AnswersOfRuns
-pub mod DescribedGlue
+pub mod DescriptionGlue
+pub mod KnownInputs
+pub mod LineGlue
 pub mod LookingBack
 pub mod ObservedEntries
+pub mod PieceRuns
+pub mod RunsOverLines
+pub mod RunsToEnd
+pub mod SameCaptures
 pub mod ScheduleGlue
 pub mod ShowRows
 pub mod ShownLookingBack
-pub mod LineGlue
+pub mod TaskLines

@@ -3,28 +3,28 @@ use Rattle.std.proofs.Common.{◌≡◌, ℕ, Bool, if◌then◌else◌, List, [
 use Rattle.line_words.specs.TextLines.{lines_of}
 use Rattle.mctpctl_engines.specs.AnswerText.{described_run, divided_run, run_of, simulated, with_packet, called_step, called_run}
 use Rattle.mctpctl_engines.specs.HeldRuns.{held_step, held_run}
-use Rattle.mctpctl_input.specs.LineRuns.{stops_at}
+use Rattle.mctpctl_engines.specs.LineRuns.{stops_at}
 use Rattle.mctpctl_texts.specs.OutcomeTexts.{outcome_text}
 use Rattle.mctpctl_input.specs.TextLines.{capture_lines, description_of}
 use Rattle.mctpctl_input.specs.declared.faults.EngineFault.TheVariants.{TooLarge}
 use Rattle.mctpctl_input.specs.declared.limits.TheConstants.{MAX_DESCRIPTION}
-use Rattle.mctpctl_input.proofs.RunsOverLines.{SameStep, same_run}
-use Rattle.mctpctl_input.proofs.SameCaptures.{same_capture_step}
+use Rattle.mctpctl_engines.proofs.RunsOverLines.{SameStep, same_run}
+use Rattle.mctpctl_engines.proofs.SameCaptures.{same_capture_step}
 use Rattle.pldm_device.specs.Descriptions.{stated}
 use Rattle.pldm_device.specs.Devices.{Device}
 use Rattle.pldm_device.specs.declared.description.Description.{Description}
 use Rattle.pldm_device.specs.declared.description_fault.FileFault.{FileFault}
 use Rattle.pldm_responder.specs.Calls.{Call, last_moment, outcome}
 use Rattle.pldm_responder.specs.Laws.{IsLeftBy, NewLooksBack, ReceivedLooksBack}
-use Rattle.pldm_responder.specs.Held.{Held, held_at_first}
+use Rattle.pldm_responder.specs.ResponderStates.{ResponderState, held_at_first}
 use Rattle.pldm_responder.specs.Steps.{received_outcome, received_held}
 
 -- what is held is what the calls of the described device's responder leave
-abbrev IsLeft : Description → Held Device → List (Call Device) → Type 0
+abbrev IsLeft : Description → ResponderState Device → List (Call Device) → Type 0
 IsLeft d held calls = IsLeftBy simulated d.eid d.busy d.window d.keep d.device held calls
 
 module _ (received : ReceivedLooksBack simulated) where
-  same_step : (d : Description) (held : Held Device) (calls : List (Call Device)) (line : List ℕ) → IsLeft d held calls → SameStep (IsLeft d) (held_step held line) (called_step d calls line)
+  same_step : (d : Description) (held : ResponderState Device) (calls : List (Call Device)) (line : List ℕ) → IsLeft d held calls → SameStep (IsLeft d) (held_step held line) (called_step d calls line)
   same_step d =
       same_capture_step (λ held. held.last) (λ held moment bytes. outcome_text (received_outcome simulated held moment bytes)) (received_held simulated)
       last_moment (λ calls moment bytes. outcome_text (outcome simulated d.eid d.busy d.window d.keep d.device calls moment bytes)) with_packet (IsLeft d) (record {

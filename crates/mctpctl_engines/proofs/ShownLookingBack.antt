@@ -13,15 +13,19 @@ use Rattle.mctp_packet.specs.declared.TheConstants.{MAX_PACKETS}
 use Rattle.mctpctl_bindings.specs.declared.binding.Binding.{Binding}
 use Rattle.mctpctl_engines.specs.LinePackets.{packet_on}
 use Rattle.mctpctl_input.specs.CaptureLine.{TimedPacket}
-use Rattle.mctpctl_engines.specs.LinePieces.{line_gives}
-use Rattle.mctpctl_input.specs.LineRuns.{lines_written}
-use Rattle.mctpctl_engines.specs.ObservedRuns.{Observed, none_observed, given_at, open_with, observed_text, observed_with, observed_step}
+use Rattle.mctpctl_engines.specs.LinePieces.{lines_after, run_gives}
+use Rattle.mctpctl_engines.specs.LineTasks.{task_writes}
+use Rattle.mctpctl_engines.specs.declared.capture_lines.CaptureLines.{CaptureLines}
+use Rattle.mctpctl_engines.specs.declared.line_run.LineRun.{LineRun}
+use Rattle.mctpctl_engines.specs.declared.observer.Observer.{Observer}
+use Rattle.mctpctl_engines.specs.LineRuns.{lines_written}
+use Rattle.mctpctl_engines.specs.ObservedRuns.{Observed, none_observed, observed_of, given_at, open_with, observed_text, observed_with, observed_step}
 use Rattle.mctpctl_engines.specs.MessageForms.{LooksBack, Message, whole_message, known_of, with_completed, with_read}
 use Rattle.mctpctl_engines.specs.ShowText.{last_seen, fed_more, fed_to, gives_after, messages_of, seen_text, seen_with, seen_step, seen_run}
 use Rattle.mctpctl_texts.specs.ShownLines.{packet_line, completed_text, shown_text}
-use Rattle.mctpctl_engines.proofs.LineGlue.{glued_nil}
-use Rattle.mctpctl_input.proofs.RunsOverLines.{SameStep, same_run, some_line}
-use Rattle.mctpctl_input.proofs.SameCaptures.{same_capture_step}
+use Rattle.mctpctl_engines.proofs.LineGlue.{none_kept}
+use Rattle.mctpctl_engines.proofs.RunsOverLines.{SameStep, same_run}
+use Rattle.mctpctl_engines.proofs.SameCaptures.{same_capture_step}
 
 -- what is held is what the packets that came leave, at each destination, and what their messages leave
 pub record IsLeft {H : Type 0} (with : H → Message → H) (none : H) (binding : Option Binding) (observed : Observed H) (seen : List TimedPacket) : Type 0 where
@@ -99,11 +103,19 @@ module _ {H : Type 0} (with : H → Message → H) (held_line : H → Message �
     none_left = record { binding_is = refl; last = refl; open_at = λ destination. new MAX_PACKETS; held = refl }
 
     -- the run over what is held is the run that looks back
-    run_looks_back : (is_cut : Bool) (text : List ℕ) → line_gives (observed_step with held_line) 1 (none_observed none binding) [] is_cut text ≡ seen_run binding line is_cut text
+    run_looks_back : (is_cut : Bool) (text : List ℕ) → lines_written (observed_step with held_line) is_cut 1 (none_observed none binding) (lines_after [] text) ≡ seen_run binding line is_cut text
     run_looks_back is_cut text =
-        ap (lines_written (observed_step with held_line) is_cut 1 (none_observed none binding)) (glued_nil (lines_of text) (some_line text))
+        ap (lines_written (observed_step with held_line) is_cut 1 (none_observed none binding)) (none_kept [] text refl)
         ∙ same_run (observed_step with held_line) (seen_step binding line) (IsLeft with none binding) same_step is_cut 1 (none_observed none binding) [] (lines_of text) none_left
 
+    first_lines : (ended : ℕ) (observed : Observed H) (kept : List ℕ) → ended ≡ 0 → observed ≡ none_observed none binding → kept ≡ []
+        → (λ is_cut text. lines_written (observed_step with held_line) is_cut (ended + 1) observed (lines_after kept text)) ≡ seen_run binding line
+    first_lines ended observed kept first nothing empty = rw (first, nothing, empty) (λ i is_cut text. run_looks_back is_cut text i)
+
     -- at first the run gives the text of its input
-    pub first_shows : (ended : ℕ) (observed : Observed H) (kept : List ℕ) → ended ≡ 0 → observed ≡ none_observed none binding → kept ≡ [] → line_gives (observed_step with held_line) (ended + 1) observed kept ≡ seen_run binding line
-    first_shows ended observed kept first nothing empty = rw (first, nothing, empty) (λ i is_cut text. run_looks_back is_cut text i)
+    pub first_shows : {F : Type 0} (held_of : F → H) (run : LineRun (CaptureLines (Observer F))) (lines : CaptureLines (Observer F)) (observer : Observer F) (held : H)
+        → run.taker ≡ lines → run.kept.items ≡ [] → lines.ended ≡ 0 → lines.task ≡ observer → observed_of held_of observer ≡ none_observed held binding → held ≡ none
+        → run_gives (task_writes (observed_step with held_line) (observed_of held_of)) run ≡ seen_run binding line
+    first_shows held_of run lines observer held taker empty first task nothing new_form =
+        first_lines run.taker.ended (observed_of held_of run.taker.task) run.kept.items (ap (λ t. t.ended) taker ∙ first)
+        (ap (λ t. observed_of held_of t.task) taker ∙ ap (observed_of held_of) task ∙ nothing ∙ ap (λ h. none_observed h binding) new_form) empty

@@ -2,8 +2,8 @@
 use Rattle.std.specs.Prelude.{ℕ, nat_lt, Bool, if◌then◌else◌, List, [], ◌∷◌, length, take}
 use Rattle.std.specs.Prelude.{Option, None, Some, Result, Ok, Err}
 use Rattle.line_words.specs.TextLines.{lines_of}
-use Rattle.mctpctl_input.specs.CaptureRuns.{capture_step}
-use Rattle.mctpctl_input.specs.LineRuns.{Written, stops_at, lines_written}
+use Rattle.mctpctl_engines.specs.CaptureRuns.{capture_step}
+use Rattle.mctpctl_engines.specs.LineRuns.{Written, stops_at, lines_written}
 use Rattle.mctpctl_texts.specs.OutcomeTexts.{outcome_text}
 use Rattle.mctpctl_input.specs.TextLines.{capture_lines, description_of}
 use Rattle.mctpctl_input.specs.declared.faults.EngineFault.TheVariants as faults

@@ -1,15 +1,15 @@
 -- What a responder of the simulated device makes of the lines of a capture, over what it holds.
 use Rattle.std.specs.Prelude.{List, ℕ, Bool, Result}
 use Rattle.mctpctl_engines.specs.AnswerText.{step, simulated}
-use Rattle.mctpctl_input.specs.LineRuns.{Written, lines_written}
+use Rattle.mctpctl_engines.specs.LineRuns.{Written, lines_written}
 use Rattle.mctpctl_input.specs.declared.faults.LineKind.{LineKind}
 use Rattle.pldm_device.specs.Devices.{Device}
 use Rattle.pldm_device.specs.declared.description.Description.{Description}
-use Rattle.pldm_responder.specs.Held.{Held, held_at_first}
+use Rattle.pldm_responder.specs.ResponderStates.{ResponderState, held_at_first}
 use Rattle.pldm_responder.specs.Steps.{received_outcome, received_held}
 
 -- what one line gives
-abbrev pub held_step : Held Device → List ℕ → Result (List ℕ × Held Device) LineKind
+abbrev pub held_step : ResponderState Device → List ℕ → Result (List ℕ × ResponderState Device) LineKind
 held_step = step (λ held. held.last) (received_outcome simulated) (received_held simulated)
 
 -- what the lines give: before the first, the responder is new

@@ -3,7 +3,7 @@ use Rattle.std.specs.Prelude.{ℕ, List, length, refl}
 use borrow.Author.Tests.{lt-ltb}
 use Rattle.mctpctl_input.specs.CaptureLine.{capture_of}
 use Rattle.mctpctl_engines.specs.HeldRuns.{held_step}
-use Rattle.mctpctl_engines.specs.LinePieces.{RefusesLong}
+use Rattle.mctpctl_engines.specs.LineTasks.{RefusesLong}
 use Rattle.mctpctl_engines.specs.MessageForms.{Message}
 use Rattle.mctpctl_engines.specs.ObservedRuns.{observed_step}
 use Rattle.mctpctl_input.specs.declared.limits.TheConstants.{MAX_CAPTURE_LINE}

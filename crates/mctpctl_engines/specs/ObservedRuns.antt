@@ -4,11 +4,11 @@ use Rattle.std.specs.Prelude.{ℕ, ◌==◌, if◌then◌else◌, List, Option, 
 use Rattle.std.specs.BTreeMap.{is_at}
 use Rattle.std.specs.Map.{lookup}
 use Rattle.std.specs.Ordering.{nat_cmp}
-use Rattle.mctp_assembly.specs.Steps.{Held, answer, after}
+use Rattle.mctp_assembly.specs.Steps.{OpenMessages, answer, after}
 use Rattle.mctp_assembly.specs.declared.fed.Fed.{Fed}
 use Rattle.mctp_packet.specs.Packets.{Packet}
 use Rattle.mctpctl_bindings.specs.declared.binding.Binding.{Binding}
-use Rattle.mctpctl_input.specs.CaptureRuns.{capture_step}
+use Rattle.mctpctl_engines.specs.CaptureRuns.{capture_step}
 use Rattle.mctpctl_texts.specs.ShownLines.{shown_text}
 use Rattle.mctpctl_input.specs.declared.faults.LineKind.{LineKind}
 use Rattle.mctpctl_engines.specs.LinePackets.{packet_on}
@@ -20,11 +20,11 @@ use Rattle.mctpctl_engines.specs.declared.observer.Observer.{Observer}
 pub record Observed (H : Type 0) : Type 0 where
   pub binding : Option Binding
   pub last : ℕ
-  pub open_at : ℕ → Held
+  pub open_at : ℕ → OpenMessages
   pub held : H
 
 -- what is held by the assemblers, of which a destination without one has nothing open
-abbrev pub open_in : List (ℕ × Held) → ℕ → Held
+abbrev pub open_in : List (ℕ × OpenMessages) → ℕ → OpenMessages
 open_in assemblers destination = unwrap_or (lookup (is_at (nat_cmp destination)) assemblers) map.empty
 
 -- `held_of` says what a form holds
@@ -42,16 +42,16 @@ abbrev pub none_observed : {H : Type 0} → H → Option Binding → Observed H
 none_observed none binding = record { binding = binding; last = 0; open_at = λ destination. map.empty; held = none }
 
 -- what a packet gives at its destination
-abbrev pub given_at : (ℕ → Held) → Packet → Fed
+abbrev pub given_at : (ℕ → OpenMessages) → Packet → Fed
 given_at open_at p = answer (open_at p.route.destination) p
 
 -- what is open at each destination after it
-abbrev pub open_after : (ℕ → Held) → Packet → ℕ → Held
+abbrev pub open_after : (ℕ → OpenMessages) → Packet → ℕ → OpenMessages
 open_after open_at p destination =
     if p.route.destination == destination then after (open_at destination) p else open_at destination
 
 -- bytes that spell no packet change nothing
-abbrev pub open_with : (ℕ → Held) → Result Packet (List ℕ) → ℕ → Held
+abbrev pub open_with : (ℕ → OpenMessages) → Result Packet (List ℕ) → ℕ → OpenMessages
 open_with open_at (Err words) = open_at
 open_with open_at (Ok p) = open_after open_at p
 

@@ -5,14 +5,15 @@ use Rattle.mctp_schedule.specs.FirstArrivals.{order}
 use Rattle.mctp_schedule.specs.RunFaults.{refusal}
 use Rattle.mctp_schedule.specs.Runs.{final_state, final_world, newest_first, setting_of_run}
 use Rattle.schedule_text.specs.Schedules.{Spelled, none_spelled, spelled_from}
-use Rattle.mctp_schedule.specs.Worlds.{Setting, is_timely}
+use Rattle.mctp_schedule.specs.Worlds.{BothEnds, is_timely}
 use Rattle.schedule_text.specs.declared.line_fault.LineFault.{LineFault}
 use Rattle.schedule_text.specs.declared.line_fault.LineFaultKind.{LineFaultKind}
 use Rattle.schedule_text.specs.declared.line_fault.LineFaultKind.TheVariants as told
 use Rattle.mctp_schedule.specs.declared.run_fault.RunFault.{RunFault}
 use Rattle.mctp_schedule.specs.declared.run_fault.RunFault.TheVariants as runs
 use Rattle.mctpctl_engines.specs.AnswerText.{run_of, simulated}
-use Rattle.mctpctl_input.specs.LineRuns.{Written, no_memory, stops_at}
+use Rattle.mctpctl_engines.specs.LineRuns.{Written, stops_at}
+use Rattle.mctpctl_input.specs.OutsideFaults.{no_memory}
 use Rattle.mctpctl_texts.specs.ReportTexts.{device_text, report_text}
 use Rattle.mctpctl_input.specs.declared.faults.EngineFault.{EngineFault}
 use Rattle.mctpctl_input.specs.declared.faults.EngineFault.TheVariants as faults
@@ -39,7 +40,7 @@ stop_of_run (runs.Timing requester fault) = faults.Timing requester fault
 stop_of_run (runs.Memory refused) = no_memory
 
 -- what the schedule is about: the described device, in the state that is described
-abbrev pub setting_of : Description → Spelled → Setting Device
+abbrev pub setting_of : Description → Spelled → BothEnds Device
 setting_of description schedule =
     setting_of_run simulated description.device description.eid description.keep description.window schedule
 

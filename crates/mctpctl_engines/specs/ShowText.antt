@@ -12,8 +12,8 @@ use Rattle.mctpctl_bindings.specs.declared.binding.Binding.{Binding}
 use Rattle.mctpctl_engines.specs.LinePackets.{packet_on}
 use Rattle.mctpctl_engines.specs.MessageForms.{Message, whole_message, with_read}
 use Rattle.mctpctl_input.specs.CaptureLine.{TimedPacket}
-use Rattle.mctpctl_input.specs.CaptureRuns.{capture_step}
-use Rattle.mctpctl_input.specs.LineRuns.{Written, lines_written}
+use Rattle.mctpctl_engines.specs.CaptureRuns.{capture_step}
+use Rattle.mctpctl_engines.specs.LineRuns.{Written, lines_written}
 use Rattle.mctpctl_texts.specs.ShownLines.{shown_text}
 use Rattle.mctpctl_input.specs.declared.faults.LineKind.{LineKind}
 use Rattle.mctpctl_input.specs.declared.limits.TheConstants.{MAX_INPUT}

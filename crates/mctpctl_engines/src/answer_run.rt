@@ -4,18 +4,20 @@ ghost use Rattle.std.specs.Prelude.{◌≡◌, ◌≢◌, false, refl};
 ghost use Rattle.mctpctl_engines.specs.AnswerPieces.{blank_capture};
 ghost use Rattle.mctpctl_engines.specs.AnswerText.{answer_text, called_run, run_of};
 ghost use Rattle.mctpctl_engines.specs.HeldRuns.{held_run, held_step};
-ghost use Rattle.mctpctl_engines.specs.LinePieces.{AddsLine};
+ghost use Rattle.mctpctl_engines.specs.LineTasks.{AddsLine};
 ghost use Rattle.mctpctl_engines.specs.LongLines.{held_refuses};
 ghost use Rattle.mctpctl_input.specs.Ports.{has_failed};
-ghost use Rattle.mctpctl_input.specs.WholeRuns.{ReportsFailed, WritesAll, WritesFront, WritesRead};
+ghost use Rattle.mctpctl_engines.specs.WholeRuns.{ReportsFailed, WritesAll, WritesFront, WritesRead};
 ghost use Rattle.pldm_device.specs.Devices.{Device};
-ghost use Rattle.pldm_responder.specs.Held.{Held};
-ghost use Rattle.pldm_responder.specs.Stations.{held_of};
+ghost use Rattle.pldm_responder.specs.ResponderStates.{ResponderState};
+ghost use Rattle.pldm_responder.specs.ResponderViews.{held_of};
 
-use crate::described_run::{Described, DescribedRun};
-use crate::line_run::{LineRoom, LineRun, LineTask};
+use crate::capture_lines::{CaptureLines, LineRoom, LineTask};
+use crate::described_lines::{Described, DescribedLines};
+use crate::line_run::LineRun;
+use crate::piece_loop::run_to_end;
 use mctp_packet::Moment;
-use mctpctl_input::{CaptureFault, CaptureLine, EngineFault, Port, read_capture_line, run_to_end};
+use mctpctl_input::{CaptureFault, CaptureLine, EngineFault, Port, read_capture_line};
 use mctpctl_texts::push_outcome;
 use pldm_device::{Description, SimDevice};
 use pldm_responder::{Bounds, Keeping, Responder, laws};
@@ -23,7 +25,7 @@ use std::alloc::Global;
 use std::io::{Read, Write};
 
 impl LineTask for Responder<SimDevice> {
-    ghost State = { Held Device };
+    ghost State = { ResponderState Device };
 
     ghost state_of = { held_of };
 
@@ -56,11 +58,11 @@ impl LineTask for Responder<SimDevice> {
     ghost refuses_long = { held_refuses };
 }
 
-impl Described for LineRun<Responder<SimDevice>> {
+impl Described for CaptureLines<Responder<SimDevice>> {
     ghost written = { held_run };
 
-    /// The run over a capture, by a responder of the described device.
-    fn begin(alloc: Global, description: Description) -> LineRun<Responder<SimDevice>> {
+    /// No line of the capture, which a responder of the described device answers.
+    fn begin(alloc: Global, description: Description) -> CaptureLines<Responder<SimDevice>> {
         let Description {
             eid,
             keep,
@@ -70,7 +72,7 @@ impl Described for LineRun<Responder<SimDevice>> {
         } = description;
         let keeping = Keeping { keep, window, busy };
         let responder = Responder::bounded(alloc, Some(eid), keeping, Bounds::UNREACHED, device);
-        LineRun::new(alloc, responder)
+        CaptureLines::new(alloc, responder)
     }
 
     ghost blank_line = { blank_capture };
@@ -106,6 +108,7 @@ pub fn answer_all<R: Read, W: Write>(
     ensures write { ReportsFailed EngineFault.Write result writer.new }
 {
     laws::looks_back::<SimDevice>();
-    let mut run = DescribedRun::<LineRun<Responder<SimDevice>>>::new(alloc);
+    let lines = DescribedLines::<CaptureLines<Responder<SimDevice>>>::new(alloc);
+    let mut run = LineRun::new(alloc, lines);
     run_to_end(alloc, &mut run, reader, writer)
 }

@@ -2,11 +2,13 @@
 #![tactic(auto)]
 
 mod answer_run;
-mod described_run;
+mod capture_lines;
+mod described_lines;
 mod description_lines;
 mod line_run;
 mod message_form;
 mod observer;
+mod piece_loop;
 mod ran;
 mod schedule_lines;
 mod schedule_run;

@@ -1,187 +1,144 @@
-//! A run over lines, which keeps what has come of a line that has not ended.
+//! A run over lines: the one place where pieces of input are cut into lines, and the front of a line is kept.
 
-ghost use Rattle.std.specs.Prelude.{◌≡◌, ◌≢◌, ◌≤◌, ◌<◌, ◌+◌, ◌++◌, ◌∷◌, ℕ, List, [], Result, Err, OnOk, length, refl};
+ghost use Rattle.std.specs.Prelude.{◌≡◌, ◌≢◌, ◌≤◌, ◌<◌, ◌+◌, ◌++◌, ◌∷◌, ℕ, Bool, true, false, List, [], Err, IfErr, OnOk, length};
 ghost use Rattle.line_words.specs.TextLines.{HasNoFeed};
-ghost use Rattle.mctpctl_input.specs.declared.faults.LineKind.{LineKind};
-ghost use Rattle.mctpctl_engines.specs.LinePieces.{RefusesLong, run_gives, AddsLine};
-ghost use Rattle.mctpctl_input.specs.Pieces.{Takes, Finishes};
+ghost use Rattle.mctpctl_engines.specs.LinePieces.{FrontStops, TakesLine, nothing_where_cut, run_gives};
+ghost use Rattle.mctpctl_engines.specs.LineRuns.{Written};
+ghost use Rattle.mctpctl_engines.specs.Pieces.{FinishesTo, Takes};
+ghost use Rattle.mctpctl_input.specs.Ports.{inner_of, has_failed};
+ghost use Rattle.mctpctl_engines.specs.WholeRuns.{ReportsFailed};
 
+use crate::piece_loop::Run;
 use line_words::split_line;
-use mctp_packet::Body;
-use mctpctl_input::{EngineFault, HexDigits, LineKind, MAX_CAPTURE_LINE, MAX_INPUT, Port, Run};
-use mctpctl_texts::HexPairs;
+use mctpctl_input::{EngineFault, MAX_INPUT, Port};
 use std::alloc::Global;
 use std::io::Write;
 
-/// Room for what comes of one line, which is used again for the next, and what reads and writes hex.
-#[derive(Drop)]
-pub struct LineRoom {
-    /// What reads the digits of its packet.
-    pub digits: HexDigits,
-    /// What writes the digits of an answer.
-    pub pairs: HexPairs,
-    /// For the bytes of its packet.
-    pub packet: Vec<u8>,
-    /// For a message that this packet completes, or that answers it.
-    pub message: Body,
-    /// For its text.
-    pub text: Vec<u8>,
-}
-
-impl LineRoom {
-    /// Room that holds nothing yet.
-    pub fn new(alloc: Global) -> LineRoom
-        ensures packet { result.packet.items ≡ [] }
-        ensures message { result.message.items ≡ [] }
-        ensures text { result.text.items ≡ [] }
-    {
-        LineRoom {
-            digits: HexDigits::new(),
-            pairs: HexPairs::new(),
-            packet: Vec::new(alloc),
-            message: Body::new(),
-            text: Vec::new(alloc),
-        }
-    }
-}
-
-/// What answers one line after another: `step` says what a line gives in a state, and the state after
-/// it.
+/// What takes the lines of an input one after another, each of them whole. `writes` says what it writes of the lines
+/// to come, which are all or end where the input is cut off, `counted` how many lines have ended, and `may_keep`
+/// whether a run may keep so many bytes of a line that has not ended.
 ///
-/// The law `refuses_long`: a line of more than `MAX_CAPTURE_LINE` bytes is refused, whatever it says.
-pub trait LineTask {
-    ghost State: { Type 0 };
+/// The law `none_where_cut`: of a line in which the input is cut off nothing is written.
+pub trait LineTaker {
+    // what is written of the lines to come, if the input is cut off in the last of them or they are all
+    ghost writes: { Self → Bool → List (List ℕ) → Written };
 
-    // the state of a value
-    ghost state_of: { Self → State };
+    // how many lines have ended
+    ghost counted: { Self → ℕ };
 
-    // what a line gives in a state, and the state after it
-    ghost step: { State → List ℕ → Result (List ℕ × State) LineKind };
+    // whether so many bytes of a line that has not ended may be kept
+    ghost may_keep: { Self → ℕ → Type 0 };
 
-    /// Answers the line of this number, and adds its text to `out`. What `room` holds is written over.
-    fn answer(
+    /// Takes the next line, given without the LF that ends it, and adds to `out` what it gives.
+    fn take_line(
         &mut self,
         alloc: Global,
-        number: u64,
         line: &[u8],
-        room: &mut LineRoom,
         out: &mut Vec<u8>,
     ) -> Result<(), EngineFault>
-        ensures meets { AddsLine number (step (state_of self.old) line.now) (state_of self.new) out.old.items
-            out.new.items result };
+        requires { counted self.old < MAX_INPUT }
+        ensures meets { TakesLine (writes self.old) line.now (writes self.new) out.old.items out.new.items result }
+        ensures counted { counted self.new ≤ counted self.old + 1 }
+        ensures read { result ≢ Err EngineFault.Read }
+        ensures write { result ≢ Err EngineFault.Write };
 
-    ghost refuses_long: { RefusesLong step };
+    /// Fails where the next line begins with `front` and that is too long, however the line ends.
+    fn check_front(&self, front: &[u8]) -> Result<(), EngineFault>
+        requires { counted self.now ≤ MAX_INPUT }
+        ensures ok { OnOk result (may_keep self.now (length front.now)) }
+        ensures err { IfErr result (λ fault. FrontStops (writes self.now) front.now fault) }
+        ensures read { result ≢ Err EngineFault.Read }
+        ensures write { result ≢ Err EngineFault.Write };
+
+    /// Takes the last line, which the end of the input ends, and writes what is left to give before its fault is
+    /// told. `out` is room for a text.
+    fn finish<W: Write>(
+        &mut self,
+        alloc: Global,
+        is_cut: bool,
+        last: &[u8],
+        out: &mut Vec<u8>,
+        writer: &mut Port<W>,
+    ) -> Result<(), EngineFault>
+        requires size { counted self.old ≤ MAX_INPUT }
+        requires works { has_failed writer.old ≡ false }
+        requires empty { out.old.items ≡ [] }
+        ensures meets { FinishesTo (writes self.old is_cut (last.now ∷ [])) (W.contents (inner_of writer.old))
+            (W.contents (inner_of writer.new)) result }
+        ensures read { result ≢ Err EngineFault.Read }
+        ensures write { ReportsFailed EngineFault.Write result writer.new };
+
+    ghost none_where_cut: { (taker : Self) (line : List ℕ) → (writes taker true (line ∷ [])).text ≡ [] };
 }
 
-/// A run over the lines of a capture.
+/// A run over lines, which keeps what has come of a line that has not ended.
 #[derive(Drop)]
 pub struct LineRun<T> {
-    /// What answers the lines.
-    pub task: T,
-    /// How many lines have ended.
-    pub ended: u64,
+    /// What takes the lines.
+    taker: T,
     /// What has come of the next one.
-    pub kept: Vec<u8>,
-    /// Room for what comes of a line.
-    pub room: LineRoom,
+    kept: Vec<u8>,
 }
 
-impl<T: LineTask> LineRun<T> {
+impl<T: LineTaker> LineRun<T> {
     /// A run of which no line has come.
-    pub fn new(alloc: Global, task: T) -> LineRun<T>
-        ensures task { result.task ≡ task }
-        ensures ended { result.ended ≡ 0 }
+    pub fn new(alloc: Global, taker: T) -> LineRun<T>
+        ensures taker { result.taker ≡ taker }
         ensures kept { result.kept.items ≡ [] }
     {
         LineRun {
-            task,
-            ended: 0,
+            taker,
             kept: Vec::new(alloc),
-            room: LineRoom::new(alloc),
         }
     }
 
-    /// Answers the line that this LF ends.
+    /// Hands over the line that ends here, with what was kept of it. Where nothing was, nothing is copied.
     fn end_line(&mut self, alloc: Global, line: &[u8], out: &mut Vec<u8>) -> Result<(), EngineFault>
         requires feed { HasNoFeed line.now }
-        requires counted { self.old.ended < MAX_INPUT }
-        ensures meets { Takes (run_gives T.step T.state_of self.old) (line.now ++ 10 ∷ [])
-            (run_gives T.step T.state_of self.new) out.old.items out.new.items result }
-        ensures counted { self.new.ended ≤ self.old.ended + 1 }
+        requires counted { T.counted self.old.taker < MAX_INPUT }
+        ensures meets { Takes (run_gives T.writes self.old) (line.now ++ 10 ∷ []) (run_gives T.writes self.new)
+            out.old.items out.new.items result }
+        ensures counted { T.counted self.new.taker ≤ T.counted self.old.taker + 1 }
         ensures read { result ≢ Err EngineFault.Read }
         ensures write { result ≢ Err EngineFault.Write }
     {
-        let number = self.ended + 1;
         if self.kept.is_empty() {
-            let result = self.task.answer(alloc, number, line, &mut self.room, out);
-            self.ended = number;
-            return result;
+            return self.taker.take_line(alloc, line, out);
         }
         if let Err(refused) = self.kept.extend_from_slice(line) {
             return Err(EngineFault::Memory(refused.into()));
         }
-        let result = self
-            .task
-            .answer(alloc, number, &self.kept, &mut self.room, out);
+        let result = self.taker.take_line(alloc, &self.kept, out);
         self.kept.clear();
-        self.ended = number;
         result
     }
 
     /// Keeps the front of a line.
     fn keep(&mut self, front: &[u8]) -> Result<(), EngineFault>
         requires feed { HasNoFeed front.now }
-        requires counted { self.old.ended ≤ MAX_INPUT }
-        ensures meets { Takes (run_gives T.step T.state_of self.old) front.now
-            (run_gives T.step T.state_of self.new) [] [] result }
-        ensures counted { self.new.ended ≡ self.old.ended }
-        ensures bounded { OnOk result (length self.new.kept.items ≤ MAX_CAPTURE_LINE) }
+        requires counted { T.counted self.old.taker ≤ MAX_INPUT }
+        ensures meets { Takes (run_gives T.writes self.old) front.now (run_gives T.writes self.new) [] [] result }
+        ensures counted { T.counted self.new.taker ≡ T.counted self.old.taker }
+        ensures bounded { OnOk result (T.may_keep self.new.taker (length self.new.kept.items)) }
         ensures read { result ≢ Err EngineFault.Read }
         ensures write { result ≢ Err EngineFault.Write }
     {
         self.kept.extend_from_slice(front)?;
-        if self.kept.len() > MAX_CAPTURE_LINE {
-            return Err(EngineFault::Line(self.ended + 1, LineKind::LongLine));
-        }
-        Ok(())
-    }
-
-    /// Takes the end of the input, and adds to `out` what is left to give.
-    fn end_input(
-        &mut self,
-        alloc: Global,
-        is_cut: bool,
-        out: &mut Vec<u8>,
-    ) -> Result<(), EngineFault>
-        requires { self.old.ended ≤ MAX_INPUT }
-        ensures meets { Finishes (run_gives T.step T.state_of self.old is_cut []) out.old.items out.new.items result }
-        ensures read { result ≢ Err EngineFault.Read }
-        ensures write { result ≢ Err EngineFault.Write }
-    {
-        let number = self.ended + 1;
-        if is_cut {
-            return Err(if self.kept.len() > MAX_CAPTURE_LINE {
-                EngineFault::Line(number, LineKind::LongLine)
-            } else {
-                EngineFault::TooLarge
-            });
-        }
-        self.task
-            .answer(alloc, number, &self.kept, &mut self.room, out)
+        self.taker.check_front(&self.kept)
     }
 }
 
-impl<T: LineTask> Run for LineRun<T> {
-    ghost gives = { run_gives T.step T.state_of };
+impl<T: LineTaker> Run for LineRun<T> {
+    ghost gives = { run_gives T.writes };
 
-    ghost counted = { λ run. run.ended };
+    ghost counted = { λ run. T.counted run.taker };
 
     fn take(&mut self, alloc: Global, piece: &[u8], out: &mut Vec<u8>) -> Result<(), EngineFault>
-        requires { self.old.ended + length piece.now ≤ MAX_INPUT }
-        ensures meets { Takes (run_gives T.step T.state_of self.old) piece.now
-            (run_gives T.step T.state_of self.new) out.old.items out.new.items result }
-        ensures counted { self.new.ended ≤ self.old.ended + length piece.now }
-        ensures bounded { OnOk result (length self.new.kept.items ≤ MAX_CAPTURE_LINE) }
+        requires { T.counted self.old.taker + length piece.now ≤ MAX_INPUT }
+        ensures meets { Takes (run_gives T.writes self.old) piece.now (run_gives T.writes self.new) out.old.items
+            out.new.items result }
+        ensures counted { T.counted self.new.taker ≤ T.counted self.old.taker + length piece.now }
+        ensures bounded { OnOk result (T.may_keep self.new.taker (length self.new.kept.items)) }
         ensures read { result ≢ Err EngineFault.Read }
         ensures write { result ≢ Err EngineFault.Write }
     {
@@ -203,12 +160,8 @@ impl<T: LineTask> Run for LineRun<T> {
         out: &mut Vec<u8>,
         writer: &mut Port<W>,
     ) -> Result<(), EngineFault> {
-        let result = self.end_input(alloc, is_cut, out);
-        if writer.write_all(out).is_err() {
-            return Err(EngineFault::Write);
-        }
-        result
+        self.taker.finish(alloc, is_cut, &self.kept, out, writer)
     }
 
-    ghost none_where_cut = { λ run. refl };
+    ghost none_where_cut = { nothing_where_cut T.writes T.none_where_cut };
 }

@@ -1,7 +1,7 @@
 //! What `mctpctl show` makes of the packets of a capture, however it writes their messages.
 
 ghost use Rattle.std.specs.Prelude.{◌≡◌, ◌++◌, Err, IfOk, OnOk};
-ghost use Rattle.mctpctl_engines.specs.LinePieces.{AddsLine};
+ghost use Rattle.mctpctl_engines.specs.LineTasks.{AddsLine};
 ghost use Rattle.mctpctl_engines.specs.LongLines.{observed_refuses};
 ghost use Rattle.mctpctl_engines.specs.MessageForms.{whole_message, with_completed, with_read};
 ghost use Rattle.mctpctl_engines.specs.ObservedRuns.{Observed, given_at, none_observed, observed_of, observed_step, open_after, open_in, open_with};
@@ -10,9 +10,9 @@ ghost use Rattle.mctpctl_engines.specs.LinePackets.{or_drop, packet_on};
 ghost use Rattle.mctpctl_texts.specs.ShownLines.{completed_text, shown_text};
 ghost use Rattle.mctp_packet.specs.Reading.{reading};
 
-use crate::line_run::{LineRoom, LineTask};
+use crate::capture_lines::{LineRoom, LineTask};
 use crate::message_form::MessageForm;
-use mctp_assembly::{Assembler, FedInto};
+use mctp_assembly::{Assembled, Assembler};
 use mctp_packet::{Body, Eid, Memory, PacketRef, Route, read};
 use mctpctl_bindings::{Binding, packet_of};
 use mctpctl_input::{CaptureFault, CaptureLine, EngineFault, read_capture_line};
@@ -109,7 +109,7 @@ fn push_completed<F: MessageForm>(
     alloc: Global,
     out: &mut Vec<u8>,
     route: Route,
-    given: FedInto,
+    given: Assembled,
     message: &[u8],
 ) -> Result<(), Memory>
     ensures line { OnOk result (out.new.items ≡ out.old.items
@@ -119,8 +119,8 @@ fn push_completed<F: MessageForm>(
         ≡ with_completed F.held_with (F.held_of form.old) route (fed_with message.now given)) }
 {
     match given {
-        FedInto::Whole => form.push_line(alloc, out, route, message),
-        FedInto::Partial | FedInto::Dropped(_) => Ok(()),
+        Assembled::Whole => form.push_line(alloc, out, route, message),
+        Assembled::Partial | Assembled::Dropped(_) => Ok(()),
     }
 }
 
@@ -130,7 +130,7 @@ fn feed(
     assemblers: &mut BTreeMap<Eid, Assembler>,
     packet: &PacketRef<'_>,
     message: &mut Body,
-) -> Result<FedInto, Memory>
+) -> Result<Assembled, Memory>
     ensures fed { IfOk result (λ given. fed_with message.new.items given
         ≡ given_at (open_in assemblers.old.entries) packet.now) }
     ensures open { OnOk result (open_in assemblers.new.entries

@@ -3,9 +3,9 @@
 ghost use Rattle.std.specs.Io.KnownBytes.{Appends};
 ghost use Rattle.std.specs.Prelude.{◌≡◌, ◌≢◌, Ok, Err, IfErr, OnOk, false};
 ghost use Rattle.mctpctl_engines.specs.RunText.{schedule_written, stop_of_run};
-ghost use Rattle.mctpctl_engines.specs.SchedulePieces.{ReportsText, text_of_ran};
+ghost use Rattle.mctpctl_engines.specs.ScheduleLines.{ReportsText, text_of_ran};
 ghost use Rattle.mctpctl_input.specs.Ports.{inner_of, has_failed};
-ghost use Rattle.mctpctl_input.specs.WholeRuns.{ReportsFailed};
+ghost use Rattle.mctpctl_engines.specs.WholeRuns.{ReportsFailed};
 
 use mctp_schedule::{Report, RunFault, Schedule, Setup, run};
 use mctpctl_input::{EngineFault, Port};

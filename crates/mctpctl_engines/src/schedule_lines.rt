@@ -1,17 +1,16 @@
 //! The lines of a schedule, which are read as they come, and run once the input has ended.
 
-ghost use Rattle.std.specs.Prelude.{◌≡◌, ◌≢◌, ◌⊎◌, ◌≤◌, ◌<◌, ◌+◌, ◌++◌, ◌∷◌, [], Err, IfErr, OnOk, length, false, refl};
-ghost use Rattle.line_words.specs.TextLines.{HasNoFeed};
+ghost use Rattle.std.specs.Prelude.{◌≡◌, ◌≢◌, ◌⊎◌, ◌≤◌, ◌<◌, ◌+◌, ◌∷◌, false, [], Err, IfErr, OnOk, refl};
 ghost use Rattle.mctp_packet.specs.Memories.{out_of_memory};
+ghost use Rattle.mctpctl_engines.specs.LinePieces.{LineGoesOn};
 ghost use Rattle.mctpctl_engines.specs.RunText.{scheduled_run, stop_of_line};
-ghost use Rattle.mctpctl_engines.specs.SchedulePieces.{ReportsText, blank_schedule, cut_schedule, good_gives, lines_ended, refused_gives, schedule_gives, text_of_ran};
-ghost use Rattle.mctpctl_input.specs.Pieces.{GoesOn};
+ghost use Rattle.mctpctl_engines.specs.ScheduleLines.{ReportsText, blank_schedule, cut_schedule, good_lines_write, lines_ended, may_keep_any, refused_line_writes, schedule_writes, text_of_ran};
 
-use crate::described_run::Described;
+use crate::described_lines::Described;
+use crate::line_run::LineTaker;
 use crate::ran::{Ran, run_schedule, write_ran};
-use line_words::split_line;
 use mctp_schedule::{LineFault, LineFaultKind, Schedule};
-use mctpctl_input::{EngineFault, LineKind, MAX_INPUT, Port, Run};
+use mctpctl_input::{EngineFault, LineKind, MAX_INPUT, Port};
 use pldm_device::Description;
 use std::alloc::Global;
 use std::io::Write;
@@ -40,74 +39,25 @@ pub struct GoodLines {
     schedule: Schedule,
     /// How many lines have ended.
     ended: u64,
-    /// What has come of the next one.
-    kept: Vec<u8>,
 }
 
 impl GoodLines {
-    /// Reads the line that this LF ends.
-    fn end_line(&mut self, line: &[u8]) -> Result<(), LineFault>
-        requires feed { HasNoFeed line.now }
-        requires counted { self.old.ended < MAX_INPUT }
-        ensures ok { OnOk result (GoesOn (good_gives self.old) (line.now ++ 10 ∷ []) [] (good_gives self.new)) }
+    /// Reads the next line.
+    fn add_line(&mut self, line: &[u8]) -> Result<(), LineFault>
+        requires { self.old.ended < MAX_INPUT }
+        ensures ok { OnOk result (LineGoesOn (good_lines_write self.old) line.now [] (good_lines_write self.new)) }
         ensures err { IfErr result (λ fault. (fault.kind ≡ LineFaultKind.Memory out_of_memory)
-            ⊎ GoesOn (good_gives self.old) (line.now ++ 10 ∷ []) [] (refused_gives fault)) }
-        ensures counted { self.new.ended ≤ self.old.ended + 1 }
+            ⊎ LineGoesOn (good_lines_write self.old) line.now [] (refused_line_writes fault)) }
+        ensures counted { self.new.ended ≡ self.old.ended + 1 }
     {
-        let number = self.ended + 1;
-        self.ended = number;
-        if self.kept.is_empty() {
-            return self.schedule.add_line(number, line);
-        }
-        if let Err(refused) = self.kept.extend_from_slice(line) {
-            let kind = LineFaultKind::Memory(refused.into());
-            return Err(LineFault { line: number, kind });
-        }
-        let result = self.schedule.add_line(number, &self.kept);
-        self.kept.clear();
-        result
+        self.ended += 1;
+        self.schedule.add_line(self.ended, line)
     }
 
-    /// Keeps the front of a line.
-    fn keep(&mut self, front: &[u8]) -> Result<(), LineFault>
-        requires feed { HasNoFeed front.now }
-        requires counted { self.old.ended ≤ MAX_INPUT }
-        ensures ok { OnOk result (GoesOn (good_gives self.old) front.now [] (good_gives self.new)) }
-        ensures err { IfErr result (λ fault. fault.kind ≡ LineFaultKind.Memory out_of_memory) }
-        ensures counted { self.new.ended ≡ self.old.ended }
-    {
-        if let Err(refused) = self.kept.extend_from_slice(front) {
-            return Err(LineFault {
-                line: self.ended + 1,
-                kind: LineFaultKind::Memory(refused.into()),
-            });
-        }
-        Ok(())
-    }
-
-    /// Reads the lines that end in a piece, up to one that is refused.
-    fn read(&mut self, piece: &[u8]) -> Result<(), LineFault>
-        requires { self.old.ended + length piece.now ≤ MAX_INPUT }
-        ensures ok { OnOk result (GoesOn (good_gives self.old) piece.now [] (good_gives self.new)) }
-        ensures err { IfErr result (λ fault. (fault.kind ≡ LineFaultKind.Memory out_of_memory)
-            ⊎ GoesOn (good_gives self.old) piece.now [] (refused_gives fault)) }
-        ensures counted { self.new.ended ≤ self.old.ended + length piece.now }
-    {
-        let mut rest = piece;
-        while let Some((line, after)) = split_line(rest) {
-            match self.end_line(line) {
-                Ok(()) => {}
-                Err(fault) => return Err(fault),
-            }
-            rest = after;
-        }
-        self.keep(rest)
-    }
-
-    /// Reads the last line, which no LF ends, and runs the schedule.
-    fn run(self, alloc: Global) -> Result<Ran, EngineFault>
+    /// Reads the last line, and runs the schedule.
+    fn run(self, alloc: Global, last: &[u8]) -> Result<Ran, EngineFault>
         requires { self.ended ≤ MAX_INPUT }
-        ensures meets { ReportsText text_of_ran (good_gives self false []) result }
+        ensures meets { ReportsText text_of_ran (good_lines_write self false (last.now ∷ [])) result }
         ensures read { result ≢ Err EngineFault.Read }
         ensures write { result ≢ Err EngineFault.Write }
     {
@@ -115,16 +65,15 @@ impl GoodLines {
             description,
             mut schedule,
             ended,
-            kept,
         } = self;
-        match schedule.add_line(ended + 1, &kept) {
+        match schedule.add_line(ended + 1, last) {
             Ok(()) => run_schedule(alloc, description, schedule),
             Err(fault) => Err(stop_of_line(fault)),
         }
     }
 }
 
-/// A run over the lines of a schedule.
+/// The lines of a schedule that have come.
 #[derive(Drop)]
 pub enum ScheduleLines {
     /// The lines that have ended are good.
@@ -135,15 +84,22 @@ pub enum ScheduleLines {
     Ended,
 }
 
-impl Run for ScheduleLines {
-    ghost gives = { schedule_gives };
+impl LineTaker for ScheduleLines {
+    ghost writes = { schedule_writes };
 
     ghost counted = { lines_ended };
 
-    /// Reads the lines that end in a piece.
-    fn take(&mut self, _alloc: Global, piece: &[u8], out: &mut Vec<u8>) -> Result<(), EngineFault> {
+    ghost may_keep = { may_keep_any };
+
+    /// Reads a line.
+    fn take_line(
+        &mut self,
+        _alloc: Global,
+        line: &[u8],
+        _out: &mut Vec<u8>,
+    ) -> Result<(), EngineFault> {
         let result = match self {
-            ScheduleLines::Good(lines) => lines.read(piece),
+            ScheduleLines::Good(lines) => lines.add_line(line),
             ScheduleLines::Refused(_) | ScheduleLines::Ended => return Ok(()),
         };
         match result {
@@ -158,19 +114,25 @@ impl Run for ScheduleLines {
         }
     }
 
-    /// Takes the end of the input, runs the schedule and writes what came of it.
+    /// A line of a schedule may have any length.
+    fn check_front(&self, _front: &[u8]) -> Result<(), EngineFault> {
+        Ok(())
+    }
+
+    /// Takes the last line, runs the schedule and writes what came of it.
     fn finish<W: Write>(
         &mut self,
         alloc: Global,
         is_cut: bool,
-        out: &mut Vec<u8>,
+        last: &[u8],
+        _out: &mut Vec<u8>,
         writer: &mut Port<W>,
     ) -> Result<(), EngineFault> {
         if is_cut {
             return Err(EngineFault::TooLarge);
         }
         match mem::replace(self, ScheduleLines::Ended) {
-            ScheduleLines::Good(lines) => match lines.run(alloc) {
+            ScheduleLines::Good(lines) => match lines.run(alloc, last) {
                 Ok(ran) => write_ran(writer, &ran),
                 Err(fault) => Err(fault),
             },
@@ -185,13 +147,12 @@ impl Run for ScheduleLines {
 impl Described for ScheduleLines {
     ghost written = { scheduled_run };
 
-    /// The run over the described device, of which no line of the schedule has come.
+    /// No line of the schedule, which is run over the described device.
     fn begin(alloc: Global, description: Description) -> ScheduleLines {
         ScheduleLines::Good(GoodLines {
             description,
             schedule: Schedule::new(alloc),
             ended: 0,
-            kept: Vec::new(alloc),
         })
     }
 

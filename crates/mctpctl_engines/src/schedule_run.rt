@@ -3,13 +3,15 @@
 ghost use Rattle.std.specs.Io.KnownBytes.{Keeps};
 ghost use Rattle.std.specs.Prelude.{◌≡◌, IsErrOf, false};
 ghost use Rattle.mctpctl_engines.specs.RunText.{run_text};
-ghost use Rattle.mctpctl_input.specs.LineRuns.{no_memory};
+ghost use Rattle.mctpctl_input.specs.OutsideFaults.{no_memory};
 ghost use Rattle.mctpctl_input.specs.Ports.{inner_of, has_failed};
-ghost use Rattle.mctpctl_input.specs.WholeRuns.{ReportsFailed, WritesAll};
+ghost use Rattle.mctpctl_engines.specs.WholeRuns.{ReportsFailed, WritesAll};
 
-use crate::described_run::DescribedRun;
+use crate::described_lines::DescribedLines;
+use crate::line_run::LineRun;
+use crate::piece_loop::run_to_end;
 use crate::schedule_lines::ScheduleLines;
-use mctpctl_input::{EngineFault, Port, run_to_end};
+use mctpctl_input::{EngineFault, Port};
 use std::alloc::Global;
 use std::io::{Read, Write};
 
@@ -41,6 +43,7 @@ pub fn run_all<R: Read, W: Write>(
     ensures read { ReportsFailed EngineFault.Read result reader.new }
     ensures write { ReportsFailed EngineFault.Write result writer.new }
 {
-    let mut run = DescribedRun::<ScheduleLines>::new(alloc);
+    let lines = DescribedLines::<ScheduleLines>::new(alloc);
+    let mut run = LineRun::new(alloc, lines);
     run_to_end(alloc, &mut run, reader, writer)
 }

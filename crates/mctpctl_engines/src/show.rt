@@ -2,16 +2,18 @@
 
 ghost use Rattle.std.specs.Prelude.{◌≡◌, false};
 ghost use Rattle.mctpctl_input.specs.Ports.{has_failed};
-ghost use Rattle.mctpctl_input.specs.WholeRuns.{ReportsFailed, WritesAll, WritesFront, WritesRead};
+ghost use Rattle.mctpctl_engines.specs.WholeRuns.{ReportsFailed, WritesAll, WritesFront, WritesRead};
 ghost use Rattle.mctpctl_engines.specs.ShowText.{seen_run, show_text};
 ghost use Rattle.mctpctl_engines.specs.MessageForms.{in_hex};
 
+use crate::capture_lines::CaptureLines;
 use crate::line_run::LineRun;
 use crate::message_form::{InHex, MessageForm};
 use crate::observer::Observer;
+use crate::piece_loop::run_to_end;
 use mctp_assembly::laws;
 use mctpctl_bindings::Binding;
-use mctpctl_input::{EngineFault, Port, run_to_end};
+use mctpctl_input::{EngineFault, Port};
 use std::alloc::Global;
 use std::io::{Read, Write};
 
@@ -67,6 +69,7 @@ pub fn show_as<F: MessageForm + Drop, R: Read, W: Write>(
     ensures write { ReportsFailed EngineFault.Write result writer.new }
 {
     laws::looks_back();
-    let mut run = LineRun::new(alloc, Observer::new(alloc, form, binding));
+    let lines = CaptureLines::new(alloc, Observer::new(alloc, form, binding));
+    let mut run = LineRun::new(alloc, lines);
     run_to_end(alloc, &mut run, reader, writer)
 }

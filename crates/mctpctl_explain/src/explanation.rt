@@ -1,7 +1,8 @@
 //! What a fault of the input is, in more words.
 
 ghost use Rattle.std.specs.Prelude.{◌≡◌, [], IfOk, string_bytes};
-ghost use Rattle.mctpctl_input.specs.LineRuns.{IsOutside};
+ghost use Rattle.mctpctl_explain.specs.Reasons.{TellsDevice};
+ghost use Rattle.mctpctl_input.specs.OutsideFaults.{IsOutside};
 
 use crate::description::explain_description;
 use crate::divided::{Divided, numbered_line};
@@ -35,13 +36,14 @@ pub fn explain(
     fault: &EngineFault,
 ) -> Result<String, Memory>
     ensures outside { IsOutside fault.now → IfOk result (λ text. string_bytes text ≡ []) }
+    ensures device { IfOk result (λ text. TellsDevice fault.now (string_bytes text)) }
 {
     match fault {
         EngineFault::Read | EngineFault::Write | EngineFault::Memory(_) => Ok(String::new(alloc)),
         EngineFault::Device(fault) => explain_description(
             alloc,
             description_in(input),
-            fault.fault(),
+            fault.refusal(),
         ),
         EngineFault::NoDivider => no_divider(alloc, subject),
         EngineFault::Line(number, kind) => explain_line(alloc, subject, input, *number, *kind),

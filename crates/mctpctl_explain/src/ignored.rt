@@ -7,14 +7,15 @@ use crate::capture_line::is_forgotten_moment;
 use crate::description::{place_text, places_of};
 use crate::divided::Divided;
 use crate::explanation::Subject;
-use crate::finding::Path;
 use crate::key_places::KeyPlace;
 use crate::known_keys::{LISTS, RECORDS_KEYS, TOP_KEYS, entry_keys};
 use crate::limits::MAX_WARNINGS;
+use crate::paths::path_text;
 use crate::suggest::suggestion;
 use crate::words::quoted;
 use line_words::split_line;
 use mctp_packet::Memory;
+use pldm_device::Path;
 use std::alloc::{AllocError, Global};
 use toml::Table;
 
@@ -99,7 +100,7 @@ fn unknown_keys(alloc: Global, description: &[u8], found: &mut Vec<String>) -> R
     };
     let places = places_of(alloc, description)?;
     for key in table.keys() {
-        let path = Path::top(key.as_str());
+        let path = Path::whole().key(key.as_str());
         warn_of_key(
             alloc,
             description,
@@ -187,7 +188,7 @@ fn warn_of_key(
         return Ok(());
     }
     let place = place_text(alloc, description, places, path)?;
-    let name = path.text(alloc)?;
+    let name = path_text(alloc, &path)?;
     let name = quoted(alloc, name.as_bytes())?;
     let hint = suggestion(alloc, key.as_bytes(), known)?;
     add(

@@ -1,20 +1,18 @@
 //! `--explain`: what a fault of the input is, in more words, and warnings of what is ignored.
 #![tactic(auto)]
 
+mod allowed;
 mod capture_line;
-mod check;
-mod check_list;
-mod check_records;
 mod command_form;
 mod description;
 mod divided;
 mod explanation;
-mod finding;
 mod ignored;
 mod keeping;
 mod key_places;
 mod known_keys;
 mod limits;
+mod paths;
 mod place;
 mod schedule_line;
 mod slot;

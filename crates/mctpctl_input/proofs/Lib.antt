@@ -1,11 +1,6 @@
 pub mod CaptureRows
 pub mod DividerRows
 pub mod DigitTables
-pub mod KnownInputs
-pub mod PieceRuns
 pub mod PlainWords
-pub mod RunsOverLines
-pub mod RunsToEnd
-pub mod SameCaptures
 pub mod WrittenFronts
 pub mod Numbers

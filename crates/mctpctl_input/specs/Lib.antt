@@ -1,12 +1,8 @@
-pub mod BoundedRead
 pub mod CaptureLine
-pub mod CaptureRuns
 pub mod FaultNumbers
 pub mod FaultTexts
 pub mod HexDigits
-pub mod LineRuns
-pub mod Pieces
+pub mod OutsideFaults
 pub mod Ports
 pub mod Statuses
 pub mod TextLines
-pub mod WholeRuns

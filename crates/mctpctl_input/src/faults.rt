@@ -1,14 +1,18 @@
 //! What ends a run before its time, the text that tells it, and the program's exit status.
 
-ghost use Rattle.std.specs.Prelude.{◌≡◌, ◌≢◌, IfOk, OnErr, Some, string_bytes};
+ghost use Rattle.std.proofs.Common.{rules};
+ghost use Rattle.std.specs.Cmp.Rules.{comparing};
+ghost use Rattle.std.specs.Ordering.{on};
+ghost use Rattle.std.specs.Prelude.{◌≡◌, ◌≢◌, ◌==◌, IfOk, OnErr, Some, string_bytes};
 ghost use Rattle.mctp_packet.specs.Memories.{out_of_memory};
 ghost use Rattle.mctpctl_input.specs.FaultNumbers.{number_of_engine_fault, number_of_line_kind};
 ghost use Rattle.mctpctl_input.specs.FaultTexts.{fault_text, name_of_line_kind, name_of_timing_fault};
-ghost use Rattle.mctpctl_input.specs.LineRuns.{no_memory};
+ghost use Rattle.mctpctl_input.specs.OutsideFaults.{no_memory};
+ghost use Rattle.pldm_device.specs.FileFaults.{number_of_file_fault};
 ghost use Rattle.mctpctl_input.specs.Statuses.{status_of_fault};
 
 use mctp_packet::{Eid, Memory};
-use pldm_device::FileFault;
+use pldm_device::{FileFault, Refusal};
 use pldm_requester::TimingFault;
 use std::alloc::{AllocError, Global};
 use std::marker::Model;
@@ -60,10 +64,11 @@ impl LineKind {
     }
 }
 
-/// Why a device description was refused: any [`FileFault`] but `Memory`, which is the engine's own.
-#[derive(Clone, Copy, Debug, PartialEq, Eq)]
+/// Why a device description was refused: for any [`FileFault`] but `Memory`, which is the engine's own. Two of them are
+/// equal where their faults are.
+#[derive(Debug, Drop)]
 pub struct DescriptionFault {
-    fault: FileFault,
+    refusal: Refusal,
 }
 
 impl Model for DescriptionFault {
@@ -74,22 +79,20 @@ impl Model for DescriptionFault {
 
     ghost Value = { FileFault };
 
-    ghost view = { λ refusal. refusal.fault };
+    ghost view = { λ fault. fault.refusal };
 
-    ghost invariant = { λ refusal. refusal.fault ≢ faults.Memory out_of_memory };
-
-    ghost inverse = { λ fault. record { fault = fault } };
+    ghost invariant = { λ fault. fault.refusal ≢ faults.Memory out_of_memory };
 }
 
 impl DescriptionFault {
     /// The fault of a description that was refused; `Memory` where memory ran out.
-    pub fn new(fault: FileFault) -> Result<DescriptionFault, Memory>
-        ensures ok { IfOk result (λ refusal. refusal ≡ fault) }
-        ensures memory { OnErr result (fault ≡ FileFault.Memory out_of_memory) }
+    pub fn new(refusal: Refusal) -> Result<DescriptionFault, Memory>
+        ensures ok { IfOk result (λ fault. fault ≡ refusal) }
+        ensures memory { OnErr result (refusal ≡ FileFault.Memory out_of_memory) }
     {
-        match fault {
+        match refusal.fault() {
             FileFault::Memory(memory) => Err(memory),
-            _ => Ok(DescriptionFault { fault }),
+            _ => Ok(DescriptionFault { refusal }),
         }
     }
 
@@ -98,12 +101,33 @@ impl DescriptionFault {
         ensures value { result ≡ self.now }
         ensures no_memory { result ≢ FileFault.Memory out_of_memory }
     {
-        self.fault
+        self.refusal.fault()
+    }
+
+    /// The fault with its place in the description, and what is allowed there.
+    pub fn refusal(&self) -> &Refusal
+        ensures { result.now ≡ self.now }
+    {
+        &self.refusal
     }
 }
 
+impl PartialEq for DescriptionFault {
+    ghost eq = { on number_of_file_fault ◌==◌ };
+
+    ghost laws = { Prim.search (comparing, rules) };
+
+    fn eq(&self, other: &DescriptionFault) -> bool {
+        self.fault().number() == other.fault().number()
+    }
+}
+
+impl Eq for DescriptionFault {
+    ghost laws = { Prim.search (comparing, rules) };
+}
+
 /// Why a run ended before all of its input was answered.
-#[derive(Clone, Copy, Debug, PartialEq, Eq)]
+#[derive(Debug, PartialEq, Eq, Drop)]
 pub enum EngineFault {
     /// The device description was refused.
     Device(DescriptionFault),

@@ -1,4 +1,4 @@
-//! Input in pieces, and what is between a program and its reader and writer: ports, limits, lines, faults.
+//! Input: ports, limits, lines, and the faults that end a run before its time.
 #![tactic(auto)]
 
 mod capture;
@@ -7,7 +7,6 @@ mod hex_digits;
 mod limits;
 mod lines;
 mod port;
-mod stream;
 
 pub use capture::{CaptureFault, CaptureLine, read_capture_line};
 pub use faults::{DescriptionFault, EngineFault, LineKind, fault_line, status_of};
@@ -15,4 +14,3 @@ pub use hex_digits::HexDigits;
 pub use limits::{MAX_CAPTURE_LINE, MAX_DESCRIPTION, MAX_DIVIDER, MAX_INPUT};
 pub use lines::is_divider;
 pub use port::Port;
-pub use stream::{Run, run_to_end};

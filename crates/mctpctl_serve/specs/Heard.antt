@@ -13,9 +13,9 @@ use Rattle.mctpctl_serve.specs.Serving.{packet_after, packet_frames, packets_aft
 use Rattle.mctpctl_serve.specs.Told.{bytes_told, packet_told}
 use Rattle.mctpctl_serve.specs.declared.fault.ServeFault.{ServeFault}
 use Rattle.mctpctl_serve.specs.declared.fault.ServeFault.TheVariants as fault
-use Rattle.mctpctl_serve.specs.declared.line.Line.{Line}
+use Rattle.mctpctl_serve.specs.declared.line.ServedLine.{ServedLine}
 use Rattle.pldm_responder.specs.Performing.{Rules}
-use Rattle.pldm_responder.specs.Stations.{held_of}
+use Rattle.pldm_responder.specs.ResponderViews.{held_of}
 use Rattle.pldm_responder.specs.Steps.{received_commands}
 use Rattle.pldm_responder.specs.declared.bounds.Bounds.{Bounds}
 use Rattle.pldm_wire.specs.declared.command.Command.{Command}
@@ -32,7 +32,7 @@ pub record Shown (P S L : Type 0) : Type 0 where
   pub watch : L
 
 abbrev pub shown :
-    {P C L S W : Type 0} → (C → Option (List ℕ)) → (W → Option (List ℕ)) → Line P C L S → Port W → Shown P S L
+    {P C L S W : Type 0} → (C → Option (List ℕ)) → (W → Option (List ℕ)) → ServedLine P C L S → Port W → Shown P S L
 shown to_come contents line writer = record {
   answering = answerers (held_of line.responder) line.control;
   platform = line.responder.platform;

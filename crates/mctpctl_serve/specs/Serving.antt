@@ -9,7 +9,7 @@ use Rattle.mctp_serial.specs.Readings.{Reading, events_in}
 use Rattle.mctp_serial.specs.declared.reader.FrameEvent.{FrameEvent}
 use Rattle.mctp_serial.specs.declared.reader.FrameEvent.TheVariants.{Nothing, Packet, Dropped}
 use Rattle.mctpctl_input.specs.CaptureLine.{TimedPacket}
-use Rattle.pldm_responder.specs.Held.{Held}
+use Rattle.pldm_responder.specs.ResponderStates.{ResponderState}
 use Rattle.pldm_responder.specs.Performing.{Rules}
 use Rattle.pldm_responder.specs.Steps.{assigned_held, received_commands, received_held, received_outcome}
 use Rattle.pldm_responder.specs.declared.outcome.Outcome.{Outcome}
@@ -40,10 +40,10 @@ timed last (reading ∷ readings) (packet ∷ packets) =
 
 -- what answers on a line: the responder, by what it holds, and the control responder
 pub record Answerers (S : Type 0) : Type 0 where
-  pub held : Held S
+  pub held : ResponderState S
   pub control : ControlResponder
 
-abbrev pub answerers : {S : Type 0} → Held S → ControlResponder → Answerers S
+abbrev pub answerers : {S : Type 0} → ResponderState S → ControlResponder → Answerers S
 answerers held control = record { held = held; control = control }
 
 abbrev pub frames_if : Option (List ℕ) → List ℕ
@@ -57,16 +57,16 @@ frames_of control moment packet outcome.Partial = []
 frames_of control moment packet (outcome.Answered fresh changed packets) = flat_map frame packets
 
 -- the responder gets the endpoint ID that the control responder has, where that is another than its own
-abbrev pub with_eid : {S : Type 0} → Held S → ℕ → Option ℕ → Held S
+abbrev pub with_eid : {S : Type 0} → ResponderState S → ℕ → Option ℕ → ResponderState S
 with_eid held moment None = held
 with_eid held moment (Some eid) = if held.own == eid then held else assigned_held held moment eid
 
 -- both have one endpoint ID
-abbrev pub in_step : {S : Type 0} → Held S → ℕ → ControlResponder → Answerers S
+abbrev pub in_step : {S : Type 0} → ResponderState S → ℕ → ControlResponder → Answerers S
 in_step held moment control = answerers (with_eid held moment control.eid) control
 
 -- what answers after a packet at a moment, of which this came at the responder, which then holds this
-abbrev pub answerers_after : {S : Type 0} → Held S → ℕ → ControlResponder → List ℕ → Outcome → Answerers S
+abbrev pub answerers_after : {S : Type 0} → ResponderState S → ℕ → ControlResponder → List ℕ → Outcome → Answerers S
 answerers_after held moment control packet (outcome.Dropped reason) =
     in_step held moment (control_left control moment reason packet)
 answerers_after held moment control packet outcome.Partial = answerers held control

@@ -1,4 +1,4 @@
-//! The frames of an answer.
+//! The frames on a serial line that carry the packets of an answer (DSP0253).
 
 ghost use Rattle.std.specs.Prelude.{◌≡◌, ◌≤◌, length};
 ghost use Rattle.std.specs.List.{flat_map};
@@ -7,7 +7,9 @@ ghost use Rattle.mctp_packet.specs.Pieces.{written_packets};
 ghost use Rattle.mctp_serial.specs.Frames.{frame};
 
 use crate::AnswerBytes;
-use mctp_packet::{MAX_MESSAGE_BYTES, MAX_PACKET_BYTES, PacketRef, Route, UNIT, packet_at, write};
+use mctp_packet::{
+    BASELINE_UNIT, MAX_MESSAGE_BYTES, MAX_PACKET_BYTES, PacketRef, Route, packet_at, write,
+};
 use mctp_serial::{FrameBytes, frame};
 
 /// The frames of the packets of a message on this route, one after the other.
@@ -16,7 +18,7 @@ pub(crate) fn frames_of(route: &Route, message: &[u8]) -> AnswerBytes
     ensures { result.items ≡ flat_map frame (written_packets route.now message.now) }
 {
     let mut frames = AnswerBytes::new();
-    for i in 0..message.len().div_ceil(UNIT) {
+    for i in 0..message.len().div_ceil(BASELINE_UNIT) {
         let Some(packet) = packet_at(route, message, i) else {
             unreachable!();
         };

@@ -1,3 +1,5 @@
+//! Why `mctpctl serve` stops: its line, its clock or its memory failed.
+
 ghost use Rattle.std.specs.Prelude.{◌≡◌};
 ghost use Rattle.mctpctl_serve.specs.ServeFaults.{text_of};
 

@@ -14,7 +14,7 @@ mod ticks;
 use arrayvec::ArrayVec;
 pub use events::{Event, Unwatched, Watch};
 pub use fault::ServeFault;
-pub use line::{Line, serve};
+pub use line::{ServedLine, serve};
 pub use log::Log;
 use mctp_packet::MAX_PACKETS;
 use mctp_serial::MAX_FRAME_BYTES;

@@ -13,9 +13,9 @@ ghost use Rattle.mctpctl_serve.specs.Heard.{Hears, HearsFront, HearsPacket, Hear
 ghost use Rattle.mctpctl_serve.specs.Serving.{frames_if, moment_after, with_eid};
 ghost use Rattle.mctpctl_serve.specs.Told.{drop_told};
 ghost use Rattle.pldm_responder.specs.Ends.{eid_or_null};
-ghost use Rattle.pldm_responder.specs.Held.{IsHeld};
+ghost use Rattle.pldm_responder.specs.ResponderStates.{IsHeld};
 ghost use Rattle.pldm_responder.specs.Performing.{rules_of};
-ghost use Rattle.pldm_responder.specs.Stations.{held_of};
+ghost use Rattle.pldm_responder.specs.ResponderViews.{held_of};
 
 use crate::answers::frames_of;
 use crate::events::{Event, Watch};
@@ -35,7 +35,7 @@ const PIECE: usize = 4_096;
 
 /// A line: what finds packets in its bytes, what answers them, the clock, and who watches.
 #[derive(Drop)]
-pub struct Line<P: Platform, C, L> {
+pub struct ServedLine<P: Platform, C, L> {
     /// Finds the packets.
     pub frames: FrameReader,
     /// Answers them.
@@ -76,7 +76,7 @@ fn send<W: Write>(frames: &[u8], writer: &mut Port<W>) -> Result<(), ServeFault>
 /// Answers a packet at its moment.
 #[tactic(auto, using(crate::proofs::SameHeld::same_held))]
 fn hear_packet<P: Platform, C: Ticks, L: Watch, W: Write>(
-    line: &mut Line<P, C, L>,
+    line: &mut ServedLine<P, C, L>,
     packet: &[u8],
     reply: &mut Body,
     writer: &mut Port<W>,
@@ -163,7 +163,7 @@ fn keep_in_step<P: Platform>(responder: &mut Responder<P>, control: &ControlResp
     }
 }
 
-/// Whether this is the endpoint ID that there is.
+/// Whether the responder has this endpoint ID.
 fn has_eid(own: Option<Eid>, eid: Eid) -> bool
     ensures { result ≡ (eid_or_null own == eid) }
 {
@@ -173,7 +173,7 @@ fn has_eid(own: Option<Eid>, eid: Eid) -> bool
 
 /// Takes a byte. Where it ends the frame of a packet, that is answered.
 fn hear_byte<P: Platform, C: Ticks, L: Watch, W: Write>(
-    line: &mut Line<P, C, L>,
+    line: &mut ServedLine<P, C, L>,
     byte: u8,
     reply: &mut Body,
     writer: &mut Port<W>,
@@ -198,7 +198,7 @@ fn hear_byte<P: Platform, C: Ticks, L: Watch, W: Write>(
 
 /// Takes a piece of the input.
 fn hear_piece<P: Platform, C: Ticks, L: Watch, W: Write>(
-    line: &mut Line<P, C, L>,
+    line: &mut ServedLine<P, C, L>,
     piece: &[u8],
     reply: &mut Body,
     writer: &mut Port<W>,
@@ -224,10 +224,10 @@ fn hear_piece<P: Platform, C: Ticks, L: Watch, W: Write>(
     Ok(())
 }
 
-/// Serves a line until its input ends: each packet whose frame ends is answered at its moment, and the
-/// frames of its answer are written and flushed before more is read. There is no limit of the input.
-/// The watcher is told of each frame that was none, of each packet that came, and of what became of it.
-/// The platform performs the commands of these packets and no others, and the responder's bounds stay.
+/// Serves a line until its input ends: each packet whose frame ends is answered at its moment, and the frames of its
+/// answer are written and flushed before more is read. The input may be of any length. The watcher is told of each
+/// frame that was none, of each packet that came, and of what became of it. The platform performs the commands of these
+/// packets and no others, and the responder's bounds stay.
 ///
 /// # Errors
 ///
@@ -237,7 +237,7 @@ fn hear_piece<P: Platform, C: Ticks, L: Watch, W: Write>(
 /// At `Clock` and `Memory` the answers to the packets before have been written, and their commands were
 /// performed. `TooMany` after `u64::MAX` pieces.
 pub fn serve<P: Platform, C: Ticks, L: Watch, R: Read, W: Write>(
-    line: &mut Line<P, C, L>,
+    line: &mut ServedLine<P, C, L>,
     reader: &mut Port<R>,
     writer: &mut Port<W>,
 ) -> Result<(), ServeFault>

@@ -1,4 +1,4 @@
-//! What is written of what happens on a line.
+//! The lines that the log of `mctpctl serve` has: for packets that came or went out, and for drops.
 
 ghost use Rattle.std.specs.Prelude.{◌≡◌, ◌≢◌, [], ◌++◌, IfOk, OnOk, OnErr, string_bytes};
 ghost use Rattle.mctp_packet.specs.Packets.{written};
@@ -7,7 +7,9 @@ ghost use Rattle.mctpctl_serve.specs.Events.{told_of};
 ghost use Rattle.mctpctl_serve.specs.Logs.{capture_line, capture_lines, capture_text, drop_text};
 
 use crate::events::Event;
-use mctp_packet::{MAX_PACKET_BYTES, Memory, Moment, PacketRef, Route, UNIT, packet_at, write};
+use mctp_packet::{
+    BASELINE_UNIT, MAX_PACKET_BYTES, Memory, Moment, PacketRef, Route, packet_at, write,
+};
 use std::alloc::Global;
 
 /// What an event adds to the capture of a line.
@@ -36,7 +38,7 @@ fn capture_lines(
     ensures memory { OnErr result (capture_lines moment (written_packets route.now message.now) ≢ []) }
 {
     let mut lines = String::new(alloc);
-    for i in 0..message.len().div_ceil(UNIT) {
+    for i in 0..message.len().div_ceil(BASELINE_UNIT) {
         let Some(packet) = packet_at(route, message, i) else {
             unreachable!();
         };

@@ -1,4 +1,4 @@
-//! Readings of a clock.
+//! The clock that a serial line is served by: readings in milliseconds.
 
 ghost use Rattle.std.specs.Prelude.{ℕ, List, [], ◌∷◌, Option, None, Some, IfOk};
 ghost use Rattle.std.specs.Io.KnownBytes.{Consumes};

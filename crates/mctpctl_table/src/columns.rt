@@ -1,4 +1,4 @@
-//! The rows of a table in columns.
+//! The rows of the table laid out in columns, each as wide as its longest cell.
 
 ghost use Rattle.std.specs.Prelude.{◌≡◌, ◌++◌, OnOk};
 ghost use Rattle.mctpctl_table.specs.Tables.{characters, line, padded, table_text, width};

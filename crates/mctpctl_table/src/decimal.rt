@@ -1,4 +1,4 @@
-//! Decimal numbers, exact or none.
+//! Decimal numbers with a count of places, and exact sums and products of them.
 
 ghost use Rattle.std.specs.Prelude.{◌≡◌, ◌≤◌, ◌+ℤ◌, ◌*ℤ◌, ◌^◌};
 ghost use Rattle.mctpctl_table.specs.Decimals.{at_places, exact, product, sum};
@@ -47,7 +47,7 @@ pub(crate) fn product(number: i64, factor: &Decimal) -> Option<Decimal>
     })
 }
 
-/// The number that a decimal is with more places, where it has room.
+/// The digits of a decimal that is written with this many places, where they have room.
 fn at_places(places: u8, decimal: &Decimal) -> Option<i128>
     requires { places ≤ MAX_PLACES }
     ensures { result ≡ at_places places decimal.now }

@@ -26,7 +26,7 @@ fn push_sign(out: &mut Vec<u8>, number: i128) -> Result<(), Memory>
     }
 }
 
-/// Adds the size of a number, number * 10 ^ exponent.
+/// Adds the magnitude of a number, number * 10 ^ exponent.
 #[tactic(auto, unfolding(crate::specs::Decimals::size_text))]
 fn push_size(out: &mut Vec<u8>, number: u128, exponent: i16) -> Result<(), Memory>
     ensures { OnOk result (out.new.items ≡ out.old.items ++ size_text number exponent) }
@@ -40,7 +40,7 @@ fn push_size(out: &mut Vec<u8>, number: u128, exponent: i16) -> Result<(), Memor
     }
 }
 
-/// Adds digits, so many of them behind the point.
+/// Adds digits, the last `places` of them behind the point.
 fn push_pointed(out: &mut Vec<u8>, digits: &[u8], places: usize) -> Result<(), Memory>
     ensures { OnOk result (out.new.items ≡ out.old.items ++ pointed digits.now places) }
 {

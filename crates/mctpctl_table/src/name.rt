@@ -18,7 +18,7 @@ pub(crate) fn name_text(alloc: Global, place: usize, names: &[u8]) -> Result<Vec
     units_text(alloc, &units)
 }
 
-/// Code units of UTF-16 in UTF-8; none are a dash.
+/// Code units of UTF-16 in UTF-8; a dash where there are none.
 #[tactic(auto, unfolding(crate::specs::Names::units_text))]
 pub(crate) fn units_text(alloc: Global, units: &[u16]) -> Result<Vec<u8>, Memory>
     ensures { IfOk result (λ text. text.items ≡ units_text units.now) }
@@ -42,7 +42,7 @@ fn push_name_at(units: &mut Vec<u16>, place: usize, names: &[u8]) -> Result<(), 
     }
 }
 
-/// From the names at a place on.
+/// The bytes from the names at a place on.
 fn names_at(place: usize, bytes: &[u8]) -> Option<&[u8]>
     ensures { option_map (λ names. names_of names.now) result ≡ slice_get (all_names_of bytes.now) place }
 {
@@ -52,7 +52,7 @@ fn names_at(place: usize, bytes: &[u8]) -> Option<&[u8]>
     }
 }
 
-/// From the names at a place on, where there are so many.
+/// The bytes from the names at a place on, where there are this many places.
 #[tactic(auto, using(crate::proofs::EachPassed::one_at, crate::proofs::EachPassed::none_at))]
 fn names_among(place: usize, count: u8, bytes: &[u8]) -> Option<&[u8]>
     ensures { option_map (λ names. names_of names.now) result

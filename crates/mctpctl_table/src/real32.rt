@@ -39,7 +39,7 @@ fn power_of_two(power: u32) -> u64
     2u64.pow(power)
 }
 
-/// Of n / unit, the digits and places of the shortest decimal that is rounded to it.
+/// The digits and places of the shortest decimal that is rounded to n / unit.
 fn shortest(n: u64, unit: u64) -> Option<(u64, u8)>
     requires n { n < 2 ^ 24 }
     requires unit { (0 < unit) × (unit ≤ 2 ^ 60) }
@@ -56,7 +56,7 @@ fn shortest(n: u64, unit: u64) -> Option<(u64, u8)>
     None
 }
 
-/// Of n / unit, the nearest decimal with the places of which there are so many parts in 1; of two, the even one.
+/// The digits of the decimal nearest to n / unit, in parts of 1 / scale; of two that are equally near, the even one.
 fn nearest(n: u64, unit: u64, scale: u64) -> u64
     requires n { n < 2 ^ 24 }
     requires unit { (0 < unit) × (unit ≤ 2 ^ 60) }

@@ -1,4 +1,4 @@
-//! What came of a question.
+//! What came of a command to a sensor or effecter: no message, a wrong one, or the answer.
 
 ghost use Rattle.std.specs.Prelude.{◌≡◌, option_map};
 ghost use Rattle.pldm_wire.specs.Commands.{kind_of};

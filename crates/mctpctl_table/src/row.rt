@@ -1,4 +1,4 @@
-//! A row of the table.
+//! A row of the table: what it is of, its name, its value and its state.
 
 ghost use Rattle.std.specs.Prelude.{◌≡◌};
 ghost use Rattle.mctpctl_table.specs.Marks.{unchanged};

@@ -1,4 +1,4 @@
-//! The rows of a sensor or an effecter.
+//! The rows of the table for a sensor or an effecter, made from its record and its answer.
 
 ghost use Rattle.std.specs.Prelude.{◌≡◌, ◌++◌, IfOk, OnOk, length, map, option_map};
 ghost use Rattle.mctpctl_table.specs.Replies.{numeric_reading};

@@ -1,4 +1,4 @@
-//! What cells say of states.
+//! The words for states in the cells of the table.
 
 ghost use Rattle.std.specs.Prelude.{◌≡◌, ◌++◌, ◌∷◌, [], IfOk, OnOk, codes, option_map, if◌then◌else◌};
 ghost use Rattle.pldm_pdr.specs.StateSets.{has_state};

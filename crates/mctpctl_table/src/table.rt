@@ -1,4 +1,4 @@
-//! The table.
+//! The table of a device's sensors and effecters: rows added from records and answers, and printed.
 
 ghost use Rattle.std.specs.Prelude.{◌≡◌, ◌++◌, [], OnErr, OnOk, map, option_map};
 ghost use Rattle.mctpctl_table.specs.Logs.{log_text};

@@ -1,4 +1,4 @@
-//! The parts that cells are made of.
+//! Text, bytes and numbers added to a cell of the table.
 
 ghost use Rattle.std.specs.Prelude.{◌≡◌, ◌++◌, OnOk, replicate};
 ghost use Rattle.std.specs.Fmt.{decimal, signed_decimal};

@@ -1,4 +1,4 @@
-//! A sensor or an effecter.
+//! A sensor or an effecter by its ID, and the command that reads it.
 
 ghost use Rattle.std.specs.Prelude.{◌≡◌, ◌++◌, OnOk};
 ghost use Rattle.pldm_wire.specs.Commands.{kind_of};

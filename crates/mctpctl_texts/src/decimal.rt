@@ -1,4 +1,4 @@
-//! A number with its digits and a space.
+//! A number kept with its decimal digits and a space, for lines that begin with the same number.
 
 ghost use Rattle.std.specs.Fmt.{decimal};
 ghost use Rattle.std.specs.Prelude.{◌≡◌, ◌++◌, ◌∷◌, []};

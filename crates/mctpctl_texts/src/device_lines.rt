@@ -1,4 +1,4 @@
-//! The text of a device's state.
+//! The lines of a device in a report: its terminus ID, and the states of its sensors and effecters.
 
 ghost use Rattle.mctpctl_texts.specs.EntryTexts.{numbers_text};
 ghost use Rattle.mctpctl_texts.specs.ReportTexts.{device_text, numerics_text, sensors_text, states_line, states_text, tid_line, value_line};

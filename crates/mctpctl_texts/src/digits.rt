@@ -1,4 +1,4 @@
-//! Numbers in decimal, which are written in their place.
+//! Decimal digits of numbers, written straight to their place in a buffer.
 
 ghost use Rattle.std.specs.Fmt.{decimal};
 ghost use Rattle.std.specs.Prelude.{◌≡◌, ◌≤◌, ◌<◌, ◌+◌, ◌++◌, ◌∷◌, [], length, take};
@@ -20,7 +20,8 @@ fn digit_count(number: u64) -> usize
 }
 
 /// Puts the digits of a number into `room` from `start` on, and returns where they end.
-// They are not made elsewhere and copied: a copy of bytes that were just stored one by one has to wait for them.
+// The digits are not made elsewhere and copied: a processor has to wait before it copies bytes that were just stored
+// one by one.
 pub(crate) fn put_digits(room: &mut [u8], start: usize, number: u64) -> usize
     requires { start + MAX_DIGITS ≤ length room.old }
     ensures text { take result room.new ≡ take start room.old ++ decimal number }
@@ -32,7 +33,7 @@ pub(crate) fn put_digits(room: &mut [u8], start: usize, number: u64) -> usize
     end
 }
 
-/// The same, and a byte behind them.
+/// As `put_digits`, with a byte behind the digits.
 pub(crate) fn put_number(room: &mut [u8], start: usize, number: u64, end: u8) -> usize
     requires { start + MAX_DIGITS < length room.old }
     ensures text { take result room.new ≡ take start room.old ++ (decimal number ++ end ∷ []) }

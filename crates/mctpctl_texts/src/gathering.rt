@@ -1,4 +1,4 @@
-//! Writing with a page that is gathered first.
+//! Text added to a page in memory, which is written out when it is full.
 
 ghost use Rattle.std.specs.Prelude.{◌≡◌, ◌≤◌, ◌+◌, [], length, OnOk};
 ghost use Rattle.hex.specs.Hex.{encode_lower};

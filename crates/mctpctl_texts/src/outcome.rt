@@ -10,7 +10,7 @@ ghost use Rattle.mctpctl_texts.specs.OutcomeTexts.{outcome_text, packet_text, pa
 
 use crate::hex_pairs::HexPairs;
 use crate::parts::{write_drop_line, write_text};
-use mctp_packet::{HEADER, Memory, PacketRef, Route, UNIT, header_of, packet_at};
+use mctp_packet::{BASELINE_UNIT, HEADER, Memory, PacketRef, Route, header_of, packet_at};
 use pldm_responder::MessageOutcome;
 use std::alloc::AllocError;
 
@@ -61,7 +61,7 @@ fn write_packets(
     ensures ok { OnOk result (out.new.items ≡ out.old.items ++ packets_text (written_packets route.now message.now)) }
     ensures err { OnErr result (StartsWith out.new.items out.old.items) }
 {
-    for i in 0..message.len().div_ceil(UNIT) {
+    for i in 0..message.len().div_ceil(BASELINE_UNIT) {
         let Some(packet) = packet_at(route, message, i) else {
             unreachable!();
         };
@@ -85,8 +85,8 @@ fn write_packet(out: &mut Vec<u8>, pairs: &HexPairs, packet: &PacketRef<'_>) -> 
     Ok(())
 }
 
-/// Puts the bytes of a packet in lower-case hex in front of `room`, whose rest is left as it was. The packet is not
-/// put together first: a copy over bytes that were just stored one by one would wait for them.
+/// Puts the bytes of a packet in lower-case hex in front of `room`, whose rest is left as it was. The packet is not put
+/// together first: a processor has to wait before it copies bytes that were just stored one by one.
 fn spell_packet(pairs: &HexPairs, packet: &PacketRef<'_>, room: &mut [u8])
     requires { 2 * length (written packet.now) ≤ length room.old }
     ensures { room.new ≡ encode_lower (written packet.now) ++ drop (2 * length (written packet.now)) room.old }

@@ -8,7 +8,7 @@ ghost use Rattle.mctpctl_texts.specs.Writers.{Wrote};
 
 use crate::parts::{write_drop_line, write_number, write_text};
 use crate::text_writer::TextWriter;
-use mctp_assembly::FedInto;
+use mctp_assembly::Assembled;
 use mctp_packet::{PacketRef, Reason, Route, Seq, Tag};
 
 /// Writes the line of a packet that came at this moment and gave this. A message that it completes is not part
@@ -17,7 +17,7 @@ pub fn write_packet_line<O: TextWriter>(
     out: &mut O,
     moment: u64,
     packet: &PacketRef<'_>,
-    given: FedInto,
+    given: Assembled,
 ) -> Result<(), O::Refusal>
     ensures { Wrote O.contents O.failed O.refused out.old out.new
         (packet_line moment packet.now (fed_with [] given)) result }
@@ -102,14 +102,14 @@ fn sequence_text(number: Seq) -> &'static str
 }
 
 /// Writes a space, what a packet gave (`whole`, `partial` or `drop NAME`), and the end of the line.
-fn write_given<O: TextWriter>(out: &mut O, given: FedInto) -> Result<(), O::Refusal>
+fn write_given<O: TextWriter>(out: &mut O, given: Assembled) -> Result<(), O::Refusal>
     ensures { Wrote O.contents O.failed O.refused out.old out.new
         (32 ∷ (fed_text (fed_with [] given) ++ 10 ∷ [])) result }
 {
     match given {
-        FedInto::Whole => write_text(out, " whole\n"),
-        FedInto::Partial => write_text(out, " partial\n"),
-        FedInto::Dropped(reason) => {
+        Assembled::Whole => write_text(out, " whole\n"),
+        Assembled::Partial => write_text(out, " partial\n"),
+        Assembled::Dropped(reason) => {
             write_text(out, " ")?;
             write_drop_line(out, reason)
         }

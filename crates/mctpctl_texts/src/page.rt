@@ -113,7 +113,7 @@ impl Page {
     }
 
     /// Adds a part, for which there has to be room.
-    // Inlined: to call it takes as long as to do it.
+    // Inlined: a call would take as long as the work.
     #[inline(always)]
     pub(crate) fn add(&mut self, part: &Part)
         requires { length self.old + MAX_PART ≤ PAGE }

@@ -54,7 +54,7 @@ pub(crate) fn write_drop<O: TextWriter>(out: &mut O, reason: Reason) -> Result<(
     write_text(out, reason.name())
 }
 
-/// The same, and the end of the line.
+/// As `write_drop`, with the end of the line.
 pub(crate) fn write_drop_line<O: TextWriter>(out: &mut O, reason: Reason) -> Result<(), O::Refusal>
     ensures written { Wrote O.contents O.failed O.refused out.old out.new
         (drop_text reason ++ 10 ∷ []) result }

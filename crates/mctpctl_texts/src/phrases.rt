@@ -1,4 +1,4 @@
-//! The words of a report.
+//! The words of a report's lines, made once for all lines.
 
 ghost use Rattle.std.specs.Prelude.{◌≡◌, ◌++◌, ◌∷◌, []};
 ghost use Rattle.mctpctl_texts.specs.EntryTexts.{answered_text, not_opened_text, sensed_text};

@@ -76,7 +76,8 @@ fn gather_entries<O: TextWriter>(
     for _line in 0..steps.len().min(entries.len()) {
         digits.set(moments.next().unwrap().get());
         gather_moment(out, page, &digits)?;
-        // Asked for only now: what came of the step is then told apart once, and not again behind its moment.
+        // The entry is taken only here, so that the program tells once which kind of entry it is, and not before and
+        // after the moment.
         gather_entry(out, page, phrases, rest.next().unwrap())?;
     }
     Ok(())
@@ -97,7 +98,7 @@ fn gather_requests<O: TextWriter>(
     let mut next = status_at(requests, 0);
     for i in 0..requests.len() {
         let status = next;
-        // Asked for a line ahead, so that its answer's place in memory is known before that line is begun.
+        // Taken one line ahead, so that the place of its answer in memory is known before that line is begun.
         next = status_at(requests, i + 1);
         gather_request_line(out, page, phrases, &pairs, i as u64, &requests[i], status)?;
     }
@@ -117,7 +118,7 @@ fn status_at(requests: &[OpenedRequest], place: usize) -> Status<'_>
 /// The most bytes of a request's line, but for its answer: four parts, and then how it stands.
 const MAX_REQUEST: usize = 5 * MAX_PART;
 
-/// Gathers the line of a request, which stands like this: its number, who asked, and its status.
+/// Gathers the line of a request with this status: its number, who asked, and how it stands.
 fn gather_request_line<O: TextWriter>(
     out: &mut O,
     page: &mut Page,

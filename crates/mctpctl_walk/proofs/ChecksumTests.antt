@@ -1,6 +1,6 @@
 -- A checksum stands after some bytes.
 use Rattle.std.proofs.Common.{◌≡◌, ℕ, ◌<◌, Bool, true, false, ◌&&◌, ◌==◌, nat_lt, List, length, refl, ltb-true}
-use Rattle.pldm_device.specs.Crc32.{crc32}
+use Rattle.pldm_wire.specs.Crc32.{crc32}
 use Rattle.pldm_wire.specs.Places.{u32_at}
 use Rattle.mctpctl_walk.specs.Versions.{is_checksum_of}
 

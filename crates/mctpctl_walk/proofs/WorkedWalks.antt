@@ -1,7 +1,7 @@
 -- A few steps of a walk, computed from the definitions. The checksum is from another program.
 use Rattle.std.proofs.Common.{◌≡◌, ℕ, [], ◌∷◌, List, Option, Some, None, refl}
 use Rattle.std.specs.Int.{reverse_bits_onto}
-use Rattle.pldm_device.specs.Crc32.{divided_bits}
+use Rattle.pldm_wire.specs.Crc32.{divided_bits}
 use Rattle.pldm_wire.specs.AnswerReading.{success_of}
 use Rattle.pldm_wire.specs.Responses.{response_of}
 use Rattle.pldm_wire.specs.declared.command.Command.TheVariants.{GetPldmTypes, GetPldmVersion, GetPldmCommands, GetPdrRepositoryInfo}

@@ -1,6 +1,6 @@
 -- The last version in version data (DSP0240, "GetPLDMVersion command").
 use Rattle.std.specs.Prelude.{ℕ, ◌-◌, ◌==◌, nat_lt, Bool, ◌&&◌, List, length, take, drop, if◌then◌else◌}
-use Rattle.pldm_device.specs.Crc32.{crc32}
+use Rattle.pldm_wire.specs.Crc32.{crc32}
 use Rattle.pldm_wire.specs.Places.{u32_at}
 use Rattle.pldm_wire.specs.declared.limits.TheConstants.{VERSION_BYTES}
 

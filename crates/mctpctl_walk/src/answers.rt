@@ -1,4 +1,4 @@
-//! The answer that a message is.
+//! The message that came to a command, read as the answer to it.
 
 ghost use Rattle.std.specs.Prelude.{◌≡◌, option_map};
 ghost use Rattle.mctpctl_walk.specs.Answered.{answer_to};

@@ -1,4 +1,4 @@
-//! The handles of the records so far.
+//! Whether a record of the walk so far has a given record handle.
 
 ghost use Rattle.std.specs.Prelude.{◌≡◌};
 ghost use Rattle.mctpctl_walk.specs.Steps.{has_handle};

@@ -1,4 +1,4 @@
-//! How much a walk asks.
+//! The most commands that a walk asks, and the numbers that its commands have in common.
 
 use pldm_records::{MAX_RECORD_BYTES, MAX_RECORDS};
 
@@ -13,7 +13,8 @@ pub const MAX_COMMANDS: usize = 2
     + MAX_RECORDS * (MAX_RECORD_BYTES + 1)
     + MAX_RECORDS;
 
-/// The data transfer handle of a first part, at which nothing looks (DSP0240, "GetPLDMVersion command").
+/// The data transfer handle of a request for the first part, which the device does not look at (DSP0240,
+/// "GetPLDMVersion command").
 pub const FIRST_TRANSFER: u32 = 0;
 
 /// No event state is rearmed (DSP0248, "rearmEventState" and "sensorRearm").

@@ -1,4 +1,4 @@
-//! A message that is kept.
+//! The bytes of a message that a walk keeps.
 
 ghost use Rattle.std.specs.Prelude.{◌≡◌, IfOk};
 

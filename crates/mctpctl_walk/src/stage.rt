@@ -1,4 +1,4 @@
-//! How far a walk has come.
+//! How far a walk has come: what it asks next.
 
 use pldm_wire::VERSION_BYTES;
 

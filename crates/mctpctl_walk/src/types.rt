@@ -1,4 +1,4 @@
-//! The PLDM types that a terminus has.
+//! The PLDM types of a terminus, one after another (DSP0240, "GetPLDMTypes command").
 
 ghost use Rattle.std.specs.Prelude.{◌≡◌};
 ghost use Rattle.mctpctl_walk.specs.Types.{has_type, next_type};

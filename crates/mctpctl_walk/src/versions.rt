@@ -1,11 +1,10 @@
-//! The last version in version data.
+//! The last version of a PLDM type, found in the version data of an answer (DSP0240, "GetPLDMVersion command").
 
 ghost use Rattle.std.specs.Prelude.{◌≡◌, ◌≤◌, length};
 ghost use Rattle.mctpctl_walk.specs.Versions.{is_checksum_of, last_four, last_version};
 
 use byteorder::{ByteOrder, LittleEndian};
-use pldm_device::crc32::crc32;
-use pldm_wire::{VERSION_BYTES, VersionData};
+use pldm_wire::{VERSION_BYTES, VersionData, crc32};
 
 /// The last version in version data. Where the last four bytes are the checksum of versions before them, they are none
 /// (DSP0240, "GetPLDMVersion command").

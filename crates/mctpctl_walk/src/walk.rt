@@ -1,4 +1,4 @@
-//! A walk over a device.
+//! A walk over a device: it asks for all that the device has, one command after another.
 
 ghost use Rattle.std.specs.Prelude.{◌≡◌, ◌<◌, ◌++◌, true, length, option_map, slice_get, vec_len, vec_capacity, OnErr, OnOk};
 ghost use Rattle.mctpctl_walk.specs.Steps.{after, found_at, stage_after, stage_from, with_part, with_reading, with_repository, with_tid, with_types, with_versions};

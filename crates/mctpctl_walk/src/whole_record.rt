@@ -1,4 +1,4 @@
-//! A record that was fetched whole.
+//! A platform data record that a walk has fetched whole.
 
 ghost use Rattle.std.specs.Prelude.{◌≡◌, ◌≤◌, length};
 ghost use Rattle.mctpctl_walk.specs.WholeRecords.{IsFetched};

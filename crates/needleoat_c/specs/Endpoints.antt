@@ -22,7 +22,7 @@ use Rattle.pldm_responder.specs.Looking.{ended_by}
 use Rattle.pldm_responder.specs.OpenOrder.{ended_held}
 use Rattle.pldm_responder.specs.Answering.{answering}
 use Rattle.pldm_responder.specs.Ends.{eid_or_null, has_row}
-use Rattle.pldm_responder.specs.Held.{Held, IsHeld, held_at_first}
+use Rattle.pldm_responder.specs.ResponderStates.{ResponderState, IsHeld, held_at_first}
 use Rattle.pldm_responder.specs.Needs.{NeedsMemory}
 use Rattle.pldm_responder.specs.OutsideAnswers.{outcome_of_answer}
 use Rattle.pldm_responder.specs.Rooms.{AreRowsAfter}
@@ -114,7 +114,7 @@ refusal_at now (Some inside) = if is_next now inside then 0 else BAD_MOMENT
 
 -- what it holds: at the first start that of a new one, whose last moment is this one; else that of one which restarts
 -- at this moment
-abbrev pub started : ℕ → HandedOn → Keeping → Bool → ℕ → Held (Unit {0})
+abbrev pub started : ℕ → HandedOn → Keeping → Bool → ℕ → ResponderState (Unit {0})
 started own handed k true now = record (held_at_first own (busy_with handed k.busy) k.window k.keep tt) { last = now }
 started own handed k false now = restarted_held (held_at_first own (busy_with handed k.busy) k.window k.keep tt) now
 

@@ -10,7 +10,7 @@ use Rattle.pldm_wire.specs.Requests.{Request, request_of}
 use Rattle.pldm_wire.specs.declared.command.Command.{Command}
 use Rattle.pldm_requester.specs.Courses.{Progress, Waiting, Answered, GaveUp}
 use Rattle.pldm_requester.specs.Slots.{held_of}
-use Rattle.pldm_requester.specs.Steps.{Held, IsHeld, Memo, again_at, given_up_at, got_at, held_at_first, opened_held, opening_answer}
+use Rattle.pldm_requester.specs.Steps.{RequesterState, IsHeld, Memo, again_at, given_up_at, got_at, held_at_first, opened_held, opening_answer}
 use Rattle.pldm_requester.specs.Steps.{received_held, ticked_held}
 use Rattle.pldm_requester.specs.Timings.{timing_fault}
 use Rattle.pldm_requester.specs.declared.results.Got.{Got}
@@ -43,24 +43,24 @@ abbrev pub IsUpheld : RequesterForC → Type 0
 IsUpheld requester = SaysWhether requester.is_live requester.handle.held
 
 -- what the requester behind a handle holds
-abbrev pub holding : Option Inside → Option Held
+abbrev pub holding : Option Inside → Option RequesterState
 holding held = option_map held_of held
 
 -- what is behind the handle holds what this change makes of what was held before
-abbrev pub HoldsAfter : (Held → Held) → Option Inside → Option Inside → Type 0
+abbrev pub HoldsAfter : (RequesterState → RequesterState) → Option Inside → Option Inside → Type 0
 HoldsAfter change (Some old) (Some new) = IsHeld (held_of new) (change (held_of old))
 HoldsAfter change None None = Unit {0}
 HoldsAfter change old new = ⊥
 
-abbrev pub unchanged : Held → Held
+abbrev pub unchanged : RequesterState → RequesterState
 unchanged held = held
 
 -- a moment that may come next
-abbrev pub is_next : ℕ → Held → Bool
+abbrev pub is_next : ℕ → RequesterState → Bool
 is_next now held = nat_le now MAX_MOMENT && nat_le held.last now
 
 -- why a call at a moment is refused, whatever it is: 0 where it is not
-abbrev pub refusal_at : ℕ → Option Held → ℕ
+abbrev pub refusal_at : ℕ → Option RequesterState → ℕ
 refusal_at now None = NOTHING_THERE
 refusal_at now (Some held) = if is_next now held then 0 else BAD_MOMENT
 
@@ -104,14 +104,14 @@ abbrev pub opened_or_number : Result Opened OpenFault → Result Opened ℕ
 opened_or_number (Ok opened) = Ok opened
 opened_or_number (Err fault) = Err (fault_number fault)
 
-abbrev pub opening_of : Option Command → ℕ → Held → Result Opened ℕ
+abbrev pub opening_of : Option Command → ℕ → RequesterState → Result Opened ℕ
 opening_of None now held = Err NO_COMMAND
 opening_of (Some command) now held = opened_or_number (opening_answer held now)
 
-abbrev pub opening_in : ℕ → List ℕ → Held → Result Opened ℕ
+abbrev pub opening_in : ℕ → List ℕ → RequesterState → Result Opened ℕ
 opening_in now request held = if is_next now held then opening_of (command_in request) now held else Err BAD_MOMENT
 
-abbrev pub opening_at : ℕ → List ℕ → Option Held → Result Opened ℕ
+abbrev pub opening_at : ℕ → List ℕ → Option RequesterState → Result Opened ℕ
 opening_at now request None = Err NOTHING_THERE
 opening_at now request (Some held) = opening_in now request held
 
@@ -128,26 +128,26 @@ ReportsOpening (Ok opened) r = ReportsOpened opened r ⊎ (r.refusal ≡ NO_MEMO
 ReportsOpening (Err number) r = r.refusal ≡ number
 
 -- only the first requests want memory
-abbrev pub MayNeedRoom : ℕ → Option Held → Type 0
+abbrev pub MayNeedRoom : ℕ → Option RequesterState → Type 0
 MayNeedRoom most None = ⊥
 MayNeedRoom most (Some held) = held.count < most
 
-abbrev pub with_opened : ℕ → Option Command → Held → Held
+abbrev pub with_opened : ℕ → Option Command → RequesterState → RequesterState
 with_opened now None held = held
 with_opened now (Some command) held = opened_held held now command
 
-abbrev pub opened_by : ℕ → List ℕ → ℕ → Held → Held
+abbrev pub opened_by : ℕ → List ℕ → ℕ → RequesterState → RequesterState
 opened_by now request refusal held = if refusal == 0 then with_opened now (command_in request) held else held
 
 -- ---- ticks ----
 
 -- the requests that are due stand in front
-abbrev pub ReportsDue : ℕ → DueReport → Option Held → Type 0
+abbrev pub ReportsDue : ℕ → DueReport → Option RequesterState → Type 0
 ReportsDue now due None = ⊥
 ReportsDue now due (Some held) =
     (take due.again_count due.again ≡ again_at held now) × (take due.given_up_count due.given_up ≡ given_up_at held now)
 
-abbrev pub ticked_by : ℕ → ℕ → Held → Held
+abbrev pub ticked_by : ℕ → ℕ → RequesterState → RequesterState
 ticked_by now refusal held = if refusal == 0 then ticked_held held now else held
 
 -- ---- packets that come ----
@@ -164,15 +164,15 @@ IsRefused number r = (r.kind ≡ RECEIVING_REFUSED) × (r.reason ≡ number)
 abbrev pub ReportsTaken : Got → PacketReport → Type 0
 ReportsTaken got r = ReportsGot got r ⊎ (IsRefused NO_MEMORY r × (got ≡ outcome.Partial))
 
-abbrev pub ReportsPacketIn : ℕ → List ℕ → PacketReport → Held → Type 0
+abbrev pub ReportsPacketIn : ℕ → List ℕ → PacketReport → RequesterState → Type 0
 ReportsPacketIn now bytes r held =
     MatchBool (is_next now held) (ReportsTaken (got_at held bytes) r) (IsRefused BAD_MOMENT r)
 
-abbrev pub ReportsPacket : ℕ → List ℕ → PacketReport → Option Held → Type 0
+abbrev pub ReportsPacket : ℕ → List ℕ → PacketReport → Option RequesterState → Type 0
 ReportsPacket now bytes r None = IsRefused NOTHING_THERE r
 ReportsPacket now bytes r (Some held) = ReportsPacketIn now bytes r held
 
-abbrev pub received_by : ℕ → List ℕ → ℕ → Held → Held
+abbrev pub received_by : ℕ → List ℕ → ℕ → RequesterState → RequesterState
 received_by now bytes kind held = if kind == RECEIVING_REFUSED then held else received_held held now bytes
 
 -- ---- what is remembered ----
@@ -181,11 +181,11 @@ received_by now bytes kind held = if kind == RECEIVING_REFUSED then held else re
 abbrev pub fitting : ℕ → List ℕ → Option (List ℕ)
 fitting most bytes = if nat_le (length bytes) most then Some bytes else None
 
-abbrev pub memo_of : ℕ → Option Held → Option Memo
-memo_of number held = option_and_then (λ (h : Held). h.remembered number) held
+abbrev pub memo_of : ℕ → Option RequesterState → Option Memo
+memo_of number held = option_and_then (λ (h : RequesterState). h.remembered number) held
 
 -- the packet of a request that is remembered: a request is one packet
-abbrev pub packet_of : ℕ → Option Held → Option (List ℕ)
+abbrev pub packet_of : ℕ → Option RequesterState → Option (List ℕ)
 packet_of number held =
     option_and_then (fitting MAX_PACKET_BYTES)
     (option_and_then (λ packets. slice_get packets 0)
@@ -199,5 +199,5 @@ ReportsProgress (Some (Answered message)) r old new =
     (r.kind ≡ STATUS_ANSWERED) × IsWritten (fitting MAX_MESSAGE_BYTES message) r.length old new
 ReportsProgress (Some GaveUp) r old new = (r.kind ≡ STATUS_GAVE_UP) × (r.length ≡ 0) × (new ≡ old)
 
-abbrev pub progress_of : ℕ → Option Held → Option Progress
+abbrev pub progress_of : ℕ → Option RequesterState → Option Progress
 progress_of number held = option_map (λ (memo : Memo). memo.course.progress) (memo_of number held)

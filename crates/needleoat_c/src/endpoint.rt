@@ -24,8 +24,8 @@ use crate::settings::EndpointSettings;
 use bus_endpoint::{BusEndpoint, BusStep};
 use mctp_control::ControlPacket;
 use mctp_packet::{
-    Body, Eid, MAX_PACKET_BYTES, MAX_PACKETS, Memory, Moment, NULL_EID, Route, UNIT, packet_at,
-    write,
+    BASELINE_UNIT, Body, Eid, MAX_PACKET_BYTES, MAX_PACKETS, Memory, Moment, NULL_EID, Route,
+    packet_at, write,
 };
 use needleoat_forms::{AnswerFields, CommandFields, put_answer_of};
 use pldm_endpoint::{AnswerRefusal, CommandHandle, Endpoint, MessageStep, ReceiveRefusal};
@@ -33,9 +33,10 @@ use pldm_responder::{Bounds, Keeping, MessageOutcome};
 use pldm_wire::{Answer, Command, INSTANCE_IDS};
 use std::alloc::Global;
 
-/// A new endpoint with these settings, whose endpoint ID at first and way of keeping answers they are, in a place of its
-/// own. At any start but the first it is busy for the keeping time. What answers its control messages, where they are
-/// answered, has a place too; where there is no memory for one of the two, none is left.
+/// A new endpoint with these settings, in a place of its own. `own` is its endpoint ID at first, and `keeping` is how
+/// it keeps answers, both as the settings say. At any start but the first it is busy for the keeping time. What answers
+/// its control messages, where they are answered, has a place too; where there is no memory for one of the two, neither
+/// is kept.
 #[tactic(auto, using(crate::proofs::MadeEndpoints::one_at_start))]
 pub(crate) fn start(
     alloc: Global,
@@ -301,7 +302,7 @@ pub(crate) fn report(
 
 /// Puts the answer that these fields are to a command in the place of what `given` holds. An `Err` has the number that
 /// says why they are none.
-// Not inlined: what the making of an answer takes of the stack is gone before the answer is handed in.
+// Not inlined: the stack that making an answer needs is free again before the answer is handed in.
 #[inline(never)]
 fn put_given(command: &Command, fields: &AnswerFields, given: &mut Answer) -> Result<(), u8>
     ensures answer { OnOk result (given_to command.now fields.now ≡ Ok given.new) }
@@ -353,7 +354,7 @@ fn report_of(
             reason: 0,
             fresh: *fresh,
             changed: *changed,
-            count: reply.len().div_ceil(UNIT) as u32,
+            count: reply.len().div_ceil(BASELINE_UNIT) as u32,
             lengths: put_packets(route, reply, rooms),
             handle: HandleFields::none(),
         },
@@ -377,7 +378,7 @@ fn put_packets(
 }
 
 /// Puts packet `index` of a message in front of a room, where there is one, and returns its length, else 0.
-// Not inlined: it is called five times, and its packet is on the stack once.
+// Not inlined: it is called five times, and its packet is then on the stack only once.
 #[inline(never)]
 fn put_packet(route: &Route, message: &[u8], index: usize, room: &mut [u8; MAX_PACKET_BYTES]) -> u32
     ensures { IsInFront (slice_get (written_packets route.now message.now) index) result room.new }

@@ -1,4 +1,4 @@
-//! The calls of an endpoint for C.
+//! The C calls on an endpoint, as `include/needleoat.h` declares them.
 
 ghost use Rattle.std.specs.Prelude.{◌≡◌, ◌≢◌, ◌≤◌, ◌⊎◌, false, true};
 ghost use Rattle.mctp_packet.specs.declared.TheConstants.{MAX_MOMENT};

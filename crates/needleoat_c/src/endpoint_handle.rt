@@ -23,7 +23,7 @@ pub struct EndpointForC {
 // As in `include/needleoat.h`.
 const _: () = prove!(size_of::<EndpointForC>() == 16);
 
-/// What the pointer points to, as far as C can see: nothing of it.
+/// What the pointer points to. C sees nothing of it.
 #[repr(C)]
 #[derive(Drop)]
 pub struct HiddenEndpoint {

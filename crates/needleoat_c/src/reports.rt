@@ -114,7 +114,7 @@ impl StatusReport {
 #[repr(C)]
 #[derive(Drop)]
 pub struct HandleFields {
-    /// How much was asked before.
+    /// How many commands and requests were handed to the device before.
     pub number: u64,
     /// The endpoint that the request came from.
     pub source: u8,
@@ -126,7 +126,7 @@ pub struct HandleFields {
 const _: () = prove!(size_of::<HandleFields>() == 16);
 
 impl HandleFields {
-    /// Those of nothing that is asked.
+    /// The fields where nothing is asked of the device.
     pub(crate) fn none() -> HandleFields
         ensures { result ≡ no_handle }
     {
@@ -137,7 +137,7 @@ impl HandleFields {
         }
     }
 
-    /// Those of what is asked under this handle.
+    /// The fields of this handle.
     fn of(handle: &CommandHandle) -> HandleFields
         ensures value { result ≡ fields_of handle.now }
         ensures source { is_eid result.source ≡ true }
@@ -149,7 +149,7 @@ impl HandleFields {
         }
     }
 
-    /// The handle that they are, where the source is an endpoint ID.
+    /// The handle with these fields, where the source is an endpoint ID.
     pub(crate) fn handle(&self) -> Option<CommandHandle>
         ensures some { is_some result ≡ is_eid self.now.source }
         ensures value { IfSome result (λ handle. handle ≡ handle_in self.now) }

@@ -1,4 +1,4 @@
-//! The calls of a requester for C.
+//! The C calls on a requester, as `include/needleoat.h` declares them.
 
 ghost use Rattle.std.specs.Prelude.{◌≡◌, ◌≢◌, ◌⊎◌, false, true};
 ghost use Rattle.needleoat_forms.specs.Written.{IsWritten};

@@ -1,4 +1,4 @@
-//! The settings with which C makes an end.
+//! The structs of settings from which C makes an endpoint or a requester.
 
 ghost use Rattle.std.specs.Prelude.{◌≡◌, ◌≤◌, ◌↔◌, IsSome, IfSome, true};
 ghost use Rattle.pldm_wire.specs.declared.assigned.TheConstants.{INSTANCE_IDS};
@@ -10,7 +10,7 @@ use mctp_packet::{Eid, Keep, NULL_EID};
 use pldm_responder::Keeping;
 use pldm_wire::{BusyTime, HandedOn, INSTANCE_IDS, Window};
 
-/// What an endpoint is made with.
+/// The settings of a new endpoint.
 #[repr(C)]
 #[derive(Drop)]
 pub struct EndpointSettings {
@@ -30,10 +30,9 @@ pub struct EndpointSettings {
     pub window: u32,
     /// Which requests are refused in the busy time, as `BUSY_ALL` or `BUSY_SETS`.
     pub busy: u32,
-    /// Whether of PLDM types 0 and 2 the requests are handed on as bytes whose command this profile does not read.
+    /// Whether requests of PLDM types 0 and 2 are handed on as bytes where this profile does not read their command.
     pub unknown_commands: bool,
-    /// The PLDM types of which each request is handed on as bytes: bit t stands for type t, and those of 0 and 2 for
-    /// nothing.
+    /// The PLDM types of which each request is handed on as bytes: bit t stands for type t. Bits 0 and 2 mean nothing.
     pub pldm_types: u64,
     /// Whether it answers control messages (DSP0236, "MCTP control protocol"), as the fields after this one say; else
     /// they are dropped, and none of these has a meaning.
@@ -172,7 +171,7 @@ fn busy_of(number: u32) -> Option<BusyTime>
     }
 }
 
-/// What a requester is made with.
+/// The settings of a new requester.
 #[repr(C)]
 #[derive(Drop)]
 pub struct RequesterSettings {

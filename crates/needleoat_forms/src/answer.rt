@@ -1,3 +1,5 @@
+//! The struct by which an answer crosses to C: the fields of a response (DSP0240, DSP0248).
+
 ghost use Rattle.std.specs.Prelude.{◌≡◌, Some};
 ghost use Rattle.pldm_wire.specs.Answers.{IsAnswerTo};
 ghost use Rattle.needleoat_forms.specs.Answers.{answer_in, kind_in};
@@ -5,11 +7,7 @@ ghost use Rattle.needleoat_forms.specs.Answers.{answer_in, kind_in};
 use crate::room::put_front;
 use crate::states::{EffecterState, SensorState, put_effecter_states, put_sensor_states};
 use pldm_wire::{
-    Answer, BASE, COMMANDS_BYTES, GET_NUMERIC_EFFECTER_VALUE, GET_PDR, GET_PDR_REPOSITORY_INFO,
-    GET_PLDM_COMMANDS, GET_PLDM_TYPES, GET_PLDM_VERSION, GET_SENSOR_READING,
-    GET_STATE_EFFECTER_STATES, GET_STATE_SENSOR_READINGS, GET_TID, Kind, MAX_PART_BYTES,
-    MAX_STATES, PLATFORM, SET_NUMERIC_EFFECTER_VALUE, SET_STATE_EFFECTER_STATES, SET_TID,
-    TIME_BYTES, TYPES_BYTES,
+    Answer, COMMANDS_BYTES, Kind, MAX_PART_BYTES, MAX_STATES, TIME_BYTES, TYPES_BYTES,
 };
 
 /// A response's instance ID, the command that it answers, its completion code and the answer's
@@ -144,38 +142,27 @@ impl AnswerFields {
     {
         *self = AnswerFields::NONE;
         self.instance_id = instance_id;
+        self.pldm_type = kind.pldm_type;
+        self.command = kind.command;
         match answer {
             Answer::Refused(code) => {
-                self.pldm_type = kind.pldm_type;
-                self.command = kind.command;
                 self.code = code.get();
             }
-            Answer::SetTid => {
-                self.pldm_type = BASE;
-                self.command = SET_TID;
-            }
+            Answer::SetTid => {}
             Answer::GetTid { tid } => {
-                self.pldm_type = BASE;
-                self.command = GET_TID;
                 self.tid = *tid;
             }
             Answer::GetPldmVersion {
                 next_data_transfer_handle,
                 versions,
             } => {
-                self.pldm_type = BASE;
-                self.command = GET_PLDM_VERSION;
                 self.next_data_transfer_handle = *next_data_transfer_handle;
                 self.length = put_front(&mut self.bytes, versions.as_slice());
             }
             Answer::GetPldmTypes { types } => {
-                self.pldm_type = BASE;
-                self.command = GET_PLDM_TYPES;
                 self.types = *types;
             }
             Answer::GetPldmCommands { commands } => {
-                self.pldm_type = BASE;
-                self.command = GET_PLDM_COMMANDS;
                 self.commands = *commands;
             }
             Answer::GetSensorReading {
@@ -186,8 +173,6 @@ impl AnswerFields {
                 event,
                 reading,
             } => {
-                self.pldm_type = PLATFORM;
-                self.command = GET_SENSOR_READING;
                 self.size = reading.size().code();
                 self.operational = *operational;
                 self.sensor_event_message_enable = *sensor_event_message_enable;
@@ -197,33 +182,21 @@ impl AnswerFields {
                 self.value = reading.value();
             }
             Answer::GetStateSensorReadings { fields } => {
-                self.pldm_type = PLATFORM;
-                self.command = GET_STATE_SENSOR_READINGS;
                 self.count = fields.as_slice().len() as u8;
                 put_sensor_states(&mut self.sensor_states, fields);
             }
-            Answer::SetNumericEffecterValue => {
-                self.pldm_type = PLATFORM;
-                self.command = SET_NUMERIC_EFFECTER_VALUE;
-            }
+            Answer::SetNumericEffecterValue => {}
             Answer::GetNumericEffecterValue {
                 operational,
                 values,
             } => {
-                self.pldm_type = PLATFORM;
-                self.command = GET_NUMERIC_EFFECTER_VALUE;
                 self.size = values.present().size().code();
                 self.operational = *operational;
                 self.value = values.present().value();
                 self.pending_value = values.pending().value();
             }
-            Answer::SetStateEffecterStates => {
-                self.pldm_type = PLATFORM;
-                self.command = SET_STATE_EFFECTER_STATES;
-            }
+            Answer::SetStateEffecterStates => {}
             Answer::GetStateEffecterStates { fields } => {
-                self.pldm_type = PLATFORM;
-                self.command = GET_STATE_EFFECTER_STATES;
                 self.count = fields.as_slice().len() as u8;
                 put_effecter_states(&mut self.effecter_states, fields);
             }
@@ -236,8 +209,6 @@ impl AnswerFields {
                 largest_record_size,
                 timeout,
             } => {
-                self.pldm_type = PLATFORM;
-                self.command = GET_PDR_REPOSITORY_INFO;
                 self.repository_state = *state;
                 self.update_time = *update_time;
                 self.oem_update_time = *oem_update_time;
@@ -251,8 +222,6 @@ impl AnswerFields {
                 next_data_transfer_handle,
                 part,
             } => {
-                self.pldm_type = PLATFORM;
-                self.command = GET_PDR;
                 self.length = put_front(&mut self.bytes, part.as_slice());
                 self.next_record_handle = *next_record_handle;
                 self.next_data_transfer_handle = *next_data_transfer_handle;

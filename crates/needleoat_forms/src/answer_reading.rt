@@ -1,3 +1,5 @@
+//! A response read into the struct of its fields for C, or the number that says why it is no answer.
+
 ghost use Rattle.std.specs.Prelude.{◌≡◌, Err, IfErr, IfOk};
 ghost use Rattle.pldm_wire.specs.AnswerReading.{answer_of};
 ghost use Rattle.pldm_wire.specs.Commands.{kind_of};

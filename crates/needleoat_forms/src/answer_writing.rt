@@ -1,3 +1,5 @@
+//! The response that the struct of its fields says, written to a room of C.
+
 ghost use Rattle.std.specs.Prelude.{◌≡◌, OnSome, option_map};
 ghost use Rattle.pldm_wire.specs.Answers.{IsAnswerTo};
 ghost use Rattle.pldm_wire.specs.Crc.{crc};
@@ -48,8 +50,8 @@ pub fn answer_write(fields: &AnswerFields, out: &mut [u8; MAX_MESSAGE_BYTES]) ->
     }
 }
 
-/// Puts the answer that these fields are into `answer`, where there is one of this kind and code and they are in range.
-/// The instance ID is not looked at. Where there is none, what `answer` then holds is not specified.
+/// Puts the answer with these fields into `answer`, where there is an answer of this kind and code and they are in
+/// range. The instance ID is not looked at. Where there is none, what `answer` then holds is not specified.
 #[tactic(auto, unfolding(crate::specs::Answers::answer_in))]
 pub fn put_answer_of(fields: &AnswerFields, answer: &mut Answer) -> Option<()>
     ensures answer { option_map (λ _. answer.new) result ≡ answer_in fields.now }

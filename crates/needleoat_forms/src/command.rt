@@ -1,3 +1,5 @@
+//! The struct by which a command crosses to C: the fields of a request (DSP0240, DSP0248).
+
 ghost use Rattle.std.specs.Prelude.{◌≡◌, Some};
 ghost use Rattle.needleoat_forms.specs.Commands.{command_in};
 

@@ -1,3 +1,5 @@
+//! A request read into the struct of its fields for C, or the numbers that say why there is no command.
+
 ghost use Rattle.pldm_wire.specs.Requests.{request_of};
 ghost use Rattle.needleoat_forms.specs.Commands.{IsCommandRead};
 

@@ -1,3 +1,5 @@
+//! The request that the struct of its fields says, written to a room of C.
+
 ghost use Rattle.std.specs.Prelude.{◌≡◌};
 ghost use Rattle.needleoat_forms.specs.Commands.{base_command_in, command_in, number_in, platform_command_in, request_in};
 ghost use Rattle.needleoat_forms.specs.Written.{IsWritten};

@@ -1,3 +1,5 @@
+//! The header of a message as a struct for C, read from bytes (DSP0240, "PLDM message fields").
+
 ghost use Rattle.std.specs.Prelude.{◌≡◌};
 ghost use Rattle.pldm_wire.specs.Requests.{request_of};
 ghost use Rattle.pldm_wire.specs.Responses.{response_of};

@@ -1,3 +1,5 @@
+//! Packets read and written by a struct of their fields for C (DSP0236, "MCTP packet fields").
+
 ghost use Rattle.std.specs.Prelude.{◌≡◌, ◌+◌, ◌-◌, ◌/◌, ◌<◌, ◌≤◌, Some, length};
 ghost use Rattle.mctp_packet.specs.Ids.{IsEid};
 ghost use Rattle.mctp_packet.specs.Packets.{written};
@@ -8,8 +10,8 @@ ghost use Rattle.needleoat_forms.specs.Written.{HasFront, IsUntouched};
 
 use crate::room::put_front;
 use mctp_packet::{
-    Eid, MAX_MESSAGE_BYTES, MAX_PACKET_BYTES, PacketRef, Route, Tag, UNIT, packet_at, read_for,
-    write,
+    BASELINE_UNIT, Eid, MAX_MESSAGE_BYTES, MAX_PACKET_BYTES, PacketRef, Route, Tag, packet_at,
+    read_for, write,
 };
 
 /// The `reason` of a packet that is read at an endpoint ID that is none.
@@ -99,14 +101,14 @@ pub fn packet_read(own: u8, bytes: &[u8]) -> PacketFields
 /// How many packets a message of so many bytes has (DSP0236, "Packetizing a message"): 1 to 5, and
 /// 0 where there are no bytes or more than [`MAX_MESSAGE_BYTES`].
 pub fn packet_count(bytes: u32) -> u32
-    ensures count { bytes ≤ MAX_MESSAGE_BYTES → result ≡ (bytes + (UNIT - 1)) / UNIT }
+    ensures count { bytes ≤ MAX_MESSAGE_BYTES → result ≡ (bytes + (BASELINE_UNIT - 1)) / BASELINE_UNIT }
     ensures too_long { MAX_MESSAGE_BYTES < bytes → result ≡ 0 }
 {
     let bytes = bytes as usize;
     if bytes > MAX_MESSAGE_BYTES {
         return 0;
     }
-    bytes.div_ceil(UNIT) as u32
+    bytes.div_ceil(BASELINE_UNIT) as u32
 }
 
 /// Writes packet `index` of a message, counted from 0, to the front of `out`, and returns its

@@ -1,3 +1,5 @@
+//! Bytes copied to the front of a room that C gives.
+
 ghost use Rattle.std.specs.Prelude.{◌≤◌, length};
 ghost use Rattle.mctp_packet.specs.declared.TheConstants.{MAX_MESSAGE_BYTES};
 ghost use Rattle.needleoat_forms.specs.Written.{HasFront};

@@ -1,4 +1,4 @@
-//! Structs of a name as the platform data records that they are.
+//! The records of the names of sensors, effecters and entities, made from the structs of C.
 
 ghost use Rattle.std.specs.Prelude.{◌≡◌, ◌+◌, ◌++◌, ◌≤◌, length, option_map};
 ghost use Rattle.arrayvec.specs.ArrayVec.{array_vec_len};

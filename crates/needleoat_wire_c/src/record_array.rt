@@ -27,7 +27,7 @@ pub struct Summary {
     pub largest: u32,
 }
 
-/// The summary of the records that the bytes are, where they are such as a repository may have.
+/// The summary of the records in the bytes, where a repository may have just these records.
 pub(crate) fn summary_of(bytes: &[u8]) -> Option<Summary>
     ensures { result ≡ summary_in bytes.now }
 {

@@ -23,9 +23,9 @@ use pldm_wire::TIME_BYTES;
 /// Answers GetPDRRepositoryInfo and GetPDR for the records that stand one after another in an array, as a repository of
 /// them does (DSP0248, "GetPDRRepositoryInfo command" and "GetPDR command"), with these two times of its last change.
 /// The answer is put into `fields`, with the command's instance ID, and 0 is returned. Otherwise `fields` is left as it
-/// was: [`OTHER_COMMAND`] is returned for any other command, and [`NO_RECORDS`] where the array has more than its
-/// records: one that is cut short or has another header version, the handle 0 or that of another one; or more than
-/// 1,000.
+/// was: [`OTHER_COMMAND`] is returned for any other command, and [`NO_RECORDS`] where the array is not a list of whole
+/// records: where one is cut short, has another header version, or has the handle 0 or that of another record, or where
+/// there are more than 1,000.
 #[unsafe(no_mangle)]
 pub extern "C" fn needleoat_records_answer(
     records: &[u8],
@@ -127,8 +127,8 @@ pub extern "C" fn needleoat_sensor_name_record_write(
 }
 
 /// Writes a record of an effecter's name to the front of `out`, and returns its length in bytes (DSP0248,
-/// "Effecter auxiliary names PDR"). Returns 0 and leaves `out` as it was where the record handle is 0, where a code unit
-/// of the name is 0 or there are more than 140, and where `out` is too short.
+/// "Effecter auxiliary names PDR"). Returns 0 and leaves `out` as it was where the record handle is 0, where a code
+/// unit of the name is 0 or there are more than 140, and where `out` is too short.
 #[unsafe(no_mangle)]
 pub extern "C" fn needleoat_effecter_name_record_write(
     fields: &EffecterNameFields,

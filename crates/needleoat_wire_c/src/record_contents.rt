@@ -1,4 +1,4 @@
-//! Structs of fields as the platform data records that they are.
+//! The records of terminus locators, sensors and effecters, made from the structs of their fields for C.
 
 ghost use Rattle.std.specs.Prelude.{◌≡◌, ◌≤◌, None, length, map, take};
 ghost use Rattle.std.specs.Bool.{OnTrue};

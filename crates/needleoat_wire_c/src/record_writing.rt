@@ -19,9 +19,9 @@ pub(crate) fn record_of(handle: u32, change_number: u16, contents: RecordData) -
     Record::new(handle, change_number, contents)
 }
 
-/// Writes a record to the front of a room, and returns its length in bytes. Returns 0 and leaves the room as it was where
-/// there is none, and where the room is too short.
-// Not inlined: what is here and what the record is made of are not on the stack at once.
+/// Writes a record to the front of a room, and returns its length in bytes. Returns 0 and leaves the room as it was
+/// where there is no record, and where the room is too short.
+// Not inlined: what this call needs of the stack and what the record is made of are then not there at the same time.
 #[inline(never)]
 pub(crate) fn put_record(pdr: &Option<Record>, out: &mut [u8]) -> u32
     ensures { IsWritten (bytes_in_room (length out.old) pdr.now) result out.old out.new }

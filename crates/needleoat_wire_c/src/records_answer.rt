@@ -31,8 +31,8 @@ const REPOSITORY_AVAILABLE: u8 = 0;
 /// No timeout between the parts of a record (DSP0248, "GetPDRRepositoryInfo command").
 const NO_TRANSFER_TIMEOUT: u8 = 0;
 
-/// Puts the answer of the records that the bytes are to GetPDRRepositoryInfo or GetPDR into `fields`, and returns 0.
-/// Returns [`OTHER_COMMAND`] or [`NO_RECORDS`] and leaves `fields` as it was where there is none.
+/// Puts the answer to GetPDRRepositoryInfo or GetPDR over the records in the bytes into `fields`, and returns 0. Where
+/// there is no answer, it leaves `fields` as it was and returns [`OTHER_COMMAND`] or [`NO_RECORDS`].
 pub(crate) fn records_answer(
     records: &[u8],
     update_time: &[u8; TIME_BYTES],

@@ -9,7 +9,7 @@ use Rattle.pldm_device.specs.Devices.{Device}
 use Rattle.pldm_device.specs.EffecterEntries.{numeric_effecters_in, state_effecters_in}
 use Rattle.pldm_device.specs.EndpointSettings.{busy_in, window_in}
 use Rattle.pldm_device.specs.Entries.{entries_at}
-use Rattle.pldm_device.specs.HexValues.{time_in}
+use Rattle.pldm_device.specs.HexValues.{time_at}
 use Rattle.pldm_device.specs.KeyValues.{◌>>=◌, number_at, value_at}
 use Rattle.pldm_device.specs.RecordEntries.{record_of, records_after, records_in, with_record}
 use Rattle.pldm_device.specs.RecordLaws.{DescribedHandlesDiffer, HandlesDiffer}
@@ -55,9 +55,9 @@ device_with tid versions update_time oem_update_time numeric_sensors state_senso
 plain_differ : (tid : ℕ) (document : Members) (device : Device) → device_of tid document ≡ Ok device → HandlesDiffer device.records
 unfolding device_of
 plain_differ tid document device e =
-    let s0 = came (both_versions_in document) (λ versions. value_at (codes "update_time") document >>= time_in >>= λ update_time. value_at (codes "oem_update_time") document >>= time_in >>= λ oem_update_time. numeric_sensors_in document >>= λ numeric_sensors. state_sensors_in numeric_sensors document >>= λ state_sensors. numeric_effecters_in document >>= λ numeric_effecters. state_effecters_in numeric_effecters document >>= λ state_effecters. records_in document >>= λ records. Ok (device_with tid versions update_time oem_update_time numeric_sensors state_sensors numeric_effecters state_effecters records)) device e in
-    let s1 = came (value_at (codes "update_time") document >>= time_in) (λ update_time. value_at (codes "oem_update_time") document >>= time_in >>= λ oem_update_time. numeric_sensors_in document >>= λ numeric_sensors. state_sensors_in numeric_sensors document >>= λ state_sensors. numeric_effecters_in document >>= λ numeric_effecters. state_effecters_in numeric_effecters document >>= λ state_effecters. records_in document >>= λ records. Ok (device_with tid s0.value update_time oem_update_time numeric_sensors state_sensors numeric_effecters state_effecters records)) device s0.next in
-    let s2 = came (value_at (codes "oem_update_time") document >>= time_in) (λ oem_update_time. numeric_sensors_in document >>= λ numeric_sensors. state_sensors_in numeric_sensors document >>= λ state_sensors. numeric_effecters_in document >>= λ numeric_effecters. state_effecters_in numeric_effecters document >>= λ state_effecters. records_in document >>= λ records. Ok (device_with tid s0.value s1.value oem_update_time numeric_sensors state_sensors numeric_effecters state_effecters records)) device s1.next in
+    let s0 = came (both_versions_in document) (λ versions. time_at (codes "update_time") document >>= λ update_time. time_at (codes "oem_update_time") document >>= λ oem_update_time. numeric_sensors_in document >>= λ numeric_sensors. state_sensors_in numeric_sensors document >>= λ state_sensors. numeric_effecters_in document >>= λ numeric_effecters. state_effecters_in numeric_effecters document >>= λ state_effecters. records_in document >>= λ records. Ok (device_with tid versions update_time oem_update_time numeric_sensors state_sensors numeric_effecters state_effecters records)) device e in
+    let s1 = came (time_at (codes "update_time") document) (λ update_time. time_at (codes "oem_update_time") document >>= λ oem_update_time. numeric_sensors_in document >>= λ numeric_sensors. state_sensors_in numeric_sensors document >>= λ state_sensors. numeric_effecters_in document >>= λ numeric_effecters. state_effecters_in numeric_effecters document >>= λ state_effecters. records_in document >>= λ records. Ok (device_with tid s0.value update_time oem_update_time numeric_sensors state_sensors numeric_effecters state_effecters records)) device s0.next in
+    let s2 = came (time_at (codes "oem_update_time") document) (λ oem_update_time. numeric_sensors_in document >>= λ numeric_sensors. state_sensors_in numeric_sensors document >>= λ state_sensors. numeric_effecters_in document >>= λ numeric_effecters. state_effecters_in numeric_effecters document >>= λ state_effecters. records_in document >>= λ records. Ok (device_with tid s0.value s1.value oem_update_time numeric_sensors state_sensors numeric_effecters state_effecters records)) device s1.next in
     let s3 = came (numeric_sensors_in document) (λ numeric_sensors. state_sensors_in numeric_sensors document >>= λ state_sensors. numeric_effecters_in document >>= λ numeric_effecters. state_effecters_in numeric_effecters document >>= λ state_effecters. records_in document >>= λ records. Ok (device_with tid s0.value s1.value s2.value numeric_sensors state_sensors numeric_effecters state_effecters records)) device s2.next in
     let s4 = came (state_sensors_in s3.value document) (λ state_sensors. numeric_effecters_in document >>= λ numeric_effecters. state_effecters_in numeric_effecters document >>= λ state_effecters. records_in document >>= λ records. Ok (device_with tid s0.value s1.value s2.value s3.value state_sensors numeric_effecters state_effecters records)) device s3.next in
     let s5 = came (numeric_effecters_in document) (λ numeric_effecters. state_effecters_in numeric_effecters document >>= λ state_effecters. records_in document >>= λ records. Ok (device_with tid s0.value s1.value s2.value s3.value s4.value numeric_effecters state_effecters records)) device s4.next in

@@ -2,8 +2,7 @@ pub mod DocumentText
 pub mod Changed
 pub mod Counts
 mod EntityNumbers
-mod LongDivision
-mod WorkedChecksums
+mod TableRefused
 mod LargestHandles
 mod HandlesApart
 mod RecordsMade

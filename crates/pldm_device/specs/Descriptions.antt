@@ -7,8 +7,8 @@ use Rattle.pldm_device.specs.Devices.{Device}
 use Rattle.pldm_device.specs.Documents.{document_of}
 use Rattle.pldm_device.specs.EffecterEntries.{numeric_effecters_in, state_effecters_in}
 use Rattle.pldm_device.specs.EndpointSettings.{busy_in, window_in}
-use Rattle.pldm_device.specs.HexValues.{time_in}
-use Rattle.pldm_device.specs.KeyValues.{◌>>=◌, number_at, value_at}
+use Rattle.pldm_device.specs.HexValues.{time_at}
+use Rattle.pldm_device.specs.KeyValues.{◌>>=◌, number_at}
 use Rattle.pldm_device.specs.RecordEntries.{records_in}
 use Rattle.pldm_device.specs.RecordTables.{with_records}
 use Rattle.pldm_device.specs.SensorEntries.{numeric_sensors_in, state_sensors_in}
@@ -20,8 +20,8 @@ use Rattle.pldm_device.specs.declared.description_fault.FileFault.{FileFault}
 unfoldable pub device_of : ℕ → Members → Result Device FileFault
 device_of tid document = do
   versions ← both_versions_in document
-  update_time ← value_at (codes "update_time") document >>= time_in
-  oem_update_time ← value_at (codes "oem_update_time") document >>= time_in
+  update_time ← time_at (codes "update_time") document
+  oem_update_time ← time_at (codes "oem_update_time") document
   numeric_sensors ← numeric_sensors_in document
   state_sensors ← state_sensors_in numeric_sensors document
   numeric_effecters ← numeric_effecters_in document

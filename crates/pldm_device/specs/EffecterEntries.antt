@@ -24,17 +24,21 @@ not_below min number = if int_le min number.value then Ok number else Err OutOfR
 abbrev pub not_above : ℤ → SizedNumber → Result SizedNumber FileFault
 not_above max number = if int_le number.value max then Ok number else Err OutOfRange
 
--- the number of the size at a key, not below the other
-abbrev pub number_from : List ℕ → Size → ℤ → Members → Result SizedNumber FileFault
-number_from key size min entry = value_at key entry >>= sized_in size >>= not_below min
+-- a number of the size, not below the other
+abbrev pub number_from : Size → ℤ → Data → Result SizedNumber FileFault
+number_from size min value = sized_in size value >>= not_below min
+
+-- the value of an effecter of the size, from one number to another
+abbrev pub value_between : Size → ℤ → ℤ → Members → Result SizedNumber FileFault
+value_between size min max entry = value_at (codes "value") entry >>= number_from size min >>= not_above max
 
 abbrev pub numeric_effecter_in : Members → Result (ℕ × NumericEffecter) FileFault
 numeric_effecter_in entry = do
   id ← id_at entry
   size ← value_at (codes "size") entry >>= size_in
   min ← value_at (codes "min") entry >>= sized_in size
-  max ← number_from (codes "max") size min.value entry
-  value ← number_from (codes "value") size min.value entry >>= not_above max.value
+  max ← value_at (codes "max") entry >>= number_from size min.value
+  value ← value_between size min.value max.value entry
   Ok (id, record { min = min.value; max = max.value; value = value })
 
 abbrev pub numeric_effecter_of : Data → Result (ℕ × NumericEffecter) FileFault

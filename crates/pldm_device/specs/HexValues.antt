@@ -2,12 +2,12 @@
 use Rattle.std.specs.Prelude.{ℕ, ◌==◌, List, length, Result, Ok, Err, if◌then◌else◌}
 use Rattle.hex.specs.Hex.{decode_of}
 use Rattle.hex.specs.declared.error.FromHexError.{FromHexError}
-use Rattle.toml.specs.Data.{Data}
+use Rattle.toml.specs.Data.{Data, Members}
 use Rattle.pldm_wire.specs.Versions.{is_version_data}
 use Rattle.pldm_wire.specs.declared.limits.TheConstants.{TIME_BYTES}
 use Rattle.pldm_device.specs.declared.description_fault.FileFault.{FileFault}
 use Rattle.pldm_device.specs.declared.description_fault.FileFault.TheVariants.{BadHex, OutOfRange}
-use Rattle.pldm_device.specs.KeyValues.{◌>>=◌, text_in}
+use Rattle.pldm_device.specs.KeyValues.{◌>>=◌, text_in, value_at}
 
 abbrev pub decoded : Result (List ℕ) FromHexError → Result (List ℕ) FileFault
 decoded (Ok bytes) = Ok bytes
@@ -24,6 +24,6 @@ versions_in value = bytes_in value >>= λ bytes. if is_version_data bytes then O
 abbrev pub exactly_in : ℕ → Data → Result (List ℕ) FileFault
 exactly_in count value = bytes_in value >>= λ bytes. if length bytes == count then Ok bytes else Err OutOfRange
 
--- a time of thirteen bytes
-abbrev pub time_in : Data → Result (List ℕ) FileFault
-time_in = exactly_in TIME_BYTES
+-- a time of thirteen bytes, at the key
+abbrev pub time_at : List ℕ → Members → Result (List ℕ) FileFault
+time_at key document = value_at key document >>= exactly_in TIME_BYTES

@@ -10,6 +10,7 @@ pub mod EndpointSettings
 pub mod Descriptions
 pub mod Documents
 pub mod FileFaults
+pub mod Paths
 pub mod KeyValues
 pub mod NumberLists
 pub mod SizeNames
@@ -18,7 +19,6 @@ pub mod Entries
 pub mod SensorEntries
 pub mod EffecterEntries
 pub mod RecordEntries
-pub mod Crc32
 pub mod VersionChecksums
 pub mod UnitNames
 pub mod RecordNames

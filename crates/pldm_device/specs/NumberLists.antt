@@ -42,9 +42,13 @@ abbrev pub are_number_lists : Items → Bool
 are_number_lists no_items = true
 are_number_lists (item value rest) = is_ok (integers_in value) && are_number_lists rest
 
+-- the items, all of which have to be arrays of integers
+abbrev pub number_lists_of : Items → Result Items FileFault
+number_lists_of items = if are_number_lists items then Ok items else Err WrongKind
+
 -- the items of an array of arrays of integers
 abbrev pub number_lists_in : Data → Result Items FileFault
-number_lists_in value = array_in value >>= λ lists. if are_number_lists lists then Ok lists else Err WrongKind
+number_lists_in value = array_in value >>= number_lists_of
 
 -- as many items as a composite sensor or effecter has fields at most
 abbrev pub not_too_many_fields : Items → Result Items FileFault

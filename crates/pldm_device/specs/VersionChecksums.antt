@@ -5,7 +5,7 @@ use Rattle.pldm_device.specs.HexValues.{versions_in}
 use Rattle.pldm_device.specs.KeyValues.{◌>>=◌, flag_at, value_at}
 use Rattle.toml.specs.Data.{Members}
 use Rattle.pldm_wire.specs.Versions.{is_version_data}
-use Rattle.pldm_device.specs.Crc32.{crc32}
+use Rattle.pldm_wire.specs.Crc32.{crc32}
 use Rattle.pldm_device.specs.declared.description_fault.FileFault.{FileFault}
 use Rattle.pldm_device.specs.declared.description_fault.FileFault.TheVariants.{OutOfRange}
 

@@ -12,6 +12,8 @@ use crate::document::read_document;
 use crate::hex_values::exactly_in;
 use crate::keys::{flag_at, table_in, value_if_any};
 use crate::limits::{UUID_BYTES, VERSION_BYTES};
+use crate::path::Path;
+use crate::refusal::Refusal;
 use std::alloc::Global;
 use toml::Table;
 
@@ -43,8 +45,19 @@ impl ControlTable {
     /// says. Bytes that are no TOML are `Toml`, and a `control` that is no table is `WrongKind`. The keys are looked at
     /// in the order above, and at each `WrongKind` comes before `BadHex`, and that before `OutOfRange`, which is for
     /// another count of bytes. `Memory` is for a growth that was refused, which no text without content needs.
-    #[tactic(auto, unfolding(crate::specs::ControlTables::control_of))]
     pub fn read(alloc: Global, bytes: &[u8]) -> Result<ControlTable, FileFault>
+        ensures { IsOrMemoryWhere (¬ IsBlank bytes.now) result (control_of bytes.now) }
+    {
+        match ControlTable::read_or_refusal(alloc, bytes) {
+            Ok(table) => Ok(table),
+            Err(refusal) => Err(refusal.fault()),
+        }
+    }
+
+    /// Reads the table as [`ControlTable::read`] does, and where it is refused, tells where its first fault is and what
+    /// is allowed there.
+    #[tactic(auto, unfolding(crate::specs::ControlTables::control_of))]
+    pub fn read_or_refusal(alloc: Global, bytes: &[u8]) -> Result<ControlTable, Refusal>
         ensures { IsOrMemoryWhere (¬ IsBlank bytes.now) result (control_of bytes.now) }
     {
         in_document(alloc, &read_document(alloc, bytes)?)
@@ -52,12 +65,12 @@ impl ControlTable {
 }
 
 /// The table of a whole document.
-fn in_document(alloc: Global, document: &Table) -> Result<ControlTable, FileFault>
+fn in_document(alloc: Global, document: &Table) -> Result<ControlTable, Refusal>
     ensures { IsOrMemoryWhere (IsSome (get_member (codes "control") (table_view document.now))) result (control_in
         (table_view document.now)) }
 {
     match value_if_any(document, "control") {
-        Some(value) => in_table(alloc, table_in(value)?),
+        Some(value) => in_table(alloc, table_in(value, Path::whole().key("control"))?),
         None => Ok(ControlTable {
             uuid: None,
             base_version: None,
@@ -70,14 +83,14 @@ fn in_document(alloc: Global, document: &Table) -> Result<ControlTable, FileFaul
 
 /// What the keys of the table say.
 #[tactic(auto, unfolding(crate::specs::ControlTables::control_table_of))]
-fn in_table(alloc: Global, table: &Table) -> Result<ControlTable, FileFault>
+fn in_table(alloc: Global, table: &Table) -> Result<ControlTable, Refusal>
     ensures { IsOrMemory result (control_table_of (table_view table.now)) }
 {
     let uuid = bytes_at(alloc, table, "uuid")?;
     let base_version = bytes_at(alloc, table, "base_version")?;
     let control_version = bytes_at(alloc, table, "control_version")?;
     let pldm_version = bytes_at(alloc, table, "pldm_version")?;
-    let assigned = flag_at(table, "assigned")?;
+    let assigned = flag_at(table, "assigned", Path::table("control"))?;
     Ok(ControlTable {
         uuid,
         base_version,
@@ -91,12 +104,15 @@ fn in_table(alloc: Global, table: &Table) -> Result<ControlTable, FileFault>
 fn bytes_at<const N: usize>(
     alloc: Global,
     table: &Table,
-    key: &str,
-) -> Result<Option<[u8; N]>, FileFault>
+    key: &'static str,
+) -> Result<Option<[u8; N]>, Refusal>
     ensures { IsOrMemory result (bytes_at key.now N (table_view table.now)) }
 {
     match value_if_any(table, key) {
-        Some(value) => Ok(Some(exactly_in(alloc, value)?)),
+        Some(value) => {
+            let at = Path::table("control").key(key);
+            Ok(Some(exactly_in(alloc, value, at)?))
+        }
         None => Ok(None),
     }
 }

@@ -7,16 +7,19 @@ ghost use Rattle.toml.specs.Errors.{IsBlank};
 ghost use Rattle.toml.specs.Data.{get_member};
 ghost use Rattle.toml.specs.View.{table_view};
 
+use crate::allowed::Allowed;
 use crate::description_fault::FileFault;
 use crate::device::SimDevice;
 use crate::document::read_document;
 use crate::effecter_entries::{numeric_effecters_in, state_effecters_in};
 use crate::endpoint_settings::{busy_in, window_in};
-use crate::hex_values::time_in;
-use crate::keys::{number_at, value_at};
+use crate::hex_values::time_at;
+use crate::keys::number_at;
 use crate::limits::MAX_TID;
+use crate::path::Path;
 use crate::record_entries::records_in;
 use crate::record_table::with_records;
+use crate::refusal::Refusal;
 use crate::sensor_entries::{numeric_sensors_in, state_sensors_in};
 use crate::version_checksum::both_versions_in;
 use mctp_packet::{Eid, Keep, MAX_EID, MAX_KEEP, MIN_EID};
@@ -73,8 +76,20 @@ impl Description {
     /// sensor ID of an earlier sensor, of either kind, for an effecter ID of an earlier effecter and
     /// for a record handle of an earlier record; it comes after an entry's keys. `Memory` is for a
     /// growth that was refused, which no text without content needs.
-    #[tactic(auto, unfolding(crate::specs::Descriptions::stated))]
     pub fn read(alloc: Global, bytes: &[u8]) -> Result<Description, FileFault>
+        ensures stated { IsOrMemoryWhere (¬ IsBlank bytes.now) result (stated bytes.now) }
+        ensures range { IfOk result IsInRange }
+    {
+        match Description::read_or_refusal(alloc, bytes) {
+            Ok(description) => Ok(description),
+            Err(refusal) => Err(refusal.fault()),
+        }
+    }
+
+    /// Reads a description as [`Description::read`] does, and where it is refused, tells where its first fault is and
+    /// what is allowed there.
+    #[tactic(auto, unfolding(crate::specs::Descriptions::stated))]
+    pub fn read_or_refusal(alloc: Global, bytes: &[u8]) -> Result<Description, Refusal>
         ensures stated { IsOrMemoryWhere (¬ IsBlank bytes.now) result (stated bytes.now) }
         ensures range { IfOk result IsInRange }
     {
@@ -84,16 +99,17 @@ impl Description {
 
 // The description that the table of a whole document states.
 #[tactic(auto, using(crate::proofs::Blank::number_is_there), unfolding(crate::specs::Descriptions::description_of))]
-fn in_document(alloc: Global, table: &Table) -> Result<Description, FileFault>
+fn in_document(alloc: Global, table: &Table) -> Result<Description, Refusal>
     ensures stated { IsOrMemoryWhere (IsSome (get_member (codes "eid") (table_view table.now))) result (description_of
         (table_view table.now)) }
     ensures range { IfOk result IsInRange }
 {
-    let eid = number_at(table, "eid", MIN_EID.into(), MAX_EID.into())?;
-    let keep = number_at(table, "keep_ms", 1, MAX_KEEP)?;
+    let whole = Path::whole();
+    let eid = number_at(table, "eid", MIN_EID.into(), MAX_EID.into(), whole)?;
+    let keep = number_at(table, "keep_ms", 1, MAX_KEEP, whole)?;
     let window = window_in(table)?;
     let busy = busy_in(table)?;
-    let tid = number_at(table, "tid", 0, MAX_TID)?;
+    let tid = number_at(table, "tid", 0, MAX_TID, whole)?;
     let plain = device_in(alloc, table, tid as u8)?;
     let device = with_records(alloc, table, eid as u8, plain)?;
     Ok(Description {
@@ -107,12 +123,12 @@ fn in_document(alloc: Global, table: &Table) -> Result<Description, FileFault>
 
 // The device with this terminus ID that the table of a whole document states.
 #[tactic(auto, unfolding(crate::specs::Descriptions::device_of))]
-fn device_in(alloc: Global, table: &Table, tid: u8) -> Result<SimDevice, FileFault>
+fn device_in(alloc: Global, table: &Table, tid: u8) -> Result<SimDevice, Refusal>
     ensures { IsOrMemory result (device_of tid (table_view table.now)) }
 {
     let (base_versions, platform_versions) = both_versions_in(alloc, table)?;
-    let update_time = time_in(alloc, value_at(table, "update_time")?)?;
-    let oem_update_time = time_in(alloc, value_at(table, "oem_update_time")?)?;
+    let update_time = time_at(alloc, table, "update_time")?;
+    let oem_update_time = time_at(alloc, table, "oem_update_time")?;
     let numeric_sensors = numeric_sensors_in(alloc, table)?;
     let state_sensors = state_sensors_in(alloc, table, &numeric_sensors)?;
     let numeric_effecters = numeric_effecters_in(alloc, table)?;

@@ -7,13 +7,16 @@ ghost use Rattle.pldm_device.specs.KeyValues.{map_ok};
 ghost use Rattle.toml.specs.Errors.{IsBlank};
 ghost use Rattle.toml.specs.View.{table_view};
 
+use crate::allowed::Allowed;
 use crate::description_fault::FileFault;
+use crate::path::Path;
+use crate::refusal::Refusal;
 use std::alloc::{AllocError, Global};
 use toml::Table;
 
 /// The document that the bytes are; `Toml` where they are none. `Memory` is for a growth that was
 /// refused, which no text without content needs.
-pub(crate) fn read_document(alloc: Global, bytes: &[u8]) -> Result<Table, FileFault>
+pub(crate) fn read_document(alloc: Global, bytes: &[u8]) -> Result<Table, Refusal>
     ensures { (IsErrOf result (FileFault.Memory out_of_memory) × ¬ IsBlank bytes.now)
         ⊎ (map_ok table_view result ≡ document_of bytes.now) }
 {
@@ -24,7 +27,7 @@ pub(crate) fn read_document(alloc: Global, bytes: &[u8]) -> Result<Table, FileFa
             if error.is_memory() {
                 Err(AllocError.into())
             } else {
-                Err(FileFault::Toml)
+                Err(Refusal::new(FileFault::Toml, Path::whole(), Allowed::Untold))
             }
         }
     }

@@ -6,14 +6,17 @@ ghost use Rattle.pldm_device.specs.FileFaults.{IsOrMemory};
 ghost use Rattle.pldm_device.specs.SensorRecords.{possible};
 ghost use Rattle.toml.specs.View.{table_view};
 
+use crate::allowed::Allowed;
 use crate::description_fault::FileFault;
 use crate::entries::id_at;
 use crate::limits::TERMINUS_HANDLE;
 use crate::made_records::{MadeRecords, with_made};
+use crate::path::Path;
 use crate::record_keys::{
     NormalRange, entity_at, name_at, normal_range_at, state_set_at, units_at,
 };
 use crate::record_names::Name;
+use crate::refusal::Refusal;
 use crate::sensor_records::{conversion_of, normal_support, number_or_zero, possible};
 use crate::{AllowedStates, NumericEffecter, StateEffecter};
 use arrayvec::ArrayVec;
@@ -30,16 +33,17 @@ pub(crate) fn numeric_effecter_made(
     default: Entity,
     entry: &Table,
     made: MadeRecords,
-) -> Result<MadeRecords, FileFault>
+    at: Path<'static>,
+) -> Result<MadeRecords, Refusal>
     ensures { IsOrMemory result (numeric_effecter_made effecters.now.entries default (table_view entry.now) made) }
 {
-    let id = id_at(entry)?;
+    let id = id_at(entry, at)?;
     let Some(effecter) = effecters.get(&id) else {
-        return Err(FileFault::MissingKey);
+        return Err(FileFault::MissingKey.into());
     };
-    let name = name_at(entry)?;
-    let entity = entity_at(entry, default)?;
-    let contents = numeric_effecter_data(entry, id, effecter, entity, name.is_some())?;
+    let name = name_at(entry, at)?;
+    let entity = entity_at(entry, default, at)?;
+    let contents = numeric_effecter_data(entry, id, effecter, entity, name.is_some(), at)?;
     let more = with_made(alloc, made, contents)?;
     effecter_named(alloc, id, 1, name, more)
 }
@@ -51,12 +55,13 @@ fn numeric_effecter_data(
     effecter: &NumericEffecter,
     entity: Entity,
     has_name: bool,
-) -> Result<RecordData, FileFault>
+    at: Path<'static>,
+) -> Result<RecordData, Refusal>
     ensures { result ≡ numeric_effecter_data id effecter.now entity has_name (table_view entry.now) }
 {
-    let units = units_at(entry)?;
+    let units = units_at(entry, at)?;
     let size = effecter.value.size();
-    let normal = normal_range_at(entry, size)?;
+    let normal = normal_range_at(entry, size, at)?;
     Ok(RecordData::NumericEffecter(pldm_pdr::NumericEffecter {
         terminus_handle: TERMINUS_HANDLE,
         effecter_id: id,
@@ -97,7 +102,7 @@ fn effecter_named(
     count: u8,
     name: Option<Name>,
     made: MadeRecords,
-) -> Result<MadeRecords, FileFault>
+) -> Result<MadeRecords, Refusal>
     requires least { 1 ≤ count }
     requires most { count ≤ MAX_STATES }
     ensures { IsOrMemory result (effecter_named id count name made) }
@@ -123,17 +128,18 @@ pub(crate) fn state_effecter_made(
     default: Entity,
     entry: &Table,
     made: MadeRecords,
-) -> Result<MadeRecords, FileFault>
+    at: Path<'static>,
+) -> Result<MadeRecords, Refusal>
     ensures { IsOrMemory result (state_effecter_made effecters.now.entries default (table_view entry.now) made) }
 {
-    let id = id_at(entry)?;
+    let id = id_at(entry, at)?;
     let Some(effecter) = effecters.get(&id) else {
-        return Err(FileFault::MissingKey);
+        return Err(FileFault::MissingKey.into());
     };
-    let name = name_at(entry)?;
-    let entity = entity_at(entry, default)?;
+    let name = name_at(entry, at)?;
+    let entity = entity_at(entry, default, at)?;
     let allowed = effecter.allowed();
-    let contents = state_effecter_data(entry, id, allowed, entity, name.is_some())?;
+    let contents = state_effecter_data(entry, id, allowed, entity, name.is_some(), at)?;
     let more = with_made(alloc, made, contents)?;
     effecter_named(alloc, id, effecter.states().len() as u8, name, more)
 }
@@ -145,12 +151,14 @@ fn state_effecter_data(
     allowed: &[AllowedStates],
     entity: Entity,
     has_name: bool,
-) -> Result<RecordData, FileFault>
+    at: Path<'static>,
+) -> Result<RecordData, Refusal>
     ensures { result ≡ state_effecter_data id allowed.now entity has_name (table_view entry.now) }
 {
-    let state_set = state_set_at(entry)?;
+    let state_set = state_set_at(entry, at)?;
     if allowed.len() > MAX_STATES {
-        return Err(FileFault::OutOfRange);
+        let at = at.key("allowed");
+        return Err(Refusal::new(FileFault::OutOfRange, at, Allowed::FieldStates));
     }
     Ok(RecordData::StateEffecter(pldm_pdr::StateEffecter {
         terminus_handle: TERMINUS_HANDLE,

@@ -1,8 +1,8 @@
 //! A simulated device behind a PLDM terminus, and the description that states it.
 #![tactic(auto)]
 
+mod allowed;
 mod control_table;
-pub mod crc32;
 mod description;
 mod description_fault;
 mod device;
@@ -17,12 +17,14 @@ mod limits;
 mod made_records;
 mod number_lists;
 mod numeric;
+mod path;
 mod performing;
 mod record_entries;
 mod record_keys;
 pub mod record_laws;
 mod record_names;
 mod record_table;
+mod refusal;
 mod sensor_entries;
 mod sensor_records;
 mod size_names;
@@ -30,11 +32,14 @@ mod state_effecter;
 mod unit_names;
 mod version_checksum;
 
+pub use allowed::{Allowed, RecordFlaw};
 pub use control_table::ControlTable;
 pub use description::Description;
 pub use description_fault::FileFault;
 pub use device::SimDevice;
 pub use numeric::{NumericEffecter, NumericSensor};
+pub use path::Path;
 pub use pldm_platform::{Platform, ReadingFault};
 pub use pldm_records::{Fetch, FetchFault, FetchState, MAX_RECORD_BYTES, RECORD_HEADER, laws};
+pub use refusal::Refusal;
 pub use state_effecter::{AllowedStates, StateEffecter};

@@ -55,5 +55,11 @@ pub const TERMINUS_HANDLE: u16 = 1;
 /// The bits of the real32 1.
 pub const ONE: u32 = 0x3f80_0000;
 
+/// The most versions that are told in one part (DSP0240, "GetPLDMVersion command").
+pub const MAX_VERSIONS: usize = 8;
+
+/// The most of them that leave room for their checksum after them.
+pub const MAX_CHECKED_VERSIONS: usize = 7;
+
 /// The most bytes of versions and their checksum (DSP0240, "GetPLDMVersion command").
 pub const CHECKED_VERSION_BYTES: usize = 36;

@@ -4,7 +4,10 @@ ghost use Rattle.std.specs.Prelude.{◌≡◌};
 ghost use Rattle.pldm_device.specs.FileFaults.{IsOrMemory};
 ghost use Rattle.pldm_device.specs.MadeRecords.{largest_handle, made_after, next_handle, record_made, with_made};
 
+use crate::allowed::Allowed;
 use crate::description_fault::FileFault;
+use crate::path::Path;
+use crate::refusal::Refusal;
 use pldm_pdr::RecordData;
 use pldm_records::{MAX_RECORDS, Record, Repository};
 use std::alloc::Global;
@@ -50,7 +53,7 @@ pub(crate) fn with_made(
     alloc: Global,
     made: MadeRecords,
     contents: RecordData,
-) -> Result<MadeRecords, FileFault>
+) -> Result<MadeRecords, Refusal>
     ensures { IsOrMemory result (with_made contents made) }
 {
     let MadeRecords {
@@ -60,10 +63,10 @@ pub(crate) fn with_made(
     let handle = next_handle(last_handle)?;
     let record = record_made(alloc, handle, contents)?;
     if records.count() as usize >= MAX_RECORDS {
-        return Err(FileFault::OutOfRange);
+        return Err(too_many());
     }
     if records.position_of(record.handle()).is_some() {
-        return Err(FileFault::Duplicate);
+        return Err(FileFault::Duplicate.into());
     }
     records.push(record)?;
     Ok(MadeRecords {
@@ -73,26 +76,34 @@ pub(crate) fn with_made(
 }
 
 /// The handle after this one; `OutOfRange` after the greatest.
-fn next_handle(last: u32) -> Result<u32, FileFault>
+fn next_handle(last: u32) -> Result<u32, Refusal>
     ensures { result ≡ next_handle last }
 {
     if last == u32::MAX {
-        Err(FileFault::OutOfRange)
+        Err(too_many())
     } else {
         Ok(last + 1)
     }
 }
 
 /// The record of this handle and data; `OutOfRange` where the data does not fit.
-fn record_made(alloc: Global, handle: u32, contents: RecordData) -> Result<Record, FileFault>
+fn record_made(alloc: Global, handle: u32, contents: RecordData) -> Result<Record, Refusal>
     ensures { IsOrMemory result (record_made contents handle) }
 {
     let Some(pdr) = pldm_pdr::Record::new(handle, 0, contents) else {
-        return Err(FileFault::OutOfRange);
+        return Err(too_many());
     };
     let bytes = Vec::from_slice(alloc, pldm_pdr::write(&pdr).as_slice())?;
     match Record::new(bytes) {
         Some(record) => Ok(record),
-        None => Err(FileFault::BadRecord),
+        None => Err(FileFault::BadRecord.into()),
     }
+}
+
+/// Refuses the table that more records are made for than fit.
+fn too_many() -> Refusal
+    ensures { result ≡ FileFault.OutOfRange }
+{
+    let at = Path::whole().key("records");
+    Refusal::new(FileFault::OutOfRange, at, Allowed::FittingRecords)
 }

@@ -5,20 +5,28 @@ ghost use Rattle.pldm_device.specs.FileFaults.{IsOrMemory};
 ghost use Rattle.pldm_device.specs.RecordTables.{all_made, each_made, entity_named, entry_made, key_of, kind_made, records_if_there, table_made, terminus_located, terminus_made, things_made, with_records};
 ghost use Rattle.toml.specs.View.{items_view, table_view, view};
 
-use crate::description_fault::FileFault;
 use crate::device::SimDevice;
 use crate::effecter_records::{numeric_effecter_made, state_effecter_made};
 use crate::entries::entries_at;
 use crate::keys::{table_in, value_if_any};
 use crate::limits::TERMINUS_HANDLE;
 use crate::made_records::{MadeRecords, with_made};
+use crate::path::Path;
 use crate::record_keys::{entity_at, name_at};
 use crate::record_names::Name;
+use crate::refusal::Refusal;
 use crate::sensor_records::{numeric_sensor_made, state_sensor_made};
 use pldm_pdr::{Entity, EntityNames, RecordData, TerminusLocator};
 use pldm_records::Repository;
 use std::alloc::Global;
 use toml::{Table, Value};
+
+/// The entity of a table that has none.
+const NO_ENTITY: Entity = Entity {
+    entity_type: 0,
+    instance: 0,
+    container_id: 0,
+};
 
 /// The kinds of things that have records.
 #[derive(Clone, Copy, Debug)]
@@ -35,7 +43,7 @@ pub(crate) fn with_records(
     document: &Table,
     eid: u8,
     device: SimDevice,
-) -> Result<SimDevice, FileFault>
+) -> Result<SimDevice, Refusal>
     ensures { IsOrMemory result (with_records eid (table_view document.now) device) }
 {
     match value_if_any(document, "records") {
@@ -51,12 +59,13 @@ fn with_table(
     eid: u8,
     mut device: SimDevice,
     value: &Value,
-) -> Result<SimDevice, FileFault>
+) -> Result<SimDevice, Refusal>
     ensures { IsOrMemory result (records_if_there eid (table_view document.now) device (Some (view value.now))) }
 {
-    let table = table_in(value)?;
+    let table = table_in(value, Path::whole().key("records"))?;
     let before = device.replace_records(Repository::new(alloc));
-    let records = table_made(alloc, document, eid, &device, before, table)?;
+    let at = Path::table("records");
+    let records = table_made(alloc, document, eid, &device, before, table, at)?;
     let _ = device.replace_records(records);
     Ok(device)
 }
@@ -70,11 +79,12 @@ fn table_made(
     device: &SimDevice,
     before: Repository,
     table: &Table,
-) -> Result<Repository, FileFault>
+    at: Path<'static>,
+) -> Result<Repository, Refusal>
     ensures { IsOrMemory result (table_made eid (table_view document.now) device.now before (table_view table.now)) }
 {
-    let name = name_at(table)?;
-    let entity = entity_at(table, Entity::default())?;
+    let name = name_at(table, at)?;
+    let entity = entity_at(table, NO_ENTITY, at)?;
     all_made(alloc, document, eid, device, entity, name, before)
 }
 
@@ -88,7 +98,7 @@ fn all_made(
     entity: Entity,
     name: Option<Name>,
     before: Repository,
-) -> Result<Repository, FileFault>
+) -> Result<Repository, Refusal>
     ensures { IsOrMemory result (all_made eid (table_view document.now) device.now entity name before) }
 {
     let located = terminus_made(alloc, eid, device.tid(), entity, name, before)?;
@@ -105,7 +115,7 @@ fn terminus_made(
     entity: Entity,
     name: Option<Name>,
     before: Repository,
-) -> Result<MadeRecords, FileFault>
+) -> Result<MadeRecords, Refusal>
     ensures { IsOrMemory result (terminus_made eid tid entity name before) }
 {
     let locator = terminus_located(eid, tid, entity);
@@ -121,7 +131,7 @@ fn things_made(
     default: Entity,
     document: &Table,
     made: MadeRecords,
-) -> Result<MadeRecords, FileFault>
+) -> Result<MadeRecords, Refusal>
     ensures { IsOrMemory result (things_made device.now default (table_view document.now) made) }
 {
     let sensors = kind_made(alloc, Kind::NumericSensors, device, default, document, made)?;
@@ -170,7 +180,7 @@ fn entity_named(
     entity: Entity,
     name: Option<Name>,
     made: MadeRecords,
-) -> Result<MadeRecords, FileFault>
+) -> Result<MadeRecords, Refusal>
     ensures { IsOrMemory result (entity_named entity name made) }
 {
     match name {
@@ -194,7 +204,7 @@ fn kind_made(
     default: Entity,
     document: &Table,
     made: MadeRecords,
-) -> Result<MadeRecords, FileFault>
+) -> Result<MadeRecords, Refusal>
     ensures { IsOrMemory result (kind_made kind device.now default (table_view document.now) made) }
 {
     let entries = entries_at(document, key_of(kind))?;
@@ -221,12 +231,13 @@ fn each_made(
     default: Entity,
     entries: &[Value],
     made: MadeRecords,
-) -> Result<MadeRecords, FileFault>
+) -> Result<MadeRecords, Refusal>
     ensures { IsOrMemory result (each_made kind device.now default made (items_view entries.now)) }
 {
     let mut made = made;
-    for entry in entries {
-        made = entry_made(alloc, kind, device, default, table_in(entry)?, made)?;
+    for (place, entry) in entries.iter().enumerate() {
+        let at = Path::entry(key_of(kind), place);
+        made = entry_made(alloc, kind, device, default, table_in(entry, at)?, made, at)?;
     }
     Ok(made)
 }
@@ -239,19 +250,27 @@ fn entry_made(
     default: Entity,
     entry: &Table,
     made: MadeRecords,
-) -> Result<MadeRecords, FileFault>
+    at: Path<'static>,
+) -> Result<MadeRecords, Refusal>
     ensures { IsOrMemory result (entry_made kind device.now default (table_view entry.now) made) }
 {
     match kind {
         Kind::NumericSensors => {
-            numeric_sensor_made(alloc, &device.numeric_sensors, default, entry, made)
+            numeric_sensor_made(alloc, &device.numeric_sensors, default, entry, made, at)
         }
-        Kind::StateSensors => state_sensor_made(alloc, &device.state_sensors, default, entry, made),
+        Kind::StateSensors => state_sensor_made(
+            alloc,
+            &device.state_sensors,
+            default,
+            entry,
+            made,
+            at,
+        ),
         Kind::NumericEffecters => {
-            numeric_effecter_made(alloc, &device.numeric_effecters, default, entry, made)
+            numeric_effecter_made(alloc, &device.numeric_effecters, default, entry, made, at)
         }
         Kind::StateEffecters => {
-            state_effecter_made(alloc, &device.state_effecters, default, entry, made)
+            state_effecter_made(alloc, &device.state_effecters, default, entry, made, at)
         }
     }
 }

@@ -4,7 +4,6 @@ ghost use Rattle.std.specs.Prelude.{◌≡◌, ◌≤◌, length, map, pos};
 ghost use Rattle.pldm_device.specs.FileFaults.{IsOrMemory};
 ghost use Rattle.pldm_device.specs.RecordKeys.{number_or};
 ghost use Rattle.pldm_device.specs.SensorRecords.{bit_if, conversion_of, normal_support, numeric_sensor_data, numeric_sensor_made, possible, range_support, sensor_named, sensor_range, state_sensor_data, state_sensor_made, states_told, supported_thresholds};
-ghost use Rattle.pldm_wire.specs.Sizes.{greatest, least};
 ghost use Rattle.toml.specs.View.{table_view};
 
 use crate::NumericSensor;
@@ -12,11 +11,14 @@ use crate::description_fault::FileFault;
 use crate::entries::id_at;
 use crate::limits::{ONE, TERMINUS_HANDLE};
 use crate::made_records::{MadeRecords, with_made};
+use crate::path::Path;
 use crate::record_keys::{
     NormalRange, Thresholds, entity_at, name_at, normal_range_at, state_set_at, thresholds_at,
     units_at,
 };
 use crate::record_names::Name;
+use crate::refusal::Refusal;
+use crate::size_names::limits;
 use arrayvec::ArrayVec;
 use pldm_pdr::{
     Conversion, Entity, PossibleStates, RangeFormat, RecordData, SensorNames, SensorRange,
@@ -34,17 +36,18 @@ pub(crate) fn numeric_sensor_made(
     default: Entity,
     entry: &Table,
     made: MadeRecords,
-) -> Result<MadeRecords, FileFault>
+    at: Path<'static>,
+) -> Result<MadeRecords, Refusal>
     ensures { IsOrMemory result (numeric_sensor_made sensors.now.entries default (table_view entry.now) made) }
 {
-    let id = id_at(entry)?;
+    let id = id_at(entry, at)?;
     let Some(sensor) = sensors.get(&id) else {
-        return Err(FileFault::MissingKey);
+        return Err(FileFault::MissingKey.into());
     };
-    let name = name_at(entry)?;
-    let entity = entity_at(entry, default)?;
+    let name = name_at(entry, at)?;
+    let entity = entity_at(entry, default, at)?;
     let size = sensor.reading.size();
-    let contents = numeric_sensor_data(entry, id, size, entity, name.is_some())?;
+    let contents = numeric_sensor_data(entry, id, size, entity, name.is_some(), at)?;
     let more = with_made(alloc, made, contents)?;
     sensor_named(alloc, id, 1, name, more)
 }
@@ -56,12 +59,13 @@ fn numeric_sensor_data(
     size: Size,
     entity: Entity,
     has_name: bool,
-) -> Result<RecordData, FileFault>
+    at: Path<'static>,
+) -> Result<RecordData, Refusal>
     ensures { result ≡ numeric_sensor_data id size entity has_name (table_view entry.now) }
 {
-    let units = units_at(entry)?;
-    let thresholds = thresholds_at(entry, size)?;
-    let normal = normal_range_at(entry, size)?;
+    let units = units_at(entry, at)?;
+    let thresholds = thresholds_at(entry, size, at)?;
+    let normal = normal_range_at(entry, size, at)?;
     let (min_readable, max_readable) = limits(size);
     Ok(RecordData::NumericSensor(pldm_pdr::NumericSensor {
         terminus_handle: TERMINUS_HANDLE,
@@ -82,21 +86,6 @@ fn numeric_sensor_data(
         min_readable,
         range: sensor_range(size, thresholds, normal),
     }))
-}
-
-/// The least and the greatest number of the size.
-fn limits(size: Size) -> (i64, i64)
-    ensures least { result.0 ≡ least size }
-    ensures greatest { result.1 ≡ greatest size }
-{
-    match size {
-        Size::Uint8 => (0, 255),
-        Size::Sint8 => (-128, 127),
-        Size::Uint16 => (0, 65_535),
-        Size::Sint16 => (-32_768, 32_767),
-        Size::Uint32 => (0, 4_294_967_295),
-        Size::Sint32 => (-2_147_483_648, 2_147_483_647),
-    }
 }
 
 /// Numbers of the size, each the value itself but for the units' power of ten.
@@ -186,7 +175,7 @@ fn sensor_named(
     count: u8,
     name: Option<Name>,
     made: MadeRecords,
-) -> Result<MadeRecords, FileFault>
+) -> Result<MadeRecords, Refusal>
     requires least { 1 ≤ count }
     requires most { count ≤ MAX_STATES }
     ensures { IsOrMemory result (sensor_named id count name made) }
@@ -211,17 +200,18 @@ pub(crate) fn state_sensor_made(
     default: Entity,
     entry: &Table,
     made: MadeRecords,
-) -> Result<MadeRecords, FileFault>
+    at: Path<'static>,
+) -> Result<MadeRecords, Refusal>
     ensures { IsOrMemory result (state_sensor_made sensors.now.entries default (table_view entry.now) made) }
 {
-    let id = id_at(entry)?;
+    let id = id_at(entry, at)?;
     let Some(fields) = sensors.get(&id) else {
-        return Err(FileFault::MissingKey);
+        return Err(FileFault::MissingKey.into());
     };
     let fields = fields.as_slice();
-    let name = name_at(entry)?;
-    let entity = entity_at(entry, default)?;
-    let contents = state_sensor_data(entry, id, fields, entity, name.is_some())?;
+    let name = name_at(entry, at)?;
+    let entity = entity_at(entry, default, at)?;
+    let contents = state_sensor_data(entry, id, fields, entity, name.is_some(), at)?;
     let more = with_made(alloc, made, contents)?;
     sensor_named(alloc, id, fields.len() as u8, name, more)
 }
@@ -233,11 +223,12 @@ fn state_sensor_data(
     fields: &[SensorStateField],
     entity: Entity,
     has_name: bool,
-) -> Result<RecordData, FileFault>
+    at: Path<'static>,
+) -> Result<RecordData, Refusal>
     requires { length fields.now ≤ MAX_STATES }
     ensures { result ≡ state_sensor_data id fields.now entity has_name (table_view entry.now) }
 {
-    let state_set = state_set_at(entry)?;
+    let state_set = state_set_at(entry, at)?;
     Ok(RecordData::StateSensor(StateSensor {
         terminus_handle: TERMINUS_HANDLE,
         sensor_id: id,

@@ -5,14 +5,16 @@ ghost use Rattle.pldm_device.specs.FileFaults.{IsOrMemory};
 ghost use Rattle.pldm_device.specs.VersionChecksums.{both_versions_in, with_checksum};
 ghost use Rattle.toml.specs.View.{table_view};
 
-use crate::crc32::crc32;
+use crate::allowed::Allowed;
 use crate::description_fault::FileFault;
 use crate::hex_values::versions_in;
 use crate::keys::{flag_at, value_at};
-use crate::limits::CHECKED_VERSION_BYTES;
+use crate::limits::{CHECKED_VERSION_BYTES, MAX_CHECKED_VERSIONS, MAX_VERSIONS};
+use crate::path::Path;
+use crate::refusal::Refusal;
 use arrayvec::ArrayVec;
 use byteorder::{ByteOrder, LittleEndian};
-use pldm_wire::VersionData;
+use pldm_wire::{VersionData, crc32};
 use std::alloc::Global;
 use toml::Table;
 
@@ -21,20 +23,32 @@ use toml::Table;
 pub(crate) fn both_versions_in(
     alloc: Global,
     table: &Table,
-) -> Result<(VersionData, VersionData), FileFault>
+) -> Result<(VersionData, VersionData), Refusal>
     ensures { IsOrMemory result (both_versions_in (table_view table.now)) }
 {
-    let base_versions = versions_in(alloc, value_at(table, "version0")?)?;
-    let platform_versions = versions_in(alloc, value_at(table, "version2")?)?;
-    let has_checksum = flag_at(table, "version_checksum")?;
-    let base_checked = with_checksum(has_checksum, base_versions)?;
-    let platform_checked = with_checksum(has_checksum, platform_versions)?;
+    let whole = Path::whole();
+    let base = whole.key("version0");
+    let platform = whole.key("version2");
+    let needed = Allowed::Versions(MAX_VERSIONS);
+    let base_versions = versions_in(alloc, value_at(table, "version0", whole, needed)?, base)?;
+    let platform_versions = versions_in(
+        alloc,
+        value_at(table, "version2", whole, needed)?,
+        platform,
+    )?;
+    let has_checksum = flag_at(table, "version_checksum", whole)?;
+    let base_checked = with_checksum(has_checksum, base_versions, base)?;
+    let platform_checked = with_checksum(has_checksum, platform_versions, platform)?;
     Ok((base_checked, platform_checked))
 }
 
 /// The versions, and where it is asked for, their checksum after them (DSP0240, "GetPLDMVersion command");
 /// `OutOfRange` where both are more than one part.
-fn with_checksum(has_checksum: bool, versions: VersionData) -> Result<VersionData, FileFault>
+fn with_checksum(
+    has_checksum: bool,
+    versions: VersionData,
+    at: Path<'static>,
+) -> Result<VersionData, Refusal>
     ensures { result ≡ with_checksum has_checksum versions }
 {
     if !has_checksum {
@@ -47,6 +61,9 @@ fn with_checksum(has_checksum: bool, versions: VersionData) -> Result<VersionDat
     let _ = bytes.try_extend_from_slice(&checksum); // it fits
     match VersionData::new(bytes.as_slice()) {
         Some(checked) => Ok(checked),
-        None => Err(FileFault::OutOfRange),
+        None => {
+            let allowed = Allowed::CheckedVersions(MAX_CHECKED_VERSIONS);
+            Err(Refusal::new(FileFault::OutOfRange, at, allowed))
+        }
     }
 }

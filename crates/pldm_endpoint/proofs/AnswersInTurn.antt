@@ -27,7 +27,7 @@ use Rattle.pldm_responder.specs.Asked.{Given, IsAsGiven, IsGivenBy, gives, over}
 use Rattle.pldm_responder.specs.Calls.{Call, Received, Sensed, Restart, Updated, Ended, Assigned, events, fed, looked_back, outcome, with_arrival}
 use Rattle.pldm_responder.specs.Events.{Event, Message, Place, Restarted, recent}
 use Rattle.pldm_responder.specs.OutsideAnswers.{message_in, outcome_of_answer}
-use Rattle.pldm_responder.specs.Held.{Entry, Held, IsHeld, held_at_first, id_in}
+use Rattle.pldm_responder.specs.ResponderStates.{Entry, ResponderState, IsHeld, held_at_first, id_in}
 use Rattle.pldm_responder.specs.Laws.{IsLeftBy, entry_at}
 use Rattle.pldm_responder.specs.Performing.{Perform, Respond, Rules, Task, after_command, busy_reply, next_after, reply, tasks_at, tasks_in, tasks_of}
 use Rattle.pldm_responder.specs.Recency.{of_number, renewed, replaced, without}
@@ -66,7 +66,7 @@ pub by_performing : (handed : HandedOn) (answers : ℕ → Given) (t : Bool) (co
 by_performing handed answers true count q = by_request handed answers count q
 by_performing handed answers false count q = omega arith
 
-by_arrival : (handed : HandedOn) (answers : ℕ → Given) (held : Held ℕ) (a : Arrival) → (arrival_held (in_turn handed answers) held a).state ≡ held.state + length (arrival_asks held (tasks_of (hands_on handed)) a)
+by_arrival : (handed : HandedOn) (answers : ℕ → Given) (held : ResponderState ℕ) (a : Arrival) → (arrival_held (in_turn handed answers) held a).state ≡ held.state + length (arrival_asks held (tasks_of (hands_on handed)) a)
 by_arrival handed answers held (Drop reason) = omega arith
 by_arrival handed answers held Part = omega arith
 by_arrival handed answers held (Whole m) = by_performing handed answers (performs held m) held.state (request_of m.bytes)
@@ -103,8 +103,8 @@ map_without f g n (x ∷ xs) same =
     ∙ sym (ap (list_map g) (stays id_in n x xs other)))
 
 -- ---- what is held once all is answered has the same entry where a request comes
-module _ (handed : HandedOn) (answers : ℕ → Given) (count : ℕ) (pending : PendingCommands) (held : Held (Unit {0})) (ids : AreUnderTheirIds pending) where
-  abbrev later : Held (Unit {0})
+module _ (handed : HandedOn) (answers : ℕ → Given) (count : ℕ) (pending : PendingCommands) (held : ResponderState (Unit {0})) (ids : AreUnderTheirIds pending) where
+  abbrev later : ResponderState (Unit {0})
   later = to_be handed answers pending held
 
   abbrev pub comes : ℕ → Entry → Entry
@@ -260,7 +260,7 @@ performed_where true tasks task h = refl
 performed_where false tasks task h = cc
 
 -- ---- what an arrival does not change
-module _ {S : Type 0} (device : Rules S) (held : Held S) where
+module _ {S : Type 0} (device : Rules S) (held : ResponderState S) where
   own_is : (a : Arrival) → (arrival_held device held a).own ≡ held.own
   own_is (Drop reason) = refl
   own_is Part = refl
@@ -287,7 +287,7 @@ module _ {S : Type 0} (device : Rules S) (held : Held S) where
   from_is (Whole m) = refl
 
 -- what is held after an arrival differs only by what is kept
-module _ (handed : HandedOn) (held : Held (Unit {0})) where
+module _ (handed : HandedOn) (held : ResponderState (Unit {0})) where
   own_stepped : (a : Arrival) → (stepped handed held a).own ≡ held.own
   own_stepped (Drop reason) = refl
   own_stepped Part = refl
@@ -406,9 +406,9 @@ two_steps_are_one handed held moment bytes count m task given arrives asked =
     in_place source false = refl
 
 -- ---- the laws
-module _ (own : ℕ) (handed : HandedOn) (busy : BusyTime) (window keep : ℕ) (answers : ℕ → Given) (count : ℕ) (pending : PendingCommands) (held : Held (Unit {0})) (calls : List (Call ℕ)) (moment : ℕ) (bytes : List ℕ)
+module _ (own : ℕ) (handed : HandedOn) (busy : BusyTime) (window keep : ℕ) (answers : ℕ → Given) (count : ℕ) (pending : PendingCommands) (held : ResponderState (Unit {0})) (calls : List (Call ℕ)) (moment : ℕ) (bytes : List ℕ)
     (looks : assembly.FeedLooksBack) (left : IsLeftInTurn own handed busy window keep answers count pending held calls) (free : IsFree pending (request_in held moment bytes)) where
-  abbrev full : Held ℕ
+  abbrev full : ResponderState ℕ
   full = over count (to_be handed answers pending held)
 
   abbrev a : Arrival
@@ -506,7 +506,7 @@ pub asked_looks_back : assembly.FeedLooksBack → AskedLooksBack
 asked_looks_back looks own handed busy window keep answers count pending held calls moment bytes m task left free arrives asked = asked_outcome own handed busy window keep answers count pending held calls moment bytes looks left free m task arrives asked
 
 -- ---- an answer
-module _ (handed : HandedOn) (answers : ℕ → Given) (pending : PendingCommands) (held : Held (Unit {0})) (ids : AreUnderTheirIds pending) (source id number : ℕ) (a : PendingCommand)
+module _ (handed : HandedOn) (answers : ℕ → Given) (pending : PendingCommands) (held : ResponderState (Unit {0})) (ids : AreUnderTheirIds pending) (source id number : ℕ) (a : PendingCommand)
     (is : map.get pending (request_key source id) ≡ Some a) (number_is : a.number ≡ number) where
   abbrev without_it : PendingCommands
   without_it = map.remove pending (request_key source id)
@@ -628,7 +628,7 @@ map_none : {A B : Type 0} (f : A → B) (xs : List A) → list_map f xs ≡ [] �
 map_none f [] none = refl
 map_none f (x ∷ xs) none = cc
 
-none_kept : (own : ℕ) (handed : HandedOn) (busy : BusyTime) (window keep : ℕ) (answers : ℕ → Given) (count : ℕ) (pending : PendingCommands) (held : Held (Unit {0})) (calls : List (Call ℕ))
+none_kept : (own : ℕ) (handed : HandedOn) (busy : BusyTime) (window keep : ℕ) (answers : ℕ → Given) (count : ℕ) (pending : PendingCommands) (held : ResponderState (Unit {0})) (calls : List (Call ℕ))
     → IsLeftInTurn own handed busy window keep answers count pending held calls → own ≡ NULL_EID → (source : ℕ) → held.kept source ≡ []
 none_kept own handed busy window keep answers count pending held calls left none source =
     map_none (λ e. entry_to_be handed answers (map.get pending (request_key source (id_in e))) e) (held.kept source)
@@ -638,7 +638,7 @@ none_kept own handed busy window keep answers count pending held calls left none
     ∙ ap (list_map (entry_at (in_turn handed answers) busy window keep 0)) (take-nil {A = Place ℕ} window))
 
 -- t where there was no endpoint ID before: then nothing is kept
-assigned_alike : (t : Bool) (handed : HandedOn) (answers : ℕ → Given) (count : ℕ) (pending : PendingCommands) (held : Held (Unit {0})) (moment eid : ℕ) → (t ≡ true → (source : ℕ) → held.kept source ≡ [])
+assigned_alike : (t : Bool) (handed : HandedOn) (answers : ℕ → Given) (count : ℕ) (pending : PendingCommands) (held : ResponderState (Unit {0})) (moment eid : ℕ) → (t ≡ true → (source : ℕ) → held.kept source ≡ [])
     → IsHeld (over count (to_be handed answers map.empty (record (if t then held else restarted_held held moment) { own = eid; open_messages = map.empty; last = moment })))
     (record (if t then over count (to_be handed answers pending held) else restarted_held (over count (to_be handed answers pending held)) moment) { own = eid; open_messages = map.empty; last = moment })
 assigned_alike true handed answers count pending held moment eid none = record {

@@ -6,7 +6,7 @@ use Rattle.pldm_responder.specs.Answering.{answering}
 use Rattle.pldm_responder.specs.Arrivals.{message_of, way_back}
 use Rattle.pldm_responder.specs.Asked.{Given, gives}
 use Rattle.pldm_responder.specs.Ends.{End, held_by}
-use Rattle.pldm_responder.specs.Held.{IsHeld, id_in}
+use Rattle.pldm_responder.specs.ResponderStates.{IsHeld, id_in}
 use Rattle.pldm_responder.specs.Performing.{changes, reply}
 use Rattle.pldm_responder.specs.Recency.{replaced}
 use Rattle.pldm_responder.specs.Slots.{kept_in}

@@ -16,7 +16,7 @@ use Rattle.pldm_responder.specs.Asked.{Given, gives, over, response_in}
 use Rattle.pldm_responder.specs.Askings.{askings}
 use Rattle.pldm_responder.specs.Calls.{events}
 use Rattle.pldm_responder.specs.Events.{Event, Came, Set, Restarted, Changed, Message, Place, is_copy, is_copy_of, is_fresh, is_refused}
-use Rattle.pldm_responder.specs.Held.{Entry, id_in}
+use Rattle.pldm_responder.specs.ResponderStates.{Entry, id_in}
 use Rattle.pldm_responder.specs.Laws.{entry_at}
 use Rattle.pldm_responder.specs.Performing.{Task, answered_by, answer_to, performed, reply, reply_at, reply_to, response_to, tasks_at, tasks_of}
 use Rattle.pldm_responder.specs.Steps.{received_arrival}

@@ -11,7 +11,7 @@ use Rattle.pldm_responder.specs.Arrivals.{Whole}
 use Rattle.pldm_responder.specs.Asked.{gives, listed}
 use Rattle.pldm_responder.specs.Ends.{AreSameRows, End, GetsRow, IsSameEnd, count_with, has_row}
 use Rattle.pldm_responder.specs.Events.{Message}
-use Rattle.pldm_responder.specs.Held.{Entry, Held, IsHeld, id_in}
+use Rattle.pldm_responder.specs.ResponderStates.{Entry, ResponderState, IsHeld, id_in}
 use Rattle.pldm_responder.specs.Looking.{end_finished, message_at}
 use Rattle.pldm_responder.specs.Performing.{Perform, Respond, Task, tasks_of}
 use Rattle.pldm_responder.specs.Recency.{renewed}
@@ -171,7 +171,7 @@ module _ (old new : EndpointView) (moment : ℕ) (r : Requested) (command : Opti
     some = no_reply reply task (handle_of m old.count);
     command = asked_at reply task (handle_of m old.count) new.pending (arrival_tasks old.handed_on (held_in old) (Whole m)) (command_at m old.count task)
         (ap (λ pending. numbered old.count (map.get pending (request_key_of m))) pending_is ∙ just_put old.pending (request_key_of m) (command_at m old.count task)) refl found;
-    held = subst (λ (h : Held (Unit {0})). IsHeld (held_in new) (record h { open_messages = (end_finished old.end moment r).open_messages; last = moment }))
+    held = subst (λ (h : ResponderState (Unit {0})). IsHeld (held_in new) (record h { open_messages = (end_finished old.end moment r).open_messages; last = moment }))
         (sym (ap (λ tasks. kept_by tasks m (arrival_held (gives (hands_on old.handed_on) unasked) (held_in old) (Whole m)) (held_in old)) tasks_are)) (record {
           own = ap (λ (e : End). e.own) rest;
           busy = ap (λ (e : End). e.busy) rest;

@@ -16,7 +16,7 @@ use Rattle.pldm_wire.specs.declared.handed_on.HandedOn.{HandedOn}
 use Rattle.pldm_responder.specs.Arrivals.{Arrival, Drop, Part, Whole}
 use Rattle.pldm_responder.specs.Ends.{End}
 use Rattle.pldm_responder.specs.Events.{Message, is_of}
-use Rattle.pldm_responder.specs.Held.{Entry, id_in}
+use Rattle.pldm_responder.specs.ResponderStates.{Entry, id_in}
 use Rattle.pldm_responder.specs.OutsideAnswers.{message_in}
 use Rattle.pldm_responder.specs.Recency.{renewed, replaced}
 use Rattle.pldm_responder.specs.Slots.{entry_in, kept_in}

@@ -7,7 +7,7 @@ use Rattle.pldm_responder.specs.Arrivals.{Whole}
 use Rattle.pldm_responder.specs.Asked.{gives}
 use Rattle.pldm_responder.specs.Ends.{End, held_by}
 use Rattle.pldm_responder.specs.Events.{Message}
-use Rattle.pldm_responder.specs.Held.{Held, IsHeld, id_in}
+use Rattle.pldm_responder.specs.ResponderStates.{ResponderState, IsHeld, id_in}
 use Rattle.pldm_responder.specs.Looking.{end_finished, message_at}
 use Rattle.pldm_responder.specs.Performing.{tasks_of}
 use Rattle.pldm_responder.specs.Recency.{renewed}
@@ -21,7 +21,7 @@ where_not true true x y h = cc
 where_not true false x y h = refl
 where_not false p x y h = refl
 
-pub steps_nowhere : (handed : HandedOn) (held : Held (Unit {0})) (m : Message) → performs held m ≡ false → IsHeld (stepped handed held (Whole m)) held
+pub steps_nowhere : (handed : HandedOn) (held : ResponderState (Unit {0})) (m : Message) → performs held m ≡ false → IsHeld (stepped handed held (Whole m)) held
 steps_nowhere handed held m none =
     let by = λ (t : Bool). kept_by (if t then tasks_of (hands_on handed) m.bytes else []) m (arrival_held (gives (hands_on handed) unasked) held (Whole m)) held in
     record {

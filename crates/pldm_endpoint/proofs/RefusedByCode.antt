@@ -8,7 +8,7 @@ use Rattle.pldm_responder.specs.Arrivals.{Whole, way_back}
 use Rattle.pldm_responder.specs.Asked.{gives}
 use Rattle.pldm_responder.specs.Ends.{End, count_with, has_row}
 use Rattle.pldm_responder.specs.Events.{Message}
-use Rattle.pldm_responder.specs.Held.{Held, IsHeld, id_in}
+use Rattle.pldm_responder.specs.ResponderStates.{ResponderState, IsHeld, id_in}
 use Rattle.pldm_responder.specs.Looking.{end_finished, message_at}
 use Rattle.pldm_responder.specs.Performing.{Task, reply, tasks_of}
 use Rattle.pldm_responder.specs.Recency.{renewed}
@@ -73,7 +73,7 @@ module _ (old new : EndpointView) (moment : ℕ) (r : Requested) (code : ℕ) (a
     step_is = sym (ap (step_by (message_outcome (gives (hands_on old.handed_on) unasked) (held_in old) m) old.count (Some m)) tasks_are ∙ ap (λ outcome. step_by outcome old.count (Some m) []) outcome_is);
     some = some;
     command = tasks_are;
-    held = subst (λ (h : Held (Unit {0})). IsHeld (held_in new) (record h { open_messages = (end_finished old.end moment r).open_messages; last = moment }))
+    held = subst (λ (h : ResponderState (Unit {0})). IsHeld (held_in new) (record h { open_messages = (end_finished old.end moment r).open_messages; last = moment }))
         (sym (ap (λ tasks. kept_by tasks m (arrival_held (gives (hands_on old.handed_on) unasked) (held_in old) (Whole m)) (held_in old)) tasks_are)) (record {
           own = ap (λ (e : End). e.own) rest;
           busy = ap (λ (e : End). e.busy) rest;

@@ -1,6 +1,6 @@
--- What an endpoint returns and holds after any list of calls: what a responder does whose platform gives what the device
--- gave, each to what it was asked. Everything that is asked has a number, that of what was asked before it, and `answers`
--- says what the device gives for it, sooner or later.
+-- What an endpoint returns and holds after any list of calls: what a responder does whose platform gives what the
+-- device gave, each to what it was asked. Everything that is asked has a number, that of what was asked before it, and
+-- `answers` says what the device gives for it, sooner or later.
 use Rattle.std.specs.FinMap as map
 use Rattle.std.specs.Prelude.{◌≡◌, ℕ, ◌+◌, List, [], ◌∷◌, Option, Some, None, IfSome, Err}
 use Rattle.std.specs.Prelude.{map as list_map}
@@ -14,7 +14,7 @@ use Rattle.pldm_responder.specs.Asked.{Given, answer_in, gives, over, response_i
 use Rattle.pldm_responder.specs.Calls.{Call, Received, Restart, Ended, Assigned, outcome}
 use Rattle.pldm_responder.specs.Events.{Message}
 use Rattle.pldm_responder.specs.OutsideAnswers.{outcome_of_answer}
-use Rattle.pldm_responder.specs.Held.{Entry, Held, IsHeld, held_at_first, id_in}
+use Rattle.pldm_responder.specs.ResponderStates.{Entry, ResponderState, IsHeld, held_at_first, id_in}
 use Rattle.pldm_responder.specs.Laws.{IsLeftBy}
 use Rattle.pldm_responder.specs.OpenOrder.{ended_held}
 use Rattle.pldm_responder.specs.Performing.{Rules, Task}
@@ -41,7 +41,7 @@ entry_to_be handed answers None entry = entry
 entry_to_be handed answers (Some a) entry = entry_given handed a (answers a.number)
 
 -- what is held, once the device has given all that is pending
-abbrev pub to_be : HandedOn → (ℕ → Given) → PendingCommands → Held (Unit {0}) → Held (Unit {0})
+abbrev pub to_be : HandedOn → (ℕ → Given) → PendingCommands → ResponderState (Unit {0}) → ResponderState (Unit {0})
 to_be handed answers pending held = record held {
   kept = λ source.
       list_map (λ entry. entry_to_be handed answers (map.get pending (request_key source (id_in entry))) entry)
@@ -55,7 +55,7 @@ AreUnderTheirIds pending =
 
 -- what is held is what the calls leave, but for what the device is still to give
 pub record IsLeftInTurn (own : ℕ) (handed : HandedOn) (busy : BusyTime) (window keep : ℕ) (answers : ℕ → Given)
-    (count : ℕ) (pending : PendingCommands) (held : Held (Unit {0})) (calls : List (Call ℕ)) : Type 0 where
+    (count : ℕ) (pending : PendingCommands) (held : ResponderState (Unit {0})) (calls : List (Call ℕ)) : Type 0 where
   pub ids : AreUnderTheirIds pending
   pub left : IsLeftBy (in_turn handed answers) own busy window keep 0 (over count (to_be handed answers pending held)) calls
 
@@ -68,7 +68,7 @@ IsFree pending (Some m) = map.get pending (request_key_of m) ≡ None
 abbrev pub ReceivedInTurn : Type 0
 ReceivedInTurn =
     (own : ℕ) (handed : HandedOn) (busy : BusyTime) (window keep : ℕ) (answers : ℕ → Given)
-    (count : ℕ) (pending : PendingCommands) (held : Held (Unit {0}))
+    (count : ℕ) (pending : PendingCommands) (held : ResponderState (Unit {0}))
     (calls : List (Call ℕ)) (moment : ℕ) (bytes : List ℕ)
     → IsLeftInTurn own handed busy window keep answers count pending held calls → IsFree pending (request_in held moment bytes)
     → IsLeftInTurn own handed busy window keep answers (count_after handed held moment bytes count)
@@ -79,7 +79,7 @@ ReceivedInTurn =
 abbrev pub UnaskedLooksBack : Type 0
 UnaskedLooksBack =
     (own : ℕ) (handed : HandedOn) (busy : BusyTime) (window keep : ℕ) (answers : ℕ → Given)
-    (count : ℕ) (pending : PendingCommands) (held : Held (Unit {0}))
+    (count : ℕ) (pending : PendingCommands) (held : ResponderState (Unit {0}))
     (calls : List (Call ℕ)) (moment : ℕ) (bytes : List ℕ)
     → IsLeftInTurn own handed busy window keep answers count pending held calls → IsFree pending (request_in held moment bytes)
     → asked_now handed held moment bytes ≡ []
@@ -90,7 +90,7 @@ UnaskedLooksBack =
 abbrev pub AskedLooksBack : Type 0
 AskedLooksBack =
     (own : ℕ) (handed : HandedOn) (busy : BusyTime) (window keep : ℕ) (answers : ℕ → Given)
-    (count : ℕ) (pending : PendingCommands) (held : Held (Unit {0}))
+    (count : ℕ) (pending : PendingCommands) (held : ResponderState (Unit {0}))
     (calls : List (Call ℕ)) (moment : ℕ) (bytes : List ℕ) (m : Message) (task : Task)
     → IsLeftInTurn own handed busy window keep answers count pending held calls → IsFree pending (request_in held moment bytes)
     → request_in held moment bytes ≡ Some m → asked_now handed held moment bytes ≡ task ∷ []
@@ -100,7 +100,7 @@ AskedLooksBack =
 -- the two steps, one right after the other, are what a responder does whose platform gives this
 abbrev pub TwoStepsAreOne : Type 0
 TwoStepsAreOne =
-    (handed : HandedOn) (held : Held (Unit {0})) (moment : ℕ) (bytes : List ℕ) (count : ℕ) (m : Message) (task : Task)
+    (handed : HandedOn) (held : ResponderState (Unit {0})) (moment : ℕ) (bytes : List ℕ) (count : ℕ) (m : Message) (task : Task)
     (given : Given)
     → request_in held moment bytes ≡ Some m → asked_now handed held moment bytes ≡ task ∷ []
     → (outcome_of_answer (hands_on handed) held.own m.source m.tag m.bytes given
@@ -113,7 +113,7 @@ TwoStepsAreOne =
 abbrev pub AnsweredInTurn : Type 0
 AnsweredInTurn =
     (own : ℕ) (handed : HandedOn) (busy : BusyTime) (window keep : ℕ) (answers : ℕ → Given)
-    (count : ℕ) (pending : PendingCommands) (held : Held (Unit {0}))
+    (count : ℕ) (pending : PendingCommands) (held : ResponderState (Unit {0}))
     (calls : List (Call ℕ)) (handle : CommandHandle) (a : PendingCommand)
     → IsLeftInTurn own handed busy window keep answers count pending held calls → pending_at pending handle ≡ Some a
     → IsLeftInTurn own handed busy window keep answers count (map.remove pending (request_key handle.source handle.id))
@@ -123,7 +123,7 @@ AnsweredInTurn =
 abbrev pub RestartedInTurn : Type 0
 RestartedInTurn =
     (own : ℕ) (handed : HandedOn) (busy : BusyTime) (window keep : ℕ) (answers : ℕ → Given)
-    (count : ℕ) (pending : PendingCommands) (held : Held (Unit {0}))
+    (count : ℕ) (pending : PendingCommands) (held : ResponderState (Unit {0}))
     (calls : List (Call ℕ)) (moment : ℕ)
     → IsLeftInTurn own handed busy window keep answers count pending held calls
     → IsLeftInTurn own handed busy window keep answers count map.empty (restarted_held held moment) (Restart moment ∷ calls)
@@ -132,7 +132,7 @@ RestartedInTurn =
 abbrev pub AssignedInTurn : Type 0
 AssignedInTurn =
     (own : ℕ) (handed : HandedOn) (busy : BusyTime) (window keep : ℕ) (answers : ℕ → Given)
-    (count : ℕ) (pending : PendingCommands) (held : Held (Unit {0}))
+    (count : ℕ) (pending : PendingCommands) (held : ResponderState (Unit {0}))
     (calls : List (Call ℕ)) (moment eid : ℕ)
     → IsLeftInTurn own handed busy window keep answers count pending held calls
     → IsLeftInTurn eid handed busy window keep answers count map.empty (assigned_held held moment eid)
@@ -142,7 +142,7 @@ AssignedInTurn =
 abbrev pub EndedInTurn : Type 0
 EndedInTurn =
     (own : ℕ) (handed : HandedOn) (busy : BusyTime) (window keep : ℕ) (answers : ℕ → Given)
-    (count : ℕ) (pending : PendingCommands) (held : Held (Unit {0}))
+    (count : ℕ) (pending : PendingCommands) (held : ResponderState (Unit {0}))
     (calls : List (Call ℕ)) (key : Key)
     → IsLeftInTurn own handed busy window keep answers count pending held calls
     → IsLeftInTurn own handed busy window keep answers count pending (ended_held (Some key) held) (Ended key ∷ calls)
@@ -157,7 +157,7 @@ NewInTurn =
 abbrev pub SameInTurn : Type 0
 SameInTurn =
     (own : ℕ) (handed : HandedOn) (busy : BusyTime) (window keep : ℕ) (answers : ℕ → Given)
-    (count : ℕ) (pending : PendingCommands) (new held : Held (Unit {0}))
+    (count : ℕ) (pending : PendingCommands) (new held : ResponderState (Unit {0}))
     (calls : List (Call ℕ))
     → IsHeld new held → IsLeftInTurn own handed busy window keep answers count pending held calls
     → IsLeftInTurn own handed busy window keep answers count pending new calls

@@ -8,7 +8,7 @@ use Rattle.pldm_wire.specs.declared.handed_on.HandedOn.{HandedOn}
 use Rattle.pldm_responder.specs.Arrivals.{Whole}
 use Rattle.pldm_responder.specs.Ends.{AreSameRows, has_row}
 use Rattle.pldm_responder.specs.Slots.{source_count}
-use Rattle.pldm_responder.specs.Held.{IsHeld}
+use Rattle.pldm_responder.specs.ResponderStates.{IsHeld}
 use Rattle.pldm_responder.specs.Looking.{end_finished, ended_by, message_at}
 use Rattle.pldm_responder.specs.Needs.{NeedsMemory}
 use Rattle.pldm_responder.specs.OpenOrder.{ended_held}

@@ -36,8 +36,8 @@ abbrev pub refused_request : EndpointView → Option Message → Option ReceiveR
 refused_request e None = None
 refused_request e (Some m) = refused_while e m (map.get e.pending (request_key_of m))
 
--- why a packet is refused, whatever memory there is: it begins one open message too many; or the request that it completes
--- is pending, or another of its source and instance ID; or it is one too many
+-- why a packet is refused, whatever memory there is: it begins one open message too many; or the request that it
+-- completes is pending, or another of its source and instance ID; or it is one too many
 abbrev pub refused_by : EndpointView → ℕ → List ℕ → Option ReceiveRefusal
 refused_by e moment bytes =
     if is_past_open e.end bytes then Some OpenMessages else refused_request e (request_in (held_in e) moment bytes)

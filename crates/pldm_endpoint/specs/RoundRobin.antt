@@ -1,5 +1,5 @@
--- A requester that uses its instance IDs in turn, each again when all others were used: a new request never gets the answer
--- to an earlier one with its instance ID, where enough of those between arrived.
+-- A requester that uses its instance IDs in turn, each again when all others were used: a new request never gets the
+-- answer to an earlier one with its instance ID, where enough of those between arrived.
 use Rattle.std.specs.Prelude.{◌≡◌, ◌<◌, ◌≤◌, ℕ, ◌+◌, ◌%◌, ◌&&◌, ◌==◌, not, nat_le, List, [], ◌∷◌, filter, length, if◌then◌else◌}
 use Rattle.pldm_wire.specs.Headers.{id_at}
 use Rattle.pldm_wire.specs.declared.assigned.TheConstants.{INSTANCE_IDS}
@@ -32,8 +32,8 @@ module _ (number : Message → ℕ) where
   abbrev pub among_last : ℕ → List Message → List Message
   among_last n requests = filter (λ m. nat_le n (number m + 31)) requests
 
--- where at least a window of the 31 requests before a new one arrived, so that no more than 31 less the window were lost,
--- the new one is performed or refused anew
+-- where at least a window of the 31 requests before a new one arrived, so that no more than 31 less the window were
+-- lost, the new one is performed or refused anew
 abbrev pub NewInTurnIsFresh : Type 0 → Type 0
 NewInTurnIsFresh S =
     (busy : BusyTime) (window keep : ℕ) (events : List (Event S)) (m : Message) (number : Message → ℕ)

@@ -10,7 +10,7 @@ use Rattle.pldm_responder.specs.Asked.{Given, gives}
 use Rattle.pldm_responder.specs.Askings.{asked_by, askings}
 use Rattle.pldm_responder.specs.Calls.{Call, answer_expected, arrived, events}
 use Rattle.pldm_responder.specs.Events.{Event, Came, Set, Restarted, Changed, Message, Place, is_copy, is_refused, origin}
-use Rattle.pldm_responder.specs.Held.{Held}
+use Rattle.pldm_responder.specs.ResponderStates.{ResponderState}
 use Rattle.pldm_responder.specs.Performing.{reply, reply_at, tasks_of}
 use Rattle.pldm_responder.specs.declared.outcome.Outcome.TheVariants.{Answered}
 use Rattle.pldm_endpoint.specs.RequestKeys.{PendingCommands, request_key}
@@ -22,7 +22,7 @@ use Rattle.pldm_endpoint.specs.declared.pending_commands.PendingCommand.{Pending
 abbrev pub IsAskedInTurn : Type 0
 IsAskedInTurn =
     (own : ℕ) (handed : HandedOn) (busy : BusyTime) (window keep : ℕ) (answers : ℕ → Given)
-    (count : ℕ) (pending : PendingCommands) (held : Held (Unit {0}))
+    (count : ℕ) (pending : PendingCommands) (held : ResponderState (Unit {0}))
     (calls : List (Call ℕ)) (moment : ℕ) (bytes : List ℕ)
     → IsLeftInTurn own handed busy window keep answers count pending held calls → IsFree pending (request_in held moment bytes)
     → asked_now handed held moment bytes
@@ -40,7 +40,7 @@ is_unchanged (Changed state ∷ events) = false
 abbrev pub CountsAskings : Type 0
 CountsAskings =
     (own : ℕ) (handed : HandedOn) (busy : BusyTime) (window keep : ℕ) (answers : ℕ → Given)
-    (count : ℕ) (pending : PendingCommands) (held : Held (Unit {0})) (calls : List (Call ℕ))
+    (count : ℕ) (pending : PendingCommands) (held : ResponderState (Unit {0})) (calls : List (Call ℕ))
     → IsLeftInTurn own handed busy window keep answers count pending held calls → is_unchanged (events own calls) ≡ true
     → count ≡ length (askings (tasks_of (hands_on handed)) busy window keep (events own calls))
 
@@ -49,7 +49,7 @@ CountsAskings =
 abbrev pub AnswersItsOrigin : Type 0
 AnswersItsOrigin =
     (own : ℕ) (handed : HandedOn) (busy : BusyTime) (window keep : ℕ) (answers : ℕ → Given)
-    (count : ℕ) (pending : PendingCommands) (held : Held (Unit {0})) (calls : List (Call ℕ))
+    (count : ℕ) (pending : PendingCommands) (held : ResponderState (Unit {0})) (calls : List (Call ℕ))
     (source id : ℕ) (a : PendingCommand) (place : Place ℕ)
     → IsLeftInTurn own handed busy window keep answers count pending held calls → map.get pending (request_key source id)
     ≡ Some a

@@ -1,6 +1,6 @@
--- What the two steps of an endpoint return and leave. A packet's request is answered at once, or it asks something of the
--- device, which is pending then: to perform its command, or to respond to the request as bytes. What the device gives for it
--- then takes the place of what is kept for the request's source and instance ID.
+-- What the two steps of an endpoint return and leave. A packet's request is answered at once, or it asks something of
+-- the device, which is pending then: to perform its command, or to respond to the request as bytes. What the device
+-- gives for it then takes the place of what is kept for the request's source and instance ID.
 use Rattle.std.specs.FinMap as map
 use Rattle.std.specs.Prelude.{◌≡◌, ℕ, ◌+◌, ◌<◌, ◌≤◌, ◌==◌, List, [], ◌∷◌, length, drop, take, Option, Some, None, IfSome, IsSome, option_map, if◌then◌else◌, refl}
 use Rattle.std.specs.List.{All}
@@ -21,7 +21,7 @@ use Rattle.pldm_responder.specs.Arrivals.{Arrival, Drop, Part, Whole, request_pa
 use Rattle.pldm_responder.specs.Asked.{Answered, Given, Responded, gives, listed}
 use Rattle.pldm_responder.specs.Ends.{End, coded_end, held_by}
 use Rattle.pldm_responder.specs.Events.{Message}
-use Rattle.pldm_responder.specs.Held.{Entry, Held, id_in}
+use Rattle.pldm_responder.specs.ResponderStates.{Entry, ResponderState, id_in}
 use Rattle.pldm_responder.specs.OutsideAnswers.{message_in, outcome_of_answer}
 use Rattle.pldm_responder.specs.Performing.{Perform, Respond, Task, reply, tasks_of}
 use Rattle.pldm_responder.specs.Recency.{renewed, replaced}
@@ -36,8 +36,8 @@ use Rattle.pldm_endpoint.specs.declared.step.CommandHandle.{CommandHandle}
 use Rattle.pldm_endpoint.specs.declared.step.Step.{Step}
 use Rattle.pldm_endpoint.specs.declared.step.Step.TheVariants as step
 
--- what contracts see of an endpoint: the answering end, which requests are handed on as bytes, what is pending, how much was
--- asked of the device, and how much may be pending at a time
+-- what contracts see of an endpoint: the answering end, which requests are handed on as bytes, what is pending, how
+-- much was asked of the device, and how much may be pending at a time
 pub record EndpointView : Type 0 where
   pub end : End
   pub handed_on : HandedOn
@@ -62,7 +62,7 @@ coded_endpoint =
     (λ _. refl)
 
 -- what it holds: it has no device
-abbrev pub held_in : EndpointView → Held (Unit {0})
+abbrev pub held_in : EndpointView → ResponderState (Unit {0})
 held_in e = held_by e.end
 
 -- ---- what is asked of the device
@@ -147,7 +147,7 @@ pending_by pending count (Some m) (task ∷ tasks) =
 abbrev pub waiting : Message → Entry
 waiting m = record { moment = m.moment; bytes = m.bytes; answer = [] }
 
-abbrev pub with_waiting : {S : Type 0} → Held S → Message → Held S
+abbrev pub with_waiting : {S : Type 0} → ResponderState S → Message → ResponderState S
 with_waiting held m = record held {
   kept = λ source.
       if m.source == source then take held.window (renewed id_in (waiting m) (held.kept source))
@@ -155,21 +155,21 @@ with_waiting held m = record held {
 }
 
 -- `answered` is what is held where the request was answered at once
-abbrev pub kept_by : {S : Type 0} → List Task → Message → (answered held : Held S) → Held S
+abbrev pub kept_by : {S : Type 0} → List Task → Message → (answered held : ResponderState S) → ResponderState S
 kept_by [] m answered held = answered
 kept_by (task ∷ tasks) m answered held = with_waiting held m
 
 -- the request that bytes complete
-abbrev pub request_in : Held (Unit {0}) → ℕ → List ℕ → Option Message
+abbrev pub request_in : ResponderState (Unit {0}) → ℕ → List ℕ → Option Message
 request_in held moment bytes = message_in (received_arrival held moment bytes)
 
-module _ (handed : HandedOn) (held : Held (Unit {0})) where
+module _ (handed : HandedOn) (held : ResponderState (Unit {0})) where
   -- what an arrival asks of the device
   abbrev pub arrival_tasks : Arrival → List Task
   arrival_tasks a = arrival_asks held (tasks_of (hands_on handed)) a
 
   -- what is held after an arrival, but for the open messages and the moment
-  abbrev pub stepped : Arrival → Held (Unit {0})
+  abbrev pub stepped : Arrival → ResponderState (Unit {0})
   stepped (Drop reason) = held
   stepped Part = held
   stepped (Whole m) = kept_by (arrival_tasks (Whole m)) m (arrival_held (gives (hands_on handed) unasked) held (Whole m)) held
@@ -190,7 +190,7 @@ module _ (handed : HandedOn) (held : Held (Unit {0})) where
     abbrev pub count_after : ℕ → ℕ
     count_after count = count + length asked_now
 
-    abbrev pub held_after : Held (Unit {0})
+    abbrev pub held_after : ResponderState (Unit {0})
     held_after = record (stepped (received_arrival held moment bytes)) {
       open_messages = open_after held.open_messages (request_packet held.own bytes);
       last = moment;
@@ -248,7 +248,7 @@ module _ (handed : HandedOn) where
     answer = reply (gives (hands_on handed) given) tt a.request;
   }
 
-  abbrev pub answered_held : {S : Type 0} → Held S → CommandHandle → Given → Option PendingCommand → Held S
+  abbrev pub answered_held : {S : Type 0} → ResponderState S → CommandHandle → Given → Option PendingCommand → ResponderState S
   answered_held held handle given None = held
   answered_held held handle given (Some a) = record held {
     kept = λ source.

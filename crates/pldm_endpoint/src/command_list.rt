@@ -1,4 +1,4 @@
-//! The commands that are pending, by number.
+//! The commands that wait for the device's answer, in a list that is searched by their requests' numbers.
 
 ghost use Rattle.std.specs.Prelude.{◌≡◌, [], Some, None, IfOk, IfErr, OnOk, OnErr, length};
 ghost use Rattle.std.specs.Option.{option_copied};
@@ -77,7 +77,7 @@ impl Model for CommandList {
 }
 
 impl CommandList {
-    /// None. It takes no memory.
+    /// No commands. It takes no memory.
     pub(crate) fn new(alloc: Global) -> CommandList
         ensures { result ≡ [] }
     {

@@ -1,4 +1,4 @@
-//! An endpoint whose device is outside.
+//! The responding end of a link over a device that answers later: a request is handed out, and its answer comes back.
 
 ghost use Rattle.std.specs.FinMap as map;
 ghost use Rattle.std.specs.Prelude.{◌≡◌, ◌≢◌, ◌<◌, ◌≤◌, ◌*◌, ℕ, true, List, [], ◌∷◌, Ok, length, None, option_map, IfOk, IfErr, IfSome, IsErrOf, IsSome, OnErr, OnOk};
@@ -10,7 +10,7 @@ ghost use Rattle.pldm_responder.specs.Arrivals.{request_packet};
 ghost use Rattle.pldm_responder.specs.Asked.{Answered, Given, Responded};
 ghost use Rattle.pldm_responder.specs.Counts.{CountsKept};
 ghost use Rattle.pldm_responder.specs.Ends.{eid_or_null};
-ghost use Rattle.pldm_responder.specs.Held.{IsHeld, held_at_first};
+ghost use Rattle.pldm_responder.specs.ResponderStates.{IsHeld, held_at_first};
 ghost use Rattle.pldm_responder.specs.Looking.{IsLastFor, message_at};
 ghost use Rattle.pldm_responder.specs.Performing.{tasks_of};
 ghost use Rattle.pldm_responder.specs.Slots.{source_count};
@@ -52,9 +52,9 @@ pub struct Endpoint {
     /// Which requests are handed on as bytes.
     handed_on: HandedOn,
     pending: PendingCommands,
-    /// How much was asked of the device.
+    /// How many commands and requests were handed to the device.
     count: u64,
-    /// How much may be pending at a time.
+    /// How many commands and requests may be pending at a time.
     max_pending: usize,
 }
 
@@ -78,11 +78,11 @@ impl Model for Endpoint {
 }
 
 impl Endpoint {
-    /// The endpoint `own`, or one that gets its endpoint ID later ([`Endpoint::assign`]). It keeps answers so, and at a
-    /// time no more than `bounds` allow. Where one more message would be open than that, the one that began first ends,
-    /// as if a packet of it were lost. The requests of
-    /// `handed_on` are handed on as bytes; where only what sets something is refused in the busy time, they are refused
-    /// too. At most `max_pending` commands and such requests are pending at a time. Its last moment is 0.
+    /// The endpoint `own`, or one that gets its endpoint ID later ([`Endpoint::assign`]). It keeps answers as `keeping`
+    /// says, and at a time no more than `bounds` allow. Where one more message would be open than they allow, the one
+    /// that began first ends, as if a packet of it were lost. The requests of `handed_on` are handed on as bytes; where
+    /// only what sets something is refused in the busy time, these are refused too. At most `max_pending` commands and
+    /// such requests are pending at a time. Its last moment is 0.
     pub fn new(
         alloc: Global,
         own: Option<Eid>,
@@ -255,7 +255,7 @@ impl Endpoint {
     }
 
     /// Takes the last packet of a message of several packets. The message that answers it is put into `reply`.
-    // Not inlined: the room for its bytes is cleared and on the stack for such a message alone.
+    // Not inlined: the room for the message's bytes is cleared, and is on the stack, for such a message alone.
     #[inline(never)]
     fn receive_last(
         &mut self,
@@ -386,9 +386,10 @@ impl Endpoint {
         self.pending() >= self.max_pending || self.count == u64::MAX
     }
 
-    /// Takes the device's answer to the command that is pending under this handle, and gives the packets of it. They
-    /// go to the source of the request that had it performed, on the tag of its packets, and the answer is kept as if
-    /// it had come at that request's moment: not where the request fell out of the window. It takes no memory.
+    /// Takes the device's answer to the command that is pending under this handle, and gives the packets of it. They go
+    /// to the source of the request that had it performed, on the tag of its packets, and the answer is kept as if it
+    /// had come at that request's moment. Where the request fell out of the window since, the answer is not kept. It
+    /// takes no memory.
     ///
     /// # Errors
     ///
@@ -510,7 +511,7 @@ impl Endpoint {
         Ok(self.give(handle, code == SUCCESS, reply))
     }
 
-    /// Gives the message out that answers the request that is pending under this handle, and keeps it.
+    /// Returns the message that answers the request which is pending under this handle, and keeps it.
     fn give(&mut self, handle: &CommandHandle, changed: bool, reply: &[u8]) -> MessageOutcome
         requires pending { IsSome (pending_at self.old.pending handle.now) }
         requires some { 0 < length reply.now }
@@ -581,7 +582,7 @@ impl Endpoint {
     }
 }
 
-/// What is refused in the busy time, where these requests are handed on as bytes: they count as such that set
+/// What is refused in the busy time, where these requests are handed on as bytes: they count as requests that set
 /// something.
 fn busy_with(handed_on: HandedOn, busy: BusyTime) -> BusyTime
     ensures { result ≡ busy_with handed_on busy }

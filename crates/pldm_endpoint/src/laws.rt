@@ -6,9 +6,9 @@ ghost use Rattle.pldm_endpoint.specs.Turns.{AnswersItsOrigin, CopiesAreAnsweredA
 
 use pldm_platform::Platform;
 
-/// What an endpoint returns and holds after any list of calls is what a responder's looking back says whose
-/// platform gives the answers that the device gave, each to the command that it was asked for; what is held is
-/// that but for the answers to what the device still performs.
+/// After any list of calls an endpoint returns and holds what a responder would, by looking back over the list, if its
+/// platform gave the answers that the device gave, each to the command that it was asked for. Only the answers to what
+/// the device still performs are missing from what is held.
 pub fn answers_come_in_turn()
     ensures received { ReceivedInTurn }
     ensures unasked { UnaskedLooksBack }

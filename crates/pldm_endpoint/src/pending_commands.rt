@@ -1,4 +1,4 @@
-//! What is asked of a device, and it has not given yet.
+//! The requests that were handed to the device and are not answered yet.
 
 ghost use Rattle.std.specs.FinMap as map;
 ghost use Rattle.std.specs.Prelude.{◌≡◌, ◌<◌, ◌≤◌, ◌&&◌, ◌==◌, length, IsOk, OnOk, OnErr};
@@ -16,7 +16,6 @@ use crate::command_list::CommandList;
 use crate::request_bytes::RequestBytes;
 use crate::step::CommandHandle;
 use mctp_packet::{Body, Eid, Memory, Moment, Tag};
-use pldm_responder::succeeded;
 use pldm_wire::{Answer, Command, RequestRef, put_answer, read_request};
 use std::alloc::Global;
 use std::marker::Model;
@@ -48,7 +47,7 @@ pub struct PendingCommand {
     pub(crate) tag: Tag,
     /// When the request came.
     pub(crate) moment: Moment,
-    /// How much was asked before.
+    /// How many commands and requests were handed out before.
     pub(crate) number: u64,
     /// The command, where it is to be performed: none where the request is handed on as bytes.
     pub(crate) command: Option<Command>,
@@ -82,7 +81,7 @@ pub(crate) fn put_reply(command: &Command, id: u8, answer: &Answer, reply: &mut 
 {
     put_answer(reply, id, command.kind(), answer);
     let _few = reply.len(); // for the proof: at most 320 bytes
-    command.sets() && succeeded(answer)
+    command.sets() && answer.is_success()
 }
 
 /// What was asked and is not answered, at most one thing for each source and instance ID.

@@ -1,18 +1,13 @@
-//! What the calls of an endpoint return.
+//! What the calls of an endpoint return: what a packet asks of the device, and why a call was refused.
 
 ghost use Rattle.std.specs.Prelude.{◌≡◌, true, false, if◌then◌else◌};
-ghost use Rattle.pldm_wire.specs.Answers.{IsAnswerTo, answered_kind};
+ghost use Rattle.pldm_wire.specs.Answers.{IsAnswerTo};
 ghost use Rattle.pldm_endpoint.specs.RefusalNames.{name_of, name_of_answer_refusal};
 ghost use Rattle.pldm_endpoint.specs.declared.step.MessageStep.TheVariants.{Perform, Respond};
 
 use mctp_packet::{Eid, Memory};
 use pldm_responder::{MessageOutcome, Outcome, RoomRefusal};
-use pldm_wire::{
-    Answer, BASE, GET_NUMERIC_EFFECTER_VALUE, GET_PDR, GET_PDR_REPOSITORY_INFO, GET_PLDM_COMMANDS,
-    GET_PLDM_TYPES, GET_PLDM_VERSION, GET_SENSOR_READING, GET_STATE_EFFECTER_STATES,
-    GET_STATE_SENSOR_READINGS, GET_TID, Kind, PLATFORM, SET_NUMERIC_EFFECTER_VALUE,
-    SET_STATE_EFFECTER_STATES, SET_TID,
-};
+use pldm_wire::{Answer, Kind};
 use thiserror::Error;
 
 /// The handle of what is asked of the device: whose request it is of, and its number. Nothing else that an endpoint
@@ -23,7 +18,7 @@ pub struct CommandHandle {
     pub source: Eid,
     /// The request's instance ID.
     pub id: u8,
-    /// How much was asked before.
+    /// How many commands and requests were handed out before.
     pub number: u64,
 }
 
@@ -158,31 +153,8 @@ pub(crate) fn is_answer_to(answer: &Answer, kind: Kind) -> bool
     ensures yes { result ≡ true → IsAnswerTo kind answer.now }
     ensures no { result ≡ false → IsAnswerTo kind answer.now → ⊥ }
 {
-    match kind_of_answer(answer) {
+    match answer.kind() {
         Some(answered) => kind == answered,
         None => true,
     }
-}
-
-/// The kind of the one command that this answers.
-fn kind_of_answer(answer: &Answer) -> Option<Kind>
-    ensures { result ≡ answered_kind answer.now }
-{
-    let (pldm_type, command) = match answer {
-        Answer::Refused(_) => return None,
-        Answer::SetTid => (BASE, SET_TID),
-        Answer::GetTid { .. } => (BASE, GET_TID),
-        Answer::GetPldmVersion { .. } => (BASE, GET_PLDM_VERSION),
-        Answer::GetPldmTypes { .. } => (BASE, GET_PLDM_TYPES),
-        Answer::GetPldmCommands { .. } => (BASE, GET_PLDM_COMMANDS),
-        Answer::GetSensorReading { .. } => (PLATFORM, GET_SENSOR_READING),
-        Answer::GetStateSensorReadings { .. } => (PLATFORM, GET_STATE_SENSOR_READINGS),
-        Answer::SetNumericEffecterValue => (PLATFORM, SET_NUMERIC_EFFECTER_VALUE),
-        Answer::GetNumericEffecterValue { .. } => (PLATFORM, GET_NUMERIC_EFFECTER_VALUE),
-        Answer::SetStateEffecterStates => (PLATFORM, SET_STATE_EFFECTER_STATES),
-        Answer::GetStateEffecterStates { .. } => (PLATFORM, GET_STATE_EFFECTER_STATES),
-        Answer::GetPdrRepositoryInfo { .. } => (PLATFORM, GET_PDR_REPOSITORY_INFO),
-        Answer::GetPdr { .. } => (PLATFORM, GET_PDR),
-    };
-    Some(Kind { pldm_type, command })
 }

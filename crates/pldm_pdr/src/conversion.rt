@@ -1,3 +1,5 @@
+//! How the numbers of a numeric sensor or effecter become values in its units (DSP0248, "Numeric sensor PDR").
+
 use pldm_wire::Size;
 
 /// How the numbers of a numeric sensor or effecter become values in its units: the value is

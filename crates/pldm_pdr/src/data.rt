@@ -1,3 +1,5 @@
+//! The data of a record: a variant for each type of record that is read here (DSP0248, "PDR type values").
+
 use crate::{
     EffecterNames, EntityNames, NumericEffecter, NumericSensor, SensorNames, StateEffecter,
     StateSensor, TerminusLocator,

@@ -1,3 +1,5 @@
+//! The normal and the rated range of a numeric effecter (DSP0248, "Numeric effecter PDR").
+
 use crate::RangeFormat;
 
 /// The normal and the rated range of a numeric effecter, numbers in one format (DSP0248, "Numeric effecter PDR").

@@ -1,3 +1,5 @@
+//! The entity that a sensor, an effecter or a name belongs to (DSP0248, "Entity identification information").
+
 /// The entity that a sensor, an effecter or a name belongs to (DSP0248, "Entity identification information").
 #[derive(Clone, Copy, Debug, Default, PartialEq, Eq)]
 pub struct Entity {

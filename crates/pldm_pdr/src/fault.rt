@@ -1,4 +1,4 @@
-//! Why bytes are no record.
+//! Why bytes are no record that is read here.
 
 use thiserror::Error;
 
@@ -44,7 +44,7 @@ pub enum RecordFault {
     /// The names have more bytes than are read here.
     #[error("the record has names that are too long")]
     Names,
-    /// Bytes are left over after the last field.
+    /// There are bytes after the last field.
     #[error("the record has bytes after its last field")]
     LeftOver,
 }

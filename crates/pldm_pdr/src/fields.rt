@@ -99,7 +99,7 @@ pub(crate) fn format_in(bytes: &[u8]) -> Result<(RangeFormat, &[u8]), RecordFaul
     }
 }
 
-/// What follows a byte that has to have this value, for this fault else.
+/// What follows a byte with this value; this fault where the byte has another.
 #[tactic(auto, unfolding(crate::specs::Fields::constant_at))]
 pub(crate) fn constant_in(fault: RecordFault, value: u8, bytes: &[u8]) -> Result<&[u8], RecordFault>
     ensures { Gives (λ rest. rest.now) result (constant_at fault value bytes.now) }
@@ -124,7 +124,7 @@ pub(crate) fn sized_in(size: Size, bytes: &[u8]) -> Result<(i64, &[u8]), RecordF
     Ok((value_in(size, number), rest))
 }
 
-/// So many bytes.
+/// The first `count` bytes.
 #[tactic(auto, unfolding(crate::specs::Fields::list_at, crate::specs::Fields::refused))]
 pub(crate) fn slice_in(count: usize, bytes: &[u8]) -> Result<(&[u8], &[u8]), RecordFault>
     ensures read { Gives (λ x. (x.0.now, x.1.now)) result (list_at count bytes.now) }

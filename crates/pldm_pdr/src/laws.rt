@@ -20,8 +20,8 @@ pub fn fields_are_read_back()
     ensures entity_names { EntityNamesReadBack }
 {}
 
-/// The text of a record's names is names, spelled one after another; and names that are spelled so, and are not too
-/// long, are the text of a record's names.
+/// The bytes of a record's names are names, spelled one after another; and names that are spelled so, and are not too
+/// long, are the bytes of a record's names.
 pub fn text_is_names()
     ensures spelled { NamesAreSpelled }
     ensures taken { NamesAreTaken }

@@ -1,3 +1,5 @@
+//! The fields of a terminus locator record (DSP0248, "Terminus locator PDR").
+
 /// A terminus locator record: which terminus the records of a terminus handle are of, located by an MCTP endpoint ID
 /// (DSP0248, "Terminus locator PDR").
 #[derive(Clone, Copy, Debug, PartialEq, Eq)]

@@ -1,4 +1,4 @@
-//! What numeric sensors and effecters have alike, read.
+//! The fields that records of numeric sensors and of numeric effecters share, read from bytes (DSP0248).
 
 ghost use Rattle.pldm_pdr.specs.Fields.{Gives};
 ghost use Rattle.pldm_pdr.specs.Entities.{entity_at};

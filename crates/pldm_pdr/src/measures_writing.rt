@@ -1,4 +1,4 @@
-//! What numeric sensors and effecters have alike, written.
+//! The fields that records of numeric sensors and of numeric effecters share, written as bytes (DSP0248).
 
 ghost use Rattle.std.specs.Prelude.{◌≡◌, ◌+◌, ◌≤◌};
 ghost use Rattle.arrayvec.specs.ArrayVec.{array_vec_len};

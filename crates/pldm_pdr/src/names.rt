@@ -1,3 +1,5 @@
+//! The records of the auxiliary names of sensors, effecters and entities (DSP0248, "Sensor auxiliary names PDR").
+
 use crate::{Entity, MAX_NAME_BYTES};
 use arrayvec::ArrayVec;
 

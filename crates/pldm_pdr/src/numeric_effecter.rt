@@ -1,3 +1,5 @@
+//! The fields of a numeric effecter record (DSP0248, "Numeric effecter PDR").
+
 use crate::{Conversion, EffecterRange, Entity, Units};
 
 /// A numeric effecter record (DSP0248, "Numeric effecter PDR"). Numbers of the effecter are of the data size that

@@ -1,3 +1,5 @@
+//! The fields of a numeric sensor record (DSP0248, "Numeric sensor PDR").
+
 use crate::{Conversion, Entity, SensorRange, Units};
 
 /// A numeric sensor record (DSP0248, "Numeric sensor PDR"). Numbers of the sensor are of the data size that

@@ -1,3 +1,5 @@
+//! The states that a sensor or an effecter can have, a bit for each (DSP0248, "possibleStates").
+
 ghost use Rattle.std.specs.Prelude.{◌≡◌, ◌+◌, ◌<◌, ◌≤◌, ℕ, IsTrue};
 ghost use Rattle.pldm_pdr.specs.StateSets.{bit_of, bits_from, bits_in, has_state, is_among, last_byte, possible_states_fit};
 

@@ -1,3 +1,5 @@
+//! The format of the range fields of a numeric sensor or effecter (DSP0248, "rangeFieldFormat").
+
 ghost use Rattle.std.specs.Prelude.{◌≡◌};
 ghost use Rattle.pldm_pdr.specs.RangeFormats.{bits_size, format_code};
 

@@ -1,4 +1,4 @@
-//! A record read.
+//! A platform data record read from its bytes (DSP0248, "Common PDR format").
 
 ghost use Rattle.std.specs.Prelude.{◌≡◌, IfOk, IsTrue, Ok};
 ghost use Rattle.pldm_pdr.specs.Fields.{Gives};

@@ -1,3 +1,5 @@
+//! A platform data record: its handle, its change number, and data that fits (DSP0248, "Common PDR format").
+
 ghost use Rattle.std.specs.Prelude.{◌≡◌, IfSome, IsTrue, is_some};
 ghost use Rattle.pldm_pdr.specs.Records.{data_fits, platform_record};
 

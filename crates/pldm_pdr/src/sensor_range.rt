@@ -1,3 +1,5 @@
+//! The normal range and the thresholds of a numeric sensor (DSP0248, "Numeric sensor PDR").
+
 use crate::RangeFormat;
 
 /// The normal range and the thresholds of a numeric sensor, numbers in one format (DSP0248, "Numeric sensor PDR").

@@ -1,3 +1,5 @@
+//! The fields of a state effecter record (DSP0248, "State effecter PDR").
+
 use crate::{Entity, PossibleStates};
 use arrayvec::ArrayVec;
 use pldm_wire::MAX_STATES;

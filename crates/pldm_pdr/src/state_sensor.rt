@@ -1,3 +1,5 @@
+//! The fields of a state sensor record (DSP0248, "State sensor PDR").
+
 use crate::{Entity, PossibleStates};
 use arrayvec::ArrayVec;
 use pldm_wire::MAX_STATES;

@@ -1,3 +1,5 @@
+//! The units that a numeric sensor or effecter measures in (DSP0248, "Sensor units").
+
 /// What a numeric sensor or effecter measures in (DSP0248, "Sensor units" and the fields of the numeric sensor PDR).
 #[derive(Clone, Copy, Debug, Default, PartialEq, Eq)]
 pub struct Units {

@@ -1,4 +1,4 @@
-//! A record written.
+//! A platform data record written as bytes (DSP0248, "Common PDR format").
 
 ghost use Rattle.std.specs.Prelude.{◌≡◌, ◌+◌, ◌<◌, ◌≤◌, IsTrue, length};
 ghost use Rattle.arrayvec.specs.ArrayVec.{array_vec_len};

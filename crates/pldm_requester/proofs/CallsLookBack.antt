@@ -28,7 +28,7 @@ use Rattle.pldm_requester.specs.Courses.{Course, is_open, is_given_up, is_sent_a
 use Rattle.pldm_requester.specs.Laws.{memo_of, memo_at, IsLeftBy, OpenLooksBack, TickLooksBack, ReceiveLooksBack, NewLooksBack, SameIsLeft, FewAreOpen}
 use Rattle.pldm_requester.specs.Numbering.{tag_of, packets_of}
 use Rattle.pldm_requester.specs.Steps as steps
-use Rattle.pldm_requester.specs.Steps.{Memo, Held, IsHeld, is_recent, passes, with_course, latest_on, where_open, recent_numbers, is_mine_by, open_after, opened_held, opening_answer, again_at, given_up_at, ticked_held, arrived_by, remembered_after, got_at, held_by, received_held}
+use Rattle.pldm_requester.specs.Steps.{Memo, RequesterState, IsHeld, is_recent, passes, with_course, latest_on, where_open, recent_numbers, is_mine_by, open_after, opened_held, opening_answer, again_at, given_up_at, ticked_held, arrived_by, remembered_after, got_at, held_by, received_held}
 use Rattle.pldm_requester.specs.declared.timing.Timing.{Timing}
 use Rattle.pldm_requester.proofs.SlotLists.{recent_parts, recent_from}
 use Rattle.pldm_requester.proofs.OpenRequests.{put_here, put_other, Recent, within, recent, given_up_open, sent_again_open, came_course, came_command, came_count, came_by, came_by_count}
@@ -103,7 +103,7 @@ few_are_open own device timing before =
 
 -- ---- what these requests leave, with any open messages and last moment
 module _ (own device : ℕ) (timing : Timing) where
-  abbrev left_by : assembling.Held → ℕ → Requests → Held
+  abbrev left_by : assembling.OpenMessages → ℕ → Requests → RequesterState
   left_by open_messages last a = record {
     own = own;
     device = device;
@@ -114,7 +114,7 @@ module _ (own device : ℕ) (timing : Timing) where
     last = last;
   }
 
-  held_is : (held : Held) (before : List Call) → IsLeftBy own device timing held before → held ≡ left_by held.open_messages held.last (requests own device timing before)
+  held_is : (held : RequesterState) (before : List Call) → IsLeftBy own device timing held before → held ≡ left_by held.open_messages held.last (requests own device timing before)
   held_is held before left =
       λ i. record {
         own = left.endpoint i;
@@ -126,7 +126,7 @@ module _ (own device : ℕ) (timing : Timing) where
         last = held.last;
       }
 
-  record Leaves (held : Held) (a : Requests) (packets : List histories.Call) (moment : ℕ) : Type 0 where
+  record Leaves (held : RequesterState) (a : Requests) (packets : List histories.Call) (moment : ℕ) : Type 0 where
     endpoint : held.own ≡ own
     peer : held.device ≡ device
     times : held.timing ≡ timing
@@ -135,7 +135,7 @@ module _ (own device : ℕ) (timing : Timing) where
     open_messages : histories.IsLeftBy held.open_messages packets
     last : held.last ≡ moment
 
-  leaves_calls : (held : Held) (before : List Call) → Leaves held (requests own device timing before) (assembled own device timing before) (last_moment own device timing before) → IsLeftBy own device timing held before
+  leaves_calls : (held : RequesterState) (before : List Call) → Leaves held (requests own device timing before) (assembled own device timing before) (last_moment own device timing before) → IsLeftBy own device timing held before
   leaves_calls held before l = record {
     endpoint = l.endpoint;
     peer = l.peer;
@@ -147,10 +147,10 @@ module _ (own device : ℕ) (timing : Timing) where
   }
 
   -- ---- an open
-  tag_is : (open_messages : assembling.Held) (last : ℕ) (a : Requests) → Recent a → steps.is_tag_in_use (left_by open_messages last a) ≡ calls.is_tag_in_use a
+  tag_is : (open_messages : assembling.OpenMessages) (last : ℕ) (a : Requests) → Recent a → steps.is_tag_in_use (left_by open_messages last a) ≡ calls.is_tag_in_use a
   tag_is open_messages last a f = ap (λ b. nat_le 8 a.count && b) (open_in_is own device a f (a.count - 8))
 
-  id_is : (open_messages : assembling.Held) (last : ℕ) (a : Requests) (moment : ℕ) → steps.is_id_in_use (left_by open_messages last a) moment ≡ calls.is_id_in_use timing.keep a moment
+  id_is : (open_messages : assembling.OpenMessages) (last : ℕ) (a : Requests) (moment : ℕ) → steps.is_id_in_use (left_by open_messages last a) moment ≡ calls.is_id_in_use timing.keep a moment
   id_is open_messages last a moment = go (nat_le 32 a.count) refl
     where
       go : (b : Bool) → nat_le 32 a.count ≡ b
@@ -160,11 +160,11 @@ module _ (own device : ℕ) (timing : Timing) where
           ap (passes (λ course. nat_lt moment (course.opening + 2 * timing.keep))) (memo_there own device a (a.count - 32) (recent_from a.count (a.count - 32) (omega arith) (omega arith)))
       go false e = refl
 
-  answer_is : (open_messages : assembling.Held) (last : ℕ) (a : Requests) (moment : ℕ) → Recent a
+  answer_is : (open_messages : assembling.OpenMessages) (last : ℕ) (a : Requests) (moment : ℕ) → Recent a
       → opening_answer (left_by open_messages last a) moment ≡ open_answer (calls.is_tag_in_use a) (calls.is_id_in_use timing.keep a moment) a.count
   answer_is open_messages last a moment f = λ i. open_answer (tag_is open_messages last a f i) (id_is open_messages last a moment i) a.count
 
-  accepts_is : (open_messages : assembling.Held) (last : ℕ) (a : Requests) (moment : ℕ) → Recent a → steps.accepts (left_by open_messages last a) moment ≡ calls.accepts timing.keep a moment
+  accepts_is : (open_messages : assembling.OpenMessages) (last : ℕ) (a : Requests) (moment : ℕ) → Recent a → steps.accepts (left_by open_messages last a) moment ≡ calls.accepts timing.keep a moment
   accepts_is open_messages last a moment f = λ i. not (tag_is open_messages last a f i) && not (id_is open_messages last a moment i)
 
   memo_opened : (a : Requests) (moment : ℕ) (command : Command) (n : ℕ) (new : Memo) → new ≡ memo_of own device (opened a moment command) a.count
@@ -192,7 +192,7 @@ module _ (own device : ℕ) (timing : Timing) where
           ∙ ap (λ k. cond (is_recent k n) (memo_at own device a n) None) one
           ∙ cond-false (is_recent (suc a.count) n) _ _ r
 
-  opened_leaves : (looks : assembly.ForgetLooksBack) (open_messages : assembling.Held) (last : ℕ) (a : Requests) (packets : List histories.Call) (moment : ℕ) (command : Command) → histories.IsLeftBy open_messages packets
+  opened_leaves : (looks : assembly.ForgetLooksBack) (open_messages : assembling.OpenMessages) (last : ℕ) (a : Requests) (packets : List histories.Call) (moment : ℕ) (command : Command) → histories.IsLeftBy open_messages packets
       → Leaves (opened_held (left_by open_messages last a) moment command) (opened a moment command) (histories.forget (answer_key device (tag_of a.count)) ∷ packets) moment
   opened_leaves looks open_messages last a packets moment command left = record {
     endpoint = refl;
@@ -225,7 +225,7 @@ module _ (own device : ℕ) (timing : Timing) where
   memo_changed a b change n count command course =
       map_from a.count (a.each n).command (a.each n).course change n ∙ (λ i. memo_from (count i) (command i) (course i) n)
 
-  tick_leaves : (open_messages : assembling.Held) (last : ℕ) (a : Requests) (packets : List histories.Call) (moment : ℕ) → histories.IsLeftBy open_messages packets
+  tick_leaves : (open_messages : assembling.OpenMessages) (last : ℕ) (a : Requests) (packets : List histories.Call) (moment : ℕ) → histories.IsLeftBy open_messages packets
       → Leaves (ticked_held (left_by open_messages last a) moment) (record { count = a.count; each = λ n. ticked_request own device timing moment (a.each n) }) packets moment
   tick_leaves open_messages last a packets moment left = record {
     endpoint = refl;
@@ -238,11 +238,11 @@ module _ (own device : ℕ) (timing : Timing) where
   }
 
   -- ---- a packet
-  goes_is : (open_messages : assembling.Held) (last : ℕ) (a : Requests) → Recent a → (p : Packet) → p.route.tag < 8 → steps.goes_to (left_by open_messages last a) p ≡ calls.goes_to own device timing a p
+  goes_is : (open_messages : assembling.OpenMessages) (last : ℕ) (a : Requests) → Recent a → (p : Packet) → p.route.tag < 8 → steps.goes_to (left_by open_messages last a) p ≡ calls.goes_to own device timing a p
   goes_is open_messages last a f p small =
       ap (λ o. if is_from_device device p then o else None) ((λ i. where_open (λ n. open_in_is own device a f n i) (latest_on a.count p.route.tag)) ∙ latest_is (is_open_at a) a.count f.closed p.route.tag small)
 
-  passed_is : (open_messages : assembling.Held) (last : ℕ) (a : Requests) → Recent a → (read : Result Packet Reason) → ((p : Packet) → read ≡ Ok p → p.route.tag < 8)
+  passed_is : (open_messages : assembling.OpenMessages) (last : ℕ) (a : Requests) → Recent a → (read : Result Packet Reason) → ((p : Packet) → read ≡ Ok p → p.route.tag < 8)
       → where_expected (steps.expects (left_by open_messages last a)) read ≡ where_expected (λ p. is_some (calls.goes_to own device timing a p)) read
   passed_is open_messages last a f (Err reason) small = refl
   passed_is open_messages last a f (Ok p) small = ap (λ o. if is_some o then Ok p else Err BadTag) (goes_is open_messages last a f p (small p refl))
@@ -256,7 +256,7 @@ module _ (own device : ℕ) (timing : Timing) where
   fed_same mine other n feds.Partial same = refl
   fed_same mine other n (feds.Dropped reason) same = refl
 
-  module _ (looks : assembly.FeedLooksBack) (open_messages : assembling.Held) (last : ℕ) (before : List Call) (left : histories.IsLeftBy open_messages (assembled own device timing before)) where
+  module _ (looks : assembly.FeedLooksBack) (open_messages : assembling.OpenMessages) (last : ℕ) (before : List Call) (left : histories.IsLeftBy open_messages (assembled own device timing before)) where
     abbrev now : Requests
     now = requests own device timing before
 
@@ -318,7 +318,7 @@ module _ (own device : ℕ) (timing : Timing) where
       last = refl;
     }
 
-  calls_leave : (held : Held) (before : List Call) → IsLeftBy own device timing held before → Leaves held (requests own device timing before) (assembled own device timing before) (last_moment own device timing before)
+  calls_leave : (held : RequesterState) (before : List Call) → IsLeftBy own device timing held before → Leaves held (requests own device timing before) (assembled own device timing before) (last_moment own device timing before)
   calls_leave held before left = record {
     endpoint = left.endpoint;
     peer = left.peer;
@@ -330,7 +330,7 @@ module _ (own device : ℕ) (timing : Timing) where
   }
 
   -- an open that is accepted, or not
-  module _ (held : Held) (before : List Call) (moment : ℕ) (command : Command) where
+  module _ (held : RequesterState) (before : List Call) (moment : ℕ) (command : Command) where
     abbrev requests_by : Bool → Requests
     requests_by b = cond b (opened (requests own device timing before) moment command) (requests own device timing before)
 

@@ -20,7 +20,7 @@ use Rattle.pldm_requester.specs.Calls.{answer_key}
 use Rattle.pldm_requester.specs.Courses.{begun, is_open, answered}
 use Rattle.pldm_requester.specs.Numbering.{id_of, tag_of}
 use Rattle.pldm_requester.specs.Steps.{Memo, IsHeld, is_recent, passes, is_open_in, is_tag_in_use, is_mine, is_mine_by, with_course, remembered_after, opened_held, new_memo}
-use Rattle.pldm_requester.specs.Slots.{Station, held_of, remembered_in, put_slot, AreSlots, IsPaced, IsStation, most_opened}
+use Rattle.pldm_requester.specs.Slots.{RequesterView, held_of, remembered_in, put_slot, AreSlots, IsPaced, IsStation, most_opened}
 use Rattle.pldm_requester.proofs.SlotLists.{remembered_parts, remembered_in-set, remembered_in-put, AreSlots-put}
 
 -- ---- a response of its own that says nothing of NotReady answers its request
@@ -39,7 +39,7 @@ either_map : (b : Bool) (f : Memo → Memo) (memo : Memo) (o : Option Memo) → 
 either_map true f memo o h = ap (option_map f) (sym (h refl))
 either_map false f memo o h = refl
 
-pub answered_held : (station : Station) (number : ℕ) (message : List ℕ) (response : Response) (memo seen : Memo)
+pub answered_held : (station : RequesterView) (number : ℕ) (message : List ℕ) (response : Response) (memo seen : Memo)
     → response_of message ≡ Ok response → is_mine (held_of station) number response ≡ true → (response.code ≡ 4 → ⊥)
     → memo ≡ seen → seen ≡ slice_index_or station.slots (number % 32) seen
     → IsHeld (held_of (record station { slots = slice_set station.slots (number % 32) (with_course (answered message) memo) }))
@@ -77,7 +77,7 @@ paced_by false true count n now memo o same at few paced = paced
 paced_by false false count n now memo o same at few paced = tt
 
 -- the one with the new one's tag is shut, and so are older ones
-tag_free : (station : Station) (n : ℕ) → is_tag_in_use (held_of station) ≡ false → n + 8 ≡ station.count → passes is_open (remembered_in station.count station.slots n) ≡ false
+tag_free : (station : RequesterView) (n : ℕ) → is_tag_in_use (held_of station) ≡ false → n + 8 ≡ station.count → passes is_open (remembered_in station.count station.slots n) ≡ false
 tag_free station n free e =
     ⊎_elim
     (λ (x : nat_le 8 station.count ≡ false). let i = leb-false 8 station.count x in absurd (omega arith))
@@ -89,14 +89,14 @@ shut_by true r memo o other shut = cc
 shut_by false true memo o other shut = shut
 shut_by false false memo o other shut = refl
 
-shut_opened : (station : Station) (n : ℕ) (memo : Memo) → IsStation station → is_tag_in_use (held_of station) ≡ false → n + 8 < station.count + 1
+shut_opened : (station : RequesterView) (n : ℕ) (memo : Memo) → IsStation station → is_tag_in_use (held_of station) ≡ false → n + 8 < station.count + 1
     → passes is_open (remembered_in (station.count + 1) (put_slot station.count station.slots memo) n) ≡ false
 shut_opened station n memo is free old =
     ap (passes is_open) (remembered_in-put station.count n station.slots memo is.slots)
     ∙ shut_by (n == station.count) (is_recent (station.count + 1) n) memo (remembered_in station.count station.slots n) (ne_eqb n station.count (λ e. omega arith))
     (⊎_elim (λ (e : n + 8 ≡ station.count). tag_free station n free e) (λ (e : n + 8 ≡ station.count → ⊥). is.shut n (omega arith)) (cases_eq (n + 8) station.count))
 
-pub opened_station : (station : Station) (now : ℕ) (memo : Memo) (open_messages : assembly.Held) → IsStation station → memo.course.opening ≡ now → station.count < most_opened now → is_tag_in_use (held_of station) ≡ false
+pub opened_station : (station : RequesterView) (now : ℕ) (memo : Memo) (open_messages : assembly.OpenMessages) → IsStation station → memo.course.opening ≡ now → station.count < most_opened now → is_tag_in_use (held_of station) ≡ false
     → IsStation (record station { count = station.count + 1; slots = put_slot station.count station.slots memo; open_messages = open_messages; last = now })
 opened_station station now memo open_messages is at few free = record {
   slots = AreSlots-put station.count station.slots memo is.slots;
@@ -106,7 +106,7 @@ opened_station station now memo open_messages is at few free = record {
   shut = λ n old. shut_opened station n memo is free old;
 }
 
-pub opened_is_held : (station : Station) (now : ℕ) (command : Command) (slots : List Memo) (open_messages : assembly.Held) → AreSlots station.count station.slots
+pub opened_is_held : (station : RequesterView) (now : ℕ) (command : Command) (slots : List Memo) (open_messages : assembly.OpenMessages) → AreSlots station.count station.slots
     → slots ≡ put_slot station.count station.slots (new_memo (held_of station) now command)
     → open_messages ≡ map.remove station.open_messages (answer_key station.device (tag_of station.count))
     → IsHeld (held_of (record station { count = station.count + 1; slots = slots; open_messages = open_messages; last = now })) (opened_held (held_of station) now command)
@@ -120,7 +120,7 @@ opened_is_held station now command slots open_messages are put forgot = record {
   last = refl;
 }
 
-pub memo_is : (station : Station) (now id tag : ℕ) (command : Command) (kind : TypeAndCommand) (packets : List (List ℕ)) → kind ≡ kind_of command
+pub memo_is : (station : RequesterView) (now id tag : ℕ) (command : Command) (kind : TypeAndCommand) (packets : List (List ℕ)) → kind ≡ kind_of command
     → packets ≡ written_packets (record { destination = station.device; source = station.own; owner = true; tag = tag }) (command_message id command)
     → id ≡ id_of station.count → tag ≡ tag_of station.count
     → (let memo : Memo = record { kind = kind; packets = packets; course = begun now } in memo ≡ new_memo (held_of station) now command)

@@ -13,7 +13,7 @@ use Rattle.pldm_requester.specs.Courses.{Answered}
 use Rattle.pldm_requester.specs.Laws.{IsLeftBy, IsInOrder}
 use Rattle.pldm_requester.specs.Numbering.{packets_of}
 use Rattle.pldm_requester.specs.Slots.{AreSlots}
-use Rattle.pldm_requester.specs.Steps.{Held, IsHeld, held_at_first, is_recent, ticked_held}
+use Rattle.pldm_requester.specs.Steps.{RequesterState, IsHeld, held_at_first, is_recent, ticked_held}
 use Rattle.pldm_requester.specs.Timings.{timing_fault}
 use Rattle.pldm_requester.specs.declared.results.Got.TheVariants as got
 use Rattle.pldm_requester.specs.declared.results.OpenFault.TheVariants.{TagInUse, IdInUse}
@@ -153,7 +153,7 @@ the_one_after : is_recent 33 1 ≡ true
 the_one_after = refl
 
 -- ---- the premises can be met
-abbrev new_requester : Held
+abbrev new_requester : RequesterState
 new_requester = held_at_first 8 9 timing
 
 new_one_is_left : IsLeftBy 8 9 timing new_requester []

@@ -7,7 +7,7 @@ use Rattle.pldm_requester.specs.Numbering.{id_of, tag_of, packets_of}
 use Rattle.pldm_requester.specs.Courses.{is_open}
 use Rattle.pldm_requester.specs.Calls.{Call, Open, Tick, Receive, Requests, accepts, answer_key, is_open_at, open_on, numbers_of, requests, last_moment, assembled, open_expected, again_expected, given_up_expected, got_expected}
 use Rattle.pldm_requester.specs.Steps as steps
-use Rattle.pldm_requester.specs.Steps.{Memo, Held, IsHeld, held_at_first, is_recent, opening_answer, opened_held, again_at, given_up_at, ticked_held, got_at, received_held}
+use Rattle.pldm_requester.specs.Steps.{Memo, RequesterState, IsHeld, held_at_first, is_recent, opening_answer, opened_held, again_at, given_up_at, ticked_held, got_at, received_held}
 use Rattle.pldm_requester.specs.declared.timing.Timing.{Timing}
 use Rattle.pldm_requester.specs.declared.requester.TheConstants.{MAX_OPEN}
 
@@ -23,7 +23,7 @@ abbrev pub memo_at : ℕ → ℕ → Requests → ℕ → Option Memo
 memo_at own device a number = if is_recent a.count number then Some (memo_of own device a number) else None
 
 -- what is held is what the calls leave of a requester with these endpoint IDs and this timing
-pub record IsLeftBy (own device : ℕ) (timing : Timing) (held : Held) (calls : List Call) : Type 0 where
+pub record IsLeftBy (own device : ℕ) (timing : Timing) (held : RequesterState) (calls : List Call) : Type 0 where
   pub endpoint : held.own ≡ own
   pub peer : held.device ≡ device
   pub times : held.timing ≡ timing
@@ -36,7 +36,7 @@ pub record IsLeftBy (own device : ℕ) (timing : Timing) (held : Held) (calls : 
 -- longer list leaves
 abbrev pub OpenLooksBack : Type 0
 OpenLooksBack =
-    (own device : ℕ) (timing : Timing) (held : Held) (calls : List Call) (moment : ℕ) (command : Command)
+    (own device : ℕ) (timing : Timing) (held : RequesterState) (calls : List Call) (moment : ℕ) (command : Command)
     → IsLeftBy own device timing held calls
     → (opening_answer held moment ≡ open_expected own device timing calls moment)
     × (steps.accepts held moment ≡ accepts timing.keep (requests own device timing calls) moment)
@@ -47,7 +47,7 @@ OpenLooksBack =
 -- so does a tick
 abbrev pub TickLooksBack : Type 0
 TickLooksBack =
-    (own device : ℕ) (timing : Timing) (held : Held) (calls : List Call) (moment : ℕ)
+    (own device : ℕ) (timing : Timing) (held : RequesterState) (calls : List Call) (moment : ℕ)
     → IsLeftBy own device timing held calls
     → (again_at held moment ≡ again_expected own device timing calls moment)
     × (given_up_at held moment ≡ given_up_expected own device timing calls moment)
@@ -56,7 +56,7 @@ TickLooksBack =
 -- and so do bytes that are received
 abbrev pub ReceiveLooksBack : Type 0
 ReceiveLooksBack =
-    (own device : ℕ) (timing : Timing) (held : Held) (calls : List Call) (moment : ℕ) (bytes : List ℕ)
+    (own device : ℕ) (timing : Timing) (held : RequesterState) (calls : List Call) (moment : ℕ) (bytes : List ℕ)
     → IsLeftBy own device timing held calls
     → (got_at held bytes ≡ got_expected own device timing calls bytes)
     × IsLeftBy own device timing (received_held held moment bytes) (Receive moment bytes ∷ calls)
@@ -68,7 +68,7 @@ NewLooksBack = (own device : ℕ) (timing : Timing) → IsLeftBy own device timi
 -- what holds the same is left by the same calls
 abbrev pub SameIsLeft : Type 0
 SameIsLeft =
-    (own device : ℕ) (timing : Timing) (new held : Held) (calls : List Call)
+    (own device : ℕ) (timing : Timing) (new held : RequesterState) (calls : List Call)
     → IsHeld new held → IsLeftBy own device timing held calls → IsLeftBy own device timing new calls
 
 -- ---- which requests are open

@@ -6,7 +6,7 @@ use Rattle.mctp_assembly.specs.Keys.{key_cmp, coded_key}
 use Rattle.mctp_assembly.specs.Opened.{Opened, coded_opened}
 use Rattle.pldm_wire.specs.Kinds.{of_type}
 use Rattle.pldm_requester.specs.Courses.{Progress, Waiting, Answered, GaveUp, is_open}
-use Rattle.pldm_requester.specs.Steps.{Memo, Held, is_recent, passes}
+use Rattle.pldm_requester.specs.Steps.{Memo, RequesterState, is_recent, passes}
 use Rattle.pldm_requester.specs.Timings.{coded_timing}
 use Rattle.pldm_requester.specs.declared.requester.TheConstants.{MAX_OPEN, MAX_REMEMBERED}
 use Rattle.pldm_requester.specs.declared.timing.Timing.{Timing}
@@ -56,7 +56,7 @@ coded_memo =
     (λ _. refl)
 
 -- what contracts see of a requester: the slot of each instance ID has the last request with it
-pub record Station : Type 0 where
+pub record RequesterView : Type 0 where
   pub own : ℕ
   pub device : ℕ
   pub timing : Timing
@@ -66,8 +66,8 @@ pub record Station : Type 0 where
   pub last : ℕ
 
 -- it is stored as its parts
-abbrev pub coded_station : Coded Station
-coded_station =
+abbrev pub coded_view : Coded RequesterView
+coded_view =
     code_by (ℕ × (ℕ × (Timing × (ℕ × (List Memo × (map.FinMap key_cmp Opened × ℕ))))))
     (coded× coded_ℕ (coded× coded_ℕ (coded× coded_timing (coded× coded_ℕ (coded× (coded_list coded_memo)
     (coded× (map.code coded_key coded_opened) coded_ℕ))))))
@@ -89,7 +89,7 @@ abbrev pub remembered_in : ℕ → List Memo → ℕ → Option Memo
 remembered_in count slots number =
     if is_recent count number then slice_get slots (number % MAX_REMEMBERED) else None
 
-abbrev pub held_of : Station → Held
+abbrev pub held_of : RequesterView → RequesterState
 held_of station = record {
   own = station.own;
   device = station.device;
@@ -124,7 +124,7 @@ OlderAreShut count slots =
     (number : ℕ) → number + MAX_OPEN < count → passes is_open (remembered_in count slots number) ≡ false
 
 -- the requests are so far apart, and only the last ones can be open
-pub record IsStation (station : Station) : Type 0 where
+pub record IsStation (station : RequesterView) : Type 0 where
   pub slots : AreSlots station.count station.slots
   pub few : station.count ≤ most_opened station.last
   pub paced : (number : ℕ) → IsPaced number (remembered_in station.count station.slots number)

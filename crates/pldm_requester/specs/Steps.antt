@@ -30,17 +30,17 @@ pub record Memo : Type 0 where
 
 -- its own endpoint ID and the device's, its timing, how many requests were opened, what is remembered of each, what is
 -- open on each key, and the last moment
-pub record Held : Type 0 where
+pub record RequesterState : Type 0 where
   pub own : ℕ
   pub device : ℕ
   pub timing : Timing
   pub count : ℕ
   pub remembered : ℕ → Option Memo
-  pub open_messages : assembly.Held
+  pub open_messages : assembly.OpenMessages
   pub last : ℕ
 
 -- the same is held
-pub record IsHeld (new held : Held) : Type 0 where
+pub record IsHeld (new held : RequesterState) : Type 0 where
   pub own : new.own ≡ held.own
   pub device : new.device ≡ held.device
   pub timing : new.timing ≡ held.timing
@@ -50,7 +50,7 @@ pub record IsHeld (new held : Held) : Type 0 where
   pub last : new.last ≡ held.last
 
 -- what a new one holds
-abbrev pub held_at_first : ℕ → ℕ → Timing → Held
+abbrev pub held_at_first : ℕ → ℕ → Timing → RequesterState
 held_at_first own device timing = record {
   own = own;
   device = device;
@@ -88,7 +88,7 @@ abbrev pub is_mine_by : ℕ → Option Memo → Response → Bool
 is_mine_by number None response = false
 is_mine_by number (Some memo) response = is_response_to number memo.kind response
 
-abbrev pub open_after : assembly.Held → Result Packet Reason → assembly.Held
+abbrev pub open_after : assembly.OpenMessages → Result Packet Reason → assembly.OpenMessages
 open_after open_messages (Err reason) = open_messages
 open_after open_messages (Ok p) = assembly.after open_messages p
 
@@ -97,7 +97,7 @@ abbrev pub begins_message : Result Packet Reason → Bool
 begins_message (Err reason) = false
 begins_message (Ok p) = p.start
 
-module _ (held : Held) where
+module _ (held : RequesterState) where
   abbrev pub is_open_in : ℕ → Bool
   is_open_in number = passes is_open (held.remembered number)
 
@@ -125,7 +125,7 @@ module _ (held : Held) where
   }
 
   -- what is held after an accepted open: of the last requests one more is remembered
-  abbrev pub opened_held : ℕ → Command → Held
+  abbrev pub opened_held : ℕ → Command → RequesterState
   opened_held moment command = record held {
     count = held.count + 1;
     remembered = λ number.
@@ -144,7 +144,7 @@ module _ (held : Held) where
   given_up_at moment =
       filter (λ number. passes (is_given_up held.timing moment) (held.remembered number)) (recent_numbers held.count)
 
-  abbrev pub ticked_held : ℕ → Held
+  abbrev pub ticked_held : ℕ → RequesterState
   ticked_held moment = record held {
     remembered = λ number. option_map (with_course (ticked held.timing moment)) (held.remembered number);
     last = moment;
@@ -176,7 +176,7 @@ module _ (held : Held) where
       else held.remembered number
 
   -- what is held after it, but for the moment
-  abbrev pub held_by : Result Packet Reason → Held
+  abbrev pub held_by : Result Packet Reason → RequesterState
   held_by passed = record held {
     remembered = remembered_after (arrived_by passed);
     open_messages = open_after held.open_messages passed;
@@ -185,5 +185,5 @@ module _ (held : Held) where
   abbrev pub got_at : List ℕ → Got
   got_at bytes = got_of (arrived_by (passed bytes))
 
-  abbrev pub received_held : ℕ → List ℕ → Held
+  abbrev pub received_held : ℕ → List ℕ → RequesterState
   received_held moment bytes = record (held_by (passed bytes)) { last = moment }

@@ -1,3 +1,5 @@
+//! What a requester remembers of a request: its command, its tries, and its answer.
+
 use crate::{Due, MAX_OPEN, Status, Timing};
 use mctp_packet::{Body, MAX_MESSAGE_BYTES, Moment, Packets, Route, split_into};
 use pldm_wire::Kind;

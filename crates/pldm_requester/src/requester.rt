@@ -1,3 +1,5 @@
+//! The requesting end of a link: requests opened, sent again at ticks, and answered by packets.
+
 ghost use Rattle.std.specs.Prelude.{◌≡◌, ◌⊎◌, ℕ, ◌+◌, ◌%◌, ◌^◌, ◌<◌, ◌≤◌, true, [], ◌∷◌, ◌++◌, length, filter, if◌then◌else◌, None, Some, Ok, Err, option_map, vec_len, vec_capacity, IfOk, IfErr, IfSome, IsErrOf, OnOk, OnErr};
 ghost use Rattle.std.specs.Bool.{OnFalse};
 ghost use Rattle.std.specs.Option.{option_copied};
@@ -23,7 +25,7 @@ ghost use Rattle.pldm_requester.specs.Timings.{timing_fault};
 use crate::remembered::Remembered;
 use crate::{Due, Got, OpenFault, Opened, Status, Timing, TimingFault};
 use arrayvec::ArrayVec;
-use mctp_assembly::{Assembler, FedInto, Key};
+use mctp_assembly::{Assembled, Assembler, Key};
 use mctp_packet::{
     Body, Eid, MAX_MESSAGE_BYTES, Memory, Moment, PacketRef, Packets, Reason, Route, TAGS, Tag,
     read_for, split,
@@ -54,11 +56,11 @@ pub struct Requester {
 }
 
 impl Model for Requester {
-    ghost use Rattle.pldm_requester.specs.Slots.{Station, IsStation, coded_station};
+    ghost use Rattle.pldm_requester.specs.Slots.{RequesterView, IsStation, coded_view};
 
-    ghost Value = { Station };
+    ghost Value = { RequesterView };
 
-    ghost coded = { coded_station };
+    ghost coded = { coded_view };
 
     ghost view = { λ r. record {
       own = r.own;
@@ -393,16 +395,16 @@ impl Requester {
         ensures err { OnErr result (IsHeld (held_of self.new) (held_of self.old)) }
     {
         if !packet.end() {
-            return Ok(match self.assembler.feed_open(packet)? {
-                FedInto::Whole | FedInto::Partial => Got::Partial,
-                FedInto::Dropped(reason) => Got::Dropped(reason),
+            return Ok(match self.assembler.feed_part(packet)? {
+                Assembled::Whole | Assembled::Partial => Got::Partial,
+                Assembled::Dropped(reason) => Got::Dropped(reason),
             });
         }
         let mut message = Body::new();
         match self.assembler.feed_into(packet, &mut message)? {
-            FedInto::Whole => Ok(self.answer(number, &message)),
-            FedInto::Partial => Ok(Got::Partial),
-            FedInto::Dropped(reason) => Ok(Got::Dropped(reason)),
+            Assembled::Whole => Ok(self.answer(number, &message)),
+            Assembled::Partial => Ok(Got::Partial),
+            Assembled::Dropped(reason) => Ok(Got::Dropped(reason)),
         }
     }
 

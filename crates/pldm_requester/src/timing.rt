@@ -1,3 +1,5 @@
+//! When a request is sent again, and when it is given up.
+
 ghost use Rattle.std.specs.Prelude.{◌≡◌, None, Some};
 ghost use Rattle.pldm_requester.specs.Timings.{timing_fault, number_of_timing_fault};
 

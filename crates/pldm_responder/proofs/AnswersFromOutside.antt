@@ -10,7 +10,7 @@ use Rattle.pldm_wire.specs.declared.command.Command.{Command}
 use Rattle.pldm_responder.specs.Arrivals.{Arrival, Drop, Part, Whole, packets_back}
 use Rattle.pldm_responder.specs.Asked.{AnswerDecides, Given, IsAsGiven, IsFresh, IsGivenBy, NoneIsAsked, gives, over, response_in}
 use Rattle.pldm_responder.specs.Events.{Message}
-use Rattle.pldm_responder.specs.Held.{Entry, Held, id_in}
+use Rattle.pldm_responder.specs.ResponderStates.{Entry, ResponderState, id_in}
 use Rattle.pldm_responder.specs.Performing.{Respond, Response, Rules, Task, answer_to, busy_reply, changes_at, changes_by, reply_to, response_to, tasks_at, tasks_in, tasks_of}
 use Rattle.pldm_responder.specs.Steps.{arrival_asks, arrival_held, arrival_outcome, copied_packets, entry_for, entry_of, performs, received_arrival, received_tasks, refuses_now, repeats, served}
 use Rattle.pldm_responder.specs.Recency.{renewed}
@@ -21,8 +21,8 @@ abbrev IsGiven : {S : Type 0} → Rules S → S → Given → List Task → Type
 IsGiven device state given [] = Unit {0}
 IsGiven device state given (task ∷ tasks) = IsGivenBy device state task given
 
-module _ {S : Type 0} (device : Rules S) (held : Held S) (given : Given) where
-  abbrev bare : Held (Unit {0})
+module _ {S : Type 0} (device : Rules S) (held : ResponderState S) (given : Given) where
+  abbrev bare : ResponderState (Unit {0})
   bare = over tt held
 
   -- the platform without a state that gives it

@@ -16,7 +16,7 @@ use Rattle.mctp_packet.specs.Packets.{Packet}
 use Rattle.mctp_packet.specs.declared.TheConstants.{TAGS}
 use Rattle.mctp_assembly.specs.Keys.{key_cmp, key_of}
 use Rattle.mctp_assembly.specs.Opened.{Opened}
-use Rattle.mctp_assembly.specs.Steps.{Held, answer, after, stays_open, carried_on, unless_whole, after_piece}
+use Rattle.mctp_assembly.specs.Steps.{OpenMessages, answer, after, stays_open, carried_on, unless_whole, after_without_ending}
 use Rattle.mctp_assembly.specs.declared.fed.Fed.{Fed}
 use Rattle.mctp_assembly.specs.declared.fed.Fed.TheVariants.{Whole, Partial, Dropped}
 use Rattle.mctp_assembly.specs.declared.key.Key.{Key}
@@ -33,7 +33,7 @@ without : (t : Bool) (o : Option Opened) → is_some (cond t None o) ≡ true �
 without true o h = cc
 without false o h = h
 
-pub asked_without : (own : ℕ) (held : Held) (k : Key) → AreAsked own held → AreAsked own (finite.remove held k)
+pub asked_without : (own : ℕ) (held : OpenMessages) (k : Key) → AreAsked own held → AreAsked own (finite.remove held k)
 asked_without own held k asked key h =
     asked key (without (eq_by_cmp key_cmp key k) (finite.get held key) (sym (ap is_some (finite.get-remove keys_total held k key)) ∙ h))
 
@@ -47,21 +47,21 @@ with_by own true k key o before e new asked h =
     subst (IsAsked own) (sym (keys_exact key k (same_by (key_cmp key k) e))) new
 with_by own false k key o before e new asked h = asked h
 
-pub asked_with : (own : ℕ) (held : Held) (k : Key) (o : Opened) → IsAsked own k → AreAsked own held → AreAsked own (finite.insert held k o)
+pub asked_with : (own : ℕ) (held : OpenMessages) (k : Key) (o : Opened) → IsAsked own k → AreAsked own held → AreAsked own (finite.insert held k o)
 asked_with own held k o new asked key h =
     with_by own (eq_by_cmp key_cmp key k) k key o (finite.get held key) refl new (asked key) (sym (ap is_some (finite.get-insert keys_total held k o key)) ∙ h)
 
-after_by : (own : ℕ) (t : Bool) (held : Held) (k : Key) (o : Opened) → IsAsked own k → AreAsked own held → AreAsked own (cond t (finite.insert held k o) (finite.remove held k))
+after_by : (own : ℕ) (t : Bool) (held : OpenMessages) (k : Key) (o : Opened) → IsAsked own k → AreAsked own held → AreAsked own (cond t (finite.insert held k o) (finite.remove held k))
 after_by own true held k o new asked = asked_with own held k o new asked
 after_by own false held k o new asked = asked_without own held k asked
 
-unless_by : (own : ℕ) (fed : Fed) (old new : Held) → AreAsked own old → AreAsked own new → AreAsked own (unless_whole fed old new)
+unless_by : (own : ℕ) (fed : Fed) (old new : OpenMessages) → AreAsked own old → AreAsked own new → AreAsked own (unless_whole fed old new)
 unless_by own (Whole body) old new before after = before
 unless_by own Partial old new before after = after
 unless_by own (Dropped reason) old new before after = after
 
-pub asked_after_piece : (own : ℕ) (held : Held) (p : Packet) → IsAsked own (key_of p) → AreAsked own held → AreAsked own (after_piece held p)
-asked_after_piece own held p new asked =
+pub asked_after_packet : (own : ℕ) (held : OpenMessages) (p : Packet) → IsAsked own (key_of p) → AreAsked own held → AreAsked own (after_without_ending held p)
+asked_after_packet own held p new asked =
     unless_by own (answer held p) held (after held p) asked
     (after_by own (stays_open (answer held p)) held (key_of p) (carried_on (finite.get held (key_of p)) p) new asked)
 
@@ -121,7 +121,7 @@ below : (own : ℕ) (ks : List Key) → IsEid own → AllByRecursion (IsAsked ow
 below own [] home h q any = cc
 below own (k ∷ ks) home h q any = below_by (q == number own k) own q k ks refl home h.0 (below own ks home h.1 q) any
 
-pub few_pending : (own : ℕ) (held : Held) → IsEid own → AreAsked own held → finite.len held ≤ MAX_PENDING
+pub few_pending : (own : ℕ) (held : OpenMessages) → IsEid own → AreAsked own held → finite.len held ≤ MAX_PENDING
 few_pending own held home asked =
     let es = finite.entries held in
     let are = asked_all own (keys_in es) (λ key any. asked key (finite.contains_key-keys held key ∙ any)) in

@@ -13,7 +13,7 @@ use Rattle.pldm_wire.specs.declared.handed_on.HandedOn.{HandedOn}
 use Rattle.pldm_responder.specs.Events.{Message, Event, Came, Set, Restarted, Changed, Place, busy_until, is_busy, is_copy, is_copy_of, is_fresh, is_of, is_refused, refuses_bytes, sets_in}
 use Rattle.pldm_responder.specs.Performing.{Rules, commands_of, tasks_of}
 use Rattle.pldm_responder.specs.Askings.{AskedApart, CommandsLookBack, Covers, SetsAfterBusyTime, TasksLookBack, asked_by, is_renewed}
-use Rattle.pldm_responder.specs.Held.{Held}
+use Rattle.pldm_responder.specs.ResponderStates.{ResponderState}
 use Rattle.pldm_responder.specs.Laws.{IsLeftBy}
 use Rattle.pldm_responder.specs.Steps.{arrival_asks, received_arrival}
 use Rattle.pldm_responder.specs.TheRule.{latest_fresh, others_since}
@@ -22,7 +22,7 @@ use Rattle.pldm_responder.proofs.CopiesByTheRule.{copies_by_the_rule}
 
 -- ---- what is asked is what looking back says
 module _ {S A : Type 0} (device : Rules S) (asks : List ℕ → List A) where
-  asked_is : (own : ℕ) (busy : BusyTime) (window keep : ℕ) (start : S) (held : Held S) (h : List (Event S)) (a : Arrival)
+  asked_is : (own : ℕ) (busy : BusyTime) (window keep : ℕ) (start : S) (held : ResponderState S) (h : List (Event S)) (a : Arrival)
       → arrival_asks (left_by device own busy window keep start held.open_messages held.last h) asks a ≡ asked_by asks busy window keep h a
   asked_is own busy window keep start held h (Drop reason) = refl
   asked_is own busy window keep start held h Part = refl
@@ -30,12 +30,12 @@ module _ {S A : Type 0} (device : Rules S) (asks : List ℕ → List A) where
       ap (λ r. if not (is_refused busy keep h m) && not r then asks m.bytes else [])
       (copies_is device own busy window keep start h m)
 
-  pub asks_look_back : assembly.FeedLooksBack → (own : ℕ) (busy : BusyTime) (window keep : ℕ) (start : S) (held : Held S) (calls : List (Call S)) (moment : ℕ) (bytes : List ℕ)
+  pub asks_look_back : assembly.FeedLooksBack → (own : ℕ) (busy : BusyTime) (window keep : ℕ) (start : S) (held : ResponderState S) (calls : List (Call S)) (moment : ℕ) (bytes : List ℕ)
       → IsLeftBy device own busy window keep start held calls
       → arrival_asks held asks (received_arrival held moment bytes) ≡ asked_by asks busy window keep (events own calls) (arrived own calls moment bytes)
   asks_look_back looks own busy window keep start held calls moment bytes left =
       let h = events own calls in
-      ap (λ (x : Held S). arrival_asks x asks (received_arrival x moment bytes)) (held_is device own busy window keep start held calls left)
+      ap (λ (x : ResponderState S). arrival_asks x asks (received_arrival x moment bytes)) (held_is device own busy window keep start held calls left)
       ∙ ap (arrival_asks (left_by device own busy window keep start held.open_messages held.last h) asks)
       (passed_brings looks held.open_messages (fed own calls) moment (request_packet own bytes) left.open_messages)
       ∙ asked_is own busy window keep start held h (arrived own calls moment bytes)

@@ -16,7 +16,7 @@ use Rattle.pldm_responder.specs.Arrivals.{Arrival, Drop, Part, Whole, fed_arriva
 use Rattle.pldm_responder.specs.Calls as calls
 use Rattle.pldm_responder.specs.Calls.{Call, Received, Sensed, with_packet, fed, looked_back, arrived, with_arrival, events, last_moment, outcome}
 use Rattle.pldm_responder.specs.Events.{Message, Event, Came, Restarted, Place, busy_until, id_of, is_copy_of, is_fresh, is_kept, is_refused, origin, recent}
-use Rattle.pldm_responder.specs.Held.{Entry, Held, id_in}
+use Rattle.pldm_responder.specs.ResponderStates.{Entry, ResponderState, id_in}
 use Rattle.pldm_responder.specs.Laws.{entry_at, kept_to, IsLeftBy, ReceivedLooksBack, SensedLooksBack, RestartedLooksBack, AssignedLooksBack, EndedLooksBack, UpdatedLooksBack, PutIsUpdated, NewLooksBack, SameIsLeft, KeptWhereFresh}
 use Rattle.pldm_responder.specs.Performing.{Rules, reply, next, changes, busy_reply, performed, reply_at, answered_by}
 use Rattle.pldm_responder.specs.Recency.{of_number, renewed}
@@ -27,19 +27,19 @@ use Rattle.pldm_responder.proofs.RecentFirst.{found_in_map, renewed_in_map, fron
 
 -- ---- what a packet brings
 module _ (looks : assembly.FeedLooksBack) where
-  pub passed_brings : (open_messages : steps.Held) (packets : List histories.Call) (moment : ℕ) (read : Result Packet Reason) → histories.IsLeftBy open_messages packets → passed_arrival (steps.answer open_messages) moment read ≡ passed_arrival (looked_back packets) moment read
+  pub passed_brings : (open_messages : steps.OpenMessages) (packets : List histories.Call) (moment : ℕ) (read : Result Packet Reason) → histories.IsLeftBy open_messages packets → passed_arrival (steps.answer open_messages) moment read ≡ passed_arrival (looked_back packets) moment read
   passed_brings open_messages packets moment (Ok p) left =
       ap (fed_arrival p.route moment) (looks MAX_PACKETS open_messages packets p (lit≤ tt) left).0
   passed_brings open_messages packets moment (Err reason) left = refl
 
-  passed_opens : (open_messages : steps.Held) (packets : List histories.Call) (read : Result Packet Reason) → histories.IsLeftBy open_messages packets → histories.IsLeftBy (open_after open_messages read) (with_packet read packets)
+  passed_opens : (open_messages : steps.OpenMessages) (packets : List histories.Call) (read : Result Packet Reason) → histories.IsLeftBy open_messages packets → histories.IsLeftBy (open_after open_messages read) (with_packet read packets)
   passed_opens open_messages packets (Ok p) left = (looks MAX_PACKETS open_messages packets p (lit≤ tt) left).1
   passed_opens open_messages packets (Err reason) left = left
 
 -- ---- what a message is answered and leaves
 module _ {S : Type 0} (device : Rules S) (own : ℕ) (busy : BusyTime) (window keep : ℕ) (start : S) where
   -- what these events leave, with any open messages and last moment
-  abbrev pub left_by : steps.Held → ℕ → List (Event S) → Held S
+  abbrev pub left_by : steps.OpenMessages → ℕ → List (Event S) → ResponderState S
   left_by open_messages last h = record {
     own = own;
     busy = busy;
@@ -65,14 +65,14 @@ module _ {S : Type 0} (device : Rules S) (own : ℕ) (busy : BusyTime) (window k
   repeats_origin m (Some place) = refl
 
   -- t for a copy
-  served_by : (t : Bool) (open_messages : steps.Held) (last : ℕ) (h : List (Event S)) (m : Message) (first : List ℕ)
+  served_by : (t : Bool) (open_messages : steps.OpenMessages) (last : ℕ) (h : List (Event S)) (m : Message) (first : List ℕ)
       → served device (left_by open_messages last h) m (if t then Some (packets_back own m first) else None)
       ≡ (if t then Answered false false (packets_back own m (if t then first else reply device (performed device busy window keep start h) m.bytes))
       else Answered true (changes device (performed device busy window keep start h) m.bytes) (packets_back own m (if t then first else reply device (performed device busy window keep start h) m.bytes)))
   served_by true open_messages last h m first = refl
   served_by false open_messages last h m first = refl
 
-  served_is : (open_messages : steps.Held) (last : ℕ) (h : List (Event S)) (m : Message) (o : Option (Place S))
+  served_is : (open_messages : steps.OpenMessages) (last : ℕ) (h : List (Event S)) (m : Message) (o : Option (Place S))
       → served device (left_by open_messages last h) m (copied_packets own keep m (entry_if o))
       ≡ (if is_copy_of keep m o then Answered false false (packets_back own m (answered_by device busy window keep start h m o))
       else Answered true (changes device (performed device busy window keep start h) m.bytes) (packets_back own m (answered_by device busy window keep start h m o)))
@@ -80,12 +80,12 @@ module _ {S : Type 0} (device : Rules S) (own : ℕ) (busy : BusyTime) (window k
   served_is open_messages last h m (Some place) =
       served_by (is_copy_of keep m (Some place)) open_messages last h m (reply_at device busy window keep start place)
 
-  message_is : (open_messages : steps.Held) (last : ℕ) (h : List (Event S)) (m : Message) → message_outcome device (left_by open_messages last h) m ≡ calls.answer_expected device own busy window keep start h m
+  message_is : (open_messages : steps.OpenMessages) (last : ℕ) (h : List (Event S)) (m : Message) → message_outcome device (left_by open_messages last h) m ≡ calls.answer_expected device own busy window keep start h m
   message_is open_messages last h m =
       ap (λ o. if is_refused busy keep h m then Answered false false (packets_back own m (busy_reply m.bytes)) else o)
       (ap (λ e. served device (left_by open_messages last h) m (copied_packets own keep m e)) (entry_is h m.source (id_at m.bytes)) ∙ served_is open_messages last h m (origin busy window keep h m.source (id_at m.bytes)))
 
-  arrival_is : (open_messages : steps.Held) (last : ℕ) (h : List (Event S)) (a : Arrival) → arrival_outcome device (left_by open_messages last h) a ≡ calls.outcome_expected device own busy window keep start h a
+  arrival_is : (open_messages : steps.OpenMessages) (last : ℕ) (h : List (Event S)) (a : Arrival) → arrival_outcome device (left_by open_messages last h) a ≡ calls.outcome_expected device own busy window keep start h a
   arrival_is open_messages last h (Drop reason) = refl
   arrival_is open_messages last h Part = refl
   arrival_is open_messages last h (Whole m) = message_is open_messages last h m
@@ -104,18 +104,18 @@ module _ {S : Type 0} (device : Rules S) (own : ℕ) (busy : BusyTime) (window k
       ∙ take-map (entry_at device busy window keep start) window (renewed id_of place (take window (recent busy window keep h source)))
       ∙ ap (map (entry_at device busy window keep start)) (front_renewed id_of window place (recent busy window keep h source) (recent_apart busy window keep h source))
 
-  kept_is : (open_messages : steps.Held) (last : ℕ) (h : List (Event S)) (m : Message) (source : ℕ)
+  kept_is : (open_messages : steps.OpenMessages) (last : ℕ) (h : List (Event S)) (m : Message) (source : ℕ)
       → kept_after device (left_by open_messages last h) m source ≡ kept_to device busy window keep start (Came m ∷ h) source
   kept_is open_messages last h m source =
       ap (λ r. if m.source == source && (not (is_refused busy keep h m) && not r) then take window (renewed id_in (entry_of device (left_by open_messages last h) m) (kept_to device busy window keep start h source)) else kept_to device busy window keep start h source) (copies_is h m)
       ∙ kept_where (record { before = h; message = m }) h source (m.source == source && is_fresh busy window keep h m)
 
-  state_is : (open_messages : steps.Held) (last : ℕ) (h : List (Event S)) (m : Message) → state_after device (left_by open_messages last h) m ≡ performed device busy window keep start (Came m ∷ h)
+  state_is : (open_messages : steps.OpenMessages) (last : ℕ) (h : List (Event S)) (m : Message) → state_after device (left_by open_messages last h) m ≡ performed device busy window keep start (Came m ∷ h)
   state_is open_messages last h m =
       ap (λ r. if not (is_refused busy keep h m) && not r then next device (performed device busy window keep start h) m.bytes else performed device busy window keep start h) (copies_is h m)
 
   -- what is held but for the open messages and the last moment
-  record Leaves (held : Held S) (h : List (Event S)) : Type 0 where
+  record Leaves (held : ResponderState S) (h : List (Event S)) : Type 0 where
     endpoint : held.own ≡ own
     refusing : held.busy ≡ busy
     keeping : held.keep ≡ keep
@@ -124,13 +124,13 @@ module _ {S : Type 0} (device : Rules S) (own : ℕ) (busy : BusyTime) (window k
     state : held.state ≡ performed device busy window keep start h
     serves_from : held.serves_from ≡ busy_until keep h
 
-  arrival_leaves : (open_messages : steps.Held) (last : ℕ) (h : List (Event S)) (a : Arrival) → Leaves (arrival_held device (left_by open_messages last h) a) (with_arrival a h)
+  arrival_leaves : (open_messages : steps.OpenMessages) (last : ℕ) (h : List (Event S)) (a : Arrival) → Leaves (arrival_held device (left_by open_messages last h) a) (with_arrival a h)
   arrival_leaves open_messages last h (Drop reason) = record { endpoint = refl; refusing = refl; keeping = refl; windows = refl; kept = λ source. refl; state = refl; serves_from = refl }
   arrival_leaves open_messages last h Part = record { endpoint = refl; refusing = refl; keeping = refl; windows = refl; kept = λ source. refl; state = refl; serves_from = refl }
   arrival_leaves open_messages last h (Whole m) =
       record { endpoint = refl; refusing = refl; keeping = refl; windows = refl; kept = kept_is open_messages last h m; state = state_is open_messages last h m; serves_from = refl }
 
-  pub held_is : (held : Held S) (before : List (Call S)) → IsLeftBy device own busy window keep start held before → held ≡ left_by held.open_messages held.last (events own before)
+  pub held_is : (held : ResponderState S) (before : List (Call S)) → IsLeftBy device own busy window keep start held before → held ≡ left_by held.open_messages held.last (events own before)
   held_is held before left =
       λ i. record {
         own = left.endpoint i;
@@ -144,7 +144,7 @@ module _ {S : Type 0} (device : Rules S) (own : ℕ) (busy : BusyTime) (window k
         last = held.last;
       }
 
-  with_leaves : (held : Held S) (open_messages : steps.Held) (moment : ℕ) (bytes : List ℕ) (before : List (Call S)) → Leaves held (events own (Received moment bytes ∷ before)) → histories.IsLeftBy open_messages (fed own (Received moment bytes ∷ before))
+  with_leaves : (held : ResponderState S) (open_messages : steps.OpenMessages) (moment : ℕ) (bytes : List ℕ) (before : List (Call S)) → Leaves held (events own (Received moment bytes ∷ before)) → histories.IsLeftBy open_messages (fed own (Received moment bytes ∷ before))
       → IsLeftBy device own busy window keep start (record held { open_messages = open_messages; last = moment }) (Received moment bytes ∷ before)
   with_leaves held open_messages moment bytes before left opens = record {
     endpoint = left.endpoint;
@@ -159,7 +159,7 @@ module _ {S : Type 0} (device : Rules S) (own : ℕ) (busy : BusyTime) (window k
   }
 
   module _ (looks : assembly.FeedLooksBack) where
-    left_received : (open_messages : steps.Held) (last : ℕ) (before : List (Call S)) (moment : ℕ) (bytes : List ℕ) → histories.IsLeftBy open_messages (fed own before)
+    left_received : (open_messages : steps.OpenMessages) (last : ℕ) (before : List (Call S)) (moment : ℕ) (bytes : List ℕ) → histories.IsLeftBy open_messages (fed own before)
         → (received_outcome device (left_by open_messages last (events own before)) moment bytes ≡ outcome device own busy window keep start before moment bytes)
         × IsLeftBy device own busy window keep start (received_held device (left_by open_messages last (events own before)) moment bytes) (Received moment bytes ∷ before)
     left_received open_messages last before moment bytes left =
@@ -220,23 +220,23 @@ module _ {S : Type 0} (device : Rules S) where
   }
 
   -- t where there was no endpoint ID before
-  assigned_kept : (t : Bool) (busy : BusyTime) (window keep : ℕ) (start : S) (held : Held S) (moment : ℕ) (h : List (Event S)) (source : ℕ) → held.kept source ≡ kept_to device busy window keep start h source
+  assigned_kept : (t : Bool) (busy : BusyTime) (window keep : ℕ) (start : S) (held : ResponderState S) (moment : ℕ) (h : List (Event S)) (source : ℕ) → held.kept source ≡ kept_to device busy window keep start h source
       → (if t then held else restarted_held held moment).kept source ≡ kept_to device busy window keep start (if t then h else Restarted moment ∷ h) source
   assigned_kept true busy window keep start held moment h source kept = kept
   assigned_kept false busy window keep start held moment h source kept = sym (ap (map (entry_at device busy window keep start)) (take-nil {A = Place S} window))
 
-  assigned_state : (t : Bool) (busy : BusyTime) (window keep : ℕ) (start : S) (held : Held S) (moment : ℕ) (h : List (Event S)) → held.state ≡ performed device busy window keep start h
+  assigned_state : (t : Bool) (busy : BusyTime) (window keep : ℕ) (start : S) (held : ResponderState S) (moment : ℕ) (h : List (Event S)) → held.state ≡ performed device busy window keep start h
       → (if t then held else restarted_held held moment).state ≡ performed device busy window keep start (if t then h else Restarted moment ∷ h)
   assigned_state true busy window keep start held moment h state = state
   assigned_state false busy window keep start held moment h state = state
 
-  assigned_serves : (t : Bool) (keep : ℕ) (held : Held S) (moment : ℕ) (h : List (Event S)) → held.keep ≡ keep → held.serves_from ≡ busy_until keep h
+  assigned_serves : (t : Bool) (keep : ℕ) (held : ResponderState S) (moment : ℕ) (h : List (Event S)) → held.keep ≡ keep → held.serves_from ≡ busy_until keep h
       → (if t then held else restarted_held held moment).serves_from ≡ busy_until keep (if t then h else Restarted moment ∷ h)
   assigned_serves true keep held moment h keeping serves = serves
   assigned_serves false keep held moment h keeping serves = ap (λ k. moment + k) keeping
 
   -- what an assignment leaves of the settings
-  same_settings : (t : Bool) (held : Held S) (moment : ℕ) → ((if t then held else restarted_held held moment).busy ≡ held.busy) × ((if t then held else restarted_held held moment).window ≡ held.window) × ((if t then held else restarted_held held moment).keep ≡ held.keep)
+  same_settings : (t : Bool) (held : ResponderState S) (moment : ℕ) → ((if t then held else restarted_held held moment).busy ≡ held.busy) × ((if t then held else restarted_held held moment).window ≡ held.window) × ((if t then held else restarted_held held moment).keep ≡ held.keep)
   same_settings true held moment = (refl, refl, refl)
   same_settings false held moment = (refl, refl, refl)
 

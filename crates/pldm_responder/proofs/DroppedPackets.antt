@@ -5,18 +5,18 @@ use Rattle.pldm_wire.specs.declared.command.Command.{Command}
 use Rattle.pldm_responder.specs.Arrivals.{Drop, request_packet}
 use Rattle.pldm_responder.specs.Ends.{End, has_row}
 use Rattle.pldm_responder.specs.Fitting.{ArrivalFits}
-use Rattle.pldm_responder.specs.Held.{IsHeld}
+use Rattle.pldm_responder.specs.ResponderStates.{IsHeld}
 use Rattle.pldm_responder.specs.Looking.{end_after}
 use Rattle.pldm_responder.specs.OpenOrder.{open_passed}
 use Rattle.pldm_responder.specs.Performing.{Rules}
 use Rattle.pldm_responder.specs.Receiving.{HasReceived}
 use Rattle.pldm_responder.specs.Rooms.{AreRowsAfter}
 use Rattle.pldm_responder.specs.Slots.{kept_in, source_count}
-use Rattle.pldm_responder.specs.Stations.{Station, held_of}
+use Rattle.pldm_responder.specs.ResponderViews.{ResponderView, held_of}
 use Rattle.pldm_responder.specs.Steps.{arrival_commands, arrival_held, arrival_outcome, open_after, received_arrival}
 use Rattle.pldm_responder.specs.declared.outcome.Outcome.TheVariants.{Dropped}
 
-pub received_where_dropped : {P S : Type 0} (performing : P → List Command → P → Type 0) (inside old : Station P S) (moment : ℕ) (bytes : List ℕ) (end : End) (device : Rules S) (reason : Reason)
+pub received_where_dropped : {P S : Type 0} (performing : P → List Command → P → Type 0) (inside old : ResponderView P S) (moment : ℕ) (bytes : List ℕ) (end : End) (device : Rules S) (reason : Reason)
     → inside ≡ old → Drop reason ≡ received_arrival (held_of inside) moment bytes → end ≡ end_after inside.end moment bytes
     → open_passed inside.end (request_packet inside.end.own bytes) ≡ open_after inside.end.open_messages (request_packet inside.end.own bytes)
     → performing inside.platform [] inside.platform

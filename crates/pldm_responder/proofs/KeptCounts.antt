@@ -9,7 +9,7 @@ use Rattle.std.proofs.lemmas.List.Sums.{sum_by-cons}
 use Rattle.mctp_assembly.specs.NumberLists.{NumberList, Rises, at}
 use Rattle.mctp_assembly.proofs.NumberLookups.{absent}
 use Rattle.pldm_responder.specs.Counts.{CountsKept, is_pair}
-use Rattle.pldm_responder.specs.Held.{Entry, id_in}
+use Rattle.pldm_responder.specs.ResponderStates.{Entry, id_in}
 use Rattle.pldm_responder.specs.Recency.{IsApart, of_number}
 use Rattle.pldm_responder.specs.Slots.{Answers, AreKept, AreKeptTo, Rows, answers_in, entry_in, no_answers, source_count}
 use Rattle.pldm_responder.proofs.CountedPairs.{none_any}

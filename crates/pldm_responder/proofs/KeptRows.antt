@@ -10,7 +10,7 @@ use Rattle.mctp_packet.specs.Ids.{IsEid}
 use Rattle.mctp_assembly.specs.NumberLists.{NumberList, Changes, IsGapFor, at}
 use Rattle.mctp_assembly.proofs.NumberPlaces.{inserted_at, none_in_gap, rises_inserted}
 use Rattle.pldm_responder.specs.Ends.{GetsRow, has_row}
-use Rattle.pldm_responder.specs.Held.{Entry, id_in}
+use Rattle.pldm_responder.specs.ResponderStates.{Entry, id_in}
 use Rattle.pldm_responder.specs.Recency.{IsApart, of_number, renewed, replaced}
 use Rattle.pldm_responder.specs.Slots.{Answers, AreKept, AreKeptTo, IsKept, Rows, answers_in, no_answers, row_of}
 use Rattle.pldm_responder.proofs.RecentFirst.{by_test, found_later, none_in_front, none_later, renewed_apart}

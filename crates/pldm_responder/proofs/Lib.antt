@@ -27,6 +27,7 @@ pub mod RefusedMemory
 pub mod SlotOrders
 pub mod NumberSearches
 pub mod SourceAnswers
+pub mod StoredSlots
 pub mod KeptRows
 pub mod WithoutEid
 pub mod NoId

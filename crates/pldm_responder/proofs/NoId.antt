@@ -8,7 +8,7 @@ use Rattle.mctp_assembly.specs.Opened.{Opened}
 use Rattle.mctp_assembly.specs.declared.key.Key.{Key}
 use Rattle.mctp_assembly.specs.NumberLists.{NumberList, at}
 use Rattle.pldm_responder.specs.Ends.{End, IsIdle, held_by}
-use Rattle.pldm_responder.specs.Held.{IsHeld}
+use Rattle.pldm_responder.specs.ResponderStates.{IsHeld}
 use Rattle.pldm_responder.specs.Slots.{Answers, Rows, answers_in, kept_in, source_count}
 use Rattle.pldm_responder.specs.Steps.{restarted_held}
 use Rattle.pldm_responder.proofs.OpenBounds.{len_without}

@@ -1,11 +1,14 @@
 -- Every constant of the source, told a second time.
 use Rattle.std.proofs.Common.{◌≡◌, refl}
 use Rattle.pldm_responder.specs.declared.answering_end.TheConstants.{OTHER_ENDPOINTS, MAX_KEPT, MAX_PENDING}
-use Rattle.pldm_responder.specs.declared.slot.TheConstants.{MAX_BYTES}
+use Rattle.pldm_responder.specs.declared.slots.TheConstants.{MAX_BYTES, SLOT_BYTES}
 use Rattle.pldm_responder.specs.declared.slot_table.TheConstants.{IDS, NO_SLOT}
 
 other_endpoints : OTHER_ENDPOINTS ≡ 246
 other_endpoints = refl
+
+bytes_of_a_slot : SLOT_BYTES ≡ 34
+bytes_of_a_slot = refl
 
 kept_answers : MAX_KEPT ≡ 7872
 kept_answers = refl

@@ -10,7 +10,7 @@ use Rattle.std.specs.declared.cmp.Ordering.TheVariants.{Less, Equal, Greater}
 use Rattle.mctp_packet.specs.Packets.{Packet}
 use Rattle.mctp_assembly.specs.Keys.{key_cmp, key_of}
 use Rattle.mctp_assembly.specs.Opened.{Opened}
-use Rattle.mctp_assembly.specs.Steps.{Held, after, after_piece, answer, carried_on, stays_open, unless_whole}
+use Rattle.mctp_assembly.specs.Steps.{OpenMessages, after, after_without_ending, answer, carried_on, stays_open, unless_whole}
 use Rattle.mctp_assembly.specs.declared.fed.Fed.{Fed}
 use Rattle.mctp_assembly.specs.declared.fed.Fed.TheVariants.{Whole, Partial, Dropped}
 use Rattle.mctp_assembly.specs.declared.key.Key.{Key}
@@ -74,25 +74,25 @@ gone : (t : Bool) (o : Option Opened) → is_some (cond t None o) ≡ true → i
 gone true o h = cc
 gone false o h = h
 
-was_there : (held : Held) (k key : Key) → finite.contains_key (finite.remove held k) key ≡ true → finite.contains_key held key ≡ true
+was_there : (held : OpenMessages) (k key : Key) → finite.contains_key (finite.remove held k) key ≡ true → finite.contains_key held key ≡ true
 was_there held k key h =
     gone (eq_by_cmp key_cmp key k) (finite.get held key) (sym (ap is_some (finite.get-remove keys_total held k key)) ∙ h)
 
-pub ordered_without : (ends : Bool) (held : Held) (begun : List Key) (k : Key) → IsOrdered ends held begun → IsOrdered ends (finite.remove held k) begun
+pub ordered_without : (ends : Bool) (held : OpenMessages) (begun : List Key) (k : Key) → IsOrdered ends held begun → IsOrdered ends (finite.remove held k) begun
 ordered_without ends held begun k ordered on key h = ordered on key (was_there held k key h)
 
-put_by : (held : Held) (k key : Key) (o : Opened) (t : Bool) → eq_by_cmp key_cmp key k ≡ t → finite.contains_key held k ≡ true → is_some (cond t (Some o) (finite.get held key)) ≡ true → finite.contains_key held key ≡ true
+put_by : (held : OpenMessages) (k key : Key) (o : Opened) (t : Bool) → eq_by_cmp key_cmp key k ≡ t → finite.contains_key held k ≡ true → is_some (cond t (Some o) (finite.get held key)) ≡ true → finite.contains_key held key ≡ true
 put_by held k key o true is was h = ap (finite.contains_key held) (one_key key k is) ∙ was
 put_by held k key o false is was h = h
 
-after_by : (fed : Fed) (held : Held) (k key : Key) (o : Opened) → (fed ≡ Partial → finite.contains_key held k ≡ true)
+after_by : (fed : Fed) (held : OpenMessages) (k key : Key) (o : Opened) → (fed ≡ Partial → finite.contains_key held k ≡ true)
     → finite.contains_key (unless_whole fed held (cond (stays_open fed) (finite.insert held k o) (finite.remove held k))) key ≡ true → finite.contains_key held key ≡ true
 after_by (Whole body) held k key o was h = h
 after_by Partial held k key o was h =
     put_by held k key o (eq_by_cmp key_cmp key k) refl (was refl) (sym (ap is_some (finite.get-insert keys_total held k o key)) ∙ h)
 after_by (Dropped reason) held k key o was h = was_there held k key h
 
-pub ordered_going_on : (ends : Bool) (held : Held) (begun : List Key) (p : Packet) (new : Held) → IsOrdered ends held begun → begins p ≡ false → new ≡ after_piece held p → IsOrdered ends new begun
+pub ordered_going_on : (ends : Bool) (held : OpenMessages) (begun : List Key) (p : Packet) (new : OpenMessages) → IsOrdered ends held begun → begins p ≡ false → new ≡ after_without_ending held p → IsOrdered ends new begun
 ordered_going_on ends held begun p new ordered goes_on left on key h =
     ordered on key
     (after_by (answer held p) held (key_of p) key (carried_on (finite.get held (key_of p)) p) (still_closed held p goes_on)
@@ -109,7 +109,7 @@ apart_by a b true true source tag one two other =
     let same : a ≡ b = λ i. record { source = sources i; tag = tags i; owner = owners i } in
     cc (sym other ∙ ap (eq_by_cmp key_cmp a) (sym same) ∙ itself a)
 
-were_there : (ended : Option Key) (held : Held) (key : Key) → finite.contains_key (without ended held) key ≡ true → finite.contains_key held key ≡ true
+were_there : (ended : Option Key) (held : OpenMessages) (key : Key) → finite.contains_key (without ended held) key ≡ true → finite.contains_key held key ≡ true
 were_there None held key h = h
 were_there (Some k) held key h = was_there held k key h
 
@@ -118,7 +118,7 @@ both true true h g = refl
 both true false h g = cc
 both false b h g = cc
 
-begun_by : (own : ℕ) (held new : Held) (begun : List Key) (k key : Key) (o : Opened) (t : Bool) → eq_by_cmp key_cmp key k ≡ t → AreAsked own held → IsAsked own k → HasAllOpen held begun
+begun_by : (own : ℕ) (held new : OpenMessages) (begun : List Key) (k key : Key) (o : Opened) (t : Bool) → eq_by_cmp key_cmp key k ≡ t → AreAsked own held → IsAsked own k → HasAllOpen held begun
     → is_some (cond t (Some o) (finite.get held key)) ≡ true → finite.contains_key new key ≡ true → list_any (eq_by_cmp key_cmp key) (begun_with new k begun) ≡ true
 begun_by own held new begun k key o true is asked new_asked all was here =
     behind key (filter (λ other. is_apart other k && finite.contains_key new other) begun) (k ∷ [])
@@ -129,7 +129,7 @@ begun_by own held new begun k key o false is asked new_asked all was here =
     (both (is_apart key k) (finite.contains_key new key) (apart_by key k (key.source == k.source) (key.tag == k.tag) refl refl (asked key was).owner new_asked.owner is) here)
     (all key was))
 
-pub ordered_begun : (own : ℕ) (ends : Bool) (held : Held) (begun : List Key) (p : Packet) (ended : Option Key) (new : Held) (order : List Key) → AreAsked own held → IsAsked own (key_of p)
+pub ordered_begun : (own : ℕ) (ends : Bool) (held : OpenMessages) (begun : List Key) (p : Packet) (ended : Option Key) (new : OpenMessages) (order : List Key) → AreAsked own held → IsAsked own (key_of p)
     → IsOrdered ends held begun → begins p ≡ true → new ≡ without ended (after held p) → order ≡ (if ends then begun_with new (key_of p) begun else begun) → IsOrdered ends new order
 ordered_begun own true held begun p ended new order asked is ordered begin left kept on key h =
     let opened = were_there ended (finite.insert held (key_of p) (carried_on (finite.get held (key_of p)) p)) key
@@ -146,19 +146,19 @@ none_ordered ends begun on key h = cc (sym (ap is_some (finite.get-empty {X = Op
 abbrev keys_in : List (Key × Opened) → List Key
 keys_in es = map (λ e. e.0) es
 
-found_by : (held : Held) (key x : Key) (xs : List Key) (t is : Bool) → finite.contains_key held x ≡ t → eq_by_cmp key_cmp key x ≡ is → finite.contains_key held key ≡ true
+found_by : (held : OpenMessages) (key x : Key) (xs : List Key) (t is : Bool) → finite.contains_key held x ≡ t → eq_by_cmp key_cmp key x ≡ is → finite.contains_key held key ≡ true
     → (list_any (eq_by_cmp key_cmp key) xs ≡ true → is_some (first_open held xs) ≡ true) → (is || list_any (eq_by_cmp key_cmp key) xs) ≡ true
     → is_some (if t then Some x else first_open held xs) ≡ true
 found_by held key x xs true is there same opens later h = refl
 found_by held key x xs false true there same opens later h = cc (sym opens ∙ ap (finite.contains_key held) (one_key key x same) ∙ there)
 found_by held key x xs false false there same opens later h = later h
 
-found_in : (held : Held) (key : Key) (begun : List Key) → finite.contains_key held key ≡ true → list_any (eq_by_cmp key_cmp key) begun ≡ true → is_some (first_open held begun) ≡ true
+found_in : (held : OpenMessages) (key : Key) (begun : List Key) → finite.contains_key held key ≡ true → list_any (eq_by_cmp key_cmp key) begun ≡ true → is_some (first_open held begun) ≡ true
 found_in held key [] opens h = cc
 found_in held key (x ∷ xs) opens h =
     found_by held key x xs (finite.contains_key held x) (eq_by_cmp key_cmp key x) refl refl opens (found_in held key xs opens) h
 
-some_open : (held : Held) (es : List (Key × Opened)) → finite.entries held ≡ es → 0 < length es → (key : Key) × (finite.contains_key held key ≡ true)
+some_open : (held : OpenMessages) (es : List (Key × Opened)) → finite.entries held ≡ es → 0 < length es → (key : Key) × (finite.contains_key held key ≡ true)
 some_open held [] are some = absurd (omega (arith, some))
 some_open held (e ∷ es) are some = (
   e.0,
@@ -166,25 +166,25 @@ some_open held (e ∷ es) are some = (
       ∙ first_of (eq_by_cmp key_cmp e.0 e.0) (list_any (eq_by_cmp key_cmp e.0) (keys_in es)) (itself e.0),
 )
 
-pub found : (held : Held) (begun : List Key) → 0 < finite.len held → HasAllOpen held begun → is_some (first_open held begun) ≡ true
+pub found : (held : OpenMessages) (begun : List Key) → 0 < finite.len held → HasAllOpen held begun → is_some (first_open held begun) ≡ true
 found held begun some all =
     let one = some_open held (finite.entries held) refl (subst (λ n. 0 < n) (finite.len-entries held) some) in
     found_in held one.0 begun one.1 (all one.0 one.1)
 
-some_by : (held : Held) (x : Key) (rest : Option Key) (t : Bool) → finite.contains_key held x ≡ t → (is_some rest ≡ true → (key : Key) × (finite.contains_key held key ≡ true))
+some_by : (held : OpenMessages) (x : Key) (rest : Option Key) (t : Bool) → finite.contains_key held x ≡ t → (is_some rest ≡ true → (key : Key) × (finite.contains_key held key ≡ true))
     → is_some (if t then Some x else rest) ≡ true → (key : Key) × (finite.contains_key held key ≡ true)
 some_by held x rest true is later h = (x, is)
 some_by held x rest false is later h = later h
 
-open_some : (held : Held) (begun : List Key) → is_some (first_open held begun) ≡ true → (key : Key) × (finite.contains_key held key ≡ true)
+open_some : (held : OpenMessages) (begun : List Key) → is_some (first_open held begun) ≡ true → (key : Key) × (finite.contains_key held key ≡ true)
 open_some held [] h = cc
 open_some held (x ∷ xs) h = some_by held x (first_open held xs) (finite.contains_key held x) refl (open_some held xs) h
 
-has_some : (held : Held) (es : List (Key × Opened)) (key : Key) → finite.entries held ≡ es → finite.contains_key held key ≡ true → 0 < length es
+has_some : (held : OpenMessages) (es : List (Key × Opened)) (key : Key) → finite.entries held ≡ es → finite.contains_key held key ≡ true → 0 < length es
 has_some held [] key are opens = cc (sym opens ∙ finite.contains_key-keys held key ∙ ap (λ xs. list_any (eq_by_cmp key_cmp key) (keys_in xs)) are)
 has_some held (e ∷ es) key are opens = omega arith
 
-pub found_open : (held : Held) (begun : List Key) → is_some (first_open held begun) ≡ true → 0 < finite.len held
+pub found_open : (held : OpenMessages) (begun : List Key) → is_some (first_open held begun) ≡ true → 0 < finite.len held
 found_open held begun h =
     let one = open_some held begun h in
     subst (λ n. 0 < n) (sym (finite.len-entries held)) (has_some held (finite.entries held) one.0 refl one.1)

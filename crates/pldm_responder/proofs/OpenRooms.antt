@@ -7,7 +7,7 @@ use Rattle.std.proofs.lemmas.Bool.{leb-false, leb-true, le-leb}
 use Rattle.mctp_packet.specs.Packets.{Packet}
 use Rattle.mctp_assembly.specs.Keys.{IsKey, key_cmp, key_of}
 use Rattle.mctp_assembly.specs.Opened.{Opened}
-use Rattle.mctp_assembly.specs.Steps.{Held, after, carried_on}
+use Rattle.mctp_assembly.specs.Steps.{OpenMessages, after, carried_on}
 use Rattle.mctp_assembly.specs.declared.key.Key.{Key}
 use Rattle.mctp_assembly.proofs.KeyOrder.{keys_total}
 use Rattle.pldm_responder.specs.Ends.{End, IsAsked, AreAsked}
@@ -19,7 +19,7 @@ use Rattle.pldm_responder.proofs.OpenOrders.{found, found_open}
 pub is_of : (own : ℕ) (p : Packet) (key : Key) → IsKey key → key ≡ key_of p → p.route.owner ≡ true → p.route.source ≢ own → IsAsked own (key_of p)
 is_of own p key range same owner other = record { ranges = subst IsKey same range; owner = owner; other = other }
 
-asked_unless : (own : ℕ) (ended : Option Key) (held : Held) → AreAsked own held → AreAsked own (without ended held)
+asked_unless : (own : ℕ) (ended : Option Key) (held : OpenMessages) → AreAsked own held → AreAsked own (without ended held)
 asked_unless own None held asked = asked
 asked_unless own (Some key) held asked = asked_without own held key asked
 
@@ -52,15 +52,15 @@ few_with end key o (Some oldest) within room =
     )
     (one_more (finite.contains_key end.open_messages key) (finite.len end.open_messages) end.bounds.open_messages within)
 
-abbrev IsOpenOn : Held → Option Key → Type 0
+abbrev IsOpenOn : OpenMessages → Option Key → Type 0
 IsOpenOn held None = Unit {0}
 IsOpenOn held (Some key) = finite.contains_key held key ≡ true
 
-opens_by : (held : Held) (key : Key) (rest : Option Key) (t : Bool) → finite.contains_key held key ≡ t → IsOpenOn held rest → IsOpenOn held (cond t (Some key) rest)
+opens_by : (held : OpenMessages) (key : Key) (rest : Option Key) (t : Bool) → finite.contains_key held key ≡ t → IsOpenOn held rest → IsOpenOn held (cond t (Some key) rest)
 opens_by held key rest true is later = is
 opens_by held key rest false is later = later
 
-opens : (held : Held) (begun : List Key) → IsOpenOn held (first_open held begun)
+opens : (held : OpenMessages) (begun : List Key) → IsOpenOn held (first_open held begun)
 opens held [] = tt
 opens held (key ∷ begun) = opens_by held key (first_open held begun) (finite.contains_key held key) refl (opens held begun)
 
@@ -94,7 +94,7 @@ not_shut : (t : Bool) → (t ≡ true → ⊥) → t ≡ false
 not_shut true h = absurd (h refl)
 not_shut false h = refl
 
-pub open_begun : (end old : End) (p : Packet) (key : Key) (ended : Option Key) (new : Held) → end ≡ old → AreAsked end.own end.open_messages → finite.len end.open_messages ≤ end.bounds.open_messages
+pub open_begun : (end old : End) (p : Packet) (key : Key) (ended : Option Key) (new : OpenMessages) → end ≡ old → AreAsked end.own end.open_messages → finite.len end.open_messages ≤ end.bounds.open_messages
     → IsKey key → key ≡ key_of p → p.route.owner ≡ true → p.route.source ≢ old.own → begins p ≡ true → IsOrdered end.ends_oldest end.open_messages end.begun
     → ended ≡ way_for old key → (is_shut_out_on old key ≡ true → ⊥) → new ≡ without ended (after end.open_messages p)
     → AreAsked end.own new × (finite.len new ≤ end.bounds.open_messages)

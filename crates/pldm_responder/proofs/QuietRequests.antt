@@ -3,13 +3,13 @@ use Rattle.std.proofs.Common.{◌≡◌, ℕ, Bool, true, false, ◌&&◌, ◌==
 use Rattle.std.specs.Prelude.{take}
 use Rattle.pldm_responder.specs.Arrivals.{Whole}
 use Rattle.pldm_responder.specs.Ends.{End, held_over}
-use Rattle.pldm_responder.specs.Held.{IsHeld, id_in}
+use Rattle.pldm_responder.specs.ResponderStates.{IsHeld, id_in}
 use Rattle.pldm_responder.specs.Looking.{end_finished, message_at}
 use Rattle.pldm_responder.specs.Performing.{Rules, next}
 use Rattle.pldm_responder.specs.Recency.{renewed}
 use Rattle.pldm_responder.specs.Requested.{Requested}
 use Rattle.pldm_responder.specs.Slots.{kept_in}
-use Rattle.pldm_responder.specs.Stations.{Station, held_of}
+use Rattle.pldm_responder.specs.ResponderViews.{ResponderView, held_of}
 use Rattle.pldm_responder.specs.Steps.{arrival_held, entry_of, performs}
 
 pub not_true : (t : Bool) → (t ≡ true → ⊥) → t ≡ false
@@ -21,7 +21,7 @@ where_not true true x y h = cc
 where_not true false x y h = refl
 where_not false p x y h = refl
 
-pub still_held : {P S : Type 0} (device : Rules S) (old : Station P S) (new : End) (moment : ℕ) (r : Requested) → performs (held_of old) (message_at moment r) ≡ false → new ≡ end_finished old.end moment r
+pub still_held : {P S : Type 0} (device : Rules S) (old : ResponderView P S) (new : End) (moment : ℕ) (r : Requested) → performs (held_of old) (message_at moment r) ≡ false → new ≡ end_finished old.end moment r
     → IsHeld (held_over old.state new) (record (arrival_held device (held_of old) (Whole (message_at moment r))) { open_messages = (end_finished old.end moment r).open_messages; last = moment })
 still_held device old new moment r none is =
     let held = held_of old in

@@ -1,8 +1,8 @@
 -- What a responder holds is settled by its parts, and of the kept answers by each of them.
 use Rattle.std.proofs.Common.{◌≡◌}
-use Rattle.pldm_responder.specs.Held.{Held, IsHeld}
+use Rattle.pldm_responder.specs.ResponderStates.{ResponderState, IsHeld}
 
-pub same_held : {S : Type 0} {new held : Held S} → IsHeld new held → new ≡ held
+pub same_held : {S : Type 0} {new held : ResponderState S} → IsHeld new held → new ≡ held
 same_held same =
     λ i. record {
       own = same.own i;

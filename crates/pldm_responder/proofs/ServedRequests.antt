@@ -11,7 +11,7 @@ use Rattle.pldm_responder.specs.Arrivals.{Whole, packets_back, request_packet, w
 use Rattle.pldm_responder.specs.Ends.{End, count_with, has_row}
 use Rattle.pldm_responder.specs.Events.{Message}
 use Rattle.pldm_responder.specs.Fitting.{ArrivalFits, Fits}
-use Rattle.pldm_responder.specs.Held.{Entry, Held, IsHeld}
+use Rattle.pldm_responder.specs.ResponderStates.{Entry, ResponderState, IsHeld}
 use Rattle.pldm_responder.specs.Looking.{end_finished, message_at}
 use Rattle.pldm_responder.specs.Performing.{Rules, busy_reply, changes, commands_of, next, reply}
 use Rattle.pldm_responder.specs.Receiving.{HasReceived}
@@ -19,7 +19,7 @@ use Rattle.pldm_responder.specs.Requested.{Requested}
 use Rattle.pldm_responder.specs.Rooms.{AreRowsAfter}
 use Rattle.pldm_responder.specs.Serving.{IsPerformed, IsServed}
 use Rattle.pldm_responder.specs.Slots.{kept_in, source_count}
-use Rattle.pldm_responder.specs.Stations.{Station, held_of}
+use Rattle.pldm_responder.specs.ResponderViews.{ResponderView, held_of}
 use Rattle.pldm_responder.specs.Steps.{arrival_commands, arrival_held, arrival_outcome, copied_packets, entry_for, message_outcome, open_after, performs, received_arrival, refuses_now, repeats, served}
 use Rattle.pldm_responder.specs.declared.outcome.MessageOutcome.{MessageOutcome}
 use Rattle.pldm_responder.specs.declared.outcome.MessageOutcome.TheVariants as message
@@ -45,7 +45,7 @@ id_of_request bytes request h = passed_id (request_refusal bytes) _ request h
 
 -- a request that was served is a packet that was received, where the packet arrives as it and leaves open what
 -- assembly leaves
-pub received_where_served : {P S : Type 0} (performing : P → List Command → P → Type 0) (mid inside old : Station P S) (moment : ℕ) (bytes : List ℕ) (new : Station P S) (device : Rules S)
+pub received_where_served : {P S : Type 0} (performing : P → List Command → P → Type 0) (mid inside old : ResponderView P S) (moment : ℕ) (bytes : List ℕ) (new : ResponderView P S) (device : Rules S)
     (r : Requested) (reply : List ℕ) (taken : MessageOutcome) → mid ≡ inside → inside ≡ old
     → Whole (message_at moment r) ≡ received_arrival (held_of inside) moment bytes
     → (end_finished inside.end moment r).open_messages ≡ open_after inside.end.open_messages (request_packet inside.end.own bytes)
@@ -73,7 +73,7 @@ no_packets : (own keep : ℕ) (m : Message) (e : Option Entry) → repeats keep 
 no_packets own keep m None h = refl
 no_packets own keep m (Some e) h = ap (λ t. if t then Some (packets_back own m e.answer) else None) h
 
-pub performed_outcome : {S : Type 0} (device : Rules S) (held : Held S) (m : Message) → performs held m ≡ true
+pub performed_outcome : {S : Type 0} (device : Rules S) (held : ResponderState S) (m : Message) → performs held m ≡ true
     → message_outcome device held m ≡ Answered true (changes device held.state m.bytes) (packets_back held.own m (reply device held.state m.bytes))
 performed_outcome device held m done =
     let parts = and_parts (not (refuses_now held m)) (not (repeats held.keep m (entry_for held m))) done in
@@ -81,7 +81,7 @@ performed_outcome device held m done =
     (not-true (refuses_now held m) parts.0)
     ∙ ap (served device held m) (no_packets held.own held.keep m (entry_for held m) (not-true (repeats held.keep m (entry_for held m)) parts.1))
 
-pub served_where_performed : {P S : Type 0} (performing : P → List Command → P → Type 0) (old mid new : Station P S) (moment : ℕ) (r : Requested) (device : Rules S) (answer : List ℕ) (changed : Bool)
+pub served_where_performed : {P S : Type 0} (performing : P → List Command → P → Type 0) (old mid new : ResponderView P S) (moment : ℕ) (r : Requested) (device : Rules S) (answer : List ℕ) (changed : Bool)
     → performs (held_of old) (message_at moment r) ≡ true → IsPerformed performing old moment r mid device answer changed
     → new.end ≡ end_finished mid.end moment r → new.platform ≡ mid.platform → new.state ≡ mid.state
     → IsServed performing old moment r new device answer (message.Answered true changed (way_back old.end.own (message_at moment r)))

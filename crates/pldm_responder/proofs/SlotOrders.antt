@@ -8,7 +8,7 @@ use Rattle.std.proofs.lemmas.List.Elements.{filter-append}
 use Rattle.std.proofs.lemmas.List.Quantifiers.{position-Some}
 use Rattle.std.proofs.Math.Seq.{take-append_seam}
 use Rattle.pldm_responder.specs.Recency.{of_number, without, renewed, IsApart, AllBelow}
-use Rattle.pldm_responder.specs.Orders.{AreInOrder, IsTable, id_of, last_slot, newest_first, slot_for, slot_in, slot_or}
+use Rattle.pldm_responder.specs.Orders.{AreInOrder, IsRenewed, IsTable, IsTabled, id_of, last_slot, newest_first, slot_in, slot_or}
 use Rattle.pldm_responder.specs.declared.order.Indexed.{Indexed}
 use Rattle.pldm_responder.proofs.RecentFirst.{by_test, found_here, found_later, dropped, stays, none_later, another, all_others, none_of_it, apart_without, below_without, take_all}
 
@@ -144,18 +144,13 @@ last_of [] x = refl
 last_of (y ∷ []) x = refl
 last_of (y ∷ z ∷ xs) x = last_of (z ∷ xs) x
 
-pub record Renewed (window id : ℕ) (old new : List Indexed) (slot : ℕ) : Type 0 where
-  pub order : newest_first new ≡ take window (renewed id_of (record { id = id; slot = slot }) (newest_first old))
-  pub slot_is : slot ≡ slot_for window id (newest_first old)
-  pub still : AreInOrder new
-
 module _ (window id : ℕ) (old : List Indexed) (are : AreInOrder old) where
   ids_reversed : of_number id_of id (newest_first old) ≡ of_number id_of id old
   ids_reversed = found_reversed id_of id old are.ids
 
   -- it has a slot
   pub renews_own : (p : ℕ) (d : Indexed) → length old ≤ window → position (λ x. x.id == id) old ≡ Some p
-      → Renewed window id old (remove old p ++ record { id = id; slot = (slice_index_or old p d).slot } ∷ []) (slice_index_or old p d).slot
+      → IsRenewed window id old (remove old p ++ record { id = id; slot = (slice_index_or old p d).slot } ∷ []) (slice_index_or old p d).slot
   renews_own p d few is =
       let at = position-Some (λ (x : Indexed). x.id == id) old p d is in
       let found = found_at id_of id old p d are.ids at.0 (eqb-true (slice_index_or old p d).id id at.1) in
@@ -176,7 +171,7 @@ module _ (window id : ℕ) (old : List Indexed) (are : AreInOrder old) where
       }
 
   -- it gets the next one
-  pub renews_next : length old < window → of_number id_of id old ≡ None → Renewed window id old (old ++ record { id = id; slot = length old } ∷ []) (length old)
+  pub renews_next : length old < window → of_number id_of id old ≡ None → IsRenewed window id old (old ++ record { id = id; slot = length old } ∷ []) (length old)
   renews_next free is =
       let none = is in
       let x : Indexed = record { id = id; slot = length old } in
@@ -198,7 +193,7 @@ module _ (window id : ℕ) (old : List Indexed) (are : AreInOrder old) where
 
 -- it gets that of the oldest, which falls out
 pub renews_oldest : (window id : ℕ) (first : Indexed) (rest : List Indexed) → AreInOrder (first ∷ rest) → suc (length rest) ≡ window → of_number id_of id (first ∷ rest) ≡ None
-    → Renewed window id (first ∷ rest) (rest ++ record { id = id; slot = first.slot } ∷ []) first.slot
+    → IsRenewed window id (first ∷ rest) (rest ++ record { id = id; slot = first.slot } ∷ []) first.slot
 renews_oldest window id first rest are full is =
     let old = first ∷ rest in
     let none = is in
@@ -223,26 +218,26 @@ renews_oldest window id first rest are full is =
 
 -- ---- the same, by the steps of `renew`
 module _ (window id : ℕ) (old order new : List Indexed) (slot : ℕ) (are : AreInOrder old) (few : length old ≤ window) (pushed : new ≡ order ++ record { id = id; slot = slot } ∷ []) where
-  pub own_is : (p : ℕ) (found : Indexed) → position (λ x. x.id == id) old ≡ Some p → found ≡ slice_index_or old p found → slot ≡ found.slot → order ≡ remove old p → Renewed window id old new slot
+  pub own_is : (p : ℕ) (found : Indexed) → position (λ x. x.id == id) old ≡ Some p → found ≡ slice_index_or old p found → slot ≡ found.slot → order ≡ remove old p → IsRenewed window id old new slot
   own_is p found is value of left =
       let x = renews_own window id old are p found few is in
       let same : (slice_index_or old p found).slot ≡ slot = sym (of ∙ ap slot_in value) in
-      subst (λ (ys : List Indexed × ℕ). Renewed window id old ys.0 ys.1)
+      subst (λ (ys : List Indexed × ℕ). IsRenewed window id old ys.0 ys.1)
       (λ i. ((ap (λ s. remove old p ++ record { id = id; slot = s } ∷ []) same ∙ ap (λ ys. ys ++ record { id = id; slot = slot } ∷ []) (sym left) ∙ sym pushed) i, same i)) x
 
-  pub next_is : length old < window → of_number id_of id old ≡ None → slot ≡ length old → order ≡ old → Renewed window id old new slot
+  pub next_is : length old < window → of_number id_of id old ≡ None → slot ≡ length old → order ≡ old → IsRenewed window id old new slot
   next_is free is of left =
       let x = renews_next window id old are free is in
-      subst (λ (ys : List Indexed × ℕ). Renewed window id old ys.0 ys.1)
+      subst (λ (ys : List Indexed × ℕ). IsRenewed window id old ys.0 ys.1)
       (λ i. ((ap (λ s. old ++ record { id = id; slot = s } ∷ []) (sym of) ∙ ap (λ ys. ys ++ record { id = id; slot = slot } ∷ []) (sym left) ∙ sym pushed) i, sym of i)) x
 
 pub oldest_is : (window id : ℕ) (old order new : List Indexed) (slot : ℕ) → AreInOrder old → length old ≤ window → new ≡ order ++ record { id = id; slot = slot } ∷ []
-    → 0 < window → window ≤ length old → (found : Indexed) → of_number id_of id old ≡ None → found ≡ slice_index_or old 0 found → slot ≡ found.slot → order ≡ remove old 0 → Renewed window id old new slot
+    → 0 < window → window ≤ length old → (found : Indexed) → of_number id_of id old ≡ None → found ≡ slice_index_or old 0 found → slot ≡ found.slot → order ≡ remove old 0 → IsRenewed window id old new slot
 oldest_is window id [] order new slot are few pushed some full found is value of left = absurd (omega (arith, some, full))
 oldest_is window id (first ∷ rest) order new slot are few pushed some full found is value of left =
     let x = renews_oldest window id first rest are (omega (arith, few, full)) is in
     let same : first.slot ≡ slot = sym (of ∙ ap slot_in value) in
-    subst (λ (ys : List Indexed × ℕ). Renewed window id (first ∷ rest) ys.0 ys.1)
+    subst (λ (ys : List Indexed × ℕ). IsRenewed window id (first ∷ rest) ys.0 ys.1)
     (λ i. ((ap (λ s. rest ++ record { id = id; slot = s } ∷ []) same ∙ ap (λ ys. ys ++ record { id = id; slot = slot } ∷ []) (sym left) ∙ sym pushed) i, same i)) x
 
 -- ---- the table by instance ID
@@ -281,13 +276,9 @@ table_pushed mid kept id slot all small none others = record {
   all = length-set mid id (Some slot) ∙ all;
 }
 
-pub record Tabled (by_id : List (Option ℕ)) (new : List Indexed) : Type 0 where
-  pub table : IsTable by_id new
-  pub small : AllBelow id_of 32 new
-
 module _ (by_id : List (Option ℕ)) (old : List Indexed) (table : IsTable by_id old) (low : AllBelow id_of 32 old) (are : AreInOrder old) (id slot : ℕ) (small : id < 32) (order new : List Indexed) (later : List (Option ℕ)) (pushed : new ≡ order ++ record { id = id; slot = slot } ∷ []) where
   made : (kept : List Indexed) (mid : List (Option ℕ)) → order ≡ kept → later ≡ slice_set mid id (Some slot) → length mid ≡ 32 → AllBelow id_of 32 kept → of_number id_of id kept ≡ None
-      → ((i : ℕ) → i < 32 → i ≢ id → slice_index_or mid i None ≡ option_map slot_in (of_number id_of i kept)) → Tabled later new
+      → ((i : ℕ) → i < 32 → i ≢ id → slice_index_or mid i None ≡ option_map slot_in (of_number id_of i kept)) → IsTabled later new
   made kept mid left written all below none others =
       let x : Indexed = record { id = id; slot = slot } in
       let is : new ≡ kept ++ x ∷ [] = pushed ∙ ap (λ ys. ys ++ x ∷ []) left in
@@ -296,18 +287,18 @@ module _ (by_id : List (Option ℕ)) (old : List Indexed) (table : IsTable by_id
         small = subst (AllBelow id_of 32) (sym is) (below_push id_of 32 x kept below small);
       }
 
-  pub own_table : (p : ℕ) (d : Indexed) → position (λ x. x.id == id) old ≡ Some p → order ≡ remove old p → later ≡ slice_set by_id id (Some slot) → Tabled later new
+  pub own_table : (p : ℕ) (d : Indexed) → position (λ x. x.id == id) old ≡ Some p → order ≡ remove old p → later ≡ slice_set by_id id (Some slot) → IsTabled later new
   own_table p d is left written =
       let at = position-Some (λ (x : Indexed). x.id == id) old p d is in
       let by = removed id_of id old p d are.ids at.0 (eqb-true (slice_index_or old p d).id id at.1) in
       made (without id_of id old) by_id (left ∙ by) written table.all (below_without id_of id 32 old low) (none_of_it id_of id old)
       (λ i near apart. table.slots i near ∙ ap (option_map slot_in) (sym (another id_of id i old apart)))
 
-  pub next_table : of_number id_of id old ≡ None → order ≡ old → later ≡ slice_set by_id id (Some slot) → Tabled later new
+  pub next_table : of_number id_of id old ≡ None → order ≡ old → later ≡ slice_set by_id id (Some slot) → IsTabled later new
   next_table none left written = made old by_id left written table.all low none (λ i near apart. table.slots i near)
 
 pub oldest_table : (by_id : List (Option ℕ)) (old : List Indexed) → IsTable by_id old → AllBelow id_of 32 old → AreInOrder old → (id slot : ℕ) → id < 32 → (order new : List Indexed) (later : List (Option ℕ)) → new ≡ order ++ record { id = id; slot = slot } ∷ []
-    → 0 < length old → (found : Indexed) → found ≡ slice_index_or old 0 found → of_number id_of id old ≡ None → order ≡ remove old 0 → later ≡ slice_set (slice_set by_id found.id None) id (Some slot) → Tabled later new
+    → 0 < length old → (found : Indexed) → found ≡ slice_index_or old 0 found → of_number id_of id old ≡ None → order ≡ remove old 0 → later ≡ slice_set (slice_set by_id found.id None) id (Some slot) → IsTabled later new
 oldest_table by_id [] table low are id slot small order new later pushed some found value none left written = absurd (omega (arith, some))
 oldest_table by_id (first ∷ rest) table low are id slot small order new later pushed some found value none left written =
     made by_id (first ∷ rest) table low are id slot small order new later pushed rest (slice_set by_id found.id None) left written (length-set by_id found.id None ∙ table.all) low.1 (none_later id_of id first rest none).1

@@ -5,10 +5,11 @@ use Rattle.std.specs.Prelude.{◌==◌, replicate, reverse, take, slice_index_or
 use Rattle.std.proofs.lemmas.Bool.{cond-true, cond-false}
 use Rattle.std.proofs.lemmas.List.{get_or-replicate, length-replicate, get_or-set_other, get_or-set_same, length-set, reverse-append, take-map}
 use Rattle.pldm_wire.specs.Settings.{IsWindow}
-use Rattle.pldm_responder.specs.Held.{Entry, id_in}
+use Rattle.pldm_responder.specs.ResponderStates.{Entry, id_in}
 use Rattle.pldm_responder.specs.Recency.{of_number, without, renewed, replaced, AllBelow, IsApart}
 use Rattle.pldm_responder.specs.Orders.{AreInOrder, IsTable, id_of, newest_first, slot_in}
-use Rattle.pldm_responder.specs.SourceAnswers.{AllKept, AreLatest, in_slot, kept_by, no_entry}
+use Rattle.pldm_responder.specs.SlotBytes.{no_entry}
+use Rattle.pldm_responder.specs.SourceAnswers.{AllKept, AreLatest, in_slot, kept_by}
 use Rattle.pldm_responder.specs.declared.order.Indexed.{Indexed}
 use Rattle.pldm_responder.proofs.RecentFirst.{by_test, found_here, found_later, dropped, stays, none_later}
 use Rattle.pldm_responder.proofs.SlotOrders.{apart_push, below_push, found_reversed}

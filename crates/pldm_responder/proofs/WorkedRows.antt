@@ -14,7 +14,7 @@ use Rattle.pldm_responder.specs.Calls.{Call, Received, Sensed, Restart, Updated,
 use Rattle.pldm_responder.proofs.WorkedLight.{light_answer, light_after, light_sensed}
 use Rattle.pldm_responder.specs.Events.{is_kept}
 use Rattle.pldm_responder.specs.Counts.{CountsKept}
-use Rattle.pldm_responder.specs.Held.{Held, IsHeld, held_at_first}
+use Rattle.pldm_responder.specs.ResponderStates.{ResponderState, IsHeld, held_at_first}
 use Rattle.pldm_responder.specs.Laws.{IsLeftBy}
 use Rattle.pldm_responder.specs.Performing.{Rules, rules_of, performed}
 use Rattle.pldm_responder.specs.Steps.{kept_for, sensed_held, restarted_held, updated_held, arrival_commands}
@@ -225,7 +225,7 @@ unfolding outcome_at
 dropped_at_9_with_10 = refl
 
 -- ---- the premises can be met
-abbrev new_light : Held ℤ
+abbrev new_light : ResponderState ℤ
 new_light = held_at_first 9 All 32 1000 (pos 0)
 
 new_one_is_left : IsLeftBy light 9 All 32 1000 (pos 0) new_light []
@@ -268,7 +268,7 @@ nothing_of_8_is_kept : KeepsNone new_light true 8
 nothing_of_8_is_kept = refl
 
 -- it restarted at 100 and serves from 1100 on
-restarted_light : Held ℤ
+restarted_light : ResponderState ℤ
 restarted_light = restarted_held new_light 100
 
 restarted_one_is_left : IsLeftBy light 9 All 32 1000 (pos 0) restarted_light (Restart 100 ∷ [])

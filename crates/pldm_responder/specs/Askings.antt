@@ -10,7 +10,7 @@ use Rattle.pldm_wire.specs.declared.command.Command.{Command}
 use Rattle.pldm_responder.specs.Arrivals.{Arrival, Drop, Part, Whole}
 use Rattle.pldm_responder.specs.Calls.{Call, arrived, events}
 use Rattle.pldm_responder.specs.Events.{Message, Event, Came, Set, Restarted, Changed, busy_until, is_fresh, is_of, sets_in}
-use Rattle.pldm_responder.specs.Held.{Held}
+use Rattle.pldm_responder.specs.ResponderStates.{ResponderState}
 use Rattle.pldm_responder.specs.Laws.{IsLeftBy}
 use Rattle.pldm_responder.specs.Performing.{Rules, commands_of, tasks_of}
 use Rattle.pldm_responder.specs.Steps.{received_commands, received_tasks}
@@ -49,7 +49,7 @@ module _ {S : Type 0} (busy : BusyTime) (window keep : ℕ) where
 -- what bytes have the platform perform is what looking back over all calls says
 abbrev pub CommandsLookBack : {S : Type 0} → Rules S → Type 0
 CommandsLookBack {S} device =
-    (own : ℕ) (busy : BusyTime) (window keep : ℕ) (start : S) (held : Held S) (calls : List (Call S))
+    (own : ℕ) (busy : BusyTime) (window keep : ℕ) (start : S) (held : ResponderState S) (calls : List (Call S))
     (moment : ℕ) (bytes : List ℕ)
     → IsLeftBy device own busy window keep start held calls
     → received_commands held moment bytes
@@ -58,7 +58,7 @@ CommandsLookBack {S} device =
 -- and so is what bytes ask of a device that these requests are handed on to as bytes
 abbrev pub TasksLookBack : {S : Type 0} → Rules S → Type 0
 TasksLookBack {S} device =
-    (hands_on : TypeAndCommand → Bool) (own : ℕ) (busy : BusyTime) (window keep : ℕ) (start : S) (held : Held S)
+    (hands_on : TypeAndCommand → Bool) (own : ℕ) (busy : BusyTime) (window keep : ℕ) (start : S) (held : ResponderState S)
     (calls : List (Call S)) (moment : ℕ) (bytes : List ℕ)
     → IsLeftBy device own busy window keep start held calls
     → received_tasks held hands_on moment bytes
@@ -82,8 +82,8 @@ abbrev pub Covers : BusyTime → HandedOn → Type 0
 Covers All handed = Unit {0}
 Covers (Sets own) handed = own ≡ handed
 
--- a request that sets something, or is handed on as bytes, is performed, handed on or refused a keeping time after the last
--- restart, and not before
+-- a request that sets something, or is handed on as bytes, is performed, handed on or refused a keeping time after the
+-- last restart, and not before
 abbrev pub SetsAfterBusyTime : Type 0 → Type 0
 SetsAfterBusyTime S =
     (handed : HandedOn) (busy : BusyTime) (window keep : ℕ) (events : List (Event S)) (m : Message)

@@ -16,8 +16,8 @@ use Rattle.pldm_responder.specs.declared.outcome.Outcome.{Outcome}
 use Rattle.pldm_responder.specs.declared.outcome.Outcome.TheVariants.{Dropped, Partial, Answered}
 
 -- bytes that were received at a moment, a reading that was set, a restart at a moment, a change from outside that left
--- the platform in a state, an open message that ended so that another had room, or another endpoint ID that was assigned
--- at a moment to an end which had this one before, the null one where it had none
+-- the platform in a state, an open message that ended so that another had room, or another endpoint ID that was
+-- assigned at a moment to an end which had this one before, the null one where it had none
 pub data Call (S : Type 0) : Type 0 where
   Received : (moment : ℕ) → (bytes : List ℕ) → Call S
   Sensed : (id : ℕ) → (value : ℤ) → Call S

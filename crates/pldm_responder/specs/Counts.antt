@@ -1,7 +1,7 @@
 -- How many pairs of a source and an instance ID have a kept answer.
 use Rattle.std.specs.Prelude.{◌≡◌, ℕ, Bool, ◌&&◌, ◌==◌, List, length, Option, is_some}
 use Rattle.std.specs.List.{list_any, IsDistinct}
-use Rattle.pldm_responder.specs.Held.{Entry}
+use Rattle.pldm_responder.specs.ResponderStates.{Entry}
 
 abbrev pub is_pair : ℕ × ℕ → ℕ × ℕ → Bool
 is_pair a b = a.0 == b.0 && a.1 == b.1

@@ -1,6 +1,6 @@
 -- What contracts see of an answering end: what it holds, and the rows in which answers are kept.
 use Rattle.std.specs.FinMap as map
-use Rattle.std.specs.Prelude.{◌≡◌, ◌≢◌, ℕ, ◌+◌, ◌<◌, ◌≤◌, Bool, true, ◌||◌, ◌==◌, ◌⊎◌, List, length, Option, None, Some, is_some, if◌then◌else◌, refl}
+use Rattle.std.specs.Prelude.{◌≡◌, ◌≢◌, ℕ, ◌+◌, ◌<◌, ◌≤◌, Bool, true, ◌||◌, ◌==◌, ◌⊎◌, List, [], length, Option, None, Some, is_some, if◌then◌else◌, refl}
 use Rattle.std.specs.List.{All}
 use Rattle.std.specs.Coded.{Coded, code_by, coded×, coded_ℕ, coded_bool, coded_list}
 use Rattle.mctp_packet.specs.Ids.{IsEid}
@@ -10,9 +10,10 @@ use Rattle.mctp_assembly.specs.Opened.{Opened, coded_opened}
 use Rattle.mctp_assembly.specs.declared.key.Key.{Key}
 use Rattle.pldm_wire.specs.contracts.busy_time.BusyTime as busy_type
 use Rattle.pldm_wire.specs.declared.busy_time.BusyTime.{BusyTime}
-use Rattle.pldm_responder.specs.Held.{Held}
+use Rattle.pldm_responder.specs.ResponderStates.{ResponderState}
 use Rattle.pldm_responder.specs.Slots.{Rows, coded_rows, kept_in, row_of, source_count}
 use Rattle.pldm_responder.specs.declared.bounds.Bounds.{Bounds}
+use Rattle.pldm_responder.specs.declared.keeping.Keeping.{Keeping}
 
 -- its endpoint ID, the null one where it has none yet, what it refuses in the busy time, its keeping time and bounds,
 -- whether its oldest open message ends where one more would pass its bound, what is open on each key, the keys on which
@@ -90,8 +91,37 @@ coded_end =
     })
     (λ _. refl)
 
+-- rows of no answers
+abbrev pub no_rows : ℕ → Rows
+no_rows window = record { window = window; places = 0; list = [] }
+
+-- one to which nothing has come yet
+abbrev pub end_at_first : ℕ → Keeping → Bounds → Bool → End
+end_at_first own keeping bounds ends_oldest = record {
+  own = own;
+  busy = keeping.busy;
+  keep = keeping.keep;
+  bounds = bounds;
+  ends_oldest = ends_oldest;
+  open_messages = map.empty;
+  begun = [];
+  rows = no_rows keeping.window;
+  serves_from = 0;
+  last = 0;
+}
+
+-- the same after a restart at a moment: what is open and what is kept is lost, and it is busy for the keeping time
+abbrev pub end_restarted : End → ℕ → End
+end_restarted end now = record end {
+  open_messages = map.empty;
+  begun = [];
+  rows = no_rows end.rows.window;
+  serves_from = now + end.keep;
+  last = now;
+}
+
 -- what a responder holds over this end, whose platform has this state
-abbrev pub held_over : {S : Type 0} → S → End → Held S
+abbrev pub held_over : {S : Type 0} → S → End → ResponderState S
 held_over state end = record {
   own = end.own;
   busy = end.busy;
@@ -105,7 +135,7 @@ held_over state end = record {
 }
 
 -- the same without a platform
-abbrev pub held_by : End → Held (Unit {0})
+abbrev pub held_by : End → ResponderState (Unit {0})
 held_by end = held_over tt end
 
 -- the packets of a request from another endpoint

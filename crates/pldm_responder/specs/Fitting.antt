@@ -3,7 +3,7 @@ use Rattle.std.specs.Prelude.{◌≡◌, ℕ, ◌<◌, ◌≤◌, true, List, le
 use Rattle.mctp_packet.specs.declared.TheConstants.{MAX_MESSAGE_BYTES}
 use Rattle.pldm_responder.specs.Arrivals.{Arrival, Drop, Part, Whole}
 use Rattle.pldm_responder.specs.Events.{Message}
-use Rattle.pldm_responder.specs.Held.{Held}
+use Rattle.pldm_responder.specs.ResponderStates.{ResponderState}
 use Rattle.pldm_responder.specs.Performing.{Rules, reply}
 use Rattle.pldm_responder.specs.Steps.{performs, received_arrival}
 
@@ -11,7 +11,7 @@ use Rattle.pldm_responder.specs.Steps.{performs, received_arrival}
 abbrev pub Fits : List ℕ → Type 0
 Fits answer = (0 < length answer) × (length answer ≤ MAX_MESSAGE_BYTES)
 
-module _ {S : Type 0} (device : Rules S) (held : Held S) where
+module _ {S : Type 0} (device : Rules S) (held : ResponderState S) where
   abbrev pub AnswerFits : Message → Type 0
   AnswerFits m = performs held m ≡ true → Fits (reply device held.state m.bytes)
 

@@ -19,10 +19,10 @@ use Rattle.pldm_responder.specs.EachId as each_id
 use Rattle.pldm_responder.specs.Events.{Event, Message, Place, busy_until, is_copy, is_fresh, is_kept, origin, recent}
 use Rattle.pldm_responder.specs.Performing.{Rules, answered, performed, reply_at, busy_reply}
 use Rattle.pldm_responder.specs.Calls.{Call, Received, Sensed, Restart, Updated, Ended, Assigned, fed, events, last_moment, outcome}
-use Rattle.pldm_responder.specs.Held.{Entry, Held, IsHeld, held_at_first}
+use Rattle.pldm_responder.specs.ResponderStates.{Entry, ResponderState, IsHeld, held_at_first}
 use Rattle.pldm_responder.specs.Counts.{CountsKept, CountsPairs}
 use Rattle.pldm_responder.specs.OpenOrder.{ended_held}
-use Rattle.pldm_responder.specs.Stations.{Station, held_of, with_platform}
+use Rattle.pldm_responder.specs.ResponderViews.{ResponderView, held_of, with_platform}
 use Rattle.pldm_responder.specs.declared.outcome.Outcome.TheVariants.{Dropped}
 use Rattle.pldm_responder.specs.Steps.{kept_for, received_commands, received_outcome, received_held, sensed_held, restarted_held, assigned_held, updated_held}
 
@@ -42,7 +42,7 @@ module _ {S : Type 0} (device : Rules S) (busy : BusyTime) (window keep : ℕ) (
 -- what is held is what the calls leave of a responder with this endpoint ID, busy time, window, keeping time and first
 -- state
 pub record IsLeftBy {S : Type 0}
-    (device : Rules S) (own : ℕ) (busy : BusyTime) (window keep : ℕ) (start : S) (held : Held S)
+    (device : Rules S) (own : ℕ) (busy : BusyTime) (window keep : ℕ) (start : S) (held : ResponderState S)
     (calls : List (Call S)) : Type 0 where
   pub endpoint : held.own ≡ own
   pub refusing : held.busy ≡ busy
@@ -58,7 +58,7 @@ module _ {S : Type 0} (device : Rules S) where
   -- bytes that are received give what looking back over all calls says, and leave what the longer list leaves
   abbrev pub ReceivedLooksBack : Type 0
   ReceivedLooksBack =
-      (own : ℕ) (busy : BusyTime) (window keep : ℕ) (start : S) (held : Held S) (calls : List (Call S)) (moment : ℕ) (bytes : List ℕ)
+      (own : ℕ) (busy : BusyTime) (window keep : ℕ) (start : S) (held : ResponderState S) (calls : List (Call S)) (moment : ℕ) (bytes : List ℕ)
       → IsLeftBy device own busy window keep start held calls
       → (received_outcome device held moment bytes ≡ outcome device own busy window keep start calls moment bytes)
       × IsLeftBy device own busy window keep start (received_held device held moment bytes) (Received moment bytes ∷ calls)
@@ -66,42 +66,42 @@ module _ {S : Type 0} (device : Rules S) where
   -- a reading leaves what the longer list leaves
   abbrev pub SensedLooksBack : Type 0
   SensedLooksBack =
-      (own : ℕ) (busy : BusyTime) (window keep : ℕ) (start : S) (held : Held S) (calls : List (Call S)) (id : ℕ) (value : ℤ)
+      (own : ℕ) (busy : BusyTime) (window keep : ℕ) (start : S) (held : ResponderState S) (calls : List (Call S)) (id : ℕ) (value : ℤ)
       → IsLeftBy device own busy window keep start held calls
       → IsLeftBy device own busy window keep start (sensed_held device held id value) (Sensed id value ∷ calls)
 
   -- a change from outside leaves what the longer list leaves
   abbrev pub UpdatedLooksBack : Type 0
   UpdatedLooksBack =
-      (own : ℕ) (busy : BusyTime) (window keep : ℕ) (start : S) (held : Held S) (calls : List (Call S)) (state : S)
+      (own : ℕ) (busy : BusyTime) (window keep : ℕ) (start : S) (held : ResponderState S) (calls : List (Call S)) (state : S)
       → IsLeftBy device own busy window keep start held calls
       → IsLeftBy device own busy window keep start (updated_held held state) (Updated state ∷ calls)
 
   -- a restart leaves what the longer list leaves
   abbrev pub RestartedLooksBack : Type 0
   RestartedLooksBack =
-      (own : ℕ) (busy : BusyTime) (window keep : ℕ) (start : S) (held : Held S) (calls : List (Call S)) (moment : ℕ)
+      (own : ℕ) (busy : BusyTime) (window keep : ℕ) (start : S) (held : ResponderState S) (calls : List (Call S)) (moment : ℕ)
       → IsLeftBy device own busy window keep start held calls
       → IsLeftBy device own busy window keep start (restarted_held held moment) (Restart moment ∷ calls)
 
   -- so does another endpoint ID that is assigned
   abbrev pub AssignedLooksBack : Type 0
   AssignedLooksBack =
-      (own : ℕ) (busy : BusyTime) (window keep : ℕ) (start : S) (held : Held S) (calls : List (Call S)) (moment eid : ℕ)
+      (own : ℕ) (busy : BusyTime) (window keep : ℕ) (start : S) (held : ResponderState S) (calls : List (Call S)) (moment eid : ℕ)
       → IsLeftBy device own busy window keep start held calls
       → IsLeftBy device eid busy window keep start (assigned_held held moment eid) (Assigned moment own ∷ calls)
 
   -- while it has no endpoint ID it drops each packet, as a packet that is for nobody, and nothing is performed
   abbrev pub DropsWithoutEid : Type 0
   DropsWithoutEid =
-      (held : Held S) (moment : ℕ) (bytes : List ℕ) → held.own ≡ NULL_EID
+      (held : ResponderState S) (moment : ℕ) (bytes : List ℕ) → held.own ≡ NULL_EID
       → (reason : Reason) × (refusal (Some NULL_EID) bytes ≡ Some reason)
       × (received_outcome device held moment bytes ≡ Dropped reason) × (received_commands held moment bytes ≡ [])
 
   -- an open message that ends leaves what the longer list leaves: to its sender it is a lost packet
   abbrev pub EndedLooksBack : Type 0
   EndedLooksBack =
-      (own : ℕ) (busy : BusyTime) (window keep : ℕ) (start : S) (held : Held S) (calls : List (Call S)) (key : Key)
+      (own : ℕ) (busy : BusyTime) (window keep : ℕ) (start : S) (held : ResponderState S) (calls : List (Call S)) (key : Key)
       → IsLeftBy device own busy window keep start held calls
       → IsLeftBy device own busy window keep start (ended_held (Some key) held) (Ended key ∷ calls)
 
@@ -114,13 +114,13 @@ module _ {S : Type 0} (device : Rules S) where
   -- what holds the same is left by the same calls
   abbrev pub SameIsLeft : Type 0
   SameIsLeft =
-      (own : ℕ) (busy : BusyTime) (window keep : ℕ) (start : S) (new held : Held S) (calls : List (Call S))
+      (own : ℕ) (busy : BusyTime) (window keep : ℕ) (start : S) (new held : ResponderState S) (calls : List (Call S))
       → IsHeld new held → IsLeftBy device own busy window keep start held calls → IsLeftBy device own busy window keep start new calls
 
   -- an answer is kept for each source and instance ID that has an origin, and for no other
   abbrev pub KeptWhereFresh : Type 0
   KeptWhereFresh =
-      (own : ℕ) (busy : BusyTime) (window keep : ℕ) (start : S) (held : Held S) (calls : List (Call S))
+      (own : ℕ) (busy : BusyTime) (window keep : ℕ) (start : S) (held : ResponderState S) (calls : List (Call S))
       → IsLeftBy device own busy window keep start held calls
       → ((source id : ℕ)
       → is_some (kept_for held source id) ≡ is_kept busy window keep (events own calls) source id)
@@ -130,7 +130,7 @@ module _ {S : Type 0} (device : Rules S) where
 -- a platform that is put in the place of another, or was changed in its place, is a change from outside to its state
 abbrev pub PutIsUpdated : {P S : Type 0} → (P → S) → Type 0
 PutIsUpdated {P} {S} state_of =
-    (station : Station P S) (platform : P)
+    (station : ResponderView P S) (platform : P)
     → IsHeld (held_of (with_platform state_of station platform)) (updated_held (held_of station) (state_of platform))
 
 -- the answer to a request while the responder is busy is one packet, with SOM and EOM: a response of the request's

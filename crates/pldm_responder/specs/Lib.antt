@@ -3,7 +3,7 @@ pub mod Events
 pub mod Performing
 pub mod Arrivals
 pub mod Calls
-pub mod Held
+pub mod ResponderStates
 pub mod EachId
 pub mod Steps
 pub mod Answering
@@ -15,7 +15,7 @@ pub mod SlotBytes
 pub mod Orders
 pub mod SourceAnswers
 pub mod Ends
-pub mod Stations
+pub mod ResponderViews
 pub mod Requested
 pub mod OpenOrder
 pub mod Looking

@@ -9,7 +9,7 @@ use Rattle.mctp_assembly.specs.declared.key.Key.{Key}
 use Rattle.pldm_responder.specs.Arrivals.{Arrival, Drop, Part, Whole, message_of, passed_arrival, request_packet}
 use Rattle.pldm_responder.specs.Ends.{End, held_by}
 use Rattle.pldm_responder.specs.Events.{Message}
-use Rattle.pldm_responder.specs.Held.{Held}
+use Rattle.pldm_responder.specs.ResponderStates.{ResponderState}
 use Rattle.pldm_responder.specs.OpenOrder.{begun_fed, begun_passed, ended_passed, is_shut_out_passed, open_fed, open_passed}
 use Rattle.pldm_responder.specs.Performing.{busy_reply}
 use Rattle.pldm_responder.specs.Requested.{Requested}
@@ -119,7 +119,7 @@ abbrev pub ended_by : End → List ℕ → Option Key
 ended_by end bytes = ended_passed end (request_packet end.own bytes)
 
 -- ---- a request is looked at
-module _ {S : Type 0} (held : Held S) (m : Message) where
+module _ {S : Type 0} (held : ResponderState S) (m : Message) where
   abbrev pub standing : Standing
   standing =
       if refuses_now held m then Busy

@@ -4,10 +4,10 @@ use Rattle.mctp_packet.specs.Packets.{Packet}
 use Rattle.mctp_packet.specs.declared.reason.Reason.{Reason}
 use Rattle.mctp_assembly.specs.Steps as assembly
 use Rattle.pldm_responder.specs.Arrivals.{Arrival, Drop, Part, Whole, passed_arrival, request_packet}
-use Rattle.pldm_responder.specs.Held.{Held}
+use Rattle.pldm_responder.specs.ResponderStates.{ResponderState}
 use Rattle.pldm_responder.specs.Steps.{performs}
 
-module _ {S : Type 0} (held : Held S) (steady : Bool) where
+module _ {S : Type 0} (held : ResponderState S) (steady : Bool) where
   -- no answer is kept for this source
   abbrev pub KeepsNone : ℕ → Type 0
   KeepsNone source = held.kept source ≡ []

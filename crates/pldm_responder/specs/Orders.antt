@@ -1,6 +1,6 @@
 -- Which slot each of the latest instance IDs of a source has.
-use Rattle.std.specs.Prelude.{◌≡◌, ◌<◌, ◌==◌, ℕ, List, [], ◌∷◌, length, map, nat_lt, reverse, slice_index_or, option_map, Option, Some, None, if◌then◌else◌}
-use Rattle.pldm_responder.specs.Recency.{of_number, IsApart, AllBelow}
+use Rattle.std.specs.Prelude.{◌≡◌, ◌<◌, ◌==◌, ℕ, List, [], ◌∷◌, length, map, nat_lt, reverse, slice_index_or, take, option_map, Option, Some, None, if◌then◌else◌}
+use Rattle.pldm_responder.specs.Recency.{of_number, renewed, IsApart, AllBelow}
 use Rattle.pldm_responder.specs.declared.order.Indexed.{Indexed}
 
 abbrev pub id_of : Indexed → ℕ
@@ -46,3 +46,14 @@ numbered_slots slots = map numbered_slot slots
 pub record IsTable (by_id : List (Option ℕ)) (order : List Indexed) : Type 0 where
   pub slots : (id : ℕ) → id < 32 → slice_index_or by_id id None ≡ option_map slot_in (of_number id_of id order)
   pub all : length by_id ≡ 32
+
+-- the table of an order, of instance IDs below 32
+pub record IsTabled (by_id : List (Option ℕ)) (order : List Indexed) : Type 0 where
+  pub table : IsTable by_id order
+  pub small : AllBelow id_of 32 order
+
+-- an instance ID was put in front of the others, with this slot
+pub record IsRenewed (window id : ℕ) (old new : List Indexed) (slot : ℕ) : Type 0 where
+  pub order : newest_first new ≡ take window (renewed id_of (record { id = id; slot = slot }) (newest_first old))
+  pub slot_is : slot ≡ slot_for window id (newest_first old)
+  pub still : AreInOrder new

@@ -4,16 +4,16 @@ use Rattle.std.specs.Prelude.{◌≡◌, ℕ, Bool, true, List, []}
 use Rattle.pldm_wire.specs.declared.command.Command.{Command}
 use Rattle.pldm_responder.specs.Ends.{AreSameRows}
 use Rattle.pldm_responder.specs.Fitting.{ReceivedFits}
-use Rattle.pldm_responder.specs.Held.{IsHeld}
+use Rattle.pldm_responder.specs.ResponderStates.{IsHeld}
 use Rattle.pldm_responder.specs.Needs.{NeedsMemory}
 use Rattle.pldm_responder.specs.Performing.{Rules}
 use Rattle.pldm_responder.specs.Rooms.{AreRowsAfter, ArrivalLacksRow}
-use Rattle.pldm_responder.specs.Stations.{Station, held_of}
+use Rattle.pldm_responder.specs.ResponderViews.{ResponderView, held_of}
 use Rattle.pldm_responder.specs.Steps.{received_arrival, received_commands, received_held, received_outcome}
 use Rattle.pldm_responder.specs.declared.outcome.Outcome.{Outcome}
 
-module _ {P S : Type 0} (performing : P → List Command → P → Type 0) (old : Station P S) (moment : ℕ) (bytes : List ℕ)
-    (new : Station P S) where
+module _ {P S : Type 0} (performing : P → List Command → P → Type 0) (old : ResponderView P S) (moment : ℕ) (bytes : List ℕ)
+    (new : ResponderView P S) where
   -- the bytes were received at a moment, over a platform of these rules
   pub record HasReceived (device : Rules S) (outcome : Outcome) : Type 0 where
     -- what becomes of them

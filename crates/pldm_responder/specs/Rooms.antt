@@ -3,7 +3,7 @@
 use Rattle.std.specs.Prelude.{◌≡◌, ℕ, Bool, ◌&&◌, ◌||◌, ◌==◌, None, if◌then◌else◌}
 use Rattle.pldm_responder.specs.Arrivals.{Arrival, Drop, Part, Whole}
 use Rattle.pldm_responder.specs.Ends.{count_with, has_row}
-use Rattle.pldm_responder.specs.Held.{Held}
+use Rattle.pldm_responder.specs.ResponderStates.{ResponderState}
 use Rattle.pldm_responder.specs.Slots.{Rows, row_of, source_count}
 use Rattle.pldm_responder.specs.Steps.{performs}
 
@@ -13,7 +13,7 @@ ArrivalLacksRow rows (Drop reason) = Unit {0}
 ArrivalLacksRow rows Part = Unit {0}
 ArrivalLacksRow rows (Whole m) = row_of rows m.source ≡ None
 
-module _ {S : Type 0} (held : Held S) (rows : Rows) where
+module _ {S : Type 0} (held : ResponderState S) (rows : Rows) where
   -- whether a source has one after an arrival
   abbrev pub has_row_after : Arrival → ℕ → Bool
   has_row_after (Drop reason) source = has_row rows source

@@ -1,24 +1,42 @@
 -- What a responder makes of a request: it is served, and a fresh one performed. `performing` holds of a platform,
 -- commands, and the platform once they were performed.
-use Rattle.std.specs.Prelude.{◌≡◌, ℕ, Bool, true, ◌||◌, ◌==◌, List, [], take, None, if◌then◌else◌}
+use Rattle.std.specs.Prelude.{◌≡◌, ℕ, Bool, true, ◌||◌, ◌==◌, ◌<◌, ◌≤◌, List, [], length, take, None, Ok, if◌then◌else◌}
+use Rattle.mctp_packet.specs.declared.TheConstants.{MAX_MESSAGE_BYTES}
+use Rattle.pldm_wire.specs.Requests.{Request}
 use Rattle.pldm_wire.specs.declared.command.Command.{Command}
 use Rattle.pldm_responder.specs.Answering.{HasReply, answering}
 use Rattle.pldm_responder.specs.Arrivals.{Whole}
 use Rattle.pldm_responder.specs.Ends.{IsSameEnd, count_with, has_row}
 use Rattle.pldm_responder.specs.Fitting.{AnswerFits, Fits}
-use Rattle.pldm_responder.specs.Held.{IsHeld, id_in}
-use Rattle.pldm_responder.specs.Performing.{Rules, changes, commands_of, next, reply}
+use Rattle.pldm_responder.specs.ResponderStates.{IsHeld, id_in}
+use Rattle.pldm_responder.specs.Performing.{Rules, changes, changes_at, commands_at, commands_of, next, next_after, reply, reply_to}
 use Rattle.pldm_responder.specs.Looking.{end_finished, message_at}
 use Rattle.pldm_responder.specs.Recency.{renewed}
 use Rattle.pldm_responder.specs.Requested.{Requested}
 use Rattle.pldm_responder.specs.Rooms.{AreRowsAfter}
 use Rattle.pldm_responder.specs.Slots.{kept_in, row_of, source_count}
-use Rattle.pldm_responder.specs.Stations.{Station, held_of}
+use Rattle.pldm_responder.specs.ResponderViews.{ResponderView, held_of}
 use Rattle.pldm_responder.specs.Steps.{arrival_commands, arrival_held, entry_of, message_outcome, performs}
 use Rattle.pldm_responder.specs.declared.outcome.MessageOutcome.{MessageOutcome}
 
-module _ {P S : Type 0} (performing : P → List Command → P → Type 0) (old : Station P S) (moment : ℕ) (r : Requested)
-    (new : Station P S) where
+-- a platform whose value `state_of` gives the state performed a request, or refused it
+pub record IsDone {P S : Type 0} (state_of : P → S) (performing : P → List Command → P → Type 0) (device : Rules S)
+    (old : P) (request : Request) (new : P) (answer : List ℕ) (changed : Bool) : Type 0 where
+  pub answer_is : answer ≡ reply_to device (state_of old) (Ok request)
+  pub changed_is : changed ≡ changes_at device (state_of old) (Ok request)
+  pub state : state_of new ≡ next_after device (state_of old) (Ok request)
+  pub performed : performing old (commands_at (Ok request)) new
+  pub some : 0 < length answer
+  pub few : length answer ≤ MAX_MESSAGE_BYTES
+
+-- it had no memory for it, and its state is as before
+pub record IsUndone {P S : Type 0} (state_of : P → S) (performing : P → List Command → P → Type 0) (old new : P) : Type 0
+  where
+    pub state : state_of new ≡ state_of old
+    pub none_performed : performing old [] new
+
+module _ {P S : Type 0} (performing : P → List Command → P → Type 0) (old : ResponderView P S) (moment : ℕ) (r : Requested)
+    (new : ResponderView P S) where
   -- a request was served over a platform of these rules; `taken` and `answer` are what came of it
   pub record IsServed (device : Rules S) (answer : List ℕ) (taken : MessageOutcome) : Type 0 where
     pub outcome_is : answering answer taken ≡ message_outcome device (held_of old) (message_at moment r)

@@ -7,7 +7,7 @@ use Rattle.mctp_packet.specs.declared.TheConstants.{MAX_MESSAGE_BYTES}
 use Rattle.mctp_assembly.specs.NumberLists.{NumberList, Rises, at}
 use Rattle.pldm_wire.specs.Settings.{IsWindow}
 use Rattle.pldm_wire.specs.declared.assigned.TheConstants.{INSTANCE_IDS}
-use Rattle.pldm_responder.specs.Held.{Entry, id_in}
+use Rattle.pldm_responder.specs.ResponderStates.{Entry, id_in}
 use Rattle.pldm_responder.specs.Recency.{IsApart, of_number}
 
 -- the answers that are kept to one source: how many at most, and those that there are, the newest first
@@ -15,8 +15,8 @@ pub record Answers : Type 0 where
   pub window : ℕ
   pub kept : List Entry
 
--- how many answers each source has at most, for how many sources there is a place, and the answers to each source, by its
--- endpoint ID
+-- how many answers each source has at most, for how many sources there is a place, and the answers to each source, by
+-- its endpoint ID
 pub record Rows : Type 0 where
   pub window : ℕ
   pub places : ℕ

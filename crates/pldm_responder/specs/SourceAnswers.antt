@@ -1,14 +1,11 @@
 -- The answers that are kept to one source, by an order of instance IDs over slots.
 use Rattle.std.specs.Prelude.{◌≡◌, ◌≤◌, ℕ, List, [], ◌∷◌, length, map, slice_index_or, Option}
 use Rattle.pldm_wire.specs.Settings.{IsWindow}
-use Rattle.pldm_responder.specs.Held.{Entry, id_in}
+use Rattle.pldm_responder.specs.ResponderStates.{Entry, id_in}
 use Rattle.pldm_responder.specs.Orders.{AreInOrder, IsTable, id_of, newest_first}
 use Rattle.pldm_responder.specs.Recency.{AllBelow}
+use Rattle.pldm_responder.specs.SlotBytes.{no_entry}
 use Rattle.pldm_responder.specs.declared.order.Indexed.{Indexed}
-
--- what an empty slot holds
-abbrev pub no_entry : Entry
-no_entry = record { moment = 0; bytes = []; answer = [] }
 
 -- the answer in the slot of an instance ID
 abbrev pub in_slot : List Entry → Indexed → Entry

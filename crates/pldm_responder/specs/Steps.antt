@@ -10,7 +10,7 @@ use Rattle.pldm_wire.specs.Kinds.{TypeAndCommand}
 use Rattle.pldm_wire.specs.declared.command.Command.{Command}
 use Rattle.pldm_platform.specs.Changes.{changed_or}
 use Rattle.pldm_responder.specs.Events.{Message, refuses_bytes}
-use Rattle.pldm_responder.specs.Held.{Entry, Held, id_in}
+use Rattle.pldm_responder.specs.ResponderStates.{Entry, ResponderState, id_in}
 use Rattle.pldm_responder.specs.Performing.{Rules, Task, reply, next, changes, busy_reply, commands_of, tasks_of}
 use Rattle.pldm_responder.specs.Arrivals.{Arrival, Drop, Part, Whole, arrival, passed_arrival, request_packet, packets_back}
 use Rattle.pldm_responder.specs.Recency.{of_number, renewed}
@@ -28,7 +28,7 @@ copied_packets own keep m None = None
 copied_packets own keep m (Some e) =
     if repeats keep m (Some e) then Some (packets_back own m e.answer) else None
 
-module _ {S : Type 0} (held : Held S) where
+module _ {S : Type 0} (held : ResponderState S) where
   -- the answer that is kept for a source and an instance ID
   abbrev pub kept_for : ℕ → ℕ → Option Entry
   kept_for source id = of_number id_in id (held.kept source)
@@ -68,7 +68,7 @@ module _ {S : Type 0} (held : Held S) where
   received_tasks hands_on moment bytes = arrival_asks (tasks_of hands_on) (received_arrival moment bytes)
 
   -- what is held after a restart: no kept answers and no open messages
-  abbrev pub restarted_held : ℕ → Held S
+  abbrev pub restarted_held : ℕ → ResponderState S
   restarted_held moment = record held {
     open_messages = map.empty;
     kept = λ source. [];
@@ -76,9 +76,9 @@ module _ {S : Type 0} (held : Held S) where
     last = moment;
   }
 
-  -- what is held once another endpoint ID was assigned: what a restart leaves; where it had none before, it held nothing
-  -- and serves as before
-  abbrev pub assigned_held : ℕ → ℕ → Held S
+  -- what is held once another endpoint ID was assigned: what a restart leaves; where it had none before, it held
+  -- nothing and serves as before
+  abbrev pub assigned_held : ℕ → ℕ → ResponderState S
   assigned_held moment eid = record (if held.own == NULL_EID then held else restarted_held moment) {
     own = eid;
     open_messages = map.empty;
@@ -86,15 +86,15 @@ module _ {S : Type 0} (held : Held S) where
   }
 
   -- what is held after a change from outside, which left the platform in this state
-  abbrev pub updated_held : S → Held S
+  abbrev pub updated_held : S → ResponderState S
   updated_held state = record held { state = state }
 
 -- a packet that passes comes to assembly
-abbrev pub open_after : assembly.Held → Result Packet Reason → assembly.Held
+abbrev pub open_after : assembly.OpenMessages → Result Packet Reason → assembly.OpenMessages
 open_after open_messages (Ok p) = assembly.after open_messages p
 open_after open_messages (Err reason) = open_messages
 
-module _ {S : Type 0} (device : Rules S) (held : Held S) where
+module _ {S : Type 0} (device : Rules S) (held : ResponderState S) where
   -- a copy, or fresh
   abbrev pub served : Message → Option (List (List ℕ)) → Outcome
   served m (Some packets) = Answered false false packets
@@ -126,7 +126,7 @@ module _ {S : Type 0} (device : Rules S) (held : Held S) where
   arrival_outcome (Whole m) = message_outcome m
 
   -- what is held after an arrival, but for the open messages and the moment
-  abbrev pub arrival_held : Arrival → Held S
+  abbrev pub arrival_held : Arrival → ResponderState S
   arrival_held (Drop reason) = held
   arrival_held Part = held
   arrival_held (Whole m) = record held { kept = kept_after m; state = state_after m }
@@ -136,16 +136,16 @@ module _ {S : Type 0} (device : Rules S) (held : Held S) where
   received_outcome moment bytes = arrival_outcome (received_arrival held moment bytes)
 
   -- what is held after a packet that passed, or one that did not, but for the moment
-  abbrev pub passed_held : ℕ → Result Packet Reason → Held S
+  abbrev pub passed_held : ℕ → Result Packet Reason → ResponderState S
   passed_held moment read =
       record (arrival_held (passed_arrival (assembly.answer held.open_messages) moment read)) {
         open_messages = open_after held.open_messages read;
       }
 
   -- what is held after bytes that are received
-  abbrev pub received_held : ℕ → List ℕ → Held S
+  abbrev pub received_held : ℕ → List ℕ → ResponderState S
   received_held moment bytes = record (passed_held moment (request_packet held.own bytes)) { last = moment }
 
   -- what is held after a reading: a refused one changes nothing
-  abbrev pub sensed_held : ℕ → ℤ → Held S
+  abbrev pub sensed_held : ℕ → ℤ → ResponderState S
   sensed_held id value = record held { state = changed_or held.state (device.sensed held.state id value) }

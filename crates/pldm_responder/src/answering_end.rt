@@ -1,5 +1,5 @@
-//! The answering end of a link: what is open, what is kept, and what a packet is to it. Each packet is looked at once;
-//! then it is done what it asks for.
+//! The responding end of a link without its device: the open messages, the kept answers, and what each packet asks
+//! for.
 
 ghost use Rattle.std.specs.FinMap as map;
 ghost use Rattle.std.specs.Prelude.{◌≡◌, ◌≢◌, ◌↔◌, ℕ, List, [], Ok, ◌+◌, ◌*◌, ◌≤◌, ◌<◌, ◌==◌, false, true, length, take, nat_lt, IfOk, IfErr, IfSome, IsErrOf, IsSome, OnOk, OnErr, if◌then◌else◌};
@@ -7,7 +7,7 @@ ghost use Rattle.mctp_packet.specs.Ids.{IsEid};
 ghost use Rattle.mctp_packet.specs.declared.TheConstants.{MAX_MESSAGE_BYTES as most, NULL_EID};
 ghost use Rattle.mctp_assembly.specs.declared.key.Key.{Key as KeyValue};
 ghost use Rattle.pldm_responder.specs.Counts.{CountsKept};
-ghost use Rattle.pldm_responder.specs.Ends.{End, GetsRow, IsOwn, IsSameEnd, eid_or_null, has_row, held_by};
+ghost use Rattle.pldm_responder.specs.Ends.{End, GetsRow, end_at_first, end_restarted, IsOwn, IsSameEnd, eid_or_null, has_row, held_by};
 ghost use Rattle.pldm_responder.specs.Arrivals.{Part, message_arrival, request_packet};
 ghost use Rattle.pldm_responder.specs.Looking.{HasArrived, HasComeBy, HasTaken, IsLastFor, IsReadBy, IsReply, arrival_in, end_closed, end_finished, is_past_open, message_at, standing};
 ghost use Rattle.pldm_responder.specs.OpenOrder.{begins, is_shut_out, is_shut_out_on, way_for};
@@ -16,7 +16,7 @@ ghost use Rattle.mctp_assembly.specs.Steps.{answer};
 ghost use Rattle.mctp_assembly.specs.declared.fed.Fed.TheVariants.{Partial};
 ghost use Rattle.pldm_responder.specs.Needs.{NeedsMemory};
 ghost use Rattle.pldm_responder.specs.Reserving.{IsRoomFor, IsWhyNoRow, IsWithinSources};
-ghost use Rattle.pldm_responder.specs.Held.{IsHeld, id_in};
+ghost use Rattle.pldm_responder.specs.ResponderStates.{IsHeld, id_in};
 ghost use Rattle.pldm_responder.specs.Recency.{renewed, replaced};
 ghost use Rattle.pldm_responder.specs.Slots.{entry_in, kept_in, row_of, source_count};
 ghost use Rattle.pldm_responder.specs.Steps.{assigned_held, received_arrival};
@@ -29,7 +29,7 @@ use crate::keeping::Keeping;
 use crate::kept_answers::{KeptAnswers, Reserved};
 use crate::open_order::{end_message, first_open, put_begun, reserve_begun};
 use crate::performing::refuse;
-use mctp_assembly::{Assembler, FedInto, Key};
+use mctp_assembly::{Assembled, Assembler, Key};
 use mctp_packet::{
     Body, Eid, Keep, MAX_EID, MAX_MESSAGE_BYTES, MIN_EID, Memory, Moment, NULL_EID, PacketRef,
     Reason, Route, TAGS, Tag, read_for, reason_without_eid,
@@ -65,8 +65,8 @@ pub struct AnsweringEnd {
     /// Whether the oldest open message ends where one more would pass its bound.
     ends_oldest: bool,
     assembler: Assembler,
-    /// The keys on which messages began that are open, the oldest first, where the oldest ends: with keys of messages
-    /// that ended since.
+    /// The keys on which the open messages began, the oldest first; kept only where the oldest ends. Keys of messages
+    /// that have ended may be among them.
     begun: Vec<Key>,
     kept: KeptAnswers,
 }
@@ -99,10 +99,10 @@ impl Model for AnsweringEnd {
 }
 
 impl AnsweringEnd {
-    /// The endpoint `own`, or one that gets its endpoint ID later ([`AnsweringEnd::assign`]). It keeps answers so, and
-    /// at a time no more than `bounds` allow. Where one more message would be open than that, the one that began first
-    /// ends where `ends_oldest`, else the new one is refused. Nothing is open or kept, and its last moment is 0. It
-    /// takes no memory.
+    /// The endpoint `own`, or one that gets its endpoint ID later ([`AnsweringEnd::assign`]). It keeps answers as
+    /// `keeping` says, and at a time no more than `bounds` allow. Where one more message would be open than they allow,
+    /// the one that began first ends if `ends_oldest`, else the new one is refused. Nothing is open or kept, and its
+    /// last moment is 0. It takes no memory.
     pub fn new(
         alloc: Global,
         own: Option<Eid>,
@@ -110,16 +110,7 @@ impl AnsweringEnd {
         bounds: Bounds,
         ends_oldest: bool,
     ) -> AnsweringEnd
-        ensures own { result.own ≡ eid_or_null own }
-        ensures busy { result.busy ≡ keeping.busy }
-        ensures keep { result.keep ≡ keeping.keep }
-        ensures bounds { result.bounds ≡ bounds }
-        ensures ends_oldest { result.ends_oldest ≡ ends_oldest }
-        ensures none_begun { result.begun ≡ [] }
-        ensures closed { result.open_messages ≡ map.empty }
-        ensures none { result.rows ≡ record { window = keeping.window; places = 0; list = [] } }
-        ensures serves { result.serves_from ≡ 0 }
-        ensures last { result.last ≡ 0 }
+        ensures { result ≡ end_at_first (eid_or_null own) keeping bounds ends_oldest }
     {
         let Keeping { keep, window, busy } = keeping;
         AnsweringEnd {
@@ -189,16 +180,7 @@ impl AnsweringEnd {
     /// Restarts at the moment `now`. The kept answers and the messages that have begun are lost, and for the keeping
     /// time from then on it is busy.
     pub fn restart(&mut self, now: Moment)
-        ensures own { self.new.own ≡ self.old.own }
-        ensures busy { self.new.busy ≡ self.old.busy }
-        ensures keep { self.new.keep ≡ self.old.keep }
-        ensures bounds { self.new.bounds ≡ self.old.bounds }
-        ensures ends_oldest { self.new.ends_oldest ≡ self.old.ends_oldest }
-        ensures closed { self.new.open_messages ≡ map.empty }
-        ensures none_begun { self.new.begun ≡ [] }
-        ensures none { self.new.rows ≡ record { window = self.old.rows.window; places = 0; list = [] } }
-        ensures serves { self.new.serves_from ≡ now + self.old.keep }
-        ensures last { self.new.last ≡ now }
+        ensures { self.new ≡ end_restarted self.old now }
     {
         self.assembler = Assembler::new(self.alloc);
         self.begun.clear();
@@ -223,8 +205,8 @@ impl AnsweringEnd {
         self.own = Some(eid);
     }
 
-    /// The moment from which it serves, once another endpoint ID was assigned at the moment `now`. Where it has none now,
-    /// nothing is kept.
+    /// The moment from which it serves, once another endpoint ID was assigned at the moment `now`. Where it has none
+    /// now, nothing is kept.
     fn serves_once_assigned(&self, now: Moment) -> u64
         ensures moment { result
             ≡ (if self.now.own == NULL_EID then self.now.serves_from else now + self.now.keep) }
@@ -239,16 +221,16 @@ impl AnsweringEnd {
         }
     }
 
-    /// Takes the bytes of a packet that came at the moment `now`. A packet that is dropped or a part of a message is
-    /// done with. A request that it completes is returned, and nothing is done with it: that is the caller's, up to
-    /// [`AnsweringEnd::finish`]. The last packet of several is returned as it was read, for
-    /// [`AnsweringEnd::take_last`]: only that needs room for a message.
+    /// Takes the bytes of a packet that came at the moment `now`. Nothing more is to be done with a packet that is
+    /// dropped or is a part of a message. A request that the packet completes is returned, and nothing is done with it:
+    /// the caller serves it, and then calls [`AnsweringEnd::finish`]. The last packet of several is returned as it was
+    /// read, for [`AnsweringEnd::take_last`]: only that needs room for a message.
     ///
     /// # Errors
     ///
     /// `OpenMessages` exactly where a packet begins a message of several packets, none is open on its key, and as many
     /// are open as [`Bounds::open_messages`] allow: where the oldest ends, only if none may be open at all. `Memory`
-    /// where a growth was refused, which only a start packet that gives `Partial` wants.
+    /// where a growth was refused. Only a start packet that gives `Partial` needs memory.
     #[inline(always)]
     pub fn take<'a>(&mut self, now: Moment, bytes: &'a [u8]) -> Result<Taken<'a>, RoomRefusal>
         ensures ok { IfOk result (HasTaken self.old now bytes.now self.new) }
@@ -302,11 +284,11 @@ impl AnsweringEnd {
         if packet.start() {
             return self.begin(now, packet);
         }
-        let given = self.assembler.feed_open(packet)?;
+        let given = self.assembler.feed_part(packet)?;
         self.last = now;
         Ok(match given {
-            FedInto::Whole | FedInto::Partial => Arrived::Partial,
-            FedInto::Dropped(reason) => Arrived::Dropped(reason),
+            Assembled::Whole | Assembled::Partial => Arrived::Partial,
+            Assembled::Dropped(reason) => Arrived::Dropped(reason),
         })
     }
 
@@ -323,13 +305,13 @@ impl AnsweringEnd {
         ensures arrived { (bytes : List ℕ) → request_packet self.old.own bytes ≡ Ok packet.now
             → HasArrived self.old now bytes self.new result }
     {
-        match self.assembler.feed_piece(packet, room) {
-            Ok(FedInto::Whole) => self.read(now, &packet.route(), room),
-            Ok(FedInto::Partial) => {
+        match self.assembler.feed_without_ending(packet, room) {
+            Ok(Assembled::Whole) => self.read(now, &packet.route(), room),
+            Ok(Assembled::Partial) => {
                 self.last = now;
                 Arrived::Partial
             }
-            Ok(FedInto::Dropped(reason)) => {
+            Ok(Assembled::Dropped(reason)) => {
                 self.last = now;
                 Arrived::Dropped(reason)
             }
@@ -377,7 +359,7 @@ impl AnsweringEnd {
     {
         let ended = self.way_for(Key::of(packet))?;
         reserve_begun(&mut self.begun, self.ends_oldest)?;
-        self.assembler.feed_open(packet)?;
+        self.assembler.feed_part(packet)?;
         end_message(&mut self.assembler, ended);
         put_begun(
             &mut self.begun,
@@ -389,7 +371,7 @@ impl AnsweringEnd {
         Ok(Arrived::Partial)
     }
 
-    /// The key whose message has to end so that one can begin on this one.
+    /// The key whose message has to end so that a message can begin on this key.
     fn way_for(&self, key: Key) -> Result<Option<Key>, RoomRefusal>
         requires { IsKey key }
         ensures ok { IfOk result (λ ended. ended ≡ way_for self.now key) }
@@ -430,7 +412,8 @@ impl AnsweringEnd {
         }
     }
 
-    /// Reserves the room for the answer to a request. It counts for nothing, and is given back where it is dropped.
+    /// Reserves the room for the answer to a request. Until it is put in, the end keeps what it kept before; room that
+    /// is dropped is freed.
     ///
     /// # Errors
     ///

@@ -1,4 +1,4 @@
-//! What one packet brings an answering end.
+//! A packet that comes to a responding end, and the whole request that it completes.
 
 ghost use Rattle.std.specs.Prelude.{◌≡◌, ◌<◌, ◌≤◌, ◌≢◌, false, Ok, length};
 ghost use Rattle.mctp_packet.specs.Ids.{IsEid};
@@ -124,7 +124,7 @@ impl<'a> Request<'a> {
         }
     }
 
-    /// What its bytes were read as.
+    /// The request that its bytes were read as.
     #[inline(always)]
     pub fn read(&self) -> &RequestRef<'a>
         ensures { request_of self.now.bytes ≡ Ok result.now }
@@ -136,14 +136,14 @@ impl<'a> Request<'a> {
 /// What becomes of the bytes of a packet as they are read.
 #[derive(Debug, Drop)]
 pub enum Taken<'a> {
-    /// This, and all is done with them.
+    /// They give this, and nothing more is to be done with them.
     Arrived(Arrived<'a>),
     /// They are the last packet of a message of several packets, with which nothing is done yet:
     /// [`crate::AnsweringEnd::take_last`] does.
     Last(PacketRef<'a>),
 }
 
-/// What becomes of the bytes of a packet, as far as they are only looked at.
+/// What becomes of the bytes of a packet, where they were only looked at.
 #[derive(Debug, Drop)]
 pub enum Arrived<'a> {
     /// They are dropped, for one of the reasons 1 to 17.

@@ -1,7 +1,9 @@
+//! The most that a responding end keeps at a time: sources with kept answers, and open messages.
+
 use crate::answering_end::{MAX_PENDING, OTHER_ENDPOINTS};
 
-/// The most that a responder keeps at a time. What would pass a bound is refused as a growth is for which
-/// there is no memory: nothing is performed, and nothing that is kept makes room for it.
+/// The most that a responder keeps at a time. What would pass a bound is refused, like a growth for which there is no
+/// memory: nothing is performed, and nothing that is kept is dropped to make room.
 #[derive(Clone, Copy, Debug, PartialEq, Eq)]
 pub struct Bounds {
     /// How many sources have answers that are kept, at most one for each instance ID.

@@ -1,6 +1,6 @@
 //! The answers that are kept, by the source of the request.
 
-ghost use Rattle.std.specs.Prelude.{◌≡◌, ℕ, ◌*◌, ◌≤◌, ◌<◌, ◌==◌, length, take, [], None, if◌then◌else◌, IfOk, IfErr, OnOk, IsSome};
+ghost use Rattle.std.specs.Prelude.{◌≡◌, ℕ, ◌*◌, ◌≤◌, ◌<◌, ◌==◌, length, take, [], None, true, if◌then◌else◌, IfOk, IfErr, OnOk, IsSome};
 ghost use Rattle.std.specs.Option.{option_copied};
 ghost use Rattle.std.specs.List.{insert};
 ghost use Rattle.std.specs.Vec.{vec_capacity, vec_len};
@@ -10,7 +10,7 @@ ghost use Rattle.pldm_wire.specs.Headers.{id_at};
 ghost use Rattle.pldm_wire.specs.declared.assigned.TheConstants.{INSTANCE_IDS};
 ghost use Rattle.pldm_responder.specs.Counts.{CountsKept};
 ghost use Rattle.pldm_responder.specs.Ends.{AreSameRows, GetsRow, has_row};
-ghost use Rattle.pldm_responder.specs.Held.{id_in};
+ghost use Rattle.pldm_responder.specs.ResponderStates.{id_in};
 ghost use Rattle.pldm_responder.specs.Recency.{renewed, replaced};
 ghost use Rattle.pldm_responder.specs.Reserving.{IsRoomFor, IsWhyNoRow, IsWithinSources};
 ghost use Rattle.pldm_responder.specs.Slots.{AreKept, entry_in, kept_in, no_answers, row_of, source_count};
@@ -68,8 +68,8 @@ pub(crate) struct KeptAnswers {
     alloc: Global,
     window: Window,
     rows: Vec<(u8, Place)>,
-    /// Where the row stood into which an answer was put last. It is looked at first: many packets come from the source
-    /// of the one before.
+    /// Where the row stood that was looked for last when an answer was to be kept. It is looked at first: many packets come
+    /// from the source of the one before, and one packet looks for its row three times.
     latest: usize,
 }
 
@@ -140,9 +140,23 @@ impl KeptAnswers {
         ensures absent { IfErr result (IsGapFor no_answers self.now.list source) }
     {
         let source = source.get();
-        match self.rows.get(self.latest) {
-            Some((other, _)) if *other == source => Ok(self.latest),
-            _ => self.rows.binary_search_by_key(&source, |(other, _)| *other),
+        if stands_at(&self.rows, self.latest, source) {
+            return Ok(self.latest);
+        }
+        let place = even_place(&self.rows, source);
+        if stands_at(&self.rows, place, source) {
+            return Ok(place);
+        }
+        self.rows.binary_search_by_key(&source, |(other, _)| *other)
+    }
+
+    /// Looks for the row of a source, which is then found at once.
+    #[inline(always)]
+    fn look_for(&mut self, source: Eid)
+        ensures { self.new ≡ self.old }
+    {
+        if let Ok(place) = self.search(source) {
+            self.latest = place;
         }
     }
 
@@ -157,8 +171,8 @@ impl KeptAnswers {
         }
     }
 
-    /// Takes the room for the answers to a source, where it has none yet and fewer than `max` sources have. It counts
-    /// for nothing until it is put in.
+    /// Takes the room for the answers to a source, where it has none yet and fewer than `max` sources have. Nothing of
+    /// what is kept changes until it is put in.
     #[inline(always)]
     pub(crate) fn reserve(&mut self, source: Eid, max: usize) -> Result<Reserved, RoomRefusal>
         ensures same { AreSameRows self.new self.old }
@@ -166,6 +180,7 @@ impl KeptAnswers {
         ensures few { IfOk result (IsWithinSources self.new max) }
         ensures err { IfErr result (IsWhyNoRow self.old max source) }
     {
+        self.look_for(source);
         if self.row(source).is_some() {
             return Ok(Reserved { row: None });
         }
@@ -267,6 +282,31 @@ impl KeptAnswers {
         ensures kept { AreKept self.now }
     {
         self.rows.iter().map(|(_, place)| place.row.len()).sum()
+    }
+}
+
+/// Whether the row of a source stands at a place.
+#[inline(always)]
+fn stands_at(rows: &[(u8, Place)], place: usize, source: u8) -> bool
+    ensures { result ≡ true → IsAt no_answers rows.now source place }
+{
+    match rows.get(place) {
+        Some((other, _)) => *other == source,
+        None => false,
+    }
+}
+
+/// Where the row of a source stands if the sources that have one are spread evenly, as where each endpoint has one.
+// Not inlined: it is seldom run, in a function that runs for each request.
+#[inline(never)]
+fn even_place(rows: &[(u8, Place)], source: u8) -> usize {
+    match rows {
+        [(first, _), .., (last, _)] if first < last => {
+            let below = u32::from(source.saturating_sub(*first));
+            let places = rows.len().min(OTHER_ENDPOINTS) as u32;
+            (below * (places - 1) / u32::from(*last - *first)) as usize
+        }
+        _ => 0,
     }
 }
 

@@ -40,23 +40,23 @@ pub fn nothing_is_for_an_end_without_an_id<P: Platform>()
     ensures { DropsWithoutEid (rules_of P.answer P.after P.sensed) }
 {}
 
-/// Where bytes ask something of the platform, what it gives for that says what they give and what they leave, and the
-/// request is fresh. Where they ask nothing, nothing that the platform gives does.
+/// Where bytes ask something of the platform, the platform's answer decides what they give and what they leave, and the
+/// request is fresh. Where they ask nothing, no answer of the platform decides anything.
 pub fn answers_come_from_outside<P: Platform>()
     ensures asked { AnswerDecides (rules_of P.answer P.after P.sensed) }
     ensures none { NoneIsAsked (rules_of P.answer P.after P.sensed) }
 {}
 
 /// With a window of all instance IDs none falls out: what is a copy, what is fresh, what is kept, performed and
-/// answered is what it is where an answer is kept for each instance ID.
+/// answered is the same as where an answer is kept for each instance ID.
 pub fn no_id_falls_out<P: Platform>()
     ensures same { AllIdsAreNoWindow P.State }
     ensures alike { AllIdsPerformAlike (rules_of P.answer P.after P.sensed) }
 {}
 
 /// A request is a copy exactly where it repeats the latest fresh one of its source and instance ID within the keeping
-/// time, and fewer other instance IDs of that source than the window has had a fresh one since. Where more had, it is
-/// performed or refused anew, whatever its source.
+/// time, and since then fewer other instance IDs of that source had a fresh request than the window counts. Where that
+/// many or more had one, it is performed or refused anew, whatever its source.
 pub fn copies_by_the_rule<P: Platform>()
     ensures rule { CopiesByTheRule P.State }
     ensures past { FreshPastTheWindow P.State }

@@ -16,8 +16,8 @@ mod performing;
 mod responder;
 mod routes;
 mod row;
-mod slot;
 mod slot_table;
+mod slots;
 
 pub use answering_end::{AnsweringEnd, MAX_KEPT, MAX_PENDING};
 pub use arriving::{Arrived, Request, RoomRefusal, Standing, Taken};
@@ -25,6 +25,6 @@ pub use bounds::Bounds;
 pub use keeping::Keeping;
 pub use kept_answers::Reserved;
 pub use outcome::{MessageOutcome, Outcome};
-pub use performing::{refuse, succeeded};
+pub use performing::refuse;
 pub use responder::Responder;
 pub use routes::{not_performed, performed};

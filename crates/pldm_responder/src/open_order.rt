@@ -1,4 +1,4 @@
-//! The order in which the open messages began.
+//! The order in which the open messages began, so that the oldest one can be ended.
 
 ghost use Rattle.std.specs.Prelude.{◌≡◌, ◌<◌, ◌||◌, ◌==◌, not, true, if◌then◌else◌, OnOk};
 ghost use Rattle.std.specs.Vec.{vec_capacity, vec_len};

@@ -1,10 +1,10 @@
 //! The order of the instance IDs of a source, by their latest requests.
 
-ghost use Rattle.std.specs.Prelude.{◌≡◌, ◌==◌, ◌+◌, ◌<◌, ◌≤◌, max, slice_index_or, take};
+ghost use Rattle.std.specs.Prelude.{◌≡◌, ◌==◌, ◌+◌, ◌<◌, ◌≤◌, max, slice_index_or};
 ghost use Rattle.std.specs.List.{position, remove};
 ghost use Rattle.std.specs.VecDeque.{deque_capacity, deque_len};
-ghost use Rattle.pldm_responder.specs.Orders.{AreInOrder, IsTable, id_of, newest_first, slot_for};
-ghost use Rattle.pldm_responder.specs.Recency.{AllBelow, renewed};
+ghost use Rattle.pldm_wire.specs.Settings.{IsWindow};
+ghost use Rattle.pldm_responder.specs.Orders.{AreInOrder, IsRenewed, IsTabled};
 
 use crate::slot_table::SlotTable;
 use std::collections::VecDeque;
@@ -28,7 +28,7 @@ fn place_of(order: &VecDeque<Indexed>, id: u8) -> Option<usize>
 }
 
 /// As [`place_of`], for any place.
-// Not inlined: it is seldom run, in a function that runs for each request.
+// Not inlined: it is seldom run, and its caller runs for each request.
 #[inline(never)]
 fn later_place_of(order: &VecDeque<Indexed>, id: u8) -> Option<usize>
     ensures { result ≡ position (λ indexed. indexed.id == id) order.now.items }
@@ -52,7 +52,7 @@ fn take_at(order: &mut VecDeque<Indexed>, place: usize) -> Indexed
 }
 
 /// As [`take_at`], for any place.
-// Not inlined: it is seldom run, in a function that runs for each request.
+// Not inlined: it is seldom run, and its caller runs for each request.
 #[inline(never)]
 fn take_later(order: &mut VecDeque<Indexed>, place: usize) -> Indexed
     requires { place < deque_len order.old }
@@ -67,22 +67,16 @@ fn take_later(order: &mut VecDeque<Indexed>, place: usize) -> Indexed
 /// that no ID has, else that of the oldest, which falls out. The table has the slot of each by its ID.
 pub(crate) fn renew(order: &mut VecDeque<Indexed>, table: &mut SlotTable, window: u8, id: u8) -> u8
     requires order { AreInOrder order.old.items }
-    requires table { IsTable table.old order.old.items }
-    requires small { AllBelow id_of 32 order.old.items }
+    requires tabled { IsTabled table.old order.old.items }
+    requires window { IsWindow window }
     requires id { id < 32 }
     requires few { deque_len order.old ≤ window }
-    requires some { 0 < window }
-    requires most { window ≤ 32 }
     requires room { window ≤ deque_capacity order.old }
-    ensures order { newest_first order.new.items
-        ≡ take window (renewed id_of (record { id = id; slot = result }) (newest_first order.old.items)) }
-    ensures slot { result ≡ slot_for window id (newest_first order.old.items) }
+    ensures renewed { IsRenewed window id order.old.items order.new.items result }
+    ensures tabled { IsTabled table.new order.new.items }
     ensures next { result ≤ deque_len order.old }
     ensures used { deque_len order.new ≡ max (deque_len order.old) (result + 1) }
     ensures few { deque_len order.new ≤ window }
-    ensures still { AreInOrder order.new.items }
-    ensures table { IsTable table.new order.new.items }
-    ensures small { AllBelow id_of 32 order.new.items }
     ensures room { deque_capacity order.new ≡ deque_capacity order.old }
 {
     let slot = match table.get(id) {

@@ -1,4 +1,4 @@
-//! What a packet gives at a responder.
+//! What became of a packet at a responder: dropped, a part of a message, or answered.
 
 ghost use Rattle.std.specs.Prelude.{◌≡◌};
 ghost use Rattle.pldm_responder.specs.Answering.{HasReply, answering};
@@ -45,7 +45,7 @@ pub enum MessageOutcome {
 }
 
 impl MessageOutcome {
-    /// The same with the packets of `reply`, the message that answers.
+    /// The same outcome, with the packets of `reply`, the message that answers.
     pub fn outcome(self, reply: &Body) -> Outcome
         requires { HasReply reply.now.items self }
         ensures { result ≡ answering reply.now.items self }

@@ -1,13 +1,16 @@
-ghost use Rattle.std.specs.Prelude.{◌≡◌, ◌<◌, ◌≤◌, ◌==◌, [], length, Ok, IfOk, IsOk, OnOk, OnErr, IsTrue};
-ghost use Rattle.pldm_wire.specs.Answers.{answer_message, code_of};
+//! A request performed by the platform, or refused, with the message that answers it.
+
+ghost use Rattle.std.specs.Prelude.{◌≡◌, ◌<◌, ◌≤◌, length, Ok, IfOk, IsOk, OnErr, IsTrue};
+ghost use Rattle.pldm_wire.specs.Answers.{answer_message};
 ghost use Rattle.pldm_wire.specs.CommandReading.{command_of};
 ghost use Rattle.pldm_wire.specs.Commands.{CommandFields};
 ghost use Rattle.pldm_wire.specs.declared.answer.Answer.TheVariants.{Refused};
-ghost use Rattle.pldm_responder.specs.Performing.{changes_at, commands_at, next_after, reply_to, rules_of};
+ghost use Rattle.pldm_responder.specs.Performing.{rules_of};
+ghost use Rattle.pldm_responder.specs.Serving.{IsDone, IsUndone};
 
 use mctp_packet::{Body, MAX_MESSAGE_BYTES, Memory};
 use pldm_platform::Platform;
-use pldm_wire::{Answer, Code, Command, RequestRef, SUCCESS, put_answer, read_command};
+use pldm_wire::{Answer, Code, Command, RequestRef, put_answer, read_command};
 use std::alloc::Global;
 
 /// Performs a request: its command where it has one, else it is refused. The message that answers it
@@ -20,18 +23,9 @@ pub(crate) fn perform<P: Platform>(
     room: &mut Answer,
     reply: &mut Body,
 ) -> Result<bool, Memory>
-    ensures answer { OnOk result
-        (reply.new.items ≡ reply_to (rules_of P.answer P.after P.sensed) (P.state platform.old) (Ok request.now)) }
-    ensures changed { IfOk result
-        (λ changed. changed ≡ changes_at (rules_of P.answer P.after P.sensed) (P.state platform.old) (Ok request.now)) }
-    ensures state { OnOk result
-        (P.state platform.new
-        ≡ next_after (rules_of P.answer P.after P.sensed) (P.state platform.old) (Ok request.now)) }
-    ensures performed { OnOk result (P.performed platform.old (commands_at (Ok request.now)) platform.new) }
-    ensures some { OnOk result (0 < length reply.new.items) }
-    ensures few { OnOk result (length reply.new.items ≤ MAX_MESSAGE_BYTES) }
-    ensures err { OnErr result (P.state platform.new ≡ P.state platform.old) }
-    ensures none_performed { OnErr result (P.performed platform.old [] platform.new) }
+    ensures done { IfOk result (IsDone P.state P.performed (rules_of P.answer P.after P.sensed) platform.old request.now
+        platform.new reply.new.items) }
+    ensures err { OnErr result (IsUndone P.state P.performed platform.old platform.new) }
     ensures steady { IsTrue P.STEADY → IsOk result }
 {
     // By reference: the command is not moved from where it was read.
@@ -56,24 +50,15 @@ fn perform_command<P: Platform>(
 ) -> Result<bool, Memory>
     requires read { command_of request.now.kind request.now.rest ≡ Ok command.now }
     requires fields { CommandFields command.now request.now.kind request.now.rest }
-    ensures answer { OnOk result
-        (reply.new.items ≡ reply_to (rules_of P.answer P.after P.sensed) (P.state platform.old) (Ok request.now)) }
-    ensures changed { IfOk result
-        (λ changed. changed ≡ changes_at (rules_of P.answer P.after P.sensed) (P.state platform.old) (Ok request.now)) }
-    ensures state { OnOk result
-        (P.state platform.new
-        ≡ next_after (rules_of P.answer P.after P.sensed) (P.state platform.old) (Ok request.now)) }
-    ensures performed { OnOk result (P.performed platform.old (commands_at (Ok request.now)) platform.new) }
-    ensures some { OnOk result (0 < length reply.new.items) }
-    ensures few { OnOk result (length reply.new.items ≤ MAX_MESSAGE_BYTES) }
-    ensures err { OnErr result (P.state platform.new ≡ P.state platform.old) }
-    ensures none_performed { OnErr result (P.performed platform.old [] platform.new) }
+    ensures done { IfOk result (IsDone P.state P.performed (rules_of P.answer P.after P.sensed) platform.old request.now
+        platform.new reply.new.items) }
+    ensures err { OnErr result (IsUndone P.state P.performed platform.old platform.new) }
     ensures steady { IsTrue P.STEADY → IsOk result }
 {
     platform.perform_into(alloc, command, room)?;
     put_answer(reply, request.id(), request.kind(), room);
     let _few = reply.len(); // for the proof: at most 256 bytes
-    Ok(command.sets() && succeeded(room))
+    Ok(command.sets() && room.is_success())
 }
 
 /// Puts the message that refuses a request into `reply`.
@@ -85,17 +70,4 @@ pub fn refuse(request: &RequestRef<'_>, code: Code, reply: &mut Body)
     ensures few { length reply.new.items ≤ MAX_MESSAGE_BYTES }
 {
     put_answer(reply, request.id(), request.kind(), &Answer::Refused(code));
-}
-
-/// Whether the answer has the completion code SUCCESS.
-pub fn succeeded(answer: &Answer) -> bool
-    ensures { result ≡ (code_of answer.now == SUCCESS) }
-{
-    match answer {
-        Answer::Refused(code) => {
-            let _range = code.get(); // for the proof: not SUCCESS
-            false
-        }
-        _ => true,
-    }
 }

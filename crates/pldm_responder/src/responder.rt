@@ -1,3 +1,5 @@
+//! The responding end of a link, over a platform that answers at once.
+
 ghost use Rattle.std.specs.Borrow.{Lends, sem};
 ghost use Rattle.std.specs.FinMap as map;
 ghost use Rattle.std.specs.Prelude.{◌≡◌, ◌≢◌, ℕ, ◌*◌, ◌≤◌, ◌<◌, List, [], Ok, length, nat_lt, IfOk, IfSome, OnErr};
@@ -8,14 +10,14 @@ ghost use Rattle.pldm_wire.specs.declared.busy_time.BusyTime.TheVariants.{All};
 ghost use Rattle.pldm_responder.specs.Answering.{HasReply, answering};
 ghost use Rattle.pldm_responder.specs.Arrivals.{request_packet};
 ghost use Rattle.pldm_responder.specs.Counts.{CountsKept};
-ghost use Rattle.pldm_responder.specs.Held.{IsHeld, held_at_first};
+ghost use Rattle.pldm_responder.specs.ResponderStates.{IsHeld, held_at_first};
 ghost use Rattle.pldm_responder.specs.Performing.{rules_of};
 ghost use Rattle.pldm_responder.specs.Receiving.{HasReceived, IsRefusedMemory};
 ghost use Rattle.pldm_responder.specs.Looking.{IsLastFor, message_at};
 ghost use Rattle.pldm_responder.specs.Serving.{IsNotPerformed, IsNotServed, IsPerformed, IsServed};
 ghost use Rattle.pldm_responder.specs.Reserving.{IsWhyNoRoom};
 ghost use Rattle.pldm_responder.specs.Slots.{source_count};
-ghost use Rattle.pldm_responder.specs.Stations.{held_of, with_platform};
+ghost use Rattle.pldm_responder.specs.ResponderViews.{held_of, with_platform};
 ghost use Rattle.pldm_responder.specs.Steps.{assigned_held, kept_for, restarted_held, sensed_held, updated_held};
 ghost use Rattle.pldm_responder.specs.Ends.{eid_or_null, unreached};
 ghost use Rattle.pldm_responder.specs.contracts.responder.Responder.{the_row};
@@ -40,18 +42,18 @@ pub struct Responder<P: Platform> {
     alloc: Global,
     end: AnsweringEnd,
     platform: P,
-    /// Room for the platform's answer, which is so made once and not for each request.
+    /// Room for the platform's answer. It is made once, and not for each request.
     room: Answer,
 }
 
 impl<P: Platform> Model for Responder<P> {
     ghost use Rattle.std.specs.Prelude.{◌≡◌, false};
     ghost use Rattle.pldm_responder.specs.Ends.{AreAnswered};
-    ghost use Rattle.pldm_responder.specs.Stations.{Station, coded_station};
+    ghost use Rattle.pldm_responder.specs.ResponderViews.{ResponderView, coded_view};
 
-    ghost Value = { Station P P.State };
+    ghost Value = { ResponderView P P.State };
 
-    ghost coded = { coded_station P.code P.State.code };
+    ghost coded = { coded_view P.code P.State.code };
 
     ghost view = { λ r. record { end = r.end; platform = r.platform; state = P.state r.platform } };
 
@@ -75,8 +77,8 @@ impl<P: Platform> Responder<P> {
         )
     }
 
-    /// The endpoint `own`, or one that gets its endpoint ID later ([`Responder::assign`]), with this platform behind it,
-    /// which keeps answers so, and at a time no more than `bounds` allow.
+    /// The endpoint `own`, or one that gets its endpoint ID later ([`Responder::assign`]), with this platform behind
+    /// it. It keeps answers as `keeping` says, and at a time no more than `bounds` allow.
     pub fn bounded(
         alloc: Global,
         own: Option<Eid>,
@@ -162,10 +164,10 @@ impl<P: Platform> Responder<P> {
         self.end.restart(now);
     }
 
-    /// Gives it the endpoint ID `eid` at the moment `now`, which must not be before [`Responder::last_moment`] (DSP0236,
-    /// "Set Endpoint ID"). Messages that have begun and kept answers are lost. Where it had an endpoint ID before, that
-    /// is a restart: a packet to that one may still come when it has that one again. Where it had none, it serves as
-    /// before.
+    /// Gives it the endpoint ID `eid` at the moment `now`, which must not be before [`Responder::last_moment`]
+    /// (DSP0236, "Set Endpoint ID"). Messages that have begun and kept answers are lost. Where it had an endpoint ID
+    /// before, that is a restart: a packet to that one may still come when it has that one again. Where it had none, it
+    /// serves as before.
     pub fn assign(&mut self, now: Moment, eid: Eid)
         requires { (held_of self.old).last ≤ now }
         ensures held { IsHeld (held_of self.new) (assigned_held (held_of self.old) now eid) }
@@ -216,13 +218,12 @@ impl<P: Platform> Responder<P> {
     /// Takes the bytes of a packet that came at the moment `now`, which must not be before
     /// [`Responder::last_moment`], and gives what becomes of them.
     ///
-    /// A packet that is addressed to the endpoint by another one, with TO 1, is assembled. A request
-    /// that is whole is a copy where the latest one of its source and instance ID that was performed
-    /// or refused since the last restart has the same bytes, and came less than the keeping time
-    /// before, and fewer other instance IDs of its source than the window has had such a request since:
-    /// then it gets that one's answer. Else it is performed, and its answer is kept, a refusal
-    /// too (DSP0240, "PLDM message fields", the instance ID). While the responder is busy, each
-    /// request that [`Keeping::busy`] names is answered with ERROR_NOT_READY, and neither performed nor
+    /// A packet that is addressed to the endpoint by another one, with TO 1, is assembled. A request that is whole is a
+    /// copy where the latest one of its source and instance ID that was performed or refused since the last restart has
+    /// the same bytes, and came less than the keeping time before, and since then fewer other instance IDs of its
+    /// source had such a request than the window counts: then it gets that request's answer. Else it is performed, and
+    /// its answer is kept, a refusal too (DSP0240, "PLDM message fields", the instance ID). While the responder is
+    /// busy, each request that [`Keeping::busy`] names is answered with ERROR_NOT_READY, and neither performed nor
     /// kept. The answer goes back to the source, with TO 0 and the tag of the packets that just came.
     ///
     /// # Errors
@@ -270,7 +271,7 @@ impl<P: Platform> Responder<P> {
     }
 
     /// Takes the last packet of a message of several packets. The message that answers it is put into `reply`.
-    // Not inlined: the room for its bytes is cleared and on the stack for such a message alone.
+    // Not inlined: the room for the message's bytes is cleared, and is on the stack, for such a message alone.
     #[inline(never)]
     fn receive_last(
         &mut self,
@@ -344,7 +345,7 @@ impl<P: Platform> Responder<P> {
         Ok(changed)
     }
 
-    /// The want of memory for which there is no room: a growth that was refused, or a bound that is reached.
+    /// The `Memory` error for which there is no room: a growth was refused, or a bound is reached.
     fn memory_of(&self, refusal: RoomRefusal) -> Memory
         requires { IsWhyNoRoom self.now.end refusal }
     {

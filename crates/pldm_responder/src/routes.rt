@@ -1,4 +1,4 @@
-//! What becomes of a request that is answered on a route.
+//! What a responding end says of a message that is answered: whether it was performed now, and the answer's route.
 
 ghost use Rattle.std.specs.Prelude.{◌≡◌, true, false};
 ghost use Rattle.pldm_responder.specs.declared.outcome.MessageOutcome.TheVariants.{Answered};

@@ -1,17 +1,16 @@
-//! The answers that are kept to one source.
+//! The answers that are kept for one source, one for each of its latest instance IDs.
 
-ghost use Rattle.std.specs.Prelude.{◌≡◌, ◌<◌, ◌≤◌, ◌⊎◌, [], ◌++◌, ◌∷◌, IfOk, length, slice_set, take};
-ghost use Rattle.std.specs.Vec.{vec_capacity, vec_len};
+ghost use Rattle.std.specs.Prelude.{◌≡◌, ◌<◌, ◌≤◌, [], IfOk, length, take};
 ghost use Rattle.mctp_packet.specs.declared.TheConstants.{MAX_MESSAGE_BYTES};
 ghost use Rattle.pldm_wire.specs.Headers.{id_at};
 ghost use Rattle.pldm_wire.specs.declared.assigned.TheConstants.{INSTANCE_IDS as ids};
-ghost use Rattle.pldm_responder.specs.Held.{id_in};
+ghost use Rattle.pldm_responder.specs.ResponderStates.{id_in};
 ghost use Rattle.pldm_responder.specs.Recency.{of_number, renewed, replaced};
 
 use crate::kept_answer::KeptAnswer;
 use crate::order::{Indexed, renew};
-use crate::slot::Slot;
 use crate::slot_table::SlotTable;
+use crate::slots::Slots;
 use mctp_packet::{Memory, Moment};
 use pldm_wire::Window;
 use std::alloc::Global;
@@ -27,12 +26,11 @@ pub(crate) struct Row {
     table: SlotTable,
     /// Which slot each of these instance IDs has, the oldest first: what leaves is mostly the first.
     order: VecDeque<Indexed>,
-    /// The slots that were used. What was not is never written, so that its memory stays untouched.
-    slots: Vec<Slot>,
+    /// The slots.
+    slots: Slots,
 }
 
 impl Model for Row {
-    ghost use Rattle.std.specs.Vec.{vec_capacity};
     ghost use Rattle.std.specs.VecDeque.{deque_capacity};
     ghost use Rattle.pldm_responder.specs.Orders.{newest_first};
     ghost use Rattle.pldm_responder.specs.Slots.{Answers, coded_answers};
@@ -42,10 +40,10 @@ impl Model for Row {
 
     ghost coded = { coded_answers };
 
-    ghost view = { λ r. record { window = r.window; kept = kept_by r.slots.items (newest_first r.order.items) } };
+    ghost view = { λ r. record { window = r.window; kept = kept_by r.slots.entries (newest_first r.order.items) } };
 
     ghost invariant = { λ r.
-        AreLatest r.window r.table r.slots.items r.order.items (deque_capacity r.order) (vec_capacity r.slots) };
+        AreLatest r.window r.table r.slots.entries r.order.items (deque_capacity r.order) r.slots.room };
 }
 
 impl Row {
@@ -57,7 +55,7 @@ impl Row {
     {
         let count = usize::from(window.get());
         let order = VecDeque::with_capacity(alloc, count)?;
-        let slots = Vec::with_capacity(alloc, count)?;
+        let slots = Slots::new(alloc, count)?;
         Ok(Row {
             window,
             table: SlotTable::new(),
@@ -73,7 +71,7 @@ impl Row {
         ensures { result ≡ of_number id_in id self.now.kept }
     {
         let slot = self.table.get(id)?;
-        Some(self.slots[usize::from(slot)].kept())
+        Some(self.slots.get(usize::from(slot)))
     }
 
     /// Puts the answer to a message in front, in the place of the one of its instance ID; where there are more than the
@@ -93,9 +91,9 @@ impl Row {
         let window = self.window.get();
         let slot = usize::from(renew(&mut self.order, &mut self.table, window, id));
         if slot == self.slots.len() {
-            add_slot(&mut self.slots);
+            self.slots.add();
         }
-        self.slots[slot].fill(moment, bytes, answer);
+        self.slots.fill(slot, moment, bytes, answer);
     }
 
     /// Puts the answer to a message in the place of the one of its instance ID, where one is kept.
@@ -111,7 +109,7 @@ impl Row {
         } }
     {
         if let Some(slot) = self.table.get(id) {
-            self.slots[usize::from(slot)].fill(moment, bytes, answer);
+            self.slots.fill(usize::from(slot), moment, bytes, answer);
         }
     }
 
@@ -122,15 +120,4 @@ impl Row {
     {
         self.order.len()
     }
-}
-
-/// Adds a slot with no message.
-// Not inlined: the zeros of a new slot lie on its stack, and the usual request is not to pay for them.
-#[inline(never)]
-fn add_slot(slots: &mut Vec<Slot>)
-    requires { vec_len slots.old < vec_capacity slots.old }
-    ensures items { slots.new.items ≡ slots.old.items ++ record { moment = 0; bytes = []; answer = [] } ∷ [] }
-    ensures capacity { vec_capacity slots.new ≡ vec_capacity slots.old }
-{
-    slots.push_reserved(Slot::empty());
 }

@@ -1,4 +1,4 @@
-//! Which slot an instance ID has.
+//! A table that says, for each instance ID, which slot keeps its answer.
 
 ghost use Rattle.std.specs.Prelude.{◌≡◌, ◌<◌, Some, None, replicate, slice_index_or, slice_set};
 

@@ -26,3 +26,5 @@ pub mod Remainders
 pub mod Checksums
 pub mod ChecksumTable
 mod Examples
+mod LongDivision
+mod WorkedChecksums

@@ -10,8 +10,8 @@ use Rattle.pldm_wire.specs.declared.handed_on.HandedOn.{HandedOn}
 abbrev pub none_handed_on : HandedOn
 none_handed_on = record { pldm_types = 0; unknown_commands = false }
 
--- of types 0 and 2 the commands that this profile does not read, where they are; of another type each command, where the
--- type's bit is set
+-- of types 0 and 2 the commands that this profile does not read, where they are; of another type each command, where
+-- the type's bit is set
 abbrev pub hands_on : HandedOn → TypeAndCommand → Bool
 hands_on handed kind =
     if kind.pldm_type == BASE || kind.pldm_type == PLATFORM

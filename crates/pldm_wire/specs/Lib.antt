@@ -26,5 +26,6 @@ pub mod BaseAnswerReading
 pub mod PlatformAnswerReading
 pub mod AnswerReading
 pub mod Crc
+pub mod Crc32
 pub mod Laws
 pub mod MessageSizes

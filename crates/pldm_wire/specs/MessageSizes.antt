@@ -1,6 +1,6 @@
 -- Laws of the sizes of messages: each request is one packet, and each answer fits a message.
 use Rattle.std.specs.Prelude.{ℕ, ◌<◌, ◌≤◌, length}
-use Rattle.mctp_packet.specs.declared.TheConstants.{MAX_MESSAGE_BYTES, UNIT}
+use Rattle.mctp_packet.specs.declared.TheConstants.{MAX_MESSAGE_BYTES, BASELINE_UNIT}
 use Rattle.pldm_wire.specs.Commands.{IsCommand, command_message}
 use Rattle.pldm_wire.specs.Answers.{IsAnswer, answer_message}
 use Rattle.pldm_wire.specs.Kinds.{TypeAndCommand}
@@ -12,7 +12,7 @@ use Rattle.pldm_wire.specs.declared.answer.Answer.{Answer}
 abbrev pub CommandFitsOnePacket : Type 0
 CommandFitsOnePacket =
     (id : ℕ) (command : Command) → IsCommand command
-    → (0 < length (command_message id command)) × (length (command_message id command) ≤ UNIT)
+    → (0 < length (command_message id command)) × (length (command_message id command) ≤ BASELINE_UNIT)
 
 -- and no more than that of a command with all eight states
 abbrev pub CommandIsShort : Type 0

@@ -17,8 +17,8 @@ abbrev pub reads_set : Result Command ℕ → Bool
 reads_set (Ok command) = sets command
 reads_set (Err code) = false
 
--- whether a request is refused in the busy time: its type and command, and what was read of them, or the code that refuses
--- it anyway
+-- whether a request is refused in the busy time: its type and command, and what was read of them, or the code that
+-- refuses it anyway
 abbrev pub refuses : BusyTime → TypeAndCommand → Result Command ℕ → Bool
 refuses All kind read = true
 refuses (Sets handed) kind read = hands_on handed kind || reads_set read

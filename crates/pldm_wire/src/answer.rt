@@ -1,6 +1,18 @@
+//! An answer to a command, with its fields.
+
+ghost use Rattle.std.specs.Prelude.{◌≡◌, ◌==◌};
+ghost use Rattle.pldm_wire.specs.Answers.{answered_kind, code_of};
+ghost use Rattle.pldm_wire.specs.declared.assigned.TheConstants.{SUCCESS};
+
+use crate::assigned::{
+    BASE, GET_NUMERIC_EFFECTER_VALUE, GET_PDR, GET_PDR_REPOSITORY_INFO, GET_PLDM_COMMANDS,
+    GET_PLDM_TYPES, GET_PLDM_VERSION, GET_SENSOR_READING, GET_STATE_EFFECTER_STATES,
+    GET_STATE_SENSOR_READINGS, GET_TID, PLATFORM, SET_NUMERIC_EFFECTER_VALUE,
+    SET_STATE_EFFECTER_STATES, SET_TID,
+};
 use crate::{
-    COMMANDS_BYTES, Code, EffecterStateField, EffecterValues, Number, RecordPart, SensorStateField,
-    StateFields, TIME_BYTES, TYPES_BYTES, VersionData,
+    COMMANDS_BYTES, Code, EffecterStateField, EffecterValues, Kind, Number, RecordPart,
+    SensorStateField, StateFields, TIME_BYTES, TYPES_BYTES, VersionData,
 };
 
 /// An answer with its fields, one variant for each command, and the refusal of any.
@@ -95,4 +107,42 @@ pub enum Answer {
         /// The part.
         part: RecordPart,
     },
+}
+
+impl Answer {
+    /// The kind of the one command that this answers; `None` for a refusal, which answers any.
+    pub fn kind(&self) -> Option<Kind>
+        ensures { result ≡ answered_kind self.now }
+    {
+        let (pldm_type, command) = match self {
+            Answer::Refused(_) => return None,
+            Answer::SetTid => (BASE, SET_TID),
+            Answer::GetTid { .. } => (BASE, GET_TID),
+            Answer::GetPldmVersion { .. } => (BASE, GET_PLDM_VERSION),
+            Answer::GetPldmTypes { .. } => (BASE, GET_PLDM_TYPES),
+            Answer::GetPldmCommands { .. } => (BASE, GET_PLDM_COMMANDS),
+            Answer::GetSensorReading { .. } => (PLATFORM, GET_SENSOR_READING),
+            Answer::GetStateSensorReadings { .. } => (PLATFORM, GET_STATE_SENSOR_READINGS),
+            Answer::SetNumericEffecterValue => (PLATFORM, SET_NUMERIC_EFFECTER_VALUE),
+            Answer::GetNumericEffecterValue { .. } => (PLATFORM, GET_NUMERIC_EFFECTER_VALUE),
+            Answer::SetStateEffecterStates => (PLATFORM, SET_STATE_EFFECTER_STATES),
+            Answer::GetStateEffecterStates { .. } => (PLATFORM, GET_STATE_EFFECTER_STATES),
+            Answer::GetPdrRepositoryInfo { .. } => (PLATFORM, GET_PDR_REPOSITORY_INFO),
+            Answer::GetPdr { .. } => (PLATFORM, GET_PDR),
+        };
+        Some(Kind { pldm_type, command })
+    }
+
+    /// Whether its completion code is SUCCESS.
+    pub fn is_success(&self) -> bool
+        ensures { result ≡ (code_of self.now == SUCCESS) }
+    {
+        match self {
+            Answer::Refused(code) => {
+                let _range = code.get(); // for the proof: not SUCCESS
+                false
+            }
+            _ => true,
+        }
+    }
 }

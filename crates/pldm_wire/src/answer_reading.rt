@@ -38,10 +38,10 @@ impl AnswerFault {
     }
 }
 
-/// The answer that this response is to the command: OtherCommand for another PLDM type or command;
-/// else a completion code other than 0 is a refusal, whatever follows it; else Length for fewer
-/// bytes than the answer's fixed fields, Value for a data size, a count or a flag that is none, and
-/// Length for another length than these fix (DSP0240, DSP0248; the order is this profile's own).
+/// The answer that this response is to the command: OtherCommand for another PLDM type or command; else a completion
+/// code other than 0 is a refusal, whatever follows it; else Length for fewer bytes than the answer's fixed fields,
+/// Value for a data size, a count or a flag that is not valid, and Length for another length than these fix (DSP0240,
+/// DSP0248; the order is this profile's own).
 pub fn read_answer(command: &Command, response: &ResponseRef<'_>) -> Result<Answer, AnswerFault>
     ensures exact { result
         ≡ answer_of (kind_of command.now) response.now.kind response.now.code response.now.rest }
@@ -54,7 +54,7 @@ pub fn read_answer(command: &Command, response: &ResponseRef<'_>) -> Result<Answ
     answer_in(command, response)
 }
 
-/// As `read_answer`, by place.
+/// As `read_answer`, check by check.
 fn answer_in(command: &Command, response: &ResponseRef<'_>) -> Result<Answer, AnswerFault>
     ensures exact { result
         ≡ answer_of (kind_of command.now) response.now.kind response.now.code response.now.rest }

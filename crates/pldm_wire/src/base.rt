@@ -1,4 +1,4 @@
-//! The commands of messaging control and discovery (DSP0240), a row each.
+//! The data of the commands of messaging control and discovery (DSP0240) and of their answers, read and written.
 
 ghost use Rattle.std.specs.Prelude.{◌≡◌, ◌≤◌, [], ◌∷◌, ◌++◌, length};
 ghost use Rattle.arrayvec.specs.ArrayVec.{array_vec_len};

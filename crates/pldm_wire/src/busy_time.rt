@@ -1,3 +1,5 @@
+//! Which requests are answered with ERROR_NOT_READY in the busy time after a restart.
+
 ghost use Rattle.std.specs.Prelude.{◌≡◌};
 ghost use Rattle.pldm_wire.specs.CommandReading.{command_of};
 ghost use Rattle.pldm_wire.specs.Settings.{reads_set, refuses};
@@ -7,15 +9,16 @@ use crate::{HandedOn, RequestRef, read_command};
 /// Which requests are answered with ERROR_NOT_READY in the busy time after a restart, and neither performed nor kept.
 #[derive(Clone, Copy, Debug, PartialEq, Eq)]
 pub enum BusyTime {
-    /// Each one.
+    /// Each request.
     All,
     /// Those with a command that sets something in the terminus, and those that are handed on as bytes, which may set
-    /// something. One that only asks is performed, and one that no command is read of is refused, as at any other time.
+    /// something. A request that only asks is performed, and one with no command that is read is refused, both as at
+    /// any other time.
     Sets(HandedOn),
 }
 
 impl BusyTime {
-    /// Whether this request is.
+    /// Whether this request is answered so.
     pub fn refuses(self, request: &RequestRef<'_>) -> bool
         ensures { result ≡ refuses self request.now.kind (command_of request.now.kind request.now.rest) }
     {

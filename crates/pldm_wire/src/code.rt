@@ -1,3 +1,5 @@
+//! The completion codes by which a command is refused (DSP0240, "Generic PLDM completion codes").
+
 ghost use Rattle.std.specs.Prelude.{◌≡◌, ℕ, ◌↔◌, IsSome, IfSome};
 ghost use Rattle.pldm_wire.specs.Codes.{IsCode};
 

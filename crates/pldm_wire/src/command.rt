@@ -1,3 +1,5 @@
+//! The commands with their fields, a variant for each command of DSP0240 and DSP0248 that is read here.
+
 ghost use Rattle.std.specs.Prelude.{◌≡◌};
 ghost use Rattle.pldm_wire.specs.Commands.{kind_of, sets};
 

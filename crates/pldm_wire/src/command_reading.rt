@@ -1,3 +1,5 @@
+//! The command in a request, or the completion code by which it is refused (DSP0240).
+
 ghost use Rattle.std.specs.Prelude.{◌≡◌, Ok, IfOk};
 ghost use Rattle.pldm_wire.specs.Commands.{CommandFields};
 ghost use Rattle.pldm_wire.specs.CommandReading.{command_of};
@@ -17,13 +19,12 @@ use crate::{
     RequestRef, SET_NUMERIC_EFFECTER_VALUE, SET_STATE_EFFECTER_STATES,
 };
 
-/// The command that this request carries, or the completion code by which it is refused:
-/// ERROR_INVALID_PLDM_TYPE for a PLDM type that this profile doesn't have, then
-/// ERROR_UNSUPPORTED_PLDM_CMD for a command that it doesn't have, then ERROR_INVALID_LENGTH for
-/// another length of data than the command's. Two commands tell in their data how long it is: there
-/// fewer bytes than it takes to tell are ERROR_INVALID_LENGTH, a data size or a count that is none is
-/// ERROR_INVALID_DATA, and then another length than the one told is ERROR_INVALID_LENGTH (DSP0240,
-/// "Generic PLDM completion codes"; the order is this profile's own).
+/// The command that this request carries, or the completion code by which it is refused: ERROR_INVALID_PLDM_TYPE for a
+/// PLDM type that this profile doesn't have, then ERROR_UNSUPPORTED_PLDM_CMD for a command that it doesn't have, then
+/// ERROR_INVALID_LENGTH for another length of data than the command's. The data of two commands states its own length.
+/// For these, fewer bytes than up to that statement are ERROR_INVALID_LENGTH, then a data size or a count that is not
+/// valid is ERROR_INVALID_DATA, and then another length than the stated one is ERROR_INVALID_LENGTH (DSP0240, "Generic
+/// PLDM completion codes"; the order is this profile's own).
 pub fn read_command(request: &RequestRef<'_>) -> Result<Command, Code>
     ensures exact { result ≡ command_of request.now.kind request.now.rest }
     ensures found { IfOk result (λ c. CommandFields c request.now.kind request.now.rest) }
@@ -33,7 +34,7 @@ pub fn read_command(request: &RequestRef<'_>) -> Result<Command, Code>
     command_in(request.kind(), request.data())
 }
 
-/// As `read_command`, by place.
+/// As `read_command`, check by check.
 #[tactic(auto, unfolding(crate::specs::CommandReading::command_of))]
 fn command_in(kind: Kind, bytes: &[u8]) -> Result<Command, Code>
     ensures { result ≡ command_of kind bytes.now }

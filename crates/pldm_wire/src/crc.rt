@@ -1,4 +1,4 @@
-//! The checksum of a record.
+//! The CRC-8 checksum of a platform data record (DSP0248, "GetPDR command").
 
 ghost use Rattle.std.specs.Prelude.{◌≡◌, ℕ, [], ◌∷◌};
 ghost use Rattle.pldm_wire.specs.Crc.{IsCrc, crc};

@@ -1,3 +1,5 @@
+//! The pending and the present value of a numeric effecter (DSP0248, "GetNumericEffecterValue command").
+
 ghost use Rattle.std.specs.Prelude.{◌≡◌, ◌↔◌, IsSome, IfSome};
 ghost use Rattle.pldm_wire.specs.Numbers.{IsNumber};
 ghost use Rattle.pldm_wire.specs.EffecterNumbers.{two_numbers};

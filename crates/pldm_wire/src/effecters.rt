@@ -1,4 +1,4 @@
-//! The commands of effecters (DSP0248), a row each.
+//! The data of the commands of effecters (DSP0248) and of their answers, read and written.
 
 ghost use Rattle.std.specs.Prelude.{◌≡◌, ◌≤◌, ◌∷◌, ◌++◌, length};
 ghost use Rattle.std.specs.List.{flat_map};

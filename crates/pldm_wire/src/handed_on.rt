@@ -1,4 +1,4 @@
-//! Which requests are handed on as bytes.
+//! Which requests a responding end hands to the device as bytes, in place of refusing them.
 
 ghost use Rattle.std.specs.Prelude.{◌≡◌, false};
 ghost use Rattle.pldm_wire.specs.HandingOn.{hands_on};
@@ -9,21 +9,21 @@ use crate::{BASE, Kind, PLATFORM};
 /// ERROR_UNSUPPORTED_PLDM_CMD.
 #[derive(Clone, Copy, Debug, PartialEq, Eq)]
 pub struct HandedOn {
-    /// The PLDM types of which each request is, 0 to 63: bit t stands for type t (DSP0240, "GetPLDMTypes"). The bits of
-    /// types 0 and 2 stand for nothing.
+    /// The PLDM types, 0 to 63, of which each request is handed on: bit t stands for type t (DSP0240, "GetPLDMTypes").
+    /// The bits of types 0 and 2 mean nothing.
     pub pldm_types: u64,
-    /// Whether of types 0 and 2 those are whose command this profile does not read.
+    /// Whether requests of types 0 and 2 are handed on where this profile does not read their command.
     pub unknown_commands: bool,
 }
 
 impl HandedOn {
-    /// No request is.
+    /// No request is handed on.
     pub const NONE: HandedOn = HandedOn {
         pldm_types: 0,
         unknown_commands: false,
     };
 
-    /// Whether a request for this command is.
+    /// Whether a request for this command is handed on.
     pub fn has(self, kind: Kind) -> bool
         ensures { result ≡ hands_on self kind }
     {

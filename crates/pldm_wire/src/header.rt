@@ -1,3 +1,5 @@
+//! The first bytes of a message, the same in requests and responses (DSP0240, "PLDM message fields").
+
 ghost use Rattle.std.specs.Prelude.{◌≡◌, ◌<◌, ◌≤◌, [], ◌∷◌, length, None, Some, IfOk, IfErr, OnOk};
 ghost use Rattle.pldm_wire.specs.Headers.{refusal, id_at, kind_at};
 

@@ -1,3 +1,5 @@
+//! Which command a message is of: its PLDM type and the command's number (DSP0240, "PLDM message fields").
+
 ghost use Rattle.std.specs.Prelude.{◌≡◌, option_map};
 ghost use Rattle.pldm_wire.specs.CommandNames.{base_name, name_of_kind, platform_name};
 

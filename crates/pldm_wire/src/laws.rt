@@ -35,8 +35,8 @@ pub fn answers_are_read_back()
     ensures written_reads_back { WrittenAnswerReadBack }
 {}
 
-/// No number has two remainders by the divisor of checksums. What long division leaves of bytes is
-/// the remainder of their bits and eight zeros, and they have no other.
+/// No number has two remainders by the divisor of checksums. What long division leaves of bytes is the remainder of
+/// their bits and eight zeros, and that is their only remainder.
 pub fn checksums_are_remainders()
     ensures one { OneRemainder }
     ensures remainder { CrcIsRemainder }

@@ -1,5 +1,5 @@
-//! PLDM messages (DSP0240, DSP0248): headers, commands and answers as bytes, and the checksum of a
-//! record.
+//! PLDM messages (DSP0240, DSP0248): headers, commands and answers as bytes, and the checksums of a
+//! record and of versions.
 #![tactic(auto)]
 
 mod answer;
@@ -31,6 +31,7 @@ mod sensors;
 mod size;
 mod state_fields;
 mod transfer_flag;
+mod version_crc;
 mod version_data;
 mod window;
 
@@ -66,5 +67,6 @@ pub use response::{ResponseRef, read_response};
 pub use size::Size;
 pub use state_fields::{EffecterStateField, SensorStateField, SetStateField, StateFields};
 pub use transfer_flag::TransferFlag;
+pub use version_crc::crc32;
 pub use version_data::VersionData;
 pub use window::Window;

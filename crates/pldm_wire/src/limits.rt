@@ -1,4 +1,4 @@
-//! How much the fields of a message may hold.
+//! How much the fields of a message may hold, and the bytes that they take.
 
 use crate::{REQUEST_HEADER, RESPONSE_HEADER};
 use mctp_packet::MAX_MESSAGE_BYTES;

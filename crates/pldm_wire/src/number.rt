@@ -1,3 +1,5 @@
+//! A number of a numeric sensor or effecter, which fits its data size (DSP0248, "sensorDataSize").
+
 ghost use Rattle.std.specs.Prelude.{◌≡◌, ◌+◌, ◌≤◌, ◌↔◌, IsSome, IfSome, is_some, length};
 ghost use Rattle.byteorder.specs.Endian.{little_from};
 ghost use Rattle.pldm_wire.specs.Sizes.{Fits, fits, greatest, least, width};

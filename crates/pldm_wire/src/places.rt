@@ -1,4 +1,4 @@
-//! What stands at a place of a message's data.
+//! Numbers and arrays read at given places of a message's data.
 
 ghost use Rattle.std.specs.Prelude.{◌≡◌, ◌+◌, ◌≤◌, length};
 ghost use Rattle.pldm_wire.specs.Places.{u16_at, u32_at, bytes_at};

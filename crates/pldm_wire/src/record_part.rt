@@ -1,3 +1,5 @@
+//! The part of a record that a GetPDR answer carries (DSP0248, "GetPDR command").
+
 ghost use Rattle.std.specs.Prelude.{◌≡◌, ◌↔◌, IsSome, IfSome};
 ghost use Rattle.pldm_wire.specs.RecordParts.{IsPart, part};
 
@@ -49,7 +51,8 @@ impl RecordPart {
         Some(RecordPart::of(flag, bytes, transfer_crc))
     }
 
-    /// This part, which is one.
+    /// This part, which [`RecordPart::new`] would give too: it is not too long, and has a checksum exactly where it
+    /// must.
     pub(crate) fn of(flag: TransferFlag, bytes: &[u8], transfer_crc: Option<u8>) -> RecordPart
         requires { IsPart (part flag bytes.now transfer_crc) }
         ensures { result ≡ part flag bytes.now transfer_crc }
@@ -70,7 +73,8 @@ impl RecordPart {
         }
     }
 
-    /// Puts this part in the place of what is here, so that none is moved. It has to be one.
+    /// Puts this part in the place of what is here, so that no part is moved. It has to be one that [`RecordPart::new`]
+    /// would give.
     pub fn put(&mut self, flag: TransferFlag, bytes: &[u8], transfer_crc: Option<u8>)
         requires { IsPart (part flag bytes.now transfer_crc) }
         ensures { self.new ≡ part flag bytes.now transfer_crc }

@@ -1,4 +1,4 @@
-//! The commands of the PDR repository (DSP0248), a row each.
+//! The data of the commands of the PDR repository (DSP0248) and of their answers, read and written.
 
 ghost use Rattle.std.specs.Prelude.{◌≡◌, ◌+◌, ◌<◌, ◌≤◌, [], ◌∷◌, ◌++◌, length};
 ghost use Rattle.arrayvec.specs.ArrayVec.{array_vec_len};

@@ -1,3 +1,5 @@
+//! A request read from bytes: its header, and its data borrowed (DSP0240, "PLDM message fields").
+
 ghost use Rattle.pldm_wire.specs.declared.assigned.TheConstants.{INSTANCE_IDS};
 ghost use Rattle.std.specs.Prelude.{◌≡◌, ℕ, List, Ok, Some, IfOk, IfErr};
 ghost use Rattle.pldm_wire.specs.Kinds.{TypeAndCommand};
@@ -70,7 +72,7 @@ pub fn read_request(bytes: &[u8]) -> Result<RequestRef<'_>, Reason>
     request_in(bytes)
 }
 
-/// As `read_request`, by place.
+/// As `read_request`, check by check.
 #[tactic(auto, unfolding(crate::specs::Requests::request_of))]
 fn request_in(bytes: &[u8]) -> Result<RequestRef<'_>, Reason>
     ensures exact { result ≡ request_of bytes.now }

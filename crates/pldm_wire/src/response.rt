@@ -1,3 +1,5 @@
+//! A response read from bytes: its header, its completion code, and its data borrowed (DSP0240).
+
 ghost use Rattle.pldm_wire.specs.declared.assigned.TheConstants.{INSTANCE_IDS};
 ghost use Rattle.std.specs.Prelude.{◌≡◌, ℕ, List, Ok, Some, IfOk, IfErr};
 ghost use Rattle.pldm_wire.specs.Kinds.{TypeAndCommand};
@@ -79,7 +81,7 @@ pub fn read_response(bytes: &[u8]) -> Result<ResponseRef<'_>, Reason>
     response_in(bytes)
 }
 
-/// As `read_response`, by place.
+/// As `read_response`, check by check.
 #[tactic(auto, unfolding(crate::specs::Responses::response_of))]
 fn response_in(bytes: &[u8]) -> Result<ResponseRef<'_>, Reason>
     ensures exact { result ≡ response_of bytes.now }

@@ -1,3 +1,5 @@
+//! The data sizes of numeric sensors and effecters (DSP0248, "sensorDataSize" and "effecterDataSize").
+
 ghost use Rattle.std.specs.Prelude.{◌≡◌};
 ghost use Rattle.pldm_wire.specs.Sizes.{is_signed, size_code, size_of, width};
 ghost use Rattle.pldm_wire.specs.SizeNames.{size_named, size_name};

@@ -1,3 +1,5 @@
+//! The fields of the commands of state sensors and effecters, one to eight of them in a list (DSP0248).
+
 ghost use Rattle.std.specs.Prelude.{◌≡◌, ◌↔◌, IsSome, IfSome, is_some};
 ghost use Rattle.pldm_wire.specs.States.{IsComposite, is_composite, effecter_states_in, sensor_states_in, sets_in};
 

@@ -1,3 +1,5 @@
+//! Which part of a record a GetPDR answer carries: the first, a later one, the last or all (DSP0248).
+
 ghost use Rattle.std.specs.Prelude.{◌≡◌};
 ghost use Rattle.pldm_wire.specs.TransferFlags.{flag_number, flag_of, is_end};
 

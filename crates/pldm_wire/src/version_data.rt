@@ -1,3 +1,5 @@
+//! The versions that an answer to GetPLDMVersion carries (DSP0240, "GetPLDMVersion command").
+
 ghost use Rattle.std.specs.Prelude.{◌≡◌, ◌↔◌, IsSome, IfSome, is_some};
 ghost use Rattle.pldm_wire.specs.Versions.{IsVersionData, is_version_data};
 

@@ -1,3 +1,5 @@
+//! For how many instance IDs of a source answers are kept.
+
 ghost use Rattle.std.specs.Prelude.{◌≡◌, ℕ, ◌↔◌, IsSome, IfSome};
 ghost use Rattle.pldm_wire.specs.Settings.{IsWindow};
 
@@ -5,7 +7,7 @@ use crate::INSTANCE_IDS;
 use std::marker::Model;
 
 /// For how many instance IDs of a source answers are kept, those of its latest requests: 1 to 32. This profile's own
-/// number. A request is told as a copy while fewer other instance IDs of its source had a request since.
+/// number. A request is known as a copy while fewer other instance IDs of its source than this had a request since.
 #[derive(Clone, Copy, Debug, PartialEq, Eq, PartialOrd, Ord)]
 pub struct Window {
     ids: u8,

@@ -1,4 +1,4 @@
-//! The first fault of bytes that are no record.
+//! Bytes that are no record, and the fault that reading them returns.
 
 use pldm_pdr::{RecordFault, read};
 

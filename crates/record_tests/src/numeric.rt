@@ -1,4 +1,4 @@
-//! Numeric sensors and numeric effecters.
+//! Records of numeric sensors and numeric effecters, read and written.
 
 use pldm_pdr::{
     Conversion, EffecterRange, Entity, NumericEffecter, NumericSensor, RangeFormat, Record,

@@ -1,4 +1,4 @@
-//! Rows of sensors and effecters, in columns.
+//! The rows that the table has for sensors and effecters, laid out in columns.
 
 use mctpctl_table::Table;
 use std::alloc::Global;

@@ -1,5 +1,9 @@
+//! Messages assembled from packets, and packets that are dropped.
+
 use mctp_assembly::{Assembler, Fed, Key};
-use mctp_packet::{Eid, HEADER, MAX_PACKET_BYTES, PacketRef, Reason, Tag, UNIT, read, read_for};
+use mctp_packet::{
+    BASELINE_UNIT, Eid, HEADER, MAX_PACKET_BYTES, PacketRef, Reason, Tag, read, read_for,
+};
 use memory_hoard::Hoard;
 use std::alloc::Global;
 use std::process::Abort;
@@ -10,18 +14,18 @@ const OWN: u8 = 9;
 
 /// What a packet gives.
 #[derive(Clone, Copy, Debug)]
-enum FedInto<'a> {
+enum Assembled<'a> {
     Whole(&'a [u8]),
     Partial,
     Dropped(Reason),
 }
 
 /// Whether a packet gave this.
-fn is(fed: &Fed, given: FedInto<'_>) -> bool {
+fn is(fed: &Fed, given: Assembled<'_>) -> bool {
     match (fed, given) {
-        (Fed::Whole(body), FedInto::Whole(bytes)) => body.as_slice() == bytes,
-        (Fed::Partial, FedInto::Partial) => true,
-        (Fed::Dropped(reason), FedInto::Dropped(other)) => *reason == other,
+        (Fed::Whole(body), Assembled::Whole(bytes)) => body.as_slice() == bytes,
+        (Fed::Partial, Assembled::Partial) => true,
+        (Fed::Dropped(reason), Assembled::Dropped(other)) => *reason == other,
         _ => false,
     }
 }
@@ -30,7 +34,7 @@ fn is(fed: &Fed, given: FedInto<'_>) -> bool {
 fn feed_all(
     rt: &impl Abort,
     assembler: &mut Assembler,
-    packets: &[(&[u8], FedInto<'_>)],
+    packets: &[(&[u8], Assembled<'_>)],
 ) -> Result<(), Fail> {
     let own = Eid::new(OWN).ok_or("no endpoint ID")?;
     for (bytes, given) in packets {
@@ -60,48 +64,48 @@ const LATE_END: &[u8] = &[0x01, 0x09, 0x08, 0x68, 0x05];
 #[test]
 fn packets_are_assembled_or_dropped(rt: HostRuntime) -> Result<(), Fail> {
     let mut assembler = Assembler::new(rt.alloc());
-    let late = FedInto::Dropped(Reason::UnexpectedMiddleOrEnd);
+    let late = Assembled::Dropped(Reason::UnexpectedMiddleOrEnd);
     feed_all(
         &rt,
         &mut assembler,
         &[
             // a start packet begins anew
-            (BEGUN, FedInto::Partial),
-            (&[0x01, 0x09, 0x08, 0x88, 0x01, 0x82], FedInto::Partial),
-            (END, FedInto::Whole(&[0x01, 0x82, 0x00, 0x02])),
+            (BEGUN, Assembled::Partial),
+            (&[0x01, 0x09, 0x08, 0x88, 0x01, 0x82], Assembled::Partial),
+            (END, Assembled::Whole(&[0x01, 0x82, 0x00, 0x02])),
             // a lost packet ends the assembly
-            (BEGUN, FedInto::Partial),
-            (LATE_END, FedInto::Dropped(Reason::OutOfSequence)),
+            (BEGUN, Assembled::Partial),
+            (LATE_END, Assembled::Dropped(Reason::OutOfSequence)),
             (MIDDLE, late),
             (LATE_END, late),
             // three packets in order
-            (BEGUN, FedInto::Partial),
-            (MIDDLE, FedInto::Partial),
-            (LATE_END, FedInto::Whole(&[0x01, 0x80, 0x00, 0x01, 0x05])),
+            (BEGUN, Assembled::Partial),
+            (MIDDLE, Assembled::Partial),
+            (LATE_END, Assembled::Whole(&[0x01, 0x80, 0x00, 0x01, 0x05])),
             // a middle packet of another length
-            (BEGUN, FedInto::Partial),
+            (BEGUN, Assembled::Partial),
             (
                 &[0x01, 0x09, 0x08, 0x18, 0x00],
-                FedInto::Dropped(Reason::WrongUnit),
+                Assembled::Dropped(Reason::WrongUnit),
             ),
             // five packets, of which the last has the number of the first
-            (&[0x01, 0x09, 0x08, 0x88, 0x01], FedInto::Partial),
-            (&[0x01, 0x09, 0x08, 0x18, 0x80], FedInto::Partial),
-            (&[0x01, 0x09, 0x08, 0x28, 0x00], FedInto::Partial),
-            (&[0x01, 0x09, 0x08, 0x38, 0x01], FedInto::Partial),
+            (&[0x01, 0x09, 0x08, 0x88, 0x01], Assembled::Partial),
+            (&[0x01, 0x09, 0x08, 0x18, 0x80], Assembled::Partial),
+            (&[0x01, 0x09, 0x08, 0x28, 0x00], Assembled::Partial),
+            (&[0x01, 0x09, 0x08, 0x38, 0x01], Assembled::Partial),
             (
                 &[0x01, 0x09, 0x08, 0x48, 0x05],
-                FedInto::Whole(&[0x01, 0x80, 0x00, 0x01, 0x05]),
+                Assembled::Whole(&[0x01, 0x80, 0x00, 0x01, 0x05]),
             ),
             // a packet more than a message may have
-            (&[0x01, 0x09, 0x08, 0x88, 0x01], FedInto::Partial),
-            (&[0x01, 0x09, 0x08, 0x18, 0x80], FedInto::Partial),
-            (&[0x01, 0x09, 0x08, 0x28, 0x00], FedInto::Partial),
-            (&[0x01, 0x09, 0x08, 0x38, 0x01], FedInto::Partial),
-            (&[0x01, 0x09, 0x08, 0x08, 0x00], FedInto::Partial),
+            (&[0x01, 0x09, 0x08, 0x88, 0x01], Assembled::Partial),
+            (&[0x01, 0x09, 0x08, 0x18, 0x80], Assembled::Partial),
+            (&[0x01, 0x09, 0x08, 0x28, 0x00], Assembled::Partial),
+            (&[0x01, 0x09, 0x08, 0x38, 0x01], Assembled::Partial),
+            (&[0x01, 0x09, 0x08, 0x08, 0x00], Assembled::Partial),
             (
                 &[0x01, 0x09, 0x08, 0x58, 0x05],
-                FedInto::Dropped(Reason::TooLong),
+                Assembled::Dropped(Reason::TooLong),
             ),
         ],
     )?;
@@ -112,7 +116,7 @@ fn packets_are_assembled_or_dropped(rt: HostRuntime) -> Result<(), Fail> {
 #[test]
 fn a_forgotten_key_has_nothing_to_go_on(rt: HostRuntime) -> Result<(), Fail> {
     let mut assembler = Assembler::new(rt.alloc());
-    feed_all(&rt, &mut assembler, &[(BEGUN, FedInto::Partial)])?;
+    feed_all(&rt, &mut assembler, &[(BEGUN, Assembled::Partial)])?;
     assert_eq!(rt; assembler.pending(), 1);
     let key = Key {
         source: Eid::new(8).ok_or("no endpoint ID")?,
@@ -126,7 +130,7 @@ fn a_forgotten_key_has_nothing_to_go_on(rt: HostRuntime) -> Result<(), Fail> {
     feed_all(
         &rt,
         &mut assembler,
-        &[(END, FedInto::Dropped(Reason::UnexpectedMiddleOrEnd))],
+        &[(END, Assembled::Dropped(Reason::UnexpectedMiddleOrEnd))],
     )
 }
 
@@ -146,13 +150,13 @@ fn feed_with(
     drop(hoard);
     match fed {
         Ok(fed) => {
-            assert!(rt; is(&fed, FedInto::Partial), "{fed:?} with {spare} bytes");
+            assert!(rt; is(&fed, Assembled::Partial), "{fed:?} with {spare} bytes");
             Ok(false)
         }
         Err(_) => {
             assert_eq!(rt; after, before);
             let fed = assembler.feed(packet)?;
-            assert!(rt; is(&fed, FedInto::Partial), "{fed:?} after {spare} bytes");
+            assert!(rt; is(&fed, Assembled::Partial), "{fed:?} after {spare} bytes");
             Ok(true)
         }
     }
@@ -171,9 +175,9 @@ fn each_growth_is_refused_in_turn(rt: HostRuntime) -> Result<(), Fail> {
     let (begun, middle) = (full(0x88, 1), full(0x18, 2));
     let (begun, middle) = (read_for(own, &begun)?, read_for(own, &middle)?);
     let end = read_for(own, LATE_END)?;
-    let mut message = [5; 2 * UNIT + 1];
-    message[..UNIT].fill(1);
-    message[UNIT..2 * UNIT].fill(2);
+    let mut message = [5; 2 * BASELINE_UNIT + 1];
+    message[..BASELINE_UNIT].fill(1);
+    message[BASELINE_UNIT..2 * BASELINE_UNIT].fill(2);
     // The start packet takes room for a whole message and a place in the list, a middle packet takes none.
     for (at_start, refused) in [(0, true), (320, true), (16_384, false)] {
         let mut assembler = Assembler::new(rt.alloc());
@@ -185,10 +189,10 @@ fn each_growth_is_refused_in_turn(rt: HostRuntime) -> Result<(), Fail> {
         let fed = assembler.feed(&end)?;
         let again = assembler.feed(&end)?;
         drop(hoard);
-        assert!(rt; is(&seen, FedInto::Whole(&message)), "{seen:?}");
-        assert!(rt; is(&fed, FedInto::Whole(&message)), "{fed:?}");
+        assert!(rt; is(&seen, Assembled::Whole(&message)), "{seen:?}");
+        assert!(rt; is(&fed, Assembled::Whole(&message)), "{fed:?}");
         assert!(rt;
-            is(&again, FedInto::Dropped(Reason::UnexpectedMiddleOrEnd)),
+            is(&again, Assembled::Dropped(Reason::UnexpectedMiddleOrEnd)),
             "{again:?}"
         );
     }
@@ -221,13 +225,13 @@ fn every_key_has_an_assembly(rt: HostRuntime) -> Result<(), Fail> {
             for owner in [0x00u8, 0x08] {
                 let start = [0x01, OWN, source, 0x80 | owner | tag, 0x01];
                 let fed = assembler.feed(&read(&start)?)?;
-                assert!(rt; is(&fed, FedInto::Partial), "{fed:?} at {start:?}");
+                assert!(rt; is(&fed, Assembled::Partial), "{fed:?} at {start:?}");
             }
         }
     }
     assert_eq!(rt; assembler.pending(), 3_952);
     let fed = assembler.feed(&read(&[0x01, OWN, 0xfe, 0x5f, 0x05])?)?;
-    assert!(rt; is(&fed, FedInto::Whole(&[0x01, 0x05])), "{fed:?}");
+    assert!(rt; is(&fed, Assembled::Whole(&[0x01, 0x05])), "{fed:?}");
     assert_eq!(rt; assembler.pending(), 3_951);
     Ok(())
 }

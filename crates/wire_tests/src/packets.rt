@@ -1,3 +1,5 @@
+//! Packets read and written, and messages cut into packets.
+
 use mctp_packet::{
     Eid, Keep, MAX_PACKET_BYTES, Memory, Moment, PacketRef, Packets, Reason, Route, Seq,
     SplitFault, Tag, read, read_for, split, write,

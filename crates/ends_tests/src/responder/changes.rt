@@ -1,8 +1,8 @@
 //! A platform that is changed from outside, and what a lamp answers.
 
 ghost use Rattle.std.specs.Prelude.{◌≡◌, true};
-ghost use Rattle.pldm_responder.specs.Held.{IsHeld};
-ghost use Rattle.pldm_responder.specs.Stations.{held_of};
+ghost use Rattle.pldm_responder.specs.ResponderStates.{IsHeld};
+ghost use Rattle.pldm_responder.specs.ResponderViews.{held_of};
 ghost use Rattle.pldm_responder.specs.Steps.{updated_held};
 ghost use Rattle.pldm_wire.specs.Numbers.{sized};
 

@@ -1,3 +1,5 @@
+//! Answers read from bytes written by hand, and written again.
+
 use super::*;
 
 /// These bytes are the response with the answer to the command, and are written of it.

@@ -1,3 +1,5 @@
+//! Commands read from bytes written by hand, and written again.
+
 use super::*;
 
 /// These bytes are the request with the command, and are written of it.

@@ -7,11 +7,11 @@ use Rattle.mctp_schedule.specs.Entries.{entries, requests_after}
 use Rattle.mctp_schedule.specs.FirstArrivals.{order}
 use Rattle.mctp_schedule.specs.Logs.{told}
 use Rattle.pldm_responder.specs.Performing.{performed}
-use Rattle.pldm_responder.specs.Stations.{held_of}
+use Rattle.pldm_responder.specs.ResponderViews.{held_of}
 use Rattle.mctp_schedule.specs.Headline.{Headline}
 use Rattle.mctp_schedule.specs.HeldRuns.{held_by}
 use Rattle.mctp_schedule.specs.Places.{BeginEach}
-use Rattle.mctp_schedule.specs.Running.{IsRunning, Terms}
+use Rattle.mctp_schedule.specs.Running.{IsRunning, RunSettings}
 use Rattle.mctp_schedule.specs.PerformedCommands.{commands_at_step, commands_performed}
 use Rattle.mctp_schedule.specs.Runs.{newest_first, setting_of_run}
 use Rattle.mctp_schedule.specs.Worlds.{NeverWentBack, is_timely, world}
@@ -51,7 +51,7 @@ loop-step-init g c =
 pub run_step-requires : goal.run_step-requires
 run_step-requires g c =
     let schedule = c.args.schedule.now in
-    let terms : Terms g.row.P-State.Denot = record { start = g.P.Platform.state c.args.setup.device; eid = c.args.setup.eid; keep = c.args.setup.keep; window = c.args.setup.window; requesters = schedule.requesters } in
+    let terms : RunSettings g.row.P-State.Denot = record { start = g.P.Platform.state c.args.setup.device; eid = c.args.setup.eid; keep = c.args.setup.keep; window = c.args.setup.window; requesters = schedule.requesters } in
     let i = c.loop-step.invariant in
     let step = borrowed_step c.in-Some.step in
     let valid = c.steps.ensures.valid in
@@ -62,7 +62,7 @@ pub loop-step-preserved : goal.loop-step-preserved
 loop-step-preserved g c =
     let schedule = c.args.schedule.now in
     let setting = setting_of_run (rules_of g.P.Platform.answer g.P.Platform.after g.P.Platform.sensed) (g.P.Platform.state c.args.setup.device) c.args.setup.eid c.args.setup.keep c.args.setup.window schedule in
-    let terms : Terms g.row.P-State.Denot = record { start = g.P.Platform.state c.args.setup.device; eid = c.args.setup.eid; keep = c.args.setup.keep; window = c.args.setup.window; requesters = schedule.requesters } in
+    let terms : RunSettings g.row.P-State.Denot = record { start = g.P.Platform.state c.args.setup.device; eid = c.args.setup.eid; keep = c.args.setup.keep; window = c.args.setup.window; requesters = schedule.requesters } in
     let i = c.loop-step.invariant in
     let step = borrowed_step c.in-Some.step in
     let valid = c.steps.ensures.valid in

@@ -1,9 +1,6 @@
--- Neither port has failed.
-use Rattle.std.proofs.Common.{◌≡◌, false}
+-- The conversation is going on.
+use Rattle.mctpctl.specs.Conversations.{IsGoingOn}
 use Rattle.mctpctl.proofs.asking.ask_each.Given as goal
 
 abbrev pub invariant-loop-step : goal.invariant-loop-step
-invariant-loop-step g l = record {
-  reads : l.reader.failed ≡ false;
-  writes : l.writer.failed ≡ false;
-}
+invariant-loop-step g l = record { going : IsGoingOn l.conversation }

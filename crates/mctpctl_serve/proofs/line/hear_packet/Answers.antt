@@ -10,7 +10,7 @@ use Rattle.mctpctl_serve.specs.Events.{Sent}
 use Rattle.mctpctl_serve.specs.Heard.{shown}
 use Rattle.mctpctl_serve.specs.Serving.{answerers, in_step, moment_after, with_eid}
 use Rattle.pldm_responder.specs.Performing.{rules_of}
-use Rattle.pldm_responder.specs.Stations.{held_of}
+use Rattle.pldm_responder.specs.ResponderViews.{held_of}
 use Rattle.pldm_responder.specs.Steps.{received_commands, received_held, received_outcome}
 use Rattle.pldm_responder.specs.declared.outcome.Outcome.TheVariants as outcome
 use Rattle.mctpctl_serve.proofs.line.hear_packet.Goals as goal

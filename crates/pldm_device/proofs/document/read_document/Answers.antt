@@ -7,4 +7,5 @@ pub returns-in-Ok : goal.returns-in-Ok
 returns-in-Ok c = inr (sym (document_of-text _ _ c.in-Ok.ensures.ok.0 c.in-Ok.ensures.ok.1))
 
 pub returns-else-is_memory : goal.returns-else-is_memory
-returns-else-is_memory c = inr (sym (document_of-refused _ (c.in-Err.ensures.refused (λ e. false≢true (sym c.if-is_memory.false ∙ c.is_memory.ensures.1 e)))))
+returns-else-is_memory c =
+    inr (rw c.new.ensures (sym (document_of-refused _ (c.in-Err.ensures.refused (λ e. false≢true (sym c.if-is_memory.false ∙ c.is_memory.ensures.1 e))))))

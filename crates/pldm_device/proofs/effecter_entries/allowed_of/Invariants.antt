@@ -4,5 +4,5 @@ use Rattle.toml.specs.View.{items_view}
 use Rattle.pldm_device.specs.EffecterEntries.{allowed_after}
 use Rattle.pldm_device.proofs.effecter_entries.allowed_of.Given as goal
 
-abbrev pub invariant-loop-list : goal.invariant-loop-list
-invariant-loop-list l = allowed_after l.allowed.items (items_view (drop l.list-index l.lists)) ≡ allowed_after [] (items_view l.lists)
+abbrev pub invariant-loop-place : goal.invariant-loop-place
+invariant-loop-place l = allowed_after l.allowed.items (items_view (drop l.place l.lists)) ≡ allowed_after [] (items_view l.lists)

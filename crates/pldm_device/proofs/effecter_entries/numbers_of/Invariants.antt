@@ -5,5 +5,5 @@ use Rattle.pldm_device.specs.NumberLists.{numbers_after}
 use Rattle.pldm_device.specs.declared.limits.TheConstants.{MAX_BYTE}
 use Rattle.pldm_device.proofs.effecter_entries.numbers_of.Given as goal
 
-abbrev pub invariant-loop-item : goal.invariant-loop-item
-invariant-loop-item l = numbers_after MAX_BYTE l.numbers.items (items_view (drop l.item-index l.items)) ≡ numbers_after MAX_BYTE [] (items_view l.items)
+abbrev pub invariant-loop-place : goal.invariant-loop-place
+invariant-loop-place l = numbers_after MAX_BYTE l.numbers.items (items_view (drop l.place l.items)) ≡ numbers_after MAX_BYTE [] (items_view l.items)

@@ -12,4 +12,4 @@ map_ok-ok_or f (Some x) fault = refl
 pub returns : goal.returns
 returns c =
     let found = table_get c.get.result c.args.key.now c.args.table.now.entries c.get.ensures.value in
-    rw (c.ok_or.ensures.value, ← found) (map_ok-ok_or _ c.get.result _)
+    rw (c.ok_or.ensures.value, ← found, c.new.ensures) (map_ok-ok_or _ c.get.result _)

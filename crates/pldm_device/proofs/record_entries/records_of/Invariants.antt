@@ -4,8 +4,8 @@ use Rattle.toml.specs.View.{items_view}
 use Rattle.pldm_device.specs.RecordEntries.{records_after}
 use Rattle.pldm_device.proofs.record_entries.records_of.Given as goal
 
-abbrev pub invariant-loop-entry : goal.invariant-loop-entry
-invariant-loop-entry l = record {
-  all : records_after l.records (items_view (drop l.entry-index l.entries)) ≡ records_after [] (items_view l.entries);
-  so_far : length l.records ≡ l.entry-index;
+abbrev pub invariant-loop-place : goal.invariant-loop-place
+invariant-loop-place l = record {
+  all : records_after l.records (items_view (drop l.place l.entries)) ≡ records_after [] (items_view l.entries);
+  so_far : length l.records ≡ l.place;
 }

@@ -4,6 +4,6 @@ use Rattle.toml.specs.View.{items_view}
 use Rattle.pldm_device.specs.SensorEntries.{numeric_sensors_after}
 use Rattle.pldm_device.proofs.sensor_entries.numeric_sensors_of.Given as goal
 
-abbrev pub invariant-loop-entry : goal.invariant-loop-entry
-invariant-loop-entry l =
-    numeric_sensors_after l.sensors.entries (items_view (drop l.entry-index l.entries)) ≡ numeric_sensors_after [] (items_view l.entries)
+abbrev pub invariant-loop-place : goal.invariant-loop-place
+invariant-loop-place l =
+    numeric_sensors_after l.sensors.entries (items_view (drop l.place l.entries)) ≡ numeric_sensors_after [] (items_view l.entries)

@@ -4,6 +4,6 @@ use Rattle.toml.specs.View.{items_view}
 use Rattle.pldm_device.specs.SensorEntries.{state_sensors_after}
 use Rattle.pldm_device.proofs.sensor_entries.state_sensors_of.Given as goal
 
-abbrev pub invariant-loop-entry : goal.invariant-loop-entry
-invariant-loop-entry l =
-    state_sensors_after l.numeric.entries l.sensors.entries (items_view (drop l.entry-index l.entries)) ≡ state_sensors_after l.numeric.entries [] (items_view l.entries)
+abbrev pub invariant-loop-place : goal.invariant-loop-place
+invariant-loop-place l =
+    state_sensors_after l.numeric.entries l.sensors.entries (items_view (drop l.place l.entries)) ≡ state_sensors_after l.numeric.entries [] (items_view l.entries)

@@ -2,8 +2,8 @@
 use Rattle.std.proofs.Common.{rules, ◌≡◌, ◌∷◌, [], ap, subst, ◌++◌, ◌∙◌, w64, to_z, of_z}
 use Rattle.std.proofs.lemmas.Int.{to_z-of_z}
 use Rattle.pldm_wire.specs.declared.busy_time.BusyTime.TheVariants.{All}
-use Rattle.pldm_responder.specs.Held.{IsHeld}
-use Rattle.pldm_responder.specs.Stations.{held_of}
+use Rattle.pldm_responder.specs.ResponderStates.{IsHeld}
+use Rattle.pldm_responder.specs.ResponderViews.{held_of}
 use Rattle.pldm_responder.specs.Steps.{sensed_held}
 use Rattle.pldm_responder.specs.Performing.{performed, rules_of}
 use Rattle.mctp_schedule.specs.HeldRuns.{held_by}

@@ -1,7 +1,7 @@
 -- The bytes before `rest` gave the text that was added, and whatever comes later is what the run goes on with.
 use Rattle.std.proofs.Common.{◌≡◌, ◌≤◌, ◌+◌, ◌++◌, ℕ, List, length}
-use Rattle.mctpctl_engines.specs.LinePieces.{line_gives}
-use Rattle.mctpctl_input.specs.Pieces.{GoesOn}
+use Rattle.mctpctl_engines.specs.LinePieces.{run_gives}
+use Rattle.mctpctl_engines.specs.Pieces.{GoesOn}
 use Rattle.mctpctl_engines.proofs.line_run.LineRunRun.take.Given as goal
 
 abbrev pub invariant-loop-line : goal.invariant-loop-line
@@ -10,9 +10,8 @@ invariant-loop-line g l = record {
   text : List ℕ;
   parts : l.initial.rest ≡ taken ++ l.rest;
   added : l.out.items ≡ l.initial.out.items ++ text;
-  goes : GoesOn (line_gives g.T.LineTask.step (l.initial.self.ended + 1) (g.T.LineTask.state_of l.initial.self.task) l.initial.self.kept.items) taken text
-      (line_gives g.T.LineTask.step (l.self.ended + 1) (g.T.LineTask.state_of l.self.task) l.self.kept.items);
-  counted : l.self.ended + length l.rest ≤ l.initial.self.ended + length l.initial.rest;
+  goes : GoesOn (run_gives g.T.LineTaker.writes l.initial.self) taken text (run_gives g.T.LineTaker.writes l.self);
+  counted : g.T.LineTaker.counted l.self.taker + length l.rest ≤ g.T.LineTaker.counted l.initial.self.taker + length l.initial.rest;
 }
 
 abbrev pub decreases-loop-line : goal.decreases-loop-line

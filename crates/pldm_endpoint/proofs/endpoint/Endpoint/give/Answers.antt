@@ -1,7 +1,7 @@
 use Rattle.std.proofs.Common.{◌≡◌, ℕ, ◌==◌, true, false, Some, if◌then◌else◌, ap, sym, subst, ◌∙◌, rules}
 use Rattle.pldm_responder.specs.Answering.{answering}
 use Rattle.pldm_responder.specs.Ends.{End, eid_or_null, held_by}
-use Rattle.pldm_responder.specs.Held.{Entry, IsHeld, id_in}
+use Rattle.pldm_responder.specs.ResponderStates.{Entry, IsHeld, id_in}
 use Rattle.pldm_responder.specs.Recency.{replaced}
 use Rattle.pldm_responder.specs.Slots.{kept_in}
 use Rattle.pldm_responder.specs.declared.outcome.MessageOutcome.TheVariants.{Answered}

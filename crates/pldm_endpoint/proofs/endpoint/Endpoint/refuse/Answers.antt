@@ -6,7 +6,7 @@ use Rattle.pldm_wire.specs.declared.answer.Answer.TheVariants.{Refused}
 use Rattle.pldm_responder.specs.Arrivals.{way_back}
 use Rattle.pldm_responder.specs.Ends.{End}
 use Rattle.pldm_responder.specs.Events.{Message}
-use Rattle.pldm_responder.specs.Held.{Entry}
+use Rattle.pldm_responder.specs.ResponderStates.{Entry}
 use Rattle.pldm_responder.specs.Looking.{message_at}
 use Rattle.pldm_responder.specs.Reserving.{IsWithinSources}
 use Rattle.pldm_responder.specs.Steps.{performs}

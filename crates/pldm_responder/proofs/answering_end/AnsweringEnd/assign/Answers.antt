@@ -15,8 +15,8 @@ use Rattle.pldm_responder.proofs.answering_end.AnsweringEnd.assign.Goals as goal
 
 pub invariant_of-self : goal.invariant_of-self
 invariant_of-self c =
-    let empty : c.self.inside.assembler ≡ map.empty = ap (λ (e : End). e.open_messages) c.self.view_is ∙ c.restart.ensures.closed in
-    let rows = ap (λ (e : End). e.rows) c.self.view_is ∙ c.restart.ensures.none in (
+    let empty : c.self.inside.assembler ≡ map.empty = ap (λ (e : End). e.open_messages) c.self.view_is ∙ ap (λ (e : End). e.open_messages) c.restart.ensures in
+    let rows = ap (λ (e : End). e.rows) c.self.view_is ∙ ap (λ (e : End). e.rows) c.restart.ensures in (
       rw empty (none_asked c.args.eid),
       ap (λ r. row_of r c.args.eid) rows,
       (rw empty (omega (arith, len-empty key_cmp Opened)), omega (arith, ap source_count rows)),
@@ -30,9 +30,9 @@ returns-clause-held c =
     let new : End = record { own = c.args.eid; busy = inside.busy; keep = inside.keep; bounds = inside.bounds; ends_oldest = inside.ends_oldest; open_messages = inside.assembler; begun = inside.begun.items; rows = inside.kept; serves_from = c.serves_once_assigned-serves_from.result; last = inside.last } in
     assigned_by (c.args.self.now.own == NULL_EID) c.args.self.now new c.args.now c.args.eid
     (λ t. c.serves_once_assigned-serves_from.ensures.idle (eqb-true c.args.self.now.own NULL_EID t)) refl
-    (ap (λ (e : End). e.busy) c.self.view_is ∙ c.restart.ensures.busy)
-    (ap (λ (e : End). e.keep) c.self.view_is ∙ c.restart.ensures.keep)
-    (ap (λ (e : End). e.rows) c.self.view_is ∙ c.restart.ensures.none)
-    (ap (λ (e : End). e.open_messages) c.self.view_is ∙ c.restart.ensures.closed)
+    (ap (λ (e : End). e.busy) c.self.view_is ∙ ap (λ (e : End). e.busy) c.restart.ensures)
+    (ap (λ (e : End). e.keep) c.self.view_is ∙ ap (λ (e : End). e.keep) c.restart.ensures)
+    (ap (λ (e : End). e.rows) c.self.view_is ∙ ap (λ (e : End). e.rows) c.restart.ensures)
+    (ap (λ (e : End). e.open_messages) c.self.view_is ∙ ap (λ (e : End). e.open_messages) c.restart.ensures)
     c.serves_once_assigned-serves_from.ensures.moment
-    (ap (λ (e : End). e.last) c.self.view_is ∙ c.restart.ensures.last)
+    (ap (λ (e : End). e.last) c.self.view_is ∙ ap (λ (e : End). e.last) c.restart.ensures)

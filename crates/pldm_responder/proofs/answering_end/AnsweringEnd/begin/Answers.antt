@@ -1,6 +1,6 @@
 use Rattle.std.proofs.Common.{◌∙◌, ap, sym, subst, if◌then◌else◌}
 use Rattle.mctp_packet.specs.Ids.{IsEid}
-use Rattle.mctp_assembly.specs.Steps.{Held}
+use Rattle.mctp_assembly.specs.Steps.{OpenMessages}
 use Rattle.pldm_responder.specs.Ends.{End, eid_or_null}
 use Rattle.pldm_responder.specs.OpenOrder.{begun_with, without}
 use Rattle.pldm_responder.proofs.NoId.{idle_at_home}
@@ -10,7 +10,7 @@ use Rattle.pldm_responder.proofs.answering_end.AnsweringEnd.begin.Goals as goal
 
 pub invariant_of-self-2 : goal.invariant_of-self-2
 invariant_of-self-2 c =
-    let left_is = c.end_message.ensures ∙ ap (λ (held : Held). without c.in_ok-ended.ended held) c.in_ok-feed_open.ensures.ok in
+    let left_is = c.end_message.ensures ∙ ap (λ (held : OpenMessages). without c.in_ok-ended.ended held) c.in_ok-feed_part.ensures.ok in
     let left = open_begun _ c.args.self.now c.args.packet.now c.of.result c.in_ok-ended.ended c.end_message.new.assembler c.self.view_is c.self.invariant.0 c.self.invariant.2.0
     c.of.ensures.range c.of.ensures.value c.requires.owner c.requires.other c.requires.begins c.self.invariant.3 c.in_ok-ended.ensures.ok (λ shut. cc (c.in_ok-ended.ensures.shut_out.1 shut)) left_is in
     let is = is_of (eid_or_null c.self.inside.own) c.args.packet.now c.of.result c.of.ensures.range c.of.ensures.value c.requires.owner (λ source. c.requires.other (source ∙ ap (λ (e : End). e.own) c.self.view_is)) in

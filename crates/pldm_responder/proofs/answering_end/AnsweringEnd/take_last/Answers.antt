@@ -11,6 +11,6 @@ pub invariant_of-self-in-Ok-Dropped : goal.invariant_of-self-in-Ok-Dropped
 invariant_of-self-in-Ok-Dropped c =
     let fed = rw c.in-Ok-Dropped.field-0-is at c.in-Ok-Dropped.ensures in
     let goes_on : begins c.args.packet.now ≡ false = goes_on_by _ _ c.requires.last.ends in
-    let left = open_going_on _ _ _ c.args.packet.now c.feed_piece.new.self c.self.invariant.0 c.self.invariant.2.0 goes_on fed.ok in
+    let left = open_going_on _ _ _ c.args.packet.now c.feed_without_ending.new.self c.self.invariant.0 c.self.invariant.2.0 goes_on fed.ok in
     let home : IsEid (eid_or_null c.self.inside.own) = subst (λ (e : End). IsEid e.own) (sym c.self.view_is) c.requires.last.home in
-    (left.0, c.self.invariant.1, (left.1, c.self.invariant.2.1), ordered_going_on _ _ _ c.args.packet.now c.feed_piece.new.self c.self.invariant.3 goes_on fed.ok, idle_at_home _ _ c.self.inside.kept home)
+    (left.0, c.self.invariant.1, (left.1, c.self.invariant.2.1), ordered_going_on _ _ _ c.args.packet.now c.feed_without_ending.new.self c.self.invariant.3 goes_on fed.ok, idle_at_home _ _ c.self.inside.kept home)

@@ -3,7 +3,7 @@ use Rattle.std.specs.Prelude.{slice_set}
 use Rattle.mctp_assembly.specs.NumberLists.{NumberList, Changes, IsAt, Rises, at}
 use Rattle.mctp_assembly.proofs.NumberPlaces.{here, none_in_gap, read_at, rises_changed, written_at}
 use Rattle.pldm_responder.specs.Ends.{has_row}
-use Rattle.pldm_responder.specs.Held.{Entry, id_in}
+use Rattle.pldm_responder.specs.ResponderStates.{Entry, id_in}
 use Rattle.pldm_responder.specs.Recency.{renewed}
 use Rattle.pldm_responder.specs.Slots.{Answers, AreKeptTo, IsKept, Rows, answers_in, kept_in, no_answers}
 use Rattle.pldm_responder.proofs.KeptRows.{each_after, kept_after, kept_at, put_to, rows_after}

@@ -5,16 +5,16 @@ use Rattle.pldm_responder.specs.Slots.{Rows, no_answers}
 use Rattle.pldm_responder.proofs.NumberSearches.{found_by, absent_by}
 use Rattle.pldm_responder.proofs.kept_answers.KeptAnswers.search.Goals as goal
 
-pub returns-in_default-clause-found : goal.returns-in_default-clause-found
-returns-in_default-clause-found c =
+pub returns-clause-found : goal.returns-clause-found
+returns-clause-found c =
     let facts = c.binary_search_by_key.ensures in
     let by_number = facts.position (λ pair. pair.0) (answers_always _ _ _ (λ f a r g called. search rules)) in
     subst (λ (rows : Rows). IfOk c.binary_search_by_key.result (IsAt no_answers rows.list c.args.source)) c.self.view_is
-    (rw (← c.deref-in_default.ensures.value, ← c.get-source.ensures.value) (found_by no_answers c.deref-in_default.result.now (rw c.deref-in_default.ensures.value c.self.invariant.rises) c.get-source.result c.binary_search_by_key.result facts.bound by_number))
+    (rw (← c.deref-4.ensures.value, ← c.get-source.ensures.value) (found_by no_answers c.deref-4.result.now (rw c.deref-4.ensures.value c.self.invariant.rises) c.get-source.result c.binary_search_by_key.result facts.bound by_number))
 
-pub returns-in_default-clause-absent : goal.returns-in_default-clause-absent
-returns-in_default-clause-absent c =
+pub returns-clause-absent : goal.returns-clause-absent
+returns-clause-absent c =
     let facts = c.binary_search_by_key.ensures in
     let by_number = facts.position (λ pair. pair.0) (answers_always _ _ _ (λ f a r g called. search rules)) in
     subst (λ (rows : Rows). IfErr c.binary_search_by_key.result (IsGapFor no_answers rows.list c.args.source)) c.self.view_is
-    (rw (← c.deref-in_default.ensures.value, ← c.get-source.ensures.value) (absent_by no_answers c.deref-in_default.result.now (rw c.deref-in_default.ensures.value c.self.invariant.rises) c.get-source.result c.binary_search_by_key.result facts.bound by_number))
+    (rw (← c.deref-4.ensures.value, ← c.get-source.ensures.value) (absent_by no_answers c.deref-4.result.now (rw c.deref-4.ensures.value c.self.invariant.rises) c.get-source.result c.binary_search_by_key.result facts.bound by_number))

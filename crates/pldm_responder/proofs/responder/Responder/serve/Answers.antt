@@ -2,11 +2,11 @@ use Rattle.std.proofs.Common.{rules, ◌≡◌, ◌<◌, ◌∙◌, true, false,
 use Rattle.pldm_wire.specs.Headers.{id_at}
 use Rattle.pldm_responder.specs.Arrivals.{Whole, way_back}
 use Rattle.pldm_responder.specs.Ends.{held_by, held_over}
-use Rattle.pldm_responder.specs.Held.{IsHeld}
+use Rattle.pldm_responder.specs.ResponderStates.{IsHeld}
 use Rattle.pldm_responder.specs.Looking.{end_finished, message_at}
 use Rattle.pldm_responder.specs.Performing.{rules_of}
 use Rattle.pldm_responder.specs.Serving.{IsServed}
-use Rattle.pldm_responder.specs.Stations.{held_of}
+use Rattle.pldm_responder.specs.ResponderViews.{held_of}
 use Rattle.pldm_responder.specs.Steps.{arrival_held, performs}
 use Rattle.pldm_responder.specs.declared.outcome.MessageOutcome.TheVariants.{Answered}
 use Rattle.pldm_responder.specs.declared.arriving.Standing.TheVariants.{Fresh}

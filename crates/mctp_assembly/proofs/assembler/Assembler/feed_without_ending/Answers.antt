@@ -1,0 +1,16 @@
+use Rattle.std.proofs.Common.{ap}
+use Rattle.mctp_packet.specs.declared.TheConstants.{MAX_PACKETS}
+use Rattle.mctp_assembly.specs.Steps.{answer_to}
+use Rattle.mctp_assembly.proofs.HeldEntries.{held_at, left_in, gives_by, ok_by}
+use Rattle.mctp_assembly.proofs.assembler.Assembler.feed_without_ending.Goals as goal
+
+pub returns-clause-fed : goal.returns-clause-fed
+returns-clause-fed c =
+    gives_by c.take.result _ _ _ c.take.ensures.fed
+    (ap (λ o. answer_to MAX_PACKETS o c.args.packet.now)
+    (held_at c.self.inside.messages c.args.self.now c.of.result _ c.number.result c.self.view_is c.of.ensures.range c.number.ensures.value c.of.ensures.value))
+
+pub returns-clause-ok : goal.returns-clause-ok
+returns-clause-ok c =
+    ok_by c.take.result c.take.ensures.ok
+    (left_in c.self.inside.messages c.take.new.self c.args.self.now c.of.result c.number.result c.args.packet.now c.self.view_is c.of.ensures.range c.number.ensures.value c.of.ensures.value)

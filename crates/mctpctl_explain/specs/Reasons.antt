@@ -1,0 +1,31 @@
+-- How the fault for which a description was refused is told.
+use Rattle.std.specs.Prelude.{◌≡◌, ◌⊎◌, ⊤, ℕ, List, [], ◌++◌, codes}
+use Rattle.mctpctl_input.specs.declared.faults.EngineFault.{EngineFault}
+use Rattle.mctpctl_input.specs.declared.faults.EngineFault.TheVariants.{Device}
+use Rattle.pldm_device.specs.declared.description_fault.FileFault.{FileFault}
+use Rattle.pldm_device.specs.declared.description_fault.FileFault.TheVariants.{Toml, MissingKey, WrongKind, OutOfRange}
+use Rattle.pldm_device.specs.declared.description_fault.FileFault.TheVariants.{Duplicate, BadHex}
+
+-- the words before what is needed, or before what was found; a bad record has words for each flaw
+abbrev pub opening : FileFault → List ℕ
+opening MissingKey = codes "the key is missing, needed is "
+opening WrongKind = codes "found "
+opening OutOfRange = codes "found "
+opening BadHex = codes "found "
+opening Duplicate = codes "found "
+opening _ = []
+
+-- nothing, or the words of the fault and more
+abbrev pub IsReason : FileFault → List ℕ → Type 0
+IsReason fault text = (text ≡ []) ⊎ ((rest : List ℕ) × (text ≡ opening fault ++ rest))
+
+-- the parser's message for what is no TOML; else nothing, or a reason behind its place and its path
+abbrev pub Tells : FileFault → List ℕ → Type 0
+Tells fault text =
+    (fault ≡ Toml) ⊎ (text ≡ [])
+    ⊎ ((front : List ℕ) × (reason : List ℕ) × (text ≡ front ++ reason) × IsReason fault reason)
+
+-- of a description the fault is told that the engine returned
+abbrev pub TellsDevice : EngineFault → List ℕ → Type 0
+TellsDevice (Device fault) text = Tells fault text
+TellsDevice _ text = ⊤

@@ -1,8 +1,0 @@
--- All are integers exactly where the rest are.
-use Rattle.std.proofs.Common.{◌≡◌, drop}
-use Rattle.toml.specs.View.{items_view}
-use Rattle.pldm_device.specs.NumberLists.{are_integers}
-use Rattle.pldm_device.proofs.number_lists.are_integers.Given as goal
-
-abbrev pub invariant-loop-item : goal.invariant-loop-item
-invariant-loop-item l = are_integers (items_view (drop l.item-index l.items)) ≡ are_integers (items_view l.items)
