@@ -7,7 +7,6 @@ ghost use Rattle.toml.specs.Errors.{IsBlank};
 ghost use Rattle.toml.specs.Data.{get_member};
 ghost use Rattle.toml.specs.View.{table_view};
 
-use crate::allowed::Allowed;
 use crate::description_fault::FileFault;
 use crate::device::SimDevice;
 use crate::document::read_document;
