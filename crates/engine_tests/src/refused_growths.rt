@@ -12,7 +12,7 @@ use std::test::Fail;
 const STEP: usize = 32;
 
 /// More refusals than a run meets.
-const MAX_REFUSALS: usize = 12_000;
+const MAX_REFUSALS: usize = 24_000;
 
 /// What a run gives, and its writer.
 fn run_once(

@@ -16,7 +16,7 @@ const LARGEST: usize = 1 << 46;
 const HALVINGS: usize = 35;
 
 /// How many sizes are tried from the reserve's on, each half the one before, down to 3,125 bytes.
-const REST_HALVINGS: usize = 8;
+const REST_HALVINGS: usize = 9;
 
 /// The smallest block of which any number is taken, in bytes: below it the allocator keeps blocks by
 /// their size, so that each size is taken for itself.
@@ -26,7 +26,7 @@ const SMALL: usize = 2_048;
 const MAX_OF_A_SIZE: usize = 600;
 
 /// The bytes that are kept apart while all else is taken. No more than these can be left spare.
-const RESERVE: usize = 400_000;
+const RESERVE: usize = 800_000;
 
 /// The bytes by which the allocator's block is longer than what was asked of it, and what it keeps
 /// of a block that it splits.
@@ -45,7 +45,7 @@ pub struct Hoard {
 }
 
 impl Hoard {
-    /// Takes all memory but about `spare` bytes in one piece, at most 399,000.
+    /// Takes all memory but about `spare` bytes in one piece, at most 799,000.
     ///
     /// # Errors
     ///
