@@ -129,6 +129,7 @@ impl<T: LineTask> LineTaker for CaptureLines<T> {
 
     ghost may_keep = { FitsCapture };
 
+    #[inline(always)]
     fn take_line(
         &mut self,
         alloc: Global,

@@ -89,6 +89,7 @@ impl<T: Described> LineTaker for DescribedLines<T> {
     ghost may_keep = { described_may_keep T.may_keep };
 
     /// Takes a line of the description, or the line that divides, and past that a line of what it began.
+    #[inline(always)]
     fn take_line(
         &mut self,
         alloc: Global,

@@ -93,6 +93,8 @@ impl<T: LineTaker> LineRun<T> {
     }
 
     /// Hands over the line that ends here, with what was kept of it. Where nothing was, nothing is copied.
+    // Inlined, as what takes a line: it runs for each line.
+    #[inline(always)]
     fn end_line(&mut self, alloc: Global, line: &[u8], out: &mut Vec<u8>) -> Result<(), EngineFault>
         requires feed { HasNoFeed line.now }
         requires counted { T.counted self.old.taker < MAX_INPUT }
@@ -105,6 +107,26 @@ impl<T: LineTaker> LineRun<T> {
         if self.kept.is_empty() {
             return self.taker.take_line(alloc, line, out);
         }
+        self.end_kept_line(alloc, line, out)
+    }
+
+    /// As [`LineRun::end_line`], where something was kept of the line.
+    // Not inlined: at most one line of a piece is such a line.
+    #[inline(never)]
+    fn end_kept_line(
+        &mut self,
+        alloc: Global,
+        line: &[u8],
+        out: &mut Vec<u8>,
+    ) -> Result<(), EngineFault>
+        requires feed { HasNoFeed line.now }
+        requires counted { T.counted self.old.taker < MAX_INPUT }
+        ensures meets { Takes (run_gives T.writes self.old) (line.now ++ 10 ∷ []) (run_gives T.writes self.new)
+            out.old.items out.new.items result }
+        ensures counted { T.counted self.new.taker ≤ T.counted self.old.taker + 1 }
+        ensures read { result ≢ Err EngineFault.Read }
+        ensures write { result ≢ Err EngineFault.Write }
+    {
         if let Err(refused) = self.kept.extend_from_slice(line) {
             return Err(EngineFault::Memory(refused.into()));
         }

@@ -327,7 +327,10 @@ impl AnsweringEnd {
         ensures left { IsReadBy self.old now route.now message.now self.new result }
     {
         match read_request(message) {
-            Ok(read) => Arrived::Request(Request::new(route, message, read)),
+            Ok(read) => {
+                self.kept.look_for(route.source);
+                Arrived::Request(Request::new(route, message, read))
+            }
             Err(reason) => {
                 self.forget(now, route.source, route.tag);
                 Arrived::Dropped(reason)

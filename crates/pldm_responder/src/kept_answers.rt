@@ -68,8 +68,8 @@ pub(crate) struct KeptAnswers {
     alloc: Global,
     window: Window,
     rows: Vec<(u8, Place)>,
-    /// Where the row stood that was looked for last when an answer was to be kept. It is looked at first: many packets come
-    /// from the source of the one before, and one packet looks for its row three times.
+    /// Where the row stood that was looked for last. It is looked at first: many packets come from the source of the one
+    /// before, and a request looks for its row three times more.
     latest: usize,
 }
 
@@ -152,7 +152,7 @@ impl KeptAnswers {
 
     /// Looks for the row of a source, which is then found at once.
     #[inline(always)]
-    fn look_for(&mut self, source: Eid)
+    pub(crate) fn look_for(&mut self, source: Eid)
         ensures { self.new ≡ self.old }
     {
         if let Ok(place) = self.search(source) {
@@ -180,7 +180,6 @@ impl KeptAnswers {
         ensures few { IfOk result (IsWithinSources self.new max) }
         ensures err { IfErr result (IsWhyNoRow self.old max source) }
     {
-        self.look_for(source);
         if self.row(source).is_some() {
             return Ok(Reserved { row: None });
         }
