@@ -25,6 +25,7 @@ pub mod OpenedPackets
 pub mod QuietRequests
 pub mod RefusedMemory
 pub mod SlotOrders
+pub mod Rings
 pub mod NumberSearches
 pub mod SourceAnswers
 pub mod StoredSlots

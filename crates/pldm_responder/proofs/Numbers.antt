@@ -1,6 +1,7 @@
 -- Every constant of the source, told a second time.
 use Rattle.std.proofs.Common.{◌≡◌, refl}
 use Rattle.pldm_responder.specs.declared.answering_end.TheConstants.{OTHER_ENDPOINTS, MAX_KEPT, MAX_PENDING}
+use Rattle.pldm_responder.specs.declared.order.TheConstants.{SLOTS, END, PLACES}
 use Rattle.pldm_responder.specs.declared.slots.TheConstants.{MAX_BYTES, SLOT_BYTES}
 use Rattle.pldm_responder.specs.declared.slot_table.TheConstants.{IDS, NO_SLOT}
 
@@ -24,3 +25,12 @@ instance_ids = refl
 
 no_slot : NO_SLOT ≡ 32
 no_slot = refl
+
+slots : SLOTS ≡ 32
+slots = refl
+
+end : END ≡ 32
+end = refl
+
+places : PLACES ≡ 33
+places = refl

@@ -12,7 +12,7 @@ use Rattle.pldm_responder.specs.SlotBytes.{no_entry}
 use Rattle.pldm_responder.specs.SourceAnswers.{AllKept, AreLatest, in_slot, kept_by}
 use Rattle.pldm_responder.specs.declared.order.Indexed.{Indexed}
 use Rattle.pldm_responder.proofs.RecentFirst.{by_test, found_here, found_later, dropped, stays, none_later}
-use Rattle.pldm_responder.proofs.SlotOrders.{apart_push, below_push, found_reversed}
+use Rattle.pldm_responder.proofs.SlotOrders.{apart_push, below_push, found_below, found_in, found_reversed}
 
 found_kept : (slots : List Entry) (n : ℕ) (xs : List Indexed) → AllKept slots xs → of_number id_in n (kept_by slots xs) ≡ option_map (in_slot slots) (of_number id_of n xs)
 found_kept slots n [] all = refl
@@ -146,18 +146,6 @@ replaced_none e n (y ∷ es) named none =
     let here : (if id_in y == id_in e then e else y) ≡ y = cond-false (id_in y == id_in e) e y (ap (λ m. id_in y == m) named ∙ parts.0) in
     λ i. here i ∷ replaced_none e n es named parts.1 i
 
-found_in : {A : Type 0} (number other : A → ℕ) (n m : ℕ) (xs : List A) (x : A) → of_number number n xs ≡ Some x → other x ≡ m → of_number other m xs ≡ None → ⊥
-found_in number other n m [] x is at none = cc
-found_in number other n m (y ∷ xs) x is at none =
-    let parts = none_later other m y xs none in
-    let later : of_number number n xs ≡ Some x → ⊥ = λ e. found_in number other n m xs x e at parts.1 in
-    by_test (number y == n)
-    (λ (same : (number y == n) ≡ true).
-    let it : y ≡ x = let both : Some y ≡ Some x = sym (found_here number n y xs same) ∙ is in cc in
-    let number_is : other y ≡ m = ap other it ∙ at in
-    let wrong : true ≡ false = sym (eq-eqb (other y) m number_is) ∙ parts.0 in cc)
-    (λ (apart : (number y == n) ≡ false). later (sym (found_later number n y xs apart) ∙ is))
-
 put_in_place : (slots : List Entry) (n slot : ℕ) (e : Entry) (xs : List Indexed) (x0 : Indexed) → of_number id_of n xs ≡ Some x0 → x0.slot ≡ slot → slot < length slots → id_in e ≡ n
     → IsApart id_of xs → IsApart slot_in xs → AllKept slots xs → Put (slice_set slots slot e) (replaced id_in e (kept_by slots xs)) xs
 put_in_place slots n slot e [] x0 is at there named ids apart all = absurd (cc)
@@ -192,16 +180,6 @@ put_in_place slots n slot e (x ∷ xs) x0 is at there named ids apart all =
     })
 
 -- ---- by the steps of a row
-found_below : {A : Type 0} (number other : A → ℕ) (n m : ℕ) (xs : List A) (x : A) → AllBelow other m xs → of_number number n xs ≡ Some x → other x < m
-found_below number other n m [] x below is = absurd (cc)
-found_below number other n m (y ∷ xs) x below is =
-    let later : of_number number n xs ≡ Some x → other x < m = λ e. found_below number other n m xs x below.1 e in
-    by_test (number y == n)
-    (λ (same : (number y == n) ≡ true).
-    let it : y ≡ x = let e : Some y ≡ Some x = sym (found_here number n y xs same) ∙ is in cc in
-    subst (λ z. other z < m) it below.0)
-    (λ (apart : (number y == n) ≡ false). later (sym (found_later number n y xs apart) ∙ is))
-
 pub record Found (slots : List Entry) (order : List Indexed) (id slot : ℕ) : Type 0 where
   pub place : Indexed
   pub has : of_number id_of id (newest_first order) ≡ Some place
@@ -209,7 +187,7 @@ pub record Found (slots : List Entry) (order : List Indexed) (id slot : ℕ) : T
   pub there : slot < length slots
   pub entry : Some (slice_index_or slots slot no_entry) ≡ of_number id_in id (kept_by slots (newest_first order))
 
-module _ (window : ℕ) (table : List (Option ℕ)) (slots : List Entry) (order : List Indexed) (places rooms : ℕ) (are : AreLatest window table slots order places rooms) where
+module _ (window : ℕ) (table : List (Option ℕ)) (slots : List Entry) (order : List Indexed) (rooms : ℕ) (are : AreLatest window table slots order rooms) where
   by_table : (id : ℕ) → id < 32 → slice_index_or table id None ≡ option_map slot_in (of_number id_of id (newest_first order))
   by_table id small = are.table.slots id small ∙ ap (option_map slot_in) (sym (found_reversed id_of id order are.ordered.ids))
 
@@ -247,8 +225,8 @@ module _ (window : ℕ) (table : List (Option ℕ)) (slots : List Entry) (order 
     pub kept_in_front : kept_by (slice_set more slot e) (newest_first new) ≡ take window (renewed id_in e (kept_by slots (newest_first order)))
     kept_in_front = put_first.entries
 
-    pub still_latest : (later : List (Option ℕ)) (places_now rooms_now : ℕ) → IsTable later new → AllBelow id_of 32 new → places_now ≡ places → rooms_now ≡ rooms → AreLatest window later (slice_set more slot e) new places_now rooms_now
-    still_latest later places_now rooms_now is_table small same_places same_rooms = record {
+    pub still_latest : (later : List (Option ℕ)) (rooms_now : ℕ) → IsTable later new → AllBelow id_of 32 new → rooms_now ≡ rooms → AreLatest window later (slice_set more slot e) new rooms_now
+    still_latest later rooms_now is_table small same_rooms = record {
       window = are.window;
       used = length-set more slot e ∙ omega (arith, reached.used, used, are.used);
       few = few;
@@ -256,7 +234,6 @@ module _ (window : ℕ) (table : List (Option ℕ)) (slots : List Entry) (order 
       kept = put_first.all;
       table = is_table;
       small = small;
-      places = let enough = are.places in omega (arith, enough, same_places);
       rooms = let enough = are.rooms in omega (arith, enough, same_rooms);
     }
 
@@ -269,7 +246,7 @@ module _ (window : ℕ) (table : List (Option ℕ)) (slots : List Entry) (order 
     pub kept_in_place : kept_by (slice_set slots slot e) (newest_first order) ≡ replaced id_in e (kept_by slots (newest_first order))
     kept_in_place = put_there.entries
 
-    pub latest_in_place : AreLatest window table (slice_set slots slot e) order places rooms
+    pub latest_in_place : AreLatest window table (slice_set slots slot e) order rooms
     latest_in_place = record {
       window = are.window;
       used = length-set slots slot e ∙ are.used;
@@ -278,7 +255,6 @@ module _ (window : ℕ) (table : List (Option ℕ)) (slots : List Entry) (order 
       kept = put_there.all;
       table = are.table;
       small = are.small;
-      places = are.places;
       rooms = are.rooms;
     }
 
@@ -286,9 +262,9 @@ module _ (window : ℕ) (table : List (Option ℕ)) (slots : List Entry) (order 
   none_replaced id e small none named = replaced_none e id (kept_by slots (newest_first order)) named (none_there id small none)
 
 -- a new one
-pub new_latest : (window : ℕ) (table : List (Option ℕ)) (slots : List Entry) (order : List Indexed) (places rooms : ℕ) → IsWindow window → table ≡ replicate 32 None → slots ≡ [] → order ≡ [] → window ≤ places → window ≤ rooms → AreLatest window table slots order places rooms
-new_latest window table slots order places rooms is none empty unordered enough room =
-    subst (λ (parts : List (Option ℕ) × (List Entry × List Indexed)). AreLatest window parts.0 parts.1.0 parts.1.1 places rooms) (λ i. (sym none i, (sym empty i, sym unordered i))) (record {
+pub new_latest : (window : ℕ) (table : List (Option ℕ)) (slots : List Entry) (order : List Indexed) (rooms : ℕ) → IsWindow window → table ≡ replicate 32 None → slots ≡ [] → order ≡ [] → window ≤ rooms → AreLatest window table slots order rooms
+new_latest window table slots order rooms is none empty unordered room =
+    subst (λ (parts : List (Option ℕ) × (List Entry × List Indexed)). AreLatest window parts.0 parts.1.0 parts.1.1 rooms) (λ i. (sym none i, (sym empty i, sym unordered i))) (record {
       window = is;
       used = refl;
       few = omega arith;
@@ -296,6 +272,5 @@ new_latest window table slots order places rooms is none empty unordered enough 
       kept = tt;
       table = record { slots = λ id small. get_or-replicate 32 id None None small; all = length-replicate {A = Option ℕ} 32 None };
       small = tt;
-      places = enough;
       rooms = room;
     })

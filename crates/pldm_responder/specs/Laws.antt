@@ -58,7 +58,8 @@ module _ {S : Type 0} (device : Rules S) where
   -- bytes that are received give what looking back over all calls says, and leave what the longer list leaves
   abbrev pub ReceivedLooksBack : Type 0
   ReceivedLooksBack =
-      (own : ℕ) (busy : BusyTime) (window keep : ℕ) (start : S) (held : ResponderState S) (calls : List (Call S)) (moment : ℕ) (bytes : List ℕ)
+      (own : ℕ) (busy : BusyTime) (window keep : ℕ) (start : S)
+      (held : ResponderState S) (calls : List (Call S)) (moment : ℕ) (bytes : List ℕ)
       → IsLeftBy device own busy window keep start held calls
       → (received_outcome device held moment bytes ≡ outcome device own busy window keep start calls moment bytes)
       × IsLeftBy device own busy window keep start (received_held device held moment bytes) (Received moment bytes ∷ calls)

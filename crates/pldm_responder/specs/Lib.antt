@@ -13,6 +13,7 @@ pub mod Counts
 pub mod Slots
 pub mod SlotBytes
 pub mod Orders
+pub mod Rings
 pub mod SourceAnswers
 pub mod Ends
 pub mod ResponderViews

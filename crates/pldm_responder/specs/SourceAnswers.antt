@@ -20,9 +20,9 @@ abbrev pub AllKept : List Entry → List Indexed → Type 0
 AllKept slots [] = Unit {0}
 AllKept slots (indexed ∷ rest) = (id_in (in_slot slots indexed) ≡ indexed.id) × AllKept slots rest
 
--- the order of the instance IDs over as many slots, and the room that the order and the slots have
+-- the order of the instance IDs over as many slots, and the room that the slots have
 pub record AreLatest
-    (limit : ℕ) (by_id : List (Option ℕ)) (slots : List Entry) (order : List Indexed) (for_order for_slots : ℕ) : Type 0 where
+    (limit : ℕ) (by_id : List (Option ℕ)) (slots : List Entry) (order : List Indexed) (for_slots : ℕ) : Type 0 where
   pub window : IsWindow limit
   pub used : length slots ≡ length order
   pub few : length order ≤ limit
@@ -30,5 +30,4 @@ pub record AreLatest
   pub kept : AllKept slots (newest_first order)
   pub table : IsTable by_id order
   pub small : AllBelow id_of 32 order
-  pub places : limit ≤ for_order
   pub rooms : limit ≤ for_slots

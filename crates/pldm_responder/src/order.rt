@@ -1,13 +1,21 @@
 //! The order of the instance IDs of a source, by their latest requests.
 
-ghost use Rattle.std.specs.Prelude.{◌≡◌, ◌==◌, ◌+◌, ◌<◌, ◌≤◌, max, slice_index_or};
-ghost use Rattle.std.specs.List.{position, remove};
-ghost use Rattle.std.specs.VecDeque.{deque_capacity, deque_len};
+ghost use Rattle.std.specs.Prelude.{◌≡◌, ◌+◌, ◌<◌, ◌≤◌, ◌++◌, ◌∷◌, [], None, IsSome, length, max, slice_index_or};
 ghost use Rattle.pldm_wire.specs.Settings.{IsWindow};
-ghost use Rattle.pldm_responder.specs.Orders.{AreInOrder, IsRenewed, IsTabled};
+ghost use Rattle.pldm_responder.specs.Orders.{AreInOrder, IsRenewed, IsTabled, slot_in};
+ghost use Rattle.pldm_responder.specs.Recency.{of_number, without};
 
 use crate::slot_table::SlotTable;
-use std::collections::VecDeque;
+use std::marker::Model;
+
+/// How many slots there are.
+const SLOTS: usize = 32;
+
+/// The place of both ends, after those of the slots.
+const END: u8 = 32;
+
+/// The places of the slots, and that of the ends.
+const PLACES: usize = SLOTS + 1;
 
 /// An instance ID, and the number of the slot that keeps its answer.
 #[derive(Debug, Clone, Copy)]
@@ -16,82 +24,126 @@ pub(crate) struct Indexed {
     slot: u8,
 }
 
-/// The place of an instance ID: mostly the first, since a requester uses its instance IDs in turn.
-#[inline(always)]
-fn place_of(order: &VecDeque<Indexed>, id: u8) -> Option<usize>
-    ensures { result ≡ position (λ indexed. indexed.id == id) order.now.items }
-{
-    match order.front() {
-        Some(first) if first.id == id => Some(0),
-        _ => later_place_of(order, id),
+/// The slots in use, by the latest request of the instance ID of each, the oldest first: a ring of links, in which one
+/// place stands for both ends. So a slot leaves it and comes last in few steps, whichever it is.
+#[derive(Debug, Drop)]
+pub(crate) struct Order {
+    /// The instance ID of each slot.
+    ids: [u8; SLOTS],
+    /// The slot after each, and the oldest one after the end.
+    next: [u8; PLACES],
+    /// The slot before each, and the latest one before the end.
+    previous: [u8; PLACES],
+    /// How many slots are in the ring.
+    count: u8,
+}
+
+impl Model for Order {
+    ghost use Rattle.std.specs.Prelude.{List};
+    ghost use Rattle.std.specs.Coded.{coded_list};
+    ghost use Rattle.pldm_responder.specs.declared.order.Indexed.{Indexed};
+    ghost use Rattle.pldm_responder.specs.Rings.{IsRing, coded_indexed, order_of, places_after};
+
+    ghost Value = { List Indexed };
+
+    ghost coded = { coded_list coded_indexed };
+
+    ghost view = { λ o. order_of o.ids o.next o.count };
+
+    ghost invariant = { λ o. IsRing o.next o.previous (places_after o.next 32 o.count) };
+}
+
+impl Order {
+    /// No slot is in use.
+    pub(crate) fn new() -> Order
+        ensures { result ≡ [] }
+    {
+        Order {
+            ids: [0; SLOTS],
+            next: [END; PLACES],
+            previous: [END; PLACES],
+            count: 0,
+        }
     }
-}
 
-/// As [`place_of`], for any place.
-// Not inlined: it is seldom run, and its caller runs for each request.
-#[inline(never)]
-fn later_place_of(order: &VecDeque<Indexed>, id: u8) -> Option<usize>
-    ensures { result ≡ position (λ indexed. indexed.id == id) order.now.items }
-{
-    order.iter().position(|indexed| indexed.id == id)
-}
-
-/// Takes out the instance ID at a place.
-#[inline(always)]
-fn take_at(order: &mut VecDeque<Indexed>, place: usize) -> Indexed
-    requires { place < deque_len order.old }
-    ensures value { result ≡ slice_index_or order.old.items place result }
-    ensures items { order.new.items ≡ remove order.old.items place }
-    ensures room { deque_capacity order.new ≡ deque_capacity order.old }
-{
-    if place == 0 {
-        order.pop_front().unwrap()
-    } else {
-        take_later(order, place)
+    /// How many slots are in use.
+    #[inline(always)]
+    pub(crate) fn len(&self) -> u8
+        ensures { result ≡ length self.now }
+    {
+        self.count
     }
-}
 
-/// As [`take_at`], for any place.
-// Not inlined: it is seldom run, and its caller runs for each request.
-#[inline(never)]
-fn take_later(order: &mut VecDeque<Indexed>, place: usize) -> Indexed
-    requires { place < deque_len order.old }
-    ensures value { result ≡ slice_index_or order.old.items place result }
-    ensures items { order.new.items ≡ remove order.old.items place }
-    ensures room { deque_capacity order.new ≡ deque_capacity order.old }
-{
-    order.remove(place).unwrap()
+    /// The oldest one.
+    #[inline(always)]
+    fn oldest(&self) -> Indexed
+        requires { 0 < length self.now }
+        ensures { result ≡ slice_index_or self.now 0 result }
+    {
+        let slot = self.next[usize::from(END)];
+        let id = self.ids[usize::from(slot)];
+        Indexed { id, slot }
+    }
+
+    /// Takes a slot out.
+    #[inline(always)]
+    fn take(&mut self, slot: u8)
+        requires { IsSome (of_number slot_in slot self.old) }
+        ensures { self.new ≡ without slot_in slot self.old }
+    {
+        let before = self.previous[usize::from(slot)];
+        let after = self.next[usize::from(slot)];
+        self.next[usize::from(before)] = after;
+        self.previous[usize::from(after)] = before;
+        self.count -= 1;
+    }
+
+    /// Puts a slot behind the others, for an instance ID.
+    #[inline(always)]
+    fn push(&mut self, id: u8, slot: u8)
+        requires slot { slot < 32 }
+        requires fresh { of_number slot_in slot self.old ≡ None }
+        ensures { self.new ≡ self.old ++ record { id = id; slot = slot } ∷ [] }
+    {
+        let last = self.previous[usize::from(END)];
+        self.next[usize::from(last)] = slot;
+        self.previous[usize::from(slot)] = last;
+        self.next[usize::from(slot)] = END;
+        self.previous[usize::from(END)] = slot;
+        self.ids[usize::from(slot)] = id;
+        self.count += 1;
+    }
 }
 
 /// Puts an instance ID behind the others, which stand the oldest first, and gives its slot: its own, else the next one
 /// that no ID has, else that of the oldest, which falls out. The table has the slot of each by its ID.
-pub(crate) fn renew(order: &mut VecDeque<Indexed>, table: &mut SlotTable, window: u8, id: u8) -> u8
-    requires order { AreInOrder order.old.items }
-    requires tabled { IsTabled table.old order.old.items }
+#[inline(always)]
+pub(crate) fn renew(order: &mut Order, table: &mut SlotTable, window: u8, id: u8) -> u8
+    requires order { AreInOrder order.old }
+    requires tabled { IsTabled table.old order.old }
     requires window { IsWindow window }
     requires id { id < 32 }
-    requires few { deque_len order.old ≤ window }
-    requires room { window ≤ deque_capacity order.old }
-    ensures renewed { IsRenewed window id order.old.items order.new.items result }
-    ensures tabled { IsTabled table.new order.new.items }
-    ensures next { result ≤ deque_len order.old }
-    ensures used { deque_len order.new ≡ max (deque_len order.old) (result + 1) }
-    ensures few { deque_len order.new ≤ window }
-    ensures room { deque_capacity order.new ≡ deque_capacity order.old }
+    requires few { length order.old ≤ window }
+    ensures renewed { IsRenewed window id order.old order.new result }
+    ensures tabled { IsTabled table.new order.new }
+    ensures next { result ≤ length order.old }
+    ensures used { length order.new ≡ max (length order.old) (result + 1) }
+    ensures few { length order.new ≤ window }
 {
     let slot = match table.get(id) {
-        Some(_) => {
-            let place = place_of(order, id).unwrap();
-            take_at(order, place).slot
+        Some(slot) => {
+            order.take(slot);
+            slot
         }
-        None if order.len() < usize::from(window) => order.len() as u8,
+        None if order.len() < window => order.len(),
         None => {
-            let oldest = take_at(order, 0);
+            let oldest = order.oldest();
+            order.take(oldest.slot);
             table.clear(oldest.id);
             oldest.slot
         }
     };
     table.put(id, slot);
-    order.push_back_reserved(Indexed { id, slot });
+    order.push(id, slot);
     slot
 }

@@ -8,13 +8,12 @@ ghost use Rattle.pldm_responder.specs.ResponderStates.{id_in};
 ghost use Rattle.pldm_responder.specs.Recency.{of_number, renewed, replaced};
 
 use crate::kept_answer::KeptAnswer;
-use crate::order::{Indexed, renew};
+use crate::order::{Order, renew};
 use crate::slot_table::SlotTable;
 use crate::slots::Slots;
 use mctp_packet::{Memory, Moment};
 use pldm_wire::Window;
 use std::alloc::Global;
-use std::collections::VecDeque;
 use std::marker::Model;
 
 /// The answers that are kept to one source: one to each of its latest instance IDs, as many as the window allows. The
@@ -24,14 +23,13 @@ pub(crate) struct Row {
     window: Window,
     /// The slot of each instance ID that has one.
     table: SlotTable,
-    /// Which slot each of these instance IDs has, the oldest first: what leaves is mostly the first.
-    order: VecDeque<Indexed>,
+    /// Which slot each of these instance IDs has, the oldest first.
+    order: Order,
     /// The slots.
     slots: Slots,
 }
 
 impl Model for Row {
-    ghost use Rattle.std.specs.VecDeque.{deque_capacity};
     ghost use Rattle.pldm_responder.specs.Orders.{newest_first};
     ghost use Rattle.pldm_responder.specs.Slots.{Answers, coded_answers};
     ghost use Rattle.pldm_responder.specs.SourceAnswers.{AreLatest, kept_by};
@@ -40,10 +38,9 @@ impl Model for Row {
 
     ghost coded = { coded_answers };
 
-    ghost view = { λ r. record { window = r.window; kept = kept_by r.slots.entries (newest_first r.order.items) } };
+    ghost view = { λ r. record { window = r.window; kept = kept_by r.slots.entries (newest_first r.order) } };
 
-    ghost invariant = { λ r.
-        AreLatest r.window r.table r.slots.entries r.order.items (deque_capacity r.order) r.slots.room };
+    ghost invariant = { λ r. AreLatest r.window r.table r.slots.entries r.order r.slots.room };
 }
 
 impl Row {
@@ -53,13 +50,11 @@ impl Row {
     pub(crate) fn new(alloc: Global, window: Window) -> Result<Row, Memory>
         ensures { IfOk result (λ row. row ≡ record { window = window; kept = [] }) }
     {
-        let count = usize::from(window.get());
-        let order = VecDeque::with_capacity(alloc, count)?;
-        let slots = Slots::new(alloc, count)?;
+        let slots = Slots::new(alloc, usize::from(window.get()))?;
         Ok(Row {
             window,
             table: SlotTable::new(),
-            order,
+            order: Order::new(),
             slots,
         })
     }
@@ -118,6 +113,6 @@ impl Row {
         ensures value { result ≡ length self.now.kept }
         ensures few { result ≤ ids }
     {
-        self.order.len()
+        usize::from(self.order.len())
     }
 }

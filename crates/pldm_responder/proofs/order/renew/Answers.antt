@@ -1,115 +1,65 @@
-use Rattle.std.proofs.Common.{◌≡◌, ◌+◌, ◌<◌, max, length-append, ◌≤◌, length, ◌==◌, ap, sym, ◌∙◌, subst, arith}
-use Rattle.std.specs.List.{remove}
-use Rattle.std.specs.Prelude.{IsSome, slice_set, Some}
-use Rattle.std.proofs.lemmas.List.Quantifiers.{position-Some}
-use Rattle.pldm_responder.specs.Orders.{IsRenewed, IsTabled}
-use Rattle.pldm_responder.specs.declared.order.Indexed.{Indexed}
-use Rattle.pldm_responder.proofs.SlotOrders.{low_slot, length_removed, own_is, next_is, oldest_is, none_in_table, some_in_table, own_table, next_table, oldest_table}
+use Rattle.std.proofs.Common.{◌≡◌, ◌<◌, ◌+◌, max, Some, length, length-append, ap, sym, ◌∙◌, arith}
+use Rattle.pldm_responder.specs.Orders.{id_of, slot_in}
+use Rattle.pldm_responder.specs.Recency.{without}
+use Rattle.pldm_responder.proofs.SlotOrders.{Choice, IsChosen, chosen, has_other, none_in_table, renewed_by, some_in_table, tabled_by}
+use Rattle.pldm_responder.proofs.SlotOrders.Choice.{own, next, oldest}
 use Rattle.pldm_responder.proofs.order.renew.Goals as goal
 use Rattle.pldm_responder.proofs.order.renew.Goals.{in-Some, in-None, in-None-2}
 
-pub unwrap-place-requires : goal.unwrap-place-requires
-unwrap-place-requires c =
-    subst IsSome (sym c.place_of.ensures)
-    (some_in_table c.args.table.now c.args.order.now.items c.requires.tabled.table c.args.id c.requires.id c.in-Some.field-0
-    (sym c.get.ensures ∙ c.in-Some.is))
+pub take-requires : goal.take-requires
+take-requires c =
+    let owns = some_in_table c.args.table.now c.args.order.now c.requires.tabled.table c.args.id c.requires.id c.in-Some.slot (sym c.in-Some.ensures) in
+    has_other id_of slot_in c.args.id c.in-Some.slot c.args.order.now owns.entry owns.found owns.same
+
+choice : (c : goal.After-put-arg-1) → Choice c.args.window c.args.id c.args.order.now c.args.table.now c.match-get.order c.match-get.table c.match-get.slot
+choice c =
+    let old = c.args.order.now in
+    let table = c.args.table.now in
+    elim c.match-get.branch [
+      | in-Some w ↦
+          let owns = some_in_table table old c.requires.tabled.table c.args.id c.requires.id c.match-get.slot (sym w.in-Some.ensures ∙ ap Some (sym w.slot-is)) in
+          own owns (w.order-is ∙ w.take.ensures ∙ ap (λ s. without slot_in s old) (sym w.slot-is)) w.table-is
+      | in-None w ↦
+          let none = none_in_table table old c.requires.tabled.table c.args.id c.requires.id (sym w.in-None.ensures) in
+          next (omega (arith, w.if-len-window.true, w.len.ensures)) none (w.slot-is ∙ w.len-slot.ensures) w.order-is w.table-is
+      | in-None-2 w ↦
+          let none = none_in_table table old c.requires.tabled.table c.args.id c.requires.id (sym w.in-None.ensures) in
+          oldest (omega (arith, w.if-len-window.false, w.len.ensures)) none w.oldest-oldest.result w.oldest-oldest.ensures w.slot-is (w.order-is ∙ w.take-in-None-2.ensures) (w.table-is ∙ w.clear.ensures)
+    ]
+
+is_chosen : (c : goal.After-put-arg-1) → IsChosen c.args.window c.args.order.now c.match-get.order c.match-get.slot
+is_chosen c = chosen c.args.window c.args.id c.args.order.now c.args.table.now c.requires.order c.requires.window.0 c.requires.few c.match-get.order c.match-get.table c.match-get.slot (choice c)
+
+low : (c : goal.After-put-arg-1) → c.match-get.slot < 32
+low c = omega (arith, (is_chosen c).within, c.requires.window.1)
 
 pub put-requires-clause-slot : goal.put-requires-clause-slot
-put-requires-clause-slot c =
-    let old = c.args.order.now in
-    let long = old.ok.0 in
-    let few : length old.items ≤ 32 = omega (arith, c.requires.few, c.requires.window.1, long) in
-    elim c.match-get.branch [
-      | in-Some w ↦
-          let at = position-Some (λ (x : Indexed). x.id == c.args.id) old.items w.unwrap-place.result w.take_at.result (sym w.place_of.ensures ∙ w.unwrap-place.ensures) in
-          low_slot 32 old.items c.requires.order.below few w.unwrap-place.result w.take_at.result c.match-get.slot at.0 w.take_at.ensures.value w.slot-is
-      | in-None w ↦ omega (arith, w.if-len-from.true, w.from.ensures, w.len.ensures, w.slot-is, w.len-in-None.ensures, c.requires.window.1, long)
-      | in-None-2 w ↦
-          low_slot 32 old.items c.requires.order.below few 0 w.take_at-oldest.result c.match-get.slot
-          (omega (arith, w.if-len-from.false, w.from.ensures, w.len.ensures, long, c.requires.window.0)) w.take_at-oldest.ensures.value w.slot-is
-    ]
+put-requires-clause-slot c = low c
 
-renewed_is : (c : goal.After-push_back_reserved) → IsRenewed c.args.window c.args.id c.args.order.now.items c.push_back_reserved.new.self.items c.match-get.slot
-renewed_is c =
-    let old = c.args.order.now in
-    let long = old.ok.0 in
-    let few : length old.items ≤ c.args.window = omega (arith, c.requires.few, long) in
-    elim c.match-get.branch [
-      | in-Some w ↦
-          own_is c.args.window c.args.id old.items c.match-get.order.items c.push_back_reserved.new.self.items c.match-get.slot c.requires.order few c.push_back_reserved.ensures.items
-          w.unwrap-place.result w.take_at.result (sym w.place_of.ensures ∙ w.unwrap-place.ensures) w.take_at.ensures.value w.slot-is (ap (λ v. v.items) w.order-is ∙ w.take_at.ensures.items)
-      | in-None w ↦
-          next_is c.args.window c.args.id old.items c.match-get.order.items c.push_back_reserved.new.self.items c.match-get.slot c.requires.order few c.push_back_reserved.ensures.items
-          (omega (arith, w.if-len-from.true, w.from.ensures, w.len.ensures, long))
-          (none_in_table c.args.table.now old.items c.requires.tabled.table c.args.id c.requires.id (sym c.get.ensures ∙ w.in-None.is))
-          (w.slot-is ∙ w.len-in-None.ensures ∙ omega (arith, long)) (ap (λ v. v.items) w.order-is)
-      | in-None-2 w ↦
-          oldest_is c.args.window c.args.id old.items c.match-get.order.items c.push_back_reserved.new.self.items c.match-get.slot c.requires.order few c.push_back_reserved.ensures.items
-          c.requires.window.0 (omega (arith, w.if-len-from.false, w.from.ensures, w.len.ensures, long)) w.take_at-oldest.result
-          (none_in_table c.args.table.now old.items c.requires.tabled.table c.args.id c.requires.id (sym c.get.ensures ∙ w.in-None.is))
-          w.take_at-oldest.ensures.value w.slot-is (ap (λ v. v.items) w.order-is ∙ w.take_at-oldest.ensures.items)
-    ]
+pub push-requires-clause-slot : goal.push-requires-clause-slot
+push-requires-clause-slot c = low c.before.before
 
-tabled : (c : goal.After-push_back_reserved) → IsTabled c.put.new.self c.push_back_reserved.new.self.items
-tabled c =
-    let old = c.args.order.now in
-    let long = old.ok.0 in
-    let id = c.args.id in
-    let slot = c.match-get.slot in
-    let order = c.match-get.order.items in
-    let new = c.push_back_reserved.new.self.items in
-    let later = c.put.new.self in
-    elim c.match-get.branch [
-      | in-Some w ↦
-          own_table c.args.table.now old.items c.requires.tabled.table c.requires.tabled.small c.requires.order id slot c.requires.id order new later c.push_back_reserved.ensures.items
-          w.unwrap-place.result w.take_at.result (sym w.place_of.ensures ∙ w.unwrap-place.ensures) (ap (λ v. v.items) w.order-is ∙ w.take_at.ensures.items)
-          (c.put.ensures ∙ ap (λ t. slice_set t id (Some slot)) w.table-is)
-      | in-None w ↦
-          next_table c.args.table.now old.items c.requires.tabled.table c.requires.tabled.small c.requires.order id slot c.requires.id order new later c.push_back_reserved.ensures.items
-          (none_in_table c.args.table.now old.items c.requires.tabled.table id c.requires.id (sym c.get.ensures ∙ w.in-None.is))
-          (ap (λ v. v.items) w.order-is)
-          (c.put.ensures ∙ ap (λ t. slice_set t id (Some slot)) w.table-is)
-      | in-None-2 w ↦
-          oldest_table c.args.table.now old.items c.requires.tabled.table c.requires.tabled.small c.requires.order id slot c.requires.id order new later c.push_back_reserved.ensures.items
-          (omega (arith, w.if-len-from.false, w.from.ensures, w.len.ensures, long, c.requires.window.0)) w.take_at-oldest.result w.take_at-oldest.ensures.value
-          (none_in_table c.args.table.now old.items c.requires.tabled.table id c.requires.id (sym c.get.ensures ∙ w.in-None.is))
-          (ap (λ v. v.items) w.order-is ∙ w.take_at-oldest.ensures.items)
-          (c.put.ensures ∙ ap (λ t. slice_set t id (Some slot)) (w.table-is ∙ w.clear.ensures))
-    ]
+pub push-requires-clause-fresh : goal.push-requires-clause-fresh
+push-requires-clause-fresh c = (is_chosen c.before.before).fresh
 
 pub returns-clause-renewed : goal.returns-clause-renewed
-returns-clause-renewed c = renewed_is c
+returns-clause-renewed c =
+    renewed_by c.args.window c.args.id c.args.order.now c.args.table.now c.requires.order c.requires.window.0 c.requires.few c.match-get.order c.match-get.table c.match-get.slot c.push.new.self c.push.ensures
+    (choice c.before.before.before)
 
 pub returns-clause-tabled : goal.returns-clause-tabled
-returns-clause-tabled c = tabled c
-
-lengths : (c : goal.After-push_back_reserved) → (c.match-get.slot ≤ length c.args.order.now.items) × (length c.push_back_reserved.new.self.items ≡ max (length c.args.order.now.items) (c.match-get.slot + 1))
-lengths c =
-    let old = c.args.order.now in
-    let long = old.ok.0 in
-    let pushed : length c.push_back_reserved.new.self.items ≡ length c.match-get.order.items + 1 =
-    ap length c.push_back_reserved.ensures.items ∙ length-append c.match-get.order.items _ in
-    elim c.match-get.branch [
-      | in-Some w ↦
-          let at = position-Some (λ (x : Indexed). x.id == c.args.id) old.items w.unwrap-place.result w.take_at.result (sym w.place_of.ensures ∙ w.unwrap-place.ensures) in
-          let low : c.match-get.slot < length old.items = low_slot (length old.items) old.items c.requires.order.below (omega arith) w.unwrap-place.result w.take_at.result c.match-get.slot at.0 w.take_at.ensures.value w.slot-is in
-          let left : length c.match-get.order.items ≡ length (remove old.items w.unwrap-place.result) = ap (λ v. length v.items) w.order-is ∙ ap length w.take_at.ensures.items in
-          let short = length_removed old.items w.unwrap-place.result at.0 in
-          (omega arith, omega (arith, pushed, left, short, low))
-      | in-None w ↦
-          let left : length c.match-get.order.items ≡ length old.items = ap (λ v. length v.items) w.order-is in
-          let next : c.match-get.slot ≡ length old.items = w.slot-is ∙ w.len-in-None.ensures ∙ omega (arith, long) in
-          (omega arith, omega (arith, pushed, left, next))
-      | in-None-2 w ↦
-          let some : 0 < length old.items = omega (arith, w.if-len-from.false, w.from.ensures, w.len.ensures, long, c.requires.window.0) in
-          let low : c.match-get.slot < length old.items = low_slot (length old.items) old.items c.requires.order.below (omega arith) 0 w.take_at-oldest.result c.match-get.slot some w.take_at-oldest.ensures.value w.slot-is in
-          let left : length c.match-get.order.items ≡ length (remove old.items 0) = ap (λ v. length v.items) w.order-is ∙ ap length w.take_at-oldest.ensures.items in
-          let short = length_removed old.items 0 some in
-          (omega arith, omega (arith, pushed, left, short, low))
-    ]
+returns-clause-tabled c =
+    tabled_by c.args.window c.args.id c.args.order.now c.args.table.now c.requires.order c.requires.window.0 c.requires.few c.match-get.order c.match-get.table c.match-get.slot c.push.new.self c.push.ensures
+    c.requires.tabled c.requires.id c.put.new.self c.put.ensures (choice c.before.before.before)
 
 pub returns-clause-next : goal.returns-clause-next
-returns-clause-next c = omega (arith, (lengths c).0, c.args.order.now.ok.0)
+returns-clause-next c = (is_chosen c.before.before.before).reached
+
+used : (c : goal.After-push) → length c.push.new.self ≡ max (length c.args.order.now) (c.match-get.slot + 1)
+used c = ap length c.push.ensures ∙ length-append c.match-get.order _ ∙ (is_chosen c.before.before.before).used
 
 pub returns-clause-used : goal.returns-clause-used
-returns-clause-used c = omega (arith, (lengths c).1, c.args.order.now.ok.0, c.push_back_reserved.new.self.ok.0)
+returns-clause-used c = used c
+
+pub returns-clause-few : goal.returns-clause-few
+returns-clause-few c = omega (arith, used c, (is_chosen c.before.before.before).within, c.requires.few)

@@ -1,6 +1,4 @@
-use Rattle.std.proofs.Common.{◌≡◌, ◌≤◌, ◌+◌, ℕ, max, List, Option, Global, length, length-append, arith, ap, sym, ◌∙◌, subst, take}
-use Rattle.std.specs.declared.collections.VecDeque.{VecDeque}
-use Rattle.std.specs.VecDeque.{deque_capacity}
+use Rattle.std.proofs.Common.{◌≡◌, ◌≤◌, ◌+◌, ℕ, max, List, Option, length, length-append, arith, ap, sym, ◌∙◌, subst, take}
 use Rattle.pldm_responder.specs.ResponderStates.{Entry, id_in}
 use Rattle.pldm_responder.specs.Orders.{id_of, newest_first}
 use Rattle.pldm_responder.specs.declared.order.Indexed.{Indexed}
@@ -34,7 +32,7 @@ ready c =
       }
       | else-slot-len w ↦ record {
         reached = no_more_slots slots.entries c.if-slot-len.self-inside.slots.entries c.from-slot.result
-            (omega (arith, w.if-slot-len.false, c.len.ensures, c.from-slot.ensures, c.renew.ensures.next, c.self.inside.order.ok.0, c.self.invariant.used))
+            (omega (arith, w.if-slot-len.false, c.len.ensures, c.from-slot.ensures, c.renew.ensures.next, c.self.invariant.used))
             (ap (λ (inside : Inside). inside.slots.entries) w.self-inside-is);
         rooms = ap (λ (inside : Inside). inside.slots.room) w.self-inside-is;
         window = ap (λ (inside : Inside). inside.window) w.self-inside-is;
@@ -48,17 +46,17 @@ module _ (c : goal.After-fill) where
   abbrev entry : Entry
   entry = record { moment = c.args.moment; bytes = c.args.bytes.now; answer = c.args.answer.now }
 
-  few : length c.renew.new.order.items ≤ c.self.inside.window
-  few = omega (arith, c.renew.ensures.few, c.get-window.ensures.value, c.renew.new.order.ok.0)
+  few : length c.renew.new.order ≤ c.self.inside.window
+  few = omega (arith, c.renew.ensures.few, c.get-window.ensures.value)
 
-  used : length c.renew.new.order.items ≡ max (length c.self.inside.order.items) (c.from-slot.result + 1)
-  used = omega (arith, c.renew.ensures.used, c.from-slot.ensures, c.renew.new.order.ok.0, c.self.inside.order.ok.0)
+  used : length c.renew.new.order ≡ max (length c.self.inside.order) (c.from-slot.result + 1)
+  used = omega (arith, c.renew.ensures.used, c.from-slot.ensures)
 
-  front : newest_first c.renew.new.order.items
-      ≡ take c.self.inside.window (renewed id_of (record { id = c.args.id; slot = c.from-slot.result }) (newest_first c.self.inside.order.items))
+  front : newest_first c.renew.new.order
+      ≡ take c.self.inside.window (renewed id_of (record { id = c.args.id; slot = c.from-slot.result }) (newest_first c.self.inside.order))
   front =
       c.renew.ensures.renewed.order
-      ∙ (λ i. take (c.get-window.ensures.value i) (renewed id_of (record { id = c.args.id; slot = sym c.from-slot.ensures i }) (newest_first c.self.inside.order.items)))
+      ∙ (λ i. take (c.get-window.ensures.value i) (renewed id_of (record { id = c.args.id; slot = sym c.from-slot.ensures i }) (newest_first c.self.inside.order)))
 
 pub add-requires : goal.add-requires
 add-requires c = record {
@@ -74,7 +72,7 @@ fill-requires-clause-there c =
           omega (arith, is, w.if-slot-len.true, c.len.ensures)
       | else-slot-len w ↦
           let is = ap (λ (inside : Inside). length inside.slots.entries) w.self-inside-is in
-          omega (arith, is, w.if-slot-len.false, c.len.ensures, c.from-slot.ensures, c.renew.ensures.next, c.self.inside.order.ok.0, c.self.invariant.used)
+          omega (arith, is, w.if-slot-len.false, c.len.ensures, c.from-slot.ensures, c.renew.ensures.next, c.self.invariant.used)
     ]
 
 pub invariant_of-self : goal.invariant_of-self
@@ -82,10 +80,10 @@ invariant_of-self c =
     let inside = c.self.inside in
     let now = c.if-slot-len.self-inside in
     let is = ready c in
-    let latest = still_latest inside.window inside.table inside.slots.entries inside.order.items (deque_capacity inside.order) inside.slots.room c.self.invariant c.args.id c.from-slot.result
-    c.renew.new.order.items now.slots.entries (entry c) c.renew.ensures.renewed.still (few c) (front c) (used c) is.reached c.requires.id
-    c.renew.new.table (deque_capacity c.renew.new.order) now.slots.room c.renew.ensures.tabled.table c.renew.ensures.tabled.small c.renew.ensures.room is.rooms in
-    subst (λ (parts : ℕ × (List (Option ℕ) × (VecDeque Indexed Global × Stored))). AreLatest parts.0 parts.1.0 parts.1.1.1.entries parts.1.1.0.items (deque_capacity parts.1.1.0) parts.1.1.1.room)
+    let latest = still_latest inside.window inside.table inside.slots.entries inside.order inside.slots.room c.self.invariant c.args.id c.from-slot.result
+    c.renew.new.order now.slots.entries (entry c) c.renew.ensures.renewed.still (few c) (front c) (used c) is.reached c.requires.id
+    c.renew.new.table now.slots.room c.renew.ensures.tabled.table c.renew.ensures.tabled.small is.rooms in
+    subst (λ (parts : ℕ × (List (Option ℕ) × (List Indexed × Stored))). AreLatest parts.0 parts.1.0 parts.1.1.1.entries parts.1.1.0 parts.1.1.1.room)
     (λ i. (sym is.window i, (sym is.table i, (sym is.order i, record { room = sym c.fill.ensures.room i; entries = sym c.fill.ensures.entries i })))) latest
 
 pub returns : goal.returns
@@ -93,8 +91,8 @@ returns c =
     let inside = c.self.inside in
     let now = c.if-slot-len.self-inside in
     let is = ready c in
-    let kept = kept_in_front inside.window inside.table inside.slots.entries inside.order.items (deque_capacity inside.order) inside.slots.room c.self.invariant c.args.id c.from-slot.result
-    c.renew.new.order.items now.slots.entries (entry c) c.renew.ensures.renewed.still (few c) (front c) (used c) is.reached c.requires.id in
-    (λ i. record { window = is.window i; kept = kept_by (c.fill.ensures.entries i) (newest_first (is.order i).items) })
+    let kept = kept_in_front inside.window inside.table inside.slots.entries inside.order inside.slots.room c.self.invariant c.args.id c.from-slot.result
+    c.renew.new.order now.slots.entries (entry c) c.renew.ensures.renewed.still (few c) (front c) (used c) is.reached c.requires.id in
+    (λ i. record { window = is.window i; kept = kept_by (c.fill.ensures.entries i) (newest_first (is.order i)) })
     ∙ ap (λ entries. record { window = inside.window; kept = entries }) kept
     ∙ (λ i. record { window = (c.self.view_is i).window; kept = take (c.self.view_is i).window (renewed id_in (entry c) (c.self.view_is i).kept) })
