@@ -25,6 +25,8 @@ use std::marker::Model;
 pub(crate) struct Messages {
     alloc: Global,
     list: Vec<Buffer>,
+    /// Where the message stood whose last packet came last. It is looked at first: mostly it is the next that ends.
+    latest: usize,
     /// The room of a message that has ended, for the next one that begins.
     spare: Option<Box<Body>>,
 }
@@ -49,6 +51,7 @@ impl Messages {
         Messages {
             alloc,
             list: Vec::new(alloc),
+            latest: 0,
             spare: None,
         }
     }
@@ -59,6 +62,9 @@ impl Messages {
         ensures found { IfOk result (IsAt none_open self.now number) }
         ensures absent { IfErr result (IsGapFor none_open self.now number) }
     {
+        if stands_at(&self.list, self.latest, number) {
+            return Ok(self.latest);
+        }
         self.list
             .binary_search_by_key(&number, |buffer| buffer.number())
     }
@@ -152,6 +158,7 @@ impl Messages {
     {
         match self.search(number) {
             Ok(place) => {
+                self.latest = place;
                 let given = self.list[place].look_into(packet, message);
                 if let Assembled::Dropped(_) = given {
                     end_at(&mut self.list, &mut self.spare, place);
@@ -170,6 +177,17 @@ impl Messages {
         if let Ok(place) = self.search(number) {
             end_at(&mut self.list, &mut self.spare, place);
         }
+    }
+}
+
+/// Whether the message under this number stands at a place.
+#[inline(always)]
+fn stands_at(list: &[Buffer], place: usize, number: u16) -> bool
+    ensures { result ≡ true → IsAt none_open list.now number place }
+{
+    match list.get(place) {
+        Some(buffer) => buffer.number() == number,
+        None => false,
     }
 }
 

@@ -71,6 +71,9 @@ pub(crate) struct KeptAnswers {
     /// Where the row stood that was looked for last. It is looked at first: many packets come from the source of the one
     /// before, and a request looks for its row three times more.
     latest: usize,
+    /// How many rows there are for each endpoint ID between the first and the last source, in 65,536ths. So a row is
+    /// guessed without a division.
+    spread: u32,
 }
 
 impl Model for KeptAnswers {
@@ -114,6 +117,7 @@ impl KeptAnswers {
             window,
             rows: Vec::new(alloc),
             latest: 0,
+            spread: 0,
         }
     }
 
@@ -143,7 +147,7 @@ impl KeptAnswers {
         if stands_at(&self.rows, self.latest, source) {
             return Ok(self.latest);
         }
-        let place = even_place(&self.rows, source);
+        let place = even_place(&self.rows, self.spread, source);
         if stands_at(&self.rows, place, source) {
             return Ok(place);
         }
@@ -214,6 +218,7 @@ impl KeptAnswers {
         };
         if let Err(place) = self.search(source) {
             insert_reserved(&mut self.rows, place, (source.get(), row));
+            self.spread = spread_of(&self.rows);
         }
     }
 
@@ -296,14 +301,23 @@ fn stands_at(rows: &[(u8, Place)], place: usize, source: u8) -> bool
 }
 
 /// Where the row of a source stands if the sources that have one are spread evenly, as where each endpoint has one.
-// Not inlined: it is seldom run, in a function that runs for each request.
+#[inline(always)]
+fn even_place(rows: &[(u8, Place)], spread: u32, source: u8) -> usize {
+    let Some((first, _)) = rows.first() else {
+        return 0;
+    };
+    let below = u32::from(source.saturating_sub(*first));
+    (below.wrapping_mul(spread) >> 16) as usize
+}
+
+/// How many rows there are for each endpoint ID between the first and the last source, in 65,536ths.
+// Not inlined: it runs once for each source, in a function that runs for each request.
 #[inline(never)]
-fn even_place(rows: &[(u8, Place)], source: u8) -> usize {
+fn spread_of(rows: &[(u8, Place)]) -> u32 {
     match rows {
         [(first, _), .., (last, _)] if first < last => {
-            let below = u32::from(source.saturating_sub(*first));
             let places = rows.len().min(OTHER_ENDPOINTS) as u32;
-            (below * (places - 1) / u32::from(*last - *first)) as usize
+            ((places - 1) * 65_536).div_ceil(u32::from(*last - *first))
         }
         _ => 0,
     }

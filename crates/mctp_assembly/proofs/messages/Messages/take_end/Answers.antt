@@ -1,5 +1,7 @@
 use Rattle.std.proofs.Common.{refl, sym, subst}
-use Rattle.mctp_assembly.specs.NumberLists.{IsAt}
+use Rattle.mctp_packet.specs.declared.TheConstants.{MAX_PACKETS}
+use Rattle.mctp_assembly.specs.NumberLists.{Changes, IsAt, at}
+use Rattle.mctp_assembly.specs.Steps.{answer_to, left_by}
 use Rattle.mctp_assembly.specs.Numbered.{none_open, AreOpen, Numbered}
 use Rattle.mctp_assembly.proofs.NumberPlaces.{none_in_gap}
 use Rattle.mctp_assembly.proofs.OpenPlaces.{few, open_removed}
@@ -30,9 +32,11 @@ pub returns-in_default : goal.returns-in_default
 returns-in_default c = record {
   fed = fed_here c.self.inside.list.items c.args.self.now c.self.view_is c.self.invariant.rises c.args.number c.in-Ok.place c.in-Ok.ensures.found
       c.index.result.now c.index.ensures c.index.result.now refl c.args.packet.now c.look_into-given.result c.look_into-given.new.message.items c.look_into-given.ensures;
-  left = kept_here c.self.inside.list.items c.args.self.now c.self.view_is c.self.invariant.rises c.args.number c.in-Ok.place c.in-Ok.ensures.found
+  left = subst (λ (new : Numbered). Changes c.args.self.now new c.args.number
+      (left_by (answer_to MAX_PACKETS (at c.args.self.now c.args.number) c.args.packet.now) (at c.args.self.now c.args.number) c.args.packet.now)) (sym c.self.view_is)
+      (kept_here c.self.inside.list.items c.args.self.now c.self.view_is c.self.invariant.rises c.args.number c.in-Ok.place c.in-Ok.ensures.found
       c.index.result.now c.index.ensures c.index.result.now refl c.args.packet.now c.look_into-given.result c.look_into-given.new.message.items c.look_into-given.ensures
-      c.requires c.in_default.not-Dropped;
+      c.requires c.in_default.not-Dropped);
 }
 
 pub returns-in-Err-clause-fed : goal.returns-in-Err-clause-fed

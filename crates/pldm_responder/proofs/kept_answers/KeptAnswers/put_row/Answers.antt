@@ -9,7 +9,7 @@ use Rattle.pldm_responder.specs.Slots.{AreKept, Rows, no_answers, row_of}
 use Rattle.pldm_responder.proofs.KeptRows.{added, added_kept, added_row, added_some, has_row_already}
 use Rattle.pldm_responder.proofs.kept_answers.KeptAnswers.put_row.Goals as goal
 
-module _ (c : goal.After-insert_reserved) where
+module _ (c : goal.After-self-1) where
   abbrev inside : Rows
   inside = record { window = c.self.inside.window; places = vec_capacity c.self.inside.rows; list = c.self.inside.rows.items }
 
