@@ -84,7 +84,7 @@ enum { SMALL_MOST = 3800, OPEN_MESSAGE = 400 };
 
 /* What docs/C.md says. */
 static size_t bound_of(const struct load *load) {
-    return 256 + load->sources * (700 * load->window + 140) + OPEN_MESSAGE * load->open_messages + 420 * load->commands;
+    return 256 + load->sources * (700 * load->window + 200) + OPEN_MESSAGE * load->open_messages + 420 * load->commands;
 }
 
 /* Each source sends a request with each instance ID, which is refused by its code and kept. */
