@@ -43,6 +43,8 @@ impl Model for Place {
 
 impl Place {
     /// A row of no answers.
+    // Not inlined: it runs once for each source, in a function that runs for each request.
+    #[inline(never)]
     fn new(alloc: Global, window: Window) -> Result<Place, Memory>
         ensures { IfOk result (λ place. place ≡ record { window = window; kept = [] }) }
     {

@@ -45,8 +45,8 @@ impl Model for Row {
 
 impl Row {
     /// No answers, and the room for all that will ever be kept.
-    // Not inlined: it runs once for each source, in a function that runs for each request.
-    #[inline(never)]
+    // Inlined: it is then made where it is put into its place, and not moved there through the stack.
+    #[inline(always)]
     pub(crate) fn new(alloc: Global, window: Window) -> Result<Row, Memory>
         ensures { IfOk result (λ row. row ≡ record { window = window; kept = [] }) }
     {
