@@ -168,11 +168,12 @@ impl BusEndpoint {
         let Some(reason) = dropped_for(&step) else {
             return Ok(BusStep::Pldm(step));
         };
-        Ok(self.take_drop(now, reason, bytes, step))
+        self.take_drop(now, reason, bytes, step)
     }
 
     /// Takes a packet that the endpoint dropped for this reason, with what became of it there. The control responder
-    /// may answer it; the endpoint then has the same endpoint ID as the control responder.
+    /// may answer it; the endpoint then has the same endpoint ID as the control responder. It is always `Ok`, the result
+    /// of its caller, through whose stack it is then not moved.
     // Not inlined: the stack that the answer to a control message needs is then not in use while the endpoint takes a
     // packet.
     #[inline(never)]
@@ -182,18 +183,19 @@ impl BusEndpoint {
         reason: Reason,
         packet: &[u8],
         step: MessageStep,
-    ) -> BusStep
+    ) -> Result<BusStep, ReceiveRefusal>
         requires { (held_in self.old.endpoint).last ≤ now }
-        ensures step { (reply : List ℕ) → IsStep reply (stepping reply step)
-            (control_answer self.old.control now (Some reason) packet.now) result }
-        ensures some { (reply : List ℕ) → StepHasReply reply step → BusStepHasReply reply result }
+        ensures taken { IsOk result }
+        ensures step { (reply : List ℕ) → IfOk result (IsStep reply (stepping reply step)
+            (control_answer self.old.control now (Some reason) packet.now)) }
+        ensures some { (reply : List ℕ) → StepHasReply reply step → IfOk result (BusStepHasReply reply) }
         ensures control { self.new.control ≡ control_after self.old.control now (Some reason) packet.now }
         ensures in_step { IsInStep self.old.endpoint now (eid_in self.new.control) self.new.endpoint }
     {
         let answer = answer_drop(&mut self.control, now, reason, packet);
         let eid = eid_in(&self.control);
         keep_in_step(&mut self.endpoint, now, eid);
-        answered(answer, step)
+        Ok(answered(answer, step))
     }
 
     /// Takes the device's answer as [`Endpoint::answer_message`] does.
