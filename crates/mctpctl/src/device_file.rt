@@ -27,6 +27,6 @@ pub fn read_served(alloc: Global, text: &[u8]) -> Result<(Description, ControlTa
     let description = read_description(alloc, text)?;
     match ControlTable::read_or_refusal(alloc, text) {
         Ok(table) => Ok((description, table)),
-        Err(refusal) => Err(EngineFault::Device(DescriptionFault::new(refusal)?)),
+        Err(refusal) => Err(EngineFault::Device(DescriptionFault::new(alloc, refusal)?)),
     }
 }

@@ -95,6 +95,6 @@ pub fn read_description(alloc: Global, text: &[u8]) -> Result<Description, Engin
     }
     match Description::read_or_refusal(alloc, text) {
         Ok(description) => Ok(description),
-        Err(refusal) => Err(EngineFault::Device(DescriptionFault::new(refusal)?)),
+        Err(refusal) => Err(EngineFault::Device(DescriptionFault::new(alloc, refusal)?)),
     }
 }

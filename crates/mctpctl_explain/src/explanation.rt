@@ -40,11 +40,10 @@ pub fn explain(
 {
     match fault {
         EngineFault::Read | EngineFault::Write | EngineFault::Memory(_) => Ok(String::new(alloc)),
-        EngineFault::Device(fault) => explain_description(
-            alloc,
-            description_in(input),
-            fault.refusal(),
-        ),
+        EngineFault::Device(fault) => match fault.refusal() {
+            Some(refusal) => explain_description(alloc, description_in(input), refusal),
+            None => Ok(String::new(alloc)),
+        },
         EngineFault::NoDivider => no_divider(alloc, subject),
         EngineFault::Line(number, kind) => explain_line(alloc, subject, input, *number, *kind),
         EngineFault::Timing(eid, fault) => explain_requester(alloc, input, *eid, *fault),

@@ -3,7 +3,7 @@
 ghost use Rattle.std.proofs.Common.{rules};
 ghost use Rattle.std.specs.Cmp.Rules.{comparing};
 ghost use Rattle.std.specs.Ordering.{on};
-ghost use Rattle.std.specs.Prelude.{◌≡◌, ◌≢◌, ◌==◌, IfOk, OnErr, Some, string_bytes};
+ghost use Rattle.std.specs.Prelude.{◌≡◌, ◌≢◌, ◌==◌, IfOk, IfSome, OnErr, Some, string_bytes};
 ghost use Rattle.mctp_packet.specs.Memories.{out_of_memory};
 ghost use Rattle.mctpctl_input.specs.FaultNumbers.{number_of_engine_fault, number_of_line_kind};
 ghost use Rattle.mctpctl_input.specs.FaultTexts.{fault_text, name_of_line_kind, name_of_timing_fault};
@@ -64,35 +64,75 @@ impl LineKind {
     }
 }
 
+/// What a refusal says, in a place of its own: each line of an input has a result, which is small so.
+#[derive(Debug, Drop)]
+struct Place {
+    refusal: Box<Refusal>,
+}
+
+impl Model for Place {
+    ghost use Rattle.std.specs.Prelude.{box_value};
+    ghost use Rattle.pldm_device.specs.declared.description_fault.FileFault.{FileFault};
+
+    ghost Value = { FileFault };
+
+    ghost view = { λ place. box_value place.refusal };
+}
+
+impl Place {
+    /// A place of its own for this refusal, where there is memory for it.
+    fn of(alloc: Global, refusal: Refusal) -> Option<Place>
+        ensures { IfSome result (λ place. place ≡ refusal) }
+    {
+        match Box::new(alloc, refusal) {
+            Ok(refusal) => Some(Place { refusal }),
+            Err(_) => None,
+        }
+    }
+
+    /// The refusal.
+    fn refusal(&self) -> &Refusal
+        ensures { result.now ≡ self.now }
+    {
+        &self.refusal
+    }
+}
+
 /// Why a device description was refused: for any [`FileFault`] but `Memory`, which is the engine's own. Two of them are
 /// equal where their faults are.
 #[derive(Debug, Drop)]
 pub struct DescriptionFault {
-    refusal: Refusal,
+    fault: FileFault,
+    /// What the refusal says beside its fault; nothing where there was no memory for that.
+    place: Option<Place>,
 }
 
 impl Model for DescriptionFault {
-    ghost use Rattle.std.specs.Prelude.{◌≢◌};
+    ghost use Rattle.std.specs.Prelude.{◌≡◌, ◌≢◌, IfSome};
     ghost use Rattle.pldm_device.specs.declared.description_fault.FileFault.{FileFault};
     ghost use Rattle.mctp_packet.specs.Memories.{out_of_memory};
     ghost use Rattle.pldm_device.specs.declared.description_fault.FileFault.TheVariants as faults;
 
     ghost Value = { FileFault };
 
-    ghost view = { λ fault. fault.refusal };
+    ghost view = { λ fault. fault.fault };
 
-    ghost invariant = { λ fault. fault.refusal ≢ faults.Memory out_of_memory };
+    ghost invariant = { λ fault.
+        (fault.fault ≢ faults.Memory out_of_memory) × IfSome fault.place (λ refusal. refusal ≡ fault.fault) };
 }
 
 impl DescriptionFault {
     /// The fault of a description that was refused; `Memory` where memory ran out.
-    pub fn new(refusal: Refusal) -> Result<DescriptionFault, Memory>
+    pub fn new(alloc: Global, refusal: Refusal) -> Result<DescriptionFault, Memory>
         ensures ok { IfOk result (λ fault. fault ≡ refusal) }
         ensures memory { OnErr result (refusal ≡ FileFault.Memory out_of_memory) }
     {
         match refusal.fault() {
             FileFault::Memory(memory) => Err(memory),
-            _ => Ok(DescriptionFault { refusal }),
+            fault => Ok(DescriptionFault {
+                fault,
+                place: Place::of(alloc, refusal),
+            }),
         }
     }
 
@@ -101,14 +141,18 @@ impl DescriptionFault {
         ensures value { result ≡ self.now }
         ensures no_memory { result ≢ FileFault.Memory out_of_memory }
     {
-        self.refusal.fault()
+        self.fault
     }
 
-    /// The fault with its place in the description, and what is allowed there.
-    pub fn refusal(&self) -> &Refusal
-        ensures { result.now ≡ self.now }
+    /// The fault with its place in the description, and what is allowed there; `None` where there was no memory to
+    /// keep them.
+    pub fn refusal(&self) -> Option<&Refusal>
+        ensures { IfSome result (λ refusal. refusal.now ≡ self.now) }
     {
-        &self.refusal
+        match &self.place {
+            Some(place) => Some(place.refusal()),
+            None => None,
+        }
     }
 }
 
