@@ -244,7 +244,10 @@ fn refused_inputs(rt: HostRuntime) -> Result<(), Fail> {
     assert_eq!(rt; written.len(), 0);
     let text = b"eid = 9\nkeep_ms = 1000\ntid = 255\n%%\n0 010908c801800002\n".as_slice();
     let (result, written) = run(alloc, text)?;
-    let refusal = DescriptionFault::new(alloc, FileFault::OutOfRange.into()).expect(&rt, "a refusal");
+    let refusal = DescriptionFault::new(alloc, FileFault::OutOfRange.into()).expect(
+        &rt,
+        "a refusal",
+    );
     assert_eq!(rt; result, Err(EngineFault::Device(refusal)));
     assert_eq!(rt; written.len(), 0);
     Ok(())

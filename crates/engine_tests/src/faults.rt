@@ -10,7 +10,10 @@ use std::test::Fail;
 #[test]
 fn reports_each_fault(rt: HostRuntime) -> Result<(), Fail> {
     let requester = Eid::new(8).expect(&rt, "an endpoint ID");
-    let refusal = DescriptionFault::new(rt.alloc(), FileFault::OutOfRange.into()).expect(&rt, "a refusal");
+    let refusal = DescriptionFault::new(rt.alloc(), FileFault::OutOfRange.into()).expect(
+        &rt,
+        "a refusal",
+    );
     let rows = [
         (EngineFault::Device(refusal), "device: OutOfRange", 1),
         (EngineFault::NoDivider, "no %% line", 1),

@@ -17,6 +17,7 @@ use crate::{
 use mctp_packet::Body;
 
 /// The command of this number that the data is.
+#[inline(always)]
 pub(crate) fn base_command_in(command: u8, bytes: &[u8]) -> Result<Command, Code>
     ensures { result ≡ base_command_of command bytes.now }
 {

@@ -25,6 +25,8 @@ use crate::{
 /// For these, fewer bytes than up to that statement are ERROR_INVALID_LENGTH, then a data size or a count that is not
 /// valid is ERROR_INVALID_DATA, and then another length than the stated one is ERROR_INVALID_LENGTH (DSP0240, "Generic
 /// PLDM completion codes"; the order is this profile's own).
+// Inlined, as what it calls: a command is then put where it stays, and not moved there.
+#[inline(always)]
 pub fn read_command(request: &RequestRef<'_>) -> Result<Command, Code>
     ensures exact { result ≡ command_of request.now.kind request.now.rest }
     ensures found { IfOk result (λ c. CommandFields c request.now.kind request.now.rest) }
@@ -36,6 +38,7 @@ pub fn read_command(request: &RequestRef<'_>) -> Result<Command, Code>
 
 /// As `read_command`, check by check.
 #[tactic(auto, unfolding(crate::specs::CommandReading::command_of))]
+#[inline(always)]
 fn command_in(kind: Kind, bytes: &[u8]) -> Result<Command, Code>
     ensures { result ≡ command_of kind bytes.now }
 {
@@ -47,6 +50,7 @@ fn command_in(kind: Kind, bytes: &[u8]) -> Result<Command, Code>
 }
 
 /// The command of platform monitoring and control (DSP0248) of this number that the data is.
+#[inline(always)]
 fn platform_command_in(command: u8, bytes: &[u8]) -> Result<Command, Code>
     ensures { result ≡ platform_command_of command bytes.now }
 {
