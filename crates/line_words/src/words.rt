@@ -9,6 +9,8 @@ use crate::numbers::{leading_digits, read_decimal};
 use memchr::memchr;
 
 /// The first line, and what follows its LF; `None` where there is no LF, and all is one line.
+// Inlined: it is called for each line, and its result is then passed on in parts.
+#[inline(always)]
 pub fn split_line(text: &[u8]) -> Option<(&[u8], &[u8])>
     ensures some { IfSome result (λ p. lines_of text.now ≡ p.0.now ∷ lines_of p.1.now) }
     ensures parts { IfSome result (λ p. text.now ≡ p.0.now ++ 10 ∷ p.1.now) }
@@ -51,6 +53,8 @@ pub fn first_word(line: &[u8]) -> Option<(&[u8], &[u8])>
 
 /// The first word of a line as [`first_word`] has it, with the number that it spells, as [`split_number`] reads it,
 /// and what follows the word.
+// Inlined, as `split_number`.
+#[inline(always)]
 pub fn first_number(line: &[u8]) -> Option<(&[u8], Option<u64>, &[u8])>
     ensures some { IfSome result (λ p. said_words line.now ≡ p.0.now ∷ words_of p.2.now) }
     ensures number { IfSome result (λ p. p.1 ≡ decimal_of p.0.now) }

@@ -6,7 +6,7 @@ ghost use Rattle.std.specs.Option.{option_copied, option_map};
 ghost use Rattle.std.specs.List.{All, remove};
 ghost use Rattle.mctp_packet.specs.declared.TheConstants.{MAX_PACKETS};
 ghost use Rattle.mctp_assembly.specs.Fed.{fed_with};
-ghost use Rattle.mctp_assembly.specs.NumberLists.{Changes, IsAt, IsGapFor, Rises, at};
+ghost use Rattle.mctp_assembly.specs.NumberLists.{Changes, IsAt, IsFirstFrom, IsGapFor, Rises, at, number_in};
 ghost use Rattle.mctp_assembly.specs.Numbered.{IsEntry, IsNumber, none_open};
 ghost use Rattle.mctp_assembly.specs.Opened.{IsOpened};
 ghost use Rattle.mctp_assembly.specs.Steps.{answer_to, begun_by, carried_on, left_by};
@@ -20,7 +20,11 @@ use mctp_packet::{Body, Memory, PacketRef};
 use std::alloc::{AllocError, Global};
 use std::marker::Model;
 
-/// The open messages by the numbers of their keys, which rise: a look-up is a binary search.
+/// In a list of at most so many, to look at one after another takes less time than to halve the list: a processor
+/// foresees all of these jumps but the last.
+const FEW: usize = 32;
+
+/// The open messages by the numbers of their keys, which rise: a look-up among many is a binary search.
 #[derive(Debug, Drop)]
 pub(crate) struct Messages {
     alloc: Global,
@@ -65,8 +69,17 @@ impl Messages {
         if stands_at(&self.list, self.latest, number) {
             return Ok(self.latest);
         }
-        self.list
-            .binary_search_by_key(&number, |buffer| buffer.number())
+        if self.len() > FEW {
+            return self
+                .list
+                .binary_search_by_key(&number, |buffer| buffer.number());
+        }
+        let place = first_from(&self.list, number);
+        if stands_at(&self.list, place, number) {
+            Ok(place)
+        } else {
+            Err(place)
+        }
     }
 
     /// What is open under this number.
@@ -183,12 +196,25 @@ impl Messages {
 /// Whether the message under this number stands at a place.
 #[inline(always)]
 fn stands_at(list: &[Buffer], place: usize, number: u16) -> bool
-    ensures { result ≡ true → IsAt none_open list.now number place }
+    ensures yes { result ≡ true → IsAt none_open list.now number place }
+    ensures no { result ≡ false → place < length list.now → number_in none_open list.now place ≢ number }
 {
     match list.get(place) {
         Some(buffer) => buffer.number() == number,
         None => false,
     }
+}
+
+/// Where the first number stands that is not smaller than this one, or the end.
+#[inline(always)]
+fn first_from(list: &[Buffer], number: u16) -> usize
+    ensures { IsFirstFrom none_open list.now number result }
+{
+    let mut place = 0;
+    while place < list.len() && list[place].number() < number {
+        place += 1;
+    }
+    place
 }
 
 /// Room for the bytes of a message: that of a message that has ended, where it was kept, else new room.

@@ -51,7 +51,7 @@ impl<T: Described> DescribedLines<T> {
     }
 
     /// Takes a line as [`LineTaker::take_line`] does: one of the description, the line that divides, or one past that.
-    // Not inlined: a device is on its stack, for which the lines past the description are not to pay.
+    // Not inlined: a description is on its stack, for which the lines past it are not to pay.
     #[inline(never)]
     fn take_early(
         &mut self,
@@ -73,11 +73,22 @@ impl<T: Described> DescribedLines<T> {
         match found {
             Ok(None) => Ok(()),
             Ok(Some(description)) => {
-                *self = DescribedLines::Past(T::begin(alloc, description));
+                self.divide(alloc, description);
                 Ok(())
             }
             Err(fault) => Err(fault),
         }
+    }
+
+    /// Begins what takes the lines after this description.
+    // Not inlined: what begins is on its stack, for which the lines of the description are not to pay.
+    #[inline(never)]
+    fn divide(&mut self, alloc: Global, description: Description)
+        ensures writes { (is_cut : Bool) (lines : List (List ℕ))
+            → described_writes T.written T.writes self.new is_cut lines ≡ T.written description is_cut lines }
+        ensures counted { described_count T.counted self.new ≡ 0 }
+    {
+        *self = DescribedLines::Past(T::begin(alloc, description));
     }
 }
 

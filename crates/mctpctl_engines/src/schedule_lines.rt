@@ -92,6 +92,8 @@ impl LineTaker for ScheduleLines {
     ghost may_keep = { may_keep_any };
 
     /// Reads a line.
+    // Inlined: it runs for each line.
+    #[inline(always)]
     fn take_line(
         &mut self,
         _alloc: Global,

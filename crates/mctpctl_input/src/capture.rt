@@ -52,6 +52,8 @@ impl From<AllocError> for CaptureFault {
 /// faults it tells the first of `LongLine`, `Words`, `Number`, `BackInTime` and `BadHex`; a line that is
 /// too long is refused even where it says nothing.
 #[tactic(auto, unfolding(crate::specs::CaptureLine::capture_of))]
+// Inlined: it is called for each line, and its result is then not moved.
+#[inline(always)]
 pub fn read_capture_line(
     digits: &HexDigits,
     line: &[u8],

@@ -9,18 +9,18 @@ use std::marker::Model;
 /// How many bytes there are.
 const BYTES: usize = 256;
 
-/// The greatest value of a digit.
-const MAX_DIGIT: u8 = 15;
+/// The greatest value of two digits.
+const MAX_BYTE: u16 = 255;
 
-/// What stands at a byte that is no digit.
-const NO_DIGIT: u8 = 255;
+/// What stands at a byte that is no digit: two places of which one has it give more than two digits do.
+const NO_DIGIT: u16 = 256;
 
 /// What the crate `hex` reads of each byte as a digit. A text is read by looking its bytes up, where `hex`
 /// compares each with three ranges.
 #[derive(Drop)]
 pub struct HexDigits {
     /// At the place of each byte its value as a digit, or `NO_DIGIT`.
-    values: [u8; BYTES],
+    values: [u16; BYTES],
 }
 
 impl Model for HexDigits {
@@ -57,25 +57,25 @@ impl HexDigits {
             return false;
         }
         let values = &self.values;
+        let mut greatest = 0;
         for place in 0..bytes.len() {
             let high = values[usize::from(digits[2 * place])];
             let low = values[usize::from(digits[2 * place + 1])];
-            if high > MAX_DIGIT || low > MAX_DIGIT {
-                return false;
-            }
-            bytes[place] = high * 16 + low;
+            let value = high * 16 + low;
+            greatest = greatest.max(value); // asked at the end: no jump depends on a digit
+            bytes[place] = (value % 256) as u8;
         }
-        true
+        greatest <= MAX_BYTE
     }
 }
 
 /// What `hex` reads of a byte as a digit: its value, or `NO_DIGIT`.
-fn value_of(byte: u8) -> u8
+fn value_of(byte: u8) -> u16
     ensures { result ≡ value_or_none (hex_digit_value byte) }
 {
-    let mut value = [NO_DIGIT];
+    let mut value = [0];
     match hex::decode_to_slice([b'0', byte], &mut value) {
-        Ok(()) => value[0],
+        Ok(()) => u16::from(value[0]),
         Err(_) => NO_DIGIT,
     }
 }

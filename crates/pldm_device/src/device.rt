@@ -9,7 +9,7 @@ ghost use Rattle.pldm_device.specs.EffecterAnswers.{number_set, numeric_effecter
 ghost use Rattle.pldm_device.specs.RecordTables.{recorded};
 ghost use Rattle.pldm_device.specs.SensorAnswers.{numeric_sensor_answered, sense, sensed, state_sensor_answered};
 
-use crate::limits::{EFFECTER_ENABLED, NO_EVENTS, RESERVED_TID, SENSOR_ENABLED, UNASSIGNED_TID};
+use crate::limits::{EFFECTER_ENABLED, RESERVED_TID, UNASSIGNED_TID};
 use crate::{NumericEffecter, NumericSensor, StateEffecter};
 use pldm_platform::{
     INVALID_DATA_TRANSFER_HANDLE, INVALID_EFFECTER_ID, INVALID_PLDM_TYPE, INVALID_SENSOR_ID,
@@ -167,16 +167,7 @@ impl SimDevice {
         ensures { given.new ≡ numeric_sensor_answered (with_id sensor self.now.numeric_sensors) }
     {
         match self.numeric_sensors.get(&sensor) {
-            Some(sensor) => {
-                *given = Answer::GetSensorReading {
-                    operational: SENSOR_ENABLED,
-                    sensor_event_message_enable: NO_EVENTS,
-                    present: sensor.present,
-                    previous: sensor.previous,
-                    event: sensor.event,
-                    reading: sensor.reading,
-                }
-            }
+            Some(sensor) => sensor.put_answer(given),
             None => *given = refused(INVALID_SENSOR_ID),
         }
     }

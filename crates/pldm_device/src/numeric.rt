@@ -1,11 +1,13 @@
 //! Numeric sensors and effecters of the simulated device.
 
+ghost use Rattle.std.specs.Prelude.{◌≡◌, Some};
 ghost use Rattle.pldm_platform.specs.Changes.{Changes};
-ghost use Rattle.pldm_device.specs.SensorAnswers.{sense};
+ghost use Rattle.pldm_device.specs.SensorAnswers.{numeric_sensor_answered, sense};
 ghost use Rattle.pldm_device.specs.EffecterAnswers.{set_number};
 
+use crate::limits::{NO_EVENTS, SENSOR_ENABLED};
 use pldm_platform::ReadingFault;
-use pldm_wire::{Code, Number};
+use pldm_wire::{Answer, Code, Number};
 
 /// A numeric sensor: its states, 0 to 10, and its reading with its data size.
 #[derive(Debug, PartialEq, Eq, Drop)]
@@ -21,6 +23,38 @@ pub struct NumericSensor {
 }
 
 impl NumericSensor {
+    /// Puts the answer to GetSensorReading into `given`. In the place of another answer to that command, as where
+    /// sensors are asked one after another, its fields alone are written, and the room of the longest is not cleared.
+    pub(crate) fn put_answer(&self, given: &mut Answer)
+        ensures { given.new ≡ numeric_sensor_answered (Some self.now) }
+    {
+        if let Answer::GetSensorReading {
+            operational,
+            sensor_event_message_enable,
+            present,
+            previous,
+            event,
+            reading,
+        } = given
+        {
+            *operational = SENSOR_ENABLED;
+            *sensor_event_message_enable = NO_EVENTS;
+            *present = self.present;
+            *previous = self.previous;
+            *event = self.event;
+            *reading = self.reading;
+            return;
+        }
+        *given = Answer::GetSensorReading {
+            operational: SENSOR_ENABLED,
+            sensor_event_message_enable: NO_EVENTS,
+            present: self.present,
+            previous: self.previous,
+            event: self.event,
+            reading: self.reading,
+        };
+    }
+
     /// Gives the sensor this reading, where it fits the sensor's data size.
     pub(crate) fn sense(&mut self, value: i64) -> Result<(), ReadingFault>
         ensures { Changes (sense value self.old) self.old result self.new }

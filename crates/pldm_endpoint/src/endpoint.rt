@@ -303,11 +303,8 @@ impl Endpoint {
             let route = request.way_back();
             return Ok(MessageStep::Done(not_performed(route)));
         }
-        if self.handed_on.has(request.read().kind()) {
-            return self.hand_out(now, request, None);
-        }
-        match read_command(request.read()) {
-            Ok(command) => self.hand_out(now, request, Some(command)),
+        match task_in(self.handed_on, request) {
+            Ok(command) => self.hand_out(now, request, command),
             Err(code) => self.refuse(now, request, code, reply),
         }
     }
@@ -591,4 +588,20 @@ fn busy_with(handed_on: HandedOn, busy: BusyTime) -> BusyTime
         BusyTime::All => BusyTime::All,
         BusyTime::Sets(_) => BusyTime::Sets(handed_on),
     }
+}
+
+/// What a request asks the device for: its command, or nothing where it is handed on as bytes. An `Err` has the
+/// completion code by which the request is refused.
+// Not inlined: the stack that reading a command needs is then free again before the command is handed out.
+#[inline(never)]
+fn task_in(handed_on: HandedOn, request: &Request<'_>) -> Result<Option<Command>, Code>
+    ensures ok { IfOk result (λ command. tasks_of (hands_on handed_on) request.now.bytes
+        ≡ task_in command request.now.bytes ∷ []) }
+    ensures err { IfErr result (λ code. IsRefusedBy handed_on code request.now.bytes) }
+{
+    let request = request.read();
+    if handed_on.has(request.kind()) {
+        return Ok(None);
+    }
+    Ok(Some(read_command(request)?))
 }

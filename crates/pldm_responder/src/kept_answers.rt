@@ -19,6 +19,7 @@ use crate::answering_end::OTHER_ENDPOINTS;
 use crate::arriving::RoomRefusal;
 use crate::kept_answer::KeptAnswer;
 use crate::row::Row;
+use crate::slots::Slots;
 use mctp_packet::{Eid, Memory, Moment};
 use pldm_wire::Window;
 use std::alloc::Global;
@@ -48,9 +49,9 @@ impl Place {
     fn new(alloc: Global, window: Window) -> Result<Place, Memory>
         ensures { IfOk result (λ place. place ≡ record { window = window; kept = [] }) }
     {
-        let row = Row::new(alloc, window)?;
+        let slots = Slots::new(alloc, usize::from(window.get()))?;
         Ok(Place {
-            row: Box::new(alloc, row)?,
+            row: Box::new(alloc, Row::new(window, slots))?,
         })
     }
 

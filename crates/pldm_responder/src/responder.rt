@@ -249,6 +249,8 @@ impl<P: Platform> Responder<P> {
     /// # Errors
     ///
     /// `Memory` as from [`Responder::receive`]; what `reply` then holds is not specified.
+    // Inlined: its result is then made where it is wanted, and not copied there.
+    #[inline(always)]
     pub fn receive_message(
         &mut self,
         now: Moment,
@@ -296,7 +298,8 @@ impl<P: Platform> Responder<P> {
     }
 
     /// Serves a request. The message that answers it is put into `reply`.
-    #[inline(always)]
+    // Not inlined: it is called twice, and most of the code stands here.
+    #[inline(never)]
     fn serve(
         &mut self,
         now: Moment,

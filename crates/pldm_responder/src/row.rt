@@ -1,6 +1,6 @@
 //! The answers that are kept for one source, one for each of its latest instance IDs.
 
-ghost use Rattle.std.specs.Prelude.{◌≡◌, ◌<◌, ◌≤◌, [], IfOk, length, take};
+ghost use Rattle.std.specs.Prelude.{◌≡◌, ◌<◌, ◌≤◌, [], length, take};
 ghost use Rattle.mctp_packet.specs.declared.TheConstants.{MAX_MESSAGE_BYTES};
 ghost use Rattle.pldm_wire.specs.Headers.{id_at};
 ghost use Rattle.pldm_wire.specs.declared.assigned.TheConstants.{INSTANCE_IDS as ids};
@@ -11,9 +11,8 @@ use crate::kept_answer::KeptAnswer;
 use crate::order::{Order, renew};
 use crate::slot_table::SlotTable;
 use crate::slots::Slots;
-use mctp_packet::{Memory, Moment};
+use mctp_packet::Moment;
 use pldm_wire::Window;
-use std::alloc::Global;
 use std::marker::Model;
 
 /// The answers that are kept to one source: one to each of its latest instance IDs, as many as the window allows. The
@@ -44,19 +43,21 @@ impl Model for Row {
 }
 
 impl Row {
-    /// No answers, and the room for all that will ever be kept.
-    // Inlined: it is then made where it is put into its place, and not moved there through the stack.
+    /// No answers, over slots of which none is in use, and which have the room for all that will ever be kept.
+    // It cannot fail, and so a row is not moved out of a result: it lies on its caller's stack once.
     #[inline(always)]
-    pub(crate) fn new(alloc: Global, window: Window) -> Result<Row, Memory>
-        ensures { IfOk result (λ row. row ≡ record { window = window; kept = [] }) }
+    pub(crate) fn new(window: Window, slots: Slots) -> Row
+        requires none { slots.entries ≡ [] }
+        requires room { window ≤ slots.room }
+        ensures { result ≡ record { window = window; kept = [] } }
     {
-        let slots = Slots::new(alloc, usize::from(window.get()))?;
-        Ok(Row {
+        let _range = window.get(); // for the proof: 1 to 32
+        Row {
             window,
             table: SlotTable::new(),
             order: Order::new(),
             slots,
-        })
+        }
     }
 
     /// The answer that is kept for an instance ID.

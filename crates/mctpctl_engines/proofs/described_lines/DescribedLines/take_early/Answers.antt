@@ -12,8 +12,8 @@ returns-in-Ok-None-clause-meets g c =
 
 pub returns-in-Ok-Some-clause-meets : goal.returns-in-Ok-Some-clause-meets
 returns-in-Ok-Some-clause-meets g c =
-    line_divides g.T.Described.written (described_writes g.T.Described.written g.T.LineTaker.writes c.args.self.now) (description_writes g.T.Described.written c.in-Before.lines.text.items) (description_writes g.T.Described.written c.take_line-found.new.self.text.items) (g.T.LineTaker.writes c.begin.result) c.args.line.now c.args.out.now.items c.in-Ok-Some.description c.take_line-found.result
-    (ap (described_writes g.T.Described.written g.T.LineTaker.writes) c.in-Before.is) (c.in-Ok-Some.is ∙ ap Ok c.in-Ok-Some.field-0-is) (c.take_line-found.ensures.meets g.T.Described.written) c.begin.ensures.gives
+    line_divides g.T.Described.written (described_writes g.T.Described.written g.T.LineTaker.writes c.args.self.now) (description_writes g.T.Described.written c.in-Before.lines.text.items) (description_writes g.T.Described.written c.take_line-found.new.self.text.items) (described_writes g.T.Described.written g.T.LineTaker.writes c.divide.new.self) c.args.line.now c.args.out.now.items c.in-Ok-Some.description c.take_line-found.result
+    (ap (described_writes g.T.Described.written g.T.LineTaker.writes) c.in-Before.is) (c.in-Ok-Some.is ∙ ap Ok c.in-Ok-Some.field-0-is) (c.take_line-found.ensures.meets g.T.Described.written) c.divide.ensures.writes
 
 pub returns-in-Err-clause-meets : goal.returns-in-Err-clause-meets
 returns-in-Err-clause-meets g c =

@@ -11,7 +11,6 @@ use Rattle.pldm_endpoint.specs.TwoSteps.{EndpointView, held_in, stepped}
 use Rattle.pldm_endpoint.proofs.EndedMessages.{not_true}
 use Rattle.pldm_endpoint.proofs.PendingGlue.{free_is_answered}
 use Rattle.pldm_endpoint.proofs.QuietRequests.{still_held}
-use Rattle.pldm_endpoint.proofs.TasksRead.{asks_response}
 use Rattle.pldm_endpoint.proofs.endpoint.Endpoint.serve.Goals as goal
 
 pub returns-then-ne-clause-served : goal.returns-then-ne-clause-served
@@ -36,6 +35,3 @@ returns-then-ne-clause-served c =
       room = search (rules, quiet);
       settings = search rules;
     }
-
-pub hand_out-requires-clause-asked : goal.hand_out-requires-clause-asked
-hand_out-requires-clause-asked c = asks_response c.args.self.now.handed_on c.args.request.now.bytes c.read.result.now c.read.ensures (search rules)
