@@ -36,7 +36,7 @@ Prints hex (Some message) out out1 = Appends out out1 (message_text hex message)
 Prints hex None out out1 = out1 ≡ out
 
 -- a request for the command was opened and has ended, and the answer to that very request was printed
-pub record Tells (hex : Bool) (command : Command) (number : ℕ) (s s1 : Shown) (out out1 : Option (List ℕ))
+pub record Reports (hex : Bool) (command : Command) (number : ℕ) (s s1 : Shown) (out out1 : Option (List ℕ))
     : Type 0 where
   pub ended : Ended
   pub asks : Asks command number ended s s1

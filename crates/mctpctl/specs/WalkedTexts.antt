@@ -19,7 +19,7 @@ use Rattle.pldm_wire.specs.declared.limits.TheConstants.{GET_NEXT_PART}
 use Rattle.pldm_wire.specs.declared.command.Command.{Command}
 use Rattle.pldm_wire.specs.declared.command.Command.TheVariants.{GetPdr}
 use Rattle.pldm_requester.specs.declared.timing.Timing.{Timing}
-use Rattle.mctpctl.specs.AskedTexts.{Prints, Tells}
+use Rattle.mctpctl.specs.AskedTexts.{Prints, Reports}
 use Rattle.mctpctl.specs.Conversations.{printed_in, shown_in}
 use Rattle.mctpctl.specs.declared.conversation.Conversation.{Conversation}
 use Rattle.mctpctl.specs.declared.settings.Settings.{Settings}
@@ -43,7 +43,7 @@ status_for (Some message) = status_of_query message
 status_for None = FAILED
 
 -- the query went out until it was answered or had its tries, and its own answer was printed
-pub record TellsQuery (timing : Timing) (q : ControlQuery) (status : ℕ) (s s1 : Shown) (out out1 : Option (List ℕ))
+pub record ReportsQuery (timing : Timing) (q : ControlQuery) (status : ℕ) (s s1 : Shown) (out out1 : Option (List ℕ))
     : Type 0 where
   pub answer : Option (List ℕ)
   pub asks : AsksQuery q timing.timeout timing.tries answer s s1
@@ -88,7 +88,7 @@ pub record Visits (a b : Standing) : Type 0 where
   pub next : next_command a.walking ≡ Some command
   pub number : ℕ
   pub answered : Option (List ℕ)
-  pub tells : Tells false command number a.shown b.shown a.out answered
+  pub reports : Reports false command number a.shown b.shown a.out answered
   pub takes : b.walking ≡ after a.walking (answer_of b.shown.asking.held number)
   pub joined : Appends answered b.out (record_text command (length a.walking.records) b.walking)
 

@@ -2,7 +2,7 @@
 
 ghost use Rattle.std.specs.Io.KnownBytes.{Appends};
 ghost use Rattle.std.specs.Prelude.{◌≡◌, ◌++◌, IfOk, OnOk, option_map};
-ghost use Rattle.mctpctl.specs.AskedTexts.{Tells, message_text, status_of_answer, status_of_message};
+ghost use Rattle.mctpctl.specs.AskedTexts.{Reports, message_text, status_of_answer, status_of_message};
 ghost use Rattle.mctpctl.specs.Conversations.{IsGoingOn, printed_in, shown_in};
 ghost use Rattle.mctpctl_input.specs.Ports.{inner_of};
 
@@ -128,7 +128,7 @@ pub fn ask_command<C: Ticks, R: Read, W: Write, O: Write>(
     conversation: &mut Conversation<C, R, W, O>,
 ) -> Result<u64, AskFault>
     requires going { IsGoingOn conversation.old }
-    ensures told { IfOk result (λ number. Tells hex command.now number
+    ensures reported { IfOk result (λ number. Reports hex command.now number
         (shown_in C.to_come R.remaining W.contents conversation.old)
         (shown_in C.to_come R.remaining W.contents conversation.new)
         (printed_in O.contents conversation.old) (printed_in O.contents conversation.new)) }

@@ -4,7 +4,7 @@ ghost use Rattle.std.specs.Prelude.{◌≡◌, ◌<◌, ◌++◌, IfOk, OnOk, le
 ghost use Rattle.std.specs.Io.KnownBytes.{Appends};
 ghost use Rattle.mctp_control.specs.declared.assigned.TheConstants.{INSTANCE_IDS};
 ghost use Rattle.mctpctl.specs.Conversations.{IsGoingOn, printed_in, shown_in};
-ghost use Rattle.mctpctl.specs.WalkedTexts.{StepsOn, TellsQuery, WalksThrough, goes_on, query_of, record_text, status_of_query, rows_at, standing, walk_text, walked_rows};
+ghost use Rattle.mctpctl.specs.WalkedTexts.{StepsOn, ReportsQuery, WalksThrough, goes_on, query_of, record_text, status_of_query, rows_at, standing, walk_text, walked_rows};
 ghost use Rattle.mctpctl_input.specs.Ports.{inner_of};
 
 use crate::asking::{ask_command, print_message, print_text, status_of_answer};
@@ -98,7 +98,7 @@ fn ask_query<C: Ticks, R: Read, W: Write, O: Write>(
     conversation: &mut Conversation<C, R, W, O>,
 ) -> Result<u8, AskFault>
     requires going { IsGoingOn conversation.old }
-    ensures told { IfOk result (λ status. TellsQuery settings.now.timing query.now status
+    ensures reported { IfOk result (λ status. ReportsQuery settings.now.timing query.now status
         (shown_in C.to_come R.remaining W.contents conversation.old)
         (shown_in C.to_come R.remaining W.contents conversation.new)
         (printed_in O.contents conversation.old) (printed_in O.contents conversation.new)) }

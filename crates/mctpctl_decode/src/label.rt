@@ -72,9 +72,9 @@ pub enum Label {
     PlusTolerance,
     /// How far a value may be below what is measured.
     MinusTolerance,
-    /// The greatest number that can be told.
+    /// The greatest number that can be reported.
     MaxReadable,
-    /// The least number that can be told.
+    /// The least number that can be reported.
     MinReadable,
     /// How far a number has to go back before a threshold is left.
     Hysteresis,

@@ -83,7 +83,7 @@ fn push_conversion_line(out: &mut Vec<u8>, sensor: &NumericSensor) -> Result<(),
     write_text(out, "\n")
 }
 
-/// Adds the line of what it can tell.
+/// Adds the line of what it can report.
 #[tactic(auto, unfolding(crate::specs::RecordFields::record_line))]
 fn push_readable_line(out: &mut Vec<u8>, sensor: &NumericSensor) -> Result<(), Memory>
     ensures { OnOk result (out.new.items ≡ out.old.items ++ record_line (readable_text sensor.now)) }
@@ -93,7 +93,7 @@ fn push_readable_line(out: &mut Vec<u8>, sensor: &NumericSensor) -> Result<(), M
     write_text(out, "\n")
 }
 
-/// Adds what it can tell, how it changes, and which thresholds can be set.
+/// Adds what it can report, how it changes, and which thresholds can be set.
 #[tactic(auto, unfolding(crate::specs::NumericSensorTexts::readable_text))]
 fn push_readable(out: &mut Vec<u8>, sensor: &NumericSensor) -> Result<(), Memory>
     ensures { OnOk result (out.new.items ≡ out.old.items ++ readable_text sensor.now) }
@@ -103,7 +103,7 @@ fn push_readable(out: &mut Vec<u8>, sensor: &NumericSensor) -> Result<(), Memory
     push_thresholds(out, sensor.supported_thresholds)
 }
 
-/// Adds the numbers that it can tell.
+/// Adds the numbers that it can report.
 #[tactic(auto, unfolding(crate::specs::NumericSensorTexts::reading_text))]
 fn push_reading(out: &mut Vec<u8>, sensor: &NumericSensor) -> Result<(), Memory>
     ensures { OnOk result (out.new.items ≡ out.old.items ++ reading_text sensor.now) }
@@ -112,7 +112,7 @@ fn push_reading(out: &mut Vec<u8>, sensor: &NumericSensor) -> Result<(), Memory>
     push_signed(out, Label::Hysteresis, sensor.hysteresis)
 }
 
-/// Adds the greatest and the least number that it can tell.
+/// Adds the greatest and the least number that it can report.
 #[tactic(auto, unfolding(crate::specs::NumericSensorTexts::span_text))]
 fn push_span(out: &mut Vec<u8>, sensor: &NumericSensor) -> Result<(), Memory>
     ensures { OnOk result (out.new.items ≡ out.old.items ++ span_text sensor.now) }

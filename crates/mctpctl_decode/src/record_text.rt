@@ -142,7 +142,7 @@ fn type_number(contents: &RecordData) -> u8
     }
 }
 
-/// Adds the lines of what a record tells after its header.
+/// Adds the lines of what a record says after its header.
 fn push_contents(out: &mut Vec<u8>, contents: &RecordData) -> Result<(), Memory>
     ensures { OnOk result (out.new.items ≡ out.old.items ++ data_lines contents.now) }
 {

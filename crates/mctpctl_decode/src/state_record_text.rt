@@ -32,7 +32,7 @@ fn push_sensor_line(out: &mut Vec<u8>, sensor: &StateSensor) -> Result<(), Memor
     write_text(out, "\n")
 }
 
-/// Adds which sensor it is, and what it tells of.
+/// Adds which sensor it is, and what it reports.
 #[tactic(auto, unfolding(crate::specs::StateRecordTexts::sensor_text))]
 fn push_sensor(out: &mut Vec<u8>, sensor: &StateSensor) -> Result<(), Memory>
     ensures { OnOk result (out.new.items ≡ out.old.items ++ sensor_text sensor.now) }

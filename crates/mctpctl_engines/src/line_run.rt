@@ -51,7 +51,7 @@ pub trait LineTaker {
         ensures write { result ≢ Err EngineFault.Write };
 
     /// Takes the last line, which the end of the input ends, and writes what is left to give before its fault is
-    /// told. `out` is room for a text.
+    /// reported. `out` is room for a text.
     fn finish<W: Write>(
         &mut self,
         alloc: Global,

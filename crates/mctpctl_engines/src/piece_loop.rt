@@ -32,7 +32,7 @@ pub trait Run {
         ensures read { result ≢ Err EngineFault.Read }
         ensures write { result ≢ Err EngineFault.Write };
 
-    /// Takes the end of the input, and writes what is left to give before its fault is told. `out` is
+    /// Takes the end of the input, and writes what is left to give before its fault is reported. `out` is
     /// room for a text.
     fn finish<W: Write>(
         &mut self,
@@ -59,7 +59,7 @@ fn room_for_a_piece(alloc: Global) -> Result<Vec<u8>, AllocError>
     vec![in alloc; 0u8; PIECE]
 }
 
-/// Writes what a piece gave, before its fault is told.
+/// Writes what a piece gave, before its fault is reported.
 fn take_piece<T: Run, W: Write>(
     alloc: Global,
     run: &mut T,

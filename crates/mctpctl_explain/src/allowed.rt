@@ -64,7 +64,7 @@ fn fixed_text(allowed: Allowed) -> &'static str {
     }
 }
 
-/// Why bytes are no record (DSP0248, "Common PDR format"); nothing where that is not told.
+/// Why bytes are no record (DSP0248, "Common PDR format"); nothing where that is not said.
 pub(crate) fn flaw_text(allowed: Allowed) -> &'static str {
     let Allowed::Record(flaw) = allowed else {
         return "";

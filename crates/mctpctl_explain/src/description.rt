@@ -43,7 +43,7 @@ pub(crate) fn explain_description(
     Ok(format!(in alloc; "{front}{reason}")?)
 }
 
-/// Why the value at the refusal's path was refused; nothing where the refusal does not tell what is allowed.
+/// Why the value at the refusal's path was refused; nothing where the refusal does not say what is allowed.
 #[tactic(auto, using(crate::proofs::Told::flaw_told))]
 fn reason_text(alloc: Global, value: Option<&Value>, refusal: &Refusal) -> Result<String, Memory>
     ensures { IfOk result (λ text. IsReason refusal.now (string_bytes text)) }

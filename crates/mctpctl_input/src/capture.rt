@@ -49,7 +49,7 @@ impl From<AllocError> for CaptureFault {
 
 /// What one line says, given without its LF, where `last` is the moment of an earlier line, in
 /// milliseconds. The bytes of a packet, of which there may be none, are put into `packet`. Of several
-/// faults it tells the first of `LongLine`, `Words`, `Number`, `BackInTime` and `BadHex`; a line that is
+/// faults it reports the first of `LongLine`, `Words`, `Number`, `BackInTime` and `BadHex`; a line that is
 /// too long is refused even where it says nothing.
 #[tactic(auto, unfolding(crate::specs::CaptureLine::capture_of))]
 // Inlined: it is called for each line, and its result is then not moved.

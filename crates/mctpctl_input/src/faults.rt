@@ -1,4 +1,4 @@
-//! What ends a run before its time, the text that tells it, and the program's exit status.
+//! What ends a run before its time, the text that reports it, and the program's exit status.
 
 ghost use Rattle.std.proofs.Common.{rules};
 ghost use Rattle.std.specs.Cmp.Rules.{comparing};

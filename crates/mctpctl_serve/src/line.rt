@@ -44,7 +44,7 @@ pub struct ServedLine<P: Platform, C, L> {
     pub control: ControlResponder,
     /// Tells their moments.
     pub ticks: C,
-    /// Is told what happens.
+    /// Sees what happens.
     pub watch: L,
 }
 
@@ -119,7 +119,7 @@ fn hear_packet<P: Platform, C: Ticks, L: Watch, W: Write>(
     Ok(())
 }
 
-/// Sends the answer to a packet that the responder dropped; where there is none, the drop is told.
+/// Sends the answer to a packet that the responder dropped; where there is none, the drop is reported.
 fn answer_drop<L: Watch, W: Write>(
     control: &mut ControlResponder,
     watch: &mut L,

@@ -1,4 +1,4 @@
-//! What an answer tells of a sensor or an effecter.
+//! What an answer says of a sensor or an effecter.
 
 ghost use Rattle.std.specs.Prelude.{◌≡◌};
 ghost use Rattle.mctpctl_table.specs.Replies.{field_at, numeric_reading, of_effecter, of_sensor, state_reading};
@@ -6,7 +6,7 @@ ghost use Rattle.mctpctl_table.specs.Replies.{field_at, numeric_reading, of_effe
 use crate::reply::Reply;
 use pldm_wire::{Answer, EffecterStateField, SensorStateField};
 
-/// What a numeric sensor or effecter tells.
+/// What an answer says of a numeric sensor or effecter.
 #[derive(Clone, Copy, Debug)]
 pub(crate) struct NumericReading {
     /// The present value.
@@ -17,7 +17,7 @@ pub(crate) struct NumericReading {
     pub(crate) operational: u8,
 }
 
-/// What one field of a state sensor or effecter tells.
+/// What one field of an answer says of a state sensor or effecter.
 #[derive(Clone, Copy, Debug)]
 pub(crate) struct StateReading {
     /// The present state.
@@ -26,7 +26,7 @@ pub(crate) struct StateReading {
     pub(crate) operational: u8,
 }
 
-/// What a numeric sensor or effecter tells.
+/// What an answer says of a numeric sensor or effecter.
 pub(crate) fn numeric_reading(reply: &Reply) -> Option<NumericReading>
     ensures { result ≡ numeric_reading reply.now }
 {
@@ -57,7 +57,7 @@ pub(crate) fn numeric_reading(reply: &Reply) -> Option<NumericReading>
     }
 }
 
-/// What the field at a place tells, where there are so many fields.
+/// What the field at a place says, where there are so many fields.
 pub(crate) fn state_reading(count: usize, place: usize, reply: &Reply) -> Option<StateReading>
     ensures { result ≡ state_reading count place reply.now }
 {

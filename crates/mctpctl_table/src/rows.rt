@@ -197,7 +197,7 @@ fn push_field_rows(
     Ok(())
 }
 
-/// The row of a field that told this.
+/// The row of a field that says this.
 fn field_row(
     alloc: Global,
     thing: &Thing,

@@ -89,7 +89,7 @@ pub(crate) fn push_missing(out: &mut Vec<u8>, kind: Kind, reply: &Reply) -> Resu
     }
 }
 
-/// Adds why an answer tells no value.
+/// Adds why an answer has no value.
 #[tactic(auto, unfolding(crate::specs::States::not_told_text))]
 fn push_not_told(out: &mut Vec<u8>, kind: Kind, answer: &Answer) -> Result<(), Memory>
     ensures { OnOk result (out.new.items ≡ out.old.items ++ not_told_text kind answer.now) }

@@ -20,7 +20,7 @@ use mctp_schedule::{Delivery, EntryRef};
 use pldm_requester::Got;
 use pldm_responder::MessageOutcome;
 
-/// The most bytes of what came of a step, but for the numbers that a tick tells: up to three parts.
+/// The most bytes of what came of a step, but for the numbers that a tick reports: up to three parts.
 const MAX_ENTRY: usize = 3 * MAX_PART;
 
 /// Gathers the moment of a step, with which its line begins, and makes room for what came of the step.

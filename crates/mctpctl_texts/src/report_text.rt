@@ -76,7 +76,7 @@ fn gather_entries<O: TextWriter>(
     for _line in 0..steps.len().min(entries.len()) {
         digits.set(moments.next().unwrap().get());
         gather_moment(out, page, &digits)?;
-        // The entry is taken only here, so that the program tells once which kind of entry it is, and not before and
+        // The entry is taken only here, so that the program finds once which kind of entry it is, and not before and
         // after the moment.
         gather_entry(out, page, phrases, rest.next().unwrap())?;
     }

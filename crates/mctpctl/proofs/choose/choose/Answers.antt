@@ -36,13 +36,13 @@ refused words error (Help text) (inr among) (inr version) = (
   not_taken (fault_of the_command words) (kind_of error) _ among,
   inr (subst (λ (kind : ErrorKind). IsAmong kind (fault_of the_command words)) version among),
 )
-refused words error (Refused text) (inl memory) tells = absurd (tells.2 memory)
-refused words error (Refused text) (inr among) tells = (
+refused words error (Refused text) (inl memory) says = absurd (says.2 memory)
+refused words error (Refused text) (inr among) says = (
   not_taken (fault_of the_command words) (kind_of error) _ among,
-  λ alone. tells.0 (only_kind (kind_of error) DisplayHelp (subst (λ (faults : Kinds). IsAmong (kind_of error) faults) alone among)),
-  λ alone. tells.1 (only_kind (kind_of error) DisplayVersion (subst (λ (faults : Kinds). IsAmong (kind_of error) faults) alone among)),
+  λ alone. says.0 (only_kind (kind_of error) DisplayHelp (subst (λ (faults : Kinds). IsAmong (kind_of error) faults) alone among)),
+  λ alone. says.1 (only_kind (kind_of error) DisplayVersion (subst (λ (faults : Kinds). IsAmong (kind_of error) faults) alone among)),
 )
-refused words error (Memory none) kinds tells = tt
+refused words error (Memory none) kinds says = tt
 
 is_free : is_simple_and_free the_command ≡ true
 unfolding clap_on_literals
