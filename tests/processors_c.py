@@ -73,7 +73,7 @@ WITH_CODECS_OF = {"cortex-m0plus": CORTEX_M0, "cortex-m4": HARD_FLOAT}
 TARGETS = [
     cortex_m("cortex-m4", set(), {}),
     # It is run on a Cortex-M4 that faults where it would, at an access that is not aligned.
-    cortex_m("cortex-m0plus", {"__aeabi_llsl", "__aeabi_llsr", "__aeabi_lmul"}, {"TRAP_UNALIGNED": "1"}),
+    cortex_m("cortex-m0plus", {"__aeabi_llsl", "__aeabi_llsr", "__aeabi_lmul", "__aeabi_uidiv"}, {"TRAP_UNALIGNED": "1"}),
     Target(
         "armv7",
         None,
@@ -82,7 +82,7 @@ TARGETS = [
         by_user_emulator("qemu-arm", "/usr/arm-linux-gnueabihf"),
         "arm-linux-gnueabihf-nm",
         "arm-linux-gnueabihf-size",
-        set(),
+        {"__aeabi_uidiv"},
         {},
     ),
     Target(
