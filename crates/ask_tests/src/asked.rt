@@ -42,16 +42,7 @@ fn run_line(rt: &impl Abort, alloc: Global, pieces: &[&[u8]], readings: &[u64]) 
     let device = Eid::new(9).expect(rt, "an endpoint ID");
     let ticks = ListTicks { readings: &clock };
     let mut answer = Vec::new(alloc);
-    let ended = match begin(
-        alloc,
-        own,
-        device,
-        timing,
-        2_000,
-        ticks,
-        &mut reader,
-        &mut writer,
-    ) {
+    let ended = match begin(alloc, own, device, timing, ticks, &mut reader, &mut writer) {
         Ok(mut line) => match ask(&mut line, &Command::GetTid, &mut reader, &mut writer) {
             Ok(Asked { number, ended }) => {
                 if let Some(message) = line.answer(number) {

@@ -65,16 +65,7 @@ fn run_query(
     let query = Query::new(own, device, tag, 5, Command::GetEndpointId);
     let ticks = ListTicks { readings: &clock };
     let mut message = Vec::new(alloc);
-    let Ok(mut line) = begin(
-        alloc,
-        own,
-        device,
-        timing,
-        2_000,
-        ticks,
-        &mut reader,
-        &mut writer,
-    ) else {
+    let Ok(mut line) = begin(alloc, own, device, timing, ticks, &mut reader, &mut writer) else {
         panic!(rt; "the line was not begun");
     };
     let answered = match ask_control(&mut line, &query, 100, tries, &mut reader, &mut writer) {

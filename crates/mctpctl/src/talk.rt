@@ -10,7 +10,7 @@ use crate::settings::{Periods, Settings, settings_of};
 use crate::state::{StateFault, begin_state, end_state};
 use crate::walking::walk_device;
 use crate::watching::watch_device;
-use mctpctl_ask::{AskFault, BeginFault, SystemTicks, begin};
+use mctpctl_ask::{AskFault, BeginFault, SystemTicks, begin_after};
 use mctpctl_input::Port;
 use schedule_text::Schedule;
 use std::fs::{File, OpenOptions};
@@ -129,7 +129,7 @@ fn talk_over<R: Read + Drop, W: Write + Drop, O: Write + Drop>(
     } = talk.settings;
     let mut reader = Port::new(reader);
     let mut writer = Port::new(writer);
-    let line = match begin(
+    let line = match begin_after(
         rt.alloc(),
         own,
         device,

@@ -13,7 +13,7 @@ mod wanted;
 
 pub use control::ask_control;
 pub use fault::{AskFault, BeginFault};
-pub use line::{Asked, AskingLine, Ended, ask, begin, listen};
+pub use line::{Asked, AskingLine, Ended, ask, begin, begin_after, listen};
 pub use mctpctl_input::Port;
 pub use mctpctl_serve::{ListTicks, SystemTicks, Ticks};
 pub use quiet::{END_MS, END_READS};

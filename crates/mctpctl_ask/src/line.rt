@@ -1,6 +1,6 @@
 //! A line that asks: it listens until requests may be opened, opens one, and follows it until it has ended.
 
-ghost use Rattle.std.specs.Prelude.{◌≡◌, ◌≢◌, ◌↔◌, ◌<◌, ◌^◌, Some, None, Err, option_map, IfOk, IfErr, OnOk, IsErrOf, true, false};
+ghost use Rattle.std.specs.Prelude.{◌≡◌, ◌≢◌, ◌↔◌, ◌*◌, ◌<◌, ◌^◌, Some, None, Err, option_map, IfOk, IfErr, OnOk, IsErrOf, true, false};
 ghost use Rattle.std.specs.Io.KnownBytes.{Keeps};
 ghost use Rattle.mctpctl_ask.specs.Asked.{AskStops, Asks, Goes, Listens, Opens, OpensNow, RefusesTiming, asking_of, Stops, StopsListening, begun_as, shown};
 ghost use Rattle.mctpctl_ask.specs.Ends.{IsWaiting, IsRefused, answer_of, ended_of};
@@ -78,14 +78,45 @@ impl<C> AskingLine<C> {
     }
 }
 
-/// Begins a line on which the endpoint `own` asks the endpoint `device`. Answers to earlier requests of `own` may come
-/// for so many milliseconds yet, up to twice the keeping time after the last of them was opened: that time passes,
-/// reading, before a request may be opened. Packets that come meanwhile are dropped, and nothing is written.
+/// Begins a line on which the endpoint `own` asks the endpoint `device`: twice the keeping time passes, reading, before
+/// a request may be opened. Packets that come meanwhile are dropped, and nothing is written.
 ///
 /// # Errors
 ///
 /// `Timing` where the requester refuses the timing; nothing is read then. `Line` as from [`listen`].
 pub fn begin<C: Ticks + Drop, R: Read, W: Write>(
+    alloc: Global,
+    own: Eid,
+    device: Eid,
+    timing: Timing,
+    ticks: C,
+    reader: &mut Port<R>,
+    writer: &mut Port<W>,
+) -> Result<AskingLine<C>, BeginFault>
+    requires reads { has_failed reader.old ≡ false }
+    requires writes { has_failed writer.old ≡ false }
+    ensures begun { IfOk result (λ line. Listens (2 * timing.keep)
+        (begun_as C.to_come R.remaining W.contents own device timing ticks reader.old writer.old)
+        (shown C.to_come R.remaining W.contents line reader.new writer.new)) }
+    ensures silent { result ≢ Err (BeginFault.Line AskFault.Write)
+        → Keeps (W.contents (inner_of writer.old)) (W.contents (inner_of writer.new)) }
+    ensures ok { OnOk result (timing_fault own device timing ≡ None) }
+    ensures refused { IfErr result (RefusesTiming own device timing) }
+    ensures read { IsErrOf result (BeginFault.Line AskFault.Read) ↔ (has_failed reader.new ≡ true) }
+    ensures write { IsErrOf result (BeginFault.Line AskFault.Write) ↔ (has_failed writer.new ≡ true) }
+{
+    let span = settling_time(&timing);
+    begin_after(alloc, own, device, timing, span, ticks, reader, writer)
+}
+
+/// As [`begin`], where answers to earlier requests of `own` may come for so many milliseconds yet, up to twice the
+/// keeping time after the last of them was opened: that time passes, reading, before a request may be opened. Packets
+/// that come meanwhile are dropped, and nothing is written.
+///
+/// # Errors
+///
+/// `Timing` where the requester refuses the timing; nothing is read then. `Line` as from [`listen`].
+pub fn begin_after<C: Ticks + Drop, R: Read, W: Write>(
     alloc: Global,
     own: Eid,
     device: Eid,
@@ -122,6 +153,14 @@ pub fn begin<C: Ticks + Drop, R: Read, W: Write>(
         Ok(()) => Ok(line),
         Err(fault) => Err(BeginFault::Line(fault)),
     }
+}
+
+/// How long the answers to an earlier requester may come: twice the keeping time.
+fn settling_time(timing: &Timing) -> u64
+    ensures value { result ≡ 2 * timing.now.keep }
+    ensures range { result < 2 ^ 60 }
+{
+    2 * u64::from(timing.keep.get())
 }
 
 /// Listens until so many milliseconds have passed since its first read: packets come to the requester, and requests

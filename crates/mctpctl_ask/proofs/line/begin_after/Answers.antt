@@ -6,7 +6,7 @@ use Rattle.mctpctl_ask.proofs.Silent.{listens_silent, stops_silent}
 use Rattle.mctpctl_ask.specs.Asked.{begun_as, shown}
 use Rattle.mctpctl_ask.specs.Turns.{quiet_from}
 use Rattle.mctpctl_ask.specs.declared.fault.BeginFault.TheVariants.{Line}
-use Rattle.mctpctl_ask.proofs.line.begin.Goals as goal
+use Rattle.mctpctl_ask.proofs.line.begin_after.Goals as goal
 
 pub returns-in-Ok-listen-clause-begun : goal.returns-in-Ok-listen-clause-begun
 returns-in-Ok-listen-clause-begun g c =
