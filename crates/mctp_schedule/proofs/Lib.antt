@@ -8,6 +8,7 @@ pub mod AllIdsInTime
 pub mod AnswerPacketOutcomes
 pub mod AnswerPacketsAtRequester
 pub mod AnsweredWhereTaken
+pub mod ArrivedOnce
 pub mod AskerCalls
 pub mod BegunRequesters
 pub mod CommandsPerformed

@@ -120,14 +120,9 @@ opened_is_held station now command slots open_messages are put forgot = record {
   last = refl;
 }
 
-pub memo_is : (station : RequesterView) (now id tag : ℕ) (command : Command) (kind : TypeAndCommand) (packets : List (List ℕ)) → kind ≡ kind_of command
-    → packets ≡ written_packets (record { destination = station.device; source = station.own; owner = true; tag = tag }) (command_message id command)
-    → id ≡ id_of station.count → tag ≡ tag_of station.count
-    → (let memo : Memo = record { kind = kind; packets = packets; course = begun now } in memo ≡ new_memo (held_of station) now command)
-memo_is station now id tag command kind packets e f h g =
-    let sent = f ∙ ap (λ n. written_packets (record { destination = station.device; source = station.own; owner = true; tag = tag }) (command_message n command)) h
-    ∙ ap (λ t. written_packets (record { destination = station.device; source = station.own; owner = true; tag = t }) (command_message (id_of station.count) command)) g in
-    λ i. record { kind = e i; packets = sent i; course = begun now }
+pub memo_is : (station : RequesterView) (now : ℕ) (command : Command) (tag : ℕ) → tag ≡ tag_of station.count
+    → (let memo : Memo = record { kind = kind_of command; packets = written_packets (record { destination = station.device; source = station.own; owner = true; tag = tag }) (command_message (id_of station.count) command); course = begun now } in memo ≡ new_memo (held_of station) now command)
+memo_is station now command tag e = λ i. record { kind = kind_of command; packets = written_packets (record { destination = station.device; source = station.own; owner = true; tag = e i }) (command_message (id_of station.count) command); course = begun now }
 
 -- ---- the numbers that pass a test
 pub filter_more : (test : ℕ → Bool) (a n j : ℕ) → a + n ≡ j → filter test (range_with_len a (n + 1)) ≡ filter test (range_with_len a n) ++ cond (test j) (j ∷ []) []

@@ -1,8 +1,8 @@
 //! What a requester remembers of a request: its command, its tries, and its answer.
 
 use crate::{Due, MAX_OPEN, Status, Timing};
-use mctp_packet::{Body, MAX_MESSAGE_BYTES, Moment, Packets, Route, split_into};
-use pldm_wire::Kind;
+use mctp_packet::{Body, MAX_MESSAGE_BYTES, Moment, Packets, Route, split, split_into};
+use pldm_wire::{Command, INSTANCE_IDS, Kind, put_command, write_command};
 use std::marker::Model;
 
 /// How a request stands.
@@ -59,17 +59,26 @@ impl Remembered {
     ghost use Rattle.std.specs.Prelude.{◌≡◌, ◌<◌, ◌≤◌, [], ◌∷◌, ◌++◌, length, if◌then◌else◌};
     ghost use Rattle.arrayvec.specs.ArrayVec.{array_vec_len};
     ghost use Rattle.mctp_packet.specs.Pieces.{written_packets};
+    ghost use Rattle.pldm_wire.specs.Commands.{IsCommand, command_message, kind_of};
     ghost use Rattle.pldm_requester.specs.Courses.{answered, begun, is_open, is_over, is_given_up, is_sent_again, ticked};
     ghost use Rattle.pldm_requester.specs.Steps.{with_course};
     ghost use Rattle.pldm_requester.specs.RequestProgress.{progress_in_status};
 
-    /// A request that is opened now.
-    pub(crate) fn new(kind: Kind, packets: Packets, now: Moment) -> Remembered
-        ensures { result ≡ record { kind = kind; packets = packets; course = begun now } }
+    /// A request that is opened now: the command goes with this instance ID on this route.
+    pub(crate) fn new(id: u8, command: &Command, route: &Route, now: Moment) -> Remembered
+        requires { id < INSTANCE_IDS }
+        ensures memo { result ≡ record {
+          kind = kind_of command.now;
+          packets = written_packets route.now (command_message id command.now);
+          course = begun now;
+        } }
+        ensures readable { IsCommand command.now }
     {
+        pldm_wire::laws::messages_fit();
+        let message = write_command(id, command);
         Remembered {
-            kind,
-            packets,
+            kind: command.kind(),
+            packets: split(route, &message).unwrap(),
             opening: now,
             last_sent: now,
             progress: Progress::Waiting,
@@ -77,19 +86,21 @@ impl Remembered {
         }
     }
 
-    /// Another request takes its place: its message goes on this route.
-    pub(crate) fn begin(&mut self, kind: Kind, route: &Route, message: &[u8], now: Moment)
-        requires some { 0 < length message.now }
-        requires few { length message.now ≤ MAX_MESSAGE_BYTES }
-        ensures { self.new ≡ record {
-          kind = kind;
-          packets = written_packets route.now message.now;
-          course = begun
-              now;
+    /// Another request takes its place: the command goes with this instance ID on this route.
+    // Its message is put where its answer will be, so that no room has to be cleared for it.
+    pub(crate) fn begin(&mut self, id: u8, command: &Command, route: &Route, now: Moment)
+        requires { id < INSTANCE_IDS }
+        ensures memo { self.new ≡ record {
+          kind = kind_of command.now;
+          packets = written_packets route.now (command_message id command.now);
+          course = begun now;
         } }
+        ensures readable { IsCommand command.now }
     {
-        self.kind = kind;
-        split_into(route, message, &mut self.packets).unwrap();
+        pldm_wire::laws::messages_fit();
+        put_command(&mut self.answer, id, command);
+        split_into(route, &self.answer, &mut self.packets).unwrap();
+        self.kind = command.kind();
         self.opening = now;
         self.last_sent = now;
         self.progress = Progress::Waiting;

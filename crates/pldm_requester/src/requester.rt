@@ -11,7 +11,7 @@ ghost use Rattle.mctp_packet.specs.Pieces.{written_packets};
 ghost use Rattle.mctp_packet.specs.Reading.{reading, unless};
 ghost use Rattle.mctp_assembly.specs.Steps.{answer as assembled};
 ghost use Rattle.mctp_assembly.specs.declared.fed.Fed.TheVariants.{Whole};
-ghost use Rattle.pldm_wire.specs.Commands.{IsCommand};
+ghost use Rattle.pldm_wire.specs.Commands.{IsCommand, command_message, kind_of};
 ghost use Rattle.pldm_wire.specs.Responses.{response_of};
 ghost use Rattle.pldm_requester.specs.Arrivals.{got_of, is_response_to, response_arrival};
 ghost use Rattle.pldm_requester.specs.Calls.{answer_key};
@@ -28,11 +28,9 @@ use arrayvec::ArrayVec;
 use mctp_assembly::{Assembled, Assembler, Key};
 use mctp_packet::{
     Body, Eid, MAX_MESSAGE_BYTES, Memory, Moment, PacketRef, Packets, Reason, Route, TAGS, Tag,
-    read_for, split,
+    read_for,
 };
-use pldm_wire::{
-    Command, ERROR_NOT_READY, INSTANCE_IDS, Kind, ResponseRef, put_command, read_response,
-};
+use pldm_wire::{Command, ERROR_NOT_READY, INSTANCE_IDS, Kind, ResponseRef, read_response};
 use std::alloc::Global;
 use std::marker::Model;
 
@@ -220,7 +218,6 @@ impl Requester {
         ensures held { OnOk result (IsHeld (held_of self.new) (opened_held (held_of self.old) now command.now)) }
         ensures err { OnErr result (IsHeld (held_of self.new) (held_of self.old)) }
     {
-        pldm_wire::laws::messages_fit();
         if self.is_tag_in_use() {
             return Err(OpenFault::TagInUse);
         }
@@ -237,16 +234,7 @@ impl Requester {
             owner: true,
             tag,
         };
-        let mut message = Body::new();
-        put_command(&mut message, id, command);
-        put(
-            &mut self.slots,
-            number,
-            command.kind(),
-            &route,
-            &message,
-            now,
-        );
+        put(&mut self.slots, number, command, &route, now);
         self.assembler.forget(answer_key(self.device, tag));
         self.count = number + 1;
         self.last = now;
@@ -548,31 +536,24 @@ fn tick_last(slots: &mut [Remembered], count: u64, timing: &Timing, now: Moment)
 }
 
 /// Puts a request that is opened now in the slot of its number, or at the end, where there has to be
-/// room. Its message goes on this route.
-fn put(
-    slots: &mut Vec<Remembered>,
-    number: u64,
-    kind: Kind,
-    route: &Route,
-    message: &[u8],
-    now: Moment,
-)
-    requires some { 0 < length message.now }
-    requires few { length message.now ≤ MAX_MESSAGE_BYTES }
+/// room. The command goes on this route.
+fn put(slots: &mut Vec<Remembered>, number: u64, command: &Command, route: &Route, now: Moment)
     requires room { number < MAX_REMEMBERED → vec_len slots.old < vec_capacity slots.old }
     requires slot { MAX_REMEMBERED ≤ number → vec_len slots.old ≡ MAX_REMEMBERED }
-    ensures { slots.new.items ≡ put_slot number slots.old.items (record {
-      kind = kind;
-      packets = written_packets
-          route.now message.now;
+    ensures items { slots.new.items ≡ put_slot number slots.old.items (record {
+      kind = kind_of command.now;
+      packets = written_packets route.now (command_message (id_of number) command.now);
       course = begun now;
     }) }
+    ensures readable { IsCommand command.now }
 {
+    let id = id_of(number);
     if number < MAX_REMEMBERED as u64 {
-        let packets = split(route, message).unwrap();
-        slots.push(Remembered::new(kind, packets, now)).unwrap();
+        slots
+            .push(Remembered::new(id, command, route, now))
+            .unwrap();
     } else {
-        slots[(number % MAX_REMEMBERED as u64) as usize].begin(kind, route, message, now);
+        slots[(number % MAX_REMEMBERED as u64) as usize].begin(id, command, route, now);
     }
 }
 

@@ -7,8 +7,8 @@ ghost use Rattle.mctp_assembly.specs.declared.key.Key.{Key as KeyValue};
 ghost use Rattle.pldm_platform.specs.Changes.{made_of};
 ghost use Rattle.pldm_wire.specs.declared.assigned.TheConstants.{INSTANCE_IDS};
 ghost use Rattle.pldm_wire.specs.declared.busy_time.BusyTime.TheVariants.{All};
-ghost use Rattle.pldm_responder.specs.Answering.{HasReply, answering};
-ghost use Rattle.pldm_responder.specs.Arrivals.{request_packet};
+ghost use Rattle.pldm_responder.specs.Answering.{HasReply, answering, outcome_on};
+ghost use Rattle.pldm_responder.specs.Arrivals.{request_packet, way_back};
 ghost use Rattle.pldm_responder.specs.Counts.{CountsKept};
 ghost use Rattle.pldm_responder.specs.ResponderStates.{IsHeld, held_at_first};
 ghost use Rattle.pldm_responder.specs.Performing.{rules_of};
@@ -28,7 +28,7 @@ use crate::bounds::Bounds;
 use crate::keeping::Keeping;
 use crate::outcome::{MessageOutcome, Outcome};
 use crate::performing::perform;
-use crate::routes::{not_performed, performed};
+use crate::routes::outcome_on;
 use mctp_packet::{Body, Eid, Keep, MAX_MESSAGE_BYTES, Memory, Moment, PacketRef};
 use pldm_platform::{Platform, ReadingFault};
 use pldm_wire::Answer;
@@ -298,8 +298,8 @@ impl<P: Platform> Responder<P> {
     }
 
     /// Serves a request. The message that answers it is put into `reply`.
-    // Not inlined: it is called twice, and most of the code stands here.
-    #[inline(never)]
+    // Inlined: its result is then made where it is wanted.
+    #[inline(always)]
     fn serve(
         &mut self,
         now: Moment,
@@ -312,14 +312,35 @@ impl<P: Platform> Responder<P> {
             (rules_of P.answer P.after P.sensed) reply.new.items) }
         ensures err { OnErr result (IsNotServed P.performed self.old now request.now self.new P.STEADY) }
     {
-        let route = request.way_back();
+        let changed = self.settle(now, request, reply)?;
+        Ok(outcome_on(request.way_back(), changed))
+    }
+
+    /// Serves a request. The result is `None` where it was not performed, else whether it is of a command that sets and
+    /// was not refused.
+    // Not inlined: most of the code stands here. Its result is small, since what is returned in parts and then moved
+    // as a whole is waited for.
+    #[inline(never)]
+    fn settle(
+        &mut self,
+        now: Moment,
+        request: &Request<'_>,
+        reply: &mut Body,
+    ) -> Result<Option<bool>, Memory>
+        requires other { request.now.source ≢ self.old.end.own }
+        requires here { request.now.destination ≡ self.old.end.own }
+        ensures ok { IfOk result (λ changed. IsServed P.performed self.old now request.now self.new
+            (rules_of P.answer P.after P.sensed) reply.new.items
+            (outcome_on (way_back self.old.end.own (message_at now request.now)) changed)) }
+        ensures err { OnErr result (IsNotServed P.performed self.old now request.now self.new P.STEADY) }
+    {
         if self.end.standing(now, request, reply) != Standing::Fresh {
             self.end.finish(now, request);
-            return Ok(not_performed(route));
+            return Ok(None);
         }
         let changed = self.perform(now, request, reply)?;
         self.end.finish(now, request);
-        Ok(performed(changed, route))
+        Ok(Some(changed))
     }
 
     /// Performs a fresh request, or refuses it, and keeps its answer, which is put into `reply`. The result is whether

@@ -1,6 +1,7 @@
 //! What a responding end says of a message that is answered: whether it was performed now, and the answer's route.
 
 ghost use Rattle.std.specs.Prelude.{◌≡◌, true, false};
+ghost use Rattle.pldm_responder.specs.Answering.{outcome_on};
 ghost use Rattle.pldm_responder.specs.declared.outcome.MessageOutcome.TheVariants.{Answered};
 
 use crate::outcome::MessageOutcome;
@@ -25,5 +26,16 @@ pub fn performed(changed: bool, route: Route) -> MessageOutcome
         fresh: true,
         changed,
         route,
+    }
+}
+
+/// What becomes of a message that is answered on this route: `changed` is `None` where it is not performed.
+#[inline(always)]
+pub(crate) fn outcome_on(route: Route, changed: Option<bool>) -> MessageOutcome
+    ensures { result ≡ outcome_on route changed }
+{
+    match changed {
+        None => not_performed(route),
+        Some(changed) => performed(changed, route),
     }
 }

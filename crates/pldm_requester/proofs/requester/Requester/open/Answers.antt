@@ -2,8 +2,10 @@ use Rattle.std.specs.FinMap as map
 use Rattle.std.proofs.Common.{◌≡◌, ◌∙◌, ◌+◌, ◌<◌, true, false, ap, sym, subst, refl, arith}
 use Rattle.mctp_packet.specs.Pieces.{written_packets}
 use Rattle.mctp_packet.specs.declared.packet.Route.{Route}
+use Rattle.pldm_wire.specs.Commands.{command_message, kind_of}
 use Rattle.pldm_requester.specs.Courses.{begun}
 use Rattle.pldm_requester.specs.Calls.{answer_key}
+use Rattle.pldm_requester.specs.Numbering.{id_of}
 use Rattle.pldm_requester.specs.Slots.{RequesterView, held_of, put_slot, most_opened}
 use Rattle.pldm_requester.specs.Steps.{Memo, IsHeld, is_tag_in_use, opened_held}
 use Rattle.pldm_requester.proofs.SlotSteps.{opened_station, opened_is_held, memo_is}
@@ -13,23 +15,22 @@ pub invariant_of-self-2 : goal.invariant_of-self-2
 invariant_of-self-2 c =
     let station : RequesterView = record { own = c.self.inside.own; device = c.self.inside.device; timing = c.self.inside.timing; count = c.self.inside.count; slots = c.self.inside.slots.items; open_messages = c.self.inside.assembler; last = c.self.inside.last } in
     let route : Route = record { destination = station.device; source = station.own; owner = true; tag = c.tag_of-tag.result } in
-    let memo : Memo = record { kind = c.kind.result; packets = written_packets route c.deref.result.now; course = begun c.args.now } in
+    let memo : Memo = record { kind = kind_of c.args.command.now; packets = written_packets route (command_message (id_of station.count) c.args.command.now); course = begun c.args.now } in
     let count = ap (λ (s : RequesterView). s.count) c.self.view_is in
     let paced = c.if-is_id_in_use.ensures.paced in
     let few : station.count < most_opened c.args.now = omega (arith, paced, count) in
     let free = subst (λ (s : RequesterView). is_tag_in_use (held_of s) ≡ false) (sym c.self.view_is) (sym c.if-is_tag_in_use.ensures) in
-    rw (c.put.ensures, c.make_room.ensures.items) (opened_station station c.args.now memo c.forget.new.self c.self.invariant refl few free)
+    rw (c.put.ensures.items, c.make_room.ensures.items) (opened_station station c.args.now memo c.forget.new.self c.self.invariant refl few free)
 
 pub returns-clause-held : goal.returns-clause-held
 returns-clause-held c =
     let station : RequesterView = record { own = c.self.inside.own; device = c.self.inside.device; timing = c.self.inside.timing; count = c.self.inside.count; slots = c.self.inside.slots.items; open_messages = c.self.inside.assembler; last = c.self.inside.last } in
     let tag = c.tag_of-tag.ensures.value in
     let route : Route = record { destination = station.device; source = station.own; owner = true; tag = c.tag_of-tag.result } in
-    let packets = written_packets route c.deref.result.now in
-    let sent = ap (written_packets route) (c.deref.ensures.0 ∙ c.put_command.ensures.spelled) in
-    let memo : Memo = record { kind = c.kind.result; packets = packets; course = begun c.args.now } in
-    let new = memo_is station c.args.now c.id_of-id.result c.tag_of-tag.result c.args.command.now c.kind.result packets c.kind.ensures sent c.id_of-id.ensures.value tag in
+    let packets = written_packets route (command_message (id_of station.count) c.args.command.now) in
+    let memo : Memo = record { kind = kind_of c.args.command.now; packets = packets; course = begun c.args.now } in
+    let new = memo_is station c.args.now c.args.command.now c.tag_of-tag.result tag in
     subst (λ (s : RequesterView). IsHeld (held_of (record station { count = station.count + 1; slots = c.put.new.slots.items; open_messages = c.forget.new.self; last = c.args.now })) (opened_held (held_of s) c.args.now c.args.command.now)) c.self.view_is
     (opened_is_held station c.args.now c.args.command.now c.put.new.slots.items c.forget.new.self c.self.invariant.slots
-    (c.put.ensures ∙ ap (λ xs. put_slot station.count xs memo) c.make_room.ensures.items ∙ ap (put_slot station.count station.slots) new)
+    (c.put.ensures.items ∙ ap (λ xs. put_slot station.count xs memo) c.make_room.ensures.items ∙ ap (put_slot station.count station.slots) new)
     (c.forget.ensures ∙ ap (map.remove station.open_messages) (c.answer_key.ensures ∙ ap (answer_key station.device) tag)))

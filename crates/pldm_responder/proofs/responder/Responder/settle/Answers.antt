@@ -1,19 +1,17 @@
-use Rattle.std.proofs.Common.{rules, ◌≡◌, ◌<◌, ◌∙◌, true, false, ap, length, subst, sym}
+use Rattle.std.proofs.Common.{rules, ◌≡◌, ◌<◌, ◌∙◌, true, false, ap, length, subst}
 use Rattle.pldm_wire.specs.Headers.{id_at}
-use Rattle.pldm_responder.specs.Arrivals.{Whole, way_back}
+use Rattle.pldm_responder.specs.Arrivals.{Whole}
 use Rattle.pldm_responder.specs.Ends.{held_by, held_over}
 use Rattle.pldm_responder.specs.ResponderStates.{IsHeld}
 use Rattle.pldm_responder.specs.Looking.{end_finished, message_at}
 use Rattle.pldm_responder.specs.Performing.{rules_of}
-use Rattle.pldm_responder.specs.Serving.{IsServed}
 use Rattle.pldm_responder.specs.ResponderViews.{held_of}
 use Rattle.pldm_responder.specs.Steps.{arrival_held, performs}
-use Rattle.pldm_responder.specs.declared.outcome.MessageOutcome.TheVariants.{Answered}
 use Rattle.pldm_responder.specs.declared.arriving.Standing.TheVariants.{Fresh}
 use Rattle.pldm_responder.proofs.KeptEntries.{all_answered, fresh_is_performed, not_performed, reply_has_bytes}
 use Rattle.pldm_responder.proofs.QuietRequests.{not_true, still_held}
 use Rattle.pldm_responder.proofs.ServedRequests.{served_where_performed}
-use Rattle.pldm_responder.proofs.responder.Responder.serve.Goals as goal
+use Rattle.pldm_responder.proofs.responder.Responder.settle.Goals as goal
 
 pub returns-then-ne-clause-ok : goal.returns-then-ne-clause-ok
 returns-then-ne-clause-ok g c =
@@ -42,10 +40,8 @@ returns-clause-ok g c =
     let m = message_at c.args.now r in
     let device = rules_of g.P.Platform.answer g.P.Platform.after g.P.Platform.sensed in
     let fresh : c.standing.result ≡ Fresh = search rules in
-    let taken_is : c.performed.result ≡ Answered true c.in_ok-changed.changed (way_back c.args.self.now.end.own m) = search rules in
-    subst (λ taken. IsServed g.P.Platform.performed c.args.self.now c.args.now r (record { end = c.finish-2.new.self; platform = c.self-2.inside.platform; state = g.P.Platform.state c.self-2.inside.platform }) device c.perform.new.reply.items taken) (sym taken_is)
-    (served_where_performed g.P.Platform.performed c.args.self.now c.perform.new.self (record { end = c.finish-2.new.self; platform = c.self-2.inside.platform; state = g.P.Platform.state c.self-2.inside.platform }) c.args.now r device c.perform.new.reply.items c.in_ok-changed.changed
+    served_where_performed g.P.Platform.performed c.args.self.now c.perform.new.self (record { end = c.finish-2.new.self; platform = c.self-2.inside.platform; state = g.P.Platform.state c.self-2.inside.platform }) c.args.now r device c.perform.new.reply.items c.in_ok-changed.changed
     (subst (λ station. performs (held_of station) m ≡ true) c.self.view_is (fresh_is_performed (held_over (g.P.Platform.state c.self.inside.platform) c.self.inside.end) m c.standing.result c.standing.ensures.standing fresh))
     c.in_ok-changed.ensures.ok
     (c.finish-2.ensures ∙ ap (λ s. end_finished s.end c.args.now r) c.self-2.view_is)
-    (ap (λ s. s.platform) c.self-2.view_is) (ap (λ s. s.state) c.self-2.view_is))
+    (ap (λ s. s.platform) c.self-2.view_is) (ap (λ s. s.state) c.self-2.view_is)
