@@ -93,12 +93,12 @@ module _ {S : Type 0} (setting : BothEnds S) (w : World) (moment e : ℕ) (bytes
   abbrev brought : Arrival
   brought = arrived_by (held_of side.station) (held_steps.passed (held_of side.station) bytes)
 
-  -- what was called, held and told
+  -- what was called, held and reported
   pub record Receives : Type 0 where
     pub looks : ReceiveLooksBack
     pub same : SameIsLeft
     pub new_held : IsHeld (held_of new.station) (received_held (held_of side.station) moment bytes)
-    pub tells : ReportsReply side.numbers (arrived_by (held_of side.station) (held_steps.passed (held_of side.station) bytes)) answered
+    pub reports : ReportsReply side.numbers (arrived_by (held_of side.station) (held_steps.passed (held_of side.station) bytes)) answered
 
   module _ (x : Receives) where
     looked : (got_at (held_of side.station) bytes ≡ got_expected e setting.eid (timing_of setting e) (w.calls e) bytes)
@@ -134,7 +134,7 @@ module _ {S : Type 0} (setting : BothEnds S) (w : World) (moment e : ℕ) (bytes
         ∙ memo_progress (is_recent now.count n) (memo_of e setting.eid now n) (courses.Answered m) (sym (ap (option_map (λ (q : Memo). q.course.progress)) (new_left.remembered n)) ∙ memo)
 
     pub answered_stands : (k : ℕ) (r : Asked) → asked_at w.log k ≡ Some r → IsOpened setting w k r → answered_as answered k (as_it_stands setting w r) ≡ as_it_stands setting v r
-    answered_stands k r is o = go brought refl x.tells
+    answered_stands k r is o = go brought refl x.reports
       where
         expected : got_of brought ≡ got_of (arrived e setting.eid (timing_of setting e) (requests_of setting w e) bytes)
         expected = looked.0
@@ -144,12 +144,12 @@ module _ {S : Type 0} (setting : BothEnds S) (w : World) (moment e : ℕ) (bytes
             ap (λ a. answered_as a k (as_it_stands setting w r)) nothing ∙ sym (stays r (λ at. not_answered brought (arrived e setting.eid (timing_of setting e) (requests_of setting w e) bytes) r.own expected (other r.own)))
 
         go : (a : Arrival) → brought ≡ a → ReportsReply side.numbers a answered → answered_as answered k (as_it_stands setting w r) ≡ as_it_stands setting v r
-        go (Drop reason) at tells = none tells (λ n m e'. let wrong : ◌≡◌ {A = Arrival} (Drop reason) (Answer n m) = sym at ∙ e' in absurd (cc))
-        go Part at tells = none tells (λ n m e'. let wrong : ◌≡◌ {A = Arrival} Part (Answer n m) = sym at ∙ e' in absurd (cc))
-        go (Answer n m) at tells = both (cases_eq r.source e) (cases_eq r.own n)
+        go (Drop reason) at reports = none reports (λ n m e'. let wrong : ◌≡◌ {A = Arrival} (Drop reason) (Answer n m) = sym at ∙ e' in absurd (cc))
+        go Part at reports = none reports (λ n m e'. let wrong : ◌≡◌ {A = Arrival} Part (Answer n m) = sym at ∙ e' in absurd (cc))
+        go (Answer n m) at reports = both (cases_eq r.source e) (cases_eq r.own n)
           where
-            numbers_are : tells.0.number ≡ slice_index (numbers_of w.log e) n
-            numbers_are = tells.2 ∙ ap (λ xs. slice_index xs n) s.numbers
+            numbers_are : reports.0.number ≡ slice_index (numbers_of w.log e) n
+            numbers_are = reports.2 ∙ ap (λ xs. slice_index xs n) s.numbers
 
             below : n < (requests_of setting w e).count
             below =
@@ -158,20 +158,20 @@ module _ {S : Type 0} (setting : BothEnds S) (w : World) (moment e : ℕ) (bytes
                 let count = s.left.count in
                 omega (arith, low, count)
 
-            alone : k ≡ tells.0.number → (r.source ≡ e) × (n ≡ r.own)
+            alone : k ≡ reports.0.number → (r.source ≡ e) × (n ≡ r.own)
             alone same = unique setting w moment e (record { counted = s.counted; back = s.numbered }) k r is n below (sym numbers_are ∙ sym same)
 
             here : r.source ≡ e → r.own ≡ n → answered_as answered k (as_it_stands setting w r) ≡ as_it_stands setting v r
             here at_e own =
                 let number = index_get (numbers_of w.log e) n k (subst (λ j. slice_get (numbers_of w.log e) j ≡ Some k) own (subst (λ d. slice_get (numbers_of w.log d) r.own ≡ Some k) at_e o.number)) in
-                ap (λ a. answered_as a k (as_it_stands setting w r)) tells.1
-                ∙ cond-true (k == tells.0.number) _ _ (eq-eqb k tells.0.number (sym number ∙ sym numbers_are))
-                ∙ ap (λ c. record { asked = r; progress = c }) (ap courses.Answered tells.3 ∙ sym (stands r n m at_e own at))
+                ap (λ a. answered_as a k (as_it_stands setting w r)) reports.1
+                ∙ cond-true (k == reports.0.number) _ _ (eq-eqb k reports.0.number (sym number ∙ sym numbers_are))
+                ∙ ap (λ c. record { asked = r; progress = c }) (ap courses.Answered reports.3 ∙ sym (stands r n m at_e own at))
 
             away : ((r.source ≡ e) → (n ≡ r.own) → ⊥) → answered_as answered k (as_it_stands setting w r) ≡ as_it_stands setting v r
             away other =
-                ap (λ a. answered_as a k (as_it_stands setting w r)) tells.1
-                ∙ cond-false (k == tells.0.number) _ _ (ne_eqb k tells.0.number (λ same. let both = alone same in other both.0 both.1))
+                ap (λ a. answered_as a k (as_it_stands setting w r)) reports.1
+                ∙ cond-false (k == reports.0.number) _ _ (ne_eqb k reports.0.number (λ same. let both = alone same in other both.0 both.1))
                 ∙ sym (stays r (λ at_e m2 is2. other at_e (let same : ◌≡◌ {A = Got} (got.Answered n) (got.Answered r.own) = ap got_of (sym at) ∙ expected ∙ ap got_of is2 in cc)))
 
             both : (r.source ≡ e) ⊎ (r.source ≡ e → ⊥) → (r.own ≡ n) ⊎ (r.own ≡ n → ⊥) → answered_as answered k (as_it_stands setting w r) ≡ as_it_stands setting v r
@@ -188,7 +188,7 @@ module _ {P S : Type 0} (setting : BothEnds S) (past : List Step) (run : HeldRun
       pub same_numbers : new.numbers ≡ (running.sides q.source (running.opened k q is).source).0.numbers
       pub new_held : IsHeld (held_of new.station) (received_held (held_of (running.sides q.source (running.opened k q is).source).0.station) moment bytes)
       pub got_is : taken ≡ got_at (held_of (running.sides q.source (running.opened k q is).source).0.station) bytes
-      pub tells : ReportsReply (running.sides q.source (running.opened k q is).source).0.numbers
+      pub reports : ReportsReply (running.sides q.source (running.opened k q is).source).0.numbers
           (arrived_by (held_of (running.sides q.source (running.opened k q is).source).0.station) (held_steps.passed (held_of (running.sides q.source (running.opened k q is).source).0.station) bytes)) answered
       pub time_is : in_time ≡ nat_le (held_of (running.sides q.source (running.opened k q is).source).0.station).count (q.own + 8)
       pub requests : (j : ℕ) → slice_get journal.requests.items j ≡ option_map (answered_as answered j) (slice_get run.journal.requests.items j)
@@ -203,7 +203,7 @@ module _ {P S : Type 0} (setting : BothEnds S) (past : List Step) (run : HeldRun
         let side = (running.sides e has).0 in
         let s = (running.sides e has).2 in
         let later_side = later_side_of e side s in
-        let x : Receives setting w moment e bytes side new later_side answered = record { looks = looks; same = same; new_held = h.new_held; tells = h.tells } in
+        let x : Receives setting w moment e bytes side new later_side answered = record { looks = looks; same = same; new_held = h.new_held; reports = h.reports } in
         let looked = looks e setting.eid (timing_of setting e) (held_of side.station) (w.calls e) moment bytes s.left in
         called_runs setting past run journal running moment later (answer_action busy k packet) e has (requester.Receive moment bytes) new (entry.Received taken)
         (record {
@@ -235,10 +235,10 @@ module _ {P S : Type 0} (setting : BothEnds S) (past : List Step) (run : HeldRun
         stand x j (Some r) at =
             ap Some (answered_stands setting (world setting past) moment q.source bytes (running.sides q.source has).0 new (later_side_of q.source (running.sides q.source has).0 (running.sides q.source has).2) answered x j r at (running.opened j r at))
 
--- ---- the request that is told as answered has been opened
-pub told_below : {S : Type 0} (setting : BothEnds S) (w : World) (now e : ℕ) (side : Side) → IsSide setting w now e side → (bytes : List ℕ) (answered : Option AnsweredRequest) (bound : ℕ) → count_of w.log ≡ bound
+-- ---- the request that is reported as answered has been opened
+pub answered_below : {S : Type 0} (setting : BothEnds S) (w : World) (now e : ℕ) (side : Side) → IsSide setting w now e side → (bytes : List ℕ) (answered : Option AnsweredRequest) (bound : ℕ) → count_of w.log ≡ bound
     → ReportsReply side.numbers (arrived_by (held_of side.station) (held_steps.passed (held_of side.station) bytes)) answered → IfSome answered (λ a. a.number < bound)
-told_below setting w now e side s bytes answered bound all tells = go (arrived_by (held_of side.station) (held_steps.passed (held_of side.station) bytes)) refl tells
+answered_below setting w now e side s bytes answered bound all reports = go (arrived_by (held_of side.station) (held_steps.passed (held_of side.station) bytes)) refl reports
   where
     none : answered ≡ None → IfSome answered (λ a. a.number < bound)
     none nothing = subst (λ o. IfSome o (λ a. a.number < bound)) (sym nothing) tt

@@ -31,7 +31,7 @@ use Rattle.mctp_schedule.specs.Deliveries.{packets_of_outcome}
 use Rattle.mctp_schedule.specs.EntryColumns.{outcomes_in, outcomes_in_entry}
 use Rattle.mctp_schedule.specs.HeldRuns.{HeldRun}
 use Rattle.mctp_schedule.specs.Journals.{Carried, answers_at, fresh_numbers, is_replied, packet_of_request, packets_in}
-use Rattle.mctp_schedule.specs.Logs.{Asked, asked_at, message_at, told, told_of}
+use Rattle.mctp_schedule.specs.Logs.{Asked, asked_at, message_at, reached, with_reached}
 use Rattle.mctp_schedule.specs.OncePerformed.{FitsPackets}
 use Rattle.mctp_schedule.specs.Requests.{Request}
 use Rattle.mctp_schedule.specs.Running.{IsCarried, IsOpened, IsRunning, busy_packets, device_calls, received}
@@ -137,7 +137,7 @@ module _ {P S : Type 0} (setting : BothEnds S) (past : List Step) (run : HeldRun
     device = record {
       endpoint = running.device.endpoint;
       left = subst (IsLeftBy setting.device setting.eid All setting.window setting.keep setting.start (held_of run.responder)) (sym (ap (λ o. received setting.eid moment o (device_calls setting.eid w.log)) none)) running.device.left;
-      events = ap (λ o. events setting.eid (received setting.eid moment o (device_calls setting.eid w.log))) none ∙ running.device.events ∙ sym (ap (λ o. told_of moment o (told {S = S} w.log)) none);
+      events = ap (λ o. events setting.eid (received setting.eid moment o (device_calls setting.eid w.log))) none ∙ running.device.events ∙ sym (ap (λ o. with_reached moment o (reached {S = S} w.log)) none);
       called = let x = running.device.called in omega (arith, x, later);
     };
     sides = λ e has. let s = running.sides e has in (s.0, s.1, still_side setting w v (time_now past) moment e s.0 refl refl (λ k r is. is) later s.2);
@@ -153,7 +153,7 @@ module _ {P S : Type 0} (setting : BothEnds S) (past : List Step) (run : HeldRun
         );
     carried = ap (λ (ts : List Carried). length ts) enters.traffic ∙ running.carried;
     entries = enters.entries ∙ ap (λ es. es ++ entry.Nothing ∷ []) running.entries ∙ ap (λ o. entries setting past ++ delivery_entry setting w.log moment o ∷ []) (sym none);
-    order = enters.order ∙ running.order ∙ sym (cond-false (fresh_of setting.window setting.keep (told {S = S} w.log) moment (asked_at w.log n)) _ _ (ap (fresh_of setting.window setting.keep (told {S = S} w.log) moment) none));
+    order = enters.order ∙ running.order ∙ sym (cond-false (fresh_of setting.window setting.keep (reached {S = S} w.log) moment (asked_at w.log n)) _ _ (ap (fresh_of setting.window setting.keep (reached {S = S} w.log) moment) none));
     arrived = λ s. running.arrived s ∙ ap (λ o. with_first (is_first S setting.keep w.log moment n) o s (ids_arrived S setting.keep w.log s)) (sym none);
     timely = enters.timely ∙ running.timely ∙ ap (λ o. comes_in_time setting w.log moment n o && is_timely setting past) (sym none);
     sent = running.sent;
@@ -201,11 +201,11 @@ module _ {P S : Type 0} (setting : BothEnds S) (past : List Step) (run : HeldRun
           × IsLeftBy setting.device setting.eid All setting.window setting.keep setting.start (received_held setting.device (held_of run.responder) moment bytes) (responder.Received moment bytes ∷ calls)
       looked = looks setting.eid All setting.window setting.keep setting.start (held_of run.responder) calls moment bytes running.device.left
 
-      busy_is : busy ≡ is_busy setting.keep (told {S = S} w.log) moment
+      busy_is : busy ≡ is_busy setting.keep (reached {S = S} w.log) moment
       busy_is =
           d.given_busy ∙ ap (nat_lt moment) running.device.left.serves_from ∙ ap (λ es. is_busy setting.keep es moment) running.device.events
 
-      outcome_is : outcome ≡ answer_expected setting.device setting.eid All setting.window setting.keep setting.start (told w.log) m
+      outcome_is : outcome ≡ answer_expected setting.device setting.eid All setting.window setting.keep setting.start (reached w.log) m
       outcome_is =
           d.given_outcome ∙ looked.0
           ∙ ap (outcome_expected setting.device setting.eid All setting.window setting.keep setting.start (events setting.eid calls)) arrives_here
@@ -238,7 +238,7 @@ module _ {P S : Type 0} (setting : BothEnds S) (past : List Step) (run : HeldRun
               record {
                 packet = t.packet;
                 reply = packets_stay run.journal.entries x c.reply t.reply_place ∙ t.reply ∙ ap (option_map (answer_packets setting.eid r)) (sym (given_busy setting.device setting.window setting.keep setting.start w.log moment n r is up));
-                busy = at_place ∙ ap packets_of_outcome outcome_is ∙ expected_busy setting.device setting.eid setting.window setting.keep setting.start (told {S = S} w.log) m up ∙ ap (busy_packets setting.eid r) (sym (busy_here setting.device setting.window setting.keep setting.start w.log moment n r is up));
+                busy = at_place ∙ ap packets_of_outcome outcome_is ∙ expected_busy setting.device setting.eid setting.window setting.keep setting.start (reached {S = S} w.log) m up ∙ ap (busy_packets setting.eid r) (sym (busy_here setting.device setting.window setting.keep setting.start w.log moment n r is up));
                 arrived = t.arrived ∙ sym (arrived_busy S setting.keep w.log moment n up n);
                 reply_place = before_more run.journal.entries x c.reply t.reply_place;
                 busy_place = below;
@@ -247,7 +247,7 @@ module _ {P S : Type 0} (setting : BothEnds S) (past : List Step) (run : HeldRun
               let up = sym busy_is ∙ off in
               record {
                 packet = t.packet;
-                reply = at_place ∙ ap packets_of_outcome outcome_is ∙ expected_served setting.device setting.eid setting.window setting.keep setting.start (told {S = S} w.log) m up ∙ ap (option_map (answer_packets setting.eid r)) (sym (given_here setting.device setting.window setting.keep setting.start w.log moment n r is up));
+                reply = at_place ∙ ap packets_of_outcome outcome_is ∙ expected_served setting.device setting.eid setting.window setting.keep setting.start (reached {S = S} w.log) m up ∙ ap (option_map (answer_packets setting.eid r)) (sym (given_here setting.device setting.window setting.keep setting.start w.log moment n r is up));
                 busy = packets_stay run.journal.entries x c.busy t.busy_place ∙ t.busy ∙ ap (busy_packets setting.eid r) (sym (busy_served setting.device setting.window setting.keep setting.start w.log moment n r is up));
                 arrived = sym (arrived_here S setting.keep w.log moment n r is up);
                 reply_place = below;
@@ -281,7 +281,7 @@ module _ {P S : Type 0} (setting : BothEnds S) (past : List Step) (run : HeldRun
                 (still_carried setting w v run.journal.entries x k q t.0 (given_other setting.device setting.window setting.keep setting.start w.log moment n k (λ e. other (sym e))) (busy_other setting.device setting.window setting.keep setting.start w.log moment n k (λ e. other (sym e))) (arrived_other S setting.keep w.log moment n k (λ e. other (sym e))) t.2),
           )
 
-      fits_here : (q : Asked) → asked_at w.log n ≡ Some q → is_fresh All setting.window setting.keep (told {S = S} w.log) (message_at moment q) ≡ true → FitsPackets (reply setting.device (performed setting.device All setting.window setting.keep setting.start (told w.log)) q.message)
+      fits_here : (q : Asked) → asked_at w.log n ≡ Some q → is_fresh All setting.window setting.keep (reached {S = S} w.log) (message_at moment q) ≡ true → FitsPackets (reply setting.device (performed setting.device All setting.window setting.keep setting.start (reached w.log)) q.message)
       fits_here q asked fresh =
           let same_request : r ≡ q = let both : Some r ≡ Some q = sym is ∙ asked in cc in
           let held = held_of run.responder in
@@ -289,10 +289,10 @@ module _ {P S : Type 0} (setting : BothEnds S) (past : List Step) (run : HeldRun
           ap (λ own. arrival (assembly.answer held.open_messages) own moment bytes) running.device.left.endpoint ∙ brings (assembly.answer held.open_messages) (held_whole held.open_messages setting.eid r) in
           let fits : performs held m ≡ true → Fits (reply setting.device held.state m.bytes) = subst (ArrivalFits setting.device held) arrival_is d.given_fits in
           let on : performs held m ≡ true =
-          performs_is setting.device setting.eid setting.window setting.keep setting.start held calls running.device.left m ∙ ap (λ es. is_fresh All setting.window setting.keep es m) running.device.events ∙ subst (λ a. is_fresh All setting.window setting.keep (told {S = S} w.log) (message_at moment a) ≡ true) (sym same_request) fresh in
+          performs_is setting.device setting.eid setting.window setting.keep setting.start held calls running.device.left m ∙ ap (λ es. is_fresh All setting.window setting.keep es m) running.device.events ∙ subst (λ a. is_fresh All setting.window setting.keep (reached {S = S} w.log) (message_at moment a) ≡ true) (sym same_request) fresh in
           let both = fits on in
           let state = running.device.left.state ∙ ap (performed setting.device All setting.window setting.keep setting.start) running.device.events in
-          subst (λ (a : Asked). FitsPackets (reply setting.device (performed setting.device All setting.window setting.keep setting.start (told w.log)) a.message)) same_request
+          subst (λ (a : Asked). FitsPackets (reply setting.device (performed setting.device All setting.window setting.keep setting.start (reached w.log)) a.message)) same_request
           (subst (λ s. FitsPackets (reply setting.device s r.message)) state (record { some = both.0; few = both.1 }))
 
       arrived_is : arrived ≡ has_arrived S setting.keep w.log n
@@ -306,7 +306,7 @@ module _ {P S : Type 0} (setting : BothEnds S) (past : List Step) (run : HeldRun
 
       -- the delivery is the first arrival where it is said so
       first_is : (not arrived && not busy) ≡ is_first S setting.keep w.log moment n
-      first_is = (λ i. not (arrived_is i) && not (busy_is i)) ∙ ap (λ o. is_first_of o (first S setting.keep w.log n) (is_busy setting.keep (told {S = S} w.log) moment)) (sym is)
+      first_is = (λ i. not (arrived_is i) && not (busy_is i)) ∙ ap (λ o. is_first_of o (first S setting.keep w.log n) (is_busy setting.keep (reached {S = S} w.log) moment)) (sym is)
 
       ids_now : (s : ℕ) → ids_at arrivals s ≡ ids_arrived S setting.keep v.log s
       ids_now s =
@@ -322,7 +322,7 @@ module _ {P S : Type 0} (setting : BothEnds S) (past : List Step) (run : HeldRun
           endpoint = running.device.endpoint;
           left = same setting.eid All setting.window setting.keep setting.start (held_of new) (received_held setting.device (held_of run.responder) moment bytes) (device_calls setting.eid v.log) d.new_held
               (subst (IsLeftBy setting.device setting.eid All setting.window setting.keep setting.start (received_held setting.device (held_of run.responder) moment bytes)) (sym called_with) looked.1);
-          events = ap (events setting.eid) called_with ∙ ap (λ a. with_arrival a (events setting.eid calls)) arrives_here ∙ ap (λ es. Came m ∷ es) running.device.events ∙ sym (ap (λ o. told_of moment o (told {S = S} w.log)) is);
+          events = ap (events setting.eid) called_with ∙ ap (λ a. with_arrival a (events setting.eid calls)) arrives_here ∙ ap (λ es. Came m ∷ es) running.device.events ∙ sym (ap (λ o. with_reached moment o (reached {S = S} w.log)) is);
           called = let y = d.new_held.last in omega (arith, y);
         };
         sides = λ e has. let s = running.sides e has in (s.0, s.1, still_side setting w v (time_now past) moment e s.0 refl refl (λ k q asked. asked) later s.2);
@@ -332,12 +332,12 @@ module _ {P S : Type 0} (setting : BothEnds S) (past : List Step) (run : HeldRun
         traffic = carried_at;
         carried = d.same_count ∙ running.carried;
         entries = d.new_entries ∙ ap (λ es. es ++ x ∷ []) running.entries
-            ∙ ap (λ y. entries setting past ++ y ∷ []) (ap (λ b. entry.Delivered b outcome) busy_is ∙ ap (entry.Delivered (is_busy setting.keep (told {S = S} w.log) moment)) outcome_is ∙ sym (ap (delivery_entry setting w.log moment) is));
+            ∙ ap (λ y. entries setting past ++ y ∷ []) (ap (λ b. entry.Delivered b outcome) busy_is ∙ ap (entry.Delivered (is_busy setting.keep (reached {S = S} w.log) moment)) outcome_is ∙ sym (ap (delivery_entry setting w.log moment) is));
         order = d.new_order ∙ ap (λ xs. xs ++ fresh_numbers n outcome) running.order
             ∙ ap (λ o. order S setting.window setting.keep w.log ++ fresh_numbers n o) outcome_is
-            ∙ ap (λ xs. order S setting.window setting.keep w.log ++ xs) (expected_fresh setting.device setting.eid setting.window setting.keep setting.start (told {S = S} w.log) m n)
-            ∙ listed (is_fresh All setting.window setting.keep (told {S = S} w.log) m) (order S setting.window setting.keep w.log) n
-            ∙ ap (λ o. if fresh_of setting.window setting.keep (told {S = S} w.log) moment o then order S setting.window setting.keep w.log ++ n ∷ [] else order S setting.window setting.keep w.log) (sym is);
+            ∙ ap (λ xs. order S setting.window setting.keep w.log ++ xs) (expected_fresh setting.device setting.eid setting.window setting.keep setting.start (reached {S = S} w.log) m n)
+            ∙ listed (is_fresh All setting.window setting.keep (reached {S = S} w.log) m) (order S setting.window setting.keep w.log) n
+            ∙ ap (λ o. if fresh_of setting.window setting.keep (reached {S = S} w.log) moment o then order S setting.window setting.keep w.log ++ n ∷ [] else order S setting.window setting.keep w.log) (sym is);
         arrived = λ s. ids_now s;
         timely = d.new_timely ∙ (λ i. in_time_is i && running.timely i) ∙ ap (λ o. comes_in_time setting w.log moment n o && is_timely setting past) (sym is);
         sent = running.sent;

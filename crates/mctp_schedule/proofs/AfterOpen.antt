@@ -22,7 +22,7 @@ use Rattle.mctp_schedule.specs.Entries.{as_it_stands, entries, entry_of, numbers
 use Rattle.mctp_schedule.specs.FirstArrivals.{arrives, is_answered_busy, order, first, has_arrived}
 use Rattle.mctp_schedule.specs.HeldRuns.{HeldRun}
 use Rattle.mctp_schedule.specs.Journals.{Carried}
-use Rattle.mctp_schedule.specs.Logs.{Asked, Happening, Opened, Delivered, Sensed, WentDown, asked_at, count_of, told}
+use Rattle.mctp_schedule.specs.Logs.{Asked, Happening, Opened, Delivered, Sensed, WentDown, asked_at, count_of, reached}
 use Rattle.mctp_schedule.specs.OncePerformed.{AreRequests, RepliesFit, given, was_busy}
 use Rattle.mctp_schedule.specs.Places.{side_at}
 use Rattle.mctp_schedule.specs.Requests.{Request, begun}
@@ -60,7 +60,7 @@ module _ {S : Type 0} (device : Rules S) (window keep : ℕ) (start : S) where
   none_given (Sensed _ _ _ ∷ past) k l = none_given past k l
   none_given (WentDown _ ∷ past) k l = none_given past k l
   none_given (Delivered t j ∷ past) k l =
-      cond-false (j == k && arrives (asked_at past k) (is_busy keep (told {S = S} past) t)) _ _ (and_right (j == k) _ (ap (λ o. arrives o (is_busy keep (told {S = S} past) t)) (none_past past k l)))
+      cond-false (j == k && arrives (asked_at past k) (is_busy keep (reached {S = S} past) t)) _ _ (and_right (j == k) _ (ap (λ o. arrives o (is_busy keep (reached {S = S} past) t)) (none_past past k l)))
       ∙ none_given past k l
 
 module _ (S : Type 0) where
@@ -70,7 +70,7 @@ module _ (S : Type 0) where
   never_busy keep (Sensed _ _ _ ∷ past) k l = never_busy keep past k l
   never_busy keep (WentDown _ ∷ past) k l = never_busy keep past k l
   never_busy keep (Delivered t j ∷ past) k l =
-      ap (λ b. b || was_busy S keep past k) (and_right (j == k) _ (ap (λ o. is_answered_busy o (is_busy keep (told {S = S} past) t)) (none_past past k l)))
+      ap (λ b. b || was_busy S keep past k) (and_right (j == k) _ (ap (λ o. is_answered_busy o (is_busy keep (reached {S = S} past) t)) (none_past past k l)))
       ∙ never_busy keep past k l
 
   pub never_arrived : (keep : ℕ) (log : List Happening) (k : ℕ) → count_of log ≤ k → has_arrived S keep log k ≡ false

@@ -8,7 +8,7 @@ use Rattle.pldm_wire.specs.declared.assigned.TheConstants.{INSTANCE_IDS}
 use Rattle.pldm_responder.specs.Events.{is_busy}
 use Rattle.mctp_schedule.specs.FirstArrivals.{arrives, earlier, first, has_arrived, is_first}
 use Rattle.mctp_schedule.specs.EachId as each_id
-use Rattle.mctp_schedule.specs.Logs.{Asked, Happening, Opened, Delivered, Sensed, WentDown, asked_at, told}
+use Rattle.mctp_schedule.specs.Logs.{Asked, Happening, Opened, Delivered, Sensed, WentDown, asked_at, reached}
 use Rattle.mctp_schedule.proofs.FirstPerformed.{first_below, is_first_of, request_older}
 use Rattle.pldm_responder.specs.Recency.{of_number, renewed}
 use Rattle.pldm_responder.proofs.NoIdFallsOut.{id_is_small}
@@ -86,7 +86,7 @@ module _ (S : Type 0) (keep : ℕ) where
   arrived_in (Delivered t j ∷ past) k r e came = go (first S keep past k) refl (λ x. arrived_in past k r e x)
     where
       busy : Bool
-      busy = is_busy keep (told {S = S} past) t
+      busy = is_busy keep (reached {S = S} past) t
 
       test : Bool
       test = j == k && arrives (asked_at past k) busy

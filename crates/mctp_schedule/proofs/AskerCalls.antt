@@ -27,7 +27,7 @@ use Rattle.pldm_requester.specs.Steps.{RequesterState, IsHeld, Memo, arrived_by,
 use Rattle.pldm_requester.specs.declared.results.Got.{Got}
 use Rattle.pldm_requester.specs.declared.results.Got.TheVariants as gots
 use Rattle.pldm_requester.specs.declared.results.Opened.{Opened}
-use Rattle.mctp_schedule.specs.Askers.{HasPacket, IsAnswered, IsOpenedAs, IsSent, ReportsReply, Side, TellsAnswer, packet_bytes}
+use Rattle.mctp_schedule.specs.Askers.{HasPacket, IsAnswered, IsOpenedAs, IsSent, ReportsReply, Side, ReportsAnswer, packet_bytes}
 use Rattle.mctp_schedule.specs.declared.askers.AnsweredRequest.{AnsweredRequest}
 use Rattle.mctp_schedule.specs.declared.askers.SentRequest.{SentRequest}
 use Rattle.mctp_schedule.proofs.ListPlaces.{take_all}
@@ -69,7 +69,7 @@ sent_packet new held moment number command bytes h same some few here =
     sym here ∙ opened_packet new held moment number command h same some few in
     cc
 
--- what is told of it is what its packet tells
+-- what is reported of it is what its packet says
 module _ (held new : RequesterState) (moment : ℕ) (command : Command) (own : ℕ) (after : IsHeld new (opened_held held moment command)) (is : IsOpenedAs held moment command own) (some : 0 < length (message_of held.count command)) (few : length (message_of held.count command) ≤ BASELINE_UNIT) where
   pub has_packet : HasPacket new own
   has_packet = (
@@ -168,7 +168,7 @@ all_ranged bound start (suc n) h = (omega arith, all_ranged bound (start + 1) n 
 pub recent_below : (count : ℕ) (test : ℕ → Bool) → AllByRecursion (λ k. k < count) (filter test (recent_numbers count))
 recent_below count test = all_filtered (λ k. k < count) test (recent_numbers count) (all_ranged count (count - MAX_OPEN) (count - (count - MAX_OPEN)) (omega arith))
 
--- ---- what is told of an answer
+-- ---- what is reported of an answer
 pub same_answer : (progress : Option courses.Progress) (a b : List ℕ) → progress ≡ Some (courses.Answered a) → progress ≡ Some (courses.Answered b) → a ≡ b
 same_answer progress a b e f = let both : ◌≡◌ {A = Option courses.Progress} (Some (courses.Answered a)) (Some (courses.Answered b)) = sym e ∙ f in cc
 
@@ -189,10 +189,10 @@ module _ (old new : Side) (moment : ℕ) (bytes : List ℕ) (got : Got) (after :
           let many = ap (λ (xs : List ℕ). length xs) same in
           ((answer.0, progress_left held (held_of new.station) moment bytes own answer.0 after answer.1), omega (arith, low, many, all))
 
-  pub reports_reply : (answered : Option AnsweredRequest) → TellsAnswer new got answered → ReportsReply old.numbers (arrived_by held (passed held bytes)) answered
-  reports_reply answered tells = go (arrived_by held (passed held bytes)) refl (subst (λ g. TellsAnswer new g answered) gave tells)
+  pub reports_reply : (answered : Option AnsweredRequest) → ReportsAnswer new got answered → ReportsReply old.numbers (arrived_by held (passed held bytes)) answered
+  reports_reply answered reports = go (arrived_by held (passed held bytes)) refl (subst (λ g. ReportsAnswer new g answered) gave reports)
     where
-      go : (a : Arrival) → arrived_by held (passed held bytes) ≡ a → TellsAnswer new (got_of a) answered → ReportsReply old.numbers a answered
+      go : (a : Arrival) → arrived_by held (passed held bytes) ≡ a → ReportsAnswer new (got_of a) answered → ReportsReply old.numbers a answered
       go (Drop reason) at t = t
       go Part at t = t
       go (Answer n m) at t =

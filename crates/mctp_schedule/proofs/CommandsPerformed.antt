@@ -15,7 +15,7 @@ use Rattle.mctp_schedule.specs.Askers.{packet_bytes}
 use Rattle.mctp_schedule.specs.DeviceHalf.{FreshWhereFirst}
 use Rattle.mctp_schedule.specs.FirstArrivals.{first, fresh_of}
 use Rattle.mctp_schedule.specs.HeldRuns.{HeldRun}
-use Rattle.mctp_schedule.specs.Logs.{Asked, Happening, Opened, Delivered, Sensed, WentDown, asked_at, message_at, told}
+use Rattle.mctp_schedule.specs.Logs.{Asked, Happening, Opened, Delivered, Sensed, WentDown, asked_at, message_at, reached}
 use Rattle.mctp_schedule.specs.Timely.{IsTimelyLog}
 use Rattle.mctp_schedule.specs.PerformedCommands.{commands_at_delivery, commands_at_step, commands_if, commands_once, commands_performed}
 use Rattle.mctp_schedule.specs.Running.{IsRunning, answer_action, device_calls}
@@ -76,7 +76,7 @@ module _ {P S : Type 0} (setting : BothEnds S) (past : List Step) (run : HeldRun
         ∙ ap (arrival (assembly.answer held.open_messages) setting.eid moment) packet_is
         ∙ brings_message spells read_for (assembly.answer held.open_messages) setting.eid moment r opened.readable.0 running.device.endpoint side.2.endpoint side.2.other opened.some opened.few opened.readable.1 (held_whole held.open_messages setting.eid r)
 
-    fresh_is : performs held (message_at moment r) ≡ is_fresh All setting.window setting.keep (told {S = S} log) (message_at moment r)
+    fresh_is : performs held (message_at moment r) ≡ is_fresh All setting.window setting.keep (reached {S = S} log) (message_at moment r)
     fresh_is =
         performs_is setting.device setting.eid setting.window setting.keep setting.start held (device_calls setting.eid log) running.device.left (message_at moment r)
         ∙ ap (λ es. is_fresh All setting.window setting.keep es (message_at moment r)) running.device.events
@@ -85,8 +85,8 @@ module _ {P S : Type 0} (setting : BothEnds S) (past : List Step) (run : HeldRun
     delivery_performs =
         ap (arrival_commands held) arrival_is
         ∙ ap (λ b. if b then commands_of r.message else []) fresh_is
-        ∙ chosen (is_fresh All setting.window setting.keep (told {S = S} log) (message_at moment r)) r
-        ∙ sym (ap (λ o. commands_if (fresh_of setting.window setting.keep (told {S = S} log) moment o) o) is)
+        ∙ chosen (is_fresh All setting.window setting.keep (reached {S = S} log) (message_at moment r)) r
+        ∙ sym (ap (λ o. commands_if (fresh_of setting.window setting.keep (reached {S = S} log) moment o) o) is)
 
 -- ---- over a timely log what is fresh is a first arrival
 module _ {S : Type 0} (laws : FreshWhereFirst S) (window keep : ℕ) where
@@ -95,18 +95,18 @@ module _ {S : Type 0} (laws : FreshWhereFirst S) (window keep : ℕ) where
   none_while_busy r (Some place) = refl
 
   fresh_is_first : (past : List Happening) (moment k : ℕ) → IsTimelyLog S window keep (Delivered moment k ∷ past) → (o : Option Asked) → asked_at past k ≡ o
-      → commands_if (fresh_of window keep (told {S = S} past) moment o) o ≡ commands_if (is_first_of o (first S keep past k) (is_busy keep (told {S = S} past) moment)) o
+      → commands_if (fresh_of window keep (reached {S = S} past) moment o) o ≡ commands_if (is_first_of o (first S keep past k) (is_busy keep (reached {S = S} past) moment)) o
   fresh_is_first past moment k timely None is = refl
-  fresh_is_first past moment k timely (Some r) is = ap (λ b. commands_if b (Some r)) (go (is_busy keep (told {S = S} past) moment) refl)
+  fresh_is_first past moment k timely (Some r) is = ap (λ b. commands_if b (Some r)) (go (is_busy keep (reached {S = S} past) moment) refl)
     where
-      go : (busy : Bool) → is_busy keep (told {S = S} past) moment ≡ busy → is_fresh All window keep (told {S = S} past) (message_at moment r) ≡ is_first_of (Some r) (first S keep past k) (is_busy keep (told {S = S} past) moment)
+      go : (busy : Bool) → is_busy keep (reached {S = S} past) moment ≡ busy → is_fresh All window keep (reached {S = S} past) (message_at moment r) ≡ is_first_of (Some r) (first S keep past k) (is_busy keep (reached {S = S} past) moment)
       go true on =
-          ap (λ b. not b && not (is_copy All window keep (told {S = S} past) (message_at moment r))) on
+          ap (λ b. not b && not (is_copy All window keep (reached {S = S} past) (message_at moment r))) on
           ∙ sym (none_while_busy r (first S keep past k))
           ∙ sym (ap (is_first_of (Some r) (first S keep past k)) on)
       go false off =
           (laws window keep past moment k r timely is off).0
-          ∙ ap (λ o. is_first_of o (first S keep past k) (is_busy keep (told {S = S} past) moment)) is
+          ∙ ap (λ o. is_first_of o (first S keep past k) (is_busy keep (reached {S = S} past) moment)) is
 
   pub performed_once_each : (log : List Happening) → IsTimelyLog S window keep log → commands_performed S window keep log ≡ commands_once S keep log
   performed_once_each [] t = refl

@@ -9,7 +9,7 @@ use Rattle.pldm_responder.specs.Events.{Message, is_busy, is_copy}
 use Rattle.pldm_responder.specs.Performing.{Rules, changes, performed}
 use Rattle.pldm_responder.specs.declared.outcome.Outcome.{Outcome}
 use Rattle.pldm_responder.specs.declared.outcome.Outcome.TheVariants.{Answered}
-use Rattle.mctp_schedule.specs.Logs.{Asked, Delivered, asked_at, message_at, told_of, told}
+use Rattle.mctp_schedule.specs.Logs.{Asked, Delivered, asked_at, message_at, with_reached, reached}
 use Rattle.mctp_schedule.specs.FirstArrivals.{first, is_first}
 use Rattle.mctp_schedule.specs.OncePerformed.{once, the_reply, delivery_expected}
 use Rattle.mctp_schedule.proofs.SameOverAnyState.{same_busy, same_first, same_is_first, same_fresh, same_in_time, same_origin}
@@ -50,7 +50,7 @@ fresh_where_first {S} window keep past moment k r timely e idle =
     let x = entry idle_device window keep 0 past moment k r timely.order timely.apart in_time e served in
     let is = same_fresh S ℕ window keep past (message_at moment r) ∙ x.0 ∙ same_is_first ℕ S keep past moment k in (
       is,
-      copy_is (is_busy keep (told {S = S} past) moment) (is_copy All window keep (told {S = S} past) (message_at moment r)) (is_first S keep past moment k) idle is,
+      copy_is (is_busy keep (reached {S = S} past) moment) (is_copy All window keep (reached {S = S} past) (message_at moment r)) (is_first S keep past moment k) idle is,
       λ place came. (
           let c = copies idle_device window keep 0 past moment k r place (holds idle_device window keep 0 past timely.order.1 timely.apart in_time.1) timely.order.0 (in_time.0 r e).soon ((in_time.0 r e).in_window (ap is_some (same_first ℕ S keep past k ∙ came))) e served (same_first ℕ S keep past k ∙ came) in
           let q = same_origin S ℕ window keep past r.source (id_at r.message) c.0 c.1 in
@@ -74,33 +74,33 @@ module _ {S : Type 0} (device : Rules S) where
   the_reply_fits window keep start log k place timely fit came = reply_fits device window keep start log timely.order timely.apart timely.in_time fit k place came
 
   pub not_performed_again : NotPerformedAgain device
-  not_performed_again window keep start past moment k place timely came = go (asked_at past k) refl (is_busy keep (told {S = S} past) moment) refl
+  not_performed_again window keep start past moment k place timely came = go (asked_at past k) refl (is_busy keep (reached {S = S} past) moment) refl
     where
-      go : (o : Option Asked) → asked_at past k ≡ o → (b : Bool) → is_busy keep (told {S = S} past) moment ≡ b → performed device All window keep start (told_of moment (asked_at past k) (told {S = S} past)) ≡ performed device All window keep start (told past)
-      go None e b busy = ap (λ o. performed device All window keep start (told_of moment o (told {S = S} past))) e
+      go : (o : Option Asked) → asked_at past k ≡ o → (b : Bool) → is_busy keep (reached {S = S} past) moment ≡ b → performed device All window keep start (with_reached moment (asked_at past k) (reached {S = S} past)) ≡ performed device All window keep start (reached past)
+      go None e b busy = ap (λ o. performed device All window keep start (with_reached moment o (reached {S = S} past))) e
       go (Some r) e true busy =
-          ap (λ o. performed device All window keep start (told_of moment o (told {S = S} past))) e
-          ∙ performed_stays device window keep start (told {S = S} past) (message_at moment r) (and_left (not (is_busy keep (told {S = S} past) moment)) (not (is_copy All window keep (told {S = S} past) (message_at moment r))) (not_from_true _ busy))
+          ap (λ o. performed device All window keep start (with_reached moment o (reached {S = S} past))) e
+          ∙ performed_stays device window keep start (reached {S = S} past) (message_at moment r) (and_left (not (is_busy keep (reached {S = S} past) moment)) (not (is_copy All window keep (reached {S = S} past) (message_at moment r))) (not_from_true _ busy))
       go (Some r) e false idle =
           let x = entry device window keep start past moment k r timely.order timely.apart timely.in_time e idle in
-          let later : is_first S keep past moment k ≡ false = ap (λ o. is_first_of o (first S keep past k) (is_busy keep (told {S = S} past) moment)) e ∙ ap (λ f. is_first_of (Some r) f (is_busy keep (told {S = S} past) moment)) came in
-          ap (λ o. performed device All window keep start (told_of moment o (told {S = S} past))) e
-          ∙ performed_stays device window keep start (told {S = S} past) (message_at moment r) (x.0 ∙ later)
+          let later : is_first S keep past moment k ≡ false = ap (λ o. is_first_of o (first S keep past k) (is_busy keep (reached {S = S} past) moment)) e ∙ ap (λ f. is_first_of (Some r) f (is_busy keep (reached {S = S} past) moment)) came in
+          ap (λ o. performed device All window keep start (with_reached moment o (reached {S = S} past))) e
+          ∙ performed_stays device window keep start (reached {S = S} past) (message_at moment r) (x.0 ∙ later)
 
   turned : (b : Bool) (x y : Outcome) → (if not b then x else y) ≡ (if b then y else x)
   turned true x y = refl
   turned false x y = refl
 
   pub delivery_is_expected : DeliveryIsExpected device
-  delivery_is_expected own window keep start past moment k r timely e = go (is_busy keep (told {S = S} past) moment) refl
+  delivery_is_expected own window keep start past moment k r timely e = go (is_busy keep (reached {S = S} past) moment) refl
     where
-      go : (b : Bool) → is_busy keep (told {S = S} past) moment ≡ b → answer_expected device own All window keep start (told past) (message_at moment r) ≡ delivery_expected device keep start own past moment k r
-      go true busy = cond-true (is_busy keep (told {S = S} past) moment) _ _ busy ∙ sym (cond-true (is_busy keep (told {S = S} past) moment) _ _ busy)
+      go : (b : Bool) → is_busy keep (reached {S = S} past) moment ≡ b → answer_expected device own All window keep start (reached past) (message_at moment r) ≡ delivery_expected device keep start own past moment k r
+      go true busy = cond-true (is_busy keep (reached {S = S} past) moment) _ _ busy ∙ sym (cond-true (is_busy keep (reached {S = S} past) moment) _ _ busy)
       go false idle =
           let x = entry device window keep start past moment k r timely.order timely.apart timely.in_time e idle in
-          let copy = copy_is (is_busy keep (told {S = S} past) moment) (is_copy All window keep (told {S = S} past) (message_at moment r)) (is_first S keep past moment k) idle x.0 in
+          let copy = copy_is (is_busy keep (reached {S = S} past) moment) (is_copy All window keep (reached {S = S} past) (message_at moment r)) (is_first S keep past moment k) idle x.0 in
           let same = (holds device window keep start past timely.order.1 timely.apart timely.in_time.1).same in
-          cond-false (is_busy keep (told {S = S} past) moment) _ _ idle
+          cond-false (is_busy keep (reached {S = S} past) moment) _ _ idle
           ∙ (λ s. if copy s then Answered false false (packets_back own (message_at moment r) (x.1 s)) else Answered true (changes device (same s) r.message) (packets_back own (message_at moment r) (x.1 s)))
           ∙ turned (is_first S keep past moment k) (Answered false false (packets_back own (message_at moment r) (the_reply device keep start (Delivered moment k ∷ past) k))) (Answered true (changes device (once device keep start past) r.message) (packets_back own (message_at moment r) (the_reply device keep start (Delivered moment k ∷ past) k)))
-          ∙ sym (cond-false (is_busy keep (told {S = S} past) moment) _ _ idle)
+          ∙ sym (cond-false (is_busy keep (reached {S = S} past) moment) _ _ idle)

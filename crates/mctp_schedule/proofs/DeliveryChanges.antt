@@ -24,7 +24,7 @@ use Rattle.pldm_responder.specs.Performing.{Rules, answered}
 use Rattle.pldm_requester.specs.Numbering.{route_of}
 use Rattle.mctp_schedule.specs.Askers.{packet_bytes}
 use Rattle.mctp_schedule.specs.FirstArrivals.{arrives, first, has_arrived, is_answered_busy}
-use Rattle.mctp_schedule.specs.Logs.{Asked, Happening, Delivered, asked_at, message_at, told}
+use Rattle.mctp_schedule.specs.Logs.{Asked, Happening, Delivered, asked_at, message_at, reached}
 use Rattle.mctp_schedule.specs.OncePerformed.{answered_to, given, was_busy}
 use Rattle.mctp_schedule.proofs.FirstPerformed.{first_busy, first_here, first_none, first_other, first_stays}
 
@@ -34,7 +34,7 @@ module _ {S : Type 0} (device : Rules S) (window keep : ℕ) (start : S) (past :
   log = Delivered moment n ∷ past
 
   abbrev busy : Bool
-  busy = is_busy keep (told {S = S} past) moment
+  busy = is_busy keep (reached {S = S} past) moment
 
   pub given_other : (k : ℕ) → (n ≡ k → ⊥) → given device window keep start log k ≡ given device window keep start past k
   given_other k other = cond-false (n == k && arrives (asked_at past k) busy) _ _ (and_left (n == k) _ (ne_eqb n k other))
@@ -51,7 +51,7 @@ module _ {S : Type 0} (device : Rules S) (window keep : ℕ) (start : S) (past :
   given_busy r is on =
       cond-false (n == n && arrives (asked_at past n) busy) _ _ (and_right (n == n) _ (ap (λ o. arrives o busy) is ∙ ap not on))
 
-  pub given_here : (r : Asked) → asked_at past n ≡ Some r → busy ≡ false → given device window keep start log n ≡ Some (answered device All window keep start (told past) (message_at moment r))
+  pub given_here : (r : Asked) → asked_at past n ≡ Some r → busy ≡ false → given device window keep start log n ≡ Some (answered device All window keep start (reached past) (message_at moment r))
   given_here r is off =
       cond-true (n == n && arrives (asked_at past n) busy) _ _ (ap (λ b. b && arrives (asked_at past n) busy) (eq-eqb n n refl) ∙ ap (λ o. arrives o busy) is ∙ ap not off)
       ∙ ap (λ o. Some (answered_to device window keep start moment past o)) is
@@ -87,10 +87,10 @@ module _ (S : Type 0) (keep : ℕ) (past : List Happening) (moment n : ℕ) wher
   pub arrived_none : asked_at past n ≡ None → (k : ℕ) → has_arrived S keep (Delivered moment n ∷ past) k ≡ has_arrived S keep past k
   arrived_none none k = ap is_some (first_none S keep past moment n k none)
 
-  pub arrived_busy : is_busy keep (told {S = S} past) moment ≡ true → (k : ℕ) → has_arrived S keep (Delivered moment n ∷ past) k ≡ has_arrived S keep past k
+  pub arrived_busy : is_busy keep (reached {S = S} past) moment ≡ true → (k : ℕ) → has_arrived S keep (Delivered moment n ∷ past) k ≡ has_arrived S keep past k
   arrived_busy on k = ap is_some (first_busy S keep past moment n k on)
 
-  pub arrived_here : (r : Asked) → asked_at past n ≡ Some r → is_busy keep (told {S = S} past) moment ≡ false → has_arrived S keep (Delivered moment n ∷ past) n ≡ true
+  pub arrived_here : (r : Asked) → asked_at past n ≡ Some r → is_busy keep (reached {S = S} past) moment ≡ false → has_arrived S keep (Delivered moment n ∷ past) n ≡ true
   arrived_here r is off = go (first S keep past n) refl
     where
       go : (f : Option (List Happening)) → first S keep past n ≡ f → has_arrived S keep (Delivered moment n ∷ past) n ≡ true

@@ -15,7 +15,7 @@ use Rattle.pldm_requester.specs.Courses.{Answered, GaveUp}
 use Rattle.pldm_responder.specs.Performing.{performed}
 use Rattle.mctp_schedule.specs.FirstArrivals.{firsts}
 use Rattle.mctp_schedule.specs.Headline.{state_once}
-use Rattle.mctp_schedule.specs.Logs.{Asked, asked_at, told}
+use Rattle.mctp_schedule.specs.Logs.{Asked, asked_at, reached}
 use Rattle.mctp_schedule.specs.Timely.{IsTimelyLog}
 use Rattle.mctp_schedule.specs.OncePerformed.{AreRequests}
 use Rattle.mctp_schedule.specs.RequesterHalf.{IsTimelySchedule}
@@ -182,5 +182,5 @@ pub requests_read : AreRequests (world setting steps).log
 requests_read = are_requests (world setting steps).log read_here
 
 -- ---- a law on it: the responder's state is that of performing each request once
-pub performed_once : performed setting.device All 32 1000 setting.start (told (world setting steps).log) ≡ state_once setting steps
+pub performed_once : performed setting.device All 32 1000 setting.start (reached (world setting steps).log) ≡ state_once setting steps
 performed_once = state_is_once setting.device 32 1000 setting.start (world setting steps).log timely_link

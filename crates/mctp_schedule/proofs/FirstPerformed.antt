@@ -6,7 +6,7 @@ use Rattle.pldm_wire.specs.Headers.{id_at}
 use Rattle.pldm_platform.specs.Changes.{changed_or}
 use Rattle.pldm_responder.specs.Events.{Message, Event, Came, Place, is_of, is_busy, is_copy, is_copy_of, is_fresh, origin, busy_until, id_of, recent}
 use Rattle.pldm_responder.specs.Performing.{Rules, performed, answered, reply_at, next, reply}
-use Rattle.mctp_schedule.specs.Logs.{Asked, Happening, Opened, Delivered, Sensed, WentDown, last_of, count_of, asked_at, message_at, told_of, told, InOrder, Apart}
+use Rattle.mctp_schedule.specs.Logs.{Asked, Happening, Opened, Delivered, Sensed, WentDown, last_of, count_of, asked_at, message_at, with_reached, reached, InOrder, Apart}
 use Rattle.mctp_schedule.specs.Timely.{InTime, ids_arrived, is_in_window, with_first}
 use Rattle.mctp_schedule.specs.FirstArrivals.{arrives, earlier, first, is_first, order, firsts}
 use Rattle.mctp_schedule.specs.OncePerformed.{bytes_of, once, reply_from, the_reply}
@@ -61,7 +61,7 @@ module _ (S : Type 0) where
   first_below keep (WentDown _ ∷ past) k place e = first_below keep past k place e
   first_below keep (Delivered t j ∷ past) k place e = go (λ p is. first_below keep past k p is) (first S keep past k) refl (asked_at past k) refl (j == k) e
     where
-      go : ((p : List Happening) → first S keep past k ≡ Some p → k < count_of past) → (f : Option (List Happening)) → first S keep past k ≡ f → (o : Option Asked) → asked_at past k ≡ o → (b : Bool) → earlier f (b && arrives o (is_busy keep (told {S = S} past) t)) past ≡ Some place → k < count_of past
+      go : ((p : List Happening) → first S keep past k ≡ Some p → k < count_of past) → (f : Option (List Happening)) → first S keep past k ≡ f → (o : Option Asked) → asked_at past k ≡ o → (b : Bool) → earlier f (b && arrives o (is_busy keep (reached {S = S} past) t)) past ≡ Some place → k < count_of past
       go ih (Some p) is o _ b _ = ih p is
       go ih None is (Some r) was b _ = request_below past k r was
       go ih None is None was true f = absurd (cc)
@@ -86,42 +86,42 @@ module _ (S : Type 0) where
   pub first_other : (keep : ℕ) (past : List Happening) (t k j : ℕ) → k ≢ j → first S keep (Delivered t k ∷ past) j ≡ first S keep past j
   first_other keep past t k j ne = go (first S keep past j)
     where
-      no : (k == j && arrives (asked_at past j) (is_busy keep (told {S = S} past) t)) ≡ false
+      no : (k == j && arrives (asked_at past j) (is_busy keep (reached {S = S} past) t)) ≡ false
       no = and_left (k == j) _ (ne_eqb k j ne)
 
-      go : (f : Option (List Happening)) → earlier f (k == j && arrives (asked_at past j) (is_busy keep (told {S = S} past) t)) past ≡ f
+      go : (f : Option (List Happening)) → earlier f (k == j && arrives (asked_at past j) (is_busy keep (reached {S = S} past) t)) past ≡ f
       go (Some p) = refl
       go None = ap (λ b. earlier None b past) no
 
   pub first_stays : (keep : ℕ) (past : List Happening) (t k j : ℕ) (p : List Happening) → first S keep past j ≡ Some p → first S keep (Delivered t k ∷ past) j ≡ first S keep past j
-  first_stays keep past t k j p e = ap (λ f. earlier f (k == j && arrives (asked_at past j) (is_busy keep (told {S = S} past) t)) past) e ∙ sym e
+  first_stays keep past t k j p e = ap (λ f. earlier f (k == j && arrives (asked_at past j) (is_busy keep (reached {S = S} past) t)) past) e ∙ sym e
 
-  pub first_busy : (keep : ℕ) (past : List Happening) (t k j : ℕ) → is_busy keep (told {S = S} past) t ≡ true → first S keep (Delivered t k ∷ past) j ≡ first S keep past j
+  pub first_busy : (keep : ℕ) (past : List Happening) (t k j : ℕ) → is_busy keep (reached {S = S} past) t ≡ true → first S keep (Delivered t k ∷ past) j ≡ first S keep past j
   first_busy keep past t k j busy = go (first S keep past j)
     where
-      none : (o : Option Asked) → arrives o (is_busy keep (told {S = S} past) t) ≡ false
+      none : (o : Option Asked) → arrives o (is_busy keep (reached {S = S} past) t) ≡ false
       none None = refl
       none (Some r) = not_from_true _ busy
 
-      go : (f : Option (List Happening)) → earlier f (k == j && arrives (asked_at past j) (is_busy keep (told {S = S} past) t)) past ≡ f
+      go : (f : Option (List Happening)) → earlier f (k == j && arrives (asked_at past j) (is_busy keep (reached {S = S} past) t)) past ≡ f
       go (Some p) = refl
       go None = ap (λ b. earlier None b past) (and_right (k == j) _ (none (asked_at past j)))
 
   pub first_none : (keep : ℕ) (past : List Happening) (t k j : ℕ) → asked_at past k ≡ None → first S keep (Delivered t k ∷ past) j ≡ first S keep past j
   first_none keep past t k j none = go (first S keep past j) (cases_eq k j)
     where
-      no : (k ≡ j) ⊎ (k ≡ j → ⊥) → (k == j && arrives (asked_at past j) (is_busy keep (told {S = S} past) t)) ≡ false
-      no (inl same) = and_right (k == j) _ (ap (λ o. arrives o (is_busy keep (told {S = S} past) t)) (ap (asked_at past) (sym same) ∙ none))
+      no : (k ≡ j) ⊎ (k ≡ j → ⊥) → (k == j && arrives (asked_at past j) (is_busy keep (reached {S = S} past) t)) ≡ false
+      no (inl same) = and_right (k == j) _ (ap (λ o. arrives o (is_busy keep (reached {S = S} past) t)) (ap (asked_at past) (sym same) ∙ none))
       no (inr ne) = and_left (k == j) _ (ne_eqb k j ne)
 
-      go : (f : Option (List Happening)) → (k ≡ j) ⊎ (k ≡ j → ⊥) → earlier f (k == j && arrives (asked_at past j) (is_busy keep (told {S = S} past) t)) past ≡ f
+      go : (f : Option (List Happening)) → (k ≡ j) ⊎ (k ≡ j → ⊥) → earlier f (k == j && arrives (asked_at past j) (is_busy keep (reached {S = S} past) t)) past ≡ f
       go (Some p) c = refl
       go None c = ap (λ b. earlier None b past) (no c)
 
-  pub first_here : (keep : ℕ) (past : List Happening) (t k : ℕ) (r : Asked) → asked_at past k ≡ Some r → is_busy keep (told {S = S} past) t ≡ false → first S keep past k ≡ None → first S keep (Delivered t k ∷ past) k ≡ Some past
+  pub first_here : (keep : ℕ) (past : List Happening) (t k : ℕ) (r : Asked) → asked_at past k ≡ Some r → is_busy keep (reached {S = S} past) t ≡ false → first S keep past k ≡ None → first S keep (Delivered t k ∷ past) k ≡ Some past
   first_here keep past t k r e idle none =
-      ap (λ f. earlier f (k == k && arrives (asked_at past k) (is_busy keep (told {S = S} past) t)) past) none
-      ∙ ap (λ b. earlier None b past) (and_from (k == k) _ (eq-eqb k k refl) (ap (λ o. arrives o (is_busy keep (told {S = S} past) t)) e ∙ not_from_false _ idle))
+      ap (λ f. earlier f (k == k && arrives (asked_at past k) (is_busy keep (reached {S = S} past) t)) past) none
+      ∙ ap (λ b. earlier None b past) (and_from (k == k) _ (eq-eqb k k refl) (ap (λ o. arrives o (is_busy keep (reached {S = S} past) t)) e ∙ not_from_false _ idle))
 
 -- a request keeps its number
 pub request_older : (q : Asked) (past : List Happening) (k : ℕ) → k < count_of past → asked_at (Opened q ∷ past) k ≡ asked_at past k
@@ -149,26 +149,26 @@ module _ {S : Type 0} (device : Rules S) (window keep : ℕ) (start : S) where
     pub ids : (source : ℕ) → IsFront (map id_of (recent All window keep h source)) (ids_arrived S keep log source)
 
   -- nothing new is performed
-  keeps_old : (past : List Happening) (t k : ℕ) (m : Message) → Inv past (told {S = S} past) → last_of past ≤ t → is_fresh All window keep (told {S = S} past) m ≡ false → ((j : ℕ) → first S keep (Delivered t k ∷ past) j ≡ first S keep past j) → is_first S keep past t k ≡ false → ((s : ℕ) → IsFront (map id_of (recent All window keep (Came m ∷ told {S = S} past) s)) (ids_arrived S keep (Delivered t k ∷ past) s)) → Inv (Delivered t k ∷ past) (Came m ∷ told {S = S} past)
+  keeps_old : (past : List Happening) (t k : ℕ) (m : Message) → Inv past (reached {S = S} past) → last_of past ≤ t → is_fresh All window keep (reached {S = S} past) m ≡ false → ((j : ℕ) → first S keep (Delivered t k ∷ past) j ≡ first S keep past j) → is_first S keep past t k ≡ false → ((s : ℕ) → IsFront (map id_of (recent All window keep (Came m ∷ reached {S = S} past) s)) (ids_arrived S keep (Delivered t k ∷ past) s)) → Inv (Delivered t k ∷ past) (Came m ∷ reached {S = S} past)
   keeps_old past t k m inv later old firsts notfirst ids = record {
     ids = ids;
-    same = performed_stays device window keep start (told {S = S} past) m old ∙ inv.same ∙ sym (cond-false (is_first S keep past t k) _ _ notfirst);
+    same = performed_stays device window keep start (reached {S = S} past) m old ∙ inv.same ∙ sym (cond-false (is_first S keep past t k) _ _ notfirst);
     known = λ j q place e f. moves j q (inv.known j q place e (sym (firsts j) ∙ f));
     owned = λ s i p o.
-        let w = inv.owned s i p (sym (latest_stays window keep (told {S = S} past) m old s i) ∙ o) in
+        let w = inv.owned s i p (sym (latest_stays window keep (reached {S = S} past) m old s i) ∙ o) in
         (w.0, w.1, w.2, w.3, w.4, w.5, firsts w.0 ∙ w.6, w.7);
   }
     where
-      moves : (j : ℕ) (q : Asked) → Progress past (told {S = S} past) j q → Progress (Delivered t k ∷ past) (Came m ∷ told {S = S} past) j q
-      moves j q (inl x) = inl (x.0, latest_stays window keep (told {S = S} past) m old q.source (id_at q.message) ∙ x.1, x.2, x.3, x.4 ∙ ap (reply_from device keep start q.message) (sym (firsts j)))
+      moves : (j : ℕ) (q : Asked) → Progress past (reached {S = S} past) j q → Progress (Delivered t k ∷ past) (Came m ∷ reached {S = S} past) j q
+      moves j q (inl x) = inl (x.0, latest_stays window keep (reached {S = S} past) m old q.source (id_at q.message) ∙ x.1, x.2, x.3, x.4 ∙ ap (reply_from device keep start q.message) (sym (firsts j)))
       moves j q (inr (inl x)) = inr (inl (omega arith))
       moves j q (inr (inr x)) = inr (inr x)
 
   -- a first arrival is performed, and its entry is its own from then on
-  keeps_new : (past : List Happening) (t k : ℕ) (r : Asked) → Inv past (told {S = S} past) → InOrder past → Apart keep past → last_of past ≤ t → t < r.opening + keep → asked_at past k ≡ Some r → is_busy keep (told {S = S} past) t ≡ false → first S keep past k ≡ None → is_fresh All window keep (told {S = S} past) (message_at t r) ≡ true → is_first S keep past t k ≡ true → ((s : ℕ) → IsFront (map id_of (recent All window keep (Came (message_at t r) ∷ told {S = S} past) s)) (ids_arrived S keep (Delivered t k ∷ past) s)) → Inv (Delivered t k ∷ past) (Came (message_at t r) ∷ told {S = S} past)
+  keeps_new : (past : List Happening) (t k : ℕ) (r : Asked) → Inv past (reached {S = S} past) → InOrder past → Apart keep past → last_of past ≤ t → t < r.opening + keep → asked_at past k ≡ Some r → is_busy keep (reached {S = S} past) t ≡ false → first S keep past k ≡ None → is_fresh All window keep (reached {S = S} past) (message_at t r) ≡ true → is_first S keep past t k ≡ true → ((s : ℕ) → IsFront (map id_of (recent All window keep (Came (message_at t r) ∷ reached {S = S} past) s)) (ids_arrived S keep (Delivered t k ∷ past) s)) → Inv (Delivered t k ∷ past) (Came (message_at t r) ∷ reached {S = S} past)
   keeps_new past t k r inv order apart_ later soon e idle none new isfirst ids = record {
     ids = ids;
-    same = performed_new device window keep start (told {S = S} past) m new ∙ ap (λ s. next device s r.message) inv.same ∙ ap (λ o. next device (once device keep start past) (bytes_of o)) (sym e) ∙ sym (cond-true (is_first S keep past t k) _ _ isfirst);
+    same = performed_new device window keep start (reached {S = S} past) m new ∙ ap (λ s. next device s r.message) inv.same ∙ ap (λ o. next device (once device keep start past) (bytes_of o)) (sym e) ∙ sym (cond-true (is_first S keep past t k) _ _ isfirst);
     known = λ j q place e' f. known_case j q place e' f (cases_eq k j);
     owned = λ s i p o. owned_case s i p o (cases_Bool (is_of m s i));
   }
@@ -182,10 +182,10 @@ module _ {S : Type 0} (device : Rules S) (window keep : ℕ) (start : S) where
       opened : (j : ℕ) (q : Asked) → asked_at past j ≡ Some q → q.opening ≤ t
       opened j q x = let i = opened_before past order j q x in omega arith
 
-      moves : (j : ℕ) (q : Asked) → k ≢ j → asked_at past j ≡ Some q → Progress past (told {S = S} past) j q → (is_of m q.source (id_at q.message) ≡ true) ⊎ (is_of m q.source (id_at q.message) ≡ false) → Progress (Delivered t k ∷ past) (Came m ∷ told {S = S} past) j q
+      moves : (j : ℕ) (q : Asked) → k ≢ j → asked_at past j ≡ Some q → Progress past (reached {S = S} past) j q → (is_of m q.source (id_at q.message) ≡ true) ⊎ (is_of m q.source (id_at q.message) ≡ false) → Progress (Delivered t k ∷ past) (Came m ∷ reached {S = S} past) j q
       moves j q ne e' (inr (inl x)) b = inr (inl (omega arith))
       moves j q ne e' (inr (inr x)) b = inr (inr x)
-      moves j q ne e' (inl x) (inr other) = inl (x.0, latest_other window keep (told {S = S} past) m q.source (id_at q.message) other ∙ x.1, x.2, x.3, x.4 ∙ ap (reply_from device keep start q.message) (sym (first_other S keep past t k j ne)))
+      moves j q ne e' (inl x) (inr other) = inl (x.0, latest_other window keep (reached {S = S} past) m q.source (id_at q.message) other ∙ x.1, x.2, x.3, x.4 ∙ ap (reply_from device keep start q.message) (sym (first_other S keep past t k j ne)))
       moves j q ne e' (inl x) (inl pair) =
           let parts = and_parts (r.source == q.source) (id_at r.message == id_at q.message) pair in
           let far = apart keep past apart_ j k q r e' e (λ y. ne (sym y)) (eqb-true _ _ parts.0) (eqb-true _ _ parts.1) in
@@ -195,52 +195,52 @@ module _ {S : Type 0} (device : Rules S) (window keep : ℕ) (start : S) where
           (λ (y : r.opening + 2 * keep ≤ q.opening). absurd (omega arith))
           far
 
-      own : (j : ℕ) (q : Asked) → k ≡ j → r ≡ q → Progress (Delivered t k ∷ past) (Came m ∷ told {S = S} past) j q
+      own : (j : ℕ) (q : Asked) → k ≡ j → r ≡ q → Progress (Delivered t k ∷ past) (Came m ∷ reached {S = S} past) j q
       own j q is same =
-          inl (subst (λ (x : ℕ × Asked). Kept (Delivered t k ∷ past) (Came m ∷ told {S = S} past) x.0 x.1) (λ i. (is i, same i)) (
-            record { before = told {S = S} past; message = m },
-            latest_new window keep (told {S = S} past) m r.source (id_at r.message) new (is_of_self m),
+          inl (subst (λ (x : ℕ × Asked). Kept (Delivered t k ∷ past) (Came m ∷ reached {S = S} past) x.0 x.1) (λ i. (is i, same i)) (
+            record { before = reached {S = S} past; message = m },
+            latest_new window keep (reached {S = S} past) m r.source (id_at r.message) new (is_of_self m),
             refl,
             opened k r e,
             ap (λ s. reply device s r.message) inv.same ∙ ap (reply_from device keep start r.message) (sym here),
           ))
 
-      known_case : (j : ℕ) (q : Asked) (place : List Happening) → asked_at past j ≡ Some q → first S keep (Delivered t k ∷ past) j ≡ Some place → (k ≡ j) ⊎ (k ≡ j → ⊥) → Progress (Delivered t k ∷ past) (Came m ∷ told {S = S} past) j q
+      known_case : (j : ℕ) (q : Asked) (place : List Happening) → asked_at past j ≡ Some q → first S keep (Delivered t k ∷ past) j ≡ Some place → (k ≡ j) ⊎ (k ≡ j → ⊥) → Progress (Delivered t k ∷ past) (Came m ∷ reached {S = S} past) j q
       known_case j q place e' f (inl is) = own j q is (let x : Some r ≡ Some q = sym e ∙ ap (asked_at past) is ∙ e' in cc)
       known_case j q place e' f (inr ne) = moves j q ne e' (inv.known j q place e' (sym (first_other S keep past t k j ne) ∙ f)) (cases_Bool (is_of m q.source (id_at q.message)))
 
-      owned_case : (s i : ℕ) (p : Place S) → latest window keep (Came m ∷ told {S = S} past) s i ≡ Some p → (is_of m s i ≡ true) ⊎ (is_of m s i ≡ false) → Owner (Delivered t k ∷ past) s i p
+      owned_case : (s i : ℕ) (p : Place S) → latest window keep (Came m ∷ reached {S = S} past) s i ≡ Some p → (is_of m s i ≡ true) ⊎ (is_of m s i ≡ false) → Owner (Delivered t k ∷ past) s i p
       owned_case s i p o (inl pair) =
           let parts = and_parts (r.source == s) (id_at r.message == i) pair in
-          let at : record { before = told {S = S} past; message = m } ≡ p = in_some {A = Place S} (record { before = told {S = S} past; message = m }) p (sym (latest_new window keep (told past) m s i new pair) ∙ o) in
+          let at : record { before = reached {S = S} past; message = m } ≡ p = in_some {A = Place S} (record { before = reached {S = S} past; message = m }) p (sym (latest_new window keep (reached past) m s i new pair) ∙ o) in
           let when : t ≡ p.message.moment = ap (λ (x : Place S). x.message.moment) at in
           (k, r, past, e, eqb-true _ _ parts.0, eqb-true _ _ parts.1, here, omega (arith, when))
       owned_case s i p o (inr other) =
-          let w = inv.owned s i p (sym (latest_other window keep (told {S = S} past) m s i other) ∙ o) in
+          let w = inv.owned s i p (sym (latest_other window keep (reached {S = S} past) m s i other) ∙ o) in
           (w.0, w.1, w.2, w.3, w.4, w.5, first_stays S keep past t k w.0 w.2 w.6 ∙ w.6, w.7)
 
   -- a delivery of a request that has arrived is a copy of its own first arrival
-  pub copies : (past : List Happening) (t k : ℕ) (r : Asked) (place : List Happening) → Inv past (told {S = S} past) → last_of past ≤ t → t < r.opening + keep → is_in_window S window keep past r ≡ true → asked_at past k ≡ Some r → is_busy keep (told {S = S} past) t ≡ false → first S keep past k ≡ Some place → (p : Place S) × (origin All window keep (told {S = S} past) r.source (id_at r.message) ≡ Some p) × (is_copy_of keep (message_at t r) (Some p) ≡ true) × (reply_at device All window keep start p ≡ reply_from device keep start r.message (first S keep past k))
+  pub copies : (past : List Happening) (t k : ℕ) (r : Asked) (place : List Happening) → Inv past (reached {S = S} past) → last_of past ≤ t → t < r.opening + keep → is_in_window S window keep past r ≡ true → asked_at past k ≡ Some r → is_busy keep (reached {S = S} past) t ≡ false → first S keep past k ≡ Some place → (p : Place S) × (origin All window keep (reached {S = S} past) r.source (id_at r.message) ≡ Some p) × (is_copy_of keep (message_at t r) (Some p) ≡ true) × (reply_at device All window keep start p ≡ reply_from device keep start r.message (first S keep past k))
   copies past t k r place inv later soon within e idle came = go (inv.known k r place e came)
     where
-      go : Progress past (told {S = S} past) k r → (p : Place S) × (origin All window keep (told {S = S} past) r.source (id_at r.message) ≡ Some p) × (is_copy_of keep (message_at t r) (Some p) ≡ true) × (reply_at device All window keep start p ≡ reply_from device keep start r.message (first S keep past k))
+      go : Progress past (reached {S = S} past) k r → (p : Place S) × (origin All window keep (reached {S = S} past) r.source (id_at r.message) ≡ Some p) × (is_copy_of keep (message_at t r) (Some p) ≡ true) × (reply_at device All window keep start p ≡ reply_from device keep start r.message (first S keep past k))
       go (inl x) = (
         x.0,
-        found_in_window id_of window (id_at r.message) (recent All window keep (told {S = S} past) r.source) (ids_arrived S keep past r.source) x.0 (inv.ids r.source) x.1 within,
+        found_in_window id_of window (id_at r.message) (recent All window keep (reached {S = S} past) r.source) (ids_arrived S keep past r.source) x.0 (inv.ids r.source) x.1 within,
         copy_of keep (message_at t r) x.0 (sym x.2) (let b = x.3 in omega arith),
         x.4,
       )
       go (inr (inl x)) = absurd (omega arith)
-      go (inr (inr x)) = let served = ltb-false t (busy_until keep (told {S = S} past)) idle in absurd (omega arith)
+      go (inr (inr x)) = let served = ltb-false t (busy_until keep (reached {S = S} past)) idle in absurd (omega arith)
 
   -- a first delivery is no copy of anything
-  pub is_new : (past : List Happening) (t k : ℕ) (r : Asked) → Inv past (told {S = S} past) → InOrder past → Apart keep past → last_of past ≤ t → t < r.opening + keep → asked_at past k ≡ Some r → first S keep past k ≡ None → is_copy All window keep (told {S = S} past) (message_at t r) ≡ false
-  is_new past t k r inv order apart_ later soon e none = go (origin All window keep (told {S = S} past) r.source (id_at r.message)) refl
+  pub is_new : (past : List Happening) (t k : ℕ) (r : Asked) → Inv past (reached {S = S} past) → InOrder past → Apart keep past → last_of past ≤ t → t < r.opening + keep → asked_at past k ≡ Some r → first S keep past k ≡ None → is_copy All window keep (reached {S = S} past) (message_at t r) ≡ false
+  is_new past t k r inv order apart_ later soon e none = go (origin All window keep (reached {S = S} past) r.source (id_at r.message)) refl
     where
-      go : (o : Option (Place S)) → origin All window keep (told {S = S} past) r.source (id_at r.message) ≡ o → is_copy_of keep (message_at t r) o ≡ false
+      go : (o : Option (Place S)) → origin All window keep (reached {S = S} past) r.source (id_at r.message) ≡ o → is_copy_of keep (message_at t r) o ≡ false
       go None is = refl
       go (Some p) is =
-          let w = inv.owned r.source (id_at r.message) p (found_in_front id_of (id_at r.message) window (recent All window keep (told {S = S} past) r.source) p is) in
+          let w = inv.owned r.source (id_at r.message) p (found_in_front id_of (id_at r.message) window (recent All window keep (reached {S = S} past) r.source) p is) in
           let ne : w.0 ≢ k = λ same. let x : Some w.2 ≡ None = sym w.6 ∙ ap (first S keep past) same ∙ none in cc in
           let far = apart keep past apart_ w.0 k w.1 r w.3 e ne (sym w.4) (sym w.5) in
           let before = opened_before past order w.0 w.1 w.3 in
@@ -249,10 +249,10 @@ module _ {S : Type 0} (device : Rules S) (window keep : ℕ) (start : S) where
           expired keep (message_at t r) p (⊎_elim (λ (y : w.1.opening + 2 * keep ≤ r.opening). omega arith) (λ (y : r.opening + 2 * keep ≤ w.1.opening). absurd (omega arith)) far)
 
   -- nothing is known of a number that was not opened
-  keeps_none : (past : List Happening) (t k : ℕ) → Inv past (told {S = S} past) → last_of past ≤ t → asked_at past k ≡ None → Inv (Delivered t k ∷ past) (told {S = S} past)
+  keeps_none : (past : List Happening) (t k : ℕ) → Inv past (reached {S = S} past) → last_of past ≤ t → asked_at past k ≡ None → Inv (Delivered t k ∷ past) (reached {S = S} past)
   keeps_none past t k inv later e = record {
-    ids = λ s. subst (λ o. IsFront (map id_of (recent All window keep (told {S = S} past) s)) (with_first (is_first S keep past t k) o s (ids_arrived S keep past s))) (sym e) (inv.ids s);
-    same = inv.same ∙ sym (cond-false (is_first S keep past t k) _ _ (ap (λ o. is_first_of o (first S keep past k) (is_busy keep (told {S = S} past) t)) e ∙ never_first (first S keep past k) (is_busy keep (told {S = S} past) t)));
+    ids = λ s. subst (λ o. IsFront (map id_of (recent All window keep (reached {S = S} past) s)) (with_first (is_first S keep past t k) o s (ids_arrived S keep past s))) (sym e) (inv.ids s);
+    same = inv.same ∙ sym (cond-false (is_first S keep past t k) _ _ (ap (λ o. is_first_of o (first S keep past k) (is_busy keep (reached {S = S} past) t)) e ∙ never_first (first S keep past k) (is_busy keep (reached {S = S} past) t)));
     known = λ j q place e' f. moves j q (inv.known j q place e' (sym (firsts j) ∙ f));
     owned = λ s i p o. let w = inv.owned s i p o in (w.0, w.1, w.2, w.3, w.4, w.5, firsts w.0 ∙ w.6, w.7);
   }
@@ -260,27 +260,27 @@ module _ {S : Type 0} (device : Rules S) (window keep : ℕ) (start : S) where
       firsts : (j : ℕ) → first S keep (Delivered t k ∷ past) j ≡ first S keep past j
       firsts j = first_none S keep past t k j e
 
-      moves : (j : ℕ) (q : Asked) → Progress past (told {S = S} past) j q → Progress (Delivered t k ∷ past) (told {S = S} past) j q
+      moves : (j : ℕ) (q : Asked) → Progress past (reached {S = S} past) j q → Progress (Delivered t k ∷ past) (reached {S = S} past) j q
       moves j q (inl x) = inl (x.0, x.1, x.2, x.3, x.4 ∙ ap (reply_from device keep start q.message) (sym (firsts j)))
       moves j q (inr (inl x)) = inr (inl (omega arith))
       moves j q (inr (inr x)) = inr (inr x)
 
-  keeps_delivered : (past : List Happening) (t k : ℕ) (r : Asked) → Inv past (told {S = S} past) → InOrder past → Apart keep past → last_of past ≤ t → t < r.opening + keep → (is_some (first S keep past k) ≡ true → is_in_window S window keep past r ≡ true) → asked_at past k ≡ Some r → (b : Bool) → is_busy keep (told {S = S} past) t ≡ b → (f : Option (List Happening)) → first S keep past k ≡ f → Inv (Delivered t k ∷ past) (Came (message_at t r) ∷ told {S = S} past)
+  keeps_delivered : (past : List Happening) (t k : ℕ) (r : Asked) → Inv past (reached {S = S} past) → InOrder past → Apart keep past → last_of past ≤ t → t < r.opening + keep → (is_some (first S keep past k) ≡ true → is_in_window S window keep past r ≡ true) → asked_at past k ≡ Some r → (b : Bool) → is_busy keep (reached {S = S} past) t ≡ b → (f : Option (List Happening)) → first S keep past k ≡ f → Inv (Delivered t k ∷ past) (Came (message_at t r) ∷ reached {S = S} past)
   keeps_delivered past t k r inv order apart_ later soon within e true busy f came =
-      let old = and_left _ (not (is_copy All window keep (told {S = S} past) (message_at t r))) (not_from_true _ busy) in
+      let old = and_left _ (not (is_copy All window keep (reached {S = S} past) (message_at t r))) (not_from_true _ busy) in
       let later_one = no (first S keep past k) in
       keeps_old past t k (message_at t r) inv later old
       (λ j. first_busy S keep past t k j busy)
       later_one
       (λ s. ids_delivered S window keep past t k r s (inv.ids s) e (old ∙ sym later_one))
     where
-      no : (g : Option (List Happening)) → is_first_of (asked_at past k) g (is_busy keep (told {S = S} past) t) ≡ false
-      no None = ap (λ o. is_first_of o None (is_busy keep (told {S = S} past) t)) e ∙ not_from_true _ busy
-      no (Some p) = ap (λ o. is_first_of o (Some p) (is_busy keep (told {S = S} past) t)) e
+      no : (g : Option (List Happening)) → is_first_of (asked_at past k) g (is_busy keep (reached {S = S} past) t) ≡ false
+      no None = ap (λ o. is_first_of o None (is_busy keep (reached {S = S} past) t)) e ∙ not_from_true _ busy
+      no (Some p) = ap (λ o. is_first_of o (Some p) (is_busy keep (reached {S = S} past) t)) e
   keeps_delivered past t k r inv order apart_ later soon within e false idle (Some place) came =
       let c = copies past t k r place inv later soon (within (ap is_some came)) e idle came in
-      let old = and_right (not (is_busy keep (told {S = S} past) t)) _ (not_from_true _ (ap (is_copy_of keep (message_at t r)) c.1 ∙ c.2)) in
-      let later_one = ap (λ o. is_first_of o (first S keep past k) (is_busy keep (told {S = S} past) t)) e ∙ ap (λ g. is_first_of (Some r) g (is_busy keep (told {S = S} past) t)) came in
+      let old = and_right (not (is_busy keep (reached {S = S} past) t)) _ (not_from_true _ (ap (is_copy_of keep (message_at t r)) c.1 ∙ c.2)) in
+      let later_one = ap (λ o. is_first_of o (first S keep past k) (is_busy keep (reached {S = S} past) t)) e ∙ ap (λ g. is_first_of (Some r) g (is_busy keep (reached {S = S} past) t)) came in
       keeps_old past t k (message_at t r) inv later old
       (λ j. other j (cases_eq k j))
       later_one
@@ -290,12 +290,12 @@ module _ {S : Type 0} (device : Rules S) (window keep : ℕ) (start : S) where
       other j (inl same) = first_stays S keep past t k j place (ap (first S keep past) (sym same) ∙ came)
       other j (inr ne) = first_other S keep past t k j ne
   keeps_delivered past t k r inv order apart_ later soon within e false idle None none =
-      let new = and_from (not (is_busy keep (told {S = S} past) t)) _ (not_from_false _ idle) (not_from_false _ (is_new past t k r inv order apart_ later soon e none)) in
-      let it = ap (λ o. is_first_of o (first S keep past k) (is_busy keep (told {S = S} past) t)) e ∙ ap (λ g. is_first_of (Some r) g (is_busy keep (told {S = S} past) t)) none ∙ not_from_false _ idle in
+      let new = and_from (not (is_busy keep (reached {S = S} past) t)) _ (not_from_false _ idle) (not_from_false _ (is_new past t k r inv order apart_ later soon e none)) in
+      let it = ap (λ o. is_first_of o (first S keep past k) (is_busy keep (reached {S = S} past) t)) e ∙ ap (λ g. is_first_of (Some r) g (is_busy keep (reached {S = S} past) t)) none ∙ not_from_false _ idle in
       keeps_new past t k r inv order apart_ later soon e idle none new it
       (λ s. ids_delivered S window keep past t k r s (inv.ids s) e (new ∙ sym it))
 
-  pub holds : (log : List Happening) → InOrder log → Apart keep log → InTime S window keep log → Inv log (told {S = S} log)
+  pub holds : (log : List Happening) → InOrder log → Apart keep log → InTime S window keep log → Inv log (reached {S = S} log)
   holds [] o a i = record { same = refl; known = λ k r place e f. absurd (cc); owned = λ s id p e. absurd (cc); ids = λ s. tt }
   holds (Sensed t id value ∷ past) o a i =
       let inv = holds past o.1 a i in
@@ -303,8 +303,8 @@ module _ {S : Type 0} (device : Rules S) (window keep : ℕ) (start : S) where
       record {
         same = ap (λ s. changed_or s (device.sensed s id value)) inv.same;
         known = λ k r place e f. ⊎_elim
-            (λ (x : Kept past (told {S = S} past) k r). inl x)
-            (λ (y : (r.opening + keep ≤ last_of past) ⊎ (r.opening + keep ≤ busy_until keep (told {S = S} past))). inr (⊎_elim (λ (x : r.opening + keep ≤ last_of past). inl (omega arith)) (λ (x : r.opening + keep ≤ busy_until keep (told {S = S} past)). inr x) y))
+            (λ (x : Kept past (reached {S = S} past) k r). inl x)
+            (λ (y : (r.opening + keep ≤ last_of past) ⊎ (r.opening + keep ≤ busy_until keep (reached {S = S} past))). inr (⊎_elim (λ (x : r.opening + keep ≤ last_of past). inl (omega arith)) (λ (x : r.opening + keep ≤ busy_until keep (reached {S = S} past)). inr x) y))
             (inv.known k r place e f);
         owned = inv.owned;
         ids = inv.ids;
@@ -326,8 +326,8 @@ module _ {S : Type 0} (device : Rules S) (window keep : ℕ) (start : S) where
         known = λ k r place e f. ⊎_elim
             (λ (x : (k ≡ count_of past) × (q ≡ r)). let below = first_below S keep past k place f in absurd (omega (arith, x.0)))
             (λ (x : (k ≢ count_of past) × (asked_at past k ≡ Some r)). ⊎_elim
-            (λ (x : Kept past (told {S = S} past) k r). inl x)
-            (λ (y : (r.opening + keep ≤ last_of past) ⊎ (r.opening + keep ≤ busy_until keep (told {S = S} past))). inr (⊎_elim (λ (x : r.opening + keep ≤ last_of past). inl (omega arith)) (λ (x : r.opening + keep ≤ busy_until keep (told {S = S} past)). inr x) y))
+            (λ (x : Kept past (reached {S = S} past) k r). inl x)
+            (λ (y : (r.opening + keep ≤ last_of past) ⊎ (r.opening + keep ≤ busy_until keep (reached {S = S} past))). inr (⊎_elim (λ (x : r.opening + keep ≤ last_of past). inl (omega arith)) (λ (x : r.opening + keep ≤ busy_until keep (reached {S = S} past)). inr x) y))
             (inv.known k r place x.1 f))
             (request_opened q past k r e);
         owned = λ s id p e. let w = inv.owned s id p e in (w.0, w.1, w.2, request_older q past w.0 (request_below past w.0 w.1 w.3) ∙ w.3, w.4, w.5, w.6, w.7);
@@ -335,36 +335,36 @@ module _ {S : Type 0} (device : Rules S) (window keep : ℕ) (start : S) where
       }
   holds (Delivered t k ∷ past) o a i = delivered (holds past o.1 a i.1) (asked_at past k) refl
     where
-      delivered : Inv past (told {S = S} past) → (x : Option Asked) → asked_at past k ≡ x → Inv (Delivered t k ∷ past) (told_of t (asked_at past k) (told {S = S} past))
-      delivered inv None e = subst (λ (x : Option Asked). Inv (Delivered t k ∷ past) (told_of t x (told {S = S} past))) (sym e) (keeps_none past t k inv o.0 e)
-      delivered inv (Some r) e = subst (λ (x : Option Asked). Inv (Delivered t k ∷ past) (told_of t x (told {S = S} past))) (sym e) (keeps_delivered past t k r inv o.1 a o.0 (i.0 r e).soon (i.0 r e).in_window e (is_busy keep (told {S = S} past) t) refl (first S keep past k) refl)
+      delivered : Inv past (reached {S = S} past) → (x : Option Asked) → asked_at past k ≡ x → Inv (Delivered t k ∷ past) (with_reached t (asked_at past k) (reached {S = S} past))
+      delivered inv None e = subst (λ (x : Option Asked). Inv (Delivered t k ∷ past) (with_reached t x (reached {S = S} past))) (sym e) (keeps_none past t k inv o.0 e)
+      delivered inv (Some r) e = subst (λ (x : Option Asked). Inv (Delivered t k ∷ past) (with_reached t x (reached {S = S} past))) (sym e) (keeps_delivered past t k r inv o.1 a o.0 (i.0 r e).soon (i.0 r e).in_window e (is_busy keep (reached {S = S} past) t) refl (first S keep past k) refl)
 
   -- each delivery while the responder serves: fresh exactly where it is the first, and answered with the one reply
-  pub entry : (past : List Happening) (t k : ℕ) (r : Asked) → InOrder (Delivered t k ∷ past) → Apart keep past → InTime S window keep (Delivered t k ∷ past) → asked_at past k ≡ Some r → is_busy keep (told {S = S} past) t ≡ false → (is_fresh All window keep (told {S = S} past) (message_at t r) ≡ is_first S keep past t k) × (answered device All window keep start (told past) (message_at t r) ≡ the_reply device keep start (Delivered t k ∷ past) k)
+  pub entry : (past : List Happening) (t k : ℕ) (r : Asked) → InOrder (Delivered t k ∷ past) → Apart keep past → InTime S window keep (Delivered t k ∷ past) → asked_at past k ≡ Some r → is_busy keep (reached {S = S} past) t ≡ false → (is_fresh All window keep (reached {S = S} past) (message_at t r) ≡ is_first S keep past t k) × (answered device All window keep start (reached past) (message_at t r) ≡ the_reply device keep start (Delivered t k ∷ past) k)
   entry past t k r o a i e idle = go (first S keep past k) refl
     where
-      inv : Inv past (told {S = S} past)
+      inv : Inv past (reached {S = S} past)
       inv = holds past o.1 a i.1
 
       opened : bytes_of (asked_at past k) ≡ r.message
       opened = ap bytes_of e
 
-      go : (f : Option (List Happening)) → first S keep past k ≡ f → (is_fresh All window keep (told {S = S} past) (message_at t r) ≡ is_first S keep past t k) × (answered device All window keep start (told past) (message_at t r) ≡ the_reply device keep start (Delivered t k ∷ past) k)
+      go : (f : Option (List Happening)) → first S keep past k ≡ f → (is_fresh All window keep (reached {S = S} past) (message_at t r) ≡ is_first S keep past t k) × (answered device All window keep start (reached past) (message_at t r) ≡ the_reply device keep start (Delivered t k ∷ past) k)
       go None none =
           let new = is_new past t k r inv o.1 a o.0 (i.0 r e).soon e none in
           let here = first_here S keep past t k r e idle none in (
-            and_from (not (is_busy keep (told {S = S} past) t)) _ (not_from_false _ idle) (not_from_false _ new)
-                ∙ sym (ap (λ o. is_first_of o (first S keep past k) (is_busy keep (told {S = S} past) t)) e ∙ ap (λ g. is_first_of (Some r) g (is_busy keep (told {S = S} past) t)) none ∙ not_from_false _ idle),
-            answered_new device window keep start (told {S = S} past) (message_at t r) new
+            and_from (not (is_busy keep (reached {S = S} past) t)) _ (not_from_false _ idle) (not_from_false _ new)
+                ∙ sym (ap (λ o. is_first_of o (first S keep past k) (is_busy keep (reached {S = S} past) t)) e ∙ ap (λ g. is_first_of (Some r) g (is_busy keep (reached {S = S} past) t)) none ∙ not_from_false _ idle),
+            answered_new device window keep start (reached {S = S} past) (message_at t r) new
                 ∙ ap (λ s. reply device s r.message) inv.same
                 ∙ ap (reply_from device keep start r.message) (sym here)
                 ∙ ap (λ b. reply_from device keep start b (first S keep (Delivered t k ∷ past) k)) (sym opened),
           )
       go (Some place) came =
           let c = copies past t k r place inv o.0 (i.0 r e).soon ((i.0 r e).in_window (ap is_some came)) e idle came in (
-            and_right (not (is_busy keep (told {S = S} past) t)) _ (not_from_true _ (ap (is_copy_of keep (message_at t r)) c.1 ∙ c.2))
-                ∙ sym (ap (λ o. is_first_of o (first S keep past k) (is_busy keep (told {S = S} past) t)) e ∙ ap (λ g. is_first_of (Some r) g (is_busy keep (told {S = S} past) t)) came),
-            answered_copy device window keep start (told {S = S} past) (message_at t r) c.0 c.1 c.2
+            and_right (not (is_busy keep (reached {S = S} past) t)) _ (not_from_true _ (ap (is_copy_of keep (message_at t r)) c.1 ∙ c.2))
+                ∙ sym (ap (λ o. is_first_of o (first S keep past k) (is_busy keep (reached {S = S} past) t)) e ∙ ap (λ g. is_first_of (Some r) g (is_busy keep (reached {S = S} past) t)) came),
+            answered_copy device window keep start (reached {S = S} past) (message_at t r) c.0 c.1 c.2
                 ∙ c.3
                 ∙ ap (reply_from device keep start r.message) (sym (first_stays S keep past t k k place came))
                 ∙ ap (λ b. reply_from device keep start b (first S keep (Delivered t k ∷ past) k)) (sym opened),

@@ -4,7 +4,7 @@ use Rattle.std.specs.Prelude.{◌&&◌, ◌==◌}
 use Rattle.std.proofs.lemmas.Bool.{and_parts, not-true, not_from_false}
 use Rattle.pldm_responder.specs.Events.{is_busy}
 use Rattle.pldm_responder.specs.Performing.{Rules, reply}
-use Rattle.mctp_schedule.specs.Logs.{Asked, Happening, Opened, Delivered, Sensed, WentDown, asked_at, told, InOrder, Apart}
+use Rattle.mctp_schedule.specs.Logs.{Asked, Happening, Opened, Delivered, Sensed, WentDown, asked_at, reached, InOrder, Apart}
 use Rattle.mctp_schedule.specs.FirstArrivals.{arrives, earlier, first, is_first}
 use Rattle.mctp_schedule.specs.OncePerformed.{bytes_of, once, reply_from, the_reply, FitsPackets, RepliesFit}
 use Rattle.mctp_schedule.proofs.FirstPerformed.{is_first_of, request_older, first_below, first_here, first_stays, entry, holds}
@@ -31,7 +31,7 @@ module _ {S : Type 0} (device : Rules S) (window keep : ℕ) (start : S) where
       log = Delivered t j ∷ past
 
       busy : Bool
-      busy = is_busy keep (told {S = S} past) t
+      busy = is_busy keep (reached {S = S} past) t
 
       here : (q : Option Asked) → asked_at past k ≡ q → j ≡ k → arrives q busy ≡ true → first S keep past k ≡ None → FitsPackets (the_reply device keep start log k)
       here None was same on none = absurd (cc)

@@ -7,7 +7,7 @@ use Rattle.std.proofs.lemmas.List.Folds.{list_any-append}
 use Rattle.pldm_wire.specs.declared.answer.Answer.TheVariants as answers
 use Rattle.pldm_responder.specs.Events.{is_busy, is_copy}
 use Rattle.pldm_responder.specs.Performing.{Rules, rules_of}
-use Rattle.mctp_schedule.specs.Logs.{Asked, Happening, Opened, Delivered, Sensed, WentDown, asked_at, message_at, told, InOrder, Apart}
+use Rattle.mctp_schedule.specs.Logs.{Asked, Happening, Opened, Delivered, Sensed, WentDown, asked_at, message_at, reached, InOrder, Apart}
 use Rattle.mctp_schedule.specs.Timely.{InTime}
 use Rattle.mctp_schedule.specs.FirstArrivals.{first, is_first, fresh_of, order, firsts, IsSooner, IsOrderOfFirsts}
 use Rattle.mctp_schedule.proofs.SameOverAnyState.{same_busy, same_fresh, same_is_first, same_in_time}
@@ -21,9 +21,9 @@ idle_device = rules_of (λ s command. answers.Refused 1) (λ s command. s) (λ s
 module _ (S : Type 0) where
   -- what a first delivery does
   first_new : (keep : ℕ) (past : List Happening) (t k : ℕ) → is_first S keep past t k ≡ true → first S keep (Delivered t k ∷ past) k ≡ Some past
-  first_new keep past t k on = go (asked_at past k) refl (first S keep past k) refl (is_busy keep (told {S = S} past) t) refl on
+  first_new keep past t k on = go (asked_at past k) refl (first S keep past k) refl (is_busy keep (reached {S = S} past) t) refl on
     where
-      go : (o : Option Asked) → asked_at past k ≡ o → (f : Option (List Happening)) → first S keep past k ≡ f → (b : Bool) → is_busy keep (told {S = S} past) t ≡ b → is_first_of o f b ≡ true → first S keep (Delivered t k ∷ past) k ≡ Some past
+      go : (o : Option Asked) → asked_at past k ≡ o → (f : Option (List Happening)) → first S keep past k ≡ f → (b : Bool) → is_busy keep (reached {S = S} past) t ≡ b → is_first_of o f b ≡ true → first S keep (Delivered t k ∷ past) k ≡ Some past
       go None is f at b busy x = absurd (let never = never_first f b in cc)
       go (Some r) is (Some p) at b busy x = absurd (cc)
       go (Some r) is None at true busy x = absurd (cc)
@@ -31,9 +31,9 @@ module _ (S : Type 0) where
 
   -- and what another one does
   first_old : (keep : ℕ) (past : List Happening) (t k j : ℕ) → is_first S keep past t k ≡ false → first S keep (Delivered t k ∷ past) j ≡ first S keep past j
-  first_old keep past t k j off = go (asked_at past k) refl (first S keep past k) refl (is_busy keep (told {S = S} past) t) refl off
+  first_old keep past t k j off = go (asked_at past k) refl (first S keep past k) refl (is_busy keep (reached {S = S} past) t) refl off
     where
-      go : (o : Option Asked) → asked_at past k ≡ o → (f : Option (List Happening)) → first S keep past k ≡ f → (b : Bool) → is_busy keep (told {S = S} past) t ≡ b → is_first_of o f b ≡ false → first S keep (Delivered t k ∷ past) j ≡ first S keep past j
+      go : (o : Option Asked) → asked_at past k ≡ o → (f : Option (List Happening)) → first S keep past k ≡ f → (b : Bool) → is_busy keep (reached {S = S} past) t ≡ b → is_first_of o f b ≡ false → first S keep (Delivered t k ∷ past) j ≡ first S keep past j
       go None is f at b busy x = first_none S keep past t k j is
       go (Some r) is (Some p) at b busy x = ⊎_elim
           (λ (e : k ≡ j). first_stays S keep past t k j p (ap (first S keep past) (sym e) ∙ at))
@@ -154,22 +154,22 @@ module _ (S : Type 0) (keep : ℕ) where
           side ne = ⊎_elim (λ (t : nat_lt i n ≡ true). inl (ltb-true i n t)) (λ (t : nat_lt i n ≡ false). inr (let l = ltb-false i n t in omega arith)) (cases_Bool (nat_lt i n))
 
 module _ (S : Type 0) (window keep : ℕ) where
-  pub fresh_first : (past : List Happening) (t k : ℕ) → InOrder (Delivered t k ∷ past) → Apart keep past → InTime S window keep (Delivered t k ∷ past) → fresh_of window keep (told {S = S} past) t (asked_at past k) ≡ is_first S keep past t k
-  fresh_first past t k o a i = go (asked_at past k) refl (is_busy keep (told {S = S} past) t) refl
+  pub fresh_first : (past : List Happening) (t k : ℕ) → InOrder (Delivered t k ∷ past) → Apart keep past → InTime S window keep (Delivered t k ∷ past) → fresh_of window keep (reached {S = S} past) t (asked_at past k) ≡ is_first S keep past t k
+  fresh_first past t k o a i = go (asked_at past k) refl (is_busy keep (reached {S = S} past) t) refl
     where
       late : (r : Asked) (f : Option (List Happening)) → is_first_of (Some r) f true ≡ false
       late r None = refl
       late r (Some p) = refl
 
-      go : (q : Option Asked) → asked_at past k ≡ q → (b : Bool) → is_busy keep (told {S = S} past) t ≡ b → fresh_of window keep (told {S = S} past) t q ≡ is_first S keep past t k
-      go None is b busy = sym (ap (λ q. is_first_of q (first S keep past k) (is_busy keep (told {S = S} past) t)) is ∙ never_first (first S keep past k) (is_busy keep (told {S = S} past) t))
+      go : (q : Option Asked) → asked_at past k ≡ q → (b : Bool) → is_busy keep (reached {S = S} past) t ≡ b → fresh_of window keep (reached {S = S} past) t q ≡ is_first S keep past t k
+      go None is b busy = sym (ap (λ q. is_first_of q (first S keep past k) (is_busy keep (reached {S = S} past) t)) is ∙ never_first (first S keep past k) (is_busy keep (reached {S = S} past) t))
       go (Some r) is false idle =
           same_fresh S ℕ window keep past (message_at t r)
           ∙ (entry idle_device window keep 0 past t k r o a (same_in_time S ℕ window keep (Delivered t k ∷ past) i) is (same_busy ℕ S keep past t ∙ idle)).0
           ∙ same_is_first ℕ S keep past t k
       go (Some r) is true busy =
-          and_left (not (is_busy keep (told {S = S} past) t)) (not (is_copy All window keep (told {S = S} past) (message_at t r))) (not_from_true _ busy)
-          ∙ sym (ap (λ q. is_first_of q (first S keep past k) (is_busy keep (told {S = S} past) t)) is ∙ ap (is_first_of (Some r) (first S keep past k)) busy ∙ late r (first S keep past k))
+          and_left (not (is_busy keep (reached {S = S} past) t)) (not (is_copy All window keep (reached {S = S} past) (message_at t r))) (not_from_true _ busy)
+          ∙ sym (ap (λ q. is_first_of q (first S keep past k) (is_busy keep (reached {S = S} past) t)) is ∙ ap (is_first_of (Some r) (first S keep past k)) busy ∙ late r (first S keep past k))
 
   pub order_firsts : (log : List Happening) → InOrder log → Apart keep log → InTime S window keep log → order S window keep log ≡ firsts S keep log
   order_firsts [] o a i = refl

@@ -1,4 +1,4 @@
--- What a run tells of a timely schedule is the headline.
+-- What a run reports of a timely schedule is the headline.
 use Rattle.std.proofs.Common.{◌≡◌, ℕ, true, false, List, [], ◌∷◌, ◌++◌, Option, Some, None, refl, sym, ap, subst, ◌∙◌}
 use Rattle.std.specs.Prelude.{option_map, slice_get}
 use Rattle.pldm_wire.specs.Kinds.{TypeAndCommand}
@@ -14,7 +14,7 @@ use Rattle.mctp_schedule.specs.FirstArrivals.{order}
 use Rattle.mctp_schedule.specs.Headline.{Headline, delivery_owes, entries_expected, entry_owes}
 use Rattle.mctp_schedule.specs.HeldRuns.{HeldRun}
 use Rattle.mctp_schedule.specs.Laws.{LogIsTimely, TimelyIsTested}
-use Rattle.mctp_schedule.specs.Logs.{Asked, asked_at, told}
+use Rattle.mctp_schedule.specs.Logs.{Asked, asked_at, reached}
 use Rattle.mctp_schedule.specs.Timely.{IsTimelyLog}
 use Rattle.mctp_schedule.specs.RequesterHalf.{AnsweredWasPerformed, AnsweredWhereTaken, BusyIsExpected, IsSound, IsTimelySchedule, ReplyIsExpected}
 use Rattle.mctp_schedule.specs.PerformedCommands.{commands_performed}
@@ -52,7 +52,7 @@ module _ {S : Type 0} (setting : BothEnds S) (laws : Halves setting) where
       → delivery_entry setting (world setting past).log moment o ≡ delivery_owes setting past moment k o
   delivery_is past moment k s None is = refl
   delivery_is past moment k s (Some r) is =
-      ap (Delivered (is_busy setting.keep (told {S = S} (world setting past).log) moment))
+      ap (Delivered (is_busy setting.keep (reached {S = S} (world setting past).log) moment))
       (laws.delivery setting.eid setting.window setting.keep setting.start (world setting past).log moment k r (log_of (record { moment = moment; action = actions.Request k } ∷ past) s) is)
 
   entry_is : (past : List Step) (moment : ℕ) (action : Action) → IsTimelySchedule setting (record { moment = moment; action = action } ∷ past) → entry_of setting (world setting past) moment action ≡ entry_owes setting past moment action
@@ -73,12 +73,12 @@ module _ {S : Type 0} (setting : BothEnds S) (laws : Halves setting) where
       ∙ ap (λ x. entries_expected setting past ++ x ∷ []) (entry_is past step.moment step.action s)
 
   pub headline_holds : (Performed : List Command → Type 0) (steps : List Step) (requests : List EndedRequest) → Performed (commands_performed S setting.window setting.keep (world setting steps).log) → IsTimelySchedule setting steps → ((k : ℕ) → slice_get requests k ≡ option_map (as_it_stands setting (world setting steps)) (asked_at (world setting steps).log k))
-      → Headline setting steps (entries setting steps) requests (order S setting.window setting.keep (world setting steps).log) (performed setting.device All setting.window setting.keep setting.start (told (world setting steps).log)) Performed
+      → Headline setting steps (entries setting steps) requests (order S setting.window setting.keep (world setting steps).log) (performed setting.device All setting.window setting.keep setting.start (reached (world setting steps).log)) Performed
   headline_holds Performed steps requests given s each = record {
     each_step = entries_are steps s;
     each_request = λ k r is. record {
       progress = (as_it_stands setting (world setting steps) r).progress;
-      told = each k ∙ ap (option_map (as_it_stands setting (world setting steps))) is;
+      reported = each k ∙ ap (option_map (as_it_stands setting (world setting steps))) is;
       stands = laws.answered steps k r s is;
       performed = λ message e. laws.performed steps k r message s is e;
     };
@@ -103,6 +103,6 @@ module _ {P S : Type 0} (setting : BothEnds S) (past : List Step) (run : HeldRun
       let schedule : IsTimelySchedule setting past = record { order = in_order; timely = (laws.tested past).0 (sym running.timely ∙ timely); sound = is_sound } in
       let state = running.device.left.state ∙ ap (performed setting.device All setting.window setting.keep setting.start) running.device.events in
       subst (λ s. Headline setting past run.journal.entries run.journal.requests.items run.journal.order.items s Performed) (sym state)
-      (subst (λ os. Headline setting past run.journal.entries run.journal.requests.items os (performed setting.device All setting.window setting.keep setting.start (told (world setting past).log)) Performed) (sym running.order)
-      (subst (λ es. Headline setting past es run.journal.requests.items (order S setting.window setting.keep (world setting past).log) (performed setting.device All setting.window setting.keep setting.start (told (world setting past).log)) Performed) (sym running.entries)
+      (subst (λ os. Headline setting past run.journal.entries run.journal.requests.items os (performed setting.device All setting.window setting.keep setting.start (reached (world setting past).log)) Performed) (sym running.order)
+      (subst (λ es. Headline setting past es run.journal.requests.items (order S setting.window setting.keep (world setting past).log) (performed setting.device All setting.window setting.keep setting.start (reached (world setting past).log)) Performed) (sym running.entries)
       (headline_holds setting laws Performed past run.journal.requests.items given schedule running.requests)))

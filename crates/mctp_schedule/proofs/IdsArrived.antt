@@ -6,7 +6,7 @@ use Rattle.std.proofs.lemmas.Bool.{cases_Bool, cond-true, cond-false}
 use Rattle.pldm_wire.specs.Headers.{id_at}
 use Rattle.pldm_responder.specs.Events.{Came, Place, id_of, is_fresh, recent}
 use Rattle.mctp_schedule.specs.FirstArrivals.{is_first}
-use Rattle.mctp_schedule.specs.Logs.{Asked, Happening, Delivered, asked_at, message_at, told}
+use Rattle.mctp_schedule.specs.Logs.{Asked, Happening, Delivered, asked_at, message_at, reached}
 use Rattle.pldm_responder.specs.Recency.{of_number, without, renewed}
 use Rattle.pldm_responder.proofs.RecentFirst.{renewed_in_map}
 use Rattle.mctp_schedule.specs.Timely.{with_first, ids_arrived}
@@ -44,14 +44,14 @@ renewed_or_not false place places = refl
 
 -- where a delivery is fresh exactly if it is the first, they stay so
 pub ids_delivered : (S : Type 0) (window keep : ℕ) (past : List Happening) (t k : ℕ) (r : Asked) (source : ℕ)
-    → IsFront (map id_of (recent All window keep (told {S = S} past) source)) (ids_arrived S keep past source)
-    → asked_at past k ≡ Some r → is_fresh All window keep (told {S = S} past) (message_at t r) ≡ is_first S keep past t k
-    → IsFront (map id_of (recent All window keep (Came (message_at t r) ∷ told {S = S} past) source)) (ids_arrived S keep (Delivered t k ∷ past) source)
+    → IsFront (map id_of (recent All window keep (reached {S = S} past) source)) (ids_arrived S keep past source)
+    → asked_at past k ≡ Some r → is_fresh All window keep (reached {S = S} past) (message_at t r) ≡ is_first S keep past t k
+    → IsFront (map id_of (recent All window keep (Came (message_at t r) ∷ reached {S = S} past) source)) (ids_arrived S keep (Delivered t k ∷ past) source)
 ids_delivered S window keep past t k r source front e same =
-    let place : Place S = record { before = told {S = S} past; message = message_at t r } in
-    let places = recent All window keep (told {S = S} past) source in
+    let place : Place S = record { before = reached {S = S} past; message = message_at t r } in
+    let places = recent All window keep (reached {S = S} past) source in
     let ids = ids_arrived S keep past source in
-    subst (λ o. IsFront (map id_of (if r.source == source && is_fresh All window keep (told {S = S} past) (message_at t r) then renewed id_of place places else places)) (with_first (is_first S keep past t k) o source ids)) (sym e)
+    subst (λ o. IsFront (map id_of (if r.source == source && is_fresh All window keep (reached {S = S} past) (message_at t r) then renewed id_of place places else places)) (with_first (is_first S keep past t k) o source ids)) (sym e)
     (subst (λ b. IsFront (map id_of (if r.source == source && b then renewed id_of place places else places)) (if r.source == source && is_first S keep past t k then renewed (λ i. i) (id_at r.message) ids else ids)) (sym same)
     (subst (λ xs. IsFront xs (if r.source == source && is_first S keep past t k then renewed (λ i. i) (id_at r.message) ids else ids)) (sym (renewed_or_not (r.source == source && is_first S keep past t k) place places))
     (front_renewed (r.source == source && is_first S keep past t k) (id_at r.message) (map id_of places) ids front)))

@@ -4,7 +4,7 @@ use Rattle.std.specs.Prelude.{◌&&◌, ◌||◌, ◌==◌, option_map, if◌the
 use Rattle.std.proofs.lemmas.Bool.{and_parts, and_right, not-true, cases_Bool, cond-true, cond-false}
 use Rattle.pldm_responder.specs.Events.{is_busy}
 use Rattle.pldm_responder.specs.Performing.{Rules}
-use Rattle.mctp_schedule.specs.Logs.{Asked, Happening, Opened, Delivered, Sensed, WentDown, count_of, asked_at, told, InOrder, Apart}
+use Rattle.mctp_schedule.specs.Logs.{Asked, Happening, Opened, Delivered, Sensed, WentDown, count_of, asked_at, reached, InOrder, Apart}
 use Rattle.mctp_schedule.specs.Timely.{InTime}
 use Rattle.mctp_schedule.specs.FirstArrivals.{arrives, earlier, first, is_answered_busy}
 use Rattle.mctp_schedule.specs.OncePerformed.{bytes_of, reply_from, the_reply, answered_to, given, given_once, was_busy}
@@ -23,7 +23,7 @@ module _ {S : Type 0} (device : Rules S) (window keep : ℕ) (start : S) where
   step past moment i k o a it ih = go (cases_Bool test)
     where
       busy : Bool
-      busy = is_busy keep (told {S = S} past) moment
+      busy = is_busy keep (reached {S = S} past) moment
 
       test : Bool
       test = i == k && arrives (asked_at past k) busy
@@ -119,5 +119,5 @@ module _ {S : Type 0} (device : Rules S) (keep : ℕ) (start : S) where
       go false e = e
   busy_opened (Delivered moment i ∷ past) k off =
       ap (λ b. b || was_busy S keep past k)
-      (and_right (i == k) _ (ap (λ o. is_answered_busy o (is_busy keep (told {S = S} past) moment)) off))
+      (and_right (i == k) _ (ap (λ o. is_answered_busy o (is_busy keep (reached {S = S} past) moment)) off))
       ∙ busy_opened past k off

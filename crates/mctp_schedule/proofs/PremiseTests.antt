@@ -10,7 +10,7 @@ use Rattle.pldm_wire.specs.Requests as requests
 use Rattle.pldm_wire.specs.declared.busy_time.BusyTime.TheVariants.{All}
 use Rattle.pldm_responder.specs.Performing.{Rules, performed, reply}
 use Rattle.pldm_responder.specs.Events.{is_fresh}
-use Rattle.mctp_schedule.specs.Logs.{Asked, Happening, Opened, Delivered, Sensed, WentDown, Apart, ComesLate, InOrder, asked_at, count_of, last_of, message_at, moment_of, told}
+use Rattle.mctp_schedule.specs.Logs.{Asked, Happening, Opened, Delivered, Sensed, WentDown, Apart, ComesLate, InOrder, asked_at, count_of, last_of, message_at, moment_of, reached}
 use Rattle.mctp_schedule.specs.Timely.{ComesInTime, InTime, IsTimelyLog, is_in_window}
 use Rattle.mctp_schedule.specs.FirstArrivals.{has_arrived}
 use Rattle.mctp_schedule.specs.OncePerformed.{AreRequests, FitsPackets, RepliesFit}
@@ -197,8 +197,8 @@ module _ {S : Type 0} (device : Rules S) (window keep : ℕ) (start : S) where
   abbrev reply_fits : ℕ → List Happening → Option Asked → Bool
   reply_fits moment past None = true
   reply_fits moment past (Some r) =
-      not (is_fresh All window keep (told {S = S} past) (message_at moment r))
-      || fits (reply device (performed device All window keep start (told past)) r.message)
+      not (is_fresh All window keep (reached {S = S} past) (message_at moment r))
+      || fits (reply device (performed device All window keep start (reached past)) r.message)
 
   abbrev pub all_fit : List Happening → Bool
   all_fit [] = true
@@ -207,11 +207,11 @@ module _ {S : Type 0} (device : Rules S) (window keep : ℕ) (start : S) where
   all_fit (WentDown _ ∷ past) = all_fit past
   all_fit (Delivered moment k ∷ past) = reply_fits moment past (asked_at past k) && all_fit past
 
-  one_fits : (moment : ℕ) (past : List Happening) (o : Option Asked) → reply_fits moment past o ≡ true → (r : Asked) → o ≡ Some r → is_fresh All window keep (told {S = S} past) (message_at moment r) ≡ true → FitsPackets (reply device (performed device All window keep start (told past)) r.message)
+  one_fits : (moment : ℕ) (past : List Happening) (o : Option Asked) → reply_fits moment past o ≡ true → (r : Asked) → o ≡ Some r → is_fresh All window keep (reached {S = S} past) (message_at moment r) ≡ true → FitsPackets (reply device (performed device All window keep start (reached past)) r.message)
   one_fits moment past None t r e = absurd (cc)
   one_fits moment past (Some q) t r e =
-      same (λ r. is_fresh All window keep (told {S = S} past) (message_at moment r) ≡ true → FitsPackets (reply device (performed device All window keep start (told past)) r.message))
-      q (λ fresh. fits_packets (reply device (performed device All window keep start (told past)) q.message) (then_so _ _ t fresh)) r e
+      same (λ r. is_fresh All window keep (reached {S = S} past) (message_at moment r) ≡ true → FitsPackets (reply device (performed device All window keep start (reached past)) r.message))
+      q (λ fresh. fits_packets (reply device (performed device All window keep start (reached past)) q.message) (then_so _ _ t fresh)) r e
 
   pub replies_fit : (log : List Happening) → all_fit log ≡ true → RepliesFit device window keep start log
   replies_fit [] t = tt

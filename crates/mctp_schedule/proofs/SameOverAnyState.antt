@@ -1,11 +1,11 @@
--- Nothing on the link changes the device from outside, so what the responder was told has no state in it: when a delivery
+-- Nothing on the link changes the device from outside, so what reached the responder has no state in it: when a delivery
 -- is fresh, and when a request first arrived, is the same over devices of any two states.
 use Rattle.std.proofs.Common.{◌≡◌, ℕ, ◌+◌, List, [], ◌∷◌, Some, None, Option, Bool, true, false, refl, sym, ap, ◌∙◌}
 use Rattle.std.specs.Prelude.{not, nat_lt, bytes_eq, is_some, ◌&&◌, ◌==◌, if◌then◌else◌, map, take, option_map}
 use Rattle.std.specs.List.{take-map, list_any}
 use Rattle.pldm_wire.specs.Headers.{id_at}
 use Rattle.pldm_responder.specs.Events.{Message, Event, Came, Place, is_busy, is_copy, is_copy_of, is_fresh, origin, busy_until, id_of, recent}
-use Rattle.mctp_schedule.specs.Logs.{Asked, Happening, Opened, Delivered, Sensed, WentDown, asked_at, message_at, told_of, told}
+use Rattle.mctp_schedule.specs.Logs.{Asked, Happening, Opened, Delivered, Sensed, WentDown, asked_at, message_at, with_reached, reached}
 use Rattle.mctp_schedule.specs.FirstArrivals.{arrives, earlier, first, is_first}
 use Rattle.pldm_responder.specs.Recency.{of_number, renewed}
 use Rattle.pldm_responder.proofs.RecentFirst.{found_in_map, renewed_in_map}
@@ -14,21 +14,21 @@ use Rattle.pldm_wire.specs.declared.busy_time.BusyTime.TheVariants.{All}
 
 -- ---- whether the responder is busy, and when a request first arrived
 module _ (A B : Type 0) (keep : ℕ) where
-  request_changes_nothing : {S : Type 0} (es : List (Event S)) (moment : ℕ) (o : Option Asked) → busy_until keep (told_of moment o es) ≡ busy_until keep es
+  request_changes_nothing : {S : Type 0} (es : List (Event S)) (moment : ℕ) (o : Option Asked) → busy_until keep (with_reached moment o es) ≡ busy_until keep es
   request_changes_nothing es moment None = refl
   request_changes_nothing es moment (Some r) = refl
 
-  pub same_busy_until : (log : List Happening) → busy_until keep (told {S = A} log) ≡ busy_until keep (told {S = B} log)
+  pub same_busy_until : (log : List Happening) → busy_until keep (reached {S = A} log) ≡ busy_until keep (reached {S = B} log)
   same_busy_until [] = refl
   same_busy_until (Opened r ∷ past) = same_busy_until past
   same_busy_until (Delivered moment k ∷ past) =
-      request_changes_nothing (told {S = A} past) moment (asked_at past k)
+      request_changes_nothing (reached {S = A} past) moment (asked_at past k)
       ∙ same_busy_until past
-      ∙ sym (request_changes_nothing (told {S = B} past) moment (asked_at past k))
+      ∙ sym (request_changes_nothing (reached {S = B} past) moment (asked_at past k))
   same_busy_until (Sensed moment id value ∷ past) = same_busy_until past
   same_busy_until (WentDown moment ∷ past) = refl
 
-  pub same_busy : (log : List Happening) (moment : ℕ) → is_busy keep (told {S = A} log) moment ≡ is_busy keep (told {S = B} log) moment
+  pub same_busy : (log : List Happening) (moment : ℕ) → is_busy keep (reached {S = A} log) moment ≡ is_busy keep (reached {S = B} log) moment
   same_busy log moment = ap (nat_lt moment) (same_busy_until log)
 
   pub same_first : (log : List Happening) (k : ℕ) → first A keep log k ≡ first B keep log k
@@ -97,24 +97,24 @@ module _ (A B : Type 0) (window keep : ℕ) where
         ∙ sym (chosen (m.source == source && is_fresh All window keep fs m) (record { before = fs; message = m }) (recent All window keep fs source));
   }
 
-  with_request : (es : List (Event A)) (fs : List (Event B)) (moment : ℕ) (o : Option Asked) → Alike es fs → Alike (told_of moment o es) (told_of moment o fs)
+  with_request : (es : List (Event A)) (fs : List (Event B)) (moment : ℕ) (o : Option Asked) → Alike es fs → Alike (with_reached moment o es) (with_reached moment o fs)
   with_request es fs moment None alike = alike
   with_request es fs moment (Some r) alike = with_message es fs (message_at moment r) alike
 
-  alike : (log : List Happening) → Alike (told {S = A} log) (told {S = B} log)
+  alike : (log : List Happening) → Alike (reached {S = A} log) (reached {S = B} log)
   alike [] = record { busy = refl; recents = λ source. refl }
   alike (Opened r ∷ past) = alike past
-  alike (Delivered moment k ∷ past) = with_request (told {S = A} past) (told {S = B} past) moment (asked_at past k) (alike past)
+  alike (Delivered moment k ∷ past) = with_request (reached {S = A} past) (reached {S = B} past) moment (asked_at past k) (alike past)
   alike (Sensed moment id value ∷ past) = record { busy = (alike past).busy; recents = (alike past).recents }
   alike (WentDown moment ∷ past) = record { busy = refl; recents = λ source. refl }
 
-  pub same_fresh : (log : List Happening) (m : Message) → is_fresh All window keep (told {S = A} log) m ≡ is_fresh All window keep (told {S = B} log) m
-  same_fresh log m = fresh (told {S = A} log) (told {S = B} log) m (alike log)
+  pub same_fresh : (log : List Happening) (m : Message) → is_fresh All window keep (reached {S = A} log) m ≡ is_fresh All window keep (reached {S = B} log) m
+  same_fresh log m = fresh (reached {S = A} log) (reached {S = B} log) m (alike log)
 
   -- what is kept is of the same message
-  pub same_origin : (log : List Happening) (source id : ℕ) (p : Place B) → origin All window keep (told {S = B} log) source id ≡ Some p
-      → (q : Place A) × (origin All window keep (told {S = A} log) source id ≡ Some q) × (q.message ≡ p.message)
-  same_origin log source id p is = go (origin All window keep (told {S = A} log) source id) (origins (told {S = A} log) (told {S = B} log) (alike log) source id ∙ ap (option_map message_in) is)
+  pub same_origin : (log : List Happening) (source id : ℕ) (p : Place B) → origin All window keep (reached {S = B} log) source id ≡ Some p
+      → (q : Place A) × (origin All window keep (reached {S = A} log) source id ≡ Some q) × (q.message ≡ p.message)
+  same_origin log source id p is = go (origin All window keep (reached {S = A} log) source id) (origins (reached {S = A} log) (reached {S = B} log) (alike log) source id ∙ ap (option_map message_in) is)
     where
       go : (o : Option (Place A)) → option_map message_in o ≡ Some p.message → (q : Place A) × (o ≡ Some q) × (q.message ≡ p.message)
       go None e = absurd (cc)

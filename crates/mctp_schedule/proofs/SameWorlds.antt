@@ -4,7 +4,7 @@ use Rattle.std.specs.Prelude.{◌&&◌, ◌==◌, if◌then◌else◌}
 use Rattle.pldm_wire.specs.declared.assigned.TheConstants.{INSTANCE_IDS}
 use Rattle.pldm_responder.specs.Performing.{Rules}
 use Rattle.mctp_schedule.specs.FirstArrivals.{arrives_at}
-use Rattle.mctp_schedule.specs.Logs.{Asked, Happening, Opened, Delivered, Sensed, WentDown, asked_at, message_at, told}
+use Rattle.mctp_schedule.specs.Logs.{Asked, Happening, Opened, Delivered, Sensed, WentDown, asked_at, message_at, reached}
 use Rattle.mctp_schedule.specs.OncePerformed.{answered_to, given}
 use Rattle.mctp_schedule.specs.Worlds.{BothEnds, World, handed, packet_of, source_of, IsTimely, IsTimelyAction, done, reply_packet, world}
 use Rattle.schedule_text.specs.declared.step.Action.{Action}
@@ -18,7 +18,7 @@ use Rattle.pldm_responder.specs.Laws.{AllIdsPerformAlike}
 module _ {S : Type 0} (device : Rules S) (alike : AllIdsPerformAlike device) (window keep : ℕ) (start : S) (wide : INSTANCE_IDS ≤ window) where
   same_answered_to : (moment : ℕ) (past : List Happening) (o : Option Asked) → answered_to device window keep start moment past o ≡ each_id.answered_to device keep start moment past o
   same_answered_to moment past None = refl
-  same_answered_to moment past (Some r) = (alike window keep start (told {S = S} past) wide).1 (message_at moment r)
+  same_answered_to moment past (Some r) = (alike window keep start (reached {S = S} past) wide).1 (message_at moment r)
 
   pub same_given : (log : List Happening) (k : ℕ) → given device window keep start log k ≡ each_id.given device keep start log k
   same_given [] k = refl

@@ -1,4 +1,4 @@
--- What is told of a request stays over a step that brings it nothing: its one reply, the packets that came, and its progress.
+-- What is reported of a request stays over a step that brings it nothing: its one reply, the packets that came, and its progress.
 use Rattle.std.proofs.Common.{◌≡◌, ◌⊎◌, ℕ, List, [], ◌∷◌, map, Option, Some, None, Bool, true, false, refl, sym, ap, ◌∙◌, subst, inl, inr, arith}
 use Rattle.std.specs.Prelude.{◌&&◌, ◌==◌, nat_lt, if◌then◌else◌}
 use Rattle.std.proofs.lemmas.Bool.{and_right, or_from, le-ltb, cond-false}
@@ -6,7 +6,7 @@ use Rattle.mctp_packet.specs.Pieces.{piece_count}
 use Rattle.pldm_responder.specs.Events.{is_busy}
 use Rattle.pldm_requester.specs.Calls.{Request}
 use Rattle.pldm_requester.specs.Courses.{Progress, Waiting, Answered, GaveUp, is_open, is_waiting as waits}
-use Rattle.mctp_schedule.specs.Logs.{Asked, Happening, Opened, Delivered, Sensed, WentDown, asked_at, count_of, told}
+use Rattle.mctp_schedule.specs.Logs.{Asked, Happening, Opened, Delivered, Sensed, WentDown, asked_at, count_of, reached}
 use Rattle.mctp_schedule.specs.FirstArrivals.{arrives, earlier, first}
 use Rattle.mctp_schedule.specs.OncePerformed.{bytes_of, given_once, reply_from, the_reply, was_busy}
 use Rattle.mctp_schedule.specs.RequesterHalf.{ProgressIs}
@@ -45,8 +45,8 @@ module _ (S : Type 0) where
       go true e = absurd (cc)
       go false e = e
   first_unopened keep (Delivered moment j ∷ past) k off =
-      let test = j == k && arrives (asked_at past k) (is_busy keep (told {S = S} past) moment) in
-      let never : test ≡ false = and_right (j == k) _ (ap (λ o. arrives o (is_busy keep (told {S = S} past) moment)) off) in
+      let test = j == k && arrives (asked_at past k) (is_busy keep (reached {S = S} past) moment) in
+      let never : test ≡ false = and_right (j == k) _ (ap (λ o. arrives o (is_busy keep (reached {S = S} past) moment)) off) in
       (λ i. earlier (first_unopened keep past k off i) (never i) past)
 
 -- ---- one request stays as it was, or is given up

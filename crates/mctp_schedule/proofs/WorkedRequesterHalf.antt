@@ -160,9 +160,9 @@ busy_answer_is_none_before : busy_expected light (drop 2 after_restart) 0 ≡ No
 unfolding request_of command_of response_of
 busy_answer_is_none_before = refl
 
-busy_is_told : replies light after_restart 0 ≡ None ∷ []
+busy_is_reported : replies light after_restart 0 ≡ None ∷ []
 unfolding request_of command_of response_of
-busy_is_told = refl
+busy_is_reported = refl
 
 reply_after_it : reply_expected light after_restart 0 0 ≡ Some (Answered 0)
 unfolding request_of command_of response_of

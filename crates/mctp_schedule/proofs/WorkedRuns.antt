@@ -16,7 +16,7 @@ use Rattle.pldm_responder.specs.declared.outcome.Outcome.TheVariants.{Answered}
 use Rattle.mctp_schedule.specs.Entries.{entries, requests_after}
 use Rattle.mctp_schedule.specs.FirstArrivals.{firsts, order}
 use Rattle.mctp_schedule.specs.Headline.{entries_expected, state_once}
-use Rattle.mctp_schedule.specs.Logs.{told}
+use Rattle.mctp_schedule.specs.Logs.{reached}
 use Rattle.mctp_schedule.specs.Requests.{Request as EndedRequest}
 use Rattle.mctp_schedule.specs.Taken.{reply_of, reply_expected, taken}
 use Rattle.mctp_schedule.specs.Worlds.{BothEnds, is_timely, world}
@@ -242,10 +242,10 @@ untimely_order : order Device 32 1000 (world setting untimely).log ≡ 0 ∷ 0 �
 unfolding request_of command_of response_of
 untimely_order = refl
 
-untimely_state : performed setting.device All 32 1000 setting.start (told (world setting untimely).log) ≡ with_values (pos 40) (pos 40)
+untimely_state : performed setting.device All 32 1000 setting.start (reached (world setting untimely).log) ≡ with_values (pos 40) (pos 40)
 unfolding request_of command_of response_of
 untimely_state = refl
 
-untimely_is_told : is_timely setting untimely ≡ false
+untimely_is_reported : is_timely setting untimely ≡ false
 unfolding request_of command_of response_of
-untimely_is_told = refl
+untimely_is_reported = refl

@@ -4,7 +4,7 @@
 use Rattle.std.proofs.Common.{◌≡◌, true, false, List, [], ◌∷◌, refl}
 use Rattle.pldm_wire.specs.declared.busy_time.BusyTime.TheVariants.{All}
 use Rattle.mctp_schedule.specs.FirstArrivals.{has_arrived}
-use Rattle.mctp_schedule.specs.Logs.{Asked, Happening, Opened, Delivered, message_at, told}
+use Rattle.mctp_schedule.specs.Logs.{Asked, Happening, Opened, Delivered, message_at, reached}
 use Rattle.pldm_responder.specs.Events.{is_copy, is_fresh}
 use Rattle.mctp_schedule.specs.Timely.{ids_arrived, is_in_window}
 
@@ -38,11 +38,11 @@ one = refl
 one_before : is_in_window No 1 1000 once first_asked ≡ true
 one_before = refl
 
-copied_by_two : is_copy All 2 1000 (told {S = No} both) (message_at 12 first_asked) ≡ true
+copied_by_two : is_copy All 2 1000 (reached {S = No} both) (message_at 12 first_asked) ≡ true
 copied_by_two = refl
 
-again_by_one : is_fresh All 1 1000 (told {S = No} both) (message_at 12 first_asked) ≡ true
+again_by_one : is_fresh All 1 1000 (reached {S = No} both) (message_at 12 first_asked) ≡ true
 again_by_one = refl
 
-copied_by_one_before : is_copy All 1 1000 (told {S = No} once) (message_at 12 first_asked) ≡ true
+copied_by_one_before : is_copy All 1 1000 (reached {S = No} once) (message_at 12 first_asked) ≡ true
 copied_by_one_before = refl

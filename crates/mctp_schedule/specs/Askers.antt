@@ -65,16 +65,16 @@ IsAnswered side (gots.Dropped reason) = ⊤
 IsAnswered side gots.Partial = ⊤
 IsAnswered side (gots.Answered own) = HasAnswer (held_of side.station) own × (own < length side.numbers)
 
--- it is told by that number, with its answer
-abbrev pub TellsAnswer : Side → Got → Option AnsweredRequest → Type 0
-TellsAnswer side (gots.Dropped reason) answered = answered ≡ None
-TellsAnswer side gots.Partial answered = answered ≡ None
-TellsAnswer side (gots.Answered own) answered =
+-- it is reported by that number, with its answer
+abbrev pub ReportsAnswer : Side → Got → Option AnsweredRequest → Type 0
+ReportsAnswer side (gots.Dropped reason) answered = answered ≡ None
+ReportsAnswer side gots.Partial answered = answered ≡ None
+ReportsAnswer side (gots.Answered own) answered =
     (a : AnsweredRequest) × (answered ≡ Some a) × (a.number ≡ slice_index side.numbers own)
     × (option_map (λ memo. memo.course.progress) ((held_of side.station).remembered own)
     ≡ Some (courses.Answered a.message.now))
 
--- the request that a packet answered is told by its number over all requests, with its answer
+-- the request that a packet answered is reported by its number over all requests, with its answer
 abbrev pub ReportsReply : List ℕ → Arrival → Option AnsweredRequest → Type 0
 ReportsReply numbers (Drop reason) answered = answered ≡ None
 ReportsReply numbers Part answered = answered ≡ None

@@ -6,7 +6,7 @@ use Rattle.pldm_wire.specs.declared.busy_time.BusyTime.TheVariants.{All}
 use Rattle.pldm_responder.specs.Calls.{answer_expected}
 use Rattle.pldm_responder.specs.Events.{Place, is_busy, is_copy, is_fresh, origin}
 use Rattle.pldm_responder.specs.Performing.{Rules, performed}
-use Rattle.mctp_schedule.specs.Logs.{Asked, Happening, Delivered, asked_at, message_at, told}
+use Rattle.mctp_schedule.specs.Logs.{Asked, Happening, Delivered, asked_at, message_at, reached}
 use Rattle.mctp_schedule.specs.FirstArrivals.{IsOrderOfFirsts, first, is_first, order}
 use Rattle.mctp_schedule.specs.OncePerformed.{FitsPackets, RepliesFit, delivery_expected, given, given_once, once, the_reply}
 use Rattle.mctp_schedule.specs.Timely.{IsTimelyLog}
@@ -33,11 +33,11 @@ abbrev pub FreshWhereFirst : Type 0 → Type 0
 FreshWhereFirst S =
     (window keep : ℕ) (past : List Happening) (moment k : ℕ) (r : Asked)
     → IsTimelyLog S window keep (Delivered moment k ∷ past) → asked_at past k ≡ Some r
-    → is_busy keep (told {S = S} past) moment ≡ false
-    → (is_fresh All window keep (told {S = S} past) (message_at moment r) ≡ is_first S keep past moment k)
-    × (is_copy All window keep (told {S = S} past) (message_at moment r) ≡ not (is_first S keep past moment k))
+    → is_busy keep (reached {S = S} past) moment ≡ false
+    → (is_fresh All window keep (reached {S = S} past) (message_at moment r) ≡ is_first S keep past moment k)
+    × (is_copy All window keep (reached {S = S} past) (message_at moment r) ≡ not (is_first S keep past moment k))
     × ((place : List Happening) → first S keep past k ≡ Some place → (p : Place S)
-    × (origin All window keep (told {S = S} past) r.source (id_at r.message) ≡ Some p) × (p.message.bytes ≡ r.message)
+    × (origin All window keep (reached {S = S} past) r.source (id_at r.message) ≡ Some p) × (p.message.bytes ≡ r.message)
     × (moment < p.message.moment + keep))
 
 module _ {S : Type 0} (device : Rules S) where
@@ -45,14 +45,14 @@ module _ {S : Type 0} (device : Rules S) where
   abbrev pub StateIsOnce : Type 0
   StateIsOnce =
       (window keep : ℕ) (start : S) (log : List Happening) → IsTimelyLog S window keep log
-      → performed device All window keep start (told log) ≡ once device keep start log
+      → performed device All window keep start (reached log) ≡ once device keep start log
 
   -- what the responder gives at a delivery is what the definitions owe to it
   abbrev pub DeliveryIsExpected : Type 0
   DeliveryIsExpected =
       (own window keep : ℕ) (start : S) (past : List Happening) (moment k : ℕ) (r : Asked)
       → IsTimelyLog S window keep (Delivered moment k ∷ past) → asked_at past k ≡ Some r
-      → answer_expected device own All window keep start (told past) (message_at moment r)
+      → answer_expected device own All window keep start (reached past) (message_at moment r)
       ≡ delivery_expected device keep start own past moment k r
 
   -- a request that was performed is not performed again, whatever restarts came since
@@ -60,8 +60,8 @@ module _ {S : Type 0} (device : Rules S) where
   NotPerformedAgain =
       (window keep : ℕ) (start : S) (past : List Happening) (moment k : ℕ) (place : List Happening)
       → IsTimelyLog S window keep (Delivered moment k ∷ past) → first S keep past k ≡ Some place
-      → performed device All window keep start (told (Delivered moment k ∷ past))
-      ≡ performed device All window keep start (told past)
+      → performed device All window keep start (reached (Delivered moment k ∷ past))
+      ≡ performed device All window keep start (reached past)
 
   -- the latest reply that was given to a request is its one reply, once it has arrived
   abbrev pub GivenIsTheReply : Type 0

@@ -5,7 +5,7 @@ use Rattle.pldm_responder.specs.EachId as each_id
 use Rattle.pldm_responder.specs.Performing.{Rules}
 use Rattle.pldm_requester.specs.Calls as requester
 use Rattle.mctp_schedule.specs.FirstArrivals.{arrives_at}
-use Rattle.mctp_schedule.specs.Logs.{Asked, Happening, Delivered, Sensed, WentDown, Apart, InOrder, asked_at, message_at, told}
+use Rattle.mctp_schedule.specs.Logs.{Asked, Happening, Delivered, Sensed, WentDown, Apart, InOrder, asked_at, message_at, reached}
 use Rattle.mctp_schedule.specs.Worlds.{BothEnds, World, TagIsOwn, busy_packet, handed, log_opened, packet_of, source_of, with_call}
 use Rattle.schedule_text.specs.declared.step.Action.{Action}
 use Rattle.schedule_text.specs.declared.step.Action.TheVariants.{Open, Tick, Request, Reply, Sense, Restart, Busy}
@@ -27,7 +27,7 @@ pub record IsTimelyLog (keep : ℕ) (log : List Happening) : Type 0 where
 module _ {S : Type 0} (device : Rules S) (keep : ℕ) (start : S) where
   abbrev pub answered_to : ℕ → List Happening → Option Asked → List ℕ
   answered_to moment past None = []
-  answered_to moment past (Some r) = each_id.answered device keep start (told past) (message_at moment r)
+  answered_to moment past (Some r) = each_id.answered device keep start (reached past) (message_at moment r)
 
   -- the latest reply that the responder gave to request k, busy answers aside; `None` where it gave none yet
   abbrev pub given : List Happening → ℕ → Option (List ℕ)

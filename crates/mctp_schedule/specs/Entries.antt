@@ -12,7 +12,7 @@ use Rattle.pldm_requester.specs.declared.results.Opened.{Opened as OpenedAs}
 use Rattle.pldm_requester.specs.declared.results.OpenFault.{OpenFault}
 use Rattle.mctp_schedule.specs.HandedPackets.{got_of_busy, got_of_reply}
 use Rattle.mctp_schedule.specs.Logs as logs
-use Rattle.mctp_schedule.specs.Logs.{Asked, Happening, asked_at, count_of, message_at, told}
+use Rattle.mctp_schedule.specs.Logs.{Asked, Happening, asked_at, count_of, message_at, reached}
 use Rattle.mctp_schedule.specs.Requests.{Request as EndedRequest}
 use Rattle.mctp_schedule.specs.Worlds.{BothEnds, World, requests_of, timing_of, world}
 use Rattle.mctp_schedule.specs.declared.entry.Entry.{Entry}
@@ -63,13 +63,13 @@ module _ {S : Type 0} (setting : BothEnds S) where
   abbrev pub delivery_entry : List Happening → ℕ → Option Asked → Entry
   delivery_entry log moment None = Nothing
   delivery_entry log moment (Some r) =
-      Delivered (is_busy setting.keep (told {S = S} log) moment)
-      (answer_expected setting.device setting.eid All setting.window setting.keep setting.start (told log)
+      Delivered (is_busy setting.keep (reached {S = S} log) moment)
+      (answer_expected setting.device setting.eid All setting.window setting.keep setting.start (reached log)
       (message_at moment r))
 
   abbrev pub reading_entry : List Happening → ℕ → ℤ → Entry
   reading_entry log id value =
-      let state = performed setting.device All setting.window setting.keep setting.start (told log) in
+      let state = performed setting.device All setting.window setting.keep setting.start (reached log) in
       Sensed (made_of (λ _. tt) (setting.device.sensed state id value))
 
   -- what comes of an action in a world

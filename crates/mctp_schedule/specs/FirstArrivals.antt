@@ -4,7 +4,7 @@ use Rattle.std.specs.List.{list_any}
 use Rattle.std.specs.Option.{option_or}
 use Rattle.pldm_wire.specs.declared.busy_time.BusyTime.TheVariants.{All}
 use Rattle.pldm_responder.specs.Events.{Event, is_busy, is_fresh}
-use Rattle.mctp_schedule.specs.Logs.{Asked, Happening, Delivered, asked_at, message_at, told}
+use Rattle.mctp_schedule.specs.Logs.{Asked, Happening, Delivered, asked_at, message_at, reached}
 
 -- a delivered request arrives where it was opened and the responder is not busy
 abbrev pub arrives : Option Asked → Bool → Bool
@@ -29,11 +29,11 @@ fresh_of window keep events moment (Some r) = is_fresh All window keep events (m
 module _ (S : Type 0) where
   -- request k arrives, where its packet is delivered at this moment
   abbrev pub arrives_at : ℕ → List Happening → ℕ → ℕ → Bool
-  arrives_at keep past moment k = arrives (asked_at past k) (is_busy keep (told {S = S} past) moment)
+  arrives_at keep past moment k = arrives (asked_at past k) (is_busy keep (reached {S = S} past) moment)
 
   -- or it is expected a busy answer
   abbrev pub is_answered_busy_at : ℕ → List Happening → ℕ → ℕ → Bool
-  is_answered_busy_at keep past moment k = is_answered_busy (asked_at past k) (is_busy keep (told {S = S} past) moment)
+  is_answered_busy_at keep past moment k = is_answered_busy (asked_at past k) (is_busy keep (reached {S = S} past) moment)
 
   -- what had happened before the first arrival of request k; `None` where it never arrived
   abbrev pub first : ℕ → List Happening → ℕ → Option (List Happening)
@@ -54,7 +54,7 @@ module _ (S : Type 0) where
   abbrev pub order : (window keep : ℕ) → List Happening → List ℕ
   order window keep [] = []
   order window keep (Delivered moment k ∷ past) =
-      if fresh_of window keep (told {S = S} past) moment (asked_at past k) then order window keep past ++ k ∷ []
+      if fresh_of window keep (reached {S = S} past) moment (asked_at past k) then order window keep past ++ k ∷ []
       else order window keep past
   order window keep (_ ∷ past) = order window keep past
 

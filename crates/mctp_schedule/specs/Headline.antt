@@ -10,7 +10,7 @@ use Rattle.pldm_wire.specs.declared.command.Command.{Command}
 use Rattle.pldm_responder.specs.Events.{is_busy}
 use Rattle.mctp_schedule.specs.Entries.{entry_of, got_entry}
 use Rattle.mctp_schedule.specs.FirstArrivals.{IsOrderOfFirsts}
-use Rattle.mctp_schedule.specs.Logs.{Asked, asked_at, told}
+use Rattle.mctp_schedule.specs.Logs.{Asked, asked_at, reached}
 use Rattle.mctp_schedule.specs.OncePerformed.{delivery_expected, once}
 use Rattle.mctp_schedule.specs.PerformedCommands.{commands_once}
 use Rattle.mctp_schedule.specs.Requests.{Request as EndedRequest}
@@ -29,15 +29,15 @@ module _ {S : Type 0} (setting : BothEnds S) where
   state_once steps = once setting.device setting.keep setting.start (world setting steps).log
 
   -- what a delivery of request k owes: nothing where it was never opened; after a restart a busy answer; else its one
-  -- reply, told as fresh at its first arrival and as a copy later
+  -- reply, reported as fresh at its first arrival and as a copy later
   abbrev pub delivery_owes : List Step → ℕ → ℕ → Option Asked → Entry
   delivery_owes past moment k None = Nothing
   delivery_owes past moment k (Some r) =
       let log = (world setting past).log in
-      Delivered (is_busy setting.keep (told {S = S} log) moment)
+      Delivered (is_busy setting.keep (reached {S = S} log) moment)
       (delivery_expected setting.device setting.keep setting.start setting.eid log moment k r)
 
-  -- what the entry of an action owes after these steps; what an open and a tick owe is told by their requester's calls
+  -- what the entry of an action owes after these steps; what an open and a tick owe is by their requester's calls
   abbrev pub entry_owes : List Step → ℕ → Action → Entry
   entry_owes past moment (actions.Request k) = delivery_owes past moment k (asked_at (world setting past).log k)
   entry_owes past moment (actions.Reply j k) = got_entry (reply_expected setting past k j)
@@ -54,21 +54,21 @@ module _ {S : Type 0} (setting : BothEnds S) where
   entries_expected [] = []
   entries_expected (step ∷ past) = entries_expected past ++ entry_owes past step.moment step.action ∷ []
 
-  -- request k, which is r, is told as it was opened, and as answered by its one reply exactly where it was taken; an
-  -- answer is of a request that was performed exactly once
-  pub record IsTold (steps : List Step) (k : ℕ) (r : Asked) (requests : List EndedRequest) : Type 0 where
+  -- request k, which is r, is reported as it was opened, and as answered by its one reply exactly where it was taken;
+  -- an answer is of a request that was performed exactly once
+  pub record IsReported (steps : List Step) (k : ℕ) (r : Asked) (requests : List EndedRequest) : Type 0 where
     pub progress : Progress
-    pub told : slice_get requests k ≡ Some (record { asked = r; progress = progress })
+    pub reported : slice_get requests k ≡ Some (record { asked = r; progress = progress })
     pub stands : ProgressIs setting steps k progress
     pub performed : (message : List ℕ) → progress ≡ Answered message → WasPerformedOnce setting steps k r message
 
-  -- what a run over these steps tells is this
+  -- what a run over these steps reports is this
   pub record Headline
       (steps : List Step) (entries : List Entry) (requests : List EndedRequest) (order : List ℕ) (state : S)
       (Performed : List Command → Type 0)
       : Type 0 where
     pub each_step : entries ≡ entries_expected steps
-    pub each_request : (k : ℕ) (r : Asked) → asked_at (world setting steps).log k ≡ Some r → IsTold steps k r requests
+    pub each_request : (k : ℕ) (r : Asked) → asked_at (world setting steps).log k ≡ Some r → IsReported steps k r requests
     pub performed_in_order : IsOrderOfFirsts S setting.keep (world setting steps).log order
     pub performed_once : state ≡ state_once steps
     pub each_command_once : Performed (commands_once S setting.keep (world setting steps).log)

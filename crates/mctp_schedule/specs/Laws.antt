@@ -14,7 +14,7 @@ LogIsTimely {S} setting =
     (steps : List Step) → NeverWentBack steps → IsTimely setting steps
     → IsTimelyLog S setting.window setting.keep (world setting steps).log
 
--- the test of a timely schedule tells just that
+-- the test of a timely schedule holds exactly where it is timely
 abbrev pub TimelyIsTested : {S : Type 0} → BothEnds S → Type 0
 TimelyIsTested setting = (steps : List Step) → (is_timely setting steps ≡ true) ↔ IsTimely setting steps
 

@@ -50,17 +50,17 @@ message_at moment r = record { source = r.source; tag = r.own % TAGS; moment = m
 -- over a device of any state: nothing that happens on the link changes it from outside
 module _ {S : Type 0} where
   -- a request that was never opened brings nothing
-  abbrev pub told_of : ℕ → Option Asked → List (Event S) → List (Event S)
-  told_of moment None events = events
-  told_of moment (Some r) events = Came (message_at moment r) ∷ events
+  abbrev pub with_reached : ℕ → Option Asked → List (Event S) → List (Event S)
+  with_reached moment None events = events
+  with_reached moment (Some r) events = Came (message_at moment r) ∷ events
 
   -- what reached the responder
-  abbrev pub told : List Happening → List (Event S)
-  told [] = []
-  told (Opened r ∷ past) = told past
-  told (Delivered moment k ∷ past) = told_of moment (asked_at past k) (told past)
-  told (Sensed moment id value ∷ past) = Set id value ∷ told past
-  told (WentDown moment ∷ past) = Restarted moment ∷ told past
+  abbrev pub reached : List Happening → List (Event S)
+  reached [] = []
+  reached (Opened r ∷ past) = reached past
+  reached (Delivered moment k ∷ past) = with_reached moment (asked_at past k) (reached past)
+  reached (Sensed moment id value ∷ past) = Set id value ∷ reached past
+  reached (WentDown moment ∷ past) = Restarted moment ∷ reached past
 
 -- moments never go back
 abbrev pub InOrder : List Happening → Type 0

@@ -9,7 +9,7 @@ use Rattle.pldm_responder.specs.Performing.{Rules, reply, next, changes, busy_re
 use Rattle.pldm_responder.specs.Arrivals.{packets_back}
 use Rattle.pldm_responder.specs.declared.outcome.Outcome.{Outcome}
 use Rattle.pldm_responder.specs.declared.outcome.Outcome.TheVariants.{Answered}
-use Rattle.mctp_schedule.specs.Logs.{Asked, Happening, Opened, Delivered, Sensed, asked_at, message_at, told}
+use Rattle.mctp_schedule.specs.Logs.{Asked, Happening, Opened, Delivered, Sensed, asked_at, message_at, reached}
 use Rattle.mctp_schedule.specs.FirstArrivals.{arrives_at, first, is_first, is_answered_busy_at}
 
 -- the bytes of a request's message
@@ -55,10 +55,10 @@ module _ {S : Type 0} (device : Rules S) (keep : ℕ) (start : S) where
   given_once log k = option_map (λ place. the_reply log k) (first S keep log k)
 
   -- what the responder at the endpoint `own` owes to a delivery of request k, which is r, at this moment: a busy
-  -- answer of code 4 after a restart, else the one reply, told as fresh at its first arrival and as a copy later
+  -- answer of code 4 after a restart, else the one reply, reported as fresh at its first arrival and as a copy later
   abbrev pub delivery_expected : ℕ → List Happening → ℕ → ℕ → Asked → Outcome
   delivery_expected own past moment k r =
-      if is_busy keep (told {S = S} past) moment
+      if is_busy keep (reached {S = S} past) moment
       then Answered false false (packets_back own (message_at moment r) (busy_reply r.message))
       else if is_first S keep past moment k
       then Answered true (changes device (once past) r.message)
@@ -72,14 +72,14 @@ module _ {S : Type 0} (device : Rules S) (window keep : ℕ) (start : S) where
   RepliesFit [] = Unit {0}
   RepliesFit (Delivered moment k ∷ past) =
       ((r : Asked) → asked_at past k ≡ Some r
-      → is_fresh All window keep (told {S = S} past) (message_at moment r) ≡ true
-      → FitsPackets (reply device (performed device All window keep start (told past)) r.message))
+      → is_fresh All window keep (reached {S = S} past) (message_at moment r) ≡ true
+      → FitsPackets (reply device (performed device All window keep start (reached past)) r.message))
       × RepliesFit past
   RepliesFit (_ ∷ past) = RepliesFit past
 
   abbrev pub answered_to : ℕ → List Happening → Option Asked → List ℕ
   answered_to moment past None = []
-  answered_to moment past (Some r) = answered device All window keep start (told past) (message_at moment r)
+  answered_to moment past (Some r) = answered device All window keep start (reached past) (message_at moment r)
 
   -- the latest reply that the responder gave to request k, busy answers aside; `None` where it gave none yet
   abbrev pub given : List Happening → ℕ → Option (List ℕ)

@@ -4,7 +4,7 @@ use Rattle.std.specs.Prelude.{ℕ, List, [], ◌∷◌, ◌++◌, Bool, Option, 
 use Rattle.pldm_responder.specs.Performing.{commands_of}
 use Rattle.pldm_wire.specs.declared.command.Command.{Command}
 use Rattle.mctp_schedule.specs.FirstArrivals.{fresh_of, is_first}
-use Rattle.mctp_schedule.specs.Logs.{Asked, Happening, Delivered, asked_at, told}
+use Rattle.mctp_schedule.specs.Logs.{Asked, Happening, Delivered, asked_at, reached}
 use Rattle.schedule_text.specs.declared.step.Action.{Action}
 use Rattle.schedule_text.specs.declared.step.Action.TheVariants.{Open, Tick, Request, Reply, Sense, Restart, Busy}
 
@@ -18,7 +18,7 @@ module _ (S : Type 0) where
   -- the commands that the device performs at a delivery of request k
   abbrev pub commands_at_delivery : (window keep : ℕ) → List Happening → ℕ → ℕ → List Command
   commands_at_delivery window keep past moment k =
-      commands_if (fresh_of window keep (told {S = S} past) moment (asked_at past k)) (asked_at past k)
+      commands_if (fresh_of window keep (reached {S = S} past) moment (asked_at past k)) (asked_at past k)
 
   -- all that it performed
   abbrev pub commands_performed : (window keep : ℕ) → List Happening → List Command

@@ -6,7 +6,7 @@ use Rattle.pldm_wire.specs.declared.command.Command.{Command}
 use Rattle.mctp_schedule.specs.Entries.{entries, requests_after}
 use Rattle.mctp_schedule.specs.FirstArrivals.{order}
 use Rattle.mctp_schedule.specs.Headline.{Headline}
-use Rattle.mctp_schedule.specs.Logs.{told}
+use Rattle.mctp_schedule.specs.Logs.{reached}
 use Rattle.mctp_schedule.specs.PerformedCommands.{commands_performed}
 use Rattle.mctp_schedule.specs.Requests.{Request}
 use Rattle.mctp_schedule.specs.Worlds.{BothEnds, is_timely, world}
@@ -33,7 +33,7 @@ pub record IsReport {S : Type 0}
   pub in_order : report.order ≡ order S setting.window setting.keep (world setting steps).log
   -- the state that performing them leaves
   pub state : report.device
-      ≡ performed setting.device All setting.window setting.keep setting.start (told (world setting steps).log)
+      ≡ performed setting.device All setting.window setting.keep setting.start (reached (world setting steps).log)
   -- their commands, and no others, were performed on the platform itself
   pub commands : has_performed (commands_performed S setting.window setting.keep (world setting steps).log)
   -- whether the schedule was timely

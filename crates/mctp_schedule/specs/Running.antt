@@ -17,7 +17,7 @@ use Rattle.mctp_schedule.specs.ArrivedIds.{ids_at}
 use Rattle.mctp_schedule.specs.FirstArrivals.{has_arrived, order}
 use Rattle.mctp_schedule.specs.HeldRuns.{HeldRun}
 use Rattle.mctp_schedule.specs.Journals.{Carried, packets_in}
-use Rattle.mctp_schedule.specs.Logs.{Asked, Happening, Opened, Delivered, Sensed, WentDown, asked_at, count_of, told}
+use Rattle.mctp_schedule.specs.Logs.{Asked, Happening, Opened, Delivered, Sensed, WentDown, asked_at, count_of, reached}
 use Rattle.mctp_schedule.specs.OncePerformed.{AreRequests, IsReadable, RepliesFit, given, was_busy}
 use Rattle.mctp_schedule.specs.PerformedCommands.{commands_at_step}
 use Rattle.mctp_schedule.specs.Places.{side_at}
@@ -64,14 +64,14 @@ pub record IsSide {S : Type 0} (setting : BothEnds S) (w : World) (now e : ℕ) 
       → (r : Asked) × (asked_at w.log k ≡ Some r) × (r.source ≡ e) × (r.own ≡ own)
   pub called : (held_of side.station).last ≤ now
 
--- the responder holds what its calls leave, which are what the link told it
+-- the responder holds what its calls leave, which are what reached it over the link
 pub record IsDevice {P S : Type 0}
     (setting : BothEnds S) (w : World) (now : ℕ) (station : responder_stations.ResponderView P S) : Type 0 where
   pub endpoint : IsEid setting.eid
   pub left :
       responder_laws.IsLeftBy setting.device setting.eid All setting.window setting.keep setting.start
       (responder_stations.held_of station) (device_calls setting.eid w.log)
-  pub events : responder.events setting.eid (device_calls setting.eid w.log) ≡ told {S = S} w.log
+  pub events : responder.events setting.eid (device_calls setting.eid w.log) ≡ reached {S = S} w.log
   pub called : (responder_stations.held_of station).last ≤ now
 
 abbrev pub IsBefore : ℕ → Option ℕ → Type 0
@@ -82,7 +82,7 @@ abbrev pub busy_packets : ℕ → Asked → Bool → Option (List (List ℕ))
 busy_packets eid r true = Some (answer_packets eid r (busy_reply r.message))
 busy_packets eid r false = None
 
--- what is written down of request k, which is r, tells its packet, its latest reply and its latest busy answer
+-- what is written down of request k, which is r, has its packet, its latest reply and its latest busy answer
 pub record IsCarried {S : Type 0}
     (setting : BothEnds S) (w : World) (entries : List Entry) (k : ℕ) (r : Asked) (carried : Carried) : Type 0 where
   pub packet : carried.header ++ r.message ≡ packet_bytes r.source setting.eid r.own r.message

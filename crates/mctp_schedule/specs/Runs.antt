@@ -2,7 +2,7 @@
 use Rattle.std.specs.Prelude.{ℕ, List, reverse}
 use Rattle.pldm_wire.specs.declared.busy_time.BusyTime.TheVariants.{All}
 use Rattle.pldm_responder.specs.Performing.{Rules, performed}
-use Rattle.mctp_schedule.specs.Logs.{told}
+use Rattle.mctp_schedule.specs.Logs.{reached}
 use Rattle.schedule_text.specs.Schedules.{Spelled}
 use Rattle.mctp_schedule.specs.Worlds.{BothEnds, World, world}
 use Rattle.schedule_text.specs.declared.step.Step.{Step}
@@ -29,4 +29,4 @@ final_world setting schedule = world setting (newest_first schedule)
 -- the responder's state after all steps
 abbrev pub final_state : {S : Type 0} → BothEnds S → Spelled → S
 final_state setting schedule =
-    performed setting.device All setting.window setting.keep setting.start (told (final_world setting schedule).log)
+    performed setting.device All setting.window setting.keep setting.start (reached (final_world setting schedule).log)

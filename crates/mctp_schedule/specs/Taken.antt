@@ -1,4 +1,4 @@
--- Which requests are taken, told by what was delivered to each: packets of its one reply, and busy answers. Steps and
+-- Which requests are taken, by what was delivered to each: packets of its one reply, and busy answers. Steps and
 -- deliveries have the newest first.
 use Rattle.std.specs.Prelude.{ℕ, zero, suc, Bool, true, false, ◌&&◌, ◌||◌, not, ◌==◌, nat_lt, List, [], ◌∷◌, map, Option, Some, None, if◌then◌else◌}
 use Rattle.mctp_packet.specs.Packets.{Packet}

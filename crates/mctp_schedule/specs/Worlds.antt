@@ -150,7 +150,7 @@ NeverWentBack [] = Unit {0}
 NeverWentBack (step ∷ past) = (time_now past ≤ step.moment) × NeverWentBack past
 
 module _ {S : Type 0} (setting : BothEnds S) where
-  -- the tests that tell the same
+  -- the tests of the same
 
   abbrev pub comes_in_time : List Happening → ℕ → ℕ → Option Asked → Bool
   comes_in_time log moment k None = true

@@ -5,7 +5,7 @@ ghost use Rattle.std.specs.List.{AllByRecursion};
 ghost use Rattle.mctp_packet.specs.Packets.{written};
 ghost use Rattle.pldm_requester.specs.Steps.{IsHeld, again_at, given_up_at, got_at, opened_held, opening_answer, received_held, ticked_held};
 ghost use Rattle.pldm_requester.specs.Slots.{held_of};
-ghost use Rattle.mctp_schedule.specs.Askers.{HasPacket, IsAnswered, IsOpenedAs, TellsAnswer};
+ghost use Rattle.mctp_schedule.specs.Askers.{HasPacket, IsAnswered, IsOpenedAs, ReportsAnswer};
 ghost use Rattle.mctp_schedule.specs.Entries.{due_over_all, numbered};
 
 use arrayvec::ArrayVec;
@@ -161,7 +161,7 @@ impl Asker {
     /// The request that was answered, where a packet gave this.
     pub(crate) fn answered(&self, got: Got) -> Option<AnsweredRequest<'_>>
         requires { IsAnswered self.now got }
-        ensures { TellsAnswer self.now got result }
+        ensures { ReportsAnswer self.now got result }
     {
         let Got::Answered(own) = got else {
             return None;

@@ -257,7 +257,7 @@ impl<P: Platform> Ends<P> {
         let in_time = self
             .arrivals
             .is_in_time(soon, arrived, source, id, self.window);
-        // Asked before the packet comes, since the entry tells a busy answer from a copy by it.
+        // Asked before the packet comes, since by it the entry knows a busy answer from a copy.
         let busy = self.responder.busy(now);
         self.journal.write_request_packet(number, &mut self.packet);
         let taken = self

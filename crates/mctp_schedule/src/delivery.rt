@@ -98,7 +98,7 @@ impl Delivery {
         ensures { IfOk result (λ shared. IfSome shared (λ s. rc_slice_items s ≡ bytes.now)) }
     {
         match &self.kept {
-            // Compared, and not taken on trust: the journal tells each answer as it was given.
+            // Compared, and not taken on trust: the journal has each answer as it was given.
             KeptDelivery::Shared { reply, .. } if reply.as_slice() == bytes => {
                 Ok(Some(reply.clone()?))
             }

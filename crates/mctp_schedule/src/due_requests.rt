@@ -9,7 +9,7 @@ use std::alloc::Global;
 use std::marker::Model;
 
 /// The requests that a tick found due, by their numbers, which count the opened requests of all
-/// requesters. Most ticks find none, and are told without memory.
+/// requesters. Most ticks find none, and take no memory.
 #[derive(Debug, Drop)]
 pub struct DueRequests {
     due: Option<Box<Due>>,

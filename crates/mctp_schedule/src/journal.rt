@@ -164,7 +164,7 @@ impl Journal {
         delivery_in(&self.entries, &self.traffic, number, busy)
     }
 
-    /// Writes down what came of a step that told nothing of a request.
+    /// Writes down what came of a step that brought nothing of a request.
     // Inlined: it is then known which entry it is.
     #[inline(always)]
     pub(crate) fn enter(&mut self, entry: Entry) -> Result<(), Memory>

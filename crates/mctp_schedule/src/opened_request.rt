@@ -1,4 +1,4 @@
-//! A request that was opened, as a report tells it.
+//! A request that was opened, as a report has it.
 
 ghost use Rattle.std.specs.Prelude.{◌≡◌, ◌≤◌, ◌++◌, ◌%◌, [], OnOk, length};
 ghost use Rattle.pldm_requester.specs.Courses.{GaveUp, Answered};
@@ -31,7 +31,7 @@ pub struct OpenedRequest {
 // A run holds one for each request: the requester and the message, with its count, lie in four words together.
 const _: () = prove!(size_of::<OpenedRequest>() == 72);
 
-/// How it stands. How its answer is stored is told by the same mark.
+/// How it stands. The same mark says how its answer is stored.
 #[derive(Debug, Drop)]
 enum Progress {
     /// It is open.

@@ -9,7 +9,7 @@ use std::alloc::Global;
 use std::marker::Model;
 use std::rc::RcSlice;
 
-/// The most bytes of an answer that is stored in place: one that tells a sensor's reading has no more.
+/// The most bytes of an answer that is stored in place: one with a sensor's reading has no more.
 pub(crate) const MAX_SHORT: usize = 15;
 
 /// The bytes of a short message, at most `MOST`. Their count is one byte long.

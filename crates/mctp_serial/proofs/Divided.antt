@@ -133,8 +133,8 @@ burst_stays n burst place h e =
       no_product zero b h g = refl
       no_product (suc a) b h g = absurd (omega (arith, g))
 
-pub bursts_told : ShortBurstsAreReported
-bursts_told a b burst place are_a are_b same some short apart = λ equal.
+pub bursts_reported : ShortBurstsAreReported
+bursts_reported a b burst place are_a are_b same some short apart = λ equal.
     let m = 8 * length a in
     let turned_a = bit_xor START_REGISTER (number_of a) in
     let turned_b = bit_xor START_REGISTER (number_of b) in

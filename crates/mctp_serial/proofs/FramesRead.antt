@@ -66,11 +66,11 @@ then_append Nothing x y = refl
 then_append (Packet packet) x y = refl
 then_append (Dropped drop) x y = refl
 
-pub told_joins : (r : Reading) (a b : List ℕ) → events_in r (a ++ b) ≡ events_in r a ++ events_in (after r a) b
-told_joins r [] b = refl
-told_joins r (c ∷ a) b =
-    ap (then_event (step r c).told) (told_joins (step r c).next a b)
-    ∙ then_append (step r c).told (events_in (step r c).next a) (events_in (after (step r c).next a) b)
+pub events_join : (r : Reading) (a b : List ℕ) → events_in r (a ++ b) ≡ events_in r a ++ events_in (after r a) b
+events_join r [] b = refl
+events_join r (c ∷ a) b =
+    ap (then_event (step r c).event) (events_join (step r c).next a b)
+    ∙ then_append (step r c).event (events_in (step r c).next a) (events_in (after (step r c).next a) b)
 
 pub after_joins : (r : Reading) (a b : List ℕ) → after r (a ++ b) ≡ after (after r a) b
 after_joins r [] b = refl

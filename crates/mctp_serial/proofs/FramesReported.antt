@@ -1,4 +1,4 @@
--- Where a reader stands, the front of a frame has come; so a packet is told only where its frame has.
+-- Where a reader stands, the front of a frame has come; so a packet is reported only where its frame has.
 use Rattle.std.proofs.Common.{◌≡◌, ℕ, ◌+◌, ◌*◌, ◌/◌, ◌%◌, ◌<◌, ◌≤◌, ◌==◌, nat_le, Bool, true, false, if◌then◌else◌, List, [], ◌∷◌, ◌++◌, length, Option, Some, None, refl, sym, ap, ◌∙◌, append_assoc, append-nil, length-append, suc, subst, arith}
 use Rattle.std.proofs.lemmas.Bool.{eqb-true, eqb-false, leb-true}
 use Rattle.mctp_packet.specs.declared.TheConstants.{MAX_PACKET_BYTES}
@@ -129,36 +129,36 @@ progress_after r came [] are s = rw (append-nil came) s
 progress_after r came (b ∷ bytes) are s =
     rw (← append_assoc came (b ∷ []) bytes) (progress_after (step r b).next (came ++ b ∷ []) bytes (λ i. are (suc i)) (stands_further r b came (are 0) s))
 
--- the packet that is told, if one is
-abbrev told_packet : FrameEvent → Option (List ℕ)
-told_packet Nothing = None
-told_packet (Packet packet) = Some packet.items
-told_packet (Dropped fault) = None
+-- the packet that is reported, if one is
+abbrev packet_in_event : FrameEvent → Option (List ℕ)
+packet_in_event Nothing = None
+packet_in_event (Packet packet) = Some packet.items
+packet_in_event (Dropped fault) = None
 
-either_silent : (x : Bool) (s t : Step) → told_packet s.told ≡ None → told_packet t.told ≡ None → told_packet (if x then s else t).told ≡ None
+either_silent : (x : Bool) (s t : Step) → packet_in_event s.event ≡ None → packet_in_event t.event ≡ None → packet_in_event (if x then s else t).event ≡ None
 either_silent true s t h g = h
 either_silent false s t h g = g
 
-none_told : (packet : List ℕ) (t : FrameEvent) → told_packet t ≡ None → t ≡ packet_of packet → ⊥
-none_told packet t h e =
-    let some : told_packet t ≡ Some packet = ap told_packet e in
+none_reported : (packet : List ℕ) (t : FrameEvent) → packet_in_event t ≡ None → t ≡ packet_of packet → ⊥
+none_reported packet t h e =
+    let some : packet_in_event t ≡ Some packet = ap packet_in_event e in
     cc
 
-sum_told : (done : List ℕ) (sent : ℕ) (packet : List ℕ) (x : Bool) → (check_sequence done == sent) ≡ x → checks done sent ≡ packet_of packet → (sent ≡ check_sequence done) × (done ≡ packet)
-sum_told done sent packet true p e =
+sum_reported : (done : List ℕ) (sent : ℕ) (packet : List ℕ) (x : Bool) → (check_sequence done == sent) ≡ x → checks done sent ≡ packet_of packet → (sent ≡ check_sequence done) × (done ≡ packet)
+sum_reported done sent packet true p e =
     let same : check_sequence done ≡ sent = eqb-true (check_sequence done) sent p in
     let taken : packet_of done ≡ packet_of packet = simp p at e in
-    let some : Some done ≡ Some packet = ap told_packet taken in
+    let some : Some done ≡ Some packet = ap packet_in_event taken in
     (sym same, cc)
-sum_told done sent packet false p e =
+sum_reported done sent packet false p e =
     let dropped : Dropped WrongCheck ≡ packet_of packet = simp p at e in
-    absurd (none_told packet (Dropped WrongCheck) refl dropped)
+    absurd (none_reported packet (Dropped WrongCheck) refl dropped)
 
-closed_by : (done : List ℕ) (sent byte : ℕ) (bytes packet : List ℕ) (x : Bool) → (byte == FLAG) ≡ x → Stands (closing done sent) bytes → (step (closing done sent) byte).told ≡ packet_of packet
+closed_by : (done : List ℕ) (sent byte : ℕ) (bytes packet : List ℕ) (x : Bool) → (byte == FLAG) ≡ x → Stands (closing done sent) bytes → (step (closing done sent) byte).event ≡ packet_of packet
     → HasFrame packet × EndsWith (bytes ++ byte ∷ []) (frame packet)
 closed_by done sent byte bytes packet true p s e =
-    let told : checks done sent ≡ packet_of packet = simp p at e in
-    let t = sum_told done sent packet (check_sequence done == sent) refl told in
+    let event : checks done sent ≡ packet_of packet = simp p at e in
+    let t = sum_reported done sent packet (check_sequence done == sent) refl event in
     let whole : begun (length done) ((spelled_all done ++ (sent / 256 ∷ sent % 256 ∷ [])) ++ byte ∷ []) ≡ frame packet =
     ap (begun (length done)) (append_assoc (spelled_all done) (sent / 256 ∷ sent % 256 ∷ []) (byte ∷ []))
     ∙ ap (λ b. begun (length done) (spelled_all done ++ sent / 256 ∷ sent % 256 ∷ b ∷ [])) (eqb-true byte FLAG p)
@@ -169,37 +169,37 @@ closed_by done sent byte bytes packet true p s e =
     )
 closed_by done sent byte bytes packet false p s e =
     let dropped : Dropped NoEnd ≡ packet_of packet = simp p at e in
-    absurd (none_told packet (Dropped NoEnd) refl dropped)
+    absurd (none_reported packet (Dropped NoEnd) refl dropped)
 
-told_frame : (r : Reading) (byte : ℕ) (bytes packet : List ℕ) → Stands r bytes → (step r byte).told ≡ packet_of packet → HasFrame packet × EndsWith (bytes ++ byte ∷ []) (frame packet)
-told_frame idle byte bytes packet s e = absurd (none_told packet Nothing refl e)
-told_frame opened byte bytes packet s e =
+reported_frame : (r : Reading) (byte : ℕ) (bytes packet : List ℕ) → Stands r bytes → (step r byte).event ≡ packet_of packet → HasFrame packet × EndsWith (bytes ++ byte ∷ []) (frame packet)
+reported_frame idle byte bytes packet s e = absurd (none_reported packet Nothing refl e)
+reported_frame opened byte bytes packet s e =
     absurd
-    (none_told packet (step opened byte).told
+    (none_reported packet (step opened byte).event
     (either_silent (byte == FLAG) (nothing_yet opened) (if byte == REVISION then nothing_yet counting else drops WrongRevision byte) refl
     (either_silent (byte == REVISION) (nothing_yet counting) (drops WrongRevision byte) refl refl))
     e)
-told_frame counting byte bytes packet s e =
+reported_frame counting byte bytes packet s e =
     absurd
-    (none_told packet (step counting byte).told
+    (none_reported packet (step counting byte).event
     (either_silent (byte == 0) (drops Empty byte) (if nat_le byte MAX_PACKET_BYTES then nothing_yet (inside byte []) else drops TooLong byte) refl
     (either_silent (nat_le byte MAX_PACKET_BYTES) (nothing_yet (inside byte [])) (drops TooLong byte) refl refl))
     e)
-told_frame (inside count done) byte bytes packet s e =
+reported_frame (inside count done) byte bytes packet s e =
     absurd
-    (none_told packet (step (inside count done) byte).told
+    (none_reported packet (step (inside count done) byte).event
     (either_silent (byte == FLAG) (drops CutShort byte) (if byte == ESCAPE then nothing_yet (escaped count done) else adds count done byte) refl
     (either_silent (byte == ESCAPE) (nothing_yet (escaped count done)) (adds count done byte) refl refl))
     e)
-told_frame (escaped count done) byte bytes packet s e =
+reported_frame (escaped count done) byte bytes packet s e =
     absurd
-    (none_told packet (step (escaped count done) byte).told
+    (none_reported packet (step (escaped count done) byte).event
     (either_silent (byte == ESCAPED_FLAG) (adds count done FLAG) (if byte == ESCAPED_ESCAPE then adds count done ESCAPE else drops BadEscape byte) refl
     (either_silent (byte == ESCAPED_ESCAPE) (adds count done ESCAPE) (drops BadEscape byte) refl refl))
     e)
-told_frame (high done) byte bytes packet s e = absurd (none_told packet Nothing refl e)
-told_frame (low done first) byte bytes packet s e = absurd (none_told packet Nothing refl e)
-told_frame (closing done sent) byte bytes packet s e = closed_by done sent byte bytes packet (byte == FLAG) refl s e
+reported_frame (high done) byte bytes packet s e = absurd (none_reported packet Nothing refl e)
+reported_frame (low done first) byte bytes packet s e = absurd (none_reported packet Nothing refl e)
+reported_frame (closing done sent) byte bytes packet s e = closed_by done sent byte bytes packet (byte == FLAG) refl s e
 
 pub only_frames : OnlyFramesAreReported
-only_frames bytes packet byte are small e = told_frame (after idle bytes) byte bytes packet (progress_after idle [] bytes are tt) e
+only_frames bytes packet byte are small e = reported_frame (after idle bytes) byte bytes packet (progress_after idle [] bytes are tt) e

@@ -1,4 +1,4 @@
--- Every constant of the source, told a second time.
+-- Every constant of the source, written a second time.
 use Rattle.std.proofs.Common.{◌≡◌, refl}
 use Rattle.mctp_serial.specs.declared.TheConstants.{FLAG, ESCAPE, ESCAPED_FLAG, ESCAPED_ESCAPE, REVISION, FRAMING, MAX_FRAME_BYTES, START_REGISTER, POLYNOMIAL}
 

@@ -12,11 +12,11 @@ ReadsBack =
     → (events_in idle (frame packet ++ rest) ≡ packet_of packet ∷ events_in opened rest)
     × (events_in opened (frame packet ++ rest) ≡ packet_of packet ∷ events_in opened rest)
 
--- a packet is told only where the bytes end with its frame
+-- a packet is reported only where the bytes end with its frame
 abbrev pub OnlyFramesAreReported : Type 0
 OnlyFramesAreReported =
     (bytes packet : List ℕ) (byte : ℕ)
-    → AreBytes bytes → byte < 256 → (step (after idle bytes) byte).told ≡ packet_of packet
+    → AreBytes bytes → byte < 256 → (step (after idle bytes) byte).event ≡ packet_of packet
     → HasFrame packet × ((before : List ℕ) × (bytes ++ byte ∷ [] ≡ before ++ frame packet))
 
 -- in whatever pieces the bytes come

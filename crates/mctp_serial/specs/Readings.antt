@@ -1,4 +1,4 @@
--- What bytes tell a reader of frames, one byte after the other.
+-- What bytes give a reader of frames, one byte after the other.
 use Rattle.std.specs.Prelude.{ℕ, ◌+◌, ◌*◌, ◌==◌, nat_le, if◌then◌else◌, List, [], ◌∷◌, ◌++◌, length}
 use Rattle.mctp_packet.specs.declared.TheConstants.{MAX_PACKET_BYTES}
 use Rattle.mctp_serial.specs.CheckSequences.{check_sequence}
@@ -28,13 +28,13 @@ pub data Reading : Type 0 where
   -- after the packet and the check sequence that was sent
   closing : List ℕ → ℕ → Reading
 
--- what a byte tells, and where the reader stands after it
+-- what a byte gives, and where the reader stands after it
 pub record Step : Type 0 where
-  pub told : FrameEvent
+  pub event : FrameEvent
   pub next : Reading
 
 abbrev pub nothing_yet : Reading → Step
-nothing_yet next = record { told = Nothing; next = next }
+nothing_yet next = record { event = Nothing; next = next }
 
 abbrev pub packet_of : List ℕ → FrameEvent
 packet_of bytes = Packet (record { items = bytes })
@@ -44,7 +44,7 @@ abbrev pub after_end : ℕ → Reading
 after_end byte = if byte == FLAG then opened else idle
 
 abbrev pub drops : FrameFault → ℕ → Step
-drops fault byte = record { told = Dropped fault; next = after_end byte }
+drops fault byte = record { event = Dropped fault; next = after_end byte }
 
 -- after one byte of the packet: it may have been the last
 abbrev pub inside_or_past : ℕ → List ℕ → Reading
@@ -53,7 +53,7 @@ inside_or_past count bytes = if length bytes == count then high bytes else insid
 abbrev pub adds : ℕ → List ℕ → ℕ → Step
 adds count bytes byte = nothing_yet (inside_or_past count (bytes ++ byte ∷ []))
 
--- a packet is told where the check sequence that was sent is its own
+-- a packet is reported where the check sequence that was sent is its own
 abbrev pub checks : List ℕ → ℕ → FrameEvent
 checks bytes sent = if check_sequence bytes == sent then packet_of bytes else Dropped WrongCheck
 
@@ -74,19 +74,19 @@ step (escaped count bytes) byte =
 step (high bytes) byte = nothing_yet (low bytes byte)
 step (low bytes first) byte = nothing_yet (closing bytes (first * 256 + byte))
 step (closing bytes sent) byte =
-    if byte == FLAG then record { told = checks bytes sent; next = opened } else drops NoEnd byte
+    if byte == FLAG then record { event = checks bytes sent; next = opened } else drops NoEnd byte
 
 -- where the reader stands after bytes
 abbrev pub after : Reading → List ℕ → Reading
 after reading [] = reading
 after reading (byte ∷ bytes) = after (step reading byte).next bytes
 
--- what was told, before what is told later
+-- an event, before those that come later
 abbrev pub then_event : FrameEvent → List FrameEvent → List FrameEvent
 then_event Nothing later = later
-then_event told later = told ∷ later
+then_event event later = event ∷ later
 
--- what the bytes tell, in order
+-- what the bytes give, in order
 abbrev pub events_in : Reading → List ℕ → List FrameEvent
 events_in reading [] = []
-events_in reading (byte ∷ bytes) = then_event (step reading byte).told (events_in (step reading byte).next bytes)
+events_in reading (byte ∷ bytes) = then_event (step reading byte).event (events_in (step reading byte).next bytes)

@@ -3,14 +3,14 @@
 ghost use Rattle.mctp_serial.specs.CheckLaws.{SequenceIsRemainder, OneRemainder, ShortBurstsAreReported};
 ghost use Rattle.mctp_serial.specs.Laws.{ReadsBack, OnlyFramesAreReported, PiecesJoin, ThreeFlagsOpen, OneFlagOpens};
 
-/// The frame of a packet is read back as the packet, whatever comes after it; and a packet is told only
+/// The frame of a packet is read back as the packet, whatever comes after it; and a packet is reported only
 /// where its frame has come.
 pub fn frames_read_back()
     ensures back { ReadsBack }
     ensures only { OnlyFramesAreReported }
 {}
 
-/// What bytes tell does not depend on the pieces in which they come.
+/// What bytes give does not depend on the pieces in which they come.
 pub fn pieces_join()
     ensures { PiecesJoin }
 {}

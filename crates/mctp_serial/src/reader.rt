@@ -11,7 +11,7 @@ use mctp_packet::MAX_PACKET_BYTES;
 use std::marker::Model;
 use std::mem;
 
-/// What a byte told the reader.
+/// What a byte gives a reader.
 #[derive(Clone, Debug, PartialEq, Eq, Drop)]
 pub enum FrameEvent {
     /// Nothing yet.
@@ -74,12 +74,12 @@ impl FrameReader {
         }
     }
 
-    /// Takes the next byte, and gives what it tells: the packet where it ends a frame, or why the bytes
+    /// Takes the next byte, and returns what it gives: the packet where it ends a frame, or why the bytes
     /// since the last flag are no frame.
     pub fn take(&mut self, byte: u8) -> FrameEvent
-        ensures { step self.old byte ≡ record { told = result; next = self.new } }
+        ensures { step self.old byte ≡ record { event = result; next = self.new } }
     {
-        let (place, told) = match self.place {
+        let (place, event) = match self.place {
             Place::Idle => (after_end(byte), FrameEvent::Nothing),
             Place::Opened => read_revision(byte),
             Place::Counting => read_count(byte, &mut self.bytes),
@@ -93,7 +93,7 @@ impl FrameReader {
             Place::Closing(sent) => read_end(sent, byte, &mut self.bytes),
         };
         self.place = place;
-        told
+        event
     }
 }
 
@@ -112,7 +112,7 @@ fn after_end(byte: u8) -> Place
 /// The place after this byte, for which the bytes since the last flag are no frame.
 fn drop(fault: FrameFault, byte: u8) -> (Place, FrameEvent)
     ensures reading { (bytes : List ℕ)
-        → drops fault byte ≡ record { told = result.1; next = reading_of result.0 bytes } }
+        → drops fault byte ≡ record { event = result.1; next = reading_of result.0 bytes } }
     ensures room { (bytes : List ℕ) → HasRoom result.0 bytes }
 {
     (after_end(byte), FrameEvent::Dropped(fault))
@@ -121,7 +121,7 @@ fn drop(fault: FrameFault, byte: u8) -> (Place, FrameEvent)
 /// Takes the byte after a flag.
 fn read_revision(byte: u8) -> (Place, FrameEvent)
     ensures reading { (bytes : List ℕ)
-        → step opened byte ≡ record { told = result.1; next = reading_of result.0 bytes } }
+        → step opened byte ≡ record { event = result.1; next = reading_of result.0 bytes } }
     ensures room { (bytes : List ℕ) → HasRoom result.0 bytes }
 {
     match byte {
@@ -133,7 +133,7 @@ fn read_revision(byte: u8) -> (Place, FrameEvent)
 
 /// Takes the count of a packet's bytes.
 fn read_count(byte: u8, bytes: &mut PacketBytes) -> (Place, FrameEvent)
-    ensures reading { step counting byte ≡ record { told = result.1; next = reading_of result.0 bytes.new.items } }
+    ensures reading { step counting byte ≡ record { event = result.1; next = reading_of result.0 bytes.new.items } }
     ensures room { HasRoom result.0 bytes.new.items }
 {
     if byte == 0 {
@@ -150,7 +150,7 @@ fn read_count(byte: u8, bytes: &mut PacketBytes) -> (Place, FrameEvent)
 fn read_inside(count: u8, byte: u8, bytes: &mut PacketBytes) -> (Place, FrameEvent)
     requires { HasRoom (Inside count) bytes.old.items }
     ensures reading { step (inside count bytes.old.items) byte
-        ≡ record { told = result.1; next = reading_of result.0 bytes.new.items } }
+        ≡ record { event = result.1; next = reading_of result.0 bytes.new.items } }
     ensures room { HasRoom result.0 bytes.new.items }
 {
     match byte {
@@ -164,7 +164,7 @@ fn read_inside(count: u8, byte: u8, bytes: &mut PacketBytes) -> (Place, FrameEve
 fn read_escaped(count: u8, byte: u8, bytes: &mut PacketBytes) -> (Place, FrameEvent)
     requires { HasRoom (Escaped count) bytes.old.items }
     ensures reading { step (escaped count bytes.old.items) byte
-        ≡ record { told = result.1; next = reading_of result.0 bytes.new.items } }
+        ≡ record { event = result.1; next = reading_of result.0 bytes.new.items } }
     ensures room { HasRoom result.0 bytes.new.items }
 {
     match byte {
@@ -192,7 +192,7 @@ fn add(count: u8, byte: u8, bytes: &mut PacketBytes) -> Place
 /// Takes the byte after the check sequence that was sent.
 fn read_end(sent: u16, byte: u8, bytes: &mut PacketBytes) -> (Place, FrameEvent)
     ensures reading { step (closing bytes.old.items sent) byte
-        ≡ record { told = result.1; next = reading_of result.0 bytes.new.items } }
+        ≡ record { event = result.1; next = reading_of result.0 bytes.new.items } }
     ensures room { HasRoom result.0 bytes.new.items }
 {
     if byte != FLAG {

@@ -19,7 +19,7 @@ after_append : (r : Reading) (bytes more : List ℕ) → after r (bytes ++ more)
 after_append r [] more = refl
 after_append r (byte ∷ bytes) more = after_append (step r byte).next bytes more
 
-packets_then : (told : FrameEvent) (later : List FrameEvent) → packets_of (then_event told later) ≡ packets_of (told ∷ []) ++ packets_of later
+packets_then : (event : FrameEvent) (later : List FrameEvent) → packets_of (then_event event later) ≡ packets_of (event ∷ []) ++ packets_of later
 packets_then Nothing later = refl
 packets_then (Packet packet) later = refl
 packets_then (Dropped fault) later = refl
@@ -28,12 +28,12 @@ packets_append : (r : Reading) (bytes more : List ℕ) → packets_in r (bytes +
 packets_append r [] more = refl
 packets_append r (byte ∷ bytes) more =
     let next : Reading = (step r byte).next in
-    let told : FrameEvent = (step r byte).told in
-    let first : List (List ℕ) = packets_of (told ∷ []) in
-    let all : packets_of (then_event told (events_in next (bytes ++ more))) ≡ first ++ packets_in next (bytes ++ more) =
-    packets_then told (events_in next (bytes ++ more)) in
-    let here : packets_of (then_event told (events_in next bytes)) ≡ first ++ packets_in next bytes =
-    packets_then told (events_in next bytes) in
+    let event : FrameEvent = (step r byte).event in
+    let first : List (List ℕ) = packets_of (event ∷ []) in
+    let all : packets_of (then_event event (events_in next (bytes ++ more))) ≡ first ++ packets_in next (bytes ++ more) =
+    packets_then event (events_in next (bytes ++ more)) in
+    let here : packets_of (then_event event (events_in next bytes)) ≡ first ++ packets_in next bytes =
+    packets_then event (events_in next bytes) in
     all
     ∙ ap (λ (l : List (List ℕ)). first ++ l) (packets_append next bytes more)
     ∙ sym (append_assoc first (packets_in next bytes) (packets_in (after next bytes) more))

@@ -56,7 +56,7 @@ refused s s1 s2 goes going none asking left clock written =
       subst IsRefused (sym asking) (going, none),
     )
 
--- the same line, told in another way
+-- the same line, said in another way
 pub begun_so : (span span1 : ℕ) (s s0 s1 : Shown) → span ≡ span1 → s.asking.held ≡ s0.asking.held → s.asking.reading ≡ s0.asking.reading
     → s.asking.quiet ≡ s0.asking.quiet → s.left ≡ s0.left → s.clock ≡ s0.clock → s.written ≡ s0.written
     → Listens span s s1 → Listens span1 s0 s1

@@ -1,4 +1,4 @@
--- A control query on a line, told by looking back over the turns since its frame went out first, the newest first.
+-- A control query on a line, by looking back over the turns since its frame went out first, the newest first.
 use Rattle.std.specs.Io.KnownBytes.{Appends, Consumes, Keeps}
 use Rattle.std.specs.Option.{option_or}
 use Rattle.std.specs.Prelude.{◌≡◌, ℕ, ◌+◌, ◌&&◌, Bool, true, false, nat_le, nat_lt, List, [], ◌∷◌, ◌++◌}

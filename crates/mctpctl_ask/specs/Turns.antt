@@ -1,4 +1,4 @@
--- What a line that asks does turn by turn, told by looking back over the turns, the newest first.
+-- What a line that asks does turn by turn, by looking back over the turns, the newest first.
 use Rattle.std.specs.List.{flat_map}
 use Rattle.std.specs.Prelude.{◌≡◌, ℕ, ◌+◌, Bool, true, false, nat_le, nat_lt, ◌&&◌, length}
 use Rattle.std.specs.Prelude.{List, [], ◌∷◌, ◌++◌, Option, None, Some, if◌then◌else◌}

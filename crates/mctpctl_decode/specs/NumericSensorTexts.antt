@@ -26,7 +26,7 @@ units_text sensor =
     unit_text sensor.units ++ auxiliary_unit_text sensor.units ++ number Rel sensor.rel
     ++ number AuxOem sensor.auxiliary_oem_unit_handle
 
--- the numbers that it can tell, and how it changes
+-- the numbers that it can give, and how it changes
 
 unfoldable pub span_text : NumericSensor → List ℕ
 span_text sensor = signed_number MaxReadable sensor.max_readable ++ signed_number MinReadable sensor.min_readable

@@ -18,7 +18,7 @@ possible_states_text states =
 abbrev pub possible_states_line : PossibleStates → List ℕ
 possible_states_line states = record_line (possible_states_text states)
 
--- which sensor it is, and what it tells of
+-- which sensor it is, and what it is of
 unfoldable pub sensor_text : StateSensor → List ℕ
 sensor_text sensor =
     number Terminus sensor.terminus_handle ++ number Sensor sensor.sensor_id ++ entity_text sensor.entity

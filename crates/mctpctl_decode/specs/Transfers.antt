@@ -1,4 +1,4 @@
--- Records that come in parts, told by looking back over the whole messages of a capture (DSP0248, "GetPDR command").
+-- Records that come in parts, by looking back over the whole messages of a capture (DSP0248, "GetPDR command").
 use Rattle.std.specs.Prelude.{ℕ, ◌==◌, ◌&&◌, nat_lt, not, Bool, false, List, [], ◌++◌, length}
 use Rattle.std.specs.Prelude.{Option, None, Some, is_some, Result, Ok, Err, if◌then◌else◌}
 use Rattle.mctp_packet.specs.declared.packet.Route.{Route}
@@ -133,7 +133,7 @@ with_given t (Some given) = with_answer t t.request given.id given.next given.pa
 abbrev pub Between : Type 0
 Between = ℕ → ℕ → Transferred
 
--- a request is told to its source and its destination, in this order
+-- a request belongs to its source and its destination, in this order
 abbrev pub all_with_asked : Between → Route → Option PartRequest → Between
 all_with_asked all route asked requester responder =
     if (route.source == requester) && (route.destination == responder) then with_asked (all requester responder) asked

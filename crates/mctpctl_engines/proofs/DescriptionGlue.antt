@@ -156,14 +156,14 @@ module _ (past : LinesPast) where
       subst (λ t. LineGoesOn (description_writes past text) line [] (description_writes past t)) (sym (grown ∙ append_assoc text line (10 ∷ []))) (description_goes_on text line stays)
 
   -- what the text begins at the divider, or why the run ends there
-  pub divider_ends : (text told line : List ℕ) (fault : EngineFault) → told ≡ text → is_divider line ≡ true
-      → (fault ≡ no_memory) ⊎ ((fault ≢ no_memory) × (begun told ≡ Err fault)) → EndsAt (description_writes past text) line fault
-  divider_ends text told line fault same here (inl memory) = inl memory
-  divider_ends text told line fault same here (inr (apart, e)) = inr (apart, divider_stops text line fault here (ap begun (sym same) ∙ e))
+  pub divider_ends : (text reported line : List ℕ) (fault : EngineFault) → reported ≡ text → is_divider line ≡ true
+      → (fault ≡ no_memory) ⊎ ((fault ≢ no_memory) × (begun reported ≡ Err fault)) → EndsAt (description_writes past text) line fault
+  divider_ends text reported line fault same here (inl memory) = inl memory
+  divider_ends text reported line fault same here (inr (apart, e)) = inr (apart, divider_stops text line fault here (ap begun (sym same) ∙ e))
 
-  pub begins_past : (text told line : List ℕ) (device : Description) → told ≡ text → is_divider line ≡ true → begun told ≡ Ok device
+  pub begins_past : (text reported line : List ℕ) (device : Description) → reported ≡ text → is_divider line ≡ true → begun reported ≡ Ok device
       → LineGoesOn (description_writes past text) line [] (past device)
-  begins_past text told line device same here e =
+  begins_past text reported line device same here e =
       λ is_cut next more. divided text line is_cut (next ∷ more) here ∙ begun_device is_cut text (next ∷ more) device (ap begun (sym same) ∙ e)
 
 -- a line of the description, before whatever there was to write

@@ -66,9 +66,9 @@ ends_before f h k piece more out0 out1 fault (text, added, inr (apart, stops)) =
     (text, added, inr (apart, λ is_cut later. ap (f is_cut) (append_assoc piece more later) ∙ stops is_cut (more ++ later)))
 
 pub ends_after_split : (f g h : Gives) (taken piece after whole text out0 out1 out2 : List ℕ) (fault : EngineFault) → GoesOn f taken text g → out1 ≡ out0 ++ text → whole ≡ taken ++ (piece ++ after) → Takes g piece h out1 out2 (Err fault) → Takes f whole h out0 out2 (Err fault)
-ends_after_split f g h taken piece after whole text out0 out1 out2 fault goes before parts told =
+ends_after_split f g h taken piece after whole text out0 out1 out2 fault goes before parts reported =
     let P : List ℕ → Type 0 = λ l. Takes f l h out0 out2 (Err fault) in
-    subst P (sym parts) (takes_after f g h taken (piece ++ after) text out0 out1 out2 (Err fault) goes before (ends_before g h h piece after out1 out2 fault told))
+    subst P (sym parts) (takes_after f g h taken (piece ++ after) text out0 out1 out2 (Err fault) goes before (ends_before g h h piece after out1 out2 fault reported))
 
 module _ (f : LinesGive) where
   -- a line, and then the lines of the bytes after it
@@ -118,9 +118,9 @@ module _ (f : LinesGive) where
     )
 
   -- a front that is kept, or too long
-  pub front_takes : (kept front both told : List ℕ) (result : Result Unit EngineFault) → HasNoFeed front → both ≡ kept ++ front → told ≡ both → IfErr result (λ fault. FrontStops f told fault) → Takes (pieces_give f kept) front (pieces_give f both) [] [] result
-  front_takes kept front both told (Ok unit) none is same long = ([], refl, front_kept kept front both none is)
-  front_takes kept front both told (Err fault) none is same long =
+  pub front_takes : (kept front both reported : List ℕ) (result : Result Unit EngineFault) → HasNoFeed front → both ≡ kept ++ front → reported ≡ both → IfErr result (λ fault. FrontStops f reported fault) → Takes (pieces_give f kept) front (pieces_give f both) [] [] result
+  front_takes kept front both reported (Ok unit) none is same long = ([], refl, front_kept kept front both none is)
+  front_takes kept front both reported (Err fault) none is same long =
       let stops : FrontStops f both fault = subst (λ l. FrontStops f l fault) same long in
       ([], refl, inr (stops.0, λ is_cut later. front_kept kept front both none is is_cut later ∙ stops.1 is_cut (lines_of later)))
 

@@ -55,13 +55,13 @@ finishes : (rest : Written) (old new : Option (List ℕ)) (result : Result Unit 
 finishes rest old new (Ok unit) end = end
 finishes rest old new (Err fault) (inl write) = inl (inr (inl write))
 finishes rest old new (Err fault) (inr (inl (memory, kept))) = inl (inr (inr memory))
-finishes rest old new (Err fault) (inr (inr (apart, told, added))) = inr (told, added)
+finishes rest old new (Err fault) (inr (inr (apart, reported, added))) = inr (reported, added)
 
 finished : (f g : Gives) (old now new : Option (List ℕ)) (bytes text : List ℕ) (is_cut : Bool) (result : Result Unit EngineFault) → GoesOn f bytes text g → Appends old now text → FinishesTo (g is_cut []) now new result → Writes (f is_cut bytes) old new result
 finished f g old now new bytes text is_cut result goes written end =
     Writes-after _ (g is_cut []) old now new text result written (ap (f is_cut) (sym (append-nil bytes)) ∙ goes is_cut []) (finishes _ now new result end)
 
--- the end of a run is the end over all that was read, where the limit cut it off as is told
+-- the end of a run is the end over all that was read, where the limit cut it off as is said
 pub known_finish : (f g : Gives) (limit : ℕ) (all old now new : Option (List ℕ)) (bytes text : List ℕ) (is_cut : Bool) (result : Result Unit EngineFault) → IfSome all (λ xs. ReadUpTo limit xs bytes is_cut) → GoesOn f bytes text g → Appends old now text → FinishesTo (g is_cut []) now new result → IfSome all (λ xs. Writes (f (nat_lt limit (length xs)) (take limit xs)) old new result)
 known_finish f g limit None old now new bytes text is_cut result read goes written end = tt
 known_finish f g limit (Some xs) old now new bytes text is_cut result read goes written end =
@@ -98,19 +98,19 @@ err_same : (f h : EngineFault) → IsFault (Err f) h → f ≡ h
 err_same f h is = cc
 
 -- want of memory within a piece
-memory_told : (f g : Gives) (all now new c0 c1 c2 : Option (List ℕ)) (bytes piece text : List ℕ) → Consumes all now bytes → Consumes now new piece → Appends c0 c1 text → GoesOn f bytes text g → TakesTo g piece g c1 c2 (Err no_memory) → WroteOfFront f all c0 c2
-memory_told f g all now new c0 c1 c2 bytes piece text before read written goes (inl wrong) = cc
-memory_told f g all now new c0 c1 c2 bytes piece text before read written goes (inr (more, added, inl (memory, (front, back, parts, is)))) = (
+memory_reported : (f g : Gives) (all now new c0 c1 c2 : Option (List ℕ)) (bytes piece text : List ℕ) → Consumes all now bytes → Consumes now new piece → Appends c0 c1 text → GoesOn f bytes text g → TakesTo g piece g c1 c2 (Err no_memory) → WroteOfFront f all c0 c2
+memory_reported f g all now new c0 c1 c2 bytes piece text before read written goes (inl wrong) = cc
+memory_reported f g all now new c0 c1 c2 bytes piece text before read written goes (inr (more, added, inl (memory, (front, back, parts, is)))) = (
   bytes ++ front,
   prepend_known back new,
   Consumes-trans all now (prepend_known back new) bytes front before (consumes_front now new front back (rw parts at read)),
   rw (← front_after f g bytes front text more goes is) (Appends-trans c0 c1 c2 text more written added),
 )
-memory_told f g all now new c0 c1 c2 bytes piece text before read written goes (inr (more, added, inr (apart, stops))) = absurd (apart refl)
+memory_reported f g all now new c0 c1 c2 bytes piece text before read written goes (inr (more, added, inr (apart, stops))) = absurd (apart refl)
 
 pub memory_within : (f g : Gives) (all now new c0 c1 c2 : Option (List ℕ)) (bytes piece text : List ℕ) (fault : EngineFault) → IsFault (Err fault) no_memory → Consumes all now bytes → Consumes now new piece → Appends c0 c1 text → GoesOn f bytes text g → TakesTo g piece g c1 c2 (Err fault) → WroteOfFront f all c0 c2
-memory_within f g all now new c0 c1 c2 bytes piece text fault is before read written goes told =
-    memory_told f g all now new c0 c1 c2 bytes piece text before read written goes (rw (err_same fault no_memory is) at told)
+memory_within f g all now new c0 c1 c2 bytes piece text fault is before read written goes reported =
+    memory_reported f g all now new c0 c1 c2 bytes piece text before read written goes (rw (err_same fault no_memory is) at reported)
 
 -- want of memory at the end
 memory_ended : (f g : Gives) (is_cut : Bool) (all now c0 c1 c2 : Option (List ℕ)) (bytes text : List ℕ) → Consumes all now bytes → Appends c0 c1 text → GoesOn f bytes text g → (g true []).text ≡ [] → FinishesTo (g is_cut []) c1 c2 (Err no_memory) → WroteOfFront f all c0 c2
@@ -121,12 +121,12 @@ memory_ended f g is_cut all now c0 c1 c2 bytes text before written goes none (in
   before,
   rw (front_text f g bytes text goes none, ← append-nil text) (Appends-trans c0 c1 c2 text [] written added),
 )
-memory_ended f g is_cut all now c0 c1 c2 bytes text before written goes none (inr (inr (apart, told, added))) = absurd (apart refl)
+memory_ended f g is_cut all now c0 c1 c2 bytes text before written goes none (inr (inr (apart, reported, added))) = absurd (apart refl)
 
 pub memory_at_end : (f g : Gives) (is_cut : Bool) (all now c0 c1 c2 : Option (List ℕ)) (bytes text : List ℕ) (result : Result Unit EngineFault) → IsErrOf result no_memory → Consumes all now bytes → Appends c0 c1 text → GoesOn f bytes text g → (g true []).text ≡ [] → FinishesTo (g is_cut []) c1 c2 result → WroteOfFront f all c0 c2
-memory_at_end f g is_cut all now c0 c1 c2 bytes text (Ok unit) is before written goes none told = cc
-memory_at_end f g is_cut all now c0 c1 c2 bytes text (Err fault) is before written goes none told =
-    memory_ended f g is_cut all now c0 c1 c2 bytes text before written goes none (rw (err_same fault no_memory is) at told)
+memory_at_end f g is_cut all now c0 c1 c2 bytes text (Ok unit) is before written goes none reported = cc
+memory_at_end f g is_cut all now c0 c1 c2 bytes text (Err fault) is before written goes none reported =
+    memory_ended f g is_cut all now c0 c1 c2 bytes text before written goes none (rw (err_same fault no_memory is) at reported)
 
 -- a fault within a piece
 pub fault_within : (f g : Gives) (limit : ℕ) (all now new c0 c1 c2 : Option (List ℕ)) (bytes piece text : List ℕ) (fault : EngineFault) → Consumes all now bytes → Consumes now new piece → length (bytes ++ piece) ≤ limit → Appends c0 c1 text → GoesOn f bytes text g → TakesTo g piece g c1 c2 (Err fault) → IfSome all (λ xs. Writes (f (nat_lt limit (length xs)) (take limit xs)) c0 c2 (Err fault))

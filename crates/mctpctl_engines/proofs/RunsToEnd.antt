@@ -1,4 +1,4 @@
--- What is told of a run's text is told of an equal one, and a flush leaves what was written.
+-- What holds of a run's text holds of an equal one, and a flush leaves what was written.
 use Rattle.std.proofs.Common.{◌≡◌, ℕ, List, Option, Some, None, Result, IfSome, subst, true}
 use Rattle.std.proofs.KnownBytes.{Appends-kept}
 use Rattle.std.specs.Io.KnownBytes.{Keeps}

@@ -64,13 +64,13 @@ kind_apart line NoSuchRequester = inr (λ e. cc)
 kind_apart line SameRequester = inr (λ e. cc)
 kind_apart line (Memory refused) = inl refl
 
-pub last_stops : (device : Description) (n : ℕ) (spelled : Spelled) (last : List ℕ) (fault : LineFault) (told : EngineFault) → told ≡ stop_of_line fault
+pub last_stops : (device : Description) (n : ℕ) (spelled : Spelled) (last : List ℕ) (fault : LineFault) (reported : EngineFault) → reported ≡ stop_of_line fault
     → fault.line ≡ n → ReportsKind (after_line spelled last) fault.kind
-    → (told ≡ no_memory) ⊎ ((told ≢ no_memory) × (spelled_write device n spelled false (last ∷ []) ≡ stops_at told))
-last_stops device n spelled last fault told is number (inl memory) = inl (is ∙ ap (stop_of_kind fault.line) memory)
-last_stops device n spelled last fault told is number (inr refused) = by_kind (kind_apart fault.line fault.kind) where
+    → (reported ≡ no_memory) ⊎ ((reported ≢ no_memory) × (spelled_write device n spelled false (last ∷ []) ≡ stops_at reported))
+last_stops device n spelled last fault reported is number (inl memory) = inl (is ∙ ap (stop_of_kind fault.line) memory)
+last_stops device n spelled last fault reported is number (inr refused) = by_kind (kind_apart fault.line fault.kind) where
   by_kind : (fault.kind ≡ Memory out_of_memory) ⊎ (stop_of_kind fault.line fault.kind ≢ no_memory)
-      → (told ≡ no_memory) ⊎ ((told ≢ no_memory) × (spelled_write device n spelled false (last ∷ []) ≡ stops_at told))
+      → (reported ≡ no_memory) ⊎ ((reported ≢ no_memory) × (spelled_write device n spelled false (last ∷ []) ≡ stops_at reported))
   by_kind (inl memory) = inl (is ∙ ap (stop_of_kind fault.line) memory)
   by_kind (inr apart) = inr (λ e. apart (sym is ∙ e), last_is_refused device n spelled last fault number refused ∙ ap stops_at (sym is))
 

@@ -20,7 +20,7 @@ lines_after kept bytes = glued kept (lines_of bytes)
 abbrev pub LinesGive : Type 0
 LinesGive = Bool → List (List ℕ) → Written
 
--- whatever lines come after this one: it gives the text, and what they give is told by `after`
+-- whatever lines come after this one: it gives the text, and `after` is what they give
 abbrev pub LineGoesOn : LinesGive → List ℕ → List ℕ → LinesGive → Type 0
 LineGoesOn before line text after =
     (is_cut : Bool) (next : List ℕ) (more : List (List ℕ))

@@ -48,8 +48,8 @@ module _ {S : Type 0} (step : S → List ℕ → Result (List ℕ × S) LineKind
   lines_written is_cut n state [] = if is_cut then stops_at TooLarge else ends
   lines_written is_cut n state (line ∷ more) = lines_from is_cut n state line more
 
--- a run that is Ok has written all the text, and the input has no fault; a fault of the input is told after the text
--- before it
+-- a run that is Ok has written all the text, and the input has no fault; a fault of the input is reported after the
+-- text before it
 abbrev pub Writes : Written → Option (List ℕ) → Option (List ℕ) → Result Unit EngineFault → Type 0
 Writes written old new result =
     MatchResult result

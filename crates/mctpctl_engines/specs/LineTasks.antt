@@ -20,8 +20,8 @@ task_writes step state_of lines = λ is_cut more. lines_written step is_cut (lin
 abbrev pub FitsCapture : {T : Type 0} → CaptureLines T → ℕ → Type 0
 FitsCapture lines size = size ≤ MAX_CAPTURE_LINE
 
--- a line that is taken adds its text, and leaves this state; a refused one is told with its number and kind, and adds
--- nothing
+-- a line that is taken adds its text, and leaves this state; a refused one is reported with its number and kind, and
+-- adds nothing
 abbrev pub AddsLine : {S : Type 0} → ℕ → Result (List ℕ × S) LineKind → S
     → List ℕ → List ℕ → Result Unit EngineFault → Type 0
 AddsLine n stepped state old new result =

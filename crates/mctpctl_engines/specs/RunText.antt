@@ -8,7 +8,7 @@ use Rattle.schedule_text.specs.Schedules.{Spelled, none_spelled, spelled_from}
 use Rattle.mctp_schedule.specs.Worlds.{BothEnds, is_timely}
 use Rattle.schedule_text.specs.declared.line_fault.LineFault.{LineFault}
 use Rattle.schedule_text.specs.declared.line_fault.LineFaultKind.{LineFaultKind}
-use Rattle.schedule_text.specs.declared.line_fault.LineFaultKind.TheVariants as told
+use Rattle.schedule_text.specs.declared.line_fault.LineFaultKind.TheVariants as refusals
 use Rattle.mctp_schedule.specs.declared.run_fault.RunFault.{RunFault}
 use Rattle.mctp_schedule.specs.declared.run_fault.RunFault.TheVariants as runs
 use Rattle.mctpctl_engines.specs.AnswerText.{run_of, simulated}
@@ -22,14 +22,14 @@ use Rattle.mctpctl_input.specs.declared.limits.TheConstants.{MAX_INPUT}
 use Rattle.pldm_device.specs.Devices.{Device}
 use Rattle.pldm_device.specs.declared.description.Description.{Description}
 
--- a refused line of the schedule, told with its number and kind
+-- a refused line of the schedule, reported with its number and kind
 abbrev pub stop_of_kind : ℕ → LineFaultKind → EngineFault
-stop_of_kind line told.Words = faults.Line line kinds.Words
-stop_of_kind line told.Number = faults.Line line kinds.Number
-stop_of_kind line told.BackInTime = faults.Line line kinds.BackInTime
-stop_of_kind line told.NoSuchRequester = faults.Line line kinds.NoSuchRequester
-stop_of_kind line told.SameRequester = faults.Line line kinds.SameRequester
-stop_of_kind line (told.Memory refused) = no_memory
+stop_of_kind line refusals.Words = faults.Line line kinds.Words
+stop_of_kind line refusals.Number = faults.Line line kinds.Number
+stop_of_kind line refusals.BackInTime = faults.Line line kinds.BackInTime
+stop_of_kind line refusals.NoSuchRequester = faults.Line line kinds.NoSuchRequester
+stop_of_kind line refusals.SameRequester = faults.Line line kinds.SameRequester
+stop_of_kind line (refusals.Memory refused) = no_memory
 
 abbrev pub stop_of_line : LineFault → EngineFault
 stop_of_line fault = stop_of_kind fault.line fault.kind

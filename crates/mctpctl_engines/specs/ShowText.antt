@@ -1,4 +1,4 @@
--- What `mctpctl show` writes of a capture, told by looking back over all packets that came. Each endpoint that packets
+-- What `mctpctl show` writes of a capture, by looking back over all packets that came. Each endpoint that packets
 -- go to has an assembler of its own. `binding` says which frames stand on the lines, if they are not bare packets.
 use Rattle.std.specs.Prelude.{ℕ, ◌==◌, nat_lt, Bool, if◌then◌else◌, List, [], ◌∷◌, length, take}
 use Rattle.std.specs.Prelude.{Option, Result, Ok, Err}

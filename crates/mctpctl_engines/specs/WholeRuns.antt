@@ -1,4 +1,4 @@
--- What a run does with all that a reader gives, told of both ports as they were before and as they are after.
+-- What a run does with all that a reader gives, said of both ports as they were before and as they are after.
 use Rattle.std.specs.Prelude.{◌≡◌, ◌↔◌, ℕ, nat_lt, true, List, length, take, Option, IfSome, Result, IsErrOf}
 use Rattle.mctpctl_engines.specs.LineRuns.{Written, Writes}
 use Rattle.mctpctl_input.specs.OutsideFaults.{no_memory}
@@ -13,12 +13,12 @@ use Rattle.mctpctl_input.specs.declared.port.Port.{Port}
 abbrev pub whole_text : Gives → List ℕ → Written
 whole_text gives all = gives (nat_lt MAX_INPUT (length all)) (take MAX_INPUT all)
 
--- what is told of a port that fails: this fault is the result exactly where it has failed
+-- what is said of a port that fails: this fault is the result exactly where it has failed
 abbrev pub ReportsFailed : {T : Type 0} → EngineFault → Result Unit EngineFault → Port T → Type 0
 ReportsFailed fault result port = IsErrOf result fault ↔ (has_failed port ≡ true)
 
 module _ {R W : Type 0} (remaining : R → Option (List ℕ)) (contents : W → Option (List ℕ)) where
-  -- the text of all that the reader had is written, or its fault told
+  -- the text of all that the reader had is written, or its fault returned
   abbrev pub WritesAll : (List ℕ → Written) → Port R → (before after : Port W) → Result Unit EngineFault → Type 0
   WritesAll text reader before after result =
       IfSome (remaining (inner_of reader))

@@ -1,4 +1,4 @@
--- How the fault for which a description was refused is told.
+-- How the fault for which a description was refused is explained.
 use Rattle.std.specs.Prelude.{◌≡◌, ◌⊎◌, ⊤, ℕ, List, [], ◌++◌, codes}
 use Rattle.mctpctl_input.specs.declared.faults.EngineFault.{EngineFault}
 use Rattle.mctpctl_input.specs.declared.faults.EngineFault.TheVariants.{Device}
@@ -20,12 +20,12 @@ abbrev pub IsReason : FileFault → List ℕ → Type 0
 IsReason fault text = (text ≡ []) ⊎ ((rest : List ℕ) × (text ≡ opening fault ++ rest))
 
 -- the parser's message for what is no TOML; else nothing, or a reason behind its place and its path
-abbrev pub Tells : FileFault → List ℕ → Type 0
-Tells fault text =
+abbrev pub Explains : FileFault → List ℕ → Type 0
+Explains fault text =
     (fault ≡ Toml) ⊎ (text ≡ [])
     ⊎ ((front : List ℕ) × (reason : List ℕ) × (text ≡ front ++ reason) × IsReason fault reason)
 
--- of a description the fault is told that the engine returned
-abbrev pub TellsDevice : EngineFault → List ℕ → Type 0
-TellsDevice (Device fault) text = Tells fault text
-TellsDevice _ text = ⊤
+-- of a description the fault is explained that the engine returned
+abbrev pub ExplainsDevice : EngineFault → List ℕ → Type 0
+ExplainsDevice (Device fault) text = Explains fault text
+ExplainsDevice _ text = ⊤

@@ -1,7 +1,7 @@
 //! Why a description was refused, in words.
 
 ghost use Rattle.std.specs.Prelude.{IfOk, string_bytes};
-ghost use Rattle.mctpctl_explain.specs.Reasons.{IsReason, Tells};
+ghost use Rattle.mctpctl_explain.specs.Reasons.{IsReason, Explains};
 
 use crate::allowed::{allowed_text, flaw_text};
 use crate::key_places::{KeyPlace, key_places};
@@ -15,13 +15,13 @@ use toml::Value;
 
 /// Says why a description was refused: the path, its line and column, what was found there and what is allowed, as its
 /// reader returned them; for text that is no TOML the parser's own message.
-#[tactic(auto, using(crate::proofs::Told::told_at))]
+#[tactic(auto, using(crate::proofs::Explained::explained_at))]
 pub(crate) fn explain_description(
     alloc: Global,
     description: &[u8],
     refusal: &Refusal,
 ) -> Result<String, Memory>
-    ensures { IfOk result (λ text. Tells refusal.now (string_bytes text)) }
+    ensures { IfOk result (λ text. Explains refusal.now (string_bytes text)) }
 {
     let document = match toml::table_from_slice(alloc, description) {
         Ok(document) => document,
@@ -44,7 +44,7 @@ pub(crate) fn explain_description(
 }
 
 /// Why the value at the refusal's path was refused; nothing where the refusal does not say what is allowed.
-#[tactic(auto, using(crate::proofs::Told::flaw_told))]
+#[tactic(auto, using(crate::proofs::Explained::flaw_explained))]
 fn reason_text(alloc: Global, value: Option<&Value>, refusal: &Refusal) -> Result<String, Memory>
     ensures { IfOk result (λ text. IsReason refusal.now (string_bytes text)) }
 {
@@ -61,7 +61,7 @@ fn reason_text(alloc: Global, value: Option<&Value>, refusal: &Refusal) -> Resul
 }
 
 /// What is needed where a key is missing.
-#[tactic(auto, using(crate::proofs::Told::told))]
+#[tactic(auto, using(crate::proofs::Explained::explained))]
 fn needed_text(alloc: Global, needed: Allowed) -> Result<String, Memory>
     ensures { IfOk result (λ text. IsReason FileFault.MissingKey (string_bytes text)) }
 {
@@ -73,7 +73,7 @@ fn needed_text(alloc: Global, needed: Allowed) -> Result<String, Memory>
 }
 
 /// What was found in place of what is allowed.
-#[tactic(auto, using(crate::proofs::Told::told))]
+#[tactic(auto, using(crate::proofs::Explained::explained))]
 fn found_text(alloc: Global, value: Option<&Value>, allowed: Allowed) -> Result<String, Memory>
     ensures { IfOk result (λ text. IsReason FileFault.WrongKind (string_bytes text)) }
 {
@@ -86,7 +86,7 @@ fn found_text(alloc: Global, value: Option<&Value>, allowed: Allowed) -> Result<
 }
 
 /// Which entry has the number of another one.
-#[tactic(auto, using(crate::proofs::Told::told))]
+#[tactic(auto, using(crate::proofs::Explained::explained))]
 fn taken_text(alloc: Global, allowed: Allowed) -> Result<String, Memory>
     ensures { IfOk result (λ text. IsReason FileFault.Duplicate (string_bytes text)) }
 {

@@ -1,7 +1,7 @@
 //! What a fault of the input is, in more words.
 
 ghost use Rattle.std.specs.Prelude.{◌≡◌, [], IfOk, string_bytes};
-ghost use Rattle.mctpctl_explain.specs.Reasons.{TellsDevice};
+ghost use Rattle.mctpctl_explain.specs.Reasons.{ExplainsDevice};
 ghost use Rattle.mctpctl_input.specs.OutsideFaults.{IsOutside};
 
 use crate::description::explain_description;
@@ -36,7 +36,7 @@ pub fn explain(
     fault: &EngineFault,
 ) -> Result<String, Memory>
     ensures outside { IsOutside fault.now → IfOk result (λ text. string_bytes text ≡ []) }
-    ensures device { IfOk result (λ text. TellsDevice fault.now (string_bytes text)) }
+    ensures device { IfOk result (λ text. ExplainsDevice fault.now (string_bytes text)) }
 {
     match fault {
         EngineFault::Read | EngineFault::Write | EngineFault::Memory(_) => Ok(String::new(alloc)),

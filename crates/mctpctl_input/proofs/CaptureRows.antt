@@ -52,7 +52,7 @@ late_comment : says (codes "0 #") 0 (Err BadHex)
 unfolding says capture_of hex_on_literals
 late_comment = refl
 
--- the first fault is told: the count of words, then the number, then its order, then the digits
+-- the first fault is returned: the count of words, then the number, then its order, then the digits
 three_words : says (codes "x 0 0") 0 (Err Words)
 unfolding says capture_of
 three_words = refl

@@ -10,7 +10,7 @@ use Rattle.hex.specs.declared.error.FromHexError.TheVariants.{InvalidHexCharacte
 use Rattle.hex.proofs.OnLiterals.{hex_on_literals}
 use Rattle.hex.proofs.Pairs.{prepend, decode_step, decode_err, decode_done, decode_sized-pairs}
 use Rattle.mctpctl_input.specs.declared.hex_digits.TheConstants.{MAX_BYTE, NO_DIGIT}
-use Rattle.mctpctl_input.specs.HexDigits.{TellsDigits, value_or_none}
+use Rattle.mctpctl_input.specs.HexDigits.{HoldsDigits, value_or_none}
 
 -- ---- what `hex` says of one byte, after a `0`
 
@@ -75,14 +75,14 @@ few_or_none : (digit : Option ℕ) (value : ℕ) → ((known : ℕ) → digit �
 few_or_none (Some known) value small e = inl (omega (arith, small known refl))
 few_or_none None value small e = inr e
 
-few_at : (values : List ℕ) (byte : ℕ) → TellsDigits values → byte < 256
+few_at : (values : List ℕ) (byte : ℕ) → HoldsDigits values → byte < 256
     → (slice_index values byte ≤ MAX_DIGIT) ⊎ (slice_index values byte ≡ NO_DIGIT)
-unfolding TellsDigits
-few_at values byte told below = few_or_none (hex_digit_value byte) _ (digit_small byte) (told byte below)
+unfolding HoldsDigits
+few_at values byte held below = few_or_none (hex_digit_value byte) _ (digit_small byte) (held byte below)
 
-pub at_most_none : (values : List ℕ) (byte : ℕ) → TellsDigits values → byte < 256 → slice_index values byte ≤ NO_DIGIT
-at_most_none values byte told below =
-    elim (few_at values byte told below) [
+pub at_most_none : (values : List ℕ) (byte : ℕ) → HoldsDigits values → byte < 256 → slice_index values byte ≤ NO_DIGIT
+at_most_none values byte held below =
+    elim (few_at values byte held below) [
       | inl few ↦ omega arith
       | inr none ↦ omega arith
     ]
@@ -94,12 +94,12 @@ abbrev pub put_together : List ℕ → ℕ → ℕ → ℕ
 put_together values first second = slice_index values first * 16 + slice_index values second
 
 -- both are digits where that is a byte
-both_few : (values : List ℕ) (first second : ℕ) → TellsDigits values → second < 256
+both_few : (values : List ℕ) (first second : ℕ) → HoldsDigits values → second < 256
     → put_together values first second ≤ MAX_BYTE
     → (slice_index values first ≤ MAX_DIGIT) × (slice_index values second ≤ MAX_DIGIT)
-both_few values first second told below few = (
+both_few values first second held below few = (
   omega arith,
-  elim (few_at values second told below) [
+  elim (few_at values second held below) [
     | inl small ↦ small
     | inr none ↦ absurd (omega arith)
   ],
@@ -120,13 +120,13 @@ one_is_none values first second large =
       | inr low ↦ inr (low, omega arith)
     ]
 
-pair_read : (values : List ℕ) (first second i : ℕ) → TellsDigits values → first < 256 → second < 256
+pair_read : (values : List ℕ) (first second i : ℕ) → HoldsDigits values → first < 256 → second < 256
     → slice_index values first ≤ MAX_DIGIT → slice_index values second ≤ MAX_DIGIT
     → pair_value first second i ≡ Ok (slice_index values first * 16 + slice_index values second)
-unfolding TellsDigits
-pair_read values first second i told f s sh sl =
-    let h = some_digit (hex_digit_value first) (slice_index values first) (told first f) sh in
-    let l = some_digit (hex_digit_value second) (slice_index values second) (told second s) sl in
+unfolding HoldsDigits
+pair_read values first second i held f s sh sl =
+    let h = some_digit (hex_digit_value first) (slice_index values first) (held first f) sh in
+    let l = some_digit (hex_digit_value second) (slice_index values second) (held second s) sl in
     rw (h, l) refl
 
 low_refused : (first second i : ℕ) (digit : Option ℕ) → hex_digit_value first ≡ digit → hex_digit_value second ≡ None
@@ -134,14 +134,14 @@ low_refused : (first second i : ℕ) (digit : Option ℕ) → hex_digit_value fi
 low_refused first second i None is none = (InvalidHexCharacter first i, rw is refl)
 low_refused first second i (Some value) is none = (InvalidHexCharacter second (i + 1), rw (is, none) refl)
 
-pair_refused : (values : List ℕ) (first second i : ℕ) → TellsDigits values → first < 256 → second < 256
+pair_refused : (values : List ℕ) (first second i : ℕ) → HoldsDigits values → first < 256 → second < 256
     → IsNone values first second → (fault : FromHexError) × (pair_value first second i ≡ Err fault)
-unfolding TellsDigits
-pair_refused values first second i told f s (inl high) =
-    let none = none_digit first (hex_digit_value first) (slice_index values first) refl (told first f) high in
+unfolding HoldsDigits
+pair_refused values first second i held f s (inl high) =
+    let none = none_digit first (hex_digit_value first) (slice_index values first) refl (held first f) high in
     (InvalidHexCharacter first i, rw none refl)
-pair_refused values first second i told f s (inr low) =
-    let none = none_digit second (hex_digit_value second) (slice_index values second) refl (told second s) low.1 in
+pair_refused values first second i held f s (inr low) =
+    let none = none_digit second (hex_digit_value second) (slice_index values second) refl (held second s) low.1 in
     low_refused first second i (hex_digit_value first) refl none
 
 -- ---- a text of which the bytes before a place have been read
@@ -166,25 +166,25 @@ pair_value_at digits place first second pair =
     ap (λ a. pair_value a (slice_index digits (2 * place + 1)) (2 * place)) (sym pair.first_is)
     ∙ ap (λ b. pair_value first b (2 * place)) (sym pair.second_is)
 
-pair_added : (values digits bytes : List ℕ) (place first second : ℕ) → TellsDigits values
+pair_added : (values digits bytes : List ℕ) (place first second : ℕ) → HoldsDigits values
     → PairAt digits place first second → place < length bytes → put_together values first second ≤ MAX_BYTE
     → HasRead digits bytes place
     → HasRead digits (slice_set bytes place (put_together values first second)) (place + 1)
-pair_added values digits bytes place first second told pair room few so_far =
-    let both = both_few values first second told pair.second_byte few in
-    let read = pair_read values first second (2 * place) told pair.first_byte pair.second_byte both.0 both.1 in
+pair_added values digits bytes place first second held pair room few so_far =
+    let both = both_few values first second held pair.second_byte few in
+    let read = pair_read values first second (2 * place) held pair.first_byte pair.second_byte both.0 both.1 in
     decode_step digits bytes place _ pair.within room (pair_value_at digits place first second pair ∙ read) so_far
 
 -- `hex` refuses the text
 abbrev pub IsRefused : List ℕ → Type 0
 IsRefused digits = (fault : FromHexError) × (decode_pairs 0 digits ≡ Err fault)
 
-pair_stops : (values digits bytes : List ℕ) (place first second : ℕ) → TellsDigits values
+pair_stops : (values digits bytes : List ℕ) (place first second : ℕ) → HoldsDigits values
     → PairAt digits place first second → MAX_BYTE < put_together values first second → HasRead digits bytes place
     → IsRefused digits
-pair_stops values digits bytes place first second told pair large so_far =
+pair_stops values digits bytes place first second held pair large so_far =
     let none = one_is_none values first second large in
-    let refused = pair_refused values first second (2 * place) told pair.first_byte pair.second_byte none in
+    let refused = pair_refused values first second (2 * place) held pair.first_byte pair.second_byte none in
     let bad = pair_value_at digits place first second pair ∙ refused.1 in
     (refused.0, decode_err digits bytes place refused.0 pair.within bad so_far)
 
@@ -200,23 +200,23 @@ greater a b = grind (arith, nat_tests)
 at_least : (a b : ℕ) → (a ≤ ord_max nat_cmp a b) × (b ≤ ord_max nat_cmp a b)
 at_least a b = (grind (arith, nat_tests), grind (arith, nat_tests))
 
-pub looked_on : (values digits bytes : List ℕ) (place first second greatest : ℕ) → TellsDigits values
+pub looked_on : (values digits bytes : List ℕ) (place first second greatest : ℕ) → HoldsDigits values
     → PairAt digits place first second → place < length bytes → HasLooked digits bytes place greatest
     → HasLooked digits (slice_set bytes place (put_together values first second % 256)) (place + 1)
     (ord_max nat_cmp greatest (put_together values first second))
-looked_on values digits bytes place first second greatest told pair room so_far =
+looked_on values digits bytes place first second greatest held pair room so_far =
     let value = put_together values first second in
     let least = at_least greatest value in
     record {
       read = λ few.
           let one : value ≤ MAX_BYTE = omega (arith, few, least.1) in
           let same : value % 256 ≡ value = omega (arith, one) in
-          rw same (pair_added values digits bytes place first second told pair room one (so_far.read (omega (arith, few, least.0))));
+          rw same (pair_added values digits bytes place first second held pair room one (so_far.read (omega (arith, few, least.0))));
       refused = λ large. elim (cases_lt MAX_BYTE greatest) [
         | inl sooner ↦ so_far.refused sooner
         | inr not ↦ elim (greater greatest value) [
           | inl is ↦ absurd (omega (arith, large, is, not))
-          | inr is ↦ pair_stops values digits bytes place first second told pair (omega (arith, large, is)) (so_far.read not)
+          | inr is ↦ pair_stops values digits bytes place first second held pair (omega (arith, large, is)) (so_far.read not)
         ]
       ];
     }
@@ -250,24 +250,24 @@ answered digits bytes room place greatest false _ large full all even half looke
 -- ---- a table that is being filled
 
 -- the first bytes of a table have been asked for
-unfoldable pub TellsFront : List ℕ → ℕ → Type 0
-TellsFront values n = (byte : ℕ) → byte < n → slice_index values byte ≡ value_or_none (hex_digit_value byte)
+unfoldable pub HoldsFront : List ℕ → ℕ → Type 0
+HoldsFront values n = (byte : ℕ) → byte < n → slice_index values byte ≡ value_or_none (hex_digit_value byte)
 
-pub none_told : (values : List ℕ) → TellsFront values 0
-unfolding TellsFront
-none_told values byte below = absurd (omega arith)
+pub none_held : (values : List ℕ) → HoldsFront values 0
+unfolding HoldsFront
+none_held values byte below = absurd (omega arith)
 
-pub one_more_told : (values : List ℕ) (n value : ℕ) → n < length values → TellsFront values n
-    → value ≡ value_or_none (hex_digit_value n) → TellsFront (slice_set values n value) (n + 1)
-unfolding TellsFront
-one_more_told values n value room told is byte below =
+pub one_more_held : (values : List ℕ) (n value : ℕ) → n < length values → HoldsFront values n
+    → value ≡ value_or_none (hex_digit_value n) → HoldsFront (slice_set values n value) (n + 1)
+unfolding HoldsFront
+one_more_held values n value room held is byte below =
     elim (cases_lt byte n) [
-      | inl before ↦ get_or-set_other values n byte value 0 (λ same. absurd (omega arith)) ∙ told byte before
+      | inl before ↦ get_or-set_other values n byte value 0 (λ same. absurd (omega arith)) ∙ held byte before
       | inr last ↦
           let same : byte ≡ n = omega arith in
           rw same (get_or-set_same values n value 0 room ∙ is)
     ]
 
-pub all_told : (values : List ℕ) (n : ℕ) → 256 ≤ n → TellsFront values n → TellsDigits values
-unfolding TellsFront TellsDigits
-all_told values n all told byte below = told byte (omega arith)
+pub all_held : (values : List ℕ) (n : ℕ) → 256 ≤ n → HoldsFront values n → HoldsDigits values
+unfolding HoldsFront HoldsDigits
+all_held values n all held byte below = held byte (omega arith)

@@ -71,7 +71,7 @@ ReportsFault said (Memory refused) = Unit {0}
 abbrev pub IsInTime : ℕ → Option TimedPacket → Type 0
 IsInTime last packet = IfSome packet (λ timed. (last ≤ timed.moment) × (timed.moment ≤ MAX_MOMENT))
 
--- what a line says is read, with these bytes, or its fault told
+-- what a line says is read, with these bytes, or its fault returned
 pub record ReadsLine (said : Result (Option TimedPacket) LineKind) (last : ℕ) (bytes : List ℕ)
     (result : Result CaptureLine CaptureFault) : Type 0 where
   pub ok : IfOk result (λ read. said ≡ Ok (packet_in read bytes))

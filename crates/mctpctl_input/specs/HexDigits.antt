@@ -9,5 +9,5 @@ value_or_none None = NO_DIGIT
 value_or_none (Some value) = value
 
 -- at the place of each byte stands its value as a digit
-unfoldable pub TellsDigits : List ℕ → Type 0
-TellsDigits values = (byte : ℕ) → byte < 256 → slice_index values byte ≡ value_or_none (hex_digit_value byte)
+unfoldable pub HoldsDigits : List ℕ → Type 0
+HoldsDigits values = (byte : ℕ) → byte < 256 → slice_index values byte ≡ value_or_none (hex_digit_value byte)

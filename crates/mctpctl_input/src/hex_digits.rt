@@ -2,7 +2,7 @@
 
 ghost use Rattle.std.specs.Prelude.{◌≡◌, MatchResult, length, true, false};
 ghost use Rattle.hex.specs.Hex.{decode_sized, hex_digit_value};
-ghost use Rattle.mctpctl_input.specs.HexDigits.{TellsDigits, value_or_none};
+ghost use Rattle.mctpctl_input.specs.HexDigits.{HoldsDigits, value_or_none};
 
 use std::marker::Model;
 
@@ -25,19 +25,19 @@ pub struct HexDigits {
 
 impl Model for HexDigits {
     ghost use Rattle.std.specs.Prelude.{List, ℕ};
-    ghost use Rattle.mctpctl_input.specs.HexDigits.{TellsDigits};
+    ghost use Rattle.mctpctl_input.specs.HexDigits.{HoldsDigits};
 
     ghost Value = { List ℕ };
 
     ghost view = { λ d. d.values };
 
-    ghost invariant = { λ d. TellsDigits d.values };
+    ghost invariant = { λ d. HoldsDigits d.values };
 }
 
 impl HexDigits {
     /// Asks `hex` for each byte.
     pub fn new() -> HexDigits
-        ensures { TellsDigits result }
+        ensures { HoldsDigits result }
     {
         let mut values = [NO_DIGIT; BYTES];
         for byte in 0..BYTES {

@@ -5,10 +5,10 @@ use Rattle.std.proofs.lemmas.Grind.{flat_map-append}
 use Rattle.std.proofs.lemmas.List.FromFn.{map-range_with_len_more}
 
 -- one thing more, and its text
-pub told_more : {A : Type 0} (text : A → List ℕ) (f : ℕ → A) (i : ℕ) (old new : List ℕ)
+pub more_seen : {A : Type 0} (text : A → List ℕ) (f : ℕ → A) (i : ℕ) (old new : List ℕ)
     → old ≡ flat_map text (map f (range_with_len 0 i)) → new ≡ old ++ text (f i)
     → new ≡ flat_map text (map f (range_with_len 0 (i + 1)))
-told_more text f i old new so_far added =
+more_seen text f i old new so_far added =
     let front = map f (range_with_len 0 i) in
     added
     ∙ ap (λ l. l ++ text (f i)) so_far

@@ -13,7 +13,7 @@ then-append (Dropped fault) es fs = refl
 pub events-append : (r : Reading) (a b : List ℕ) → events_in r (a ++ b) ≡ events_in r a ++ events_in (after r a) b
 events-append r [] b = refl
 events-append r (c ∷ a) b =
-    let t = (step r c).told in
+    let t = (step r c).event in
     let next = (step r c).next in
     ap (then_event t) (events-append next a b) ∙ then-append t (events_in next a) (events_in (after next a) b)
 

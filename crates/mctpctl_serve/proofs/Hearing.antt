@@ -7,13 +7,13 @@ use Rattle.mctp_serial.specs.Readings.{Reading, Step, step, after, events_in, th
 use Rattle.mctp_serial.specs.declared.reader.FrameEvent.{FrameEvent}
 use Rattle.mctp_serial.specs.declared.reader.FrameEvent.TheVariants.{Packet}
 use Rattle.mctpctl_input.specs.CaptureLine.{TimedPacket}
-use Rattle.mctpctl_serve.proofs.EventsTold.{frames_told-append, folds-append}
+use Rattle.mctpctl_serve.proofs.EventsSeen.{frames_seen-append, folds-append}
 use Rattle.mctpctl_serve.proofs.LastMoments.{last_after}
 use Rattle.mctpctl_serve.proofs.FramesRead.{events-append, packets-append, after-append}
-use Rattle.mctpctl_serve.specs.Events.{Told}
+use Rattle.mctpctl_serve.specs.Events.{Seen}
 use Rattle.mctpctl_serve.specs.Heard.{Shown, HearsPacket, Hears, HearsFront, Stops}
 use Rattle.mctpctl_serve.specs.Serving.{packets_of, packets_in, moment_after, timed, Answerers, packet_frames, packet_after, packets_after, answers, came, commands}
-use Rattle.mctpctl_serve.specs.Told.{bytes_told, frames_told, packet_told}
+use Rattle.mctpctl_serve.specs.Seen.{bytes_seen, frames_seen, packet_seen}
 use Rattle.mctpctl_serve.specs.declared.fault.ServeFault.{ServeFault}
 use Rattle.pldm_responder.specs.Performing.{Rules}
 use Rattle.pldm_responder.specs.Steps.{received_commands}
@@ -59,7 +59,7 @@ PerformsInTurn {P} performing =
     (first second third : P) (before after : List Command)
     → performing first before second → performing second after third → performing first (after ++ before) third
 
-module _ {P S L : Type 0} (performing : P → List Command → P → Type 0) (device : Rules S) (sees : L → Told → L → Type 0) where
+module _ {P S L : Type 0} (performing : P → List Command → P → Type 0) (device : Rules S) (sees : L → Seen → L → Type 0) where
   pub hears_nothing : ((value : P) → performing value [] value) → (s : Shown P S L) → Hears performing device sees s [] s
   hears_nothing none s = record {
     readings = [];
@@ -68,7 +68,7 @@ module _ {P S L : Type 0} (performing : P → List Command → P → Type 0) (de
     reader = refl;
     answer = refl;
     wrote = Appends-nil s.written;
-    told = refl;
+    seen = refl;
     performed = none s.platform;
     bounds = refl;
   }
@@ -76,7 +76,7 @@ module _ {P S L : Type 0} (performing : P → List Command → P → Type 0) (de
   joined : PerformsInTurn performing → (s : Shown P S L) (xs ys rs : List ℕ) (p1 : P) (b1 : Bounds) (c1 w1 : Option (List ℕ)) (v1 : L) (s2 : Shown P S L)
       → length rs ≡ length (packets_in s.reading xs) → Consumes s.clock c1 rs
       → Appends s.written w1 (answers device s.answering (came device s.answering s.reading xs rs))
-      → FoldsTo sees s.watch (bytes_told device s.answering s.reading xs rs) v1
+      → FoldsTo sees s.watch (bytes_seen device s.answering s.reading xs rs) v1
       → performing s.platform (commands device s.answering (came device s.answering s.reading xs rs)) p1 → b1 ≡ s.bounds
       → Hears performing device sees
       (record {
@@ -89,7 +89,7 @@ module _ {P S L : Type 0} (performing : P → List Command → P → Type 0) (de
         watch = v1;
       }) ys s2
       → Hears performing device sees s (xs ++ ys) s2
-  joined in_turn s xs ys rs p1 b1 c1 w1 v1 s2 each ticked wrote told performed bounds g =
+  joined in_turn s xs ys rs p1 b1 c1 w1 v1 s2 each ticked wrote seen performed bounds g =
       let a = s.answering in
       let r = s.reading in
       let first = came device a r xs rs in
@@ -98,9 +98,9 @@ module _ {P S L : Type 0} (performing : P → List Command → P → Type 0) (de
       let all : came device a r (xs ++ ys) (rs ++ g.readings) ≡ first ++ second =
       ap (timed a.held.last (rs ++ g.readings)) (packets-append r xs ys)
       ∙ timed-append device a rs g.readings (packets_in r xs) (packets_in (after r xs) ys) each in
-      let all_told : bytes_told device a r (xs ++ ys) (rs ++ g.readings) ≡ bytes_told device a r xs rs ++ bytes_told device middle (after r xs) ys g.readings =
-      ap (λ (es : List FrameEvent). frames_told device a es (rs ++ g.readings)) (events-append r xs ys)
-      ∙ frames_told-append device a (events_in r xs) (events_in (after r xs) ys) rs g.readings each in
+      let all_seen : bytes_seen device a r (xs ++ ys) (rs ++ g.readings) ≡ bytes_seen device a r xs rs ++ bytes_seen device middle (after r xs) ys g.readings =
+      ap (λ (es : List FrameEvent). frames_seen device a es (rs ++ g.readings)) (events-append r xs ys)
+      ∙ frames_seen-append device a (events_in r xs) (events_in (after r xs) ys) rs g.readings each in
       record {
         readings = rs ++ g.readings;
         each =
@@ -113,9 +113,9 @@ module _ {P S L : Type 0} (performing : P → List Command → P → Type 0) (de
         wrote =
             subst (Appends s.written s2.written) (sym (ap (answers device a) all ∙ answers-append device a first second))
             (Appends-trans s.written w1 s2.written (answers device a first) (answers device middle second) wrote g.wrote);
-        told =
-            subst (λ (l : List Told). FoldsTo sees s.watch l s2.watch) (sym all_told)
-            (folds-append sees s.watch (bytes_told device a r xs rs) v1 (bytes_told device middle (after r xs) ys g.readings) s2.watch told g.told);
+        seen =
+            subst (λ (l : List Seen). FoldsTo sees s.watch l s2.watch) (sym all_seen)
+            (folds-append sees s.watch (bytes_seen device a r xs rs) v1 (bytes_seen device middle (after r xs) ys g.readings) s2.watch seen g.seen);
         performed =
             subst (λ (l : List Command). performing s.platform l s2.platform) (sym (ap (commands device a) all ∙ commands-append device a first second))
             (in_turn s.platform p1 s2.platform (commands device a first) (commands device middle second) performed g.performed);
@@ -125,41 +125,41 @@ module _ {P S L : Type 0} (performing : P → List Command → P → Type 0) (de
   pub hears_after : PerformsInTurn performing → (s : Shown P S L) (xs ys : List ℕ) (s1 s2 : Shown P S L)
       → Hears performing device sees s xs s1 → Hears performing device sees s1 ys s2 → Hears performing device sees s (xs ++ ys) s2
   hears_after in_turn s xs ys s1 s2 f g =
-      joined in_turn s xs ys f.readings s1.platform s1.bounds s1.clock s1.written s1.watch s2 f.each f.ticked f.wrote f.told f.performed f.bounds
+      joined in_turn s xs ys f.readings s1.platform s1.bounds s1.clock s1.written s1.watch s2 f.each f.ticked f.wrote f.seen f.performed f.bounds
       (subst (λ (h : Answerers S). Hears performing device sees (record s1 { answering = h; reading = after s.reading xs }) ys s2) f.answer
       (subst (λ (r : Reading). Hears performing device sees (record s1 { reading = r }) ys s2) f.reader g))
 
-  -- a byte that tells no packet
+  -- a byte that gives no packet
   pub hears_silent : ((value : P) → performing value [] value) → (s : Shown P S L) (byte : ℕ) (t : FrameEvent) (next : Reading) (watch1 : L)
-      → step s.reading byte ≡ record { told = t; next = next } → packets_of (then_event t []) ≡ []
-      → FoldsTo sees s.watch (frames_told device s.answering (then_event t []) []) watch1
+      → step s.reading byte ≡ record { event = t; next = next } → packets_of (then_event t []) ≡ []
+      → FoldsTo sees s.watch (frames_seen device s.answering (then_event t []) []) watch1
       → Hears performing device sees s (byte ∷ []) (record s { reading = next; watch = watch1 })
-  hears_silent none s byte t next watch1 e silent told = record {
+  hears_silent none s byte t next watch1 e silent seen = record {
     readings = [];
-    each = ap (λ (l : List (List ℕ)). length l) (sym (ap (λ (st : Step). packets_of (then_event st.told [])) e ∙ silent));
+    each = ap (λ (l : List (List ℕ)). length l) (sym (ap (λ (st : Step). packets_of (then_event st.event [])) e ∙ silent));
     ticked = Consumes-nil s.clock;
     reader = sym (ap (λ (st : Step). st.next) e);
     answer = refl;
     wrote = Appends-nil s.written;
-    told = subst (λ (st : Step). FoldsTo sees s.watch (frames_told device s.answering (then_event st.told []) []) watch1) (sym e) told;
+    seen = subst (λ (st : Step). FoldsTo sees s.watch (frames_seen device s.answering (then_event st.event []) []) watch1) (sym e) seen;
     performed = none s.platform;
     bounds = refl;
   }
 
   -- a byte that ends a packet's frame
   pub hears_packet : (s : Shown P S L) (byte : ℕ) (packet : List ℕ) (next : Reading) (s1 : Shown P S L)
-      → step s.reading byte ≡ record { told = Packet (record { items = packet }); next = next } → s1.reading ≡ next
+      → step s.reading byte ≡ record { event = Packet (record { items = packet }); next = next } → s1.reading ≡ next
       → HearsPacket performing device sees (record s { reading = next }) packet s1 → Hears performing device sees s (byte ∷ []) s1
   hears_packet s byte packet next s1 e read h =
       let a = s.answering in
       let r = s.reading in
       let moment = moment_after a.held.last h.reading in
-      let one : packets_in r (byte ∷ []) ≡ packet ∷ [] = ap (λ (st : Step). packets_of (then_event st.told [])) e in
+      let one : packets_in r (byte ∷ []) ≡ packet ∷ [] = ap (λ (st : Step). packets_of (then_event st.event [])) e in
       let timed_one : came device a r (byte ∷ []) (h.reading ∷ []) ≡ record { moment = moment; bytes = packet } ∷ [] = ap (timed a.held.last (h.reading ∷ [])) one in
       let text = packet_frames device a moment packet in
-      let events = packet_told device a moment packet in
-      let told_one : bytes_told device a r (byte ∷ []) (h.reading ∷ []) ≡ events =
-      ap (λ (st : Step). frames_told device a (then_event st.told []) (h.reading ∷ [])) e ∙ append-nil events in
+      let events = packet_seen device a moment packet in
+      let one_seen : bytes_seen device a r (byte ∷ []) (h.reading ∷ []) ≡ events =
+      ap (λ (st : Step). frames_seen device a (then_event st.event []) (h.reading ∷ [])) e ∙ append-nil events in
       record {
         readings = h.reading ∷ [];
         each = ap (λ (l : List (List ℕ)). length l) (sym one);
@@ -167,7 +167,7 @@ module _ {P S L : Type 0} (performing : P → List Command → P → Type 0) (de
         reader = read ∙ sym (ap (λ (st : Step). st.next) e);
         answer = h.heard.answer ∙ ap (packets_after device a) (sym timed_one);
         wrote = subst (Appends s.written s1.written) (sym (append-nil text) ∙ ap (answers device a) (sym timed_one)) h.heard.wrote;
-        told = subst (λ (l : List Told). FoldsTo sees s.watch l s1.watch) (sym told_one) h.heard.told;
+        seen = subst (λ (l : List Seen). FoldsTo sees s.watch l s1.watch) (sym one_seen) h.heard.seen;
         performed = subst (λ (l : List TimedPacket). performing s.platform (commands device a l) s1.platform) (sym timed_one) h.heard.performed;
         bounds = h.heard.bounds;
       }
@@ -183,7 +183,7 @@ module _ {P S L : Type 0} (performing : P → List Command → P → Type 0) (de
     reader = f.reader;
     answer = f.answer;
     wrote = Appends-kept s.written s1.written s2.written (answers device s.answering (came device s.answering s.reading xs f.readings)) f.wrote kept;
-    told = f.told;
+    seen = f.seen;
     performed = in_turn s.platform s1.platform s2.platform (commands device s.answering (came device s.answering s.reading xs f.readings)) [] f.performed none;
     bounds = bounds ∙ f.bounds;
   }
@@ -200,7 +200,7 @@ module _ {P S L : Type 0} (performing : P → List Command → P → Type 0) (de
     clock1 = s1.clock;
     watch1 = s1.watch;
     hears = hears_kept in_turn s xs s1 s2 f stops.kept stops.none_performed stops.bounds;
-    told = stops.told;
+    seen = stops.seen;
   }
 
   -- so is what was heard of a piece, after what was heard before
@@ -219,7 +219,7 @@ module _ {P S L : Type 0} (performing : P → List Command → P → Type 0) (de
         clock1 = g.clock1;
         watch1 = g.watch1;
         hears = hears_after in_turn s xs g.front s1 middle f g.hears;
-        told = g.told;
+        seen = g.seen;
       } where
         found : (all now end : Option (List ℕ)) (taken piece front : List ℕ) (back : Option (List ℕ))
             → Consumes all now taken → Consumes now end piece → Consumes (Some piece) back front

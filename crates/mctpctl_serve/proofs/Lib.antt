@@ -1,9 +1,9 @@
 pub mod AnswerFrames
-pub mod EventsTold
+pub mod EventsSeen
 pub mod FramesRead
 pub mod Hearing
 pub mod LinesHaveBytes
-pub mod LogsTold
+pub mod LogsSeen
 pub mod PacketsHeard
 pub mod SameHeld
 pub mod Numbers

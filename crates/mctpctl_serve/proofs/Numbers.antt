@@ -1,4 +1,4 @@
--- Every constant of the source, told a second time.
+-- Every constant of the source, written a second time.
 use Rattle.std.proofs.Common.{◌≡◌, refl}
 use Rattle.mctpctl_serve.specs.declared.TheConstants.{MAX_ANSWER_BYTES}
 

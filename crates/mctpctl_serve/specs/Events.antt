@@ -7,22 +7,22 @@ use Rattle.mctpctl_serve.specs.declared.events.Event.{Event}
 use Rattle.mctpctl_serve.specs.declared.events.Event.TheVariants as event
 
 -- an event, with its moment in milliseconds and its bytes
-pub data Told : Type 0 where
+pub data Seen : Type 0 where
   -- bytes after a flag were no frame
-  NoFrame : FrameFault → Told
+  NoFrame : FrameFault → Seen
   -- a packet of these bytes came
-  Came : (moment : ℕ) → (packet : List ℕ) → Told
+  Came : (moment : ℕ) → (packet : List ℕ) → Seen
   -- the packet that just came was dropped, and no control message was answered
-  Dropped : Reason → Told
+  Dropped : Reason → Seen
   -- these packets, the answer to a request, were sent
-  Sent : (moment : ℕ) → (packets : List (List ℕ)) → Told
+  Sent : (moment : ℕ) → (packets : List (List ℕ)) → Seen
   -- this packet, the answer to a control message, was sent
-  SentControl : (moment : ℕ) → (packet : List ℕ) → Told
+  SentControl : (moment : ℕ) → (packet : List ℕ) → Seen
 
--- what a watcher is told by an event
-abbrev pub told_of : Event → Told
-told_of (event.NoFrame fault) = NoFrame fault
-told_of (event.Came moment packet) = Came moment packet.now
-told_of (event.Dropped reason) = Dropped reason
-told_of (event.Sent moment route message) = Sent moment (written_packets route message.now)
-told_of (event.SentControl moment packet) = SentControl moment packet.now
+-- what a watcher sees of an event
+abbrev pub seen_of : Event → Seen
+seen_of (event.NoFrame fault) = NoFrame fault
+seen_of (event.Came moment packet) = Came moment packet.now
+seen_of (event.Dropped reason) = Dropped reason
+seen_of (event.Sent moment route message) = Sent moment (written_packets route message.now)
+seen_of (event.SentControl moment packet) = SentControl moment packet.now

@@ -1,5 +1,5 @@
 -- What a line that is served makes of bytes: what answers then, what its platform performed, what was written, and what
--- its watcher was told. `performing` holds of a platform, commands, the newest first, and the platform once they were
+-- its watcher saw. `performing` holds of a platform, commands, the newest first, and the platform once they were
 -- performed.
 use Rattle.std.specs.Prelude.{◌≡◌, ℕ, List, [], ◌∷◌, length, Option}
 use Rattle.std.specs.Io.KnownBytes.{Appends, Consumes, Keeps}
@@ -7,10 +7,10 @@ use Rattle.std.specs.List.{FoldsTo}
 use Rattle.mctp_serial.specs.Readings.{Reading, after}
 use Rattle.mctpctl_input.specs.Ports.{inner_of}
 use Rattle.mctpctl_input.specs.declared.port.Port.{Port}
-use Rattle.mctpctl_serve.specs.Events.{Told, Came}
+use Rattle.mctpctl_serve.specs.Events.{Seen, Came}
 use Rattle.mctpctl_serve.specs.Serving.{Answerers, answerers, answers, came, commands, moment_after}
 use Rattle.mctpctl_serve.specs.Serving.{packet_after, packet_frames, packets_after, packets_in}
-use Rattle.mctpctl_serve.specs.Told.{bytes_told, packet_told}
+use Rattle.mctpctl_serve.specs.Seen.{bytes_seen, packet_seen}
 use Rattle.mctpctl_serve.specs.declared.fault.ServeFault.{ServeFault}
 use Rattle.mctpctl_serve.specs.declared.fault.ServeFault.TheVariants as fault
 use Rattle.mctpctl_serve.specs.declared.line.ServedLine.{ServedLine}
@@ -43,26 +43,26 @@ shown to_come contents line writer = record {
   watch = line.watch;
 }
 
--- what a watcher was told where the line stopped at a fault: a packet that found no memory has come
-abbrev pub TellsAt : {L : Type 0} → (L → Told → L → Type 0) → ServeFault → L → L → Type 0
-TellsAt sees fault.Memory watch watch1 = (moment : ℕ) × (packet : List ℕ) × sees watch (Came moment packet) watch1
-TellsAt sees _ watch watch1 = watch1 ≡ watch
+-- what a watcher saw where the line stopped at a fault: a packet that found no memory has come
+abbrev pub SeesAt : {L : Type 0} → (L → Seen → L → Type 0) → ServeFault → L → L → Type 0
+SeesAt sees fault.Memory watch watch1 = (moment : ℕ) × (packet : List ℕ) × sees watch (Came moment packet) watch1
+SeesAt sees _ watch watch1 = watch1 ≡ watch
 
 -- the line stopped at a fault: nothing was written, and no command performed
-pub record Stops {P S L : Type 0} (performing : P → List Command → P → Type 0) (sees : L → Told → L → Type 0)
+pub record Stops {P S L : Type 0} (performing : P → List Command → P → Type 0) (sees : L → Seen → L → Type 0)
     (fault : ServeFault) (s s1 : Shown P S L) : Type 0 where
   pub kept : Keeps s.written s1.written
-  pub told : TellsAt sees fault s.watch s1.watch
+  pub seen : SeesAt sees fault s.watch s1.watch
   pub none_performed : performing s.platform [] s1.platform
   pub bounds : s1.bounds ≡ s.bounds
 
 module _ {P S L : Type 0} (performing : P → List Command → P → Type 0) (device : Rules S)
-    (sees : L → Told → L → Type 0) where
-  -- this packet was answered at this moment, and told
+    (sees : L → Seen → L → Type 0) where
+  -- this packet was answered at this moment, and seen
   pub record HearsAt (s : Shown P S L) (moment : ℕ) (packet : List ℕ) (s1 : Shown P S L) : Type 0 where
     pub answer : s1.answering ≡ packet_after device s.answering moment packet
     pub wrote : Appends s.written s1.written (packet_frames device s.answering moment packet)
-    pub told : FoldsTo sees s.watch (packet_told device s.answering moment packet) s1.watch
+    pub seen : FoldsTo sees s.watch (packet_seen device s.answering moment packet) s1.watch
     pub performed : performing s.platform (received_commands s.answering.held moment packet) s1.platform
     pub bounds : s1.bounds ≡ s.bounds
 
@@ -73,7 +73,7 @@ module _ {P S L : Type 0} (performing : P → List Command → P → Type 0) (de
     pub heard : HearsAt s (moment_after s.answering.held.last reading) packet s1
 
   -- of these bytes, with readings that the clock gave, one for each packet, the answers were written, the commands were
-  -- performed, and what happened was told
+  -- performed, and what happened was seen
   pub record Hears (s : Shown P S L) (bytes : List ℕ) (s1 : Shown P S L) : Type 0 where
     pub readings : List ℕ
     pub each : length readings ≡ length (packets_in s.reading bytes)
@@ -82,7 +82,7 @@ module _ {P S L : Type 0} (performing : P → List Command → P → Type 0) (de
     pub answer : s1.answering ≡ packets_after device s.answering (came device s.answering s.reading bytes readings)
     pub wrote :
         Appends s.written s1.written (answers device s.answering (came device s.answering s.reading bytes readings))
-    pub told : FoldsTo sees s.watch (bytes_told device s.answering s.reading bytes readings) s1.watch
+    pub seen : FoldsTo sees s.watch (bytes_seen device s.answering s.reading bytes readings) s1.watch
     pub performed :
         performing s.platform (commands device s.answering (came device s.answering s.reading bytes readings))
         s1.platform
@@ -112,4 +112,4 @@ module _ {P S L : Type 0} (performing : P → List Command → P → Type 0) (de
       written = s1.written;
       watch = watch1;
     })
-    pub told : TellsAt sees fault watch1 s1.watch
+    pub seen : SeesAt sees fault watch1 s1.watch

@@ -4,4 +4,4 @@ pub mod Laws
 pub mod Logs
 pub mod ServeFaults
 pub mod Serving
-pub mod Told
+pub mod Seen

@@ -10,7 +10,7 @@ use Rattle.mctp_serial.specs.FrameFaults.{name_of}
 use Rattle.mctp_serial.specs.declared.fault.FrameFault.{FrameFault}
 use Rattle.mctpctl_input.specs.Ports.{has_failed, inner_of}
 use Rattle.mctpctl_input.specs.declared.port.Port.{Port}
-use Rattle.mctpctl_serve.specs.Events.{Told, NoFrame, Came, Dropped, Sent, SentControl}
+use Rattle.mctpctl_serve.specs.Events.{Seen, NoFrame, Came, Dropped, Sent, SentControl}
 use Rattle.mctpctl_serve.specs.declared.log.Log.{Log}
 use Rattle.mctpctl_serve.specs.declared.log.TextLog.{TextLog}
 
@@ -23,7 +23,7 @@ abbrev pub capture_lines : ℕ → List (List ℕ) → List ℕ
 capture_lines moment packets = flat_map (capture_line moment) packets
 
 -- what an event adds to the capture
-abbrev pub capture_text : Told → List ℕ
+abbrev pub capture_text : Seen → List ℕ
 capture_text (NoFrame fault) = []
 capture_text (Came moment packet) = capture_line moment packet
 capture_text (Dropped reason) = []
@@ -37,7 +37,7 @@ abbrev pub no_frame_line : FrameFault → List ℕ
 no_frame_line fault = codes "mctpctl: no frame: " ++ (name_of fault ++ 10 ∷ [])
 
 -- what an event adds to the drops
-abbrev pub drop_text : Told → List ℕ
+abbrev pub drop_text : Seen → List ℕ
 drop_text (NoFrame fault) = no_frame_line fault
 drop_text (Came moment packet) = []
 drop_text (Dropped reason) = drop_line reason
@@ -67,7 +67,7 @@ pub record AddsText {W : Type 0} (contents : W → Option (List ℕ)) (old : Tex
 
 -- what an event makes of a log: its texts are added
 abbrev pub AddsEvent :
-    {N T : Type 0} → (N → Option (List ℕ)) → (T → Option (List ℕ)) → Log N T → Told → Log N T → Type 0
+    {N T : Type 0} → (N → Option (List ℕ)) → (T → Option (List ℕ)) → Log N T → Seen → Log N T → Type 0
 AddsEvent drops captured old event new =
     AddsText drops old.drops (drop_text event) new.drops
     × AddsText captured old.capture (capture_text event) new.capture

@@ -16,12 +16,12 @@ use Rattle.pldm_responder.specs.declared.outcome.Outcome.{Outcome}
 use Rattle.pldm_responder.specs.declared.outcome.Outcome.TheVariants as outcome
 use Rattle.pldm_wire.specs.declared.command.Command.{Command}
 
--- the packets of what was told
+-- the packets of what came
 abbrev pub packets_of : List FrameEvent → List (List ℕ)
 packets_of [] = []
-packets_of (Nothing ∷ told) = packets_of told
-packets_of (Packet packet ∷ told) = packet.items ∷ packets_of told
-packets_of (Dropped fault ∷ told) = packets_of told
+packets_of (Nothing ∷ seen) = packets_of seen
+packets_of (Packet packet ∷ seen) = packet.items ∷ packets_of seen
+packets_of (Dropped fault ∷ seen) = packets_of seen
 
 -- the packets whose frames end in the bytes
 abbrev pub packets_in : Reading → List ℕ → List (List ℕ)

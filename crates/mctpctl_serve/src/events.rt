@@ -1,7 +1,7 @@
 //! What happens on a line, for one who watches it.
 
 ghost use Rattle.std.specs.Prelude.{◌≡◌};
-ghost use Rattle.mctpctl_serve.specs.Events.{Told, told_of};
+ghost use Rattle.mctpctl_serve.specs.Events.{Seen, seen_of};
 
 use mctp_packet::{Moment, Reason, Route};
 use mctp_serial::FrameFault;
@@ -21,15 +21,15 @@ pub enum Event<'a> {
     SentControl(Moment, &'a [u8]),
 }
 
-/// Is told what happens on the line. Nothing that it does changes what is answered. `sees` says what it makes of an
+/// Sees what happens on the line. Nothing that it does changes what is answered. `sees` says what it makes of an
 /// event, and [`crate::serve`] which events those of its input are, in order.
 pub trait Watch {
-    // told this, the one watcher becomes the other
-    ghost sees: { Self → Told → Self → Type 0 };
+    // seeing this, the one watcher becomes the other
+    ghost sees: { Self → Seen → Self → Type 0 };
 
     /// Takes what happened.
     fn saw(&mut self, event: &Event<'_>)
-        ensures { sees self.old (told_of event.now) self.new };
+        ensures { sees self.old (seen_of event.now) self.new };
 }
 
 /// Watches nothing.

@@ -4,7 +4,7 @@ ghost use Rattle.mctpctl_serve.specs.Laws.{LogsHaveAll};
 
 use std::io::Write;
 
-/// A [`crate::Log`] that was told events has the text of each, in order, while it has not failed: so does one that
+/// A [`crate::Log`] that saw events has the text of each, in order, while it has not failed: so does one that
 /// watches a line, of the events that [`crate::serve`] names.
 pub fn logs_have_all_events<N: Write, T: Write>()
     ensures { LogsHaveAll N.contents T.contents }

@@ -11,7 +11,7 @@ ghost use Rattle.mctp_serial.specs.Frames.{frame};
 ghost use Rattle.mctpctl_input.specs.Ports.{inner_of, has_failed};
 ghost use Rattle.mctpctl_serve.specs.Heard.{Hears, HearsFront, HearsPacket, HearsTaken, Stops, shown};
 ghost use Rattle.mctpctl_serve.specs.Serving.{frames_if, moment_after, with_eid};
-ghost use Rattle.mctpctl_serve.specs.Told.{drop_told};
+ghost use Rattle.mctpctl_serve.specs.Seen.{drop_seen};
 ghost use Rattle.pldm_responder.specs.Ends.{eid_or_null};
 ghost use Rattle.pldm_responder.specs.ResponderStates.{IsHeld};
 ghost use Rattle.pldm_responder.specs.Performing.{rules_of};
@@ -42,7 +42,7 @@ pub struct ServedLine<P: Platform, C, L> {
     pub responder: Responder<P>,
     /// Answers those of control messages, which the responder drops. Both begin with one endpoint ID, or with none.
     pub control: ControlResponder,
-    /// Tells their moments.
+    /// Gives their moments.
     pub ticks: C,
     /// Sees what happens.
     pub watch: L,
@@ -132,8 +132,8 @@ fn answer_drop<L: Watch, W: Write>(
     ensures bytes { OnOk result (Appends (W.contents (inner_of writer.old)) (W.contents (inner_of writer.new))
         (frames_if (control_reply control.old now reason packet.now))) }
     ensures control { control.new ≡ control_left control.old now reason packet.now }
-    ensures told { OnOk result
-        (FoldsTo L.sees watch.old (drop_told now reason (control_reply control.old now reason packet.now)) watch.new) }
+    ensures seen { OnOk result
+        (FoldsTo L.sees watch.old (drop_seen now reason (control_reply control.old now reason packet.now)) watch.new) }
     ensures fault { IfErr result (λ fault. fault ≡ ServeFault.Write) }
     ensures write { IsErrOf result ServeFault.Write ↔ (has_failed writer.new ≡ true) }
 {
@@ -225,7 +225,7 @@ fn hear_piece<P: Platform, C: Ticks, L: Watch, W: Write>(
 }
 
 /// Serves a line until its input ends: each packet whose frame ends is answered at its moment, and the frames of its
-/// answer are written and flushed before more is read. The input may be of any length. The watcher is told of each
+/// answer are written and flushed before more is read. The input may be of any length. The watcher sees each
 /// frame that was none, of each packet that came, and of what became of it. The platform performs the commands of these
 /// packets and no others, and the responder's bounds stay.
 ///

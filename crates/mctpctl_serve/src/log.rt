@@ -2,7 +2,7 @@
 
 ghost use Rattle.std.specs.Prelude.{◌≡◌, ◌≢◌, ◌||◌, None, true, false, IfOk, OnErr, string_bytes};
 ghost use Rattle.std.specs.Io.KnownBytes.{Appends};
-ghost use Rattle.mctpctl_serve.specs.Events.{told_of};
+ghost use Rattle.mctpctl_serve.specs.Events.{seen_of};
 ghost use Rattle.mctpctl_serve.specs.Logs.{AddsEvent, AddsText, capture_contents, capture_failed, capture_text, drop_text, drops_contents, drops_failed, port_contents};
 
 use crate::events::{Event, Watch};
@@ -31,7 +31,7 @@ impl<W: Write> TextLog<W> {
 
     /// Adds what an event adds to the drops.
     fn add_drop(&mut self, alloc: Global, event: &Event<'_>)
-        ensures { AddsText W.contents self.old (drop_text (told_of event.now)) self.new }
+        ensures { AddsText W.contents self.old (drop_text (seen_of event.now)) self.new }
     {
         if self.is_open() {
             self.add(drop_text(alloc, event));
@@ -40,7 +40,7 @@ impl<W: Write> TextLog<W> {
 
     /// Adds what an event adds to the capture.
     fn add_packets(&mut self, alloc: Global, event: &Event<'_>)
-        ensures { AddsText W.contents self.old (capture_text (told_of event.now)) self.new }
+        ensures { AddsText W.contents self.old (capture_text (seen_of event.now)) self.new }
     {
         if self.is_open() {
             self.add(capture_text(alloc, event));
@@ -82,7 +82,7 @@ impl<W: Write> TextLog<W> {
 
 /// Writes what happens on a line. The capture has each packet that came and each that was sent, one a line: the
 /// moment in milliseconds, a space, and the bytes in lower-case hex, as `mctpctl show` and `mctpctl answer` read them.
-/// The drops are told one a line too, of frames and of packets. Each line is written whole and flushed. A failure of
+/// The drops are written one a line too, of frames and of packets. Each line is written whole and flushed. A failure of
 /// one of the two, or of memory for its text, ends that one alone: no more is written to it.
 #[derive(Drop)]
 pub struct Log<N, T> {

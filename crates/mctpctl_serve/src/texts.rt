@@ -3,7 +3,7 @@
 ghost use Rattle.std.specs.Prelude.{◌≡◌, ◌≢◌, [], ◌++◌, IfOk, OnOk, OnErr, string_bytes};
 ghost use Rattle.mctp_packet.specs.Packets.{written};
 ghost use Rattle.mctp_packet.specs.Pieces.{written_packets};
-ghost use Rattle.mctpctl_serve.specs.Events.{told_of};
+ghost use Rattle.mctpctl_serve.specs.Events.{seen_of};
 ghost use Rattle.mctpctl_serve.specs.Logs.{capture_line, capture_lines, capture_text, drop_text};
 
 use crate::events::Event;
@@ -14,8 +14,8 @@ use std::alloc::Global;
 
 /// What an event adds to the capture of a line.
 pub(crate) fn capture_text(alloc: Global, event: &Event<'_>) -> Result<String, Memory>
-    ensures text { IfOk result (λ text. string_bytes text ≡ capture_text (told_of event.now)) }
-    ensures memory { OnErr result (capture_text (told_of event.now) ≢ []) }
+    ensures text { IfOk result (λ text. string_bytes text ≡ capture_text (seen_of event.now)) }
+    ensures memory { OnErr result (capture_text (seen_of event.now) ≢ []) }
 {
     match event {
         Event::Came(moment, packet) | Event::SentControl(moment, packet) => {
@@ -74,8 +74,8 @@ fn capture_line(alloc: Global, moment: Moment, packet: &[u8]) -> Result<String, 
 
 /// What an event adds to the drops of a line.
 pub(crate) fn drop_text(alloc: Global, event: &Event<'_>) -> Result<String, Memory>
-    ensures text { IfOk result (λ text. string_bytes text ≡ drop_text (told_of event.now)) }
-    ensures memory { OnErr result (drop_text (told_of event.now) ≢ []) }
+    ensures text { IfOk result (λ text. string_bytes text ≡ drop_text (seen_of event.now)) }
+    ensures memory { OnErr result (drop_text (seen_of event.now) ≢ []) }
 {
     match event {
         Event::NoFrame(fault) => { Ok(format!(in alloc; "mctpctl: no frame: {}\n", fault.name())?) }

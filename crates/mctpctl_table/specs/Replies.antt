@@ -1,4 +1,4 @@
--- What came of a question, and what it tells.
+-- What came of a question, and what it says.
 use Rattle.std.specs.Prelude.{ℕ, ◌==◌, List, length, slice_get, Option, Some, None, option_map, Result, Ok, Err}
 use Rattle.std.specs.Prelude.{if◌then◌else◌}
 use Rattle.mctp_packet.specs.declared.reason.Reason.{Reason}
@@ -29,7 +29,7 @@ abbrev pub reply_to : TypeAndCommand → Option (List ℕ) → Reply
 reply_to kind None = Silence
 reply_to kind (Some bytes) = of_response kind (response_of bytes)
 
--- what a numeric sensor or effecter tells: the present value, and of a sensor its present state
+-- what a numeric sensor or effecter says: the present value, and of a sensor its present state
 abbrev pub numeric_reading : Reply → Option NumericReading
 numeric_reading (Told (GetSensorReading operational enable present previous event reading)) =
     Some (record { value = reading.value; state = Some present; operational = operational })
@@ -37,7 +37,7 @@ numeric_reading (Told (GetNumericEffecterValue operational values)) =
     Some (record { value = values.present.value; state = None; operational = operational })
 numeric_reading reply = None
 
--- what one field of a state sensor or effecter tells: its present state
+-- what one field of a state sensor or effecter says: its present state
 
 abbrev pub of_sensor : SensorStateField → StateReading
 of_sensor field = record { state = field.present; operational = field.operational }

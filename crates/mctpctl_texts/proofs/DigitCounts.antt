@@ -8,7 +8,7 @@ some_power : (k : ℕ) → 0 < 10 ^ k
 some_power zero = omega arith
 some_power (suc k) = omega (arith, some_power k, pow-succ' 10 k)
 
--- the power of ten that a number reaches tells how many digits it has
+-- the power of ten that a number reaches gives how many digits it has
 pub digits_by_power : (k n : ℕ) → 10 ^ k ≤ n → n < 10 * 10 ^ k → n < 2 ^ 64 → length (decimal n) ≡ k + 1
 digits_by_power zero n low high small = ap length (decimal_digit n (omega arith))
 digits_by_power (suc k) n low high small =

@@ -3,7 +3,7 @@ pub mod GatheredParts
 pub mod ItemTexts
 pub mod PacketLines
 pub mod PairTables
-pub mod PlacesTold
+pub mod PlacesListed
 pub mod WrittenParts
 pub mod DigitCounts
 pub mod Numbers

@@ -4,17 +4,17 @@ use Rattle.std.proofs.lemmas.Bool.{cases_lt}
 use Rattle.std.proofs.lemmas.List.{drop-drop, drop-set-lt, get_or-set_same, get_or-set_other, take_more_set}
 use Rattle.std.proofs.lemmas.Option.{get_or_from_slice_get, slice_get-get_or}
 use Rattle.hex.specs.Hex.{encode_lower, encode_with, lower_digits}
-use Rattle.mctpctl_texts.specs.HexPairs.{TellsPairs}
+use Rattle.mctpctl_texts.specs.HexPairs.{HoldsPairs}
 
 -- ---- a table that is being filled
 
 -- the first bytes of a table have been asked for
-unfoldable pub TellsFront : List (List ℕ) → ℕ → Type 0
-TellsFront pairs n = (byte : ℕ) → byte < n → slice_get pairs byte ≡ Some (encode_lower (byte ∷ []))
+unfoldable pub HoldsFront : List (List ℕ) → ℕ → Type 0
+HoldsFront pairs n = (byte : ℕ) → byte < n → slice_get pairs byte ≡ Some (encode_lower (byte ∷ []))
 
-pub none_told : (pairs : List (List ℕ)) → TellsFront pairs 0
-unfolding TellsFront
-none_told pairs byte below = absurd (omega arith)
+pub none_held : (pairs : List (List ℕ)) → HoldsFront pairs 0
+unfolding HoldsFront
+none_held pairs byte below = absurd (omega arith)
 
 set_same : (pairs : List (List ℕ)) (n : ℕ) (pair : List ℕ) → n < length pairs → slice_get (slice_set pairs n pair) n ≡ Some pair
 set_same pairs n pair room =
@@ -27,20 +27,20 @@ set_other pairs n byte pair known before room is =
     slice_get-get_or (slice_set pairs n pair) byte [] (omega (arith, length-set pairs n pair))
     ∙ ap Some (get_or-set_other pairs n byte pair [] (λ same. absurd (omega arith)) ∙ get_or_from_slice_get pairs byte known [] is)
 
-pub one_more_told : (pairs : List (List ℕ)) (n : ℕ) (pair : List ℕ) → n < length pairs → TellsFront pairs n
-    → pair ≡ encode_lower (n ∷ []) → TellsFront (slice_set pairs n pair) (n + 1)
-unfolding TellsFront
-one_more_told pairs n pair room told is byte below =
+pub one_more_held : (pairs : List (List ℕ)) (n : ℕ) (pair : List ℕ) → n < length pairs → HoldsFront pairs n
+    → pair ≡ encode_lower (n ∷ []) → HoldsFront (slice_set pairs n pair) (n + 1)
+unfolding HoldsFront
+one_more_held pairs n pair room in_all is byte below =
     elim (cases_lt byte n) [
-      | inl before ↦ set_other pairs n byte pair (encode_lower (byte ∷ [])) before room (told byte before)
+      | inl before ↦ set_other pairs n byte pair (encode_lower (byte ∷ [])) before room (in_all byte before)
       | inr last ↦
           let same : byte ≡ n = omega arith in
           rw same (set_same pairs n pair room ∙ ap Some is)
     ]
 
-pub all_told : (pairs : List (List ℕ)) (n : ℕ) → 256 ≤ n → TellsFront pairs n → TellsPairs pairs
-unfolding TellsFront TellsPairs
-all_told pairs n all told byte below = told byte (omega arith)
+pub all_held : (pairs : List (List ℕ)) (n : ℕ) → 256 ≤ n → HoldsFront pairs n → HoldsPairs pairs
+unfolding HoldsFront HoldsPairs
+all_held pairs n all in_all byte below = in_all byte (omega arith)
 
 -- ---- a text that is being written
 
@@ -56,11 +56,11 @@ unfolding encode_with
 both_digits pair byte is = rw is refl
 
 -- the two digits that the table has of a byte
-pair_told : (pairs : List (List ℕ)) (byte : ℕ) → TellsPairs pairs → byte < 256
+pair_held : (pairs : List (List ℕ)) (byte : ℕ) → HoldsPairs pairs → byte < 256
     → get_or (get_or pairs byte []) 0 0 ∷ get_or (get_or pairs byte []) 1 0 ∷ [] ≡ encode_lower (byte ∷ [])
-unfolding TellsPairs
-pair_told pairs byte told small =
-    both_digits (get_or pairs byte []) byte (get_or_from_slice_get pairs byte (encode_lower (byte ∷ [])) [] (told byte small))
+unfolding HoldsPairs
+pair_held pairs byte in_all small =
+    both_digits (get_or pairs byte []) byte (get_or_from_slice_get pairs byte (encode_lower (byte ∷ [])) [] (in_all byte small))
 
 pub nothing_written : [] ≡ encode_lower []
 unfolding encode_with
@@ -85,15 +85,15 @@ rest_kept room old place high low kept =
     ∙ drop-set-lt (2 * (place + 1)) room (2 * place) high (omega arith)
     ∙ rw end (sym (drop-drop 2 (2 * place) room) ∙ ap (drop 2) kept ∙ drop-drop 2 (2 * place) old)
 
-pub pair_added : (pairs : List (List ℕ)) (room bytes : List ℕ) (place byte : ℕ) → TellsPairs pairs → byte < 256
+pub pair_added : (pairs : List (List ℕ)) (room bytes : List ℕ) (place byte : ℕ) → HoldsPairs pairs → byte < 256
     → byte ≡ get_or bytes place 0 → place < length bytes → 2 * place + 1 < length room
     → take (2 * place) room ≡ encode_lower (take place bytes)
     → take (2 * (place + 1)) (slice_set (slice_set room (2 * place) (get_or (get_or pairs byte []) 0 0)) (2 * place + 1) (get_or (get_or pairs byte []) 1 0))
     ≡ encode_lower (take (place + 1) bytes)
-pair_added pairs room bytes place byte told small is here within so_far =
+pair_added pairs room bytes place byte in_all small is here within so_far =
     let longer : take (place + 1) bytes ≡ take place bytes ++ byte ∷ [] = rw (add-one, is) (take-suc bytes place 0 here) in
     two_more room place (get_or (get_or pairs byte []) 0 0) (get_or (get_or pairs byte []) 1 0) within
     ∙ ap (λ front. front ++ get_or (get_or pairs byte []) 0 0 ∷ get_or (get_or pairs byte []) 1 0 ∷ []) so_far
-    ∙ ap (λ pair. encode_lower (take place bytes) ++ pair) (pair_told pairs byte told small)
+    ∙ ap (λ pair. encode_lower (take place bytes) ++ pair) (pair_held pairs byte in_all small)
     ∙ sym (encoded_after lower_digits (take place bytes) (byte ∷ []))
     ∙ sym (ap encode_lower longer)

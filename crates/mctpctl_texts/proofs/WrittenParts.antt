@@ -11,10 +11,10 @@ and_last (Ok done) a b c front back first last = Appends-trans a b c front back 
 and_last (Err fault) a b c front back first last = tt
 
 -- a text that is the same
-pub told_as : {E : Type 0} (result : Result Unit E) (a b : Option (List ℕ)) (text other : List ℕ)
+pub given_as : {E : Type 0} (result : Result Unit E) (a b : Option (List ℕ)) (text other : List ℕ)
     → text ≡ other → OnOk result (Appends a b text) → OnOk result (Appends a b other)
-told_as (Ok done) a b text other same written = subst (Appends a b) same written
-told_as (Err fault) a b text other same written = tt
+given_as (Ok done) a b text other same written = subst (Appends a b) same written
+given_as (Err fault) a b text other same written = tt
 
 encoded_after : (table front back : List ℕ) → encode_with table front ++ encode_with table back ≡ encode_with table (front ++ back)
 unfolding encode_with

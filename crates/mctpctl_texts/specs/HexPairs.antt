@@ -3,5 +3,5 @@ use Rattle.std.specs.Prelude.{◌≡◌, ◌<◌, ℕ, List, [], ◌∷◌, slic
 use Rattle.hex.specs.Hex.{encode_lower}
 
 -- at the place of each byte stand its two digits
-unfoldable pub TellsPairs : List (List ℕ) → Type 0
-TellsPairs pairs = (byte : ℕ) → byte < 256 → slice_get pairs byte ≡ Some (encode_lower (byte ∷ []))
+unfoldable pub HoldsPairs : List (List ℕ) → Type 0
+HoldsPairs pairs = (byte : ℕ) → byte < 256 → slice_get pairs byte ≡ Some (encode_lower (byte ∷ []))

@@ -13,7 +13,7 @@ use Rattle.pldm_device.specs.Devices.{Device}
 use Rattle.pldm_device.specs.Getters.{reading_of, states_of, value_of}
 use Rattle.pldm_requester.specs.Courses.{Progress, Waiting, Answered, GaveUp}
 
--- how a request stands; an answered one is told with its response message
+-- how a request stands; an answered one stands with its response message
 abbrev pub progress_text : Progress → List ℕ
 progress_text Waiting = codes "open"
 progress_text (Answered message) = codes "answered " ++ encode_lower message
@@ -36,10 +36,10 @@ order_line (first ∷ more) = codes "order" ++ (numbers_text (first ∷ more) ++
 
 -- a line of an ID and a value
 abbrev pub value_line : List ℕ → ℕ × ℤ → List ℕ
-value_line kind told = spaced_line (kind ∷ decimal told.0 ∷ signed_decimal told.1 ∷ [])
+value_line kind pair = spaced_line (kind ∷ decimal pair.0 ∷ signed_decimal pair.1 ∷ [])
 
 abbrev pub states_line : ℕ × List ℕ → List ℕ
-states_line told = codes "state " ++ (decimal told.0 ++ (numbers_text told.1 ++ 10 ∷ []))
+states_line pair = codes "state " ++ (decimal pair.0 ++ (numbers_text pair.1 ++ 10 ∷ []))
 
 abbrev pub tid_line : ℕ → List ℕ
 tid_line tid = spaced_line (codes "tid" ∷ decimal tid ∷ [])
@@ -62,7 +62,7 @@ abbrev pub timely_line : Bool → List ℕ
 timely_line true = codes "timely: yes\n"
 timely_line false = codes "timely: no\n"
 
--- all that is written of a run; the lines of the device are told as they are
+-- all that is written of a run; the lines of the device stand as they are
 abbrev pub report_text : List Step → List Entry → List Request → List ℕ → (device : List ℕ) → Bool → List ℕ
 report_text steps entries requests order device timely =
     entries_text steps entries ++ (requests_text 0 requests ++ (order_line order ++ (device ++ timely_line timely)))

@@ -2,7 +2,7 @@
 
 ghost use Rattle.std.specs.Prelude.{◌≡◌, ◌≤◌, ◌*◌, ◌∷◌, ◌++◌, [], length, drop};
 ghost use Rattle.hex.specs.Hex.{encode_lower};
-ghost use Rattle.mctpctl_texts.specs.HexPairs.{TellsPairs};
+ghost use Rattle.mctpctl_texts.specs.HexPairs.{HoldsPairs};
 
 use std::marker::Model;
 
@@ -19,19 +19,19 @@ pub struct HexPairs {
 
 impl Model for HexPairs {
     ghost use Rattle.std.specs.Prelude.{List, ℕ};
-    ghost use Rattle.mctpctl_texts.specs.HexPairs.{TellsPairs};
+    ghost use Rattle.mctpctl_texts.specs.HexPairs.{HoldsPairs};
 
     ghost Value = { List (List ℕ) };
 
     ghost view = { λ p. p.pairs };
 
-    ghost invariant = { λ p. TellsPairs p.pairs };
+    ghost invariant = { λ p. HoldsPairs p.pairs };
 }
 
 impl HexPairs {
     /// Asks `hex` for each byte.
     pub fn new() -> HexPairs
-        ensures { TellsPairs result }
+        ensures { HoldsPairs result }
     {
         let mut pairs = [[0; 2]; BYTES];
         for byte in 0..BYTES {

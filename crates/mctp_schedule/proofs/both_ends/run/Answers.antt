@@ -5,7 +5,7 @@ use Rattle.pldm_wire.specs.declared.busy_time.BusyTime.TheVariants.{All}
 use Rattle.pldm_responder.specs.Performing.{rules_of}
 use Rattle.mctp_schedule.specs.Entries.{entries, requests_after}
 use Rattle.mctp_schedule.specs.FirstArrivals.{order}
-use Rattle.mctp_schedule.specs.Logs.{told}
+use Rattle.mctp_schedule.specs.Logs.{reached}
 use Rattle.pldm_responder.specs.Performing.{performed}
 use Rattle.pldm_responder.specs.ResponderViews.{held_of}
 use Rattle.mctp_schedule.specs.Headline.{Headline}
@@ -112,7 +112,7 @@ returns-clause-report g c =
       each_step = runs.entries ∙ ap (λ steps. entries setting steps) all;
       each_request = requests_are setting (world setting past) journal.requests.items runs.requests ∙ ap (λ steps. requests_after setting (world setting steps)) all;
       in_order = runs.order ∙ ap (λ steps. order g.row.P-State.Denot setting.window setting.keep (world setting steps).log) all;
-      state = c.into_platform-device.ensures.state ∙ runs.device.left.state ∙ ap (performed setting.device All setting.window setting.keep setting.start) runs.device.events ∙ ap (λ steps. performed setting.device All setting.window setting.keep setting.start (told (world setting steps).log)) all;
+      state = c.into_platform-device.ensures.state ∙ runs.device.left.state ∙ ap (performed setting.device All setting.window setting.keep setting.start) runs.device.events ∙ ap (λ steps. performed setting.device All setting.window setting.keep setting.start (reached (world setting steps).log)) all;
       commands = subst (λ steps. has_performed (commands_performed g.row.P-State.Denot c.args.setup.window c.args.setup.keep (world setting steps).log)) all given;
       tested = runs.timely ∙ ap (λ steps. is_timely setting steps) all;
       headline = λ timely.

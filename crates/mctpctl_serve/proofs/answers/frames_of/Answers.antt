@@ -3,7 +3,7 @@ use Rattle.std.proofs.Common.{◌≡◌, ℕ, List, ◌++◌, ap, ◌∙◌, ari
 use Rattle.mctp_packet.specs.Packets.{Packet, written}
 use Rattle.mctp_packet.specs.Pieces.{packet_at}
 use Rattle.mctp_serial.specs.Frames.{frame}
-use Rattle.mctpctl_serve.proofs.AnswerFrames.{told_more}
+use Rattle.mctpctl_serve.proofs.AnswerFrames.{more_seen}
 use Rattle.mctpctl_serve.proofs.answers.frames_of.Goals as goal
 
 pub loop-i-preserved : goal.loop-i-preserved
@@ -16,7 +16,7 @@ loop-i-preserved c =
     let added : c.try_extend_from_slice.new.self.items ≡ c.loop-i.frames.items ++ frame (spelled c.loop-i.i) =
     c.in-Ok.ensures.ok ∙ ap (λ l. c.loop-i.frames.items ++ l) (c.deref.ensures.0 ∙ framed) in
     record {
-      added = told_more frame spelled c.loop-i.i c.loop-i.frames.items _ i.added added;
+      added = more_seen frame spelled c.loop-i.i c.loop-i.frames.items _ i.added added;
       few = omega (arith, i.few, c.in-Ok.ensures.len, c.deref.ensures.1);
       end = i.end;
     }

@@ -1,5 +1,5 @@
 -- Event after event.
-use Rattle.mctpctl_serve.proofs.LogsTold.{logs_have_all}
+use Rattle.mctpctl_serve.proofs.LogsSeen.{logs_have_all}
 use Rattle.mctpctl_serve.proofs.laws.logs_have_all_events.Goals as goal
 
 pub returns : goal.returns

@@ -1,4 +1,4 @@
--- The byte that ends a packet's frame, or tells that there is none.
+-- The byte that ends a packet's frame, or shows that there is none.
 use Rattle.std.proofs.Common.{◌≡◌, refl}
 use Rattle.mctp_serial.specs.Readings.{step}
 use Rattle.mctp_serial.specs.declared.reader.FrameEvent.TheVariants.{Nothing, Packet, Dropped}
@@ -16,7 +16,7 @@ returns-in-Nothing-clause-heard g c =
 
 pub returns-in-Packet-clause-heard : goal.returns-in-Packet-clause-heard
 returns-in-Packet-clause-heard g c =
-    let stepped : step c.args.line.now.frames c.args.byte ≡ record { told = Packet (record { items = c.deref.result.now }); next = c.take.new.self } =
+    let stepped : step c.args.line.now.frames c.args.byte ≡ record { event = Packet (record { items = c.deref.result.now }); next = c.take.new.self } =
     rw c.deref.ensures.0 c.in-Packet.ensures in
     on_ok c.hear_packet.result _ _
     (hears_packet g.P.Platform.performed (rules_of g.P.Platform.answer g.P.Platform.after g.P.Platform.sensed) g.L.Watch.sees

@@ -36,7 +36,7 @@ returns-in_ok-answer_drop-in-Dropped-clause-heard g c =
     (shown g.C.Ticks.to_come g.W.Write.contents after c.answer_drop.new.writer) c.in-Ok.reading now c.saw.new.self (outcome.Dropped c.in-Dropped.reason)
     same c.in-Ok.ensures gives
     (ap (λ h. answerers h control) moved ∙ ap (in_step received now) c.in_ok-answer_drop-in-Dropped.ensures.control)
-    c.in_ok-answer_drop-in-Dropped.ensures.bytes c.saw.ensures c.in_ok-answer_drop-in-Dropped.ensures.told
+    c.in_ok-answer_drop-in-Dropped.ensures.bytes c.saw.ensures c.in_ok-answer_drop-in-Dropped.ensures.seen
     (subst (λ p. g.P.Platform.performed c.args.line.now.responder.platform (received_commands held now c.args.packet.now) p) (sym c.keep_in_step.ensures.platform) c.in-Ok-receive_message.ensures.received.performed)
     (c.keep_in_step.ensures.bounds ∙ c.in-Ok-receive_message.ensures.received.bounds)
 

@@ -3,7 +3,7 @@ use Rattle.std.proofs.Common.{◌≡◌, ◌<◌, ◌++◌, ap, ◌∙◌, strin
 use Rattle.mctp_packet.specs.Packets.{Packet, written}
 use Rattle.mctp_packet.specs.Pieces.{packet_at, piece_count}
 use Rattle.mctpctl_serve.specs.Logs.{capture_line}
-use Rattle.mctpctl_serve.proofs.AnswerFrames.{told_more}
+use Rattle.mctpctl_serve.proofs.AnswerFrames.{more_seen}
 use Rattle.mctpctl_serve.proofs.Hearing.{on_err}
 use Rattle.mctpctl_serve.proofs.LinesHaveBytes.{capture_lines_have_bytes}
 use Rattle.mctpctl_serve.proofs.texts.capture_lines.Goals as goal
@@ -16,7 +16,7 @@ loop-i-preserved c =
     let added : string_bytes c.push_packet.new.lines ≡ string_bytes c.loop-i.lines ++ line (written (at c.loop-i.i)) =
     c.in_ok-push_packet.ensures ∙ ap (λ (p : Packet). string_bytes c.loop-i.lines ++ line (written p)) c.in-Some.ensures.value in
     record {
-      added = told_more line (λ k. written (at k)) c.loop-i.i (string_bytes c.loop-i.lines) (string_bytes c.push_packet.new.lines) i.added added;
+      added = more_seen line (λ k. written (at k)) c.loop-i.i (string_bytes c.loop-i.lines) (string_bytes c.push_packet.new.lines) i.added added;
       end = i.end;
     }
 

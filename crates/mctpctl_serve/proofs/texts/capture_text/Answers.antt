@@ -2,11 +2,11 @@
 use Rattle.std.proofs.Common.{◌≡◌, sym, ◌∙◌, rules}
 use Rattle.mctpctl_serve.proofs.Hearing.{on_err}
 use Rattle.mctpctl_serve.proofs.LinesHaveBytes.{capture_line_has_bytes}
-use Rattle.mctpctl_serve.specs.Events.{told_of}
+use Rattle.mctpctl_serve.specs.Events.{seen_of}
 use Rattle.mctpctl_serve.specs.Logs.{capture_line, capture_text}
 use Rattle.mctpctl_serve.proofs.texts.capture_text.Goals as goal
 
 pub returns-in-Came-clause-memory : goal.returns-in-Came-clause-memory
 returns-in-Came-clause-memory c =
-    let line : capture_text (told_of c.args.event.now) ≡ capture_line c.in-Came.moment c.in-Came.packet.now = search rules in
+    let line : capture_text (seen_of c.args.event.now) ≡ capture_line c.in-Came.moment c.in-Came.packet.now = search rules in
     on_err c.capture_line.result _ (λ none. capture_line_has_bytes c.in-Came.moment c.in-Came.packet.now (sym line ∙ none))

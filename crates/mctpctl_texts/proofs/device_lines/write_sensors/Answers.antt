@@ -4,7 +4,7 @@ use Rattle.std.specs.Io.KnownBytes.{Appends}
 use Rattle.std.specs.List.{slice_get}
 use Rattle.std.proofs.lemmas.Option.{slice_get_within}
 use Rattle.mctpctl_texts.specs.ReportTexts.{value_line}
-use Rattle.mctpctl_texts.proofs.PlacesTold.{made_of, place_below, told_to_end, written_further}
+use Rattle.mctpctl_texts.proofs.PlacesListed.{made_of, place_below, listed_to_end, written_further}
 use Rattle.mctpctl_texts.proofs.device_lines.write_sensors.Goals as goal
 use Rattle.pldm_device.specs.Getters.{reading_of}
 
@@ -13,7 +13,7 @@ overflow_add-place g c =
     let found = made_of reading_of (slice_get c.args.device.now.numeric_sensors c.loop-id.place) (c.in-Some.id, c.in-Some.value) (sym c.sensor.ensures.value ∙ c.in-Some.is) in
     let below = place_below c.args.device.now.numeric_sensors c.loop-id.place found.thing c.sensor.ensures.ascending found.found_is in
     let fits : c.in-Some.id < 65536 = search rules in
-    omega (arith, below, ap (λ told. told.0) found.made, fits)
+    omega (arith, below, ap (λ pair. pair.0) found.made, fits)
 
 pub loop-id-smaller : goal.loop-id-smaller
 loop-id-smaller g c =
@@ -27,7 +27,7 @@ loop-id-preserved g c =
     let line : Appends (g.O.TextWriter.contents c.loop-id.out) (g.O.TextWriter.contents c.write_value_line.new.out) (value_line (codes "sensor") (c.in-Some.id, c.in-Some.value)) = search rules in
     record {
       written = written_further (λ entry. value_line (codes "sensor") (reading_of entry)) c.args.device.now.numeric_sensors c.loop-id.place found.thing _ _ _ _ i.written line
-          (ap (λ told. value_line (codes "sensor") told) found.made) found.found_is;
+          (ap (λ pair. value_line (codes "sensor") in_all) found.made) found.found_is;
       works = c.in_ok-write_value_line.ensures.ok ∙ i.works;
       within = omega (arith, slice_get_within c.args.device.now.numeric_sensors c.loop-id.place found.thing found.found_is);
     }
@@ -35,7 +35,7 @@ loop-id-preserved g c =
 pub returns : goal.returns
 returns g c =
     let i = c.loop-id.invariant in
-    let all = told_to_end (λ entry. value_line (codes "sensor") (reading_of entry)) reading_of c.args.device.now.numeric_sensors c.loop-id.place _ refl (sym c.sensor.ensures.value ∙ c.in_default.is) in
+    let all = listed_to_end (λ entry. value_line (codes "sensor") (reading_of entry)) reading_of c.args.device.now.numeric_sensors c.loop-id.place _ refl (sym c.sensor.ensures.value ∙ c.in_default.is) in
     record {
       text = subst (Appends _ _) all i.written;
       ok = i.works;

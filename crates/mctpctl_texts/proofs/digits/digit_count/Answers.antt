@@ -1,4 +1,4 @@
--- The power of ten that the number reaches tells it.
+-- The power of ten that the number reaches gives it.
 use Rattle.std.proofs.Common.{sym, arith}
 use Rattle.mctpctl_texts.proofs.DigitCounts.{digit_of_zero, digits_by_power}
 use Rattle.mctpctl_texts.proofs.digits.digit_count.Goals as goal

@@ -8,7 +8,7 @@ use Rattle.mctpctl_texts.proofs.entry_text.gather_entry.Goals.{in-Nothing, in-Op
 
 pub returns : goal.returns
 returns g c =
-    let told : c.match-entry.page ≡ c.args.page.now ++ (entry_text (borrowed_entry c.args.entry) ++ 10 ∷ []) =
+    let in_all : c.match-entry.page ≡ c.args.page.now ++ (entry_text (borrowed_entry c.args.entry) ++ 10 ∷ []) =
     elim c.match-entry.branch [
       | in-Nothing w ↦ search rules
       | in-Opened w ↦ search rules
@@ -19,4 +19,4 @@ returns g c =
       | in-Sensed w ↦ search rules
       | in-Restarted w ↦ search rules
     ] in
-    record { text = grown_to _ _ _ _ told; ok = refl; err = tt }
+    record { text = grown_to _ _ _ _ in_all; ok = refl; err = tt }

@@ -3,7 +3,7 @@ use Rattle.std.proofs.Common.{rules, ◌≡◌, ◌++◌, ◌∷◌, [], Ok, OnO
 use Rattle.std.specs.Fmt.{decimal}
 use Rattle.std.specs.Io.KnownBytes.{Appends}
 use Rattle.mctpctl_texts.specs.ShownLines.{byte_text, command_text, data_text}
-use Rattle.mctpctl_texts.proofs.WrittenParts.{and_last, told_as}
+use Rattle.mctpctl_texts.proofs.WrittenParts.{and_last, given_as}
 use Rattle.mctpctl_texts.proofs.message_line.write_response_line.Goals as goal
 use Rattle.pldm_wire.specs.Responses.{response_of}
 
@@ -18,7 +18,7 @@ returns g c =
     ap (λ t. codes "  response " ++ t)
     (append_assoc (decimal r.id) (32 ∷ (command_text r.kind ++ 32 ∷ [])) given ∙ ap (λ t. decimal r.id ++ 32 ∷ t) (append_assoc (command_text r.kind) (32 ∷ []) given)) in
     rw read (record {
-      text = told_as _ _ _ _ _ same (and_last _ _ _ _ _ _ first last);
+      text = given_as _ _ _ _ _ same (and_last _ _ _ _ _ _ first last);
       ok = search rules;
       err = search rules;
     })

@@ -5,7 +5,7 @@ use Rattle.std.specs.List.{slice_get}
 use Rattle.mctp_packet.specs.Packets.{written}
 use Rattle.mctp_packet.specs.Pieces.{written_packets}
 use Rattle.mctpctl_texts.specs.OutcomeTexts.{packet_text, packets_text}
-use Rattle.mctpctl_texts.proofs.PlacesTold.{written_further}
+use Rattle.mctpctl_texts.proofs.PlacesListed.{written_further}
 use Rattle.mctp_schedule.proofs.WrittenPlaces.{as_many, packet_stands}
 use Rattle.mctpctl_texts.proofs.outcome.write_packets.Goals as goal
 

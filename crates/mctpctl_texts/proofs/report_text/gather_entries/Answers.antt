@@ -39,14 +39,14 @@ loop-line-preserved g c =
     let line = entry_line moment entry in
     let moments = gives_first (λ moment. moment) c.loop-line.moments c.next.new.self c.next.result c.unwrap.result c.next.ensures.steps c.unwrap.ensures in
     let entries = gives_first borrowed_entry c.loop-line.rest c.next-in-loop-line.new.self c.next-in-loop-line.result c.unwrap-in-loop-line.result c.next-in-loop-line.ensures.steps c.unwrap-in-loop-line.ensures in
-    let told : moment ≡ c.unwrap.result = c.set.ensures ∙ c.get.ensures.value in
+    let in_all : moment ≡ c.unwrap.result = c.set.ensures ∙ c.get.ensures.value in
     record {
       text = i.text ++ line;
       written = Appends-trans _ _ _ _ _ i.written (subst (Appends _ _) (line_of_parts moment entry)
           (Appends-trans _ _ _ _ _ c.in_ok-gather_moment.ensures.gathered.text c.in_ok-gather_entry.ensures.text));
       works = c.in_ok-gather_entry.ensures.ok ∙ c.in_ok-gather_moment.ensures.gathered.ok ∙ i.works;
       whole = entries_step i.text c.loop-line.moments c.next.new.self c.loop-line.rest c.next-in-loop-line.new.self moment entry
-          (moments ∙ ap (λ m. m ∷ c.next.new.self) (sym told)) entries ∙ i.whole;
+          (moments ∙ ap (λ m. m ∷ c.next.new.self) (sym in_all)) entries ∙ i.whole;
       moments_left = omega (arith, ap length moments, i.moments_left);
       entries_left = omega (arith, ap length entries, i.entries_left);
     }

@@ -4,7 +4,7 @@ use Rattle.std.specs.Fmt.{decimal}
 use Rattle.std.specs.List.{slice_get}
 use Rattle.std.proofs.lemmas.Option.{slice_get-get_or}
 use Rattle.mctpctl_texts.proofs.GatheredParts.{after_room, grown_to}
-use Rattle.mctpctl_texts.proofs.PlacesTold.{written_further}
+use Rattle.mctpctl_texts.proofs.PlacesListed.{written_further}
 use Rattle.mctpctl_texts.proofs.report_text.gather_numbers.Goals as goal
 
 pub loop-i-preserved : goal.loop-i-preserved

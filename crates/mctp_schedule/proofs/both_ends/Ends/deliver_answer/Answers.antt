@@ -20,7 +20,7 @@ use Rattle.mctp_schedule.proofs.CommandsPerformed.{answers_perform_none}
 use Rattle.mctp_schedule.proofs.FoundRequester.{finds, its_side}
 use Rattle.mctp_schedule.proofs.HandedAnswerPackets.{asked_of, done_is, entry_is, not_some, timely_is, written as brought}
 use Rattle.mctp_schedule.proofs.ListPlaces.{get_or, or_get}
-use Rattle.mctp_schedule.proofs.AfterAnswerPacket.{hand_runs, tag_kept, told_below}
+use Rattle.mctp_schedule.proofs.AfterAnswerPacket.{hand_runs, tag_kept, answered_below}
 use Rattle.mctp_schedule.proofs.AskerCalls.{is_answered, reports_reply}
 use Rattle.mctp_schedule.proofs.both_ends.Ends.deliver_answer.Goals as goal
 
@@ -136,7 +136,7 @@ enter_received-requires g c =
     let asker = c.in-Some-index_mut.asker in
     let same = place_holds c.args.self.now.places.items f.q.source c.from-place.result found s.0 asker f.at c.index_mut.ensures.value s.1 c.in-Some-index_mut.is in
     let gave = c.in_ok-got-in-Some-index_mut in
-    told_below setting (world setting past) (time_now past) f.q.source s.0 s.2 (written c.in-Some.handed) c.answered.result (length c.args.self.now.journal.requests.items) (sym running.counted)
+    answered_below setting (world setting past) (time_now past) f.q.source s.0 s.2 (written c.in-Some.handed) c.answered.result (length c.args.self.now.journal.requests.items) (sym running.counted)
     (subst (λ (x : Side). ReportsReply x.numbers (arrived_by (held_of x.station) (passed (held_of x.station) (written c.in-Some.handed))) c.answered.result) same (reports_reply asker c.receive.new.self c.args.now (written c.in-Some.handed) gave.got gave.ensures.held gave.ensures.got gave.ensures.numbers c.answered.result c.answered.ensures))
 
 pub returns : goal.returns
@@ -162,7 +162,7 @@ returns g c = record {
         same_numbers = received.numbers ∙ ap (λ (x : Side). x.numbers) same;
         new_held = subst (λ (x : Side). IsHeld (held_of c.receive.new.self.station) (received_held (held_of x.station) c.args.now (written c.in-Some.handed))) same received.held;
         got_is = received.got ∙ ap (λ (x : Side). got_at (held_of x.station) (written c.in-Some.handed)) same;
-        tells = subst (λ (x : Side). ReportsReply x.numbers (arrived_by (held_of x.station) (passed (held_of x.station) (written c.in-Some.handed))) c.answered.result) same (reports_reply asker c.receive.new.self c.args.now (written c.in-Some.handed) gave.got received.held received.got received.numbers c.answered.result c.answered.ensures);
+        reports = subst (λ (x : Side). ReportsReply x.numbers (arrived_by (held_of x.station) (passed (held_of x.station) (written c.in-Some.handed))) c.answered.result) same (reports_reply asker c.receive.new.self c.args.now (written c.in-Some.handed) gave.got received.held received.got received.numbers c.answered.result c.answered.ensures);
         time_is = ap (λ n. nat_le n c.number-own.result) before ∙ ap (nat_le (c.count.result - 8)) own ∙ tag_kept c.count.result f.q.own ∙ ap (λ n. nat_le n (f.q.own + 8)) count;
         requests = entered.requests;
         counted = entered.all;

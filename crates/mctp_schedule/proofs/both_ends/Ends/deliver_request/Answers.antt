@@ -11,7 +11,7 @@ use Rattle.mctp_schedule.specs.ArrivedIds.{ids_at}
 use Rattle.mctp_schedule.specs.Entries.{as_it_stands}
 use Rattle.mctp_schedule.specs.Requests.{Request}
 use Rattle.mctp_schedule.specs.FirstArrivals.{fresh_of}
-use Rattle.mctp_schedule.specs.Logs.{count_of, told}
+use Rattle.mctp_schedule.specs.Logs.{count_of, reached}
 use Rattle.mctp_schedule.specs.PerformedCommands.{commands_if}
 use Rattle.mctp_schedule.specs.HeldRuns.{held_by}
 use Rattle.mctp_schedule.specs.Running.{setting_of}
@@ -47,7 +47,7 @@ returns-then-number-len g c = record {
       let count = running.counted in
       let past_all : count_of log ≤ c.args.number = omega (arith, len, above, count) in
       let platform = c.args.self.now.responder.platform in
-      subst (λ o. g.P.Platform.performed platform (commands_if (fresh_of terms.window terms.keep (told {S = g.row.P-State.Denot} log) c.args.now o) o) platform) (sym (none_past log c.args.number past_all))
+      subst (λ o. g.P.Platform.performed platform (commands_if (fresh_of terms.window terms.keep (reached {S = g.row.P-State.Denot} log) c.args.now o) o) platform) (sym (none_past log c.args.number past_all))
       (g.met.P.Platform.none_performed platform);
 }
 

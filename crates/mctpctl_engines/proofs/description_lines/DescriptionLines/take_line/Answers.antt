@@ -7,14 +7,14 @@ use Rattle.mctpctl_engines.proofs.description_lines.DescriptionLines.take_line.G
 pub returns-in-Ok-clause-meets : goal.returns-in-Ok-clause-meets
 returns-in-Ok-clause-meets c = λ past.
     let tested : is_divider c.args.line.now ≡ true = search rules in
-    let told : c.deref.result.now ≡ c.args.self.now.text.items = search rules in
-    begins_past past c.args.self.now.text.items c.deref.result.now c.args.line.now c.in-Ok.description told tested c.in-Ok.ensures.meets
+    let reported : c.deref.result.now ≡ c.args.self.now.text.items = search rules in
+    begins_past past c.args.self.now.text.items c.deref.result.now c.args.line.now c.in-Ok.description reported tested c.in-Ok.ensures.meets
 
 pub returns-in-Err-clause-meets : goal.returns-in-Err-clause-meets
 returns-in-Err-clause-meets c = λ past.
     let tested : is_divider c.args.line.now ≡ true = search rules in
-    let told : c.deref.result.now ≡ c.args.self.now.text.items = search rules in
-    divider_ends past c.args.self.now.text.items c.deref.result.now c.args.line.now c.in-Err.fault told tested c.in-Err.ensures.meets
+    let reported : c.deref.result.now ≡ c.args.self.now.text.items = search rules in
+    divider_ends past c.args.self.now.text.items c.deref.result.now c.args.line.now c.in-Err.fault reported tested c.in-Err.ensures.meets
 
 pub returns-clause-meets : goal.returns-clause-meets
 returns-clause-meets c = λ past.

@@ -1,4 +1,4 @@
--- A line that is refused is told at the end.
+-- A line that is refused is reported at the end.
 use Rattle.std.proofs.Common.{ap}
 use Rattle.mctpctl_engines.specs.ScheduleLines.{good_lines_write, schedule_writes}
 use Rattle.mctpctl_engines.proofs.ScheduleGlue.{line_refused}

@@ -1,12 +1,12 @@
 -- The text of an event.
 use Rattle.std.proofs.Common.{◌≡◌, false, refl, rules, string_bytes}
 use Rattle.mctpctl_serve.proofs.TextsAdded.{text_added}
-use Rattle.mctpctl_serve.specs.Events.{told_of}
+use Rattle.mctpctl_serve.specs.Events.{seen_of}
 use Rattle.mctpctl_serve.specs.Logs.{capture_text}
 use Rattle.mctpctl_serve.proofs.log.TextLog.add_packets.Goals as goal
 
 pub returns-then-is_open : goal.returns-then-is_open
 returns-then-is_open g c =
     let works : c.args.self.now.failed ≡ false = search rules in
-    text_added g.W.Write.contents string_bytes c.capture_text.result (capture_text (told_of c.args.event.now)) c.args.self.now c.add.new.self
+    text_added g.W.Write.contents string_bytes c.capture_text.result (capture_text (seen_of c.args.event.now)) c.args.self.now c.add.new.self
     works (c.if-is_open.ensures.there refl) c.capture_text.ensures.text c.capture_text.ensures.memory (c.add.ensures.adds works) c.add.ensures.memory c.add.ensures.port

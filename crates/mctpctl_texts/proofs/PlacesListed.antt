@@ -1,4 +1,4 @@
--- The things of a device, told place by place.
+-- The things of a device, listed place by place.
 use Rattle.std.proofs.Common.{◌≡◌, ℕ, zero, suc, ◌+◌, ◌<◌, ◌≤◌, List, [], ◌∷◌, ◌++◌, flat_map, get_or, length, take, Option, Some, None, option_map, refl, sym, ap, ◌∙◌, append_assoc, append-nil, subst, arith}
 use Rattle.std.specs.Io.KnownBytes.{Appends}
 use Rattle.std.proofs.KnownBytes.{Appends-trans}
@@ -11,16 +11,16 @@ use Rattle.std.proofs.lemmas.Option.{slice_get-map, slice_get_within, get_or_fro
 use Rattle.pldm_records.specs.ById.{ById}
 use Rattle.pldm_device.specs.Getters.{AscendingIds}
 
--- what was found, where something made of it is told
-pub record IsMadeOf {A B : Type 0} (f : A → B) (found : Option A) (told : B) : Type 0 where
+-- what was found, where something made of it is listed
+pub record IsMadeOf {A B : Type 0} (f : A → B) (found : Option A) (in_all : B) : Type 0 where
   pub thing : A
   pub found_is : found ≡ Some thing
-  pub made : f thing ≡ told
+  pub made : f thing ≡ in_all
 
-pub made_of : {A B : Type 0} (f : A → B) (found : Option A) (told : B) → option_map f found ≡ Some told → IsMadeOf f found told
-made_of f None told e = let none : None ≡ Some told = e in cc
-made_of f (Some thing) told e =
-    let same : Some (f thing) ≡ Some told = e in
+pub made_of : {A B : Type 0} (f : A → B) (found : Option A) (in_all : B) → option_map f found ≡ Some in_all → IsMadeOf f found in_all
+made_of f None in_all e = let none : None ≡ Some in_all = e in cc
+made_of f (Some thing) in_all e =
+    let same : Some (f thing) ≡ Some in_all = e in
     record { thing = thing; found_is = refl; made = cc }
 
 none_found : {A B : Type 0} (f : A → B) (found : Option A) → option_map f found ≡ None → found ≡ None
@@ -32,7 +32,7 @@ none_past [] place e = omega arith
 none_past (first ∷ more) zero e = let some : Some first ≡ None = e in cc
 none_past (first ∷ more) (suc place) e = omega (arith, none_past more place e)
 
--- where nothing is told of a place, it is past the last one
+-- where nothing is listed of a place, it is past the last one
 pub past_last : {A B : Type 0} (f : A → B) (things : List A) (place : ℕ) → option_map f (slice_get things place) ≡ None → length things ≤ place
 past_last f things place e = none_past things place (none_found f (slice_get things place) e)
 
@@ -79,7 +79,7 @@ all_taken [] (suc place) past = refl
 all_taken (first ∷ more) zero past = absurd (omega (arith, past))
 all_taken (first ∷ more) (suc place) past = ap (λ t. first ∷ t) (all_taken more place (omega (arith, past)))
 
--- the text of all things, where nothing is told of the next place
-pub told_to_end : {A B : Type 0} (f : A → List ℕ) (g : A → B) (things : List A) (place : ℕ) (text : List ℕ)
+-- the text of all things, where nothing is listed of the next place
+pub listed_to_end : {A B : Type 0} (f : A → List ℕ) (g : A → B) (things : List A) (place : ℕ) (text : List ℕ)
     → text ≡ flat_map f (take place things) → option_map g (slice_get things place) ≡ None → text ≡ flat_map f things
-told_to_end f g things place text so_far none = so_far ∙ ap (flat_map f) (all_taken things place (past_last g things place none))
+listed_to_end f g things place text so_far none = so_far ∙ ap (flat_map f) (all_taken things place (past_last g things place none))

@@ -1,0 +1,14 @@
+-- Texts that explain a fault.
+use Rattle.std.proofs.Common.{◌≡◌, ℕ, List, ◌++◌, inr, refl}
+use Rattle.pldm_device.specs.declared.description_fault.FileFault.{FileFault}
+use Rattle.pldm_device.specs.declared.description_fault.FileFault.TheVariants.{BadRecord}
+use Rattle.mctpctl_explain.specs.Reasons.{opening, IsReason, Explains}
+
+pub explained : (fault : FileFault) (text rest : List ℕ) → text ≡ opening fault ++ rest → IsReason fault text
+explained fault text rest e = inr (rest, e)
+
+pub flaw_explained : (text : List ℕ) → IsReason BadRecord text
+flaw_explained text = inr (text, refl)
+
+pub explained_at : (fault : FileFault) (text front reason : List ℕ) → text ≡ front ++ reason → IsReason fault reason → Explains fault text
+explained_at fault text front reason e r = inr (inr (front, reason, e, r))
