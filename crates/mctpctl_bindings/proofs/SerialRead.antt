@@ -34,7 +34,7 @@ bytes_read count (b ∷ packet) done rest h =
     ∙ bytes_read count packet (done ++ b ∷ []) rest more
     ∙ ap (λ l. serial_packet (high l) rest) (append_assoc done (b ∷ []) packet))
 
--- the last byte tells the packet
+-- the last byte gives the packet
 end_read : (packet : List ℕ) → serial_packet (high packet) (ending (check_sequence packet)) ≡ Ok packet
 end_read packet =
     let sum = check_sequence packet in
