@@ -78,7 +78,7 @@ module _ {S : Type 0} (setting : BothEnds S) where
   timely [] t = tt
   timely (step ∷ past) t =
       let parts = and_parts (is_timely_action setting (world setting past) step.moment step.action) (is_timely setting past) t in
-      (action_holds (world setting past) step.moment step.action parts.0, reached past parts.1)
+      (action_holds (world setting past) step.moment step.action parts.0, timely past parts.1)
 
   tested : (steps : List Step) → IsTimely setting steps → is_timely setting steps ≡ true
   tested [] h = refl
