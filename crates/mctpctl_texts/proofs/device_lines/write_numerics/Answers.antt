@@ -27,7 +27,7 @@ loop-id-preserved g c =
     let line : Appends (g.O.TextWriter.contents c.loop-id.out) (g.O.TextWriter.contents c.write_value_line.new.out) (value_line (codes "numeric") (c.in-Some.id, c.in-Some.value)) = search rules in
     record {
       written = written_further (λ entry. value_line (codes "numeric") (value_of entry)) c.args.device.now.numeric_effecters c.loop-id.place found.thing _ _ _ _ i.written line
-          (ap (λ pair. value_line (codes "numeric") in_all) found.made) found.found_is;
+          (ap (λ pair. value_line (codes "numeric") pair) found.made) found.found_is;
       works = c.in_ok-write_value_line.ensures.ok ∙ i.works;
       within = omega (arith, slice_get_within c.args.device.now.numeric_effecters c.loop-id.place found.thing found.found_is);
     }

@@ -26,7 +26,7 @@ loop-id-preserved g c =
     let i = c.loop-id.invariant in
     record {
       written = written_further (λ entry. states_line (states_of entry)) c.args.device.now.state_effecters c.loop-id.place found.thing _ _ _ _ i.written c.in_ok-write_states_line.ensures.text
-          (ap (λ pair. states_line in_all) found.made) found.found_is;
+          (ap (λ pair. states_line pair) found.made) found.found_is;
       works = c.in_ok-write_states_line.ensures.ok ∙ i.works;
       within = omega (arith, slice_get_within c.args.device.now.state_effecters c.loop-id.place found.thing found.found_is);
     }
