@@ -2,7 +2,7 @@
 
 use crate::{Due, MAX_OPEN, Status, Timing};
 use mctp_packet::{Body, MAX_MESSAGE_BYTES, Moment, Packets, Route, split, split_into};
-use pldm_wire::{Command, INSTANCE_IDS, Kind, put_command, write_command};
+use pldm_wire::{Command, INSTANCE_IDS, Kind, put_command};
 use std::marker::Model;
 
 /// How a request stands.
@@ -65,6 +65,7 @@ impl Remembered {
     ghost use Rattle.pldm_requester.specs.RequestProgress.{progress_in_status};
 
     /// A request that is opened now: the command goes with this instance ID on this route.
+    // Its message is put where its answer will be: then there is one room for both.
     pub(crate) fn new(id: u8, command: &Command, route: &Route, now: Moment) -> Remembered
         requires { id < INSTANCE_IDS }
         ensures memo { result ≡ record {
@@ -75,19 +76,20 @@ impl Remembered {
         ensures readable { IsCommand command.now }
     {
         pldm_wire::laws::messages_fit();
-        let message = write_command(id, command);
+        let mut message = Body::new();
+        put_command(&mut message, id, command);
         Remembered {
             kind: command.kind(),
             packets: split(route, &message).unwrap(),
             opening: now,
             last_sent: now,
             progress: Progress::Waiting,
-            answer: Body::new(),
+            answer: message,
         }
     }
 
     /// Another request takes its place: the command goes with this instance ID on this route.
-    // Its message is put where its answer will be, so that no room has to be cleared for it.
+    // As at first: so no room has to be cleared for its message.
     pub(crate) fn begin(&mut self, id: u8, command: &Command, route: &Route, now: Moment)
         requires { id < INSTANCE_IDS }
         ensures memo { self.new ≡ record {

@@ -62,6 +62,8 @@ impl<'a> RequestRef<'a> {
 /// The request that these bytes are, or the first reason for which they are none: ShortHeader for
 /// no byte, NotPldm, Integrity, ShortHeader for fewer than 4 bytes, BadPldmHeader, NotRequest,
 /// Datagram (DSP0240, "PLDM message fields"). The reserved bit may be 0 or 1.
+// Inlined, as what it calls: what was read is then written once, where the caller keeps it.
+#[inline(always)]
 pub fn read_request(bytes: &[u8]) -> Result<RequestRef<'_>, Reason>
     ensures exact { result ≡ request_of bytes.now }
     ensures found { IfOk result (λ r. IsRequest bytes.now r.id r.kind r.rest) }
@@ -74,6 +76,7 @@ pub fn read_request(bytes: &[u8]) -> Result<RequestRef<'_>, Reason>
 
 /// As `read_request`, check by check.
 #[tactic(auto, unfolding(crate::specs::Requests::request_of))]
+#[inline(always)]
 fn request_in(bytes: &[u8]) -> Result<RequestRef<'_>, Reason>
     ensures exact { result ≡ request_of bytes.now }
     ensures refused { IfErr result (λ reason. request_refusal bytes.now ≡ Some reason) }
