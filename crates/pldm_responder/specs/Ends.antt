@@ -1,6 +1,6 @@
 -- What contracts see of an answering end: what it holds, and the rows in which answers are kept.
 use Rattle.std.specs.FinMap as map
-use Rattle.std.specs.Prelude.{◌≡◌, ◌≢◌, ℕ, ◌+◌, ◌<◌, ◌≤◌, Bool, true, ◌||◌, ◌==◌, ◌⊎◌, List, [], length, Option, None, Some, is_some, if◌then◌else◌, refl}
+use Rattle.std.specs.Prelude.{◌≡◌, ◌≢◌, ℕ, ◌+◌, ◌<◌, ◌≤◌, Bool, true, ◌||◌, ◌==◌, ◌⊎◌, List, [], length, Option, None, Some, is_some, IsSome, if◌then◌else◌, refl}
 use Rattle.std.specs.List.{All}
 use Rattle.std.specs.Coded.{Coded, code_by, coded×, coded_ℕ, coded_bool, coded_list}
 use Rattle.mctp_packet.specs.Ids.{IsEid}
@@ -10,7 +10,7 @@ use Rattle.mctp_assembly.specs.Opened.{Opened, coded_opened}
 use Rattle.mctp_assembly.specs.declared.key.Key.{Key}
 use Rattle.pldm_wire.specs.contracts.busy_time.BusyTime as busy_type
 use Rattle.pldm_wire.specs.declared.busy_time.BusyTime.{BusyTime}
-use Rattle.pldm_responder.specs.ResponderStates.{ResponderState}
+use Rattle.pldm_responder.specs.ResponderStates.{Entry, ResponderState}
 use Rattle.pldm_responder.specs.Slots.{Rows, coded_rows, kept_in, row_of, source_count}
 use Rattle.pldm_responder.specs.declared.bounds.Bounds.{Bounds}
 use Rattle.pldm_responder.specs.declared.keeping.Keeping.{Keeping}
@@ -185,6 +185,25 @@ pub record GetsRow (source : ℕ) (new old : Rows) : Type 0 where
   pub kept : (other : ℕ) → kept_in new other ≡ kept_in old other
   pub rows : (other : ℕ) → has_row new other ≡ (has_row old other || source == other)
   pub sources : source_count new ≡ count_with old source
+
+-- the answers that are kept to this source were changed so, and those to the others are as before
+pub record ChangesAnswers (source : ℕ) (change : List Entry → List Entry) (new old : Rows) : Type 0 where
+  pub kept : (other : ℕ) → kept_in new other ≡ (if source == other then change (kept_in old other) else kept_in old other)
+  pub window : new.window ≡ old.window
+  pub rows : (other : ℕ) → has_row new other ≡ has_row old other
+  pub sources : source_count new ≡ source_count old
+
+-- the same of an end, of which nothing else changed
+pub record ChangesOnlyAnswers (source : ℕ) (change : List Entry → List Entry) (new old : End) : Type 0 where
+  pub answers : ChangesAnswers source change new.rows old.rows
+  pub open answers use *
+  pub rest : new ≡ record old { rows = new.rows }
+
+-- the source has a row at the end now, and nothing else of the end changed
+pub record GetsRoom (source : ℕ) (new old : End) : Type 0 where
+  pub gets : GetsRow source new.rows old.rows
+  pub some : IsSome (row_of new.rows source)
+  pub rest : new ≡ record old { rows = new.rows }
 
 -- the same end, but for where its rows are stored
 pub record IsSameEnd (new old : End) : Type 0 where

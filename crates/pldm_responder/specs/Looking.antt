@@ -1,21 +1,24 @@
 -- What an answering end makes of a packet by looking at it, and of the request that it completes.
 use Rattle.std.specs.FinMap as map
-use Rattle.std.specs.Prelude.{◌≡◌, ◌≢◌, ℕ, ◌<◌, Bool, true, false, List, length, IfSome, Option, Ok, if◌then◌else◌}
+use Rattle.std.specs.Prelude.{◌≡◌, ◌≢◌, ℕ, ◌<◌, Bool, true, false, List, length, IfSome, IfOk, OnErr, IsErrOf, ◌↔◌, Option, Result, Ok, if◌then◌else◌}
 use Rattle.mctp_packet.specs.Ids.{IsEid}
 use Rattle.mctp_packet.specs.Packets.{Packet}
 use Rattle.mctp_packet.specs.declared.packet.Route.{Route}
 use Rattle.mctp_assembly.specs.Steps as assembly
+use Rattle.mctp_assembly.specs.declared.fed.Fed.TheVariants as assembled
 use Rattle.mctp_assembly.specs.declared.key.Key.{Key}
 use Rattle.pldm_responder.specs.Arrivals.{Arrival, Drop, Part, Whole, message_of, passed_arrival, request_packet}
 use Rattle.pldm_responder.specs.Ends.{End, held_by}
 use Rattle.pldm_responder.specs.Events.{Message}
 use Rattle.pldm_responder.specs.ResponderStates.{ResponderState}
-use Rattle.pldm_responder.specs.OpenOrder.{begun_fed, begun_passed, ended_passed, is_shut_out_passed, open_fed, open_passed}
+use Rattle.pldm_responder.specs.OpenOrder.{begun_fed, begun_passed, ended_passed, is_shut_out, is_shut_out_passed, open_fed, open_passed}
 use Rattle.pldm_responder.specs.Performing.{busy_reply}
 use Rattle.pldm_responder.specs.Requested.{Requested}
 use Rattle.pldm_responder.specs.Steps.{entry_for, received_arrival, refuses_now, repeats}
 use Rattle.pldm_responder.specs.declared.arriving.Arrived.{Arrived}
 use Rattle.pldm_responder.specs.declared.arriving.Arrived.TheVariants.{Dropped, Partial, Request}
+use Rattle.pldm_responder.specs.declared.arriving.RoomRefusal.{RoomRefusal}
+use Rattle.pldm_responder.specs.declared.arriving.RoomRefusal.TheVariants.{Sources, OpenMessages}
 use Rattle.pldm_responder.specs.declared.arriving.Standing.{Standing}
 use Rattle.pldm_responder.specs.declared.arriving.Standing.TheVariants.{Busy, Copy, Fresh}
 use Rattle.pldm_responder.specs.declared.arriving.Taken.{Taken}
@@ -83,14 +86,37 @@ pub record HasComeBy (old : End) (moment : ℕ) (p : Packet) (new : End) (arrive
   pub arrival : arrival_in moment arrived ≡ passed_arrival (assembly.answer old.open_messages) moment (Ok p)
   pub left : IsLeftByPacket old moment p new arrived
 
--- the last packet of several, which another endpoint sent to this one with TO 1
-pub record IsLastFor (end : End) (p : Packet) : Type 0 where
-  pub goes_on : p.start ≡ false
-  pub ends : p.end ≡ true
+-- a packet that another endpoint sent to this one with TO 1
+pub record IsSentTo (end : End) (p : Packet) : Type 0 where
   pub owner : p.route.owner ≡ true
   pub other : p.route.source ≢ end.own
   pub here : p.route.destination ≡ end.own
   pub home : IsEid end.own
+
+-- a request that another endpoint sent to this one
+pub record IsRequestTo (end : End) (r : Requested) : Type 0 where
+  pub other : r.source ≢ end.own
+  pub here : r.destination ≡ end.own
+
+-- the last packet of several, which another endpoint sent to this one with TO 1
+pub record IsLastFor (end : End) (p : Packet) : Type 0 where
+  pub goes_on : p.start ≡ false
+  pub ends : p.end ≡ true
+  pub sent : IsSentTo end p
+  pub open sent use *
+
+-- the packet was taken; or it was refused, and the end is as before: for the open messages exactly where it is shut out,
+-- and never for the sources
+pub record IsTakenOrRefused
+    (old : End) (moment : ℕ) (p : Packet) (new : End) (result : Result Arrived RoomRefusal) : Type 0 where
+  pub ok : IfOk result (HasComeBy old moment p new)
+  pub err : OnErr result (new ≡ old)
+  pub sources : IsErrOf result Sources → ⊥
+  pub open_messages : IsErrOf result OpenMessages ↔ (is_shut_out old p ≡ true)
+
+-- a start packet that gives Partial: only such a one needs room
+abbrev pub OpensMessage : End → Packet → Type 0
+OpensMessage end p = (assembly.answer end.open_messages p ≡ assembled.Partial) × (p.start ≡ true)
 
 -- the packet of these bytes is one, and nothing is done with it yet
 pub record IsLast (old : End) (bytes : List ℕ) (new : End) (p : Packet) : Type 0 where

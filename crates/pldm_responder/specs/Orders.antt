@@ -1,5 +1,6 @@
 -- Which slot each of the latest instance IDs of a source has.
-use Rattle.std.specs.Prelude.{◌≡◌, ◌<◌, ◌==◌, ℕ, List, [], ◌∷◌, length, map, nat_lt, reverse, slice_index_or, take, option_map, Option, Some, None, if◌then◌else◌}
+use Rattle.std.specs.Prelude.{◌≡◌, ◌+◌, ◌<◌, ◌≤◌, ◌==◌, ℕ, List, [], ◌∷◌, length, map, max, nat_lt, reverse, slice_index_or, take, option_map, Option, Some, None, if◌then◌else◌}
+use Rattle.pldm_wire.specs.Settings.{IsWindow}
 use Rattle.pldm_responder.specs.Recency.{of_number, renewed, IsApart, AllBelow}
 use Rattle.pldm_responder.specs.declared.order.Indexed.{Indexed}
 
@@ -51,6 +52,18 @@ pub record IsTable (by_id : List (Option ℕ)) (order : List Indexed) : Type 0 w
 pub record IsTabled (by_id : List (Option ℕ)) (order : List Indexed) : Type 0 where
   pub table : IsTable by_id order
   pub small : AllBelow id_of 32 order
+
+-- the order of a row with this window, and the table of its slots
+pub record IsOrderOf (window : ℕ) (by_id : List (Option ℕ)) (order : List Indexed) : Type 0 where
+  pub window_is : IsWindow window
+  pub order_is : AreInOrder order
+  pub tabled : IsTabled by_id order
+  pub few : length order ≤ window
+
+-- the slot was in use before, or is the next one and in use now
+pub record TakesSlot (old new : List Indexed) (slot : ℕ) : Type 0 where
+  pub next : slot ≤ length old
+  pub used : length new ≡ max (length old) (slot + 1)
 
 -- an instance ID was put in front of the others, with this slot
 pub record IsRenewed (window id : ℕ) (old new : List Indexed) (slot : ℕ) : Type 0 where

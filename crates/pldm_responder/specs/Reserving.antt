@@ -19,6 +19,11 @@ abbrev pub IsWithinSources : Rows → ℕ → Option Answers → Type 0
 IsWithinSources rows max None = Unit {0}
 IsWithinSources rows max (Some row) = source_count rows < max
 
+-- the room that was reserved at an end for the answers to a source
+abbrev pub IsRoomAt : End → ℕ → Option Answers → Type 0
+IsRoomAt end source reserved =
+    IsRoomFor end.rows source reserved × IsWithinSources end.rows end.bounds.sources reserved
+
 -- the source has no row, and as many sources have one as may have
 abbrev pub is_past_sources : Rows → ℕ → ℕ → Bool
 is_past_sources rows max source = not (has_row rows source) && nat_le max (source_count rows)

@@ -1,6 +1,6 @@
 -- How a row stores its answers: each in its slot, or where its messages are long, at the slot's place among the long ones
 -- of the row. The bytes of the message that came stand first, and behind them those of the one that answered it.
-use Rattle.std.specs.Prelude.{◌≡◌, ℕ, ◌+◌, ◌<◌, ◌≤◌, ◌⊎◌, nat_lt, List, [], ◌∷◌, ◌++◌, length, take, drop, map, replicate, count_by, slice_index_or, Option, Some, None, is_some, IsSome, IfSome, if◌then◌else◌, refl}
+use Rattle.std.specs.Prelude.{◌≡◌, ◌≢◌, ℕ, ◌+◌, ◌<◌, ◌≤◌, ◌⊎◌, nat_lt, List, [], ◌∷◌, ◌++◌, length, take, drop, map, replicate, count_by, slice_index_or, Option, Some, None, is_some, IsSome, IfSome, if◌then◌else◌, refl}
 use Rattle.std.specs.Coded.{Coded, code_by, coded×, coded_ℕ, coded_list}
 use Rattle.mctp_packet.specs.declared.TheConstants.{MAX_MESSAGE_BYTES}
 use Rattle.pldm_wire.specs.declared.assigned.TheConstants.{INSTANCE_IDS}
@@ -67,6 +67,20 @@ pub record IsStored (slot : Slot) (places : ℕ) : Type 0 where
   pub answer : slot.both ≤ slot.asked + MAX_MESSAGE_BYTES
   pub long : SLOT_BYTES < slot.both → IsSome slot.place
   pub place : IfSome slot.place (λ place. place < places)
+
+-- a slot of a row with these long messages, and the room for one more where it has no place among them
+pub record MayBeFilled (slot : Slot) (long : List (List ℕ)) (room : ℕ) : Type 0 where
+  pub stored_is : IsStored slot (length long)
+  pub places : length long ≤ INSTANCE_IDS
+  pub room_is : slot.place ≡ None → length long < room
+
+-- the slot holds this entry now, and the long messages of the other slots are as before
+pub record IsFilledWith (entry : Entry) (old new : Slot) (long_old long_new : List (List ℕ)) : Type 0 where
+  pub held : stored long_new new ≡ entry
+  pub stored_is : IsStored new (length long_new)
+  pub place : IsPlaced old.place new.place (length long_old) (length long_new)
+  pub others : (q : ℕ) → q < length long_old → old.place ≢ Some q
+      → slice_index_or long_new q [] ≡ slice_index_or long_old q []
 
 abbrev pub slot_at : List Slot → ℕ → Slot
 slot_at slots i = slice_index_or slots i empty_slot

@@ -1,14 +1,15 @@
 -- How a responder keeps its answers: for each source a row of them, the newest first.
-use Rattle.std.specs.Prelude.{◌≡◌, ℕ, ◌<◌, ◌≤◌, List, [], length, Option, Some, None, IfSome, refl}
+use Rattle.std.specs.Prelude.{◌≡◌, ℕ, ◌<◌, ◌≤◌, List, [], length, take, Option, Some, None, IfSome, refl}
 use Rattle.std.specs.Coded.{Coded, code_by, coded×, coded_ℕ, coded_list}
 use Rattle.std.specs.List.{All}
 use Rattle.mctp_packet.specs.Ids.{IsEid}
 use Rattle.mctp_packet.specs.declared.TheConstants.{MAX_MESSAGE_BYTES}
 use Rattle.mctp_assembly.specs.NumberLists.{NumberList, Rises, at}
+use Rattle.pldm_wire.specs.Headers.{id_at}
 use Rattle.pldm_wire.specs.Settings.{IsWindow}
 use Rattle.pldm_wire.specs.declared.assigned.TheConstants.{INSTANCE_IDS}
 use Rattle.pldm_responder.specs.ResponderStates.{Entry, id_in}
-use Rattle.pldm_responder.specs.Recency.{IsApart, of_number}
+use Rattle.pldm_responder.specs.Recency.{IsApart, of_number, renewed, replaced}
 
 -- the answers that are kept to one source: how many at most, and those that there are, the newest first
 pub record Answers : Type 0 where
@@ -62,6 +63,27 @@ kept_in rows source = answers_in (row_of rows source)
 -- the answer that is kept for a source and an instance ID
 abbrev pub entry_in : Rows → ℕ → ℕ → Option Entry
 entry_in rows source id = of_number id_in id (kept_in rows source)
+
+-- this answer is put in front of those to its source, in the place of the one of its instance ID; what the window has no
+-- room for falls out
+abbrev pub in_front : ℕ → Entry → List Entry → List Entry
+in_front window entry kept = take window (renewed id_in entry kept)
+
+-- it takes the place of the one of its instance ID, where one is kept
+abbrev pub in_place : Entry → List Entry → List Entry
+in_place entry kept = replaced id_in entry kept
+
+-- a request and the answer to it, neither longer than a message may be
+pub record AreMessages (request answer : List ℕ) : Type 0 where
+  pub bytes : length request ≤ MAX_MESSAGE_BYTES
+  pub few : length answer ≤ MAX_MESSAGE_BYTES
+
+-- they may be kept for this instance ID
+pub record MayBeKept (instance : ℕ) (request answer : List ℕ) : Type 0 where
+  pub id : id_at request ≡ instance
+  pub small : instance < INSTANCE_IDS
+  pub messages : AreMessages request answer
+  pub open messages use *
 
 -- an answer for an instance ID
 pub record IsKept (entry : Entry) : Type 0 where

@@ -7,21 +7,16 @@ ghost use Rattle.mctp_packet.specs.Ids.{IsEid};
 ghost use Rattle.mctp_packet.specs.declared.TheConstants.{MAX_MESSAGE_BYTES as most, NULL_EID};
 ghost use Rattle.mctp_assembly.specs.declared.key.Key.{Key as KeyValue};
 ghost use Rattle.pldm_responder.specs.Counts.{CountsKept};
-ghost use Rattle.pldm_responder.specs.Ends.{End, GetsRow, end_at_first, end_restarted, IsOwn, IsSameEnd, eid_or_null, has_row, held_by};
+ghost use Rattle.pldm_responder.specs.Ends.{ChangesOnlyAnswers, End, GetsRoom, end_at_first, end_restarted, IsOwn, IsSameEnd, eid_or_null, held_by};
 ghost use Rattle.pldm_responder.specs.Arrivals.{Part, message_arrival, request_packet};
-ghost use Rattle.pldm_responder.specs.Looking.{HasArrived, HasComeBy, HasTaken, IsLastFor, IsReadBy, IsReply, arrival_in, end_closed, end_finished, is_past_open, message_at, standing};
-ghost use Rattle.pldm_responder.specs.OpenOrder.{begins, is_shut_out, is_shut_out_on, way_for};
+ghost use Rattle.pldm_responder.specs.Looking.{OpensMessage, HasArrived, HasComeBy, HasTaken, IsLastFor, IsReadBy, IsReply, IsRequestTo, IsSentTo, IsTakenOrRefused, arrival_in, end_closed, end_finished, is_past_open, message_at, standing};
+ghost use Rattle.pldm_responder.specs.OpenOrder.{begins, is_shut_out_on, way_for};
 ghost use Rattle.mctp_assembly.specs.Keys.{IsKey};
-ghost use Rattle.mctp_assembly.specs.Steps.{answer};
-ghost use Rattle.mctp_assembly.specs.declared.fed.Fed.TheVariants.{Partial};
 ghost use Rattle.pldm_responder.specs.Needs.{NeedsMemory};
-ghost use Rattle.pldm_responder.specs.Reserving.{IsRoomFor, IsWhyNoRow, IsWithinSources};
-ghost use Rattle.pldm_responder.specs.ResponderStates.{IsHeld, id_in};
-ghost use Rattle.pldm_responder.specs.Recency.{renewed, replaced};
-ghost use Rattle.pldm_responder.specs.Slots.{entry_in, kept_in, row_of, source_count};
+ghost use Rattle.pldm_responder.specs.Reserving.{IsRoomAt, IsRoomFor, IsWhyNoRow, IsWithinSources};
+ghost use Rattle.pldm_responder.specs.ResponderStates.{IsHeld};
+ghost use Rattle.pldm_responder.specs.Slots.{MayBeKept, entry_in, in_front, in_place, kept_in, row_of, source_count};
 ghost use Rattle.pldm_responder.specs.Steps.{assigned_held, received_arrival};
-ghost use Rattle.pldm_wire.specs.Headers.{id_at};
-ghost use Rattle.pldm_wire.specs.declared.assigned.TheConstants.{INSTANCE_IDS as ids};
 
 use crate::arriving::{Arrived, Request, RoomRefusal, Standing, Taken};
 use crate::bounds::Bounds;
@@ -270,16 +265,9 @@ impl AnsweringEnd {
         packet: &PacketRef<'_>,
     ) -> Result<Arrived<'a>, RoomRefusal>
         requires goes_on { packet.now.end ≡ false }
-        requires owner { packet.now.route.owner ≡ true }
-        requires other { packet.now.route.source ≢ self.old.own }
-        requires here { packet.now.route.destination ≡ self.old.own }
-        requires home { IsEid self.old.own }
-        ensures ok { IfOk result (HasComeBy self.old now packet.now self.new) }
-        ensures err { OnErr result (self.new ≡ self.old) }
-        ensures sources { IsErrOf result RoomRefusal.Sources → ⊥ }
-        ensures open_messages { IsErrOf result RoomRefusal.OpenMessages ↔ (is_shut_out self.old packet.now ≡ true) }
-        ensures partial { OnErr result (answer self.old.open_messages packet.now ≡ Partial) }
-        ensures at_start { OnErr result (packet.now.start ≡ true) }
+        requires sent { IsSentTo self.old packet.now }
+        ensures taken { IsTakenOrRefused self.old now packet.now self.new result }
+        ensures room { OnErr result (OpensMessage self.old packet.now) }
     {
         if packet.start() {
             return self.begin(now, packet);
@@ -351,14 +339,8 @@ impl AnsweringEnd {
     /// Takes a packet that begins a message of several packets. Where there is no room, the oldest message ends.
     fn begin<'a>(&mut self, now: Moment, packet: &PacketRef<'_>) -> Result<Arrived<'a>, RoomRefusal>
         requires begins { begins packet.now ≡ true }
-        requires owner { packet.now.route.owner ≡ true }
-        requires other { packet.now.route.source ≢ self.old.own }
-        requires here { packet.now.route.destination ≡ self.old.own }
-        requires home { IsEid self.old.own }
-        ensures ok { IfOk result (HasComeBy self.old now packet.now self.new) }
-        ensures err { OnErr result (self.new ≡ self.old) }
-        ensures sources { IsErrOf result RoomRefusal.Sources → ⊥ }
-        ensures open_messages { IsErrOf result RoomRefusal.OpenMessages ↔ (is_shut_out self.old packet.now ≡ true) }
+        requires sent { IsSentTo self.old packet.now }
+        ensures { IsTakenOrRefused self.old now packet.now self.new result }
     {
         let ended = self.way_for(Key::of(packet))?;
         reserve_begun(&mut self.begun, self.ends_oldest)?;
@@ -435,13 +417,9 @@ impl AnsweringEnd {
     /// Puts the room for the answers to the source of a request in, for an answer that is to come.
     #[inline(always)]
     pub fn put_room(&mut self, request: &Request<'_>, reserved: Reserved)
-        requires other { request.now.source ≢ self.old.own }
-        requires here { request.now.destination ≡ self.old.own }
-        requires room { IsRoomFor self.old.rows request.now.source reserved }
-        requires few { IsWithinSources self.old.rows self.old.bounds.sources reserved }
-        ensures gets { GetsRow request.now.source self.new.rows self.old.rows }
-        ensures some { IsSome (row_of self.new.rows request.now.source) }
-        ensures rest { self.new ≡ record self.old { rows = self.new.rows } }
+        requires request { IsRequestTo self.old request.now }
+        requires room { IsRoomAt self.old request.now.source reserved }
+        ensures { GetsRoom request.now.source self.new self.old }
     {
         let _own = request.destination(); // for the proof: an endpoint ID
         self.kept.put_row(request.source(), reserved);
@@ -454,16 +432,8 @@ impl AnsweringEnd {
     pub fn keep(&mut self, now: Moment, request: &Request<'_>, answer: &[u8])
         requires room { IsSome (row_of self.old.rows request.now.source) }
         requires few { length answer.now ≤ most }
-        ensures kept { (other : ℕ) → kept_in self.new.rows other ≡
-            (if request.now.source == other
-            then take self.old.rows.window
-            (renewed id_in (record { moment = now; bytes = request.now.bytes; answer = answer.now })
-            (kept_in self.old.rows other))
-            else kept_in self.old.rows other) }
-        ensures window { self.new.rows.window ≡ self.old.rows.window }
-        ensures rows { (other : ℕ) → has_row self.new.rows other ≡ has_row self.old.rows other }
-        ensures sources { source_count self.new.rows ≡ source_count self.old.rows }
-        ensures rest { self.new ≡ record self.old { rows = self.new.rows } }
+        ensures { ChangesOnlyAnswers request.now.source (in_front self.old.rows.window
+            (record { moment = now; bytes = request.now.bytes; answer = answer.now })) self.new self.old }
     {
         let (source, id) = (request.source(), request.id());
         self.kept.put(source, id, now, request.bytes(), answer);
@@ -472,19 +442,9 @@ impl AnsweringEnd {
     /// Keeps the answer to a request of this source, instance ID, moment and bytes that came later than it: it takes
     /// the request's place in the order, and where that fell out of the window it is not kept. It takes no memory.
     pub fn keep_late(&mut self, source: Eid, id: u8, moment: Moment, bytes: &[u8], answer: &[u8])
-        requires id { id_at bytes.now ≡ id }
-        requires small { id < ids }
-        requires bytes { length bytes.now ≤ most }
-        requires few { length answer.now ≤ most }
-        ensures kept { (other : ℕ) → kept_in self.new.rows other ≡
-            (if source == other
-            then replaced id_in (record { moment = moment; bytes = bytes.now; answer = answer.now })
-            (kept_in self.old.rows other)
-            else kept_in self.old.rows other) }
-        ensures window { self.new.rows.window ≡ self.old.rows.window }
-        ensures rows { (other : ℕ) → has_row self.new.rows other ≡ has_row self.old.rows other }
-        ensures sources { source_count self.new.rows ≡ source_count self.old.rows }
-        ensures rest { self.new ≡ record self.old { rows = self.new.rows } }
+        requires { MayBeKept id bytes.now answer.now }
+        ensures { ChangesOnlyAnswers source
+            (in_place (record { moment = moment; bytes = bytes.now; answer = answer.now })) self.new self.old }
     {
         self.kept.replace(source, id, moment, bytes, answer);
     }

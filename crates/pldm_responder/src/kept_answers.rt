@@ -1,19 +1,15 @@
 //! The answers that are kept, by the source of the request.
 
-ghost use Rattle.std.specs.Prelude.{◌≡◌, ℕ, ◌*◌, ◌≤◌, ◌<◌, ◌==◌, length, take, [], None, true, if◌then◌else◌, IfOk, IfErr, OnOk, IsSome};
+ghost use Rattle.std.specs.Prelude.{◌≡◌, ◌*◌, ◌≤◌, ◌<◌, [], true, IfOk, IfErr, OnOk, IsSome};
 ghost use Rattle.std.specs.Option.{option_copied};
 ghost use Rattle.std.specs.List.{insert};
 ghost use Rattle.std.specs.Vec.{vec_capacity, vec_len};
-ghost use Rattle.mctp_packet.specs.declared.TheConstants.{MAX_MESSAGE_BYTES};
 ghost use Rattle.mctp_assembly.specs.NumberLists.{IsAt, IsGapFor};
-ghost use Rattle.pldm_wire.specs.Headers.{id_at};
 ghost use Rattle.pldm_wire.specs.declared.assigned.TheConstants.{INSTANCE_IDS};
 ghost use Rattle.pldm_responder.specs.Counts.{CountsKept};
-ghost use Rattle.pldm_responder.specs.Ends.{AreSameRows, GetsRow, has_row};
-ghost use Rattle.pldm_responder.specs.ResponderStates.{id_in};
-ghost use Rattle.pldm_responder.specs.Recency.{renewed, replaced};
+ghost use Rattle.pldm_responder.specs.Ends.{AreSameRows, ChangesAnswers, GetsRow};
 ghost use Rattle.pldm_responder.specs.Reserving.{IsRoomFor, IsWhyNoRow, IsWithinSources};
-ghost use Rattle.pldm_responder.specs.Slots.{AreKept, entry_in, kept_in, no_answers, row_of, source_count};
+ghost use Rattle.pldm_responder.specs.Slots.{AreKept, MayBeKept, entry_in, in_front, in_place, no_answers, row_of, source_count};
 
 use crate::answering_end::OTHER_ENDPOINTS;
 use crate::arriving::RoomRefusal;
@@ -229,18 +225,9 @@ impl KeptAnswers {
     #[inline(always)]
     pub(crate) fn put(&mut self, source: Eid, id: u8, moment: Moment, bytes: &[u8], answer: &[u8])
         requires room { IsSome (row_of self.old source) }
-        requires id { id_at bytes.now ≡ id }
-        requires small { id < INSTANCE_IDS }
-        requires bytes { length bytes.now ≤ MAX_MESSAGE_BYTES }
-        requires few { length answer.now ≤ MAX_MESSAGE_BYTES }
-        ensures kept { (other : ℕ) → kept_in self.new other ≡
-            (if source == other
-            then take self.old.window
-            (renewed id_in (record { moment = moment; bytes = bytes.now; answer = answer.now }) (kept_in self.old other))
-            else kept_in self.old other) }
-        ensures window { self.new.window ≡ self.old.window }
-        ensures sources { source_count self.new ≡ source_count self.old }
-        ensures rows { (other : ℕ) → has_row self.new other ≡ has_row self.old other }
+        requires messages { MayBeKept id bytes.now answer.now }
+        ensures { ChangesAnswers source (in_front self.old.window
+            (record { moment = moment; bytes = bytes.now; answer = answer.now })) self.new self.old }
     {
         if let Ok(place) = self.search(source) {
             self.rows[place].1.row.put(id, moment, bytes, answer);
@@ -257,18 +244,9 @@ impl KeptAnswers {
         bytes: &[u8],
         answer: &[u8],
     )
-        requires id { id_at bytes.now ≡ id }
-        requires small { id < INSTANCE_IDS }
-        requires bytes { length bytes.now ≤ MAX_MESSAGE_BYTES }
-        requires few { length answer.now ≤ MAX_MESSAGE_BYTES }
-        ensures kept { (other : ℕ) → kept_in self.new other ≡
-            (if source == other
-            then replaced id_in (record { moment = moment; bytes = bytes.now; answer = answer.now })
-            (kept_in self.old other)
-            else kept_in self.old other) }
-        ensures window { self.new.window ≡ self.old.window }
-        ensures sources { source_count self.new ≡ source_count self.old }
-        ensures rows { (other : ℕ) → has_row self.new other ≡ has_row self.old other }
+        requires { MayBeKept id bytes.now answer.now }
+        ensures { ChangesAnswers source
+            (in_place (record { moment = moment; bytes = bytes.now; answer = answer.now })) self.new self.old }
     {
         if let Ok(place) = self.search(source) {
             self.rows[place].1.row.replace(id, moment, bytes, answer);

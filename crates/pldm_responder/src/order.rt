@@ -1,8 +1,7 @@
 //! The order of the instance IDs of a source, by their latest requests.
 
-ghost use Rattle.std.specs.Prelude.{◌≡◌, ◌+◌, ◌<◌, ◌≤◌, ◌++◌, ◌∷◌, [], None, IsSome, length, max, slice_index_or};
-ghost use Rattle.pldm_wire.specs.Settings.{IsWindow};
-ghost use Rattle.pldm_responder.specs.Orders.{AreInOrder, IsRenewed, IsTabled, slot_in};
+ghost use Rattle.std.specs.Prelude.{◌≡◌, ◌<◌, ◌++◌, ◌∷◌, [], None, IsSome, length, slice_index_or};
+ghost use Rattle.pldm_responder.specs.Orders.{IsOrderOf, IsRenewed, TakesSlot, slot_in};
 ghost use Rattle.pldm_responder.specs.Recency.{of_number, without};
 
 use crate::slot_table::SlotTable;
@@ -119,16 +118,11 @@ impl Order {
 /// that no ID has, else that of the oldest, which falls out. The table has the slot of each by its ID.
 #[inline(always)]
 pub(crate) fn renew(order: &mut Order, table: &mut SlotTable, window: u8, id: u8) -> u8
-    requires order { AreInOrder order.old }
-    requires tabled { IsTabled table.old order.old }
-    requires window { IsWindow window }
+    requires order { IsOrderOf window table.old order.old }
     requires id { id < 32 }
-    requires few { length order.old ≤ window }
+    ensures order { IsOrderOf window table.new order.new }
     ensures renewed { IsRenewed window id order.old order.new result }
-    ensures tabled { IsTabled table.new order.new }
-    ensures next { result ≤ length order.old }
-    ensures used { length order.new ≡ max (length order.old) (result + 1) }
-    ensures few { length order.new ≤ window }
+    ensures slot { TakesSlot order.old order.new result }
 {
     let slot = match table.get(id) {
         Some(slot) => {

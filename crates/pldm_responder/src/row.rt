@@ -1,11 +1,10 @@
 //! The answers that are kept for one source, one for each of its latest instance IDs.
 
-ghost use Rattle.std.specs.Prelude.{◌≡◌, ◌<◌, ◌≤◌, [], length, take};
-ghost use Rattle.mctp_packet.specs.declared.TheConstants.{MAX_MESSAGE_BYTES};
-ghost use Rattle.pldm_wire.specs.Headers.{id_at};
+ghost use Rattle.std.specs.Prelude.{◌≡◌, ◌<◌, ◌≤◌, [], length};
 ghost use Rattle.pldm_wire.specs.declared.assigned.TheConstants.{INSTANCE_IDS as ids};
 ghost use Rattle.pldm_responder.specs.ResponderStates.{id_in};
-ghost use Rattle.pldm_responder.specs.Recency.{of_number, renewed, replaced};
+ghost use Rattle.pldm_responder.specs.Recency.{of_number};
+ghost use Rattle.pldm_responder.specs.Slots.{MayBeKept, in_front, in_place};
 
 use crate::kept_answer::KeptAnswer;
 use crate::order::{Order, renew};
@@ -74,14 +73,11 @@ impl Row {
     /// window allows, the last one falls out. It takes no memory.
     #[inline(always)]
     pub(crate) fn put(&mut self, id: u8, moment: Moment, bytes: &[u8], answer: &[u8])
-        requires id { id_at bytes.now ≡ id }
-        requires small { id < ids }
-        requires bytes { length bytes.now ≤ MAX_MESSAGE_BYTES }
-        requires few { length answer.now ≤ MAX_MESSAGE_BYTES }
+        requires { MayBeKept id bytes.now answer.now }
         ensures { self.new ≡ record {
           window = self.old.window;
-          kept = take self.old.window
-              (renewed id_in (record { moment = moment; bytes = bytes.now; answer = answer.now }) self.old.kept);
+          kept = in_front self.old.window
+              (record { moment = moment; bytes = bytes.now; answer = answer.now }) self.old.kept;
         } }
     {
         let window = self.window.get();
@@ -94,14 +90,10 @@ impl Row {
 
     /// Puts the answer to a message in the place of the one of its instance ID, where one is kept.
     pub(crate) fn replace(&mut self, id: u8, moment: Moment, bytes: &[u8], answer: &[u8])
-        requires id { id_at bytes.now ≡ id }
-        requires small { id < ids }
-        requires bytes { length bytes.now ≤ MAX_MESSAGE_BYTES }
-        requires few { length answer.now ≤ MAX_MESSAGE_BYTES }
+        requires { MayBeKept id bytes.now answer.now }
         ensures { self.new ≡ record {
           window = self.old.window;
-          kept =
-              replaced id_in (record { moment = moment; bytes = bytes.now; answer = answer.now }) self.old.kept;
+          kept = in_place (record { moment = moment; bytes = bytes.now; answer = answer.now }) self.old.kept;
         } }
     {
         if let Some(slot) = self.table.get(id) {

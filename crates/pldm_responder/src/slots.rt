@@ -1,10 +1,10 @@
 //! The slots of a row: the answers to one source, each with the request that it answers.
 
-ghost use Rattle.std.specs.Prelude.{◌≡◌, ◌≢◌, ℕ, ◌+◌, ◌<◌, ◌≤◌, ◌++◌, ◌∷◌, [], None, Some, IfOk, length, slice_index_or, slice_set};
+ghost use Rattle.std.specs.Prelude.{◌≡◌, ◌<◌, ◌≤◌, ◌++◌, ◌∷◌, [], None, Some, IfOk, length, slice_index_or, slice_set};
 ghost use Rattle.std.specs.Vec.{vec_capacity, vec_len};
-ghost use Rattle.mctp_packet.specs.declared.TheConstants.{MAX_MESSAGE_BYTES};
 ghost use Rattle.pldm_wire.specs.declared.assigned.TheConstants.{INSTANCE_IDS as ids};
-ghost use Rattle.pldm_responder.specs.SlotBytes.{IsPlaced, IsStored, empty_slot, no_entry, place_in, stored, with_place};
+ghost use Rattle.pldm_responder.specs.SlotBytes.{IsFilledWith, IsStored, MayBeFilled, empty_slot, no_entry, place_in, stored, with_place};
+ghost use Rattle.pldm_responder.specs.Slots.{AreMessages};
 
 use crate::kept_answer::{KeptAnswer, put_both};
 use mctp_packet::{MAX_MESSAGE_BYTES, Memory, Moment};
@@ -91,17 +91,10 @@ impl Slot {
     /// Puts an answer in the place of the one that it holds. It writes the bytes that there are, and no room.
     #[inline(always)]
     fn fill(&mut self, long: &mut Vec<[u8; MAX_BYTES]>, moment: Moment, bytes: &[u8], answer: &[u8])
-        requires stored { IsStored self.old (length long.old.items) }
-        requires places { length long.old.items ≤ ids }
-        requires room { self.old.place ≡ None → vec_len long.old < vec_capacity long.old }
-        requires bytes { length bytes.now ≤ MAX_MESSAGE_BYTES }
-        requires few { length answer.now ≤ MAX_MESSAGE_BYTES }
-        ensures held { stored long.new.items self.new
-            ≡ record { moment = moment; bytes = bytes.now; answer = answer.now } }
-        ensures stored { IsStored self.new (length long.new.items) }
-        ensures place { IsPlaced self.old.place self.new.place (length long.old.items) (length long.new.items) }
-        ensures others { (q : ℕ) → q < length long.old.items → self.old.place ≢ Some q
-            → slice_index_or long.new.items q [] ≡ slice_index_or long.old.items q [] }
+        requires slot { MayBeFilled self.old long.old.items (vec_capacity long.old) }
+        requires messages { AreMessages bytes.now answer.now }
+        ensures filled { IsFilledWith (record { moment = moment; bytes = bytes.now; answer = answer.now })
+            self.old self.new long.old.items long.new.items }
         ensures capacity { vec_capacity long.new ≡ vec_capacity long.old }
     {
         let both = bytes.len() + answer.len();
@@ -183,8 +176,7 @@ impl Slots {
     #[inline(always)]
     pub(crate) fn fill(&mut self, slot: usize, moment: Moment, bytes: &[u8], answer: &[u8])
         requires there { slot < length self.old.entries }
-        requires bytes { length bytes.now ≤ MAX_MESSAGE_BYTES }
-        requires few { length answer.now ≤ MAX_MESSAGE_BYTES }
+        requires messages { AreMessages bytes.now answer.now }
         ensures entries { self.new.entries ≡ slice_set self.old.entries slot
             (record { moment = moment; bytes = bytes.now; answer = answer.now }) }
         ensures room { self.new.room ≡ self.old.room }

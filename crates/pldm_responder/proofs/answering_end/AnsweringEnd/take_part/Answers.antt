@@ -14,5 +14,5 @@ invariant_of-self-2 c =
     ap (λ t. t && not c.args.packet.now.end) (sym c.start.ensures ∙ c.if-start.false) in
     let left_is = c.in_ok-given.ensures.ok ∙ sym (after_unended c.self.inside.assembler c.args.packet.now c.requires.goes_on) in
     let left = open_going_on _ _ _ c.args.packet.now c.feed_part.new.self c.self.invariant.0 c.self.invariant.2.0 goes_on left_is in
-    let home : IsEid (eid_or_null c.self.inside.own) = subst (λ (e : End). IsEid e.own) (sym c.self.view_is) c.requires.home in
+    let home : IsEid (eid_or_null c.self.inside.own) = subst (λ (e : End). IsEid e.own) (sym c.self.view_is) c.requires.sent.home in
     (left.0, c.self.invariant.1, (left.1, c.self.invariant.2.1), ordered_going_on _ _ _ c.args.packet.now c.feed_part.new.self c.self.invariant.3 goes_on left_is, idle_at_home _ _ c.self.inside.kept home)

@@ -1,16 +1,12 @@
-use Rattle.std.proofs.Common.{◌≡◌, ℕ, Some, refl, ap, sym, subst, ◌∙◌, List, if◌then◌else◌, ◌==◌, arith, is_some}
+use Rattle.std.proofs.Common.{◌≡◌, rules, ℕ, Some, refl, ap, sym, subst, ◌∙◌, List, if◌then◌else◌, ◌==◌, arith, is_some}
 use Rattle.std.specs.Prelude.{slice_set}
 use Rattle.mctp_assembly.specs.NumberLists.{NumberList, Changes, IsAt, Rises, at}
 use Rattle.mctp_assembly.proofs.NumberPlaces.{here, none_in_gap, read_at, rises_changed, written_at}
 use Rattle.pldm_responder.specs.Ends.{has_row}
-use Rattle.pldm_responder.specs.ResponderStates.{Entry, id_in}
-use Rattle.pldm_responder.specs.Recency.{replaced}
-use Rattle.pldm_responder.specs.Slots.{Answers, AreKeptTo, IsKept, Rows, answers_in, kept_in, no_answers}
+use Rattle.pldm_responder.specs.ResponderStates.{Entry}
+use Rattle.pldm_responder.specs.Slots.{Answers, AreKeptTo, IsKept, Rows, answers_in, in_place, kept_in, no_answers}
 use Rattle.pldm_responder.proofs.KeptRows.{each_after, kept_after, kept_at, none_changes, replaced_to, rows_after}
 use Rattle.pldm_responder.proofs.kept_answers.KeptAnswers.replace.Goals as goal
-
-abbrev with_entry : Entry → ℕ → List Entry → List Entry
-with_entry e window kept = replaced id_in e kept
 
 -- the row that was there, and the one in its place
 module _ (c : goal.After-self-1) where
@@ -40,10 +36,10 @@ module _ (c : goal.After-self-1) where
   was_kept : AreKeptTo c.self.inside.window c.args.source before
   was_kept = kept_at c.self.inside.window list c.args.source before c.self.invariant.each before_is
 
-  after_is : c.replace.new.self ≡ record { window = before.window; kept = with_entry entry before.window before.kept }
+  after_is : c.replace.new.self ≡ record { window = before.window; kept = in_place entry before.kept }
   after_is =
       c.replace.ensures
-      ∙ ap (λ (row : Answers). record { window = row.window; kept = with_entry entry row.window row.kept }) (c.deref_mut.ensures.value ∙ ap (λ p. p.1) c.behind-self.view_is)
+      ∙ ap (λ (row : Answers). record { window = row.window; kept = in_place entry row.kept }) (c.deref_mut.ensures.value ∙ ap (λ p. p.1) c.behind-self.view_is)
 
   is_kept : IsKept entry
   is_kept = record { instance = omega (arith, c.requires.id, c.requires.small); few = c.requires.few }
@@ -58,18 +54,25 @@ invariant_of-self c = record {
       (replaced_to c.self.inside.window c.args.source (before c) c.replace.new.self (entry c) (was_kept c) (is_kept c) (after_is c)) c.self.invariant.each;
 }
 
-pub returns-in-Ok-clause-kept : goal.returns-in-Ok-clause-kept
-returns-in-Ok-clause-kept c =
-    subst (λ (rows : Rows). (other : ℕ) → answers_in (at (new_list c) other) ≡ (if c.args.source == other then with_entry (entry c) rows.window (kept_in rows other) else kept_in rows other)) c.self.view_is
-    (kept_after (list c) (new_list c) c.args.source (before c) c.replace.new.self (before_is c) (changes c) (with_entry (entry c) c.self.inside.window)
-    (ap (λ (row : Answers). row.kept) (after_is c) ∙ ap (λ w. with_entry (entry c) w (before c).kept) (was_kept c).windows))
+pub returns-in-Ok : goal.returns-in-Ok
+returns-in-Ok c = record {
+  kept =
+      subst (λ (rows : Rows). (other : ℕ) → answers_in (at (new_list c) other) ≡ (if c.args.source == other then in_place (entry c) (kept_in rows other) else kept_in rows other)) c.self.view_is
+      (kept_after (list c) (new_list c) c.args.source (before c) c.replace.new.self (before_is c) (changes c) (in_place (entry c))
+      (ap (λ (row : Answers). row.kept) (after_is c)));
+  window = search rules;
+  rows =
+      subst (λ (rows : Rows). (other : ℕ) → is_some (at (new_list c) other) ≡ has_row rows other) c.self.view_is
+      (rows_after (list c) (new_list c) c.args.source (before c) c.replace.new.self (before_is c) (changes c));
+  sources = search rules;
+}
 
-pub returns-in-Ok-clause-rows : goal.returns-in-Ok-clause-rows
-returns-in-Ok-clause-rows c =
-    subst (λ (rows : Rows). (other : ℕ) → is_some (at (new_list c) other) ≡ has_row rows other) c.self.view_is
-    (rows_after (list c) (new_list c) c.args.source (before c) c.replace.new.self (before_is c) (changes c))
-
-pub returns-in_default-clause-kept : goal.returns-in_default-clause-kept
-returns-in_default-clause-kept c =
+pub returns-in_default : goal.returns-in_default
+returns-in_default c =
     let e : Entry = record { moment = c.args.moment; bytes = c.args.bytes.now; answer = c.args.answer.now } in
-    none_changes c.args.self.now.list c.args.source (with_entry e c.args.self.now.window) (none_in_gap no_answers c.args.self.now.list c.args.source _ c.in_default.ensures.absent) refl
+    record {
+      kept = none_changes c.args.self.now.list c.args.source (in_place e) (none_in_gap no_answers c.args.self.now.list c.args.source _ c.in_default.ensures.absent) refl;
+      window = refl;
+      rows = λ other. refl;
+      sources = refl;
+    }

@@ -32,7 +32,7 @@ ready c =
       }
       | else-slot-len w ↦ record {
         reached = no_more_slots slots.entries c.if-slot-len.self-inside.slots.entries c.from-slot.result
-            (omega (arith, w.if-slot-len.false, c.len.ensures, c.from-slot.ensures, c.renew.ensures.next, c.self.invariant.used))
+            (omega (arith, w.if-slot-len.false, c.len.ensures, c.from-slot.ensures, c.renew.ensures.slot.next, c.self.invariant.used))
             (ap (λ (inside : Inside). inside.slots.entries) w.self-inside-is);
         rooms = ap (λ (inside : Inside). inside.slots.room) w.self-inside-is;
         window = ap (λ (inside : Inside). inside.window) w.self-inside-is;
@@ -47,10 +47,10 @@ module _ (c : goal.After-fill) where
   entry = record { moment = c.args.moment; bytes = c.args.bytes.now; answer = c.args.answer.now }
 
   few : length c.renew.new.order ≤ c.self.inside.window
-  few = omega (arith, c.renew.ensures.few, c.get-window.ensures.value)
+  few = omega (arith, c.renew.ensures.order.few, c.get-window.ensures.value)
 
   used : length c.renew.new.order ≡ max (length c.self.inside.order) (c.from-slot.result + 1)
-  used = omega (arith, c.renew.ensures.used, c.from-slot.ensures)
+  used = omega (arith, c.renew.ensures.slot.used, c.from-slot.ensures)
 
   front : newest_first c.renew.new.order
       ≡ take c.self.inside.window (renewed id_of (record { id = c.args.id; slot = c.from-slot.result }) (newest_first c.self.inside.order))
@@ -60,8 +60,8 @@ module _ (c : goal.After-fill) where
 
 pub add-requires : goal.add-requires
 add-requires c = record {
-  room = omega (arith, c.if-slot-len.true, c.len.ensures, c.from-slot.ensures, c.renew.ensures.used, c.renew.ensures.few, c.get-window.ensures.value, c.self.invariant.rooms);
-  few = omega (arith, c.if-slot-len.true, c.len.ensures, c.from-slot.ensures, c.renew.ensures.used, c.renew.ensures.few, c.get-window.ensures.value, c.self.invariant.window.1);
+  room = omega (arith, c.if-slot-len.true, c.len.ensures, c.from-slot.ensures, c.renew.ensures.slot.used, c.renew.ensures.order.few, c.get-window.ensures.value, c.self.invariant.rooms);
+  few = omega (arith, c.if-slot-len.true, c.len.ensures, c.from-slot.ensures, c.renew.ensures.slot.used, c.renew.ensures.order.few, c.get-window.ensures.value, c.self.invariant.window.1);
 }
 
 pub fill-requires-clause-there : goal.fill-requires-clause-there
@@ -72,7 +72,7 @@ fill-requires-clause-there c =
           omega (arith, is, w.if-slot-len.true, c.len.ensures)
       | else-slot-len w ↦
           let is = ap (λ (inside : Inside). length inside.slots.entries) w.self-inside-is in
-          omega (arith, is, w.if-slot-len.false, c.len.ensures, c.from-slot.ensures, c.renew.ensures.next, c.self.invariant.used)
+          omega (arith, is, w.if-slot-len.false, c.len.ensures, c.from-slot.ensures, c.renew.ensures.slot.next, c.self.invariant.used)
     ]
 
 pub invariant_of-self : goal.invariant_of-self
@@ -81,8 +81,8 @@ invariant_of-self c =
     let now = c.if-slot-len.self-inside in
     let is = ready c in
     let latest = still_latest inside.window inside.table inside.slots.entries inside.order inside.slots.room c.self.invariant c.args.id c.from-slot.result
-    c.renew.new.order now.slots.entries (entry c) c.renew.ensures.renewed.still (few c) (front c) (used c) is.reached c.requires.id
-    c.renew.new.table now.slots.room c.renew.ensures.tabled.table c.renew.ensures.tabled.small is.rooms in
+    c.renew.new.order now.slots.entries (entry c) c.renew.ensures.order.order_is (few c) (front c) (used c) is.reached c.requires.id
+    c.renew.new.table now.slots.room c.renew.ensures.order.tabled.table c.renew.ensures.order.tabled.small is.rooms in
     subst (λ (parts : ℕ × (List (Option ℕ) × (List Indexed × Stored))). AreLatest parts.0 parts.1.0 parts.1.1.1.entries parts.1.1.0 parts.1.1.1.room)
     (λ i. (sym is.window i, (sym is.table i, (sym is.order i, record { room = sym c.fill.ensures.room i; entries = sym c.fill.ensures.entries i })))) latest
 
@@ -92,7 +92,7 @@ returns c =
     let now = c.if-slot-len.self-inside in
     let is = ready c in
     let kept = kept_in_front inside.window inside.table inside.slots.entries inside.order inside.slots.room c.self.invariant c.args.id c.from-slot.result
-    c.renew.new.order now.slots.entries (entry c) c.renew.ensures.renewed.still (few c) (front c) (used c) is.reached c.requires.id in
+    c.renew.new.order now.slots.entries (entry c) c.renew.ensures.order.order_is (few c) (front c) (used c) is.reached c.requires.id in
     (λ i. record { window = is.window i; kept = kept_by (c.fill.ensures.entries i) (newest_first (is.order i)) })
     ∙ ap (λ entries. record { window = inside.window; kept = entries }) kept
     ∙ (λ i. record { window = (c.self.view_is i).window; kept = take (c.self.view_is i).window (renewed id_in (entry c) (c.self.view_is i).kept) })
