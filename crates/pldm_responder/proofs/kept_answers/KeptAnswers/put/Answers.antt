@@ -1,4 +1,4 @@
-use Rattle.std.proofs.Common.{◌≡◌, rules, ℕ, Some, ap, sym, subst, ◌∙◌, List, if◌then◌else◌, ◌==◌, arith, is_some, true, false}
+use Rattle.std.proofs.Common.{◌≡◌, rules, ℕ, Some, ap, sym, subst, ◌∙◌, if◌then◌else◌, ◌==◌, arith, is_some, true, false}
 use Rattle.std.specs.Prelude.{slice_set}
 use Rattle.mctp_assembly.specs.NumberLists.{NumberList, Changes, IsAt, Rises, at}
 use Rattle.mctp_assembly.proofs.NumberPlaces.{here, none_in_gap, read_at, rises_changed, written_at}
