@@ -1,13 +1,16 @@
 -- Open messages in a list by the numbers of their keys, which rise.
-use Rattle.std.specs.Prelude.{ℕ, ◌+◌, ◌*◌, ◌/◌, ◌%◌, ◌<◌, ◌≤◌, ◌==◌, []}
+use Rattle.std.specs.Prelude.{◌≡◌, ℕ, true, ◌+◌, ◌*◌, ◌/◌, ◌%◌, ◌<◌, ◌≤◌, ◌==◌, []}
 use Rattle.std.specs.List.{All}
 use Rattle.std.specs.Coded.{Coded, coded_list, coded×, coded_ℕ}
 use Rattle.mctp_packet.specs.Bits.{bit}
-use Rattle.mctp_packet.specs.declared.TheConstants.{MIN_EID, MAX_EID, TAGS}
+use Rattle.mctp_packet.specs.Packets.{Packet}
+use Rattle.mctp_packet.specs.declared.TheConstants.{MIN_EID, MAX_EID, MAX_PACKETS, TAGS}
 use Rattle.mctp_assembly.specs.Keys.{key_cmp}
-use Rattle.mctp_assembly.specs.NumberLists.{NumberList, Rises, map_in}
+use Rattle.mctp_assembly.specs.NumberLists.{Changes, NumberList, Rises, at, map_in}
 use Rattle.mctp_assembly.specs.Opened.{Opened, IsOpened, coded_opened}
-use Rattle.mctp_assembly.specs.Steps.{OpenMessages}
+use Rattle.mctp_assembly.specs.Steps.{OpenMessages, answer_to, left_by}
+use Rattle.mctp_assembly.specs.declared.fed.Fed.{Fed}
+use Rattle.mctp_assembly.specs.declared.fed.Fed.TheVariants.{Partial}
 use Rattle.mctp_assembly.specs.declared.key.Key.{Key}
 
 -- numbers and what is open under them
@@ -51,3 +54,18 @@ pub record AreOpen (list : Numbered) : Type 0 where
 -- what is open on each key
 abbrev pub held_in : Numbered → OpenMessages
 held_in list = map_in key_cmp key_at list
+
+-- ---- a packet is taken under a number
+-- what it gives
+abbrev pub answer_at : Numbered → ℕ → Packet → Fed
+answer_at list number p = answer_to MAX_PACKETS (at list number) p
+
+-- what it leaves open under the number; under the others the same is open
+abbrev pub IsLeftBy : Numbered → Numbered → ℕ → Packet → Type 0
+IsLeftBy old new number p = Changes old new number (left_by (answer_at old number p) (at old number) p)
+
+-- memory was refused to it: it is a start packet that gives Partial, and what is open is as before
+pub record IsRefusedMemory (old new : Numbered) (number : ℕ) (p : Packet) : Type 0 where
+  pub partial : answer_at old number p ≡ Partial
+  pub at_start : p.start ≡ true
+  pub same : new ≡ old

@@ -4,14 +4,12 @@ ghost use Rattle.std.specs.Prelude.{◌≡◌, ◌≢◌, ◌<◌, ◌≤◌, tr
 ghost use Rattle.std.specs.Prelude.{Some, None, IfOk, IfErr, OnOk, OnErr};
 ghost use Rattle.std.specs.Option.{option_copied, option_map};
 ghost use Rattle.std.specs.List.{All, remove};
-ghost use Rattle.mctp_packet.specs.declared.TheConstants.{MAX_PACKETS};
 ghost use Rattle.mctp_assembly.specs.Fed.{fed_with};
 ghost use Rattle.mctp_assembly.specs.NumberLists.{Changes, IsAt, IsFirstFrom, IsGapFor, Rises, at, number_in};
-ghost use Rattle.mctp_assembly.specs.Numbered.{IsEntry, IsNumber, none_open};
+ghost use Rattle.mctp_assembly.specs.Numbered.{IsEntry, IsLeftBy, IsNumber, IsRefusedMemory, answer_at, none_open};
 ghost use Rattle.mctp_assembly.specs.Opened.{IsOpened};
-ghost use Rattle.mctp_assembly.specs.Steps.{answer_to, begun_by, carried_on, left_by};
+ghost use Rattle.mctp_assembly.specs.Steps.{begun_by, carried_on};
 ghost use Rattle.mctp_assembly.specs.declared.assembler.TheConstants.{MAX_ASSEMBLIES};
-ghost use Rattle.mctp_assembly.specs.declared.fed.Fed.TheVariants.{Partial};
 ghost use Rattle.mctp_assembly.specs.declared.fed.Assembled.TheVariants as Assembled;
 
 use crate::Assembled;
@@ -111,13 +109,9 @@ impl Messages {
         message: &mut Body,
     ) -> Result<Assembled, Memory>
         requires { IsNumber number }
-        ensures fed { IfOk result (λ given. fed_with message.new.items given
-            ≡ answer_to MAX_PACKETS (at self.old number) packet.now) }
-        ensures ok { OnOk result (Changes self.old self.new number (left_by
-            (answer_to MAX_PACKETS (at self.old number) packet.now) (at self.old number) packet.now)) }
-        ensures memory { OnErr result (answer_to MAX_PACKETS (at self.old number) packet.now ≡ Partial) }
-        ensures at_start { OnErr result (packet.now.start ≡ true) }
-        ensures err { OnErr result (self.new ≡ self.old) }
+        ensures fed { IfOk result (λ given. fed_with message.new.items given ≡ answer_at self.old number packet.now) }
+        ensures ok { OnOk result (IsLeftBy self.old self.new number packet.now) }
+        ensures err { OnErr result (IsRefusedMemory self.old self.new number packet.now) }
     {
         if packet.end() {
             Ok(self.take_end(number, packet, message))
@@ -134,13 +128,10 @@ impl Messages {
     ) -> Result<Assembled, Memory>
         requires number { IsNumber number }
         requires unended { packet.now.end ≡ false }
-        ensures fed { (bytes : List ℕ) → IfOk result (λ given. fed_with bytes given
-            ≡ answer_to MAX_PACKETS (at self.old number) packet.now) }
-        ensures ok { OnOk result (Changes self.old self.new number (left_by
-            (answer_to MAX_PACKETS (at self.old number) packet.now) (at self.old number) packet.now)) }
-        ensures memory { OnErr result (answer_to MAX_PACKETS (at self.old number) packet.now ≡ Partial) }
-        ensures at_start { OnErr result (packet.now.start ≡ true) }
-        ensures err { OnErr result (self.new ≡ self.old) }
+        ensures fed { (bytes : List ℕ)
+            → IfOk result (λ given. fed_with bytes given ≡ answer_at self.old number packet.now) }
+        ensures ok { OnOk result (IsLeftBy self.old self.new number packet.now) }
+        ensures err { OnErr result (IsRefusedMemory self.old self.new number packet.now) }
     {
         match self.search(number) {
             Ok(place) => {
@@ -165,9 +156,8 @@ impl Messages {
     /// Takes an end packet, as [`Messages::take`] does.
     fn take_end(&mut self, number: u16, packet: &PacketRef<'_>, message: &mut Body) -> Assembled
         requires { packet.now.end ≡ true }
-        ensures fed { fed_with message.new.items result ≡ answer_to MAX_PACKETS (at self.old number) packet.now }
-        ensures left { Changes self.old self.new number (left_by
-            (answer_to MAX_PACKETS (at self.old number) packet.now) (at self.old number) packet.now) }
+        ensures fed { fed_with message.new.items result ≡ answer_at self.old number packet.now }
+        ensures left { IsLeftBy self.old self.new number packet.now }
     {
         match self.search(number) {
             Ok(place) => {

@@ -51,8 +51,6 @@ returns-in_default c = record {
   ok = taken_here c.self.inside.list.items c.args.self.now c.self.view_is c.self.invariant.rises c.args.number c.in-Ok.place c.in-Ok.ensures.found
       c.index_mut.result.now c.index_mut.ensures.value c.take-given.new.self c.take-given.ensures.number c.args.packet.now c.take-given.result (carried_on (Some c.index_mut.result.now.1) c.args.packet.now).bytes c.take-given.ensures.given
       c.take-given.ensures.partial c.take-given.ensures.other c.in_default.not-Dropped;
-  memory = tt;
-  at_start = tt;
   err = tt;
 }
 
@@ -67,7 +65,5 @@ returns-in_default-given c = record {
       (fed_alone c.args.self.now c.args.number (none_in_gap none_open c.args.self.now c.args.number c.in-Err.place c.in-Err.ensures.absent) c.args.packet.now c.judge_alone-given.result c.args.packet.now.payload c.judge_alone-given.ensures);
   ok = unchanged_here c.args.self.now c.args.number (none_in_gap none_open c.args.self.now c.args.number c.in-Err.place c.in-Err.ensures.absent) c.args.packet.now c.judge_alone-given.result c.args.packet.now.payload c.judge_alone-given.ensures
       c.in_default-given.not-Partial;
-  memory = tt;
-  at_start = tt;
   err = tt;
 }
