@@ -138,6 +138,11 @@ module _ {A : Type 0} (number other : A → ℕ) (n m : ℕ) where
       stays other m y xs not_its ∙ ap (λ ys. y ∷ ys) (later found) ∙ sym (stays number n y xs apart))
 
 -- ---- what becomes of an order
+-- an instance ID was put in front of the others, and they are in order still
+pub record RenewsInOrder (window id : ℕ) (old new : List Indexed) (slot : ℕ) : Type 0 where
+  pub renewed : IsRenewed window id old new slot
+  pub still : AreInOrder new
+
 -- the oldest is taken out
 oldest_out : (first : Indexed) (rest : List Indexed) → AreInOrder (first ∷ rest) → without slot_in first.slot (first ∷ rest) ≡ rest
 oldest_out first rest are =
@@ -153,7 +158,7 @@ module _ (window id : ℕ) (old : List Indexed) (are : AreInOrder old) where
   ids_reversed = found_reversed id_of id old are.ids
 
   -- it has a slot
-  renews_own : (x : Indexed) → of_number id_of id old ≡ Some x → length old ≤ window → IsRenewed window id old (without slot_in x.slot old ++ record { id = id; slot = x.slot } ∷ []) x.slot
+  renews_own : (x : Indexed) → of_number id_of id old ≡ Some x → length old ≤ window → RenewsInOrder window id old (without slot_in x.slot old ++ record { id = id; slot = x.slot } ∷ []) x.slot
   renews_own own found few =
       let x : Indexed = record { id = id; slot = own.slot } in
       let kept = without slot_in own.slot old in
@@ -162,8 +167,10 @@ module _ (window id : ℕ) (old : List Indexed) (are : AreInOrder old) where
       let long : length (kept ++ x ∷ []) ≡ length old = length-append kept (x ∷ []) ∙ omega (arith, short) in
       let in_front : newest_first (kept ++ x ∷ []) ≡ renewed id_of x (newest_first old) = reverse_push id_of x kept ∙ ap (λ ys. x ∷ reverse ys) by_id ∙ ap (λ ys. x ∷ ys) (without_reversed id_of id old) in
       record {
-        order = in_front ∙ sym (take_all window (renewed id_of x (newest_first old)) (subst (λ ys. length ys ≤ window) in_front (subst (λ n. n ≤ window) (sym (length-reverse (kept ++ x ∷ []) ∙ long)) few)));
-        slot_is = sym (ap (λ o. slot_or o (if nat_lt (length (newest_first old)) window then length (newest_first old) else last_slot (newest_first old))) (ids_reversed ∙ found));
+        renewed = record {
+          order = in_front ∙ sym (take_all window (renewed id_of x (newest_first old)) (subst (λ ys. length ys ≤ window) in_front (subst (λ n. n ≤ window) (sym (length-reverse (kept ++ x ∷ []) ∙ long)) few)));
+          slot_is = sym (ap (λ o. slot_or o (if nat_lt (length (newest_first old)) window then length (newest_first old) else last_slot (newest_first old))) (ids_reversed ∙ found));
+        };
         still = record {
           ids = apart_push id_of x kept (subst (IsApart id_of) (sym by_id) (apart_without id_of id old are.ids)) (ap (of_number id_of id) by_id ∙ none_of_it id_of id old);
           slots = apart_push slot_in x kept (apart_without slot_in own.slot old are.slots) (none_of_it slot_in own.slot old);
@@ -172,7 +179,7 @@ module _ (window id : ℕ) (old : List Indexed) (are : AreInOrder old) where
       }
 
   -- it gets the next one
-  renews_next : length old < window → of_number id_of id old ≡ None → IsRenewed window id old (old ++ record { id = id; slot = length old } ∷ []) (length old)
+  renews_next : length old < window → of_number id_of id old ≡ None → RenewsInOrder window id old (old ++ record { id = id; slot = length old } ∷ []) (length old)
   renews_next free is =
       let none = is in
       let x : Indexed = record { id = id; slot = length old } in
@@ -181,10 +188,12 @@ module _ (window id : ℕ) (old : List Indexed) (are : AreInOrder old) where
       let same_length = length-reverse old in
       let in_front : newest_first (old ++ x ∷ []) ≡ renewed id_of x (newest_first old) = reverse_push id_of x old ∙ ap (λ ys. x ∷ ys) (sym (all_others id_of id (newest_first old) no_other)) in
       record {
-        order = in_front ∙ sym (take_all window (renewed id_of x (newest_first old)) (subst (λ ys. length ys ≤ window) in_front (subst (λ n. n ≤ window) (sym (length-reverse (old ++ x ∷ []) ∙ long)) (omega (arith, free)))));
-        slot_is = sym (ap (λ o. slot_or o (if nat_lt (length (newest_first old)) window then length (newest_first old) else last_slot (newest_first old))) no_other
-            ∙ cond-true (nat_lt (length (newest_first old)) window) _ _ (lt-ltb (length (newest_first old)) window (omega (arith, free, same_length)))
-            ∙ same_length);
+        renewed = record {
+          order = in_front ∙ sym (take_all window (renewed id_of x (newest_first old)) (subst (λ ys. length ys ≤ window) in_front (subst (λ n. n ≤ window) (sym (length-reverse (old ++ x ∷ []) ∙ long)) (omega (arith, free)))));
+          slot_is = sym (ap (λ o. slot_or o (if nat_lt (length (newest_first old)) window then length (newest_first old) else last_slot (newest_first old))) no_other
+              ∙ cond-true (nat_lt (length (newest_first old)) window) _ _ (lt-ltb (length (newest_first old)) window (omega (arith, free, same_length)))
+              ∙ same_length);
+        };
         still = record {
           ids = apart_push id_of x old are.ids none;
           slots = apart_push slot_in x old are.slots (below_none slot_in (length old) old are.below);
@@ -194,7 +203,7 @@ module _ (window id : ℕ) (old : List Indexed) (are : AreInOrder old) where
 
 -- it gets that of the oldest, which falls out
 renews_oldest : (window id : ℕ) (first : Indexed) (rest : List Indexed) → AreInOrder (first ∷ rest) → suc (length rest) ≡ window → of_number id_of id (first ∷ rest) ≡ None
-    → IsRenewed window id (first ∷ rest) (rest ++ record { id = id; slot = first.slot } ∷ []) first.slot
+    → RenewsInOrder window id (first ∷ rest) (rest ++ record { id = id; slot = first.slot } ∷ []) first.slot
 renews_oldest window id first rest are full is =
     let old = first ∷ rest in
     let none = is in
@@ -204,12 +213,14 @@ renews_oldest window id first rest are full is =
     let same_length : length (newest_first old) ≡ suc (length rest) = length-reverse old in
     let long : length (rest ++ x ∷ []) ≡ suc (length rest) = length-append rest (x ∷ []) ∙ omega arith in
     record {
-      order = reverse_push id_of x rest
-          ∙ sym (ap (λ ys. x ∷ ys) (ap (λ n. take n (newest_first rest ++ first ∷ [])) (sym (length-reverse rest)) ∙ take-append_seam (newest_first rest) (first ∷ [])))
-          ∙ sym (ap (λ w. take w (renewed id_of x (newest_first old))) (sym full) ∙ ap (λ ys. x ∷ take (length rest) ys) (all_others id_of id (newest_first old) no_other ∙ back));
-      slot_is = sym (ap (λ o. slot_or o (if nat_lt (length (newest_first old)) window then length (newest_first old) else last_slot (newest_first old))) no_other
-          ∙ cond-false (nat_lt (length (newest_first old)) window) _ _ (le-ltb (length (newest_first old)) window (omega (arith, same_length, full)))
-          ∙ ap last_slot back ∙ last_of (newest_first rest) first);
+      renewed = record {
+        order = reverse_push id_of x rest
+            ∙ sym (ap (λ ys. x ∷ ys) (ap (λ n. take n (newest_first rest ++ first ∷ [])) (sym (length-reverse rest)) ∙ take-append_seam (newest_first rest) (first ∷ [])))
+            ∙ sym (ap (λ w. take w (renewed id_of x (newest_first old))) (sym full) ∙ ap (λ ys. x ∷ take (length rest) ys) (all_others id_of id (newest_first old) no_other ∙ back));
+        slot_is = sym (ap (λ o. slot_or o (if nat_lt (length (newest_first old)) window then length (newest_first old) else last_slot (newest_first old))) no_other
+            ∙ cond-false (nat_lt (length (newest_first old)) window) _ _ (le-ltb (length (newest_first old)) window (omega (arith, same_length, full)))
+            ∙ ap last_slot back ∙ last_of (newest_first rest) first);
+      };
       still = record {
         ids = apart_push id_of x rest are.ids.1 (none_later id_of id first rest none).1;
         slots = apart_push slot_in x rest are.slots.1 are.slots.0;
@@ -219,26 +230,26 @@ renews_oldest window id first rest are full is =
 
 -- ---- the same, by the steps of `renew`
 module _ (window id : ℕ) (old order new : List Indexed) (slot : ℕ) (are : AreInOrder old) (few : length old ≤ window) (pushed : new ≡ order ++ record { id = id; slot = slot } ∷ []) where
-  own_is : (x : Indexed) → of_number id_of id old ≡ Some x → x.slot ≡ slot → order ≡ without slot_in slot old → IsRenewed window id old new slot
+  own_is : (x : Indexed) → of_number id_of id old ≡ Some x → x.slot ≡ slot → order ≡ without slot_in slot old → RenewsInOrder window id old new slot
   own_is x found same left =
-      subst (λ (ys : List Indexed × ℕ). IsRenewed window id old ys.0 ys.1)
+      subst (λ (ys : List Indexed × ℕ). RenewsInOrder window id old ys.0 ys.1)
       (λ i. ((ap (λ s. without slot_in s old ++ record { id = id; slot = s } ∷ []) same ∙ ap (λ ys. ys ++ record { id = id; slot = slot } ∷ []) (sym left) ∙ sym pushed) i, same i))
       (renews_own window id old are x found few)
 
-  next_is : length old < window → of_number id_of id old ≡ None → slot ≡ length old → order ≡ old → IsRenewed window id old new slot
+  next_is : length old < window → of_number id_of id old ≡ None → slot ≡ length old → order ≡ old → RenewsInOrder window id old new slot
   next_is free is of left =
       let x = renews_next window id old are free is in
-      subst (λ (ys : List Indexed × ℕ). IsRenewed window id old ys.0 ys.1)
+      subst (λ (ys : List Indexed × ℕ). RenewsInOrder window id old ys.0 ys.1)
       (λ i. ((ap (λ s. old ++ record { id = id; slot = s } ∷ []) (sym of) ∙ ap (λ ys. ys ++ record { id = id; slot = slot } ∷ []) (sym left) ∙ sym pushed) i, sym of i)) x
 
 oldest_is : (window id : ℕ) (old order new : List Indexed) (slot : ℕ) → AreInOrder old → length old ≤ window → new ≡ order ++ record { id = id; slot = slot } ∷ []
-    → 0 < window → window ≤ length old → (found : Indexed) → of_number id_of id old ≡ None → found ≡ slice_index_or old 0 found → slot ≡ found.slot → order ≡ without slot_in found.slot old → IsRenewed window id old new slot
+    → 0 < window → window ≤ length old → (found : Indexed) → of_number id_of id old ≡ None → found ≡ slice_index_or old 0 found → slot ≡ found.slot → order ≡ without slot_in found.slot old → RenewsInOrder window id old new slot
 oldest_is window id [] order new slot are few pushed some full found is value of left = absurd (omega (arith, some, full))
 oldest_is window id (first ∷ rest) order new slot are few pushed some full found is value of left =
     let x = renews_oldest window id first rest are (omega (arith, few, full)) is in
     let same : first.slot ≡ slot = sym (of ∙ ap slot_in value) in
     let others : order ≡ rest = left ∙ ap (λ s. without slot_in s (first ∷ rest)) (ap slot_in value) ∙ oldest_out first rest are in
-    subst (λ (ys : List Indexed × ℕ). IsRenewed window id (first ∷ rest) ys.0 ys.1)
+    subst (λ (ys : List Indexed × ℕ). RenewsInOrder window id (first ∷ rest) ys.0 ys.1)
     (λ i. ((ap (λ s. rest ++ record { id = id; slot = s } ∷ []) same ∙ ap (λ ys. ys ++ record { id = id; slot = slot } ∷ []) (sym others) ∙ sym pushed) i, same i)) x
 
 -- ---- the table by instance ID
@@ -365,7 +376,7 @@ module _ (window id : ℕ) (old : List Indexed) (by_id : List (Option ℕ)) (are
       (left ∙ ap (λ s. without slot_in s old) (sym is))
 
   module _ (new : List Indexed) (pushed : new ≡ order ++ record { id = id; slot = slot } ∷ []) where
-    pub renewed_by : Choice window id old by_id order table slot → IsRenewed window id old new slot
+    pub renewed_by : Choice window id old by_id order table slot → RenewsInOrder window id old new slot
     renewed_by (own owns left same) = own_is window id old order new slot are few pushed owns.entry owns.found owns.same left
     renewed_by (next free none is left same) = next_is window id old order new slot are few pushed free none is left
     renewed_by (oldest full none found value is left cleared) = oldest_is window id old order new slot are few pushed some full found none value is left

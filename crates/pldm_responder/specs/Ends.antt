@@ -188,7 +188,8 @@ pub record GetsRow (source : ℕ) (new old : Rows) : Type 0 where
 
 -- the answers that are kept to this source were changed so, and those to the others are as before
 pub record ChangesAnswers (source : ℕ) (change : List Entry → List Entry) (new old : Rows) : Type 0 where
-  pub kept : (other : ℕ) → kept_in new other ≡ (if source == other then change (kept_in old other) else kept_in old other)
+  pub kept : (other : ℕ) → kept_in new other
+      ≡ (if source == other then change (kept_in old other) else kept_in old other)
   pub window : new.window ≡ old.window
   pub rows : (other : ℕ) → has_row new other ≡ has_row old other
   pub sources : source_count new ≡ source_count old

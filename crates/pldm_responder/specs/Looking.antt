@@ -105,8 +105,8 @@ pub record IsLastFor (end : End) (p : Packet) : Type 0 where
   pub sent : IsSentTo end p
   pub open sent use *
 
--- the packet was taken; or it was refused, and the end is as before: for the open messages exactly where it is shut out,
--- and never for the sources
+-- the packet was taken; or it was refused, and the end is as before: for the open messages exactly where it is shut
+-- out, and never for the sources
 pub record IsTakenOrRefused
     (old : End) (moment : ℕ) (p : Packet) (new : End) (result : Result Arrived RoomRefusal) : Type 0 where
   pub ok : IfOk result (HasComeBy old moment p new)

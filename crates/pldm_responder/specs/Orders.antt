@@ -69,4 +69,3 @@ pub record TakesSlot (old new : List Indexed) (slot : ℕ) : Type 0 where
 pub record IsRenewed (window id : ℕ) (old new : List Indexed) (slot : ℕ) : Type 0 where
   pub order : newest_first new ≡ take window (renewed id_of (record { id = id; slot = slot }) (newest_first old))
   pub slot_is : slot ≡ slot_for window id (newest_first old)
-  pub still : AreInOrder new

@@ -64,8 +64,8 @@ kept_in rows source = answers_in (row_of rows source)
 abbrev pub entry_in : Rows → ℕ → ℕ → Option Entry
 entry_in rows source id = of_number id_in id (kept_in rows source)
 
--- this answer is put in front of those to its source, in the place of the one of its instance ID; what the window has no
--- room for falls out
+-- this answer is put in front of those to its source, in the place of the one of its instance ID; what the window has
+-- no room for falls out
 abbrev pub in_front : ℕ → Entry → List Entry → List Entry
 in_front window entry kept = take window (renewed id_in entry kept)
 

@@ -1,7 +1,7 @@
 use Rattle.std.proofs.Common.{◌≡◌, ◌<◌, ◌+◌, max, Some, length, length-append, ap, sym, ◌∙◌, arith}
-use Rattle.pldm_responder.specs.Orders.{IsRenewed, id_of, slot_in}
+use Rattle.pldm_responder.specs.Orders.{id_of, slot_in}
 use Rattle.pldm_responder.specs.Recency.{without}
-use Rattle.pldm_responder.proofs.SlotOrders.{Choice, IsChosen, chosen, has_other, none_in_table, renewed_by, some_in_table, tabled_by}
+use Rattle.pldm_responder.proofs.SlotOrders.{Choice, IsChosen, RenewsInOrder, chosen, has_other, none_in_table, renewed_by, some_in_table, tabled_by}
 use Rattle.pldm_responder.proofs.SlotOrders.Choice.{own, next, oldest}
 use Rattle.pldm_responder.proofs.order.renew.Goals as goal
 use Rattle.pldm_responder.proofs.order.renew.Goals.{in-Some, in-None, in-None-2}
@@ -42,7 +42,7 @@ push-requires-clause-slot c = low c.before.before
 pub push-requires-clause-fresh : goal.push-requires-clause-fresh
 push-requires-clause-fresh c = (is_chosen c.before.before).fresh
 
-renewed : (c : goal.After-push) → IsRenewed c.args.window c.args.id c.args.order.now c.push.new.self c.match-get.slot
+renewed : (c : goal.After-push) → RenewsInOrder c.args.window c.args.id c.args.order.now c.push.new.self c.match-get.slot
 renewed c =
     renewed_by c.args.window c.args.id c.args.order.now c.args.table.now c.requires.order.order_is c.requires.order.window_is.0 c.requires.order.few c.match-get.order c.match-get.table c.match-get.slot c.push.new.self c.push.ensures
     (choice c.before.before.before)
@@ -51,7 +51,7 @@ used : (c : goal.After-push) → length c.push.new.self ≡ max (length c.args.o
 used c = ap length c.push.ensures ∙ length-append c.match-get.order _ ∙ (is_chosen c.before.before.before).used
 
 pub returns-clause-renewed : goal.returns-clause-renewed
-returns-clause-renewed c = renewed c
+returns-clause-renewed c = (renewed c).renewed
 
 pub returns-clause-order : goal.returns-clause-order
 returns-clause-order c = record {
