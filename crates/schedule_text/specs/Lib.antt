@@ -4,6 +4,7 @@ pub mod LineFaults
 pub mod LineSpelling
 pub mod LineWords
 pub mod MomentRuns
+pub mod Refusals
 pub mod SaidLines
 pub mod Schedules
 pub mod StepColumns

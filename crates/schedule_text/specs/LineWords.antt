@@ -10,6 +10,7 @@ use Rattle.schedule_text.specs.declared.line_fault.LineFaultKind.TheVariants.{Wo
 use Rattle.schedule_text.specs.declared.step.RequesterLine.{RequesterLine}
 use Rattle.schedule_text.specs.declared.step.Action.{Action}
 use Rattle.schedule_text.specs.declared.step.Action.TheVariants.{Open, Tick, Request, Reply, Sense, Restart, Busy}
+use Rattle.schedule_text.specs.declared.step.Step.{Step}
 
 -- `requester EID timeout MS tries N`, by the words after the first
 abbrev pub requester_of : List (List ℕ) → Result Line LineFaultKind
@@ -24,6 +25,10 @@ requester_of _ = Err Words
 -- the line of a requester, as what a line says
 abbrev pub said_requester : Result RequesterLine LineFaultKind → Result Line LineFaultKind
 said_requester read = read >>= λ line. Ok (lines.Requester line)
+
+-- a step, as what a line says
+abbrev pub said_step : Result Step LineFaultKind → Result Line LineFaultKind
+said_step read = read >>= λ step. Ok (lines.Step step)
 
 -- one endpoint ID, or one number of a request
 

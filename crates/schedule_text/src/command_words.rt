@@ -2,12 +2,13 @@
 
 ghost use Rattle.std.specs.Prelude.{◌≡◌};
 ghost use Rattle.schedule_text.specs.CommandWords.{bare, byte_command_named, byte_of, command_named, command_of, field_command_named, getpdr_of, id_command_named, id_of, part_in, setnum_of, setstate_of, size_in, sized_in, state_in, states_in, with_id};
+ghost use Rattle.schedule_text.specs.Refusals.{kinds};
 ghost use Rattle.pldm_wire.specs.States.{IsComposite};
 ghost use Rattle.pldm_wire.specs.declared.command.Command.TheVariants.{GetSensorReading};
 
-use crate::LineFaultKind;
 use crate::word::Word;
 use crate::words::{UsualCommand, Words};
+use crate::{Expected, Refusal};
 use arrayvec::ArrayVec;
 use pldm_wire::{
     Command, GET_FIRST_PART, GET_NEXT_PART, MAX_STATES, Number, SetStateField, Size, StateFields,
@@ -16,23 +17,23 @@ use pldm_wire::{
 
 /// The command of these words: its name, and the words after it. A wrong word or count of words is
 /// told before a wrong number.
-pub(crate) fn read_command(words: &mut Words<'_>) -> Result<Command, LineFaultKind>
-    ensures { result ≡ command_of words.old }
+pub(crate) fn read_command<'a>(words: &mut Words<'a>) -> Result<Command, Refusal<'a>>
+    ensures { kinds result ≡ command_of words.old }
 {
     match words.usual_command() {
         Some(UsualCommand::SetNum) => read_setnum(words),
         Some(UsualCommand::Sensor) => read_sensor(words),
         Some(UsualCommand::GetPdr) => read_getpdr(words),
         None => {
-            let name = words.next()?;
+            let name = words.next(Expected::Command)?;
             read_named_command(&name, words)
         }
     }
 }
 
 /// A command, by its name and the words after it.
-fn read_named_command(name: &Word<'_>, words: &mut Words<'_>) -> Result<Command, LineFaultKind>
-    ensures { result ≡ command_named name.now words.old }
+fn read_named_command<'a>(name: &Word<'a>, words: &mut Words<'a>) -> Result<Command, Refusal<'a>>
+    ensures { kinds result ≡ command_named name.now words.old }
 {
     if name.is(b"gettid") {
         bare(Command::GetTid, words)
@@ -46,8 +47,8 @@ fn read_named_command(name: &Word<'_>, words: &mut Words<'_>) -> Result<Command,
 }
 
 /// A command of one byte or more, by its name and the words after it.
-fn read_byte_command(name: &Word<'_>, words: &mut Words<'_>) -> Result<Command, LineFaultKind>
-    ensures { result ≡ byte_command_named name.now words.old }
+fn read_byte_command<'a>(name: &Word<'a>, words: &mut Words<'a>) -> Result<Command, Refusal<'a>>
+    ensures { kinds result ≡ byte_command_named name.now words.old }
 {
     if name.is(b"settid") {
         let tid = byte_of(words)?;
@@ -71,8 +72,8 @@ fn read_byte_command(name: &Word<'_>, words: &mut Words<'_>) -> Result<Command, 
 }
 
 /// A command of one ID or more, by its name and the words after it.
-fn read_id_command(name: &Word<'_>, words: &mut Words<'_>) -> Result<Command, LineFaultKind>
-    ensures { result ≡ id_command_named name.now words.old }
+fn read_id_command<'a>(name: &Word<'a>, words: &mut Words<'a>) -> Result<Command, Refusal<'a>>
+    ensures { kinds result ≡ id_command_named name.now words.old }
 {
     if name.is(b"sensor") {
         read_sensor(words)
@@ -91,8 +92,8 @@ fn read_id_command(name: &Word<'_>, words: &mut Words<'_>) -> Result<Command, Li
 }
 
 /// A command of several fields, by its name and the words after it.
-fn read_field_command(name: &Word<'_>, words: &mut Words<'_>) -> Result<Command, LineFaultKind>
-    ensures { result ≡ field_command_named name.now words.old }
+fn read_field_command<'a>(name: &Word<'a>, words: &mut Words<'a>) -> Result<Command, Refusal<'a>>
+    ensures { kinds result ≡ field_command_named name.now words.old }
 {
     if name.is(b"setnum") {
         read_setnum(words)
@@ -101,80 +102,86 @@ fn read_field_command(name: &Word<'_>, words: &mut Words<'_>) -> Result<Command,
     } else if name.is(b"getpdr") {
         read_getpdr(words)
     } else {
-        Err(LineFaultKind::Words)
+        Err(Refusal::of_word(name.bytes(), Expected::Command))
     }
 }
 
 /// A command with no words after its name.
-fn bare(command: Command, words: &Words<'_>) -> Result<Command, LineFaultKind>
-    ensures { result ≡ bare command words.now }
+fn bare<'a>(command: Command, words: &Words<'a>) -> Result<Command, Refusal<'a>>
+    ensures { kinds result ≡ bare command words.now }
 {
     words.end()?;
     Ok(command)
 }
 
 /// The one number of a byte that there has to be.
-fn byte_of(words: &mut Words<'_>) -> Result<u8, LineFaultKind>
-    ensures { result ≡ byte_of words.old }
+fn byte_of<'a>(words: &mut Words<'a>) -> Result<u8, Refusal<'a>>
+    ensures { kinds result ≡ byte_of words.old }
 {
-    words.only()?.byte()
+    words.only(Expected::Byte)?.byte()
 }
 
 /// The one ID that there has to be.
-fn id_of(words: &mut Words<'_>) -> Result<u16, LineFaultKind>
-    ensures { result ≡ id_of words.old }
+fn id_of<'a>(words: &mut Words<'a>) -> Result<u16, Refusal<'a>>
+    ensures { kinds result ≡ id_of words.old }
 {
-    words.only()?.id()
+    words.only(Expected::Id)?.id()
 }
 
 /// `ID`, of a sensor that is read.
-fn read_sensor(words: &mut Words<'_>) -> Result<Command, LineFaultKind>
-    ensures { result ≡ with_id (λ id. GetSensorReading id 0) words.old }
+fn read_sensor<'a>(words: &mut Words<'a>) -> Result<Command, Refusal<'a>>
+    ensures { kinds result ≡ with_id (λ id. GetSensorReading id 0) words.old }
 {
     let sensor = id_of(words)?;
     Ok(Command::GetSensorReading { sensor, rearm: 0 })
 }
 
 /// `ID SIZE VALUE`.
-fn read_setnum(words: &mut Words<'_>) -> Result<Command, LineFaultKind>
-    ensures { result ≡ setnum_of words.old }
+fn read_setnum<'a>(words: &mut Words<'a>) -> Result<Command, Refusal<'a>>
+    ensures { kinds result ≡ setnum_of words.old }
 {
-    let id = words.next()?;
-    let size = words.next()?;
-    let value = words.only()?;
+    let id = words.next(Expected::Id)?;
+    let size = words.next(Expected::Size)?;
+    let word = words.only(Expected::Value)?;
     let size = size_of_word(&size)?;
     let effecter = id.id()?;
-    let value = value.any_value()?;
-    let value = sized(size, value)?;
+    let value = word.any_value()?;
+    let value = sized(&word, size, value)?;
     Ok(Command::SetNumericEffecterValue { effecter, value })
 }
 
 /// The data size that a word names.
-fn size_of_word(word: &Word<'_>) -> Result<Size, LineFaultKind>
-    ensures { result ≡ size_in word.now }
+fn size_of_word<'a>(word: &Word<'a>) -> Result<Size, Refusal<'a>>
+    ensures { kinds result ≡ size_in word.now }
 {
     let Ok(name) = str::from_utf8(word.bytes()) else {
-        return Err(LineFaultKind::Words);
+        return Err(Refusal::of_word(word.bytes(), Expected::Size));
     };
-    Size::named(name).ok_or(LineFaultKind::Words)
+    match Size::named(name) {
+        Some(size) => Ok(size),
+        None => Err(Refusal::of_word(word.bytes(), Expected::Size)),
+    }
 }
 
-/// The value with its size, where it fits.
-fn sized(size: Size, value: i64) -> Result<Number, LineFaultKind>
-    ensures { result ≡ sized_in size value }
+/// The value that a word spells, with its size, where it fits.
+fn sized<'a>(word: &Word<'a>, size: Size, value: i64) -> Result<Number, Refusal<'a>>
+    ensures { kinds result ≡ sized_in size value }
 {
-    Number::new(size, value).ok_or(LineFaultKind::Number)
+    match Number::new(size, value) {
+        Some(number) => Ok(number),
+        None => Err(Refusal::of_number(word.bytes(), Expected::SizedValue(size))),
+    }
 }
 
 /// `ID S ..`.
 #[tactic(auto, using(crate::proofs::StateWords::many_states))]
-fn read_setstate(words: &mut Words<'_>) -> Result<Command, LineFaultKind>
-    ensures { result ≡ setstate_of words.old }
+fn read_setstate<'a>(words: &mut Words<'a>) -> Result<Command, Refusal<'a>>
+    ensures { kinds result ≡ setstate_of words.old }
 {
-    let id = words.next()?;
+    let id = words.next(Expected::Id)?;
     let states = words.rest()?;
     if states.is_empty() {
-        return Err(LineFaultKind::Words);
+        return Err(Refusal::of_end(Expected::State));
     }
     let effecter = id.id()?;
     let fields = read_states(&states)?;
@@ -182,9 +189,9 @@ fn read_setstate(words: &mut Words<'_>) -> Result<Command, LineFaultKind>
 }
 
 /// What is asked of each field.
-fn read_states(words: &[Word<'_>]) -> Result<StateFields<SetStateField>, LineFaultKind>
+fn read_states<'a>(words: &[Word<'a>]) -> Result<StateFields<SetStateField>, Refusal<'a>>
     requires { IsComposite words.now }
-    ensures { result ≡ states_in words.now }
+    ensures { kinds result ≡ states_in words.now }
 {
     let mut fields = ArrayVec::<SetStateField, MAX_STATES>::new();
     for word in words {
@@ -194,8 +201,8 @@ fn read_states(words: &[Word<'_>]) -> Result<StateFields<SetStateField>, LineFau
 }
 
 /// `-` leaves a field as it is, a number asks for that state.
-fn read_state(word: &Word<'_>) -> Result<SetStateField, LineFaultKind>
-    ensures { result ≡ state_in word.now }
+fn read_state<'a>(word: &Word<'a>) -> Result<SetStateField, Refusal<'a>>
+    ensures { kinds result ≡ state_in word.now }
 {
     if word.is(b"-") {
         return Ok(SetStateField {
@@ -203,7 +210,7 @@ fn read_state(word: &Word<'_>) -> Result<SetStateField, LineFaultKind>
             state: 0,
         });
     }
-    let state = word.byte()?;
+    let state = word.state()?;
     Ok(SetStateField {
         set_request: 1,
         state,
@@ -211,13 +218,13 @@ fn read_state(word: &Word<'_>) -> Result<SetStateField, LineFaultKind>
 }
 
 /// `RECORD TRANSFER OP COUNT`.
-fn read_getpdr(words: &mut Words<'_>) -> Result<Command, LineFaultKind>
-    ensures { result ≡ getpdr_of words.old }
+fn read_getpdr<'a>(words: &mut Words<'a>) -> Result<Command, Refusal<'a>>
+    ensures { kinds result ≡ getpdr_of words.old }
 {
-    let handle = words.next()?;
-    let transfer = words.next()?;
-    let part = words.next()?;
-    let count = words.only()?;
+    let handle = words.next(Expected::Handle)?;
+    let transfer = words.next(Expected::Handle)?;
+    let part = words.next(Expected::Part)?;
+    let count = words.only(Expected::Id)?;
     let transfer_operation_flag = read_part(&part)?;
     let record_handle = handle.handle()?;
     let data_transfer_handle = transfer.handle()?;
@@ -232,14 +239,14 @@ fn read_getpdr(words: &mut Words<'_>) -> Result<Command, LineFaultKind>
 }
 
 /// Which part of a record is asked for: `first` or `next`.
-fn read_part(word: &Word<'_>) -> Result<u8, LineFaultKind>
-    ensures { result ≡ part_in word.now }
+fn read_part<'a>(word: &Word<'a>) -> Result<u8, Refusal<'a>>
+    ensures { kinds result ≡ part_in word.now }
 {
     if word.is(b"first") {
         Ok(GET_FIRST_PART)
     } else if word.is(b"next") {
         Ok(GET_NEXT_PART)
     } else {
-        Err(LineFaultKind::Words)
+        Err(Refusal::of_word(word.bytes(), Expected::Part))
     }
 }

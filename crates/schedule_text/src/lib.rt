@@ -7,6 +7,7 @@ pub mod laws;
 mod line;
 mod line_fault;
 mod moments;
+mod refusal;
 mod requesters;
 mod schedule;
 mod step;
@@ -14,8 +15,10 @@ mod steps;
 mod word;
 mod words;
 
+pub use line::refusal_of;
 pub use line_fault::{LineFault, LineFaultKind};
 pub use moments::MomentsIter;
+pub use refusal::{Expected, Refusal};
 pub use schedule::Schedule;
 pub use step::{Action, ActionRef, RequesterLine, Step, StepRef};
 pub use steps::{Steps, StepsIter};

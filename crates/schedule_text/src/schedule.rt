@@ -9,7 +9,7 @@ use crate::line::{read_action, read_open, read_reply, read_request, read_request
 use crate::requesters::Requesters;
 use crate::word::Word;
 use crate::words::{UsualName, Words, words_in};
-use crate::{Action, LineFault, LineFaultKind, RequesterLine, Step, Steps};
+use crate::{Action, Expected, LineFault, LineFaultKind, RequesterLine, Step, Steps};
 use line_words::split_line;
 use std::alloc::Global;
 use std::marker::Model;
@@ -136,7 +136,7 @@ impl Schedule {
         ensures err { IfErr result (λ kind. ReportsKind (with_step_in self.old words.old) kind) }
         ensures unchanged { OnErr result (self.new ≡ self.old) }
     {
-        let moment = words.next_like(&mut self.last.moment)?;
+        let moment = words.next_like(&mut self.last.moment, Expected::Moment)?;
         match words.usual_name() {
             Some(UsualName::Reply) => {
                 let action = read_reply(words, &mut self.last.number)?;
@@ -149,7 +149,7 @@ impl Schedule {
             Some(UsualName::Tick) => self.add_tick(&moment, words),
             Some(UsualName::Open) => self.add_open(&moment, words),
             None => {
-                let name = words.next()?;
+                let name = words.next(Expected::Action)?;
                 self.add_named(&moment, &name, words)
             }
         }
@@ -180,11 +180,11 @@ impl Schedule {
 
     /// Adds the action of this name at the moment that a word spells, by the words after the name.
     #[inline(never)]
-    fn add_named(
+    fn add_named<'a>(
         &mut self,
         moment: &Word<'_>,
-        name: &Word<'_>,
-        words: &mut Words<'_>,
+        name: &Word<'a>,
+        words: &mut Words<'a>,
     ) -> Result<(), LineFaultKind>
         ensures ok { OnOk result (with_named self.old moment.now name.now words.old ≡ Ok self.new) }
         ensures err { IfErr result (λ kind. ReportsKind (with_named self.old moment.now name.now words.old) kind) }

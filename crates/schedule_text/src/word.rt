@@ -3,9 +3,10 @@
 ghost use Rattle.std.specs.Prelude.{◌≡◌, ◌≤◌, IfOk};
 ghost use Rattle.line_words.specs.Numbers.{decimal_of};
 ghost use Rattle.schedule_text.specs.CommandWords.{is};
+ghost use Rattle.schedule_text.specs.Refusals.{kinds};
 ghost use Rattle.schedule_text.specs.WordValues.{any_number, any_value, eid_in, moment_in, number_up_to};
 
-use crate::LineFaultKind;
+use crate::{Expected, Refusal};
 use line_words::read_value;
 use mctp_packet::{Eid, MAX_EID, MAX_MOMENT, Moment};
 use std::marker::Model;
@@ -80,75 +81,102 @@ impl<'a> Word<'a> {
     }
 
     /// The number that it spells, where it is at most `most`.
-    fn number_up_to(&self, most: u64) -> Result<u64, LineFaultKind>
-        ensures value { result ≡ number_up_to most self.now }
+    // Inlined, as the readers of numbers after it: their results are then passed on in parts.
+    #[inline(always)]
+    fn number_up_to(&self, most: u64, expected: Expected) -> Result<u64, Refusal<'a>>
+        ensures value { kinds result ≡ number_up_to most self.now }
         ensures range { IfOk result (λ number. number ≤ most) }
     {
         match self.number {
             Some(number) if number <= most => Ok(number),
-            _ => Err(LineFaultKind::Number),
+            _ => Err(Refusal::of_number(self.bytes, expected)),
         }
     }
 
     /// The number of at most 16 digits that it spells.
-    pub(crate) fn any_number(&self) -> Result<u64, LineFaultKind>
-        ensures { result ≡ any_number self.now }
+    #[inline(always)]
+    pub(crate) fn any_number(&self) -> Result<u64, Refusal<'a>>
+        ensures { kinds result ≡ any_number self.now }
     {
-        self.number.ok_or(LineFaultKind::Number)
+        match self.number {
+            Some(number) => Ok(number),
+            None => Err(Refusal::of_number(self.bytes, Expected::Number)),
+        }
     }
 
     /// The value of at most 16 digits that it spells, with a sign or without.
-    pub(crate) fn any_value(&self) -> Result<i64, LineFaultKind>
-        ensures { result ≡ any_value self.now }
+    pub(crate) fn any_value(&self) -> Result<i64, Refusal<'a>>
+        ensures { kinds result ≡ any_value self.now }
     {
-        read_value(self.bytes).ok_or(LineFaultKind::Number)
+        match read_value(self.bytes) {
+            Some(value) => Ok(value),
+            None => Err(Refusal::of_number(self.bytes, Expected::Value)),
+        }
     }
 
     /// The number of one byte that it spells.
-    pub(crate) fn byte(&self) -> Result<u8, LineFaultKind>
-        ensures { result ≡ number_up_to MAX_BYTE self.now }
+    #[inline(always)]
+    pub(crate) fn byte(&self) -> Result<u8, Refusal<'a>>
+        ensures { kinds result ≡ number_up_to MAX_BYTE self.now }
     {
-        let number = self.number_up_to(MAX_BYTE)?;
+        let number = self.number_up_to(MAX_BYTE, Expected::Byte)?;
+        Ok(number as u8)
+    }
+
+    /// The state that it spells.
+    #[inline(always)]
+    pub(crate) fn state(&self) -> Result<u8, Refusal<'a>>
+        ensures { kinds result ≡ number_up_to MAX_BYTE self.now }
+    {
+        let number = self.number_up_to(MAX_BYTE, Expected::State)?;
         Ok(number as u8)
     }
 
     /// The ID of a sensor or an effecter, or the count of bytes, that it spells.
-    pub(crate) fn id(&self) -> Result<u16, LineFaultKind>
-        ensures { result ≡ number_up_to MAX_ID self.now }
+    #[inline(always)]
+    pub(crate) fn id(&self) -> Result<u16, Refusal<'a>>
+        ensures { kinds result ≡ number_up_to MAX_ID self.now }
     {
-        let number = self.number_up_to(MAX_ID)?;
+        let number = self.number_up_to(MAX_ID, Expected::Id)?;
         Ok(number as u16)
     }
 
     /// The handle that it spells.
-    pub(crate) fn handle(&self) -> Result<u32, LineFaultKind>
-        ensures { result ≡ number_up_to MAX_HANDLE self.now }
+    #[inline(always)]
+    pub(crate) fn handle(&self) -> Result<u32, Refusal<'a>>
+        ensures { kinds result ≡ number_up_to MAX_HANDLE self.now }
     {
-        let number = self.number_up_to(MAX_HANDLE)?;
+        let number = self.number_up_to(MAX_HANDLE, Expected::Handle)?;
         Ok(number as u32)
     }
 
     /// The timeout in milliseconds that it spells.
-    pub(crate) fn timeout(&self) -> Result<u32, LineFaultKind>
-        ensures { result ≡ number_up_to MAX_TIMEOUT self.now }
+    #[inline(always)]
+    pub(crate) fn timeout(&self) -> Result<u32, Refusal<'a>>
+        ensures { kinds result ≡ number_up_to MAX_TIMEOUT self.now }
     {
-        let number = self.number_up_to(MAX_TIMEOUT)?;
+        let number = self.number_up_to(MAX_TIMEOUT, Expected::Timeout)?;
         Ok(number as u32)
     }
 
     /// The endpoint ID that it spells.
-    pub(crate) fn eid(&self) -> Result<Eid, LineFaultKind>
-        ensures { result ≡ eid_in self.now }
+    #[inline(always)]
+    pub(crate) fn eid(&self) -> Result<Eid, Refusal<'a>>
+        ensures { kinds result ≡ eid_in self.now }
     {
-        let number = self.number_up_to(u64::from(MAX_EID))?;
-        Eid::new(number as u8).ok_or(LineFaultKind::Number)
+        let number = self.number_up_to(u64::from(MAX_EID), Expected::Eid)?;
+        match Eid::new(number as u8) {
+            Some(eid) => Ok(eid),
+            None => Err(Refusal::of_number(self.bytes, Expected::Eid)),
+        }
     }
 
     /// The moment that it spells.
-    pub(crate) fn moment(&self) -> Result<Moment, LineFaultKind>
-        ensures { result ≡ moment_in self.now }
+    #[inline(always)]
+    pub(crate) fn moment(&self) -> Result<Moment, Refusal<'a>>
+        ensures { kinds result ≡ moment_in self.now }
     {
-        let number = self.number_up_to(MAX_MOMENT)?;
+        let number = self.number_up_to(MAX_MOMENT, Expected::Moment)?;
         Ok(Moment::new(number).unwrap())
     }
 }

@@ -3,12 +3,13 @@
 ghost use Rattle.std.specs.Prelude.{◌≡◌, ◌≢◌, ◌<◌, ◌∷◌, [], IfOk, IfErr, IfSome, IfNone, OnOk, OnErr, length};
 ghost use Rattle.line_words.specs.Lines.{said_words};
 ghost use Rattle.schedule_text.specs.CommandWords.{only_word};
+ghost use Rattle.schedule_text.specs.Refusals.{kinds};
 ghost use Rattle.schedule_text.specs.UsualNames.{usual_command, usual_name};
-ghost use Rattle.schedule_text.specs.declared.line_fault.LineFaultKind.TheVariants as kinds;
+ghost use Rattle.schedule_text.specs.declared.line_fault.LineFaultKind.TheVariants as faults;
 
-use crate::LineFaultKind;
 use crate::last_number::LastNumber;
 use crate::word::Word;
+use crate::{Expected, Refusal};
 use arrayvec::ArrayVec;
 use line_words::{first_number, split_number, split_word, without_cr};
 use pldm_wire::MAX_STATES;
@@ -62,17 +63,17 @@ pub(crate) fn words_in(line: &[u8]) -> Option<(Word<'_>, Words<'_>)>
 }
 
 impl<'a> Words<'a> {
-    /// The next word, which there has to be.
+    /// The next word, which there has to be: this is expected there.
     // Inlined: a word is passed on in parts.
     #[inline(always)]
-    pub(crate) fn next(&mut self) -> Result<Word<'a>, LineFaultKind>
+    pub(crate) fn next(&mut self, expected: Expected) -> Result<Word<'a>, Refusal<'a>>
         ensures ok { IfOk result (λ word. self.old ≡ word ∷ self.new) }
         ensures none { OnErr result (self.old ≡ []) }
         ensures same { OnErr result (self.new ≡ self.old) }
-        ensures err { IfErr result (λ kind. kind ≡ kinds.Words) }
+        ensures err { IfErr result (λ refusal. refusal.kind ≡ faults.Words) }
     {
         let Some((word, number, text)) = split_number(self.text) else {
-            return Err(LineFaultKind::Words);
+            return Err(Refusal::of_end(expected));
         };
         self.text = text;
         Ok(Word::new(word, number))
@@ -81,17 +82,21 @@ impl<'a> Words<'a> {
     /// The next word, as [`Words::next`] reads it. Where it is that number once more, no digit is read.
     // Inlined: it stands at the begin of nearly all steps.
     #[inline(always)]
-    pub(crate) fn next_like(&mut self, last: &mut LastNumber) -> Result<Word<'a>, LineFaultKind>
+    pub(crate) fn next_like(
+        &mut self,
+        last: &mut LastNumber,
+        expected: Expected,
+    ) -> Result<Word<'a>, Refusal<'a>>
         ensures ok { IfOk result (λ word. self.old ≡ word ∷ self.new) }
         ensures none { OnErr result (self.old ≡ []) }
         ensures same { OnErr result (self.new ≡ self.old) }
-        ensures err { IfErr result (λ kind. kind ≡ kinds.Words) }
+        ensures err { IfErr result (λ refusal. refusal.kind ≡ faults.Words) }
     {
         if let Some((word, text)) = last.split(self.text) {
             self.text = text;
             return Ok(word);
         }
-        let word = self.next()?;
+        let word = self.next(expected)?;
         last.set(&word);
         Ok(word)
     }
@@ -131,40 +136,42 @@ impl<'a> Words<'a> {
         Some(name)
     }
 
-    /// The one word that there has to be.
+    /// The one word that there has to be: this is expected there.
     // Inlined: it stands at the end of nearly all steps.
     #[inline(always)]
-    pub(crate) fn only(&mut self) -> Result<Word<'a>, LineFaultKind>
-        ensures value { result ≡ only_word self.old }
+    pub(crate) fn only(&mut self, expected: Expected) -> Result<Word<'a>, Refusal<'a>>
+        ensures value { kinds result ≡ only_word self.old }
         ensures ok { IfOk result (λ word. self.old ≡ word ∷ []) }
     {
-        let word = self.next()?;
+        let word = self.next(expected)?;
         self.end()?;
         Ok(word)
     }
 
     /// There has to be no word.
-    pub(crate) fn end(&self) -> Result<(), LineFaultKind>
+    // Inlined, as those that it ends.
+    #[inline(always)]
+    pub(crate) fn end(&self) -> Result<(), Refusal<'a>>
         ensures ok { OnOk result (self.now ≡ []) }
         ensures more { OnErr result (self.now ≢ []) }
-        ensures err { IfErr result (λ kind. kind ≡ kinds.Words) }
+        ensures err { IfErr result (λ refusal. refusal.kind ≡ faults.Words) }
     {
         match split_word(self.text) {
-            Some(_) => Err(LineFaultKind::Words),
+            Some((word, _)) => Err(Refusal::of_word(word, Expected::End)),
             None => Ok(()),
         }
     }
 
     /// All of them, of which there have to be at most [`MAX_STATES`].
-    pub(crate) fn rest(&mut self) -> Result<ArrayVec<Word<'a>, MAX_STATES>, LineFaultKind>
+    pub(crate) fn rest(&mut self) -> Result<ArrayVec<Word<'a>, MAX_STATES>, Refusal<'a>>
         ensures ok { IfOk result (λ words. words.items ≡ self.old) }
         ensures many { OnErr result (MAX_STATES < length self.old) }
-        ensures err { IfErr result (λ kind. kind ≡ kinds.Words) }
+        ensures err { IfErr result (λ refusal. refusal.kind ≡ faults.Words) }
     {
         let mut words = ArrayVec::new();
-        while let Ok(word) = self.next() {
+        while let Ok(word) = self.next(Expected::State) {
             if words.is_full() {
-                return Err(LineFaultKind::Words);
+                return Err(Refusal::of_word(word.bytes(), Expected::End));
             }
             words.push(word);
         }
