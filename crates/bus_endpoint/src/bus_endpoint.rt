@@ -1,18 +1,18 @@
 //! An endpoint and its control responder, kept in step.
 
 ghost use Rattle.std.specs.FinMap as map;
-ghost use Rattle.std.specs.Prelude.{◌≡◌, ℕ, ◌≤◌, ◌<◌, ◌↔◌, IfOk, IfErr, IfSome, IsErrOf, IsOk, IsSome, List, OnErr, OnOk, Some, false, length, None, option_map, true};
+ghost use Rattle.std.specs.Prelude.{◌≡◌, ℕ, ◌≤◌, ◌<◌, ◌↔◌, IfOk, IfErr, IfSome, IsOk, IsSome, List, OnErr, OnOk, Some, false, length, None, option_map, true};
 ghost use Rattle.mctp_control.specs.Dropped.{control_left, control_reply};
 ghost use Rattle.pldm_endpoint.specs.Giving.{response_of};
-ghost use Rattle.pldm_endpoint.specs.Receiving.{HasAnswered, HasSameSettings, IsRefused};
+ghost use Rattle.pldm_endpoint.specs.Receiving.{HasAnswered, HasForgotten, IsRefused};
+ghost use Rattle.pldm_endpoint.specs.Refusing.{IsWhyNotTaken};
 ghost use Rattle.pldm_endpoint.specs.RequestKeys.{pending_at};
 ghost use Rattle.pldm_endpoint.specs.Stepping.{StepHasReply, stepping};
-ghost use Rattle.pldm_endpoint.specs.TwoSteps.{IsHandedOn, IsItsAnswer, held_in};
+ghost use Rattle.pldm_endpoint.specs.TwoSteps.{held_in};
 ghost use Rattle.pldm_responder.specs.Answering.{HasReply, answering};
 ghost use Rattle.pldm_responder.specs.Asked.{Answered};
 ghost use Rattle.pldm_responder.specs.Ends.{eid_or_null};
 ghost use Rattle.pldm_responder.specs.ResponderStates.{IsHeld};
-ghost use Rattle.pldm_responder.specs.Slots.{source_count};
 ghost use Rattle.pldm_responder.specs.Steps.{restarted_held};
 ghost use Rattle.bus_endpoint.specs.BusViews.{HaveOneEid};
 ghost use Rattle.bus_endpoint.specs.Coming.{BusStepHasReply, HasCome, IsInStep, IsStep, control_after, control_answer, eid_in};
@@ -172,8 +172,8 @@ impl BusEndpoint {
     }
 
     /// Takes a packet that the endpoint dropped for this reason, with what became of it there. The control responder
-    /// may answer it; the endpoint then has the same endpoint ID as the control responder. It is always `Ok`, the result
-    /// of its caller, through whose stack it is then not moved.
+    /// may answer it; the endpoint then has the same endpoint ID as the control responder. It is always `Ok`, the
+    /// result of its caller, through whose stack it is then not moved.
     // Not inlined: the stack that the answer to a control message needs is then not in use while the endpoint takes a
     // packet.
     #[inline(never)]
@@ -212,12 +212,8 @@ impl BusEndpoint {
         ensures answered { IfOk result (λ taken. HasAnswered self.old.endpoint handle.now (Answered answer.now)
             self.new.endpoint (answering reply.new.items taken)) }
         ensures some { IfOk result (HasReply reply.new.items) }
-        ensures not_pending { IsErrOf result AnswerRefusal.NotPending
-            → pending_at self.old.endpoint.pending handle.now ≡ None }
-        ensures other { IsErrOf result AnswerRefusal.OtherCommand
-            → IsSome (pending_at self.old.endpoint.pending handle.now)
-            × (IsItsAnswer (pending_at self.old.endpoint.pending handle.now) (Answered answer.now) → ⊥) }
-        ensures too_long { IsErrOf result AnswerRefusal.TooLong → ⊥ }
+        ensures refused { IfErr result (IsWhyNotTaken (pending_at self.old.endpoint.pending handle.now)
+            (Answered answer.now)) }
         ensures err { OnErr result (self.new.endpoint ≡ self.old.endpoint) }
         ensures control { self.new.control ≡ self.old.control }
     {
@@ -240,13 +236,8 @@ impl BusEndpoint {
             self.new.endpoint (answering reply.new.items taken)) }
         ensures some { IfOk result (HasReply reply.new.items) }
         ensures few { OnOk result (length rest.now ≤ MAX_RESPONSE_DATA) }
-        ensures not_pending { IsErrOf result AnswerRefusal.NotPending
-            → pending_at self.old.endpoint.pending handle.now ≡ None }
-        ensures other { IsErrOf result AnswerRefusal.OtherCommand
-            → IsSome (pending_at self.old.endpoint.pending handle.now)
-            × (IsItsAnswer (pending_at self.old.endpoint.pending handle.now) (response_of code rest.now) → ⊥) }
-        ensures too_long { IsErrOf result AnswerRefusal.TooLong
-            → IsHandedOn (pending_at self.old.endpoint.pending handle.now) × (MAX_RESPONSE_DATA < length rest.now) }
+        ensures refused { IfErr result (IsWhyNotTaken (pending_at self.old.endpoint.pending handle.now)
+            (response_of code rest.now)) }
         ensures err { OnErr result (self.new.endpoint ≡ self.old.endpoint) }
         ensures control { self.new.control ≡ self.old.control }
     {
@@ -268,10 +259,7 @@ impl BusEndpoint {
     pub fn restart(&mut self, now: Moment)
         requires { (held_in self.old.endpoint).last ≤ now }
         ensures held { IsHeld (held_in self.new.endpoint) (restarted_held (held_in self.old.endpoint) now) }
-        ensures idle { self.new.endpoint.pending ≡ map.empty }
-        ensures count { self.new.endpoint.count ≡ self.old.endpoint.count }
-        ensures no_rows { source_count self.new.endpoint.end.rows ≡ 0 }
-        ensures settings { HasSameSettings self.new.endpoint self.old.endpoint }
+        ensures forgotten { HasForgotten self.new.endpoint self.old.endpoint }
         ensures control { self.new.control ≡ self.old.control }
     {
         self.endpoint.restart(now);

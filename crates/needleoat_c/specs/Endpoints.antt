@@ -1,6 +1,6 @@
 -- The calls of an endpoint behind a handle: what they report to C, and what is behind the handle then.
 use Rattle.std.specs.FinMap as map
-use Rattle.std.specs.Prelude.{◌≡◌, ℕ, ◌==◌, nat_le, nat_lt, ◌&&◌, Bool, true, false, MatchBool, List, [], ◌∷◌, length, take, slice_get}
+use Rattle.std.specs.Prelude.{◌≡◌, ◌≤◌, ℕ, ◌==◌, nat_le, nat_lt, ◌&&◌, Bool, true, false, MatchBool, List, [], ◌∷◌, length, take, slice_get}
 use Rattle.std.specs.Prelude.{slice_index_or, Option, Some, None, IsSome, option_and_then, Result, Ok, Err, ◌⊎◌}
 use Rattle.std.specs.Prelude.{if◌then◌else◌}
 use Rattle.mctp_packet.specs.Reasons.{number_of}
@@ -33,7 +33,7 @@ use Rattle.pldm_responder.specs.declared.outcome.Outcome.{Outcome}
 use Rattle.pldm_responder.specs.declared.outcome.MessageOutcome.{MessageOutcome}
 use Rattle.pldm_responder.specs.declared.outcome.Outcome.TheVariants.{Dropped, Partial, Answered}
 use Rattle.pldm_endpoint.specs.Giving.{busy_with, response_of}
-use Rattle.pldm_endpoint.specs.Receiving.{HasSameSettings, IsAsBefore, IsCommanded}
+use Rattle.pldm_endpoint.specs.Receiving.{HasForgotten, HasSameSettings, IsAsBefore, IsCommanded}
 use Rattle.pldm_endpoint.specs.Refusing.{refused_by}
 use Rattle.pldm_endpoint.specs.RequestKeys.{pending_at, request_key}
 use Rattle.pldm_endpoint.specs.TwoSteps.{EndpointView, answered_held, count_after, held_after, held_in, pending_after, received_step, request_at}
@@ -51,9 +51,9 @@ use Rattle.needleoat_forms.specs.Commands.{command_in}
 use Rattle.needleoat_forms.specs.declared.answer.AnswerFields.{AnswerFields}
 use Rattle.needleoat_forms.specs.declared.command.CommandFields.{CommandFields}
 use Rattle.needleoat_c.specs.EndpointHandles.{Inside}
-use Rattle.needleoat_c.specs.Settings.{control_in, first_eid, handed_in, keeping_in}
+use Rattle.needleoat_c.specs.Settings.{IsSetup, control_in, first_eid, handed_in, keeping_in}
 use Rattle.needleoat_c.specs.declared.kinds.TheConstants.{STEP_ANSWERED, STEP_CONTROL, STEP_DROPPED, STEP_PARTIAL, STEP_PERFORM, STEP_REFUSED, STEP_RESPOND}
-use Rattle.needleoat_c.specs.declared.refusals.TheConstants.{BAD_MOMENT, BEING_PERFORMED, NOTHING_THERE, NOT_ITS_ANSWER, NOT_PENDING}
+use Rattle.needleoat_c.specs.declared.refusals.TheConstants.{ALREADY_THERE, BAD_MOMENT, BEING_PERFORMED, NOTHING_THERE, NOT_ITS_ANSWER, NOT_PENDING}
 use Rattle.needleoat_c.specs.declared.refusals.TheConstants.{NO_MEMORY, OUT_OF_RANGE, OUT_OF_TURN, TOO_MANY_COMMANDS}
 use Rattle.needleoat_c.specs.declared.refusals.TheConstants.{TOO_MANY_OPEN_MESSAGES, TOO_MANY_SOURCES}
 use Rattle.needleoat_c.specs.declared.reports.HandleFields.{HandleFields}
@@ -141,15 +141,18 @@ abbrev pub IsNew : EndpointSettings → ℕ → Option Inside → Type 0
 IsNew s now None = ⊥
 IsNew s now (Some new) = IsMade s now new
 
+-- 0, or why none is made: one is there; the settings are none; the moment is past the last one; or no memory was left
+pub record ReportsMaking (s : EndpointSettings) (now : ℕ) (is_live : Bool) (result : ℕ) : Type 0 where
+  pub already : is_live ≡ true → result ≡ ALREADY_THERE
+  pub out_of_range : is_live ≡ false → (IsSetup s → ⊥) → result ≡ OUT_OF_RANGE
+  pub bad_moment : is_live ≡ false → IsSetup s → (now ≤ MAX_MOMENT → ⊥) → result ≡ BAD_MOMENT
+  pub made : is_live ≡ false → IsSetup s → now ≤ MAX_MOMENT → (result ≡ 0) ⊎ (result ≡ NO_MEMORY)
+
 -- ---- restarting ----
 
--- no command is pending, and no source has room for answers
 pub record IsRestarted (now : ℕ) (old new : Inside) : Type 0 where
   pub held : IsHeld (held_in new.endpoint) (restarted_held (held_in old.endpoint) now)
-  pub idle : new.endpoint.pending ≡ map.empty
-  pub count : new.endpoint.count ≡ old.endpoint.count
-  pub no_rows : source_count new.endpoint.end.rows ≡ 0
-  pub settings : HasSameSettings new.endpoint old.endpoint
+  pub forgotten : HasForgotten new.endpoint old.endpoint
   pub control : new.control ≡ old.control
 
 abbrev pub IsLeftByRestart : ℕ → ℕ → Inside → Inside → Type 0

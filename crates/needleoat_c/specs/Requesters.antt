@@ -24,7 +24,7 @@ use Rattle.needleoat_c.specs.RequesterHandles.{Inside}
 use Rattle.needleoat_c.specs.declared.kinds.TheConstants.{RECEIVING_ANSWERED, RECEIVING_DROPPED, RECEIVING_PARTIAL}
 use Rattle.needleoat_c.specs.declared.kinds.TheConstants.{RECEIVING_REFUSED, STATUS_ANSWERED, STATUS_GAVE_UP, STATUS_OPEN}
 use Rattle.needleoat_c.specs.declared.kinds.TheConstants.{STATUS_UNKNOWN}
-use Rattle.needleoat_c.specs.declared.refusals.TheConstants.{BAD_MOMENT, ID_IN_USE, NOTHING_THERE, NO_COMMAND, NO_MEMORY}
+use Rattle.needleoat_c.specs.declared.refusals.TheConstants.{ALREADY_THERE, BAD_MOMENT, ID_IN_USE, NOTHING_THERE, NO_COMMAND, NO_MEMORY, OUT_OF_RANGE}
 use Rattle.needleoat_c.specs.declared.refusals.TheConstants.{TAG_IN_USE}
 use Rattle.needleoat_c.specs.declared.reports.DueReport.{DueReport}
 use Rattle.needleoat_c.specs.declared.reports.OpeningReport.{OpeningReport}
@@ -72,6 +72,12 @@ timing_of s = record { keep = s.keep_ms; timeout = s.timeout_ms; tries = s.tries
 -- two endpoint IDs, a keeping time, and a timing without a fault
 abbrev pub IsSetup : RequesterSettings → Type 0
 IsSetup s = IsEid s.own × IsEid s.device × IsKeep s.keep_ms × (timing_fault s.own s.device (timing_of s) ≡ None)
+
+-- 0, or why none is made: one is there; the settings are none; or no memory was left
+pub record ReportsMaking (s : RequesterSettings) (is_live : Bool) (result : ℕ) : Type 0 where
+  pub already : is_live ≡ true → result ≡ ALREADY_THERE
+  pub out_of_range : is_live ≡ false → (IsSetup s → ⊥) → result ≡ OUT_OF_RANGE
+  pub made : is_live ≡ false → IsSetup s → (result ≡ 0) ⊎ (result ≡ NO_MEMORY)
 
 -- a new requester is behind the handle
 abbrev pub IsNew : RequesterSettings → Option Inside → Type 0

@@ -1,9 +1,7 @@
 //! The C calls on an endpoint, as `include/needleoat.h` declares them.
 
-ghost use Rattle.std.specs.Prelude.{◌≡◌, ◌≢◌, ◌≤◌, ◌⊎◌, false, true};
-ghost use Rattle.mctp_packet.specs.declared.TheConstants.{MAX_MOMENT};
-ghost use Rattle.needleoat_c.specs.Endpoints.{HasCommand, HasRequest, IsLeft, IsLeftByAnswer, IsLeftByPacket, IsLeftByResponse, IsLeftByRestart, IsNew, IsUpheld, ReportsAnswer, ReportsPacket, ReportsResponse, eid_of, pending, refusal_at};
-ghost use Rattle.needleoat_c.specs.Settings.{IsSetup};
+ghost use Rattle.std.specs.Prelude.{◌≡◌, ◌≢◌, false, true};
+ghost use Rattle.needleoat_c.specs.Endpoints.{HasCommand, HasRequest, IsLeft, IsLeftByAnswer, IsLeftByPacket, IsLeftByResponse, IsLeftByRestart, IsNew, IsUpheld, ReportsAnswer, ReportsMaking, ReportsPacket, ReportsResponse, eid_of, pending, refusal_at};
 
 use crate::endpoint;
 use crate::endpoint_handle::EndpointForC;
@@ -27,12 +25,7 @@ pub extern "C" fn needleoat_endpoint_new(
 ) -> u8
     requires { IsUpheld endpoint.old }
     ensures upheld { IsUpheld endpoint.new }
-    ensures already { endpoint.old.is_live ≡ true → result ≡ ALREADY_THERE }
-    ensures out_of_range { endpoint.old.is_live ≡ false → (IsSetup settings.now → ⊥) → result ≡ OUT_OF_RANGE }
-    ensures moment { endpoint.old.is_live ≡ false → IsSetup settings.now → (now_ms ≤ MAX_MOMENT → ⊥)
-        → result ≡ BAD_MOMENT }
-    ensures number { endpoint.old.is_live ≡ false → IsSetup settings.now → now_ms ≤ MAX_MOMENT
-        → (result ≡ 0) ⊎ (result ≡ NO_MEMORY) }
+    ensures number { ReportsMaking settings.now now_ms endpoint.old.is_live result }
     ensures made { result ≡ 0 → IsNew settings.now now_ms endpoint.new.handle.held }
     ensures refused { result ≢ 0 → endpoint.new.handle.held ≡ endpoint.old.handle.held }
 {

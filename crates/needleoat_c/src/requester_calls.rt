@@ -1,8 +1,8 @@
 //! The C calls on a requester, as `include/needleoat.h` declares them.
 
-ghost use Rattle.std.specs.Prelude.{◌≡◌, ◌≢◌, ◌⊎◌, false, true};
+ghost use Rattle.std.specs.Prelude.{◌≡◌, ◌≢◌, false, true};
 ghost use Rattle.needleoat_forms.specs.Written.{IsWritten};
-ghost use Rattle.needleoat_c.specs.Requesters.{HoldsAfter, IsNew, IsSetup, IsUpheld, MayNeedRoom, ReportsDue, ReportsOpening, ReportsPacket, ReportsProgress, holding, opened_by, opening_at, packet_of, received_by, refusal_at, progress_of, ticked_by, unchanged};
+ghost use Rattle.needleoat_c.specs.Requesters.{HoldsAfter, IsNew, IsUpheld, MayNeedRoom, ReportsDue, ReportsMaking, ReportsOpening, ReportsPacket, ReportsProgress, holding, opened_by, opening_at, packet_of, received_by, refusal_at, progress_of, ticked_by, unchanged};
 
 use crate::kinds::{RECEIVING_REFUSED, STATUS_UNKNOWN};
 use crate::refusals::{ALREADY_THERE, NO_MEMORY, NOTHING_THERE, OUT_OF_RANGE};
@@ -23,9 +23,7 @@ pub extern "C" fn needleoat_requester_new(
 ) -> u8
     requires { IsUpheld requester.old }
     ensures upheld { IsUpheld requester.new }
-    ensures already { requester.old.is_live ≡ true → result ≡ ALREADY_THERE }
-    ensures out_of_range { requester.old.is_live ≡ false → (IsSetup settings.now → ⊥) → result ≡ OUT_OF_RANGE }
-    ensures number { requester.old.is_live ≡ false → IsSetup settings.now → (result ≡ 0) ⊎ (result ≡ NO_MEMORY) }
+    ensures number { ReportsMaking settings.now requester.old.is_live result }
     ensures made { result ≡ 0 → IsNew settings.now requester.new.handle.held }
     ensures refused { result ≢ 0 → requester.new.handle.held ≡ requester.old.handle.held }
 {

@@ -9,7 +9,7 @@ use Rattle.pldm_wire.specs.declared.assigned.TheConstants.{INSTANCE_IDS}
 use Rattle.pldm_wire.specs.declared.command.Command.{Command}
 use Rattle.pldm_responder.specs.Arrivals.{Whole}
 use Rattle.pldm_responder.specs.Asked.{gives, listed}
-use Rattle.pldm_responder.specs.Ends.{AreSameRows, End, GetsRow, IsSameEnd, count_with, has_row}
+use Rattle.pldm_responder.specs.Ends.{AreSameRows, ChangesOnlyAnswers, End, GetsRoom, IsSameEnd, count_with, has_row}
 use Rattle.pldm_responder.specs.Events.{Message}
 use Rattle.pldm_responder.specs.ResponderStates.{Entry, ResponderState, IsHeld, id_in}
 use Rattle.pldm_responder.specs.Looking.{end_finished, message_at}
@@ -17,7 +17,7 @@ use Rattle.pldm_responder.specs.Performing.{Perform, Respond, Task, tasks_of}
 use Rattle.pldm_responder.specs.Recency.{renewed}
 use Rattle.pldm_responder.specs.Requested.{Requested}
 use Rattle.pldm_responder.specs.Reserving.{IsRoomFor, IsWithinSources, is_past_sources}
-use Rattle.pldm_responder.specs.Slots.{Answers, Rows, answers_in, kept_in, source_count}
+use Rattle.pldm_responder.specs.Slots.{Answers, Rows, answers_in, in_front, kept_in, source_count}
 use Rattle.pldm_responder.specs.Steps.{arrival_held, message_outcome, performs}
 use Rattle.pldm_endpoint.specs.Receiving.{HasServed}
 use Rattle.pldm_endpoint.specs.Refusing.{is_full, refused_fresh, refused_while}
@@ -33,45 +33,43 @@ use Rattle.pldm_endpoint.proofs.PendingGlue.{just_put, pending_with}
 
 -- ---- the end gets room for the source, an answer is kept in front, and the request is ended
 module _ (old reserved with_room kept finished : End) (moment : ℕ) (r : Requested) (entry : Entry) (same : IsSameEnd reserved old)
-    (gets : GetsRow r.source with_room.rows reserved.rows) (rest : with_room ≡ record reserved { rows = with_room.rows })
-    (front : (other : ℕ) → kept_in kept.rows other ≡ (if r.source == other then take with_room.rows.window (renewed id_in entry (kept_in with_room.rows other)) else kept_in with_room.rows other))
-    (window : kept.rows.window ≡ with_room.rows.window) (has : (other : ℕ) → has_row kept.rows other ≡ has_row with_room.rows other) (count : source_count kept.rows ≡ source_count with_room.rows)
-    (rest_kept : kept ≡ record with_room { rows = kept.rows }) (done : finished ≡ end_finished kept moment r) where
+    (room : GetsRoom r.source with_room reserved) (keeps : ChangesOnlyAnswers r.source (in_front with_room.rows.window entry) kept with_room)
+    (done : finished ≡ end_finished kept moment r) where
   rows_are : finished.rows ≡ kept.rows
   rows_are = ap (λ (e : End). e.rows) done
 
   window_was : with_room.rows.window ≡ old.rows.window
-  window_was = gets.window ∙ same.rows.window
+  window_was = room.gets.window ∙ same.rows.window
 
   kept_was : (other : ℕ) → kept_in with_room.rows other ≡ kept_in old.rows other
-  kept_was other = gets.kept other ∙ ap answers_in (same.rows.rows other)
+  kept_was other = room.gets.kept other ∙ ap answers_in (same.rows.rows other)
 
   pub is_in_front : (other : ℕ) → kept_in finished.rows other ≡ (if r.source == other then take old.rows.window (renewed id_in entry (kept_in old.rows other)) else kept_in old.rows other)
   is_in_front other =
       ap (λ rows. kept_in rows other) rows_are
-      ∙ front other
+      ∙ keeps.kept other
       ∙ (λ i. if r.source == other then take (window_was i) (renewed id_in entry (kept_was other i)) else kept_was other i)
 
   pub window_is : finished.rows.window ≡ old.rows.window
-  window_is = ap (λ (rows : Rows). rows.window) rows_are ∙ window ∙ window_was
+  window_is = ap (λ (rows : Rows). rows.window) rows_are ∙ keeps.window ∙ window_was
 
   pub has_rows : (other : ℕ) → has_row finished.rows other ≡ (has_row old.rows other || r.source == other)
   has_rows other =
-      ap (λ rows. has_row rows other) rows_are ∙ has other ∙ gets.rows other
+      ap (λ rows. has_row rows other) rows_are ∙ keeps.rows other ∙ room.gets.rows other
       ∙ ap (λ t. is_some t || r.source == other) (same.rows.rows other)
 
   pub sources_are : source_count finished.rows ≡ count_with old.rows r.source
   sources_are =
-      ap source_count rows_are ∙ count
-      ∙ gets.sources
+      ap source_count rows_are ∙ keeps.sources
+      ∙ room.gets.sources
       ∙ ap (λ t. cond (is_some t) (source_count reserved.rows) (source_count reserved.rows + 1)) (same.rows.rows r.source)
       ∙ ap (λ n. cond (has_row old.rows r.source) n (n + 1)) same.rows.sources
 
   pub finished_is : record finished { rows = old.rows } ≡ end_finished old moment r
   finished_is =
       ap (λ (e : End). record e { rows = old.rows }) done
-      ∙ ap (λ (e : End). end_finished (record e { rows = old.rows }) moment r) rest_kept
-      ∙ ap (λ (e : End). end_finished (record e { rows = old.rows }) moment r) rest
+      ∙ ap (λ (e : End). end_finished (record e { rows = old.rows }) moment r) keeps.rest
+      ∙ ap (λ (e : End). end_finished (record e { rows = old.rows }) moment r) room.rest
       ∙ ap (λ (e : End). end_finished e moment r) same.same
 
 -- ---- there is room for the source

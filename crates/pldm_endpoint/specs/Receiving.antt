@@ -1,15 +1,15 @@
 -- What an endpoint makes of the bytes of a packet, and of an answer of its device.
 use Rattle.std.specs.FinMap as map
-use Rattle.std.specs.Prelude.{◌≡◌, ℕ, ◌+◌, ◌⊎◌, true, false, List, ◌∷◌, [], length, Some, None, Ok, Err}
+use Rattle.std.specs.Prelude.{◌≡◌, ℕ, ◌+◌, ◌⊎◌, true, false, List, ◌∷◌, [], length, Option, Some, None, Ok, Err}
 use Rattle.pldm_wire.specs.CommandReading.{command_of}
 use Rattle.pldm_wire.specs.HandingOn.{hands_on}
 use Rattle.pldm_wire.specs.Requests.{Request, request_of}
 use Rattle.pldm_wire.specs.declared.handed_on.HandedOn.{HandedOn}
 use Rattle.pldm_responder.specs.Arrivals.{Whole}
-use Rattle.pldm_responder.specs.Ends.{AreSameRows, has_row}
+use Rattle.pldm_responder.specs.Ends.{AreSameRows, eid_or_null, has_row}
 use Rattle.pldm_responder.specs.Slots.{source_count}
-use Rattle.pldm_responder.specs.ResponderStates.{IsHeld}
-use Rattle.pldm_responder.specs.Looking.{end_finished, ended_by, message_at}
+use Rattle.pldm_responder.specs.ResponderStates.{IsHeld, held_at_first}
+use Rattle.pldm_responder.specs.Looking.{IsRequestTo, end_finished, ended_by, message_at}
 use Rattle.pldm_responder.specs.Needs.{NeedsMemory}
 use Rattle.pldm_responder.specs.OpenOrder.{ended_held}
 use Rattle.pldm_responder.specs.Requested.{Requested}
@@ -17,7 +17,10 @@ use Rattle.pldm_responder.specs.Rooms.{AreRowsAfter}
 use Rattle.pldm_responder.specs.Steps.{message_outcome, performs, received_arrival}
 use Rattle.pldm_responder.specs.Asked.{Given, gives}
 use Rattle.pldm_responder.specs.Performing.{Task, tasks_of}
+use Rattle.pldm_responder.specs.declared.bounds.Bounds.{Bounds}
+use Rattle.pldm_responder.specs.declared.keeping.Keeping.{Keeping}
 use Rattle.pldm_responder.specs.declared.outcome.Outcome.{Outcome}
+use Rattle.pldm_endpoint.specs.Giving.{busy_with}
 use Rattle.pldm_endpoint.specs.Refusing.{IsOfMemory, refused_by, refused_while}
 use Rattle.pldm_endpoint.specs.RequestKeys.{pending_at, request_key, request_key_of}
 use Rattle.pldm_endpoint.specs.Stepping.{StepHasReply, stepping}
@@ -33,6 +36,27 @@ pub record HasSameSettings (new old : EndpointView) : Type 0 where
   pub bounds : new.end.bounds ≡ old.end.bounds
   pub ends_oldest : new.end.ends_oldest ≡ old.end.ends_oldest
   pub max_pending : new.max_pending ≡ old.max_pending
+
+-- nothing is pending and no source has room for answers; the commands of before are counted still
+pub record HasForgotten (new old : EndpointView) : Type 0 where
+  pub idle : new.pending ≡ map.empty
+  pub no_rows : source_count new.end.rows ≡ 0
+  pub count : new.count ≡ old.count
+  pub settings : HasSameSettings new old
+
+-- an endpoint as it is made: it holds what a new responder holds, and nothing is pending
+pub record IsNewEndpoint (own : Option ℕ) (keeping : Keeping) (handed : HandedOn) (limits : Bounds) (most : ℕ)
+    (new : EndpointView) : Type 0 where
+  pub held :
+      IsHeld (held_in new)
+      (held_at_first (eid_or_null own) (busy_with handed keeping.busy) keeping.window keeping.keep tt)
+  pub handed_on : new.handed_on ≡ handed
+  pub bounds : new.end.bounds ≡ limits
+  pub ends_oldest : new.end.ends_oldest ≡ true
+  pub max_pending : new.max_pending ≡ most
+  pub idle : new.pending ≡ map.empty
+  pub count : new.count ≡ 0
+  pub no_rows : source_count new.end.rows ≡ 0
 
 -- the bytes of a packet were received at a moment
 pub record HasReceived (old : EndpointView) (moment : ℕ) (bytes : List ℕ) (new : EndpointView) (step : Step) : Type 0 where
@@ -73,6 +97,12 @@ pub record IsRefused (old : EndpointView) (moment : ℕ) (bytes : List ℕ) (new
   pub same : IsAsBefore new old
 
 -- ---- a request that a packet completes
+
+-- it came from another endpoint to this one, it is fresh, and nothing is pending for its source and instance ID
+pub record IsToBeServed (e : EndpointView) (moment : ℕ) (r : Requested) : Type 0 where
+  pub sent : IsRequestTo e.end r
+  pub fresh : performs (held_in e) (message_at moment r) ≡ true
+  pub free : map.get e.pending (request_key_of (message_at moment r)) ≡ None
 
 -- it is not handed on as bytes, and its command is refused with this code
 abbrev pub IsRefusedBy : HandedOn → ℕ → List ℕ → Type 0

@@ -1,15 +1,19 @@
--- Why a packet is refused.
+-- Why a packet is refused, and what a device gives.
 use Rattle.std.specs.FinMap as map
-use Rattle.std.specs.Prelude.{ℕ, Bool, false, true, ◌&&◌, ◌||◌, ◌==◌, nat_le, bytes_eq, List, [], ◌∷◌, Option, Some, None, if◌then◌else◌}
+use Rattle.std.specs.Prelude.{◌≡◌, ◌<◌, ℕ, Bool, false, true, ◌&&◌, ◌||◌, ◌==◌, nat_le, bytes_eq, List, [], ◌∷◌, Option, Some, None, IsSome, length, if◌then◌else◌}
 use Rattle.pldm_wire.specs.HandingOn.{hands_on}
+use Rattle.pldm_wire.specs.declared.limits.TheConstants.{MAX_RESPONSE_DATA}
+use Rattle.pldm_responder.specs.Asked.{Answered, Given, Responded}
 use Rattle.pldm_responder.specs.Events.{Message}
 use Rattle.pldm_responder.specs.Looking.{is_past_open}
 use Rattle.pldm_responder.specs.Performing.{Task, tasks_of}
 use Rattle.pldm_responder.specs.Reserving.{is_past_sources}
 use Rattle.pldm_responder.specs.Steps.{performs}
 use Rattle.pldm_endpoint.specs.RequestKeys.{request_key_of}
-use Rattle.pldm_endpoint.specs.TwoSteps.{EndpointView, held_in, request_in}
+use Rattle.pldm_endpoint.specs.TwoSteps.{EndpointView, IsHandedOn, IsItsAnswer, held_in, request_in}
 use Rattle.pldm_endpoint.specs.declared.pending_commands.PendingCommand.{PendingCommand}
+use Rattle.pldm_endpoint.specs.declared.step.AnswerRefusal.{AnswerRefusal}
+use Rattle.pldm_endpoint.specs.declared.step.AnswerRefusal.TheVariants.{NotPending, OtherCommand, TooLong}
 use Rattle.pldm_endpoint.specs.declared.step.ReceiveRefusal.{ReceiveRefusal}
 use Rattle.pldm_endpoint.specs.declared.step.ReceiveRefusal.TheVariants.{Performing, BeingPerformed, Full, Sources, OpenMessages, Memory}
 
@@ -49,3 +53,16 @@ IsOfMemory Full = ⊥
 IsOfMemory Sources = ⊥
 IsOfMemory OpenMessages = ⊥
 IsOfMemory (Memory memory) = Unit {0}
+
+-- ---- what the device gives
+
+-- it is a response with more data than there may be
+abbrev pub IsTooLong : Given → Type 0
+IsTooLong (Answered given) = ⊥
+IsTooLong (Responded given) = MAX_RESPONSE_DATA < length given.rest
+
+-- why it is not taken for what is pending under its handle: nothing is, or something else, or it is too long
+abbrev pub IsWhyNotTaken : Option PendingCommand → Given → AnswerRefusal → Type 0
+IsWhyNotTaken pending given NotPending = pending ≡ None
+IsWhyNotTaken pending given OtherCommand = IsSome pending × (IsItsAnswer pending given → ⊥)
+IsWhyNotTaken pending given TooLong = IsHandedOn pending × IsTooLong given

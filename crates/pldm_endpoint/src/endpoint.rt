@@ -1,26 +1,26 @@
 //! The responding end of a link over a device that answers later: a request is handed out, and its answer comes back.
 
 ghost use Rattle.std.specs.FinMap as map;
-ghost use Rattle.std.specs.Prelude.{◌≡◌, ◌≢◌, ◌<◌, ◌≤◌, ◌*◌, ℕ, true, List, [], ◌∷◌, Ok, length, None, option_map, IfOk, IfErr, IfSome, IsErrOf, IsSome, OnErr, OnOk};
+ghost use Rattle.std.specs.Prelude.{◌≡◌, ◌<◌, ◌≤◌, ◌*◌, ℕ, true, List, [], ◌∷◌, Ok, length, None, option_map, IfOk, IfErr, IfSome, IsSome, OnErr, OnOk};
 ghost use Rattle.mctp_packet.specs.declared.TheConstants.{MAX_MESSAGE_BYTES};
 ghost use Rattle.pldm_wire.specs.HandingOn.{hands_on};
 ghost use Rattle.pldm_wire.specs.declared.limits.TheConstants.{MAX_REQUEST_DATA};
 ghost use Rattle.pldm_responder.specs.Answering.{HasReply, answering};
 ghost use Rattle.pldm_responder.specs.Arrivals.{request_packet};
-ghost use Rattle.pldm_responder.specs.Asked.{Answered, Given, Responded};
+ghost use Rattle.pldm_responder.specs.Asked.{Answered, Given};
 ghost use Rattle.pldm_responder.specs.Counts.{CountsKept};
 ghost use Rattle.pldm_responder.specs.Ends.{eid_or_null};
-ghost use Rattle.pldm_responder.specs.ResponderStates.{IsHeld, held_at_first};
-ghost use Rattle.pldm_responder.specs.Looking.{IsLastFor, message_at};
+ghost use Rattle.pldm_responder.specs.ResponderStates.{IsHeld};
+ghost use Rattle.pldm_responder.specs.Looking.{IsLastFor, IsRequestTo};
 ghost use Rattle.pldm_responder.specs.Performing.{tasks_of};
 ghost use Rattle.pldm_responder.specs.Slots.{source_count};
-ghost use Rattle.pldm_responder.specs.Steps.{assigned_held, kept_for, performs, restarted_held};
-ghost use Rattle.pldm_endpoint.specs.Receiving.{HasAnswered, HasReceived, HasSameSettings, HasServed, IsNotServed, IsRefused, IsRefusedBy};
+ghost use Rattle.pldm_responder.specs.Steps.{assigned_held, kept_for, restarted_held};
+ghost use Rattle.pldm_endpoint.specs.Receiving.{HasAnswered, HasForgotten, HasReceived, HasServed, IsNewEndpoint, IsNotServed, IsRefused, IsRefusedBy, IsToBeServed};
 ghost use Rattle.pldm_endpoint.specs.Giving.{IsReplyOf, busy_with, pending_command, response_of};
-ghost use Rattle.pldm_endpoint.specs.Refusing.{is_full};
-ghost use Rattle.pldm_endpoint.specs.RequestKeys.{pending_at, request_key_of};
+ghost use Rattle.pldm_endpoint.specs.Refusing.{IsWhyNotTaken, is_full};
+ghost use Rattle.pldm_endpoint.specs.RequestKeys.{pending_at};
 ghost use Rattle.pldm_endpoint.specs.Stepping.{StepHasReply, stepping};
-ghost use Rattle.pldm_endpoint.specs.TwoSteps.{IsHandedOn, IsItsAnswer, held_in, request_at, task_in};
+ghost use Rattle.pldm_endpoint.specs.TwoSteps.{IsItsAnswer, held_in, request_at, task_in};
 
 use crate::pending_commands::{PendingCommand, PendingCommands, RequestKey, put_reply};
 use crate::request_bytes::RequestBytes;
@@ -91,15 +91,7 @@ impl Endpoint {
         bounds: Bounds,
         max_pending: usize,
     ) -> Endpoint
-        ensures held { IsHeld (held_in result)
-            (held_at_first (eid_or_null own) (busy_with handed_on keeping.busy) keeping.window keeping.keep tt) }
-        ensures handed_on { result.handed_on ≡ handed_on }
-        ensures bounds { result.end.bounds ≡ bounds }
-        ensures ends_oldest { result.end.ends_oldest ≡ true }
-        ensures max_pending { result.max_pending ≡ max_pending }
-        ensures idle { result.pending ≡ map.empty }
-        ensures count { result.count ≡ 0 }
-        ensures no_rows { source_count result.end.rows ≡ 0 }
+        ensures { IsNewEndpoint own keeping handed_on bounds max_pending result }
     {
         let busy = busy_with(handed_on, keeping.busy);
         Endpoint {
@@ -285,8 +277,7 @@ impl Endpoint {
         request: &Request<'_>,
         reply: &mut Body,
     ) -> Result<MessageStep, ReceiveRefusal>
-        requires other { request.now.source ≢ self.old.end.own }
-        requires here { request.now.destination ≡ self.old.end.own }
+        requires { IsRequestTo self.old.end request.now }
         ensures served { IfOk result (HasServed self.old now request.now self.new reply.new.items) }
         ensures refused { IfErr result (IsNotServed self.old now request.now self.new) }
     {
@@ -319,10 +310,7 @@ impl Endpoint {
         request: &Request<'_>,
         command: Option<Command>,
     ) -> Result<MessageStep, ReceiveRefusal>
-        requires other { request.now.source ≢ self.old.end.own }
-        requires here { request.now.destination ≡ self.old.end.own }
-        requires free { map.get self.old.pending (request_key_of (message_at now request.now)) ≡ None }
-        requires fresh { performs (held_in self.old) (message_at now request.now) ≡ true }
+        requires ready { IsToBeServed self.old now request.now }
         requires asked { tasks_of (hands_on self.old.handed_on) request.now.bytes
             ≡ task_in command request.now.bytes ∷ [] }
         ensures served { (reply : List ℕ) → IfOk result (HasServed self.old now request.now self.new reply) }
@@ -359,10 +347,7 @@ impl Endpoint {
         code: Code,
         reply: &mut Body,
     ) -> Result<MessageStep, ReceiveRefusal>
-        requires other { request.now.source ≢ self.old.end.own }
-        requires here { request.now.destination ≡ self.old.end.own }
-        requires free { map.get self.old.pending (request_key_of (message_at now request.now)) ≡ None }
-        requires fresh { performs (held_in self.old) (message_at now request.now) ≡ true }
+        requires ready { IsToBeServed self.old now request.now }
         requires refused { IsRefusedBy self.old.handed_on code request.now.bytes }
         ensures served { IfOk result (HasServed self.old now request.now self.new reply.new.items) }
         ensures refused { IfErr result (IsNotServed self.old now request.now self.new) }
@@ -398,10 +383,7 @@ impl Endpoint {
         answer: &Answer,
     ) -> Result<Outcome, AnswerRefusal>
         ensures answered { IfOk result (HasAnswered self.old handle.now (Answered answer.now) self.new) }
-        ensures not_pending { IsErrOf result AnswerRefusal.NotPending → pending_at self.old.pending handle.now ≡ None }
-        ensures other { IsErrOf result AnswerRefusal.OtherCommand → IsSome (pending_at self.old.pending handle.now)
-            × (IsItsAnswer (pending_at self.old.pending handle.now) (Answered answer.now) → ⊥) }
-        ensures too_long { IsErrOf result AnswerRefusal.TooLong → ⊥ }
+        ensures refused { IfErr result (IsWhyNotTaken (pending_at self.old.pending handle.now) (Answered answer.now)) }
         ensures err { OnErr result (self.new ≡ self.old) }
     {
         let mut reply = Body::new();
@@ -424,10 +406,7 @@ impl Endpoint {
         ensures answered { IfOk result (λ taken.
             HasAnswered self.old handle.now (Answered answer.now) self.new (answering reply.new.items taken)) }
         ensures some { IfOk result (HasReply reply.new.items) }
-        ensures not_pending { IsErrOf result AnswerRefusal.NotPending → pending_at self.old.pending handle.now ≡ None }
-        ensures other { IsErrOf result AnswerRefusal.OtherCommand → IsSome (pending_at self.old.pending handle.now)
-            × (IsItsAnswer (pending_at self.old.pending handle.now) (Answered answer.now) → ⊥) }
-        ensures too_long { IsErrOf result AnswerRefusal.TooLong → ⊥ }
+        ensures refused { IfErr result (IsWhyNotTaken (pending_at self.old.pending handle.now) (Answered answer.now)) }
         ensures err { OnErr result (self.new ≡ self.old) }
     {
         let Some(pending) = self.pending.at(handle) else {
@@ -459,11 +438,8 @@ impl Endpoint {
     ) -> Result<Outcome, AnswerRefusal>
         ensures answered { IfOk result (HasAnswered self.old handle.now (response_of code rest.now) self.new) }
         ensures few { OnOk result (length rest.now ≤ MAX_RESPONSE_DATA) }
-        ensures not_pending { IsErrOf result AnswerRefusal.NotPending → pending_at self.old.pending handle.now ≡ None }
-        ensures other { IsErrOf result AnswerRefusal.OtherCommand → IsSome (pending_at self.old.pending handle.now)
-            × (IsItsAnswer (pending_at self.old.pending handle.now) (response_of code rest.now) → ⊥) }
-        ensures too_long { IsErrOf result AnswerRefusal.TooLong → IsHandedOn (pending_at self.old.pending handle.now)
-            × (MAX_RESPONSE_DATA < length rest.now) }
+        ensures refused { IfErr result (IsWhyNotTaken (pending_at self.old.pending handle.now)
+            (response_of code rest.now)) }
         ensures err { OnErr result (self.new ≡ self.old) }
     {
         let mut reply = Body::new();
@@ -488,11 +464,8 @@ impl Endpoint {
             HasAnswered self.old handle.now (response_of code rest.now) self.new (answering reply.new.items taken)) }
         ensures some { IfOk result (HasReply reply.new.items) }
         ensures few { OnOk result (length rest.now ≤ MAX_RESPONSE_DATA) }
-        ensures not_pending { IsErrOf result AnswerRefusal.NotPending → pending_at self.old.pending handle.now ≡ None }
-        ensures other { IsErrOf result AnswerRefusal.OtherCommand → IsSome (pending_at self.old.pending handle.now)
-            × (IsItsAnswer (pending_at self.old.pending handle.now) (response_of code rest.now) → ⊥) }
-        ensures too_long { IsErrOf result AnswerRefusal.TooLong → IsHandedOn (pending_at self.old.pending handle.now)
-            × (MAX_RESPONSE_DATA < length rest.now) }
+        ensures refused { IfErr result (IsWhyNotTaken (pending_at self.old.pending handle.now)
+            (response_of code rest.now)) }
         ensures err { OnErr result (self.new ≡ self.old) }
     {
         let Some(pending) = self.pending.at(handle) else {
@@ -553,10 +526,7 @@ impl Endpoint {
     pub fn restart(&mut self, now: Moment)
         requires { (held_in self.old).last ≤ now }
         ensures held { IsHeld (held_in self.new) (restarted_held (held_in self.old) now) }
-        ensures idle { self.new.pending ≡ map.empty }
-        ensures count { self.new.count ≡ self.old.count }
-        ensures no_rows { source_count self.new.end.rows ≡ 0 }
-        ensures settings { HasSameSettings self.new self.old }
+        ensures forgotten { HasForgotten self.new self.old }
     {
         self.pending = PendingCommands::new(self.alloc); // the device may have performed them or not
         self.end.restart(now);
@@ -569,10 +539,7 @@ impl Endpoint {
     pub fn assign(&mut self, now: Moment, eid: Eid)
         requires { (held_in self.old).last ≤ now }
         ensures held { IsHeld (held_in self.new) (assigned_held (held_in self.old) now eid) }
-        ensures idle { self.new.pending ≡ map.empty }
-        ensures count { self.new.count ≡ self.old.count }
-        ensures no_rows { source_count self.new.end.rows ≡ 0 }
-        ensures settings { HasSameSettings self.new self.old }
+        ensures forgotten { HasForgotten self.new self.old }
     {
         self.pending = PendingCommands::new(self.alloc); // as at a restart
         self.end.assign(now, eid);

@@ -67,8 +67,8 @@ pub(crate) struct KeptAnswers {
     alloc: Global,
     window: Window,
     rows: Vec<(u8, Place)>,
-    /// Where the row stood that was looked for last. It is looked at first: many packets come from the source of the one
-    /// before, and a request looks for its row three times more.
+    /// Where the row stood that was looked for last. It is looked at first: many packets come from the source of the
+    /// one before, and a request looks for its row three times more.
     latest: usize,
     /// How many rows there are for each endpoint ID between the first and the last source, in 65,536ths. So a row is
     /// guessed without a division.

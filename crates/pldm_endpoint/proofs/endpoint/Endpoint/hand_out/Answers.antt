@@ -23,13 +23,13 @@ invariant_of-self-2 c =
     let m : Message = message_at c.args.now r in
     let e : EndpointView = record { end = c.self.inside.end; handed_on = c.self.inside.handed_on; pending = c.self.inside.pending; count = c.self.inside.count; max_pending = c.self.inside.max_pending } in
     let back = sym c.self.view_is in
-    let front = is_in_front e.end c.reserve.new.self c.put_room.new.self c.keep.new.self c.finish.new.self c.args.now r (waiting m) c.reserve.ensures.same c.put_room.ensures.gets c.put_room.ensures.rest c.keep.ensures.kept c.keep.ensures.window c.keep.ensures.rows c.keep.ensures.sources c.keep.ensures.rest c.finish.ensures in
-    let rest = finished_is e.end c.reserve.new.self c.put_room.new.self c.keep.new.self c.finish.new.self c.args.now r (waiting m) c.reserve.ensures.same c.put_room.ensures.gets c.put_room.ensures.rest c.keep.ensures.kept c.keep.ensures.window c.keep.ensures.rows c.keep.ensures.sources c.keep.ensures.rest c.finish.ensures in
+    let front = is_in_front e.end c.reserve.new.self c.put_room.new.self c.keep.new.self c.finish.new.self c.args.now r (waiting m) c.reserve.ensures.same c.put_room.ensures c.keep.ensures c.finish.ensures in
+    let rest = finished_is e.end c.reserve.new.self c.put_room.new.self c.keep.new.self c.finish.new.self c.args.now r (waiting m) c.reserve.ensures.same c.put_room.ensures c.keep.ensures c.finish.ensures in
     let pending_is : c.insert.new.self ≡ map.insert e.pending (request_key_of m) (command_at m e.count (task_in c.args.command r.bytes)) = search rules in
-    let here : r.destination ≡ e.end.own = subst (λ (x : EndpointView). r.destination ≡ x.end.own) back c.requires.here in (
+    let here : r.destination ≡ e.end.own = subst (λ (x : EndpointView). r.destination ≡ x.end.own) back c.requires.ready.sent.here in (
       subst (λ (pending : PendingCommands). ArePending c.finish.new.self e.handed_on pending (e.count + 1) e.max_pending) (sym pending_is)
           (pending_out e c.finish.new.self c.args.now r c.args.command (subst (λ (x : EndpointView). tasks_of (hands_on x.handed_on) r.bytes ≡ task_in c.args.command r.bytes ∷ []) back c.requires.asked) c.id-id.ensures.range
-          (subst (λ (x : EndpointView). map.get x.pending (request_key_of m) ≡ None) back c.requires.free)
+          (subst (λ (x : EndpointView). map.get x.pending (request_key_of m) ≡ None) back c.requires.ready.free)
           (subst (λ (x : EndpointView). is_full x ≡ false) back (sym c.is_full.ensures ∙ c.if-is_full.false)) front c.self.invariant.0),
       λ none. absurd (omega (arith, c.destination-own.ensures.range.0, here ∙ sym (ap (λ (x : End). x.own) rest) ∙ none)),
     )
@@ -42,20 +42,20 @@ returns-clause-served c = λ reply.
     let new : EndpointView = record { end = c.finish.new.self; handed_on = c.self.inside.handed_on; pending = c.insert.new.self; count = c.self.inside.count + 1; max_pending = c.self.inside.max_pending } in
     let handle : CommandHandle = record { source = c.source-source.result; id = c.id-id.result; number = c.self.inside.count } in
     let back = sym c.self.view_is in
-    let front = is_in_front e.end c.reserve.new.self c.put_room.new.self c.keep.new.self c.finish.new.self c.args.now r (waiting m) c.reserve.ensures.same c.put_room.ensures.gets c.put_room.ensures.rest c.keep.ensures.kept c.keep.ensures.window c.keep.ensures.rows c.keep.ensures.sources c.keep.ensures.rest c.finish.ensures in
-    let rest = finished_is e.end c.reserve.new.self c.put_room.new.self c.keep.new.self c.finish.new.self c.args.now r (waiting m) c.reserve.ensures.same c.put_room.ensures.gets c.put_room.ensures.rest c.keep.ensures.kept c.keep.ensures.window c.keep.ensures.rows c.keep.ensures.sources c.keep.ensures.rest c.finish.ensures in
+    let front = is_in_front e.end c.reserve.new.self c.put_room.new.self c.keep.new.self c.finish.new.self c.args.now r (waiting m) c.reserve.ensures.same c.put_room.ensures c.keep.ensures c.finish.ensures in
+    let rest = finished_is e.end c.reserve.new.self c.put_room.new.self c.keep.new.self c.finish.new.self c.args.now r (waiting m) c.reserve.ensures.same c.put_room.ensures c.keep.ensures c.finish.ensures in
     let pending_is : c.insert.new.self ≡ map.insert e.pending (request_key_of m) (command_at m e.count (task_in c.args.command r.bytes)) = search rules in
     let bound = ap (λ (x : End). x.bounds.sources) c.reserve.ensures.same.same in
     let served = handed_out e new c.args.now r c.args.command reply
-    (subst (λ (x : EndpointView). map.get x.pending (request_key_of m) ≡ None) back c.requires.free)
-    (subst (λ (x : EndpointView). performs (held_in x) m ≡ true) back c.requires.fresh)
+    (subst (λ (x : EndpointView). map.get x.pending (request_key_of m) ≡ None) back c.requires.ready.free)
+    (subst (λ (x : EndpointView). performs (held_in x) m ≡ true) back c.requires.ready.fresh)
     (subst (λ (x : EndpointView). tasks_of (hands_on x.handed_on) r.bytes ≡ task_in c.args.command r.bytes ∷ []) back c.requires.asked)
     (subst (λ (x : EndpointView). is_full x ≡ false) back (sym c.is_full.ensures ∙ c.if-is_full.false))
     (room_is_within c.reserve.new.self.rows e.end.rows e.end.bounds.sources r.source c.in_ok-reserved.reserved c.reserve.ensures.same.rows c.in_ok-reserved.ensures.ok
     (subst (λ max. IsWithinSources c.reserve.new.self.rows max c.in_ok-reserved.reserved) bound c.in_ok-reserved.ensures.few))
-    front (window_is e.end c.reserve.new.self c.put_room.new.self c.keep.new.self c.finish.new.self c.args.now r (waiting m) c.reserve.ensures.same c.put_room.ensures.gets c.put_room.ensures.rest c.keep.ensures.kept c.keep.ensures.window c.keep.ensures.rows c.keep.ensures.sources c.keep.ensures.rest c.finish.ensures)
-    (has_rows e.end c.reserve.new.self c.put_room.new.self c.keep.new.self c.finish.new.self c.args.now r (waiting m) c.reserve.ensures.same c.put_room.ensures.gets c.put_room.ensures.rest c.keep.ensures.kept c.keep.ensures.window c.keep.ensures.rows c.keep.ensures.sources c.keep.ensures.rest c.finish.ensures)
-    (sources_are e.end c.reserve.new.self c.put_room.new.self c.keep.new.self c.finish.new.self c.args.now r (waiting m) c.reserve.ensures.same c.put_room.ensures.gets c.put_room.ensures.rest c.keep.ensures.kept c.keep.ensures.window c.keep.ensures.rows c.keep.ensures.sources c.keep.ensures.rest c.finish.ensures) rest pending_is refl refl refl in
+    front (window_is e.end c.reserve.new.self c.put_room.new.self c.keep.new.self c.finish.new.self c.args.now r (waiting m) c.reserve.ensures.same c.put_room.ensures c.keep.ensures c.finish.ensures)
+    (has_rows e.end c.reserve.new.self c.put_room.new.self c.keep.new.self c.finish.new.self c.args.now r (waiting m) c.reserve.ensures.same c.put_room.ensures c.keep.ensures c.finish.ensures)
+    (sources_are e.end c.reserve.new.self c.put_room.new.self c.keep.new.self c.finish.new.self c.args.now r (waiting m) c.reserve.ensures.same c.put_room.ensures c.keep.ensures c.finish.ensures) rest pending_is refl refl refl in
     let named : c.is_some-is_command.result ≡ is_some c.args.command = search rules in
     let handle_is : handle ≡ handle_of m c.self.inside.count = λ i. record { source = c.source-source.ensures i; id = c.id-id.ensures.value i; number = c.self.inside.count } in
     let step_is : c.asking.result ≡ handing_step (task_in c.args.command r.bytes) (handle_of m c.self.inside.count) =

@@ -27,9 +27,9 @@ invariant_of-self-2 c =
     let r = c.args.request.now in
     let entry : Entry = record { moment = c.args.now; bytes = r.bytes; answer = c.deref.result.now } in
     let some : 0 < length c.deref.result.now = search rules in
-    let rest = finished_is e c.reserve.new.self c.put_room.new.self c.keep.new.self c.finish.new.self c.args.now r entry c.reserve.ensures.same c.put_room.ensures.gets c.put_room.ensures.rest c.keep.ensures.kept c.keep.ensures.window c.keep.ensures.rows c.keep.ensures.sources c.keep.ensures.rest c.finish.ensures in (
+    let rest = finished_is e c.reserve.new.self c.put_room.new.self c.keep.new.self c.finish.new.self c.args.now r entry c.reserve.ensures.same c.put_room.ensures c.keep.ensures c.finish.ensures in (
       pending_in_front c.self.inside.handed_on e c.finish.new.self c.self.inside.pending c.self.inside.count c.self.inside.max_pending r.source e.rows.window entry some
-          (is_in_front e c.reserve.new.self c.put_room.new.self c.keep.new.self c.finish.new.self c.args.now r entry c.reserve.ensures.same c.put_room.ensures.gets c.put_room.ensures.rest c.keep.ensures.kept c.keep.ensures.window c.keep.ensures.rows c.keep.ensures.sources c.keep.ensures.rest c.finish.ensures) c.self.invariant.0,
+          (is_in_front e c.reserve.new.self c.put_room.new.self c.keep.new.self c.finish.new.self c.args.now r entry c.reserve.ensures.same c.put_room.ensures c.keep.ensures c.finish.ensures) c.self.invariant.0,
       λ none. c.self.invariant.1 (sym (ap (λ (x : End). x.own) rest) ∙ none),
     )
 
@@ -49,17 +49,17 @@ returns-clause-served c =
     let answer_is = items_is ∙ c.refuse.ensures.answer ∙ ap (λ (q : Request). answer_message q.id q.kind (Refused c.args.code)) same ∙ sym (refused_reply e.handed_on c.args.code r.bytes unasked refused) in
     let bound = ap (λ (x : End). x.bounds.sources) c.reserve.ensures.same.same in
     let served = refused_by_code e new c.args.now r c.args.code answer
-    (subst (λ (x : EndpointView). map.get x.pending (request_key_of m) ≡ None) back c.requires.free)
-    (subst (λ (x : EndpointView). performs (held_in x) m ≡ true) back c.requires.fresh)
+    (subst (λ (x : EndpointView). map.get x.pending (request_key_of m) ≡ None) back c.requires.ready.free)
+    (subst (λ (x : EndpointView). performs (held_in x) m ≡ true) back c.requires.ready.fresh)
     refused
     (room_is_within c.reserve.new.self.rows e.end.rows e.end.bounds.sources r.source c.in_ok-reserved.reserved c.reserve.ensures.same.rows c.in_ok-reserved.ensures.ok
     (subst (λ max. IsWithinSources c.reserve.new.self.rows max c.in_ok-reserved.reserved) bound c.in_ok-reserved.ensures.few))
     some answer_is
-    (is_in_front e.end c.reserve.new.self c.put_room.new.self c.keep.new.self c.finish.new.self c.args.now r entry c.reserve.ensures.same c.put_room.ensures.gets c.put_room.ensures.rest c.keep.ensures.kept c.keep.ensures.window c.keep.ensures.rows c.keep.ensures.sources c.keep.ensures.rest c.finish.ensures)
-    (window_is e.end c.reserve.new.self c.put_room.new.self c.keep.new.self c.finish.new.self c.args.now r entry c.reserve.ensures.same c.put_room.ensures.gets c.put_room.ensures.rest c.keep.ensures.kept c.keep.ensures.window c.keep.ensures.rows c.keep.ensures.sources c.keep.ensures.rest c.finish.ensures)
-    (has_rows e.end c.reserve.new.self c.put_room.new.self c.keep.new.self c.finish.new.self c.args.now r entry c.reserve.ensures.same c.put_room.ensures.gets c.put_room.ensures.rest c.keep.ensures.kept c.keep.ensures.window c.keep.ensures.rows c.keep.ensures.sources c.keep.ensures.rest c.finish.ensures)
-    (sources_are e.end c.reserve.new.self c.put_room.new.self c.keep.new.self c.finish.new.self c.args.now r entry c.reserve.ensures.same c.put_room.ensures.gets c.put_room.ensures.rest c.keep.ensures.kept c.keep.ensures.window c.keep.ensures.rows c.keep.ensures.sources c.keep.ensures.rest c.finish.ensures)
-    (finished_is e.end c.reserve.new.self c.put_room.new.self c.keep.new.self c.finish.new.self c.args.now r entry c.reserve.ensures.same c.put_room.ensures.gets c.put_room.ensures.rest c.keep.ensures.kept c.keep.ensures.window c.keep.ensures.rows c.keep.ensures.sources c.keep.ensures.rest c.finish.ensures)
+    (is_in_front e.end c.reserve.new.self c.put_room.new.self c.keep.new.self c.finish.new.self c.args.now r entry c.reserve.ensures.same c.put_room.ensures c.keep.ensures c.finish.ensures)
+    (window_is e.end c.reserve.new.self c.put_room.new.self c.keep.new.self c.finish.new.self c.args.now r entry c.reserve.ensures.same c.put_room.ensures c.keep.ensures c.finish.ensures)
+    (has_rows e.end c.reserve.new.self c.put_room.new.self c.keep.new.self c.finish.new.self c.args.now r entry c.reserve.ensures.same c.put_room.ensures c.keep.ensures c.finish.ensures)
+    (sources_are e.end c.reserve.new.self c.put_room.new.self c.keep.new.self c.finish.new.self c.args.now r entry c.reserve.ensures.same c.put_room.ensures c.keep.ensures c.finish.ensures)
+    (finished_is e.end c.reserve.new.self c.put_room.new.self c.keep.new.self c.finish.new.self c.args.now r entry c.reserve.ensures.same c.put_room.ensures c.keep.ensures c.finish.ensures)
     refl refl refl refl in
     let taken_is : c.performed.result ≡ Answered true false (way_back e.end.own m) = search rules in
     subst (λ (x : EndpointView). HasServed x c.args.now r new c.refuse.new.reply.items (Done c.performed.result)) c.self.view_is
