@@ -32,6 +32,10 @@ abbrev pub answers_at : ℕ → Bool → Carried → Carried
 answers_at place true carried = record { header = carried.header; reply = carried.reply; busy = Some place }
 answers_at place false carried = record { header = carried.header; reply = Some place; busy = carried.busy }
 
+-- so does that to the request of this number, in its place
+abbrev pub latest_answer_at : (number place : ℕ) → Bool → ℕ → Carried → Carried
+latest_answer_at number place busy k carried = if k == number then answers_at place busy carried else carried
+
 -- the packet of a request: its header, and the request's message
 abbrev pub packet_of_request : Option Carried → Option Request → Option (List ℕ)
 packet_of_request (Some carried) (Some request) = Some (carried.header ++ request.asked.message)

@@ -5,6 +5,7 @@ pub mod DeliveryPlaces
 pub mod DeviceHalf
 pub mod DueNumbers
 pub mod EachId
+pub mod Entering
 pub mod Entries
 pub mod EntryColumns
 pub mod FirstArrivals

@@ -1,13 +1,14 @@
 //! The journal of a run: what came of each step so far, and what is known of each request.
 
 ghost use Rattle.std.specs.Prelude.{◌≡◌, ◌+◌, ◌≤◌, ◌<◌, ◌^◌, ◌++◌, ◌∷◌, [], ◌&&◌, ◌==◌, true, ℕ, None, Some, OnOk, IfSome, length, option_and_then, option_map, slice_get, if◌then◌else◌};
-ghost use Rattle.std.specs.List.{AllByRecursion, list_any};
+ghost use Rattle.std.specs.List.{list_any};
 ghost use Rattle.mctp_packet.specs.Packets.{written};
 ghost use Rattle.pldm_responder.specs.Answering.{answering};
 ghost use Rattle.mctp_schedule.specs.Deliveries.{packets_of_outcome};
+ghost use Rattle.mctp_schedule.specs.Entering.{AreChangedBy, AreNumbered, HasSameTraffic};
 ghost use Rattle.mctp_schedule.specs.Entries.{due_over_all, numbered};
 ghost use Rattle.mctp_schedule.specs.EntryColumns.{outcomes_in};
-ghost use Rattle.mctp_schedule.specs.Journals.{answered_as, answers_at, fresh_numbers, is_replied, latest_packets, packet_at, packet_of_request, place_of, progress_after};
+ghost use Rattle.mctp_schedule.specs.Journals.{answered_as, answers_at, fresh_numbers, is_replied, latest_answer_at, latest_packets, packet_at, packet_of_request, place_of, progress_after};
 ghost use Rattle.mctp_schedule.specs.Requests.{begun};
 
 use crate::askers::{AnsweredRequest, MAX_REQUEST_PACKET_BYTES, SentRequest, over_all};
@@ -210,19 +211,14 @@ impl Journal {
 
     /// Writes down what a tick found due at a requester, whose requests have these numbers over all requests.
     pub(crate) fn enter_due(&mut self, due: &Due, numbers: &[u64]) -> Result<(), Memory>
-        requires again { AllByRecursion (λ own. own < length numbers.now) due.now.again.items }
-        requires given_up { AllByRecursion (λ own. own < length numbers.now) due.now.given_up.items }
+        requires numbered { AreNumbered (length numbers.now) due.now }
         requires opened { (number : ℕ) → list_any (λ n. n == number) (numbered numbers.now due.now.given_up.items)
             ≡ true → number < length self.old.requests.items }
         ensures entries { OnOk result (self.new.entries ≡ self.old.entries ++ Entry.Due (due_over_all numbers.now
             due.now) ∷ []) }
-        ensures all { OnOk result (length self.new.requests.items ≡ length self.old.requests.items) }
-        ensures requests { OnOk result ((number : ℕ) → slice_get self.new.requests.items number ≡ option_map
-            (progress_after (numbered numbers.now due.now.given_up.items) number)
-            (slice_get self.old.requests.items number)) }
-        ensures traffic { OnOk result (self.new.traffic.items ≡ self.old.traffic.items) }
-        ensures order { OnOk result (self.new.order.items ≡ self.old.order.items) }
-        ensures timely { OnOk result (self.new.timely ≡ self.old.timely) }
+        ensures requests { OnOk result (AreChangedBy (progress_after (numbered numbers.now due.now.given_up.items))
+            self.old.requests.items self.new.requests.items) }
+        ensures rest { OnOk result (HasSameTraffic self.old self.new) }
     {
         // Most ticks find nothing: that is asked before what is due is moved anywhere.
         if due.again.is_empty() && due.given_up.is_empty() {
@@ -236,12 +232,9 @@ impl Journal {
         requires { (number : ℕ) → list_any (λ n. n == number) due.given_up.items ≡ true → number < length
             self.old.requests.items }
         ensures entries { OnOk result (self.new.entries ≡ self.old.entries ++ Entry.Due due ∷ []) }
-        ensures all { OnOk result (length self.new.requests.items ≡ length self.old.requests.items) }
-        ensures requests { OnOk result ((number : ℕ) → slice_get self.new.requests.items number ≡ option_map
-            (progress_after due.given_up.items number) (slice_get self.old.requests.items number)) }
-        ensures traffic { OnOk result (self.new.traffic.items ≡ self.old.traffic.items) }
-        ensures order { OnOk result (self.new.order.items ≡ self.old.order.items) }
-        ensures timely { OnOk result (self.new.timely ≡ self.old.timely) }
+        ensures requests { OnOk result (AreChangedBy (progress_after due.given_up.items)
+            self.old.requests.items self.new.requests.items) }
+        ensures rest { OnOk result (HasSameTraffic self.old self.new) }
     {
         self.give_up(&due.given_up);
         let due = DueRequests::new(self.alloc, due)?;
@@ -252,13 +245,8 @@ impl Journal {
     fn give_up(&mut self, numbers: &[u64])
         requires { (number : ℕ) → list_any (λ n. n == number) numbers.now ≡ true → number < length
             self.old.requests.items }
-        ensures all { length self.new.requests.items ≡ length self.old.requests.items }
-        ensures requests { (number : ℕ) → slice_get self.new.requests.items number ≡ option_map
-            (progress_after numbers.now number) (slice_get self.old.requests.items number) }
-        ensures entries { self.new.entries ≡ self.old.entries }
-        ensures traffic { self.new.traffic ≡ self.old.traffic }
-        ensures order { self.new.order ≡ self.old.order }
-        ensures timely { self.new.timely ≡ self.old.timely }
+        ensures requests { AreChangedBy (progress_after numbers.now) self.old.requests.items self.new.requests.items }
+        ensures rest { self.new ≡ record self.old { requests = self.new.requests } }
     {
         for number in numbers {
             self.requests[*number as usize].give_up();
@@ -278,10 +266,8 @@ impl Journal {
         ensures entries { OnOk result (self.new.entries ≡ self.old.entries ++ Entry.Delivered busy
             (answering reply.now taken) ∷ []) }
         ensures requests { OnOk result (self.new.requests.items ≡ self.old.requests.items) }
-        ensures all { OnOk result (length self.new.traffic.items ≡ length self.old.traffic.items) }
-        ensures traffic { OnOk result ((k : ℕ) → slice_get self.new.traffic.items k ≡ option_map (λ t. if k == number
-            then answers_at (length (outcomes_in self.old.entries)) busy t else t)
-            (slice_get self.old.traffic.items k)) }
+        ensures traffic { OnOk result (AreChangedBy (latest_answer_at number (length (outcomes_in self.old.entries))
+            busy) self.old.traffic.items self.new.traffic.items) }
         ensures order { OnOk result (self.new.order.items ≡ self.old.order.items ++ fresh_numbers number
             (answering reply.now taken)) }
         ensures timely { OnOk result (self.new.timely ≡ (in_time && self.old.timely)) }
@@ -300,13 +286,9 @@ impl Journal {
     /// The latest answer to a request, a busy one or not, will be the next delivery.
     fn point_to_next_delivery(&mut self, number: u64, busy: bool)
         requires { number < length self.old.traffic.items }
-        ensures all { length self.new.traffic.items ≡ length self.old.traffic.items }
-        ensures traffic { (k : ℕ) → slice_get self.new.traffic.items k ≡ option_map (λ t. if k == number then
-            answers_at (length (outcomes_in self.old.entries)) busy t else t) (slice_get self.old.traffic.items k) }
-        ensures entries { self.new.entries ≡ self.old.entries }
-        ensures requests { self.new.requests ≡ self.old.requests }
-        ensures order { self.new.order ≡ self.old.order }
-        ensures timely { self.new.timely ≡ self.old.timely }
+        ensures traffic { AreChangedBy (latest_answer_at number (length (outcomes_in self.old.entries)) busy)
+            self.old.traffic.items self.new.traffic.items }
+        ensures rest { self.new ≡ record self.old { traffic = self.new.traffic } }
     {
         let place = self.entries.delivery_count();
         self.traffic[number as usize].set_latest_place(place, busy);
@@ -323,9 +305,8 @@ impl Journal {
     ) -> Result<(), Memory>
         requires { IfSome answered (λ a. a.number < length self.old.requests.items) }
         ensures entries { OnOk result (self.new.entries ≡ self.old.entries ++ Entry.Received got ∷ []) }
-        ensures all { OnOk result (length self.new.requests.items ≡ length self.old.requests.items) }
-        ensures requests { OnOk result ((k : ℕ) → slice_get self.new.requests.items k ≡ option_map
-            (answered_as answered.entry k) (slice_get self.old.requests.items k)) }
+        ensures requests { OnOk result (AreChangedBy (answered_as answered.entry)
+            self.old.requests.items self.new.requests.items) }
         ensures traffic { OnOk result (self.new.traffic.items ≡ self.old.traffic.items) }
         ensures order { OnOk result (self.new.order.items ≡ self.old.order.items) }
         ensures timely { OnOk result (self.new.timely ≡ (in_time && self.old.timely)) }

@@ -164,8 +164,8 @@ returns g c = record {
         got_is = received.got ∙ ap (λ (x : Side). got_at (held_of x.station) (written c.in-Some.handed)) same;
         reports = subst (λ (x : Side). ReportsReply x.numbers (arrived_by (held_of x.station) (passed (held_of x.station) (written c.in-Some.handed))) c.answered.result) same (reports_reply asker c.receive.new.self c.args.now (written c.in-Some.handed) gave.got received.held received.got received.numbers c.answered.result c.answered.ensures);
         time_is = ap (λ n. nat_le n c.number-own.result) before ∙ ap (nat_le (c.count.result - 8)) own ∙ tag_kept c.count.result f.q.own ∙ ap (λ n. nat_le n (f.q.own + 8)) count;
-        requests = entered.requests;
-        counted = entered.all;
+        requests = entered.requests.each;
+        counted = entered.requests.all;
         writes = record { entries = entered.entries; traffic = entered.traffic; order = entered.order };
         timely = entered.timely;
       }));

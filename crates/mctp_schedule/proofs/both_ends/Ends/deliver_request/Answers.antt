@@ -88,8 +88,8 @@ returns g c = record {
             ∙ (λ i. if source i == s && (not c.has_arrived-arrived.result && not c.busy-busy.result) then renewed (λ id. id) (id i) (ids_at c.args.self.now.arrivals s) else ids_at c.args.self.now.arrivals s);
         new_entries = entered.entries;
         new_requests = entered.requests;
-        same_count = entered.all;
-        new_traffic = entered.traffic;
+        same_count = entered.traffic.all;
+        new_traffic = entered.traffic.each;
         new_order = entered.order;
         new_timely = entered.timely;
       });

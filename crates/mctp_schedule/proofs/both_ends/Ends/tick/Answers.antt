@@ -19,8 +19,8 @@ use Rattle.mctp_schedule.proofs.NumberedRequests.{get_index, listed_own}
 use Rattle.mctp_schedule.proofs.AfterTick.{tick_runs}
 use Rattle.mctp_schedule.proofs.both_ends.Ends.tick.Goals as goal
 
-pub enter_due-requires-clause-again : goal.enter_due-requires-clause-again
-enter_due-requires-clause-again g c =
+pub enter_due-requires-clause-numbered : goal.enter_due-requires-clause-numbered
+enter_due-requires-clause-numbered g c =
     let terms = c.requires.0 in
     let past = c.requires.1 in
     let running = c.requires.2 in
@@ -32,24 +32,14 @@ enter_due-requires-clause-again g c =
     let held = held_of asker.station in
     let all : length asker.numbers ≡ held.count = subst (λ (x : Side). length x.numbers ≡ (held_of x.station).count) (sym same) (ap (λ (xs : List ℕ). length xs) s.2.numbers ∙ s.2.counted ∙ sym s.2.left.count) in
     let many : length c.numbers.result.now ≡ held.count = ap (λ (xs : List ℕ). length xs) (c.numbers.ensures ∙ c.tick-due.ensures.numbers) ∙ all in
-    subst (λ n. AllByRecursion (λ own. own < n) c.tick-due.result.again.items) (sym many)
-    (subst (AllByRecursion (λ own. own < held.count)) (sym c.tick-due.ensures.again) (recent_below held.count (λ n. passes (is_sent_again held.timing c.args.now) (held.remembered n))))
-
-pub enter_due-requires-clause-given_up : goal.enter_due-requires-clause-given_up
-enter_due-requires-clause-given_up g c =
-    let terms = c.requires.0 in
-    let past = c.requires.1 in
-    let running = c.requires.2 in
-    let may = c.requires.3 in
-    let e = c.args.eid in
-    let s = running.sides e may.known in
-    let asker = c.in-Some.asker in
-    let same = place_holds c.args.self.now.places.items e c.from.result c.index_mut.result.now s.0 asker (c.from.ensures ∙ c.get.ensures.value) c.index_mut.ensures.value s.1 c.in-Some.is in
-    let held = held_of asker.station in
-    let all : length asker.numbers ≡ held.count = subst (λ (x : Side). length x.numbers ≡ (held_of x.station).count) (sym same) (ap (λ (xs : List ℕ). length xs) s.2.numbers ∙ s.2.counted ∙ sym s.2.left.count) in
-    let many : length c.numbers.result.now ≡ held.count = ap (λ (xs : List ℕ). length xs) (c.numbers.ensures ∙ c.tick-due.ensures.numbers) ∙ all in
-    subst (λ n. AllByRecursion (λ own. own < n) c.tick-due.result.given_up.items) (sym many)
-    (subst (AllByRecursion (λ own. own < held.count)) (sym c.tick-due.ensures.given_up) (recent_below held.count (λ n. passes (is_given_up held.timing c.args.now) (held.remembered n))))
+    record {
+      again =
+          subst (λ n. AllByRecursion (λ own. own < n) c.tick-due.result.again.items) (sym many)
+          (subst (AllByRecursion (λ own. own < held.count)) (sym c.tick-due.ensures.again) (recent_below held.count (λ n. passes (is_sent_again held.timing c.args.now) (held.remembered n))));
+      given_up =
+          subst (λ n. AllByRecursion (λ own. own < n) c.tick-due.result.given_up.items) (sym many)
+          (subst (AllByRecursion (λ own. own < held.count)) (sym c.tick-due.ensures.given_up) (recent_below held.count (λ n. passes (is_given_up held.timing c.args.now) (held.remembered n))));
+    }
 
 pub enter_due-requires-clause-opened : goal.enter_due-requires-clause-opened
 enter_due-requires-clause-opened g c = λ number listed.
@@ -97,10 +87,10 @@ returns g c = record {
         same_numbers = due.numbers ∙ ap (λ (a : Side). a.numbers) same;
         again = ap (λ ns. numbered ns c.tick-due.result.again.items) numbers ∙ ap (numbered asker.numbers) due.again ∙ ap (λ (a : Side). numbered a.numbers (again_at (held_of a.station) c.args.now)) same;
         given_up = ap (λ ns. numbered ns c.tick-due.result.given_up.items) numbers ∙ ap (numbered asker.numbers) due.given_up ∙ ap (λ (a : Side). numbered a.numbers (given_up_at (held_of a.station) c.args.now)) same;
-        requests = entered.requests;
-        counted = entered.all;
-        writes = record { entries = entered.entries; traffic = entered.traffic; order = entered.order };
-        timely = entered.timely;
+        requests = entered.requests.each;
+        counted = entered.requests.all;
+        writes = record { entries = entered.entries; traffic = entered.rest.traffic; order = entered.rest.order };
+        timely = entered.rest.timely;
       }));
   performs = λ terms past running may. g.met.P.Platform.none_performed c.args.self.now.responder.platform;
 }
