@@ -1,7 +1,7 @@
 //! The control responder of the device that `mctpctl serve` serves, as its description says.
 
-ghost use Rattle.std.specs.Prelude.{◌≡◌, Some, [], unwrap_or};
-ghost use Rattle.mctpctl.specs.ControlResponders.{default_base_version, default_pldm_version, default_uuid, eid_at_first};
+ghost use Rattle.std.specs.Prelude.{◌≡◌};
+ghost use Rattle.mctpctl.specs.ControlResponders.{default_uuid, eid_at_first, responder_of};
 
 use mctp_control::{ControlResponder, KeptAssignments, UUID_BYTES, VERSION_BYTES};
 use mctp_packet::{Eid, Keep};
@@ -29,15 +29,7 @@ pub fn eid_at_first(eid: Eid, table: &ControlTable) -> Option<Eid>
 /// what does not. Its static endpoint ID is that of the description. Where a bus owner is to assign one, it has none at
 /// first and takes any; else a bus owner cannot change it. Copies of an assignment are known for the keeping time.
 pub fn control_responder(eid: Eid, keep: Keep, table: &ControlTable) -> ControlResponder
-    ensures eid { result.eid ≡ eid_at_first eid table.now.assigned }
-    ensures static_eid { result.static_eid ≡ Some eid }
-    ensures takes { result.takes_eid ≡ table.now.assigned }
-    ensures keep { result.keep ≡ keep }
-    ensures none_kept { result.kept ≡ [] }
-    ensures uuid { result.uuid ≡ unwrap_or table.now.uuid (default_uuid eid) }
-    ensures base_version { result.base_version ≡ unwrap_or table.now.base_version default_base_version }
-    ensures control_version { result.control_version ≡ unwrap_or table.now.control_version default_base_version }
-    ensures pldm_version { result.pldm_version ≡ unwrap_or table.now.pldm_version default_pldm_version }
+    ensures { result ≡ responder_of eid keep table.now }
 {
     ControlResponder {
         eid: eid_at_first(eid, table),
