@@ -1,10 +1,11 @@
 //! One request: when its frames go out, and how it ends.
 
-use crate::lines::{ANSWER, MESSAGE, NOTHING, Pieces, QUESTION};
-use mctp_packet::{Eid, Keep};
+use crate::lines::{
+    ANSWER, MESSAGE, NOTHING, Pieces, QUESTION, ends, expect_written, settled, settled_clock,
+    timing,
+};
 use mctp_serial::frame;
 use mctpctl_ask::{AskFault, Asked, BeginFault, Ended, ListTicks, Port, ask, begin};
-use pldm_requester::Timing;
 use pldm_wire::Command;
 use std::alloc::Global;
 use std::process::Abort;
@@ -20,29 +21,25 @@ struct Outcome {
 /// Begins a line of endpoint 8 with device 9 (keeping time 1,000 ms, timeout 300 ms, 3 tries), and asks for the
 /// terminus ID. The first two reads give nothing, at the readings 50 and 2050.
 fn run_line(rt: &impl Abort, alloc: Global, pieces: &[&[u8]], readings: &[u64]) -> Outcome {
-    let mut all = Vec::new(alloc);
-    all.push(NOTHING).expect(rt, "memory");
-    all.push(NOTHING).expect(rt, "memory");
-    all.extend_from_slice(pieces).expect(rt, "memory");
-    let mut clock = Vec::new(alloc);
-    clock.push(50).expect(rt, "memory");
-    clock.push(2_050).expect(rt, "memory");
-    clock.extend_from_slice(readings).expect(rt, "memory");
+    let all = settled(rt, alloc, pieces);
+    let clock = settled_clock(rt, alloc, readings);
     let mut reader = Port::new(Pieces {
         pieces: &all,
         taken: 0,
     });
     let mut writer = Port::new(Vec::new(alloc));
-    let timing = Timing {
-        keep: Keep::new(1_000).expect(rt, "a keeping time"),
-        timeout: 300,
-        tries: 3,
-    };
-    let own = Eid::new(8).expect(rt, "an endpoint ID");
-    let device = Eid::new(9).expect(rt, "an endpoint ID");
+    let (own, device) = ends(rt);
     let ticks = ListTicks { readings: &clock };
     let mut answer = Vec::new(alloc);
-    let ended = match begin(alloc, own, device, timing, ticks, &mut reader, &mut writer) {
+    let ended = match begin(
+        alloc,
+        own,
+        device,
+        timing(rt),
+        ticks,
+        &mut reader,
+        &mut writer,
+    ) {
         Ok(mut line) => match ask(&mut line, &Command::GetTid, &mut reader, &mut writer) {
             Ok(Asked { number, ended }) => {
                 if let Some(message) = line.answer(number) {
@@ -72,10 +69,7 @@ fn expect_end(
 ) {
     assert_eq!(rt; outcome.ended, ended);
     assert_eq!(rt; outcome.answer.as_slice(), answer);
-    assert_eq!(rt; outcome.written.len(), sent.saturating_mul(QUESTION.len()));
-    for part in outcome.written.chunks(QUESTION.len()) {
-        assert_eq!(rt; part, QUESTION);
-    }
+    expect_written(rt, &outcome.written, QUESTION, sent);
 }
 
 #[test]

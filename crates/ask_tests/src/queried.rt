@@ -1,11 +1,10 @@
 //! One control query: when its frame goes out, and which answer is believed.
 
-use crate::lines::{NOTHING, Pieces};
+use crate::lines::{NOTHING, Pieces, ends, expect_written, settled, settled_clock, timing};
 use mctp_control::{Command, Query};
-use mctp_packet::{Eid, Keep, Tag};
+use mctp_packet::Tag;
 use mctp_serial::frame;
 use mctpctl_ask::{AskFault, ListTicks, Port, ask_control, begin};
-use pldm_requester::Timing;
 use std::alloc::Global;
 use std::process::Abort;
 
@@ -41,31 +40,27 @@ fn run_query(
     pieces: &[&[u8]],
     readings: &[u64],
 ) -> Outcome {
-    let mut all = Vec::new(alloc);
-    all.push(NOTHING).expect(rt, "memory");
-    all.push(NOTHING).expect(rt, "memory");
-    all.extend_from_slice(pieces).expect(rt, "memory");
-    let mut clock = Vec::new(alloc);
-    clock.push(50).expect(rt, "memory");
-    clock.push(2_050).expect(rt, "memory");
-    clock.extend_from_slice(readings).expect(rt, "memory");
+    let all = settled(rt, alloc, pieces);
+    let clock = settled_clock(rt, alloc, readings);
     let mut reader = Port::new(Pieces {
         pieces: &all,
         taken: 0,
     });
     let mut writer = Port::new(Vec::new(alloc));
-    let timing = Timing {
-        keep: Keep::new(1_000).expect(rt, "a keeping time"),
-        timeout: 300,
-        tries: 3,
-    };
-    let own = Eid::new(8).expect(rt, "an endpoint ID");
-    let device = Eid::new(9).expect(rt, "an endpoint ID");
+    let (own, device) = ends(rt);
     let tag = Tag::new(2).expect(rt, "a tag");
     let query = Query::new(own, device, tag, 5, Command::GetEndpointId);
     let ticks = ListTicks { readings: &clock };
     let mut message = Vec::new(alloc);
-    let Ok(mut line) = begin(alloc, own, device, timing, ticks, &mut reader, &mut writer) else {
+    let Ok(mut line) = begin(
+        alloc,
+        own,
+        device,
+        timing(rt),
+        ticks,
+        &mut reader,
+        &mut writer,
+    ) else {
         panic!(rt; "the line was not begun");
     };
     let answered = match ask_control(&mut line, &query, 100, tries, &mut reader, &mut writer) {
@@ -93,10 +88,7 @@ fn expect_end(
 ) {
     assert_eq!(rt; outcome.answered, answered);
     assert_eq!(rt; outcome.message.as_slice(), message);
-    assert_eq!(rt; outcome.written.len(), sent.saturating_mul(QUERY.len()));
-    for part in outcome.written.chunks(QUERY.len()) {
-        assert_eq!(rt; part, QUERY);
-    }
+    expect_written(rt, &outcome.written, QUERY, sent);
 }
 
 #[test]
