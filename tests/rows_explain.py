@@ -142,59 +142,121 @@ DESCRIPTIONS = [
 
 # lines of a capture after a comment, the number and the name of the fault, and the explanation
 CAPTURES = [
-    ("0 1 2", 2, "Words", "'2': expected nothing after a moment and a packet in hex"),
-    ("x", 2, "Number", "'x': expected a moment in milliseconds from 0 to 4000000000000000"),
-    ("4000000000000001 01", 2, "Number", "'4000000000000001': expected a moment in milliseconds from 0 to 4000000000000000"),
-    ("010908c801800002", 2, "Number", "'010908c801800002': expected a moment in milliseconds before the packet"),
+    ("0 1 2", 2, "Words", "wrong words: '2': expected nothing after a moment and a packet in hex"),
+    ("x", 2, "Number", "wrong number: 'x': expected a moment in milliseconds from 0 to 4000000000000000"),
+    ("4000000000000001 01", 2, "Number", "wrong number: '4000000000000001': expected a moment in milliseconds from 0 to 4000000000000000"),
+    ("010908c801800002", 2, "Number", "wrong number: '010908c801800002': expected a moment in milliseconds before the packet"),
     ("5\n4", 3, "BackInTime", "the moment '4' is before that of an earlier line, 5"),
-    ("0 01090", 2, "BadHex", "'01090' has 5 hex digits: expected two for each byte"),
-    ("0 0109zz", 2, "BadHex", "'z', character 5 of the packet, is no hex digit"),
-    ("0 0109\t", 2, "BadHex", "'\\x09', character 5 of the packet, is no hex digit"),
+    ("0 01090", 2, "BadHex", "wrong hex: '01090' has 5 hex digits: expected two for each byte"),
+    ("0 0109zz", 2, "BadHex", "wrong hex: 'z', character 5 of the packet, is no hex digit"),
+    ("0 0109\t", 2, "BadHex", "wrong hex: '\\x09', character 5 of the packet, is no hex digit"),
     ("x" * 4097, 2, "LongLine", "the line has 4097 bytes or more: at most 4096 are allowed"),
-    ("y" * 50, 2, "Number", f"'{'y' * 40}..': expected a moment in milliseconds from 0 to 4000000000000000"),
+    ("y" * 50, 2, "Number", f"wrong number: '{'y' * 40}..': expected a moment in milliseconds from 0 to 4000000000000000"),
 ]
 
+ACTIONS = "'open', 'tick', 'req', 'rep', 'sense', 'restart' or 'busy'"
 COMMANDS = (
     "'gettid', 'settid', 'getversion', 'gettypes', 'getcommands', 'sensor', 'statesensors', 'setnum', 'getnum', "
     "'setstate', 'getstate', 'pdrinfo' or 'getpdr'"
 )
 FORM = "requester EID timeout MS tries N"
+EID = "an endpoint ID from 8 to 254"
+MOMENT = "a moment in milliseconds from 0 to 4000000000000000"
+TIMEOUT = "a timeout in milliseconds from 0 to 60000"
+BYTE = "a number from 0 to 255"
+ID = "an ID or a count from 0 to 65535"
+HANDLE = "a handle from 0 to 4294967295"
+STATE = "'-' or a state from 0 to 255"
+NUMBER = "a number of at most 16 digits"
+VALUE = "a value of at most 16 digits"
+
+# a line of a schedule after one requester's that has a wrong word: what is found, which is nothing where the line ended,
+# what is expected there, and the word that is suggested, if any
+WRONG_WORDS = [
+    ("foo 1", "foo", "'requester' or 'at'", None),
+    ("requestor 9", "requestor", "'requester' or 'at'", "requester"),
+    ("requester", None, EID, None),
+    ("requester 10", None, "'timeout'", None),
+    ("requester 10 timeout", None, TIMEOUT, None),
+    ("requester 10 timeout 200", None, "'tries'", None),
+    ("requester 10 timeout 200 tries", None, BYTE, None),
+    ("requester 10 timeout 200 tries 3 4 5", "4", "the end of the line", None),
+    ("requester 10 timout 200 tries 3", "timout", "'timeout'", None),
+    ("requester 10 timeout 200 trys 3", "trys", "'tries'", None),
+    ("at", None, MOMENT, None),
+    ("at 0", None, ACTIONS, None),
+    ("at 0 open", None, EID, None),
+    ("at 0 open 8", None, COMMANDS, None),
+    ("at 0 reg 0", "reg", ACTIONS, "req"),
+    ("at 0 go 0", "go", ACTIONS, None),
+    ("at 0 open 8 getTID", "getTID", COMMANDS, "gettid"),
+    ("at 0 open 8 reset", "reset", COMMANDS, None),
+    ("at 0 open 8 gettid 1", "1", "the end of the line", None),
+    ("at 0 open 8 settid", None, BYTE, None),
+    ("at 0 open 8 settid 1 2", "2", "the end of the line", None),
+    ("at 0 open 8 sensor", None, ID, None),
+    ("at 0 open 8 setstate", None, ID, None),
+    ("at 0 open 8 setstate 1", None, STATE, None),
+    ("at 0 open 8 setstate 1 1 2 3 4 5 6 7 8 9", "9", "the end of the line", None),
+    ("at 0 open 8 setnum 1", None, SIZES, None),
+    ("at 0 open 8 setnum 1 uint8", None, VALUE, None),
+    ("at 0 open 8 setnum 1 uint9 3", "uint9", SIZES, "uint8"),
+    ("at 0 open 8 getpdr", None, HANDLE, None),
+    ("at 0 open 8 getpdr 1 0", None, "'first' or 'next'", None),
+    ("at 0 open 8 getpdr 1 0 first", None, ID, None),
+    ("at 0 open 8 getpdr 1 0 frist 4", "frist", "'first' or 'next'", "first"),
+    ("at 0 tick", None, EID, None),
+    ("at 0 req", None, NUMBER, None),
+    ("at 0 rep 0", None, BYTE, None),
+    ("at 0 rep 0 1 2", "2", "the end of the line", None),
+    ("at 0 sense 1", None, VALUE, None),
+    ("at 0 restart 0", "0", "the end of the line", None),
+    # a wrong word or count of words is told before a wrong number
+    ("at x tick", None, EID, None),
+    ("at 0 open 7 setnum x uint9 3", "uint9", SIZES, "uint8"),
+]
+
+# the same of a line that has a wrong number
+WRONG_NUMBERS = [
+    ("requester 300 timeout 200 tries 3", "300", EID),
+    ("requester 10 timeout 60001 tries 3", "60001", TIMEOUT),
+    ("requester 10 timeout 200 tries 256", "256", BYTE),
+    ("at 0 open 8 settid 256", "256", BYTE),
+    ("at 0 open 8 sensor 65536", "65536", ID),
+    ("at 0 open 8 setnum 1 uint8 300", "300", "a value of the size 'uint8'"),
+    ("at 0 open 8 setnum 1 sint16 -32769", "-32769", "a value of the size 'sint16'"),
+    ("at 0 open 8 setnum 1 uint8 x", "x", VALUE),
+    ("at 0 open 8 setnum x uint8 30", "x", ID),
+    ("at 0 open 8 setstate 1 - 256", "256", STATE),
+    ("at 0 open 8 getpdr 4294967296 0 next 1", "4294967296", HANDLE),
+    ("at 0 open 8 getpdr 0 0 next 65536", "65536", ID),
+    ("at 0 open 7 gettid", "7", EID),
+    ("at x open 8 gettid", "x", MOMENT),
+    ("at 0 tick x", "x", EID),
+    ("at 0 req -1", "-1", NUMBER),
+    ("at 0 rep 0 256", "256", BYTE),
+    ("at 0 sense 1 1e3", "1e3", VALUE),
+    ("at 0 busy x", "x", NUMBER),
+    ("at x restart", "x", MOMENT),
+    # of several the first is told: those of a command or an action, then the endpoint's ID, then the moment
+    ("at x open 7 settid 256", "256", BYTE),
+    ("at x open 7 gettid", "7", EID),
+]
+
+
+def word_text(found, expected, meant):
+    """What is said of a wrong word, or of a line that ends too soon."""
+    if found is None:
+        return f"wrong words: expected {expected} at the end of the line"
+    hint = f"; did you mean '{meant}'?" if meant else ""
+    return f"wrong words: '{found}': expected {expected}{hint}"
+
 
 # a line of a schedule after one requester's, the name of its fault, and the explanation
 SCHEDULES = [
-    ("foo 1", "Words", "'foo' begins no line: expected 'requester' or 'at'"),
-    ("requestor 9", "Words", "'requestor' begins no line: expected 'requester' or 'at'; did you mean 'requester'?"),
-    ("requester 10", "Words", f"expected '{FORM}', found 1 word after 'requester'"),
-    ("requester 10 timout 200 tries 3", "Words", f"'timout': expected 'timeout', as in '{FORM}'"),
-    ("requester 10 timeout 200 trys 3", "Words", f"'trys': expected 'tries', as in '{FORM}'"),
-    ("requester 300 timeout 200 tries 3", "Number", "'300': expected an endpoint ID from 8 to 254"),
-    ("requester 10 timeout 60001 tries 3", "Number", "'60001': expected a timeout in milliseconds from 0 to 60000"),
-    ("requester 10 timeout 200 tries 256", "Number", "'256': expected a number from 0 to 255"),
+    *((line, "Words", word_text(found, expected, meant)) for line, found, expected, meant in WRONG_WORDS),
+    *((line, "Number", f"wrong number: '{found}': expected {expected}") for line, found, expected in WRONG_NUMBERS),
     ("requester 8 timeout 200 tries 3", "SameRequester", "an earlier line is of the requester '8' already"),
-    ("at", "Words", "expected 'at MS and an action'"),
-    ("at 0 open", "Words", "expected 'at MS open EID COMMAND'"),
-    ("at 0 reg 0", "Words", "'reg' is no action: expected 'open', 'tick', 'req', 'rep', 'sense', 'restart' or 'busy'; did you mean 'req'?"),
-    ("at 0 go 0", "Words", "'go' is no action: expected 'open', 'tick', 'req', 'rep', 'sense', 'restart' or 'busy'"),
-    ("at 0 open 8 getTID", "Words", f"'getTID' is no command: expected {COMMANDS}; did you mean 'gettid'?"),
-    ("at 0 open 8 reset", "Words", f"'reset' is no command: expected {COMMANDS}"),
-    ("at 0 open 8 gettid 1", "Words", "expected 'gettid', found 1 word after 'gettid'"),
-    ("at 0 open 8 setstate 1", "Words", "expected 'setstate ID S .. (one to eight states)', found 1 word after 'setstate'"),
-    ("at 0 open 8 setnum 1 uint9 3", "Words", "'uint9': expected a data size: uint8, sint8, uint16, sint16, uint32 or sint32; did you mean 'uint8'?"),
-    ("at 0 open 8 getpdr 1 0 frist 4", "Words", "'frist': expected 'first' or 'next'; did you mean 'first'?"),
-    ("at 0 req", "Words", "expected 'req K', found 0 words after 'req'"),
-    ("at 0 rep 0", "Words", "expected 'rep K J', found 1 word after 'rep'"),
-    ("at 0 restart 0", "Words", "expected 'restart', found 1 word after 'restart'"),
-    ("at 0 open 8 setnum 1 uint8 300", "Number", "'300' does not fit the size 'uint8'"),
-    ("at 0 open 8 setnum x uint8 30", "Number", "'x': expected an ID or a count from 0 to 65535"),
-    ("at 0 open 8 setstate 1 - 256", "Number", "'256': expected '-' or a state from 0 to 255"),
-    ("at 0 open 8 getpdr 4294967296 0 next 1", "Number", "'4294967296': expected a handle from 0 to 4294967295"),
-    ("at 0 open 7 gettid", "Number", "'7': expected an endpoint ID from 8 to 254"),
-    ("at x open 8 gettid", "Number", "'x': expected a moment in milliseconds from 0 to 4000000000000000"),
-    ("at 0 tick x", "Number", "'x': expected an endpoint ID from 8 to 254"),
-    ("at 0 req -1", "Number", "'-1': expected a number of at most 16 digits"),
-    ("at 0 rep 0 256", "Number", "'256': expected a number from 0 to 255"),
-    ("at 0 sense 1 1e3", "Number", "'1e3': expected a value of at most 16 digits"),
-    ("at x restart", "Number", "'x': expected a moment in milliseconds from 0 to 4000000000000000"),
     ("at 0 tick 10", "NoSuchRequester", f"no earlier line is of the requester '10': expected '{FORM}' above"),
 ]
 
@@ -256,7 +318,7 @@ def lines(rows, run):
             check_row(rows, run, f"{' '.join(words)} {text[:60]}", words, f"{front}# a capture\n{line}\n", want)
     for line, fault, text in SCHEDULES:
         want = (1, f"mctpctl: line 2: {fault}\nmctpctl: input line {before + 2}: {text}\n")
-        check_row(rows, run, f"run {text[:70]}", ["run"], f"{TOP}{ALL}%%\n{ASKER}{line}\n", want)
+        check_row(rows, run, f"run {line}: {text[:70]}", ["run"], f"{TOP}{ALL}%%\n{ASKER}{line}\n", want)
     want = (1, f"mctpctl: line 3: BackInTime\nmctpctl: input line {before + 3}: the moment '4' is before that of an earlier line, 5\n")
     check_row(rows, run, "run back in time", ["run"], f"{TOP}{ALL}%%\n{ASKER}at 5 tick 8\nat 4 tick 8\n", want)
     for line, first, text in TIMINGS:
@@ -279,7 +341,7 @@ def others(rows, run):
     warning = "a moment alone, which looks like a packet: is the moment before it missing?"
     check_row(rows, run, "a forgotten moment", ["show"], "# x\n0109080801800002\n", (0, f"mctpctl: warning: input line 2: {warning}\n"))
     text = f"{TOP}%%\n0109080801800002\nx\n"
-    want = f"mctpctl: line 2: Number\nmctpctl: input line 10: 'x': expected a moment in milliseconds from 0 to 4000000000000000\n"
+    want = f"mctpctl: line 2: Number\nmctpctl: input line 10: wrong number: 'x': expected {MOMENT}\n"
     check_row(rows, run, "a forgotten moment before a fault", ["answer"], text, (1, f"{want}mctpctl: warning: input line 9: {warning}\n"))
     check_row(rows, run, "a moment alone", ["show"], "0\n1234567890123456\n", (0, ""))
     check_row(rows, run, "a good run", ["run"], f"{TOP}%%\n{ASKER}at 0 open 8 gettid\n", (0, ""))

@@ -53,7 +53,7 @@ def files(rows, top):
         ran = call([wrapper, "show", *words, "--decode", framed])
         rows.check(f"{words} and a capture as a file", ran.returncode == 0 and "  request 0 GetTID\n" in ran.stdout, repr(ran))
     ran = call([wrapper, "run", "--explain", device, capture])
-    rows.check("a flag and two files", ran.returncode == 1 and "input line 26: '0' begins no line" in ran.stderr, repr(ran))
+    rows.check("a flag and two files", ran.returncode == 1 and "input line 26: wrong words: '0': expected 'requester' or 'at'" in ran.stderr, repr(ran))
     ran = call([wrapper, "answer", device, os.path.join(top, "none")])
     rows.check("a file that is not there", ran.returncode == 3 and ran.stdout == "" and "cannot be read" in ran.stderr, repr(ran))
     ran = call([wrapper, "other"])

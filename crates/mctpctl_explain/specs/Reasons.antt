@@ -1,7 +1,10 @@
--- How the fault for which a description was refused is explained.
-use Rattle.std.specs.Prelude.{◌≡◌, ◌⊎◌, ⊤, ℕ, List, [], ◌++◌, codes}
+-- How the fault for which a description or a line was refused is explained.
+use Rattle.std.specs.Prelude.{◌≡◌, ◌⊎◌, ◌≤◌, ⊤, ℕ, List, [], ◌++◌, codes}
+use Rattle.std.specs.Fmt.{decimal}
 use Rattle.mctpctl_input.specs.declared.faults.EngineFault.{EngineFault}
-use Rattle.mctpctl_input.specs.declared.faults.EngineFault.TheVariants.{Device}
+use Rattle.mctpctl_input.specs.declared.faults.EngineFault.TheVariants.{Device, Line}
+use Rattle.mctpctl_input.specs.declared.faults.LineKind.{LineKind}
+use Rattle.mctpctl_input.specs.declared.faults.LineKind.TheVariants as kinds
 use Rattle.pldm_device.specs.declared.description_fault.FileFault.{FileFault}
 use Rattle.pldm_device.specs.declared.description_fault.FileFault.TheVariants.{Toml, MissingKey, WrongKind, OutOfRange}
 use Rattle.pldm_device.specs.declared.description_fault.FileFault.TheVariants.{Duplicate, BadHex}
@@ -29,3 +32,29 @@ Explains fault text =
 abbrev pub ExplainsDevice : EngineFault → List ℕ → Type 0
 ExplainsDevice (Device fault) text = Explains fault text
 ExplainsDevice _ text = ⊤
+
+-- the words that open the reason for which a line was refused: each kind has its own
+abbrev pub line_opening : LineKind → List ℕ
+line_opening kinds.LongLine = codes "the line has "
+line_opening kinds.Words = codes "wrong words: "
+line_opening kinds.Number = codes "wrong number: "
+line_opening kinds.BackInTime = codes "the moment "
+line_opening kinds.BadHex = codes "wrong hex: "
+line_opening kinds.NoSuchRequester = codes "no earlier line is of the requester "
+line_opening kinds.SameRequester = codes "an earlier line is of the requester "
+
+-- nothing, or the words of the kind and more
+abbrev pub IsLineReason : LineKind → List ℕ → Type 0
+IsLineReason kind text = (text ≡ []) ⊎ ((rest : List ℕ) × (text ≡ line_opening kind ++ rest))
+
+-- nothing, or a reason right behind the line's number in the whole input, which has no fewer lines
+abbrev pub ExplainsNumbered : ℕ → LineKind → List ℕ → Type 0
+ExplainsNumbered number kind text =
+    (text ≡ [])
+    ⊎ ((shown : ℕ) × (rest : List ℕ) × (number ≤ shown)
+    × (text ≡ codes "input line " ++ (decimal shown ++ (codes ": " ++ (line_opening kind ++ rest)))))
+
+-- of a line the fault is explained that the engine returned
+abbrev pub ExplainsLine : EngineFault → List ℕ → Type 0
+ExplainsLine (Line number kind) text = ExplainsNumbered number kind text
+ExplainsLine _ text = ⊤

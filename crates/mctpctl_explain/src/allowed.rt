@@ -1,6 +1,6 @@
 //! What a description may say at a place, in words.
 
-use crate::slot::SIZES;
+use crate::expected::SIZES;
 use crate::suggest::choice;
 use mctp_packet::Memory;
 use pldm_device::{Allowed, RecordFlaw};

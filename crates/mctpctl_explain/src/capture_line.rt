@@ -1,43 +1,94 @@
 //! What is wrong with a line of a capture.
 
-use crate::slot::Slot;
+ghost use Rattle.std.specs.Prelude.{IfOk, string_bytes};
+ghost use Rattle.mctpctl_explain.specs.Reasons.{IsLineReason};
+
+use crate::expected::refused_text;
 use crate::words::{quoted, words_of};
 use line_words::{first_word, read_decimal, split_line, split_word};
 use mctp_packet::{HEADER, Memory};
 use mctpctl_input::{LineKind, MAX_CAPTURE_LINE};
+use schedule_text::Expected;
 use std::alloc::Global;
 
-/// Says what is wrong with a line of a capture that was refused for this, after these lines.
+/// Says what is wrong with a line of a capture that was refused for this, after these lines. Each kind opens with words
+/// of its own; where the line is not refused for this, nothing is said.
 pub(crate) fn explain_line(
     alloc: Global,
     line: &[u8],
     before: &[u8],
     kind: LineKind,
-) -> Result<String, Memory> {
-    if kind == LineKind::LongLine {
-        let length = line.len();
-        return Ok(format!(in alloc;
-            "the line has {length} bytes or more: at most {MAX_CAPTURE_LINE} are allowed"
-        )?);
-    }
-    let words = words_of(alloc, line)?;
-    match (kind, words.as_slice()) {
-        (LineKind::Words, [_, _, extra, ..]) => {
-            let found = quoted(alloc, extra)?;
-            Ok(format!(in alloc; "{found}: expected nothing after a moment and a packet in hex")?)
-        }
-        (LineKind::Number, [word]) if is_packet(word) => {
-            let found = quoted(alloc, word)?;
-            Ok(format!(in alloc; "{found}: expected a moment in milliseconds before the packet")?)
-        }
-        (LineKind::Number, [moment, ..]) => Slot::Moment.refused(alloc, moment),
-        (LineKind::BackInTime, [moment, ..]) => back_in_time(alloc, moment, before),
-        (LineKind::BadHex, [_, packet, ..]) => bad_hex(alloc, packet),
-        _ => Ok(String::new(alloc)),
+) -> Result<String, Memory>
+    ensures { IfOk result (λ text. IsLineReason kind (string_bytes text)) }
+{
+    match kind {
+        LineKind::LongLine => long_line(alloc, line),
+        LineKind::Words => wrong_words(alloc, line),
+        LineKind::Number => wrong_number(alloc, line),
+        LineKind::BackInTime => back_in_time(alloc, line, before),
+        LineKind::BadHex => bad_hex(alloc, line),
+        LineKind::NoSuchRequester | LineKind::SameRequester => Ok(String::new(alloc)),
     }
 }
 
-fn back_in_time(alloc: Global, moment: &[u8], before: &[u8]) -> Result<String, Memory> {
+#[tactic(auto, using(crate::proofs::Explained::line_explained))]
+fn long_line(alloc: Global, line: &[u8]) -> Result<String, Memory>
+    ensures { IfOk result (λ text. IsLineReason LineKind.LongLine (string_bytes text)) }
+{
+    let length = line.len();
+    let reason = format!(in alloc;
+        "{length} bytes or more: at most {MAX_CAPTURE_LINE} are allowed"
+    )?;
+    Ok(format!(in alloc; "the line has {reason}")?)
+}
+
+/// The first word too many.
+#[tactic(auto, using(crate::proofs::Explained::line_explained))]
+fn wrong_words(alloc: Global, line: &[u8]) -> Result<String, Memory>
+    ensures { IfOk result (λ text. IsLineReason LineKind.Words (string_bytes text)) }
+{
+    let words = words_of(alloc, line)?;
+    let [_, _, extra, ..] = words.as_slice() else {
+        return Ok(String::new(alloc));
+    };
+    let found = quoted(alloc, extra)?;
+    let reason = format!(in alloc; "{found}: expected nothing after a moment and a packet in hex")?;
+    Ok(format!(in alloc; "wrong words: {reason}")?)
+}
+
+/// The word that is no moment.
+#[tactic(auto, using(crate::proofs::Explained::line_explained))]
+fn wrong_number(alloc: Global, line: &[u8]) -> Result<String, Memory>
+    ensures { IfOk result (λ text. IsLineReason LineKind.Number (string_bytes text)) }
+{
+    let words = words_of(alloc, line)?;
+    let Some(moment) = words.first() else {
+        return Ok(String::new(alloc));
+    };
+    let reason = no_moment(alloc, moment, words.len())?;
+    Ok(format!(in alloc; "wrong number: {reason}")?)
+}
+
+/// What is wrong with a first word that is no moment, of as many words.
+fn no_moment(alloc: Global, word: &[u8], count: usize) -> Result<String, Memory> {
+    if count == 1 && is_packet(word) {
+        let found = quoted(alloc, word)?;
+        return Ok(format!(in alloc;
+            "{found}: expected a moment in milliseconds before the packet"
+        )?);
+    }
+    refused_text(alloc, word, Expected::Moment)
+}
+
+/// The moment of a line, and the one before it that is later.
+#[tactic(auto, using(crate::proofs::Explained::line_explained))]
+fn back_in_time(alloc: Global, line: &[u8], before: &[u8]) -> Result<String, Memory>
+    ensures { IfOk result (λ text. IsLineReason LineKind.BackInTime (string_bytes text)) }
+{
+    let words = words_of(alloc, line)?;
+    let Some(moment) = words.first() else {
+        return Ok(String::new(alloc));
+    };
     let found = quoted(alloc, moment)?;
     let last = last_moment(before);
     Ok(format!(in alloc; "the moment {found} is before that of an earlier line, {last}")?)
@@ -58,8 +109,21 @@ fn last_moment(lines: &[u8]) -> u64 {
     last
 }
 
+/// What is wrong with the hex digits of a line's packet.
+#[tactic(auto, using(crate::proofs::Explained::line_explained))]
+fn bad_hex(alloc: Global, line: &[u8]) -> Result<String, Memory>
+    ensures { IfOk result (λ text. IsLineReason LineKind.BadHex (string_bytes text)) }
+{
+    let words = words_of(alloc, line)?;
+    let [_, packet, ..] = words.as_slice() else {
+        return Ok(String::new(alloc));
+    };
+    let reason = no_hex(alloc, packet)?;
+    Ok(format!(in alloc; "wrong hex: {reason}")?)
+}
+
 /// The first character that is no hex digit, else the odd count of digits.
-fn bad_hex(alloc: Global, packet: &[u8]) -> Result<String, Memory> {
+fn no_hex(alloc: Global, packet: &[u8]) -> Result<String, Memory> {
     for (place, byte) in packet.iter().enumerate() {
         if !byte.is_ascii_hexdigit() {
             let found = quoted(alloc, &[*byte])?;

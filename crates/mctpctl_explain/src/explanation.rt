@@ -1,7 +1,7 @@
 //! What a fault of the input is, in more words.
 
 ghost use Rattle.std.specs.Prelude.{◌≡◌, [], IfOk, string_bytes};
-ghost use Rattle.mctpctl_explain.specs.Reasons.{ExplainsDevice};
+ghost use Rattle.mctpctl_explain.specs.Reasons.{ExplainsDevice, ExplainsLine, ExplainsNumbered, IsLineReason};
 ghost use Rattle.mctpctl_input.specs.OutsideFaults.{IsOutside};
 
 use crate::description::explain_description;
@@ -37,6 +37,7 @@ pub fn explain(
 ) -> Result<String, Memory>
     ensures outside { IsOutside fault.now → IfOk result (λ text. string_bytes text ≡ []) }
     ensures device { IfOk result (λ text. ExplainsDevice fault.now (string_bytes text)) }
+    ensures line { IfOk result (λ text. ExplainsLine fault.now (string_bytes text)) }
 {
     match fault {
         EngineFault::Read | EngineFault::Write | EngineFault::Memory(_) => Ok(String::new(alloc)),
@@ -68,13 +69,16 @@ fn no_divider(alloc: Global, subject: Subject) -> Result<String, Memory> {
 }
 
 /// Says which line it is in the whole input, and what is wrong with it.
+#[tactic(auto, using(crate::proofs::Explained::numbered))]
 fn explain_line(
     alloc: Global,
     subject: Subject,
     input: &[u8],
     number: u64,
     kind: LineKind,
-) -> Result<String, Memory> {
+) -> Result<String, Memory>
+    ensures { IfOk result (λ text. ExplainsNumbered number kind (string_bytes text)) }
+{
     let (lines, lines_before) = match (subject, Divided::new(input)) {
         (Subject::Show, _) | (_, None) => (input, 0),
         (_, Some(divided)) => (divided.lines, divided.lines_before),
@@ -82,13 +86,28 @@ fn explain_line(
     let Some((line, before)) = numbered_line(lines, number) else {
         return Ok(String::new(alloc));
     };
-    let text = match subject {
-        Subject::Run => schedule_line::explain_line(alloc, line, before, kind)?,
-        Subject::Answer | Subject::Show => capture_line::explain_line(alloc, line, before, kind)?,
-    };
-    let number = number.saturating_add(lines_before);
-    let sign = if text.is_empty() { "" } else { ": " };
-    Ok(format!(in alloc; "input line {number}{sign}{text}")?)
+    let reason = line_reason(alloc, subject, line, before, kind)?;
+    if reason.is_empty() {
+        return Ok(reason);
+    }
+    let shown = number.saturating_add(lines_before);
+    Ok(format!(in alloc; "input line {shown}: {reason}")?)
+}
+
+/// What is wrong with a line that was refused for this, after these lines; nothing where it is not refused for this.
+fn line_reason(
+    alloc: Global,
+    subject: Subject,
+    line: &[u8],
+    before: &[u8],
+    kind: LineKind,
+) -> Result<String, Memory>
+    ensures { IfOk result (λ text. IsLineReason kind (string_bytes text)) }
+{
+    match subject {
+        Subject::Run => schedule_line::explain_line(alloc, line, before, kind),
+        Subject::Answer | Subject::Show => capture_line::explain_line(alloc, line, before, kind),
+    }
 }
 
 fn explain_requester(

@@ -3,9 +3,9 @@
 
 mod allowed;
 mod capture_line;
-mod command_form;
 mod description;
 mod divided;
+mod expected;
 mod explanation;
 mod ignored;
 mod keeping;
@@ -15,7 +15,6 @@ mod limits;
 mod paths;
 mod place;
 mod schedule_line;
-mod slot;
 mod suggest;
 mod timing;
 mod words;
