@@ -11,8 +11,8 @@ use mctpctl_input::{LineKind, MAX_CAPTURE_LINE};
 use schedule_text::Expected;
 use std::alloc::Global;
 
-/// Says what is wrong with a line of a capture that was refused for this, after these lines. Each kind opens with words
-/// of its own; where the line is not refused for this, nothing is said.
+/// Says what is wrong with a line of a capture that was refused for this, after these lines. Each kind opens with
+/// words of its own; where the line is not refused for this, nothing is said.
 pub(crate) fn explain_line(
     alloc: Global,
     line: &[u8],

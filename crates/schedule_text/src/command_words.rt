@@ -115,6 +115,8 @@ fn bare<'a>(command: Command, words: &Words<'a>) -> Result<Command, Refusal<'a>>
 }
 
 /// The one number of a byte that there has to be.
+// Inlined, as the readers of one word after it.
+#[inline(always)]
 fn byte_of<'a>(words: &mut Words<'a>) -> Result<u8, Refusal<'a>>
     ensures { kinds result ≡ byte_of words.old }
 {
@@ -122,6 +124,7 @@ fn byte_of<'a>(words: &mut Words<'a>) -> Result<u8, Refusal<'a>>
 }
 
 /// The one ID that there has to be.
+#[inline(always)]
 fn id_of<'a>(words: &mut Words<'a>) -> Result<u16, Refusal<'a>>
     ensures { kinds result ≡ id_of words.old }
 {
@@ -239,6 +242,7 @@ fn read_getpdr<'a>(words: &mut Words<'a>) -> Result<Command, Refusal<'a>>
 }
 
 /// Which part of a record is asked for: `first` or `next`.
+#[inline(always)]
 fn read_part<'a>(word: &Word<'a>) -> Result<u8, Refusal<'a>>
     ensures { kinds result ≡ part_in word.now }
 {

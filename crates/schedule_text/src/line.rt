@@ -103,6 +103,8 @@ pub(crate) fn read_action<'a>(name: &Word<'a>, words: &mut Words<'a>) -> Result<
 }
 
 /// The one endpoint ID that there has to be.
+// Inlined, as the one after it: its result is then passed on in parts.
+#[inline(always)]
 fn only_eid<'a>(words: &mut Words<'a>) -> Result<Eid, Refusal<'a>>
     ensures { kinds result ≡ only_eid words.old }
 {
@@ -110,6 +112,7 @@ fn only_eid<'a>(words: &mut Words<'a>) -> Result<Eid, Refusal<'a>>
 }
 
 /// The one number that there has to be.
+#[inline(always)]
 fn only_number<'a>(words: &mut Words<'a>) -> Result<u64, Refusal<'a>>
     ensures { kinds result ≡ only_number words.old }
 {

@@ -60,6 +60,8 @@ pub enum Expected {
 
 impl<'a> Refusal<'a> {
     /// A word that is none of those that may stand there, or one too many.
+    // Inlined, as the two after it: what is read of a good line then stays in registers.
+    #[inline(always)]
     pub(crate) fn of_word(found: &'a [u8], expected: Expected) -> Refusal<'a>
         ensures { result.kind ≡ faults.Words }
     {
@@ -71,6 +73,7 @@ impl<'a> Refusal<'a> {
     }
 
     /// A word that has to be there, where the line ended.
+    #[inline(always)]
     pub(crate) fn of_end(expected: Expected) -> Refusal<'a>
         ensures { result.kind ≡ faults.Words }
     {
@@ -78,6 +81,7 @@ impl<'a> Refusal<'a> {
     }
 
     /// A word that spells no number that may stand there.
+    #[inline(always)]
     pub(crate) fn of_number(found: &'a [u8], expected: Expected) -> Refusal<'a>
         ensures { result.kind ≡ faults.Number }
     {

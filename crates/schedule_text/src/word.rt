@@ -105,6 +105,7 @@ impl<'a> Word<'a> {
     }
 
     /// The value of at most 16 digits that it spells, with a sign or without.
+    #[inline(always)]
     pub(crate) fn any_value(&self) -> Result<i64, Refusal<'a>>
         ensures { kinds result ≡ any_value self.now }
     {

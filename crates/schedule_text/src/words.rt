@@ -156,6 +156,9 @@ impl<'a> Words<'a> {
         ensures more { OnErr result (self.now ≢ []) }
         ensures err { IfErr result (λ refusal. refusal.kind ≡ faults.Words) }
     {
+        if self.text.is_empty() {
+            return Ok(());
+        }
         match split_word(self.text) {
             Some((word, _)) => Err(Refusal::of_word(word, Expected::End)),
             None => Ok(()),
