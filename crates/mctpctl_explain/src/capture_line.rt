@@ -31,6 +31,7 @@ pub(crate) fn explain_line(
     }
 }
 
+/// How long the line is, and how long one may be.
 #[tactic(auto, using(crate::proofs::Explained::line_explained))]
 fn long_line(alloc: Global, line: &[u8]) -> Result<String, Memory>
     ensures { IfOk result (λ text. IsLineReason LineKind.LongLine (string_bytes text)) }
