@@ -1,9 +1,9 @@
 //! A reader or writer that remembers whether a call through it failed.
 
-ghost use Rattle.std.specs.Prelude.{◌≡◌, ◌<◌, length, true, false, IfOk, OnOk, OnErr};
+ghost use Rattle.std.specs.Prelude.{◌≡◌, true, false, OnOk, OnErr};
 ghost use Rattle.std.specs.Io.{ReadsAtMost, WritesAtMost};
 ghost use Rattle.std.specs.Io.KnownBytes.{Appends, Keeps, ReadConsumes, WriteAppends};
-ghost use Rattle.mctpctl_input.specs.Ports.{inner_of, has_failed};
+ghost use Rattle.mctpctl_input.specs.Ports.{inner_of, has_failed, FailsIfRefused, StaysIfTaken};
 
 use std::io;
 use std::io::{Error, ErrorKind, Read, Write};
@@ -78,11 +78,8 @@ impl<T: Write> Write for Port<T> {
     fn write(&mut self, buf: &[u8]) -> io::Result<usize>
         ensures bound { WritesAtMost result buf.now }
         ensures bytes { WriteAppends (T.contents (inner_of self.old)) (T.contents (inner_of self.new)) result buf.now }
-        ensures error { OnErr result (has_failed self.new ≡ true) }
-        ensures none { IfOk result (λ n. n ≡ 0 → 0 < length buf.now → has_failed self.new ≡ true) }
-        ensures some { IfOk result (λ n. 0 < n → has_failed self.new ≡ has_failed self.old) }
-        ensures empty { OnOk result (length buf.now ≡ 0 → has_failed self.new ≡ has_failed self.old) }
-        ensures stays { has_failed self.old ≡ true → has_failed self.new ≡ true }
+        ensures refused { FailsIfRefused result buf.now self.new }
+        ensures taken { StaysIfTaken result buf.now self.old self.new }
     {
         let result = self.inner.write(buf);
         match &result {

@@ -13,5 +13,5 @@ loop-rest-preserved g c =
       done ++ take n rest,
       moves_front _ done rest n split,
       Appends-trans _ _ _ _ _ appended c.in_ok-count.ensures.bytes,
-      c.in_ok-count.ensures.some took ∙ same,
+      c.in_ok-count.ensures.taken.0 took ∙ same,
     )
