@@ -13,6 +13,7 @@ pub mod LongLines
 pub mod MessageForms
 pub mod ObservedRuns
 pub mod Pieces
+pub mod PortFaults
 pub mod RunText
 pub mod ScheduleLines
 pub mod ShowText

@@ -1,9 +1,9 @@
 -- What a run does with all that a reader gives, said of both ports as they were before and as they are after.
-use Rattle.std.specs.Prelude.{◌≡◌, ◌↔◌, ℕ, nat_lt, true, List, length, take, Option, IfSome, Result, IsErrOf}
+use Rattle.std.specs.Prelude.{ℕ, nat_lt, List, length, take, Option, IfSome, Result, IsErrOf}
 use Rattle.mctpctl_engines.specs.LineRuns.{Written, Writes}
 use Rattle.mctpctl_input.specs.OutsideFaults.{no_memory}
 use Rattle.mctpctl_engines.specs.Pieces.{Gives, WroteOfFront, WroteOfRead}
-use Rattle.mctpctl_input.specs.Ports.{inner_of, has_failed}
+use Rattle.mctpctl_input.specs.Ports.{inner_of, ReportsFailedPorts}
 use Rattle.mctpctl_input.specs.declared.faults.EngineFault.{EngineFault}
 use Rattle.mctpctl_input.specs.declared.faults.EngineFault.TheVariants.{Read, Write}
 use Rattle.mctpctl_input.specs.declared.limits.TheConstants.{MAX_INPUT}
@@ -12,10 +12,6 @@ use Rattle.mctpctl_input.specs.declared.port.Port.{Port}
 -- what the run writes of all bytes: those past the limit are not looked at
 abbrev pub whole_text : Gives → List ℕ → Written
 whole_text gives all = gives (nat_lt MAX_INPUT (length all)) (take MAX_INPUT all)
-
--- what is said of a port that fails: this fault is the result exactly where it has failed
-abbrev pub ReportsFailed : {T : Type 0} → EngineFault → Result Unit EngineFault → Port T → Type 0
-ReportsFailed fault result port = IsErrOf result fault ↔ (has_failed port ≡ true)
 
 module _ {R W : Type 0} (remaining : R → Option (List ℕ)) (contents : W → Option (List ℕ)) where
   -- the text of all that the reader had is written, or its fault returned
@@ -44,5 +40,4 @@ pub record RunsOver {R W : Type 0} (remaining : R → Option (List ℕ)) (conten
   pub text : WritesAll remaining contents (whole_text gives) reader before after result
   pub at_read : WritesRead remaining contents gives reader left before after result
   pub at_memory : WritesFront remaining contents gives reader before after result
-  pub read : ReportsFailed Read result left
-  pub write : ReportsFailed Write result after
+  pub ports : ReportsFailedPorts Read Write result left after

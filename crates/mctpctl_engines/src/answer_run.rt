@@ -1,13 +1,13 @@
 //! The engine of `mctpctl answer`, over an input that comes in pieces.
 
-ghost use Rattle.std.specs.Prelude.{◌≡◌, ◌≢◌, false, refl};
+ghost use Rattle.std.specs.Prelude.{refl};
 ghost use Rattle.mctpctl_engines.specs.AnswerPieces.{blank_capture};
 ghost use Rattle.mctpctl_engines.specs.AnswerText.{answer_text, called_run, run_of};
 ghost use Rattle.mctpctl_engines.specs.HeldRuns.{held_run, held_step};
 ghost use Rattle.mctpctl_engines.specs.LineTasks.{AddsLine};
 ghost use Rattle.mctpctl_engines.specs.LongLines.{held_refuses};
-ghost use Rattle.mctpctl_input.specs.Ports.{has_failed};
-ghost use Rattle.mctpctl_engines.specs.WholeRuns.{ReportsFailed, WritesAll, WritesFront, WritesRead};
+ghost use Rattle.mctpctl_input.specs.Ports.{BothWork, ReportsFailedPorts};
+ghost use Rattle.mctpctl_engines.specs.WholeRuns.{WritesAll, WritesFront, WritesRead};
 ghost use Rattle.pldm_device.specs.Devices.{Device};
 ghost use Rattle.pldm_responder.specs.ResponderStates.{ResponderState};
 ghost use Rattle.pldm_responder.specs.ResponderViews.{held_of};
@@ -98,14 +98,12 @@ pub fn answer_all<R: Read, W: Write>(
     reader: &mut Port<R>,
     writer: &mut Port<W>,
 ) -> Result<(), EngineFault>
-    requires reads { has_failed reader.old ≡ false }
-    requires writes { has_failed writer.old ≡ false }
+    requires works { BothWork reader.old writer.old }
     ensures text { WritesAll R.remaining W.contents answer_text reader.old writer.old writer.new result }
     ensures at_read { WritesRead R.remaining W.contents (run_of called_run) reader.old reader.new writer.old writer.new
         result }
     ensures at_memory { WritesFront R.remaining W.contents (run_of called_run) reader.old writer.old writer.new result }
-    ensures read { ReportsFailed EngineFault.Read result reader.new }
-    ensures write { ReportsFailed EngineFault.Write result writer.new }
+    ensures ports { ReportsFailedPorts EngineFault.Read EngineFault.Write result reader.new writer.new }
 {
     laws::looks_back::<SimDevice>();
     let lines = DescribedLines::<CaptureLines<Responder<SimDevice>>>::new(alloc);

@@ -1,9 +1,10 @@
 //! The lines of a capture, counted and answered one after another.
 
-ghost use Rattle.std.specs.Prelude.{◌≡◌, ◌≢◌, ◌≤◌, ◌+◌, ℕ, List, [], ◌∷◌, Result, Err, refl};
+ghost use Rattle.std.specs.Prelude.{◌≡◌, ◌≤◌, ◌+◌, ℕ, List, [], ◌∷◌, Result, refl};
 ghost use Rattle.mctpctl_engines.specs.LineTasks.{AddsLine, FitsCapture, RefusesLong, task_writes};
 ghost use Rattle.mctpctl_engines.specs.Pieces.{Finishes};
 ghost use Rattle.mctpctl_input.specs.declared.faults.LineKind.{LineKind};
+ghost use Rattle.mctpctl_engines.specs.PortFaults.{ReportsNoPort};
 
 use crate::line_run::LineTaker;
 use mctp_packet::Body;
@@ -107,8 +108,7 @@ impl<T: LineTask> CaptureLines<T> {
         requires { self.old.ended ≤ MAX_INPUT }
         ensures meets { Finishes (task_writes T.step T.state_of self.old is_cut (last.now ∷ [])) out.old.items
             out.new.items result }
-        ensures read { result ≢ Err EngineFault.Read }
-        ensures write { result ≢ Err EngineFault.Write }
+        ensures ports { ReportsNoPort result }
     {
         let number = self.ended + 1;
         if is_cut {

@@ -1,10 +1,11 @@
 //! The lines of an input that begins with a description of a device.
 
-ghost use Rattle.std.specs.Prelude.{◌≡◌, ◌≢◌, ◌+◌, ◌<◌, ◌≤◌, ℕ, Bool, true, List, [], ◌∷◌, Err};
+ghost use Rattle.std.specs.Prelude.{◌≡◌, ◌+◌, ◌<◌, ◌≤◌, ℕ, Bool, true, List, [], ◌∷◌};
 ghost use Rattle.mctpctl_engines.specs.DescribedLines.{IsFirst, described_count, described_may_keep, described_writes, nothing_where_cut};
 ghost use Rattle.mctpctl_engines.specs.LinePieces.{TakesLine};
 ghost use Rattle.mctpctl_engines.specs.LineRuns.{Written};
 ghost use Rattle.pldm_device.specs.declared.description.Description.{Description};
+ghost use Rattle.mctpctl_engines.specs.PortFaults.{ReportsNoPort};
 
 use crate::description_lines::DescriptionLines;
 use crate::line_run::LineTaker;
@@ -63,8 +64,7 @@ impl<T: Described> DescribedLines<T> {
         ensures meets { TakesLine (described_writes T.written T.writes self.old) line.now
             (described_writes T.written T.writes self.new) out.old.items out.new.items result }
         ensures counted { described_count T.counted self.new ≤ described_count T.counted self.old + 1 }
-        ensures read { result ≢ Err EngineFault.Read }
-        ensures write { result ≢ Err EngineFault.Write }
+        ensures ports { ReportsNoPort result }
     {
         let found = match self {
             DescribedLines::Past(lines) => return lines.take_line(alloc, line, out),

@@ -1,8 +1,9 @@
 //! The lines of a description, as they come before the line that divides.
 
-ghost use Rattle.std.specs.Prelude.{◌≡◌, ◌≢◌, ◌≤◌, ◌+◌, [], Err, IfErr, OnOk, length};
+ghost use Rattle.std.specs.Prelude.{◌≡◌, ◌≤◌, ◌+◌, [], IfErr, OnOk, length};
 ghost use Rattle.mctpctl_engines.specs.DescriptionLines.{Describes, EndsDescription, IsReturned, LinesPast, begun, description_writes};
 ghost use Rattle.mctpctl_engines.specs.LinePieces.{FrontStops};
+ghost use Rattle.mctpctl_engines.specs.PortFaults.{ReportsNoPort};
 
 use mctpctl_input::{DescriptionFault, EngineFault, MAX_DESCRIPTION, MAX_DIVIDER, is_divider};
 use pldm_device::Description;
@@ -34,8 +35,7 @@ impl DescriptionLines {
     ) -> Result<Option<Description>, EngineFault>
         ensures meets { (past : LinesPast) → Describes past (description_writes past self.old.text.items) line.now
             (description_writes past self.new.text.items) result }
-        ensures read { result ≢ Err EngineFault.Read }
-        ensures write { result ≢ Err EngineFault.Write }
+        ensures ports { ReportsNoPort result }
     {
         if is_divider(line) {
             return match read_description(alloc, &self.text) {
@@ -56,8 +56,7 @@ impl DescriptionLines {
         ensures ok { OnOk result (length self.now.text.items + length front.now ≤ MAX_DESCRIPTION + MAX_DIVIDER) }
         ensures err { IfErr result (λ fault. (past : LinesPast) → FrontStops (description_writes past
             self.now.text.items) front.now fault) }
-        ensures read { result ≢ Err EngineFault.Read }
-        ensures write { result ≢ Err EngineFault.Write }
+        ensures ports { ReportsNoPort result }
     {
         if self.text.len().saturating_add(front.len()) > MAX_DESCRIPTION + MAX_DIVIDER {
             return Err(EngineFault::TooLarge);
@@ -69,8 +68,7 @@ impl DescriptionLines {
     pub fn end_input(&self, alloc: Global, last: &[u8]) -> Result<Description, EngineFault>
         ensures meets { (past : LinesPast) → EndsDescription past (description_writes past self.now.text.items) last.now
             result }
-        ensures read { result ≢ Err EngineFault.Read }
-        ensures write { result ≢ Err EngineFault.Write }
+        ensures ports { ReportsNoPort result }
     {
         if is_divider(last) {
             return read_description(alloc, &self.text);
@@ -87,8 +85,7 @@ impl DescriptionLines {
 /// The device that the text before the divider describes.
 pub fn read_description(alloc: Global, text: &[u8]) -> Result<Description, EngineFault>
     ensures meets { IsReturned (begun text.now) result }
-    ensures read { result ≢ Err EngineFault.Read }
-    ensures write { result ≢ Err EngineFault.Write }
+    ensures ports { ReportsNoPort result }
 {
     if text.len() > MAX_DESCRIPTION {
         return Err(EngineFault::TooLarge);

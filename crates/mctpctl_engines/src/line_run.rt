@@ -1,12 +1,12 @@
 //! A run over lines: the one place where pieces of input are cut into lines, and the front of a line is kept.
 
-ghost use Rattle.std.specs.Prelude.{◌≡◌, ◌≢◌, ◌≤◌, ◌<◌, ◌+◌, ◌++◌, ◌∷◌, ℕ, Bool, true, false, List, [], Err, IfErr, OnOk, length};
+ghost use Rattle.std.specs.Prelude.{◌≡◌, ◌≤◌, ◌<◌, ◌+◌, ◌++◌, ◌∷◌, ℕ, Bool, true, List, [], IfErr, OnOk, length};
 ghost use Rattle.line_words.specs.TextLines.{HasNoFeed};
 ghost use Rattle.mctpctl_engines.specs.LinePieces.{FrontStops, TakesLine, nothing_where_cut, run_gives};
 ghost use Rattle.mctpctl_engines.specs.LineRuns.{Written};
 ghost use Rattle.mctpctl_engines.specs.Pieces.{FinishesTo, Takes};
-ghost use Rattle.mctpctl_input.specs.Ports.{inner_of, has_failed};
-ghost use Rattle.mctpctl_engines.specs.WholeRuns.{ReportsFailed};
+ghost use Rattle.mctpctl_input.specs.Ports.{inner_of};
+ghost use Rattle.mctpctl_engines.specs.PortFaults.{IsReady, ReportsNoPort, ReportsOnlyWriter};
 
 use crate::piece_loop::Run;
 use line_words::split_line;
@@ -39,16 +39,14 @@ pub trait LineTaker {
         requires { counted self.old < MAX_INPUT }
         ensures meets { TakesLine (writes self.old) line.now (writes self.new) out.old.items out.new.items result }
         ensures counted { counted self.new ≤ counted self.old + 1 }
-        ensures read { result ≢ Err EngineFault.Read }
-        ensures write { result ≢ Err EngineFault.Write };
+        ensures ports { ReportsNoPort result };
 
     /// Fails where the next line begins with `front` and that is too long, however the line ends.
     fn check_front(&self, front: &[u8]) -> Result<(), EngineFault>
         requires { counted self.now ≤ MAX_INPUT }
         ensures ok { OnOk result (may_keep self.now (length front.now)) }
         ensures err { IfErr result (λ fault. FrontStops (writes self.now) front.now fault) }
-        ensures read { result ≢ Err EngineFault.Read }
-        ensures write { result ≢ Err EngineFault.Write };
+        ensures ports { ReportsNoPort result };
 
     /// Takes the last line, which the end of the input ends, and writes what is left to give before its fault is
     /// reported. `out` is room for a text.
@@ -61,12 +59,10 @@ pub trait LineTaker {
         writer: &mut Port<W>,
     ) -> Result<(), EngineFault>
         requires size { counted self.old ≤ MAX_INPUT }
-        requires works { has_failed writer.old ≡ false }
-        requires empty { out.old.items ≡ [] }
+        requires ready { IsReady out.old.items writer.old }
         ensures meets { FinishesTo (writes self.old is_cut (last.now ∷ [])) (W.contents (inner_of writer.old))
             (W.contents (inner_of writer.new)) result }
-        ensures read { result ≢ Err EngineFault.Read }
-        ensures write { ReportsFailed EngineFault.Write result writer.new };
+        ensures ports { ReportsOnlyWriter result writer.new };
 
     ghost none_where_cut: { (taker : Self) (line : List ℕ) → (writes taker true (line ∷ [])).text ≡ [] };
 }
@@ -101,8 +97,7 @@ impl<T: LineTaker> LineRun<T> {
         ensures meets { Takes (run_gives T.writes self.old) (line.now ++ 10 ∷ []) (run_gives T.writes self.new)
             out.old.items out.new.items result }
         ensures counted { T.counted self.new.taker ≤ T.counted self.old.taker + 1 }
-        ensures read { result ≢ Err EngineFault.Read }
-        ensures write { result ≢ Err EngineFault.Write }
+        ensures ports { ReportsNoPort result }
     {
         if self.kept.is_empty() {
             return self.taker.take_line(alloc, line, out);
@@ -124,8 +119,7 @@ impl<T: LineTaker> LineRun<T> {
         ensures meets { Takes (run_gives T.writes self.old) (line.now ++ 10 ∷ []) (run_gives T.writes self.new)
             out.old.items out.new.items result }
         ensures counted { T.counted self.new.taker ≤ T.counted self.old.taker + 1 }
-        ensures read { result ≢ Err EngineFault.Read }
-        ensures write { result ≢ Err EngineFault.Write }
+        ensures ports { ReportsNoPort result }
     {
         if let Err(refused) = self.kept.extend_from_slice(line) {
             return Err(EngineFault::Memory(refused.into()));
@@ -142,8 +136,7 @@ impl<T: LineTaker> LineRun<T> {
         ensures meets { Takes (run_gives T.writes self.old) front.now (run_gives T.writes self.new) [] [] result }
         ensures counted { T.counted self.new.taker ≡ T.counted self.old.taker }
         ensures bounded { OnOk result (T.may_keep self.new.taker (length self.new.kept.items)) }
-        ensures read { result ≢ Err EngineFault.Read }
-        ensures write { result ≢ Err EngineFault.Write }
+        ensures ports { ReportsNoPort result }
     {
         self.kept.extend_from_slice(front)?;
         self.taker.check_front(&self.kept)
@@ -161,8 +154,7 @@ impl<T: LineTaker> Run for LineRun<T> {
             out.new.items result }
         ensures counted { T.counted self.new.taker ≤ T.counted self.old.taker + length piece.now }
         ensures bounded { OnOk result (T.may_keep self.new.taker (length self.new.kept.items)) }
-        ensures read { result ≢ Err EngineFault.Read }
-        ensures write { result ≢ Err EngineFault.Write }
+        ensures ports { ReportsNoPort result }
     {
         let mut rest = piece;
         while let Some((line, after)) = split_line(rest) {

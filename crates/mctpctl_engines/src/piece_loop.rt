@@ -1,10 +1,11 @@
 //! The loop of a run: a piece of input is read, and what the run gives of it is written before more is asked for.
 
-ghost use Rattle.std.specs.Prelude.{◌≡◌, ◌≢◌, ◌≤◌, ◌<◌, ◌+◌, ℕ, Bool, List, [], Err, OnOk, IfOk, length, vec_len, true, false};
+ghost use Rattle.std.specs.Prelude.{◌≡◌, ◌≤◌, ◌<◌, ◌+◌, ℕ, Bool, List, [], OnOk, IfOk, length, vec_len, true};
 ghost use Rattle.mctpctl_engines.specs.LineRuns.{Written};
 ghost use Rattle.mctpctl_engines.specs.Pieces.{Takes, TakesTo, FinishesTo};
-ghost use Rattle.mctpctl_input.specs.Ports.{inner_of, has_failed};
-ghost use Rattle.mctpctl_engines.specs.WholeRuns.{RunsOver, ReportsFailed, WritesAll, WritesFront, WritesRead, whole_text};
+ghost use Rattle.mctpctl_input.specs.Ports.{inner_of, BothWork, ReportsFailedPorts};
+ghost use Rattle.mctpctl_engines.specs.WholeRuns.{RunsOver, WritesAll, WritesFront, WritesRead, whole_text};
+ghost use Rattle.mctpctl_engines.specs.PortFaults.{IsReady, ReportsNoPort, ReportsOnlyWriter};
 
 use mctpctl_input::{EngineFault, MAX_INPUT, Port};
 use std::alloc::{AllocError, Global};
@@ -29,8 +30,7 @@ pub trait Run {
         requires { counted self.old + length piece.now ≤ MAX_INPUT }
         ensures meets { Takes (gives self.old) piece.now (gives self.new) out.old.items out.new.items result }
         ensures counted { counted self.new ≤ counted self.old + length piece.now }
-        ensures read { result ≢ Err EngineFault.Read }
-        ensures write { result ≢ Err EngineFault.Write };
+        ensures ports { ReportsNoPort result };
 
     /// Takes the end of the input, and writes what is left to give before its fault is reported. `out` is
     /// room for a text.
@@ -42,12 +42,10 @@ pub trait Run {
         writer: &mut Port<W>,
     ) -> Result<(), EngineFault>
         requires size { counted self.old ≤ MAX_INPUT }
-        requires works { has_failed writer.old ≡ false }
-        requires empty { out.old.items ≡ [] }
+        requires ready { IsReady out.old.items writer.old }
         ensures meets { FinishesTo (gives self.old is_cut []) (W.contents (inner_of writer.old))
             (W.contents (inner_of writer.new)) result }
-        ensures read { result ≢ Err EngineFault.Read }
-        ensures write { ReportsFailed EngineFault.Write result writer.new };
+        ensures ports { ReportsOnlyWriter result writer.new };
 
     ghost none_where_cut: { (run : Self) → (gives run true []).text ≡ [] };
 }
@@ -67,15 +65,13 @@ fn take_piece<T: Run, W: Write>(
     out: &mut Vec<u8>,
     writer: &mut Port<W>,
 ) -> Result<(), EngineFault>
-    requires works { has_failed writer.old ≡ false }
-    requires empty { out.old.items ≡ [] }
+    requires ready { IsReady out.old.items writer.old }
     requires size { T.counted run.old + length piece.now ≤ MAX_INPUT }
     ensures meets { TakesTo (T.gives run.old) piece.now (T.gives run.new) (W.contents (inner_of writer.old))
         (W.contents (inner_of writer.new)) result }
     ensures counted { T.counted run.new ≤ T.counted run.old + length piece.now }
     ensures empty { OnOk result (out.new.items ≡ []) }
-    ensures read { result ≢ Err EngineFault.Read }
-    ensures write { ReportsFailed EngineFault.Write result writer.new }
+    ensures ports { ReportsOnlyWriter result writer.new }
 {
     let result = run.take(alloc, piece, out);
     if writer.write_all(out).is_err() {
@@ -94,8 +90,7 @@ fn run_pieces<T: Run, R: Read, W: Write>(
     writer: &mut Port<W>,
     room: &mut [u8],
 ) -> Result<(), EngineFault>
-    requires reads { has_failed reader.old ≡ false }
-    requires writes { has_failed writer.old ≡ false }
+    requires works { BothWork reader.old writer.old }
     requires fresh { T.counted run.old ≡ 0 }
     requires room { 0 < length room.old }
     ensures { RunsOver R.remaining W.contents (T.gives run.old) reader.old reader.new writer.old writer.new result }
@@ -129,8 +124,7 @@ fn run_input<T: Run, R: Read, W: Write>(
     reader: &mut Port<R>,
     writer: &mut Port<W>,
 ) -> Result<(), EngineFault>
-    requires reads { has_failed reader.old ≡ false }
-    requires writes { has_failed writer.old ≡ false }
+    requires works { BothWork reader.old writer.old }
     requires fresh { T.counted run.old ≡ 0 }
     ensures { RunsOver R.remaining W.contents (T.gives run.old) reader.old reader.new writer.old writer.new result }
 {
@@ -146,16 +140,14 @@ pub fn run_to_end<T: Run, R: Read, W: Write>(
     reader: &mut Port<R>,
     writer: &mut Port<W>,
 ) -> Result<(), EngineFault>
-    requires reads { has_failed reader.old ≡ false }
-    requires writes { has_failed writer.old ≡ false }
+    requires works { BothWork reader.old writer.old }
     requires fresh { T.counted run.old ≡ 0 }
     ensures text { WritesAll R.remaining W.contents (whole_text (T.gives run.old)) reader.old writer.old writer.new
         result }
     ensures at_read { WritesRead R.remaining W.contents (T.gives run.old) reader.old reader.new writer.old writer.new
         result }
     ensures at_memory { WritesFront R.remaining W.contents (T.gives run.old) reader.old writer.old writer.new result }
-    ensures read { ReportsFailed EngineFault.Read result reader.new }
-    ensures write { ReportsFailed EngineFault.Write result writer.new }
+    ensures ports { ReportsFailedPorts EngineFault.Read EngineFault.Write result reader.new writer.new }
 {
     let result = run_input(alloc, run, reader, writer);
     if reader.failed() || writer.failed() {

@@ -1,11 +1,11 @@
 //! A schedule that was run over the described device, and its text.
 
 ghost use Rattle.std.specs.Io.KnownBytes.{Appends};
-ghost use Rattle.std.specs.Prelude.{◌≡◌, ◌≢◌, Ok, Err, IfErr, OnOk, false};
+ghost use Rattle.std.specs.Prelude.{◌≡◌, Ok, IfErr, OnOk, false};
 ghost use Rattle.mctpctl_engines.specs.RunText.{schedule_written, stop_of_run};
 ghost use Rattle.mctpctl_engines.specs.ScheduleLines.{ReportsText, text_of_ran};
-ghost use Rattle.mctpctl_input.specs.Ports.{inner_of, has_failed};
-ghost use Rattle.mctpctl_engines.specs.WholeRuns.{ReportsFailed};
+ghost use Rattle.mctpctl_input.specs.Ports.{inner_of, has_failed, ReportsFailed};
+ghost use Rattle.mctpctl_engines.specs.PortFaults.{ReportsNoPort};
 
 use mctp_schedule::{Report, RunFault, Schedule, Setup, run};
 use mctpctl_input::{EngineFault, Port};
@@ -38,8 +38,7 @@ pub fn run_schedule(
     schedule: Schedule,
 ) -> Result<Ran, EngineFault>
     ensures meets { ReportsText text_of_ran (schedule_written description (Ok schedule)) result }
-    ensures read { result ≢ Err EngineFault.Read }
-    ensures write { result ≢ Err EngineFault.Write }
+    ensures ports { ReportsNoPort result }
 {
     let Description {
         eid,

@@ -1,10 +1,11 @@
 //! The lines of a schedule, which are read as they come, and run once the input has ended.
 
-ghost use Rattle.std.specs.Prelude.{◌≡◌, ◌≢◌, ◌⊎◌, ◌≤◌, ◌<◌, ◌+◌, ◌∷◌, false, [], Err, IfErr, OnOk, refl};
+ghost use Rattle.std.specs.Prelude.{◌≡◌, ◌⊎◌, ◌≤◌, ◌<◌, ◌+◌, ◌∷◌, false, [], IfErr, OnOk, refl};
 ghost use Rattle.mctp_packet.specs.Memories.{out_of_memory};
 ghost use Rattle.mctpctl_engines.specs.LinePieces.{LineGoesOn};
 ghost use Rattle.mctpctl_engines.specs.RunText.{scheduled_run, stop_of_line};
 ghost use Rattle.mctpctl_engines.specs.ScheduleLines.{ReportsText, blank_schedule, cut_schedule, good_lines_write, lines_ended, may_keep_any, refused_line_writes, schedule_writes, text_of_ran};
+ghost use Rattle.mctpctl_engines.specs.PortFaults.{ReportsNoPort};
 
 use crate::described_lines::Described;
 use crate::line_run::LineTaker;
@@ -58,8 +59,7 @@ impl GoodLines {
     fn run(self, alloc: Global, last: &[u8]) -> Result<Ran, EngineFault>
         requires { self.ended ≤ MAX_INPUT }
         ensures meets { ReportsText text_of_ran (good_lines_write self false (last.now ∷ [])) result }
-        ensures read { result ≢ Err EngineFault.Read }
-        ensures write { result ≢ Err EngineFault.Write }
+        ensures ports { ReportsNoPort result }
     {
         let GoodLines {
             description,

@@ -1,11 +1,11 @@
 //! The engine of `mctpctl run`, over an input that comes in pieces.
 
 ghost use Rattle.std.specs.Io.KnownBytes.{Keeps};
-ghost use Rattle.std.specs.Prelude.{◌≡◌, IsErrOf, false};
+ghost use Rattle.std.specs.Prelude.{IsErrOf};
 ghost use Rattle.mctpctl_engines.specs.RunText.{run_text};
 ghost use Rattle.mctpctl_input.specs.OutsideFaults.{no_memory};
-ghost use Rattle.mctpctl_input.specs.Ports.{inner_of, has_failed};
-ghost use Rattle.mctpctl_engines.specs.WholeRuns.{ReportsFailed, WritesAll};
+ghost use Rattle.mctpctl_input.specs.Ports.{inner_of, BothWork, ReportsFailedPorts};
+ghost use Rattle.mctpctl_engines.specs.WholeRuns.{WritesAll};
 
 use crate::described_lines::DescribedLines;
 use crate::line_run::LineRun;
@@ -33,15 +33,13 @@ pub fn run_all<R: Read, W: Write>(
     reader: &mut Port<R>,
     writer: &mut Port<W>,
 ) -> Result<(), EngineFault>
-    requires reads { has_failed reader.old ≡ false }
-    requires writes { has_failed writer.old ≡ false }
+    requires works { BothWork reader.old writer.old }
     ensures text { WritesAll R.remaining W.contents run_text reader.old writer.old writer.new result }
     ensures at_read { IsErrOf result EngineFault.Read
         → Keeps (W.contents (inner_of writer.old)) (W.contents (inner_of writer.new)) }
     ensures at_memory { IsErrOf result no_memory
         → Keeps (W.contents (inner_of writer.old)) (W.contents (inner_of writer.new)) }
-    ensures read { ReportsFailed EngineFault.Read result reader.new }
-    ensures write { ReportsFailed EngineFault.Write result writer.new }
+    ensures ports { ReportsFailedPorts EngineFault.Read EngineFault.Write result reader.new writer.new }
 {
     let lines = DescribedLines::<ScheduleLines>::new(alloc);
     let mut run = LineRun::new(alloc, lines);

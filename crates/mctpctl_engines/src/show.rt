@@ -1,8 +1,8 @@
 //! The engine of `mctpctl show`: a capture, and what its packets and messages say.
 
-ghost use Rattle.std.specs.Prelude.{◌≡◌, false};
-ghost use Rattle.mctpctl_input.specs.Ports.{has_failed};
-ghost use Rattle.mctpctl_engines.specs.WholeRuns.{ReportsFailed, WritesAll, WritesFront, WritesRead};
+ghost use Rattle.std.specs.Prelude.{◌≡◌};
+ghost use Rattle.mctpctl_input.specs.Ports.{BothWork, ReportsFailedPorts};
+ghost use Rattle.mctpctl_engines.specs.WholeRuns.{WritesAll, WritesFront, WritesRead};
 ghost use Rattle.mctpctl_engines.specs.ShowText.{seen_run, show_text};
 ghost use Rattle.mctpctl_engines.specs.MessageForms.{in_hex};
 
@@ -35,16 +35,14 @@ pub fn show_all<R: Read, W: Write>(
     reader: &mut Port<R>,
     writer: &mut Port<W>,
 ) -> Result<(), EngineFault>
-    requires reads { has_failed reader.old ≡ false }
-    requires writes { has_failed writer.old ≡ false }
+    requires works { BothWork reader.old writer.old }
     ensures text { WritesAll R.remaining W.contents (show_text binding in_hex) reader.old writer.old writer.new
         result }
     ensures at_read { WritesRead R.remaining W.contents (seen_run binding in_hex) reader.old reader.new
         writer.old writer.new result }
     ensures at_memory { WritesFront R.remaining W.contents (seen_run binding in_hex) reader.old writer.old
         writer.new result }
-    ensures read { ReportsFailed EngineFault.Read result reader.new }
-    ensures write { ReportsFailed EngineFault.Write result writer.new }
+    ensures ports { ReportsFailedPorts EngineFault.Read EngineFault.Write result reader.new writer.new }
 {
     show_as(alloc, InHex, binding, reader, writer)
 }
@@ -58,15 +56,13 @@ pub fn show_as<F: MessageForm + Drop, R: Read, W: Write>(
     writer: &mut Port<W>,
 ) -> Result<(), EngineFault>
     requires new { F.held_of form ≡ F.none_held }
-    requires reads { has_failed reader.old ≡ false }
-    requires writes { has_failed writer.old ≡ false }
+    requires works { BothWork reader.old writer.old }
     ensures text { WritesAll R.remaining W.contents (show_text binding F.line) reader.old writer.old writer.new result }
     ensures at_read { WritesRead R.remaining W.contents (seen_run binding F.line) reader.old reader.new writer.old
         writer.new result }
     ensures at_memory { WritesFront R.remaining W.contents (seen_run binding F.line) reader.old writer.old writer.new
         result }
-    ensures read { ReportsFailed EngineFault.Read result reader.new }
-    ensures write { ReportsFailed EngineFault.Write result writer.new }
+    ensures ports { ReportsFailedPorts EngineFault.Read EngineFault.Write result reader.new writer.new }
 {
     laws::looks_back();
     let lines = CaptureLines::new(alloc, Observer::new(alloc, form, binding));

@@ -8,6 +8,5 @@ returns-in_err-piece g c = record {
   text = search rules;
   at_read = search rules;
   at_memory = λ _. nothing_written (g.T.Run.gives c.args.run.now) (g.R.Read.remaining c.args.reader.now.inner) (g.W.Write.contents c.args.writer.now.inner) (g.met.T.Run.none_where_cut c.args.run.now);
-  read = search rules;
-  write = search rules;
+  ports = (search rules, search rules);
 }

@@ -32,8 +32,7 @@ returns-then-count-eq0 g c =
       text = known_finish (g.T.Run.gives c.args.run.now) (g.T.Run.gives c.loop-count.run) MAX_INPUT (g.R.Read.remaining c.args.reader.now.inner) (g.W.Write.contents c.args.writer.now.inner) (g.W.Write.contents c.loop-count.writer.inner) (g.W.Write.contents c.finish.new.writer.inner) i.taken i.text false c.finish.result all_read i.goes i.written c.finish.ensures.meets;
       at_read = search rules;
       at_memory = λ memory. memory_at_end (g.T.Run.gives c.args.run.now) (g.T.Run.gives c.loop-count.run) false (g.R.Read.remaining c.args.reader.now.inner) (g.R.Read.remaining c.loop-count.reader.inner) (g.W.Write.contents c.args.writer.now.inner) (g.W.Write.contents c.loop-count.writer.inner) (g.W.Write.contents c.finish.new.writer.inner) i.taken i.text c.finish.result memory i.consumed i.written i.goes (g.met.T.Run.none_where_cut c.loop-count.run) c.finish.ensures.meets;
-      read = search rules;
-      write = search rules;
+      ports = (search rules, search rules);
     }
 
 pub returns-in-Err : goal.returns-in-Err
@@ -45,8 +44,7 @@ returns-in-Err g c =
       text = fault_within (g.T.Run.gives c.args.run.now) (g.T.Run.gives c.loop-count.run) MAX_INPUT (g.R.Read.remaining c.args.reader.now.inner) (g.R.Read.remaining c.loop-count.reader.inner) _ (g.W.Write.contents c.args.writer.now.inner) (g.W.Write.contents c.loop-count.writer.inner) (g.W.Write.contents c.take_piece.new.writer.inner) i.taken (take n c.read.new.buf) i.text c.in-Err.fault i.consumed read (omega (arith, length-append {A = ℕ}, length-take {A = ℕ}, i.limit, c.min-taken.ensures)) i.written i.goes c.in-Err.ensures.meets;
       at_read = search rules;
       at_memory = λ memory. memory_within (g.T.Run.gives c.args.run.now) (g.T.Run.gives c.loop-count.run) (g.R.Read.remaining c.args.reader.now.inner) (g.R.Read.remaining c.loop-count.reader.inner) _ (g.W.Write.contents c.args.writer.now.inner) (g.W.Write.contents c.loop-count.writer.inner) (g.W.Write.contents c.take_piece.new.writer.inner) i.taken (take n c.read.new.buf) i.text c.in-Err.fault memory i.consumed read i.written i.goes c.in-Err.ensures.meets;
-      read = search rules;
-      write = search rules;
+      ports = (search rules, search rules);
     }
 
 pub returns-then-is_cut : goal.returns-then-is_cut
@@ -58,10 +56,9 @@ returns-then-is_cut g c =
     let read = piece_consumed (g.R.Read.remaining c.loop-count.reader.inner) (g.R.Read.remaining c.read.new.self.inner) c.read.new.buf c.in-Ok.count n c.in-Ok.ensures.bytes.0 (omega (arith, c.min-taken.ensures)) in
     record {
       text = known_finish (g.T.Run.gives c.args.run.now) (g.T.Run.gives c.take_piece.new.run) MAX_INPUT (g.R.Read.remaining c.args.reader.now.inner) (g.W.Write.contents c.args.writer.now.inner) (g.W.Write.contents c.take_piece.new.writer.inner) (g.W.Write.contents c.finish-then-is_cut.new.writer.inner) (i.taken ++ take n c.read.new.buf) (i.text ++ meets.0) true c.finish-then-is_cut.result all_read (goes_after (g.T.Run.gives c.args.run.now) (g.T.Run.gives c.loop-count.run) (g.T.Run.gives c.take_piece.new.run) i.taken (take n c.read.new.buf) i.text meets.0 i.goes meets.2) (Appends-trans _ (g.W.Write.contents c.loop-count.writer.inner) _ i.text meets.0 i.written meets.1) c.finish-then-is_cut.ensures.meets;
-      at_read = search (rules, c.finish-then-is_cut.ensures.read);
+      at_read = search (rules, c.finish-then-is_cut.ensures.ports.0);
       at_memory = λ memory. memory_at_end (g.T.Run.gives c.args.run.now) (g.T.Run.gives c.take_piece.new.run) true (g.R.Read.remaining c.args.reader.now.inner) _ (g.W.Write.contents c.args.writer.now.inner) (g.W.Write.contents c.take_piece.new.writer.inner) (g.W.Write.contents c.finish-then-is_cut.new.writer.inner) (i.taken ++ take n c.read.new.buf) (i.text ++ meets.0) c.finish-then-is_cut.result memory (Consumes-trans _ (g.R.Read.remaining c.loop-count.reader.inner) _ i.taken (take n c.read.new.buf) i.consumed read) (Appends-trans _ (g.W.Write.contents c.loop-count.writer.inner) _ i.text meets.0 i.written meets.1) (goes_after (g.T.Run.gives c.args.run.now) (g.T.Run.gives c.loop-count.run) (g.T.Run.gives c.take_piece.new.run) i.taken (take n c.read.new.buf) i.text meets.0 i.goes meets.2) (g.met.T.Run.none_where_cut c.take_piece.new.run) c.finish-then-is_cut.ensures.meets;
-      read = search rules;
-      write = search rules;
+      ports = (search rules, search rules);
     }
 
 pub loop-count-preserved : goal.loop-count-preserved
