@@ -19,7 +19,7 @@ mod walking;
 mod watching;
 
 ghost use Rattle.std.specs.Prelude.{◌≡◌, false};
-ghost use Rattle.mctpctl_input.specs.Ports.{has_failed};
+ghost use Rattle.mctpctl_input.specs.Ports.{has_failed, BothWork};
 
 use crate::asking::ask_device;
 use crate::choose::{Choice, ChooseFault, Task, TextTask, choose};
@@ -131,8 +131,7 @@ fn show<R: Read, W: Write>(
     reader: &mut Port<R>,
     writer: &mut Port<W>,
 ) -> Result<(), EngineFault>
-    requires reads { has_failed reader.old ≡ false }
-    requires writes { has_failed writer.old ≡ false }
+    requires works { BothWork reader.old writer.old }
 {
     if text.decode {
         decode_all(alloc, text.binding, reader, writer)

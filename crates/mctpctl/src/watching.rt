@@ -1,11 +1,11 @@
 //! `watch`: the sensors and effecters of a device are read again and again, and their table is printed each time.
 
-ghost use Rattle.std.specs.Prelude.{◌≡◌, ◌++◌, ◌<◌, IfOk, OnOk, false, length, map};
+ghost use Rattle.std.specs.Prelude.{◌≡◌, ◌++◌, ◌<◌, IfOk, OnOk, length, map};
 ghost use Rattle.std.specs.Io.KnownBytes.{Appends};
 ghost use Rattle.mctpctl.specs.Conversations.{IsGoingOn};
 ghost use Rattle.mctpctl.specs.WatchedTexts.{ReadsAll, ReadsOne, round_text};
 ghost use Rattle.mctpctl_ask.specs.Asked.{shown};
-ghost use Rattle.mctpctl_input.specs.Ports.{has_failed, inner_of};
+ghost use Rattle.mctpctl_input.specs.Ports.{inner_of, BothWork};
 
 use crate::asking::{print_text, status_of_answer};
 use crate::choose::WatchOptions;
@@ -122,13 +122,11 @@ fn read_all<C: Ticks, R: Read, W: Write>(
     writer: &mut Port<W>,
 ) -> Result<(Table, u8), AskFault>
     requires records { map (λ pdr. pdr.items) records.now ≡ walk.now.records }
-    requires reads { has_failed reader.old ≡ false }
-    requires writes { has_failed writer.old ≡ false }
+    requires works { BothWork reader.old writer.old }
     ensures read { IfOk result (λ read. ReadsAll walk.now
         (shown C.to_come R.remaining W.contents line.old reader.old writer.old)
         (shown C.to_come R.remaining W.contents line.new reader.new writer.new) read.0) }
-    ensures reads { OnOk result (has_failed reader.new ≡ false) }
-    ensures writes { OnOk result (has_failed writer.new ≡ false) }
+    ensures works { OnOk result (BothWork reader.new writer.new) }
 {
     let mut table = Table::new(alloc);
     let mut status = DONE;
@@ -153,13 +151,11 @@ fn read_one<C: Ticks, R: Read, W: Write>(
 ) -> Result<u8, AskFault>
     requires records { map (λ pdr. pdr.items) records.now ≡ walk.now.records }
     requires place { place < length walk.now.found }
-    requires reads { has_failed reader.old ≡ false }
-    requires writes { has_failed writer.old ≡ false }
+    requires works { BothWork reader.old writer.old }
     ensures read { OnOk result (ReadsOne walk.now place
         (shown C.to_come R.remaining W.contents line.old reader.old writer.old)
         (shown C.to_come R.remaining W.contents line.new reader.new writer.new) table.old table.new) }
-    ensures reads { OnOk result (has_failed reader.new ≡ false) }
-    ensures writes { OnOk result (has_failed writer.new ≡ false) }
+    ensures works { OnOk result (BothWork reader.new writer.new) }
 {
     let found = walk.found()[place];
     let asked = match ask(line, &found.subject.question(), reader, writer) {
@@ -182,10 +178,8 @@ fn rest<C: Ticks, R: Read, W: Write>(
     reader: &mut Port<R>,
     writer: &mut Port<W>,
 ) -> Result<(), AskFault>
-    requires reads { has_failed reader.old ≡ false }
-    requires writes { has_failed writer.old ≡ false }
-    ensures reads { OnOk result (has_failed reader.new ≡ false) }
-    ensures writes { OnOk result (has_failed writer.new ≡ false) }
+    requires works { BothWork reader.old writer.old }
+    ensures works { OnOk result (BothWork reader.new writer.new) }
 {
     let passed = line.moment().get().saturating_sub(began.get());
     match every.saturating_sub(passed).min(MAX_EVERY) {

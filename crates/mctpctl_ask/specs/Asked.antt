@@ -2,6 +2,7 @@
 use Rattle.std.specs.Io.KnownBytes.{Appends, Consumes, Keeps}
 use Rattle.std.specs.List.{flat_map}
 use Rattle.std.specs.Prelude.{◌≡◌, ◌≢◌, ◌⊎◌, ℕ, ◌+◌, ◌≤◌, true, false, List, [], ◌∷◌, Option, None, Some}
+use Rattle.std.specs.Prelude.{Result, MatchResult}
 use Rattle.mctpctl_ask.specs.Ends.{Before, IsEarly, IsRefused, IsWaiting, ended_of}
 use Rattle.mctpctl_ask.specs.Turns.{Asking, Turn, after_turns, all_sent, at_first, bytes_read, framed, is_end, readings}
 use Rattle.mctpctl_ask.specs.declared.fault.AskFault.{AskFault}
@@ -143,3 +144,8 @@ begun_as to_come remaining contents own device timing ticks reader writer = reco
 abbrev pub RefusesTiming : ℕ → ℕ → Timing → BeginFault → Type 0
 RefusesTiming own device timing (begin.Timing fault) = timing_fault own device timing ≡ Some fault
 RefusesTiming own device timing (begin.Line fault) = timing_fault own device timing ≡ None
+
+-- a line was begun only where its timing has no fault, and else it says why not
+abbrev pub ChecksTiming : {A : Type 0} → ℕ → ℕ → Timing → Result A BeginFault → Type 0
+ChecksTiming own device timing result =
+    MatchResult result (λ _. timing_fault own device timing ≡ None) (RefusesTiming own device timing)

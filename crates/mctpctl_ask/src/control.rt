@@ -1,10 +1,10 @@
 //! A control query on a line: its frame goes out until a packet answers it, or its tries have passed.
 
-ghost use Rattle.std.specs.Prelude.{◌≡◌, ◌≢◌, ◌↔◌, IfOk, IfErr, OnOk, IsErrOf, true, false, option_map};
+ghost use Rattle.std.specs.Prelude.{◌≡◌, ◌≢◌, IfOk, IfErr, OnOk, false, option_map};
 ghost use Rattle.std.specs.Io.KnownBytes.{Appends, Keeps};
 ghost use Rattle.mctpctl_ask.specs.Asked.{shown};
 ghost use Rattle.mctpctl_ask.specs.Queries.{AsksQuery, StopsQuery, TakesQueryTurn, query_frame};
-ghost use Rattle.mctpctl_input.specs.Ports.{inner_of, has_failed};
+ghost use Rattle.mctpctl_input.specs.Ports.{inner_of, has_failed, BothWork, ReportsFailed, ReportsFailedPorts};
 
 use crate::fault::AskFault;
 use crate::line::AskingLine;
@@ -39,16 +39,14 @@ pub fn ask_control<C: Ticks, R: Read, W: Write>(
     reader: &mut Port<R>,
     writer: &mut Port<W>,
 ) -> Result<Option<Body>, AskFault>
-    requires reads { has_failed reader.old ≡ false }
-    requires writes { has_failed writer.old ≡ false }
+    requires works { BothWork reader.old writer.old }
     ensures asked { IfOk result (λ answer. AsksQuery query.now again tries (option_map (λ answer. answer.items) answer)
         (shown C.to_come R.remaining W.contents line.old reader.old writer.old)
         (shown C.to_come R.remaining W.contents line.new reader.new writer.new)) }
     ensures stopped { IfErr result (λ fault. fault ≢ AskFault.Write → StopsQuery query.now again tries fault
         (shown C.to_come R.remaining W.contents line.old reader.old writer.old)
         (shown C.to_come R.remaining W.contents line.new reader.new writer.new)) }
-    ensures read { IsErrOf result AskFault.Read ↔ (has_failed reader.new ≡ true) }
-    ensures write { IsErrOf result AskFault.Write ↔ (has_failed writer.new ≡ true) }
+    ensures ports { ReportsFailedPorts AskFault.Read AskFault.Write result reader.new writer.new }
 {
     let mut wanted = Wanted::answer_to(query);
     let mut tried = Tries::new(again, tries, line.requester.last_moment());
@@ -80,16 +78,14 @@ fn take_query_turn<C: Ticks, R: Read, W: Write>(
     reader: &mut Port<R>,
     writer: &mut Port<W>,
 ) -> Result<(), AskFault>
-    requires reads { has_failed reader.old ≡ false }
-    requires writes { has_failed writer.old ≡ false }
+    requires works { BothWork reader.old writer.old }
     ensures turned { OnOk result (TakesQueryTurn query.now wanted.old wanted.new tries.old tries.new
         (shown C.to_come R.remaining W.contents line.old reader.old writer.old)
         (shown C.to_come R.remaining W.contents line.new reader.new writer.new)) }
     ensures kept { IfErr result (λ fault. fault ≢ AskFault.Write
         → Keeps (W.contents (inner_of writer.old)) (W.contents (inner_of writer.new))) }
     ensures end { result ≢ Err AskFault.LineEnded }
-    ensures read { IsErrOf result AskFault.Read ↔ (has_failed reader.new ≡ true) }
-    ensures write { IsErrOf result AskFault.Write ↔ (has_failed writer.new ≡ true) }
+    ensures ports { ReportsFailedPorts AskFault.Read AskFault.Write result reader.new writer.new }
 {
     match take_turn_seeing(line, wanted, reader, writer) {
         Ok(()) => {}
@@ -111,7 +107,7 @@ fn send_query<W: Write>(query: &Query, goes: bool, writer: &mut Port<W>) -> Resu
     ensures bytes { OnOk result (Appends (W.contents (inner_of writer.old)) (W.contents (inner_of writer.new))
         (query_frame query.now goes)) }
     ensures fault { IfErr result (λ fault. fault ≡ AskFault.Write) }
-    ensures write { IsErrOf result AskFault.Write ↔ (has_failed writer.new ≡ true) }
+    ensures write { ReportsFailed AskFault.Write result writer.new }
 {
     if !goes {
         return Ok(());

@@ -1,12 +1,11 @@
 //! A line that asks: it listens until requests may be opened, opens one, and follows it until it has ended.
 
-ghost use Rattle.std.specs.Prelude.{◌≡◌, ◌≢◌, ◌↔◌, ◌*◌, ◌<◌, ◌^◌, Some, None, Err, option_map, IfOk, IfErr, OnOk, IsErrOf, true, false};
+ghost use Rattle.std.specs.Prelude.{◌≡◌, ◌≢◌, ◌*◌, ◌<◌, ◌^◌, Some, Err, option_map, IfOk, IfErr, OnOk, false};
 ghost use Rattle.std.specs.Io.KnownBytes.{Keeps};
-ghost use Rattle.mctpctl_ask.specs.Asked.{AskStops, Asks, Goes, Listens, Opens, OpensNow, RefusesTiming, asking_of, Stops, StopsListening, begun_as, shown};
+ghost use Rattle.mctpctl_ask.specs.Asked.{AskStops, Asks, ChecksTiming, Goes, Listens, Opens, OpensNow, asking_of, Stops, StopsListening, begun_as, shown};
 ghost use Rattle.mctpctl_ask.specs.Ends.{IsWaiting, IsRefused, answer_of, ended_of};
-ghost use Rattle.mctpctl_input.specs.Ports.{inner_of, has_failed};
+ghost use Rattle.mctpctl_input.specs.Ports.{inner_of, has_failed, BothWork, ReportsFailed, ReportsFailedPorts};
 ghost use Rattle.pldm_requester.specs.Slots.{held_of};
-ghost use Rattle.pldm_requester.specs.Timings.{timing_fault};
 
 use crate::fault::{AskFault, BeginFault};
 use crate::quiet::Quiet;
@@ -93,17 +92,15 @@ pub fn begin<C: Ticks + Drop, R: Read, W: Write>(
     reader: &mut Port<R>,
     writer: &mut Port<W>,
 ) -> Result<AskingLine<C>, BeginFault>
-    requires reads { has_failed reader.old ≡ false }
-    requires writes { has_failed writer.old ≡ false }
+    requires works { BothWork reader.old writer.old }
     ensures begun { IfOk result (λ line. Listens (2 * timing.keep)
         (begun_as C.to_come R.remaining W.contents own device timing ticks reader.old writer.old)
         (shown C.to_come R.remaining W.contents line reader.new writer.new)) }
     ensures silent { result ≢ Err (BeginFault.Line AskFault.Write)
         → Keeps (W.contents (inner_of writer.old)) (W.contents (inner_of writer.new)) }
-    ensures ok { OnOk result (timing_fault own device timing ≡ None) }
-    ensures refused { IfErr result (RefusesTiming own device timing) }
-    ensures read { IsErrOf result (BeginFault.Line AskFault.Read) ↔ (has_failed reader.new ≡ true) }
-    ensures write { IsErrOf result (BeginFault.Line AskFault.Write) ↔ (has_failed writer.new ≡ true) }
+    ensures timing { ChecksTiming own device timing result }
+    ensures ports { ReportsFailedPorts (BeginFault.Line AskFault.Read) (BeginFault.Line AskFault.Write) result
+        reader.new writer.new }
 {
     let span = settling_time(&timing);
     begin_after(alloc, own, device, timing, span, ticks, reader, writer)
@@ -126,18 +123,16 @@ pub fn begin_after<C: Ticks + Drop, R: Read, W: Write>(
     reader: &mut Port<R>,
     writer: &mut Port<W>,
 ) -> Result<AskingLine<C>, BeginFault>
-    requires reads { has_failed reader.old ≡ false }
-    requires writes { has_failed writer.old ≡ false }
+    requires works { BothWork reader.old writer.old }
     requires span { span < 2 ^ 60 }
     ensures begun { IfOk result (λ line. Listens span
         (begun_as C.to_come R.remaining W.contents own device timing ticks reader.old writer.old)
         (shown C.to_come R.remaining W.contents line reader.new writer.new)) }
     ensures silent { result ≢ Err (BeginFault.Line AskFault.Write)
         → Keeps (W.contents (inner_of writer.old)) (W.contents (inner_of writer.new)) }
-    ensures ok { OnOk result (timing_fault own device timing ≡ None) }
-    ensures refused { IfErr result (RefusesTiming own device timing) }
-    ensures read { IsErrOf result (BeginFault.Line AskFault.Read) ↔ (has_failed reader.new ≡ true) }
-    ensures write { IsErrOf result (BeginFault.Line AskFault.Write) ↔ (has_failed writer.new ≡ true) }
+    ensures timing { ChecksTiming own device timing result }
+    ensures ports { ReportsFailedPorts (BeginFault.Line AskFault.Read) (BeginFault.Line AskFault.Write) result
+        reader.new writer.new }
 {
     let requester = match Requester::new(alloc, own, device, timing) {
         Ok(requester) => requester,
@@ -175,16 +170,14 @@ pub fn listen<C: Ticks, R: Read, W: Write>(
     reader: &mut Port<R>,
     writer: &mut Port<W>,
 ) -> Result<(), AskFault>
-    requires reads { has_failed reader.old ≡ false }
-    requires writes { has_failed writer.old ≡ false }
+    requires works { BothWork reader.old writer.old }
     requires span { span < 2 ^ 60 }
     ensures listened { OnOk result (Listens span (shown C.to_come R.remaining W.contents line.old reader.old writer.old)
         (shown C.to_come R.remaining W.contents line.new reader.new writer.new)) }
     ensures stopped { IfErr result (λ fault. fault ≢ AskFault.Write → StopsListening span fault
         (shown C.to_come R.remaining W.contents line.old reader.old writer.old)
         (shown C.to_come R.remaining W.contents line.new reader.new writer.new)) }
-    ensures read { IsErrOf result AskFault.Read ↔ (has_failed reader.new ≡ true) }
-    ensures write { IsErrOf result AskFault.Write ↔ (has_failed writer.new ≡ true) }
+    ensures ports { ReportsFailedPorts AskFault.Read AskFault.Write result reader.new writer.new }
 {
     match take_turn(line, reader, writer) {
         Ok(()) => {}
@@ -225,16 +218,14 @@ pub fn ask<C: Ticks, R: Read, W: Write>(
     reader: &mut Port<R>,
     writer: &mut Port<W>,
 ) -> Result<Asked, AskFault>
-    requires reads { has_failed reader.old ≡ false }
-    requires writes { has_failed writer.old ≡ false }
+    requires works { BothWork reader.old writer.old }
     ensures asked { IfOk result (λ asked. Asks command.now asked.number asked.ended
         (shown C.to_come R.remaining W.contents line.old reader.old writer.old)
         (shown C.to_come R.remaining W.contents line.new reader.new writer.new)) }
     ensures stopped { IfErr result (λ fault. fault ≢ AskFault.Write → AskStops command.now fault
         (shown C.to_come R.remaining W.contents line.old reader.old writer.old)
         (shown C.to_come R.remaining W.contents line.new reader.new writer.new)) }
-    ensures read { IsErrOf result AskFault.Read ↔ (has_failed reader.new ≡ true) }
-    ensures write { IsErrOf result AskFault.Write ↔ (has_failed writer.new ≡ true) }
+    ensures ports { ReportsFailedPorts AskFault.Read AskFault.Write result reader.new writer.new }
 {
     let number = match open(line, command, reader, writer) {
         Ok(number) => number,
@@ -253,8 +244,7 @@ fn open<C: Ticks, R: Read, W: Write>(
     reader: &mut Port<R>,
     writer: &mut Port<W>,
 ) -> Result<u64, AskFault>
-    requires reads { has_failed reader.old ≡ false }
-    requires writes { has_failed writer.old ≡ false }
+    requires works { BothWork reader.old writer.old }
     ensures opened { IfOk result (λ number. Opens command.now number
         (shown C.to_come R.remaining W.contents line.old reader.old writer.old)
         (shown C.to_come R.remaining W.contents line.new reader.new writer.new)) }
@@ -262,8 +252,7 @@ fn open<C: Ticks, R: Read, W: Write>(
     ensures stopped { IfErr result (λ fault. fault ≢ AskFault.Write → Stops IsRefused fault
         (shown C.to_come R.remaining W.contents line.old reader.old writer.old)
         (shown C.to_come R.remaining W.contents line.new reader.new writer.new)) }
-    ensures read { IsErrOf result AskFault.Read ↔ (has_failed reader.new ≡ true) }
-    ensures write { IsErrOf result AskFault.Write ↔ (has_failed writer.new ≡ true) }
+    ensures ports { ReportsFailedPorts AskFault.Read AskFault.Write result reader.new writer.new }
 {
     for _ in 0..u64::MAX {
         if line.quiet.is_end() {
@@ -297,7 +286,7 @@ fn open_now<C, W: Write>(
     ensures ticks { line.new.ticks ≡ line.old.ticks }
     ensures kept { IfErr result (λ fault. fault ≢ AskFault.Write → (fault ≡ AskFault.Memory)
         × Keeps (W.contents (inner_of writer.old)) (W.contents (inner_of writer.new))) }
-    ensures write { IsErrOf result AskFault.Write ↔ (has_failed writer.new ≡ true) }
+    ensures write { ReportsFailed AskFault.Write result writer.new }
 {
     let opened = match line.requester.open(line.requester.last_moment(), command) {
         Ok(opened) => opened,
@@ -317,8 +306,7 @@ fn follow<C: Ticks, R: Read, W: Write>(
     reader: &mut Port<R>,
     writer: &mut Port<W>,
 ) -> Result<Ended, AskFault>
-    requires reads { has_failed reader.old ≡ false }
-    requires writes { has_failed writer.old ≡ false }
+    requires works { BothWork reader.old writer.old }
     ensures waited { OnOk result (Goes (IsWaiting number)
         (shown C.to_come R.remaining W.contents line.old reader.old writer.old)
         (shown C.to_come R.remaining W.contents line.new reader.new writer.new)) }
@@ -326,8 +314,7 @@ fn follow<C: Ticks, R: Read, W: Write>(
     ensures stopped { IfErr result (λ fault. fault ≢ AskFault.Write → Stops (IsWaiting number) fault
         (shown C.to_come R.remaining W.contents line.old reader.old writer.old)
         (shown C.to_come R.remaining W.contents line.new reader.new writer.new)) }
-    ensures read { IsErrOf result AskFault.Read ↔ (has_failed reader.new ≡ true) }
-    ensures write { IsErrOf result AskFault.Write ↔ (has_failed writer.new ≡ true) }
+    ensures ports { ReportsFailedPorts AskFault.Read AskFault.Write result reader.new writer.new }
 {
     for _ in 0..u64::MAX {
         match line.ended(number) {

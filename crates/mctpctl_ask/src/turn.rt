@@ -1,6 +1,6 @@
 //! A turn of the loop: bytes are read, then the clock; packets come to the requester, and what is due is sent.
 
-ghost use Rattle.std.specs.Prelude.{◌≡◌, ◌≢◌, ◌↔◌, ◌≤◌, IfErr, OnOk, IsErrOf, Err, true, false};
+ghost use Rattle.std.specs.Prelude.{◌≡◌, ◌≢◌, ◌≤◌, IfErr, OnOk, Err, false};
 ghost use Rattle.std.specs.Io.KnownBytes.{Appends, Keeps};
 ghost use Rattle.std.specs.List.{flat_map};
 ghost use Rattle.mctp_packet.specs.Ids.{IsMoment};
@@ -8,7 +8,7 @@ ghost use Rattle.mctp_serial.specs.Readings.{after};
 ghost use Rattle.mctpctl_ask.specs.Asked.{TakesTurn, shown};
 ghost use Rattle.mctpctl_ask.specs.Queries.{SeesByte, TakesTurnSeeing, all_seen};
 ghost use Rattle.mctpctl_ask.specs.Turns.{HearsByte, framed, frames_of, memo_frames, received};
-ghost use Rattle.mctpctl_input.specs.Ports.{inner_of, has_failed};
+ghost use Rattle.mctpctl_input.specs.Ports.{inner_of, has_failed, BothWork, ReportsFailed, ReportsFailedPorts};
 ghost use Rattle.mctpctl_serve.specs.Serving.{moment_after, packets_in};
 ghost use Rattle.pldm_requester.specs.Slots.{held_of};
 ghost use Rattle.pldm_requester.specs.Steps.{again_at, ticked_held};
@@ -33,16 +33,14 @@ pub(crate) fn take_turn<C: Ticks, R: Read, W: Write>(
     reader: &mut Port<R>,
     writer: &mut Port<W>,
 ) -> Result<(), AskFault>
-    requires reads { has_failed reader.old ≡ false }
-    requires writes { has_failed writer.old ≡ false }
+    requires works { BothWork reader.old writer.old }
     ensures turned { OnOk result (TakesTurn
         (shown C.to_come R.remaining W.contents line.old reader.old writer.old)
         (shown C.to_come R.remaining W.contents line.new reader.new writer.new)) }
     ensures kept { IfErr result (λ fault. fault ≢ AskFault.Write
         → Keeps (W.contents (inner_of writer.old)) (W.contents (inner_of writer.new))) }
     ensures end { result ≢ Err AskFault.LineEnded }
-    ensures read { IsErrOf result AskFault.Read ↔ (has_failed reader.new ≡ true) }
-    ensures write { IsErrOf result AskFault.Write ↔ (has_failed writer.new ≡ true) }
+    ensures ports { ReportsFailedPorts AskFault.Read AskFault.Write result reader.new writer.new }
 {
     take_turn_seeing(line, &mut Wanted::nothing(), reader, writer)
 }
@@ -54,16 +52,14 @@ pub(crate) fn take_turn_seeing<C: Ticks, R: Read, W: Write>(
     reader: &mut Port<R>,
     writer: &mut Port<W>,
 ) -> Result<(), AskFault>
-    requires reads { has_failed reader.old ≡ false }
-    requires writes { has_failed writer.old ≡ false }
+    requires works { BothWork reader.old writer.old }
     ensures turned { OnOk result (TakesTurnSeeing wanted.old wanted.new
         (shown C.to_come R.remaining W.contents line.old reader.old writer.old)
         (shown C.to_come R.remaining W.contents line.new reader.new writer.new)) }
     ensures kept { IfErr result (λ fault. fault ≢ AskFault.Write
         → Keeps (W.contents (inner_of writer.old)) (W.contents (inner_of writer.new))) }
     ensures end { result ≢ Err AskFault.LineEnded }
-    ensures read { IsErrOf result AskFault.Read ↔ (has_failed reader.new ≡ true) }
-    ensures write { IsErrOf result AskFault.Write ↔ (has_failed writer.new ≡ true) }
+    ensures ports { ReportsFailedPorts AskFault.Read AskFault.Write result reader.new writer.new }
 {
     let mut room = [0; PIECE];
     let Ok(count) = reader.read(&mut room) else {
@@ -160,7 +156,7 @@ fn send_due<W: Write>(
     ensures bytes { OnOk result (Appends (W.contents (inner_of writer.old)) (W.contents (inner_of writer.new))
         (frames_of (held_of requester.old) (again_at (held_of requester.old) now))) }
     ensures fault { IfErr result (λ fault. fault ≡ AskFault.Write) }
-    ensures write { IsErrOf result AskFault.Write ↔ (has_failed writer.new ≡ true) }
+    ensures write { ReportsFailed AskFault.Write result writer.new }
 {
     let due = requester.tick(now);
     send_requests(requester, &due.again, writer)
@@ -176,7 +172,7 @@ fn send_requests<W: Write>(
     ensures bytes { OnOk result (Appends (W.contents (inner_of writer.old)) (W.contents (inner_of writer.new))
         (frames_of (held_of requester.now) numbers.now)) }
     ensures fault { IfErr result (λ fault. fault ≡ AskFault.Write) }
-    ensures write { IsErrOf result AskFault.Write ↔ (has_failed writer.new ≡ true) }
+    ensures write { ReportsFailed AskFault.Write result writer.new }
 {
     for number in numbers {
         match send_request(requester, *number, writer) {
@@ -197,7 +193,7 @@ pub(crate) fn send_request<W: Write>(
     ensures bytes { OnOk result (Appends (W.contents (inner_of writer.old)) (W.contents (inner_of writer.new))
         (memo_frames ((held_of requester.now).remembered number))) }
     ensures fault { IfErr result (λ fault. fault ≡ AskFault.Write) }
-    ensures write { IsErrOf result AskFault.Write ↔ (has_failed writer.new ≡ true) }
+    ensures write { ReportsFailed AskFault.Write result writer.new }
 {
     let Some(packets) = requester.packets(number) else {
         return Ok(());
@@ -215,7 +211,7 @@ fn send_packets<W: Write>(packets: &Packets, writer: &mut Port<W>) -> Result<(),
     ensures bytes { OnOk result (Appends (W.contents (inner_of writer.old)) (W.contents (inner_of writer.new))
         (flat_map framed packets.now)) }
     ensures fault { IfErr result (λ fault. fault ≡ AskFault.Write) }
-    ensures write { IsErrOf result AskFault.Write ↔ (has_failed writer.new ≡ true) }
+    ensures write { ReportsFailed AskFault.Write result writer.new }
 {
     for i in 0..packets.len() {
         let Some(packet) = packets.get(i) else {

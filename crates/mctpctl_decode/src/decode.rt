@@ -1,13 +1,13 @@
 //! The engine of `mctpctl show --decode`.
 
-ghost use Rattle.std.specs.Prelude.{◌≡◌, ◌++◌, OnOk, false};
+ghost use Rattle.std.specs.Prelude.{◌≡◌, ◌++◌, OnOk};
 ghost use Rattle.mctpctl_decode.specs.HeldTransfers.{held_in, held_text};
 ghost use Rattle.mctpctl_decode.specs.TransferTexts.{decoded_text};
 ghost use Rattle.mctpctl_decode.specs.Transfers.{none_between, with_message};
 ghost use Rattle.mctpctl_engines.specs.MessageForms.{whole_message};
 ghost use Rattle.mctpctl_engines.specs.ShowText.{seen_run, show_text};
-ghost use Rattle.mctpctl_input.specs.Ports.{has_failed};
-ghost use Rattle.mctpctl_engines.specs.WholeRuns.{ReportsFailed, WritesAll, WritesFront, WritesRead};
+ghost use Rattle.mctpctl_input.specs.Ports.{BothWork, ReportsFailedPorts};
+ghost use Rattle.mctpctl_engines.specs.WholeRuns.{WritesAll, WritesFront, WritesRead};
 
 use crate::message_line::push_decoded_line;
 use crate::transfers::Transfers;
@@ -80,16 +80,14 @@ pub fn decode_all<R: Read, W: Write>(
     reader: &mut Port<R>,
     writer: &mut Port<W>,
 ) -> Result<(), EngineFault>
-    requires reads { has_failed reader.old ≡ false }
-    requires writes { has_failed writer.old ≡ false }
+    requires works { BothWork reader.old writer.old }
     ensures text { WritesAll R.remaining W.contents (show_text binding decoded_text) reader.old writer.old writer.new
         result }
     ensures at_read { WritesRead R.remaining W.contents (seen_run binding decoded_text) reader.old reader.new
         writer.old writer.new result }
     ensures at_memory { WritesFront R.remaining W.contents (seen_run binding decoded_text) reader.old writer.old
         writer.new result }
-    ensures read { ReportsFailed EngineFault.Read result reader.new }
-    ensures write { ReportsFailed EngineFault.Write result writer.new }
+    ensures ports { ReportsFailedPorts EngineFault.Read EngineFault.Write result reader.new writer.new }
 {
     show_as(alloc, ByName::new(alloc), binding, reader, writer)
 }

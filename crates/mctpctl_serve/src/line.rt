@@ -1,14 +1,14 @@
 //! The loop: bytes are read, each packet is answered at its moment, and the answer is written and flushed
 //! before more is read.
 
-ghost use Rattle.std.specs.Prelude.{◌≡◌, ◌≢◌, ◌↔◌, ℕ, List, [], ◌∷◌, Some, Err, IfErr, OnOk, IfSome, IsErrOf, max, min, ◌≤◌, ◌<◌, ◌==◌, true, false};
+ghost use Rattle.std.specs.Prelude.{◌≡◌, ◌≢◌, ℕ, List, [], ◌∷◌, Some, Err, IfErr, OnOk, IfSome, IsErrOf, max, min, ◌≤◌, ◌<◌, ◌==◌, false};
 ghost use Rattle.std.specs.Io.KnownBytes.{Appends, Consumes};
 ghost use Rattle.std.specs.List.{FoldsTo, flat_map};
 ghost use Rattle.mctp_control.specs.Dropped.{control_left, control_reply};
 ghost use Rattle.mctp_packet.specs.Ids.{IsMoment};
 ghost use Rattle.mctp_packet.specs.Pieces.{written_packets};
 ghost use Rattle.mctp_serial.specs.Frames.{frame};
-ghost use Rattle.mctpctl_input.specs.Ports.{inner_of, has_failed};
+ghost use Rattle.mctpctl_input.specs.Ports.{inner_of, has_failed, BothWork, ReportsFailed, ReportsFailedPorts};
 ghost use Rattle.mctpctl_serve.specs.Heard.{Hears, HearsFront, HearsPacket, HearsTaken, Stops, shown};
 ghost use Rattle.mctpctl_serve.specs.Serving.{frames_if, moment_after, with_eid};
 ghost use Rattle.mctpctl_serve.specs.Seen.{drop_seen};
@@ -65,7 +65,7 @@ fn send<W: Write>(frames: &[u8], writer: &mut Port<W>) -> Result<(), ServeFault>
     ensures bytes { OnOk result
         (Appends (W.contents (inner_of writer.old)) (W.contents (inner_of writer.new)) frames.now) }
     ensures fault { IfErr result (λ fault. fault ≡ ServeFault.Write) }
-    ensures write { IsErrOf result ServeFault.Write ↔ (has_failed writer.new ≡ true) }
+    ensures write { ReportsFailed ServeFault.Write result writer.new }
 {
     if writer.write_all(frames).is_err() || writer.flush().is_err() {
         return Err(ServeFault::Write);
@@ -88,7 +88,7 @@ fn hear_packet<P: Platform, C: Ticks, L: Watch, W: Write>(
     ensures stopped { IfErr result (λ fault. fault ≢ ServeFault.Write → Stops P.performed L.sees fault
         (shown C.to_come W.contents line.old writer.old) (shown C.to_come W.contents line.new writer.new)) }
     ensures read { result ≢ Err ServeFault.Read }
-    ensures write { IsErrOf result ServeFault.Write ↔ (has_failed writer.new ≡ true) }
+    ensures write { ReportsFailed ServeFault.Write result writer.new }
 {
     let Ok(reading) = line.ticks.tick() else {
         return Err(ServeFault::Clock);
@@ -135,7 +135,7 @@ fn answer_drop<L: Watch, W: Write>(
     ensures seen { OnOk result
         (FoldsTo L.sees watch.old (drop_seen now reason (control_reply control.old now reason packet.now)) watch.new) }
     ensures fault { IfErr result (λ fault. fault ≡ ServeFault.Write) }
-    ensures write { IsErrOf result ServeFault.Write ↔ (has_failed writer.new ≡ true) }
+    ensures write { ReportsFailed ServeFault.Write result writer.new }
 {
     let Some(reply) = control.receive_dropped(now, reason, packet) else {
         watch.saw(&Event::Dropped(reason));
@@ -184,7 +184,7 @@ fn hear_byte<P: Platform, C: Ticks, L: Watch, W: Write>(
     ensures stopped { IfErr result (λ fault. fault ≢ ServeFault.Write → Stops P.performed L.sees fault
         (shown C.to_come W.contents line.old writer.old) (shown C.to_come W.contents line.new writer.new)) }
     ensures read { result ≢ Err ServeFault.Read }
-    ensures write { IsErrOf result ServeFault.Write ↔ (has_failed writer.new ≡ true) }
+    ensures write { ReportsFailed ServeFault.Write result writer.new }
 {
     match line.frames.take(byte) {
         FrameEvent::Nothing => Ok(()),
@@ -211,7 +211,7 @@ fn hear_piece<P: Platform, C: Ticks, L: Watch, W: Write>(
         (shown C.to_come W.contents line.old writer.old) (Some piece.now) fault
         (shown C.to_come W.contents line.new writer.new)) }
     ensures read { result ≢ Err ServeFault.Read }
-    ensures write { IsErrOf result ServeFault.Write ↔ (has_failed writer.new ≡ true) }
+    ensures write { ReportsFailed ServeFault.Write result writer.new }
 {
     let mut rest = piece;
     while let Some((first, others)) = rest.split_first() {
@@ -241,8 +241,7 @@ pub fn serve<P: Platform, C: Ticks, L: Watch, R: Read, W: Write>(
     reader: &mut Port<R>,
     writer: &mut Port<W>,
 ) -> Result<(), ServeFault>
-    requires reads { has_failed reader.old ≡ false }
-    requires writes { has_failed writer.old ≡ false }
+    requires works { BothWork reader.old writer.old }
     ensures heard { OnOk result (IfSome (R.remaining (inner_of reader.old)) (λ all.
         Hears P.performed (rules_of P.answer P.after P.sensed) L.sees
         (shown C.to_come W.contents line.old writer.old) all (shown C.to_come W.contents line.new writer.new))) }
@@ -254,8 +253,7 @@ pub fn serve<P: Platform, C: Ticks, L: Watch, R: Read, W: Write>(
         → HearsFront P.performed (rules_of P.answer P.after P.sensed) L.sees
         (shown C.to_come W.contents line.old writer.old) (R.remaining (inner_of reader.old)) fault
         (shown C.to_come W.contents line.new writer.new)) }
-    ensures read { IsErrOf result ServeFault.Read ↔ (has_failed reader.new ≡ true) }
-    ensures write { IsErrOf result ServeFault.Write ↔ (has_failed writer.new ≡ true) }
+    ensures ports { ReportsFailedPorts ServeFault.Read ServeFault.Write result reader.new writer.new }
 {
     let mut reply = Body::new();
     let mut room = [0; PIECE];

@@ -14,8 +14,8 @@ loop-init g c = record {
       hears_nothing g.P.Platform.performed (rules_of g.P.Platform.answer g.P.Platform.after g.P.Platform.sensed) g.L.Watch.sees
       g.met.P.Platform.none_performed
       (shown g.C.Ticks.to_come g.W.Write.contents c.args.line.now c.args.writer.now);
-  reads = c.requires.reads;
-  writes = c.requires.writes;
+  reads = c.requires.works.0;
+  writes = c.requires.works.1;
 }
 
 pub loop-preserved : goal.loop-preserved
