@@ -79,8 +79,9 @@ pub fn settled_clock(rt: &impl Abort, alloc: Global, readings: &[u64]) -> Vec<u6
 
 /// Checks that this frame was written so often, and nothing else.
 pub fn expect_written(rt: &impl Abort, written: &[u8], frame: &[u8], times: usize) {
-    assert_eq!(rt; written.len(), times.saturating_mul(frame.len()));
-    for part in written.chunks(frame.len()) {
-        assert_eq!(rt; part, frame);
+    let mut rest = written;
+    for _ in 0..times {
+        rest = rest.strip_prefix(frame).expect(rt, "the frame once more");
     }
+    assert_eq!(rt; rest, NOTHING);
 }
