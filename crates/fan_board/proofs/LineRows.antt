@@ -31,7 +31,7 @@ latest = refl
 too_late : packet_of (codes "4000000000000001") ≡ Err NoMoment
 too_late = refl
 
--- the first fault is told: the count of words, then the moment, then the digits
+-- the first fault is returned: the count of words, then the moment, then the digits
 three_words : packet_of (codes "x 0 0") ≡ Err Words
 three_words = refl
 

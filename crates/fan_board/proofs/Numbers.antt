@@ -1,4 +1,4 @@
--- Every constant of the source, told a second time: the board's own numbers, and the standard's.
+-- Every constant of the source, a second time: the board's own numbers, and the standard's.
 use Rattle.std.proofs.Common.{◌≡◌, pos, refl}
 use Rattle.fan_board.specs.declared.TheConstants.{OWN, KEEP, BOUNDS, COMMANDS}
 use Rattle.fan_board.specs.declared.board.TheConstants.{TID, THERMOMETER, COLDEST, HOTTEST, FIRST_DEGREES, FULL_SPEED, FANS, GOOD_TRANSFERS, SECOND, SENSOR_ENABLED, EFFECTER_ENABLED, NORMAL, INVALID_ID}

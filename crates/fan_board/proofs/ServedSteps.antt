@@ -177,7 +177,7 @@ module _ (old : EndpointView) (moment : ℕ) (bytes : List ℕ) (idle : old.pend
         first_is : (x y : Task) → x ∷ [] ≡ y ∷ [] → x ≡ y
         first_is x y h = cc
 
-    -- the command that the endpoint tells is the one that was handed out
+    -- the command that the endpoint returns is the one that was handed out
     pub command_told : (command : Command) → Some command ≡ pending_command (pending_at middle.pending handle) → task.Perform command ≡ is.task
     command_told command told = ap (λ o. task_in o a.request) (told ∙ ap pending_command found) ∙ task_is
 

@@ -1,4 +1,4 @@
--- Every constant of the source, told a second time: the lamp's own numbers, and the standard's states.
+-- Every constant of the source, a second time: the lamp's own numbers, and the standard's states.
 use Rattle.std.proofs.Common.{◌≡◌, pos, refl}
 use Rattle.lamp_board.specs.declared.lighting.TheConstants.{TID, EFFECTER, SENSOR, FULL_LEVEL, SENSOR_ENABLED, NORMAL, EFFECTER_ENABLED}
 

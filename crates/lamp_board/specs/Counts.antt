@@ -1,9 +1,9 @@
--- A count of commands, which stays at the most that 32 bits tell.
+-- A count of commands, which stays at the most that 32 bits hold.
 use Rattle.std.specs.Prelude.{◌≡◌, ℕ, ◌+◌, List, [], ◌++◌, length, min}
 use Rattle.std.proofs.Common.{ap, sym, add-zero, arith, length-append}
 use Rattle.pldm_wire.specs.declared.command.Command.{Command}
 
--- the most that 32 bits tell
+-- the most that 32 bits hold
 abbrev pub MAX_COUNTED : ℕ
 MAX_COUNTED = 4294967295
 
@@ -11,7 +11,7 @@ MAX_COUNTED = 4294967295
 abbrev pub counted : ℕ → ℕ
 counted count = min (count + 1) MAX_COUNTED
 
--- the count rises by one for each command, up to the most that it can tell
+-- the count rises by one for each command, up to the most that it can hold
 abbrev pub Counts : ℕ → List Command → ℕ → Type 0
 Counts before commands after = min after MAX_COUNTED ≡ min (before + length commands) MAX_COUNTED
 

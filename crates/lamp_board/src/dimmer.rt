@@ -21,7 +21,7 @@ use std::alloc::{AllocError, Global};
 #[derive(Drop)]
 pub struct Dimmer {
     level: Box<Number>,
-    /// How many commands it was given, those that wanted memory among them. No command tells it.
+    /// How many commands it was given, those that wanted memory among them. No command returns it.
     asked: u32,
     /// How many commands it performed.
     performed: u32,
@@ -56,14 +56,14 @@ impl Dimmer {
         self.level.value()
     }
 
-    /// How many commands it was given, up to the most that 32 bits tell.
+    /// How many commands it was given, up to the most that 32 bits hold.
     pub fn asked(&self) -> u32
         ensures { result ≡ self.now.asked }
     {
         self.asked
     }
 
-    /// How many commands it performed, up to the most that 32 bits tell.
+    /// How many commands it performed, up to the most that 32 bits hold.
     pub fn performed(&self) -> u32
         ensures { result ≡ self.now.performed }
     {

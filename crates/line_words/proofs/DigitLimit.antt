@@ -1,4 +1,4 @@
--- The constant of the source, told a second time.
+-- The constant of the source, a second time.
 use Rattle.std.proofs.Common.{◌≡◌, refl}
 use Rattle.line_words.specs.declared.numbers.TheConstants.{MAX_DIGITS}
 

@@ -1,5 +1,5 @@
--- Copies of one message's packets give that message and no other. The packets of a row are told apart by SOM and their
--- numbers: all packets but the start packet have different ones, where there are at most as many as numbers.
+-- Copies of one message's packets give that message and no other. The packets of a row are distinguished by SOM and
+-- their numbers: all packets but the start packet have different ones, where there are at most as many as numbers.
 use Rattle.std.proofs.Common.{◌≡◌, ℕ, zero, suc, ◌+◌, ◌*◌, ◌%◌, ◌<◌, ◌≤◌, Bool, true, false, cond, not, ◌&&◌, ◌==◌, nat_le, List, [], ◌∷◌, ◌++◌, length, map, take, drop, find, Option, Some, None, refl, sym, ap, ◌∙◌, arith, eqb-true, length-take}
 use Rattle.std.specs.List.{range_with_len, AllByRecursion}
 use Rattle.std.proofs.lemmas.Bool.{and_parts, eqb-false}

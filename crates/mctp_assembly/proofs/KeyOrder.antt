@@ -1,4 +1,4 @@
--- The order of keys is total, and tells all keys apart.
+-- The order of keys is total, and distinguishes all keys.
 use Rattle.std.proofs.Common.{ℕ, Bool, true, false, refl, ap}
 use Rattle.std.specs.FinMap.{IsAntisymmetric}
 use Rattle.std.specs.Ordering.{nat_cmp, bool_cmp, ordering_then}

@@ -26,7 +26,7 @@ nothing : {A : Type 0} (b : Bool) → None ≡ cond {A = Option A} b None None
 nothing true = refl
 nothing false = refl
 
--- keys in an order that tells them apart, each number with a key of its own
+-- keys in an order that distinguishes them, each number with a key of its own
 module _
     {K X : Type 0} (R : K → K → Ordering) (total : IsTotalOrder R) (exact : map.IsAntisymmetric R)
     (past : X) (key_at : ℕ → K) (number_of : K → ℕ) (number_of_key : (n : ℕ) → number_of (key_at n) ≡ n) where

@@ -1,4 +1,4 @@
--- The constant of the source, told a second time.
+-- The constant of the source, a second time.
 use Rattle.std.proofs.Common.{◌≡◌, refl}
 use Rattle.mctp_assembly.specs.declared.assembler.TheConstants.{MAX_ASSEMBLIES}
 

@@ -70,7 +70,7 @@ four = feed (captured 0x38 (1 ∷ [])) ∷ feed (captured 0x28 (0 ∷ [])) ∷ f
 fourth_taken : gives (feed (captured 0x28 (0 ∷ [])) ∷ feed (captured 0x18 (0x80 ∷ [])) ∷ feed (captured 0x88 (1 ∷ [])) ∷ []) (captured 0x38 (1 ∷ [])) ≡ Partial
 fourth_taken = refl
 
--- the fifth packet has the number of the first, and is told from it by SOM
+-- the fifth packet has the number of the first, and is distinguished from it by SOM
 fifth_joined : gives four (captured 0x48 (5 ∷ [])) ≡ whole (1 ∷ 0x80 ∷ 0 ∷ 1 ∷ 5 ∷ [])
 fifth_joined = refl
 

@@ -48,7 +48,7 @@ AreCopies route message packets =
     AllByRecursion (λ p. (i : ℕ) × (i < piece_count message) × (p ≡ packet_at route message i)) packets
 
 -- where only copies of one message's packets came, no other message is given. A limit of one packet more than there are
--- sequence numbers is the highest: two packets with one number are told apart where one of them is the start packet
+-- sequence numbers is the highest: two packets with one number are distinguished where one of them is the start packet
 abbrev pub CopiesGiveNoOther : Type 0
 CopiesGiveNoOther =
     (limit : ℕ) (route : Route) (message : List ℕ) (before : List Packet) (p : Packet) (body : List ℕ)

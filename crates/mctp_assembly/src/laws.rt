@@ -2,7 +2,7 @@
 
 ghost use Rattle.mctp_assembly.specs.Laws.{FeedLooksBack, ForgetLooksBack, NewLooksBack, HeldWhereBegun, OneRow, CopiesGiveNoOther};
 
-/// What an assembler holds after any list of calls, and what it gives then, is told by looking
+/// What an assembler holds after any list of calls, and what it gives then, is read by looking
 /// back over the list.
 pub fn looks_back()
     ensures feed { FeedLooksBack }

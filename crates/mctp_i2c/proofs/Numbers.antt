@@ -1,4 +1,4 @@
--- Every constant of the source, told a second time.
+-- Every constant of the source, a second time.
 use Rattle.std.proofs.Common.{◌≡◌, refl}
 use Rattle.mctp_i2c.specs.declared.TheConstants.{MIN_SMBUS_ADDRESS, MAX_SMBUS_ADDRESS, MAX_DYNAMIC_ADDRESS}
 use Rattle.mctp_i2c.specs.declared.TheConstants.{MIN_PACKET_BYTES, MAX_PACKET_BYTES}

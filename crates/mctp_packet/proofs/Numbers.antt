@@ -1,4 +1,4 @@
--- Every constant of the source, told a second time: the standard's and this profile's own numbers.
+-- Every constant of the source, a second time: the standard's and this profile's own numbers.
 use Rattle.std.proofs.Common.{◌≡◌, refl}
 use Rattle.mctp_packet.specs.declared.TheConstants.{NULL_EID, MIN_EID, MAX_EID, TAGS, MAX_MOMENT, MAX_KEEP, MAX_PACKETS, BASELINE_UNIT, SEQUENCE_NUMBERS, VERSION, HEADER, MAX_PACKET_BYTES, MAX_MESSAGE_BYTES}
 

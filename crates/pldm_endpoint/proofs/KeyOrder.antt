@@ -1,4 +1,4 @@
--- The order of askers is total, and tells all of them apart.
+-- The order of askers is total, and distinguishes all of them.
 use Rattle.std.proofs.Common.{◌≡◌, ℕ, ◌+◌, ◌*◌, ◌/◌, ◌%◌, ◌<◌, arith, ap}
 use Rattle.std.specs.FinMap.{IsAntisymmetric}
 use Rattle.std.specs.Ordering.{nat_cmp}

@@ -1,4 +1,4 @@
--- What a device gives for what is pending, and what of it is told.
+-- What a device gives for what is pending, and what of it is returned.
 use Rattle.std.specs.Prelude.{◌≡◌, ℕ, Bool, List, Option, Some, None}
 use Rattle.pldm_wire.specs.HandingOn.{hands_on}
 use Rattle.pldm_wire.specs.declared.busy_time.BusyTime.{BusyTime}

@@ -5,7 +5,7 @@ use crate::{
     StateSensor, TerminusLocator,
 };
 
-/// What a record tells after its header: one variant for each type of record that is read here (DSP0248, "PDR type
+/// What a record holds after its header: one variant for each type of record that is read here (DSP0248, "PDR type
 /// values").
 #[derive(Debug, PartialEq, Eq, Drop)]
 pub enum RecordData {

@@ -43,7 +43,7 @@ pub const MAX_NAME_BYTES: usize = 288;
 /// No names are shared by several entities (DSP0248, "sharedNameCount").
 pub const NO_SHARED_NAMES: u8 = 0;
 
-/// The most bytes in which the possible states of one set are told (DSP0248, "possibleStatesSize").
+/// The most bytes in which the possible states of one set are stated (DSP0248, "possibleStatesSize").
 pub const MAX_STATE_BYTES: usize = 32;
 
 /// The locator type of an MCTP endpoint ID (DSP0248, "terminusLocatorType").

@@ -34,9 +34,9 @@ pub struct NumericSensor {
     pub state_transition_interval: u32,
     /// The time between two readings, in seconds, the bits of a real32.
     pub update_interval: u32,
-    /// The greatest number that it can tell.
+    /// The greatest number that it can return.
     pub max_readable: i64,
-    /// The least number that it can tell.
+    /// The least number that it can return.
     pub min_readable: i64,
     /// Its normal range and its thresholds.
     pub range: SensorRange,

@@ -70,7 +70,7 @@ impl Record {
         self.change_number
     }
 
-    /// What it tells after its header.
+    /// What it holds after its header.
     pub fn contents(&self) -> &RecordData
         ensures value { result.now ≡ self.now.contents }
         ensures fits { IsTrue (data_fits self.now.contents) }

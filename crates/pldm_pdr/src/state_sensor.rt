@@ -11,7 +11,7 @@ pub struct StateSensor {
     pub terminus_handle: u16,
     /// The sensor's ID.
     pub sensor_id: u16,
-    /// The entity that it tells of.
+    /// The entity whose state it reports.
     pub entity: Entity,
     /// How it is made ready: 0 it needs nothing. Any byte is read.
     pub init: u8,

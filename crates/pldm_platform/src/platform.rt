@@ -30,7 +30,7 @@ impl ReadingFault {
 
 /// What stands behind a PLDM terminus: a device with a state, which performs commands.
 ///
-/// A vendor puts a real device behind it. `State` names what the commands tell and set; no value of
+/// A vendor puts a real device behind it. `State` names what the commands read and set; no value of
 /// it is made, and it is seen in proofs only. `state` gives the state of a value, `answer` the answer
 /// that a command gets in a state, `after` the state that follows, and `sensed` the state after a
 /// sensor was given a reading, or why it wasn't given. `perform` and `set_reading` have to do what
@@ -55,7 +55,7 @@ impl ReadingFault {
 /// # Example
 ///
 /// `Recorder`, a platform of the tests, is in `crates/device_tests/src/recorder.rt` and
-/// is proved with them. It keeps each terminus ID that it is given, tells the last one, or 0 before the
+/// is proved with them. It keeps each terminus ID that it is given, returns the last one, or 0 before the
 /// first, and refuses any other command; its answers, the state that follows and the laws over them
 /// are in `crates/device_tests/specs/Recorders.antt`. To keep an ID takes memory, so its `STEADY` is
 /// false; and it keeps no account of the commands, so its `performed` holds of all values.
@@ -69,7 +69,7 @@ pub trait Platform: Drop {
     ghost use Rattle.pldm_platform.specs.Changes.{Changes};
     ghost use Rattle.pldm_platform.specs.declared.platform.ReadingFault.{ReadingFault};
 
-    /// What the commands tell and set. No value of it is made.
+    /// What the commands read and set. No value of it is made.
     type State;
 
     /// Whether `perform` never answers Memory.

@@ -1,4 +1,4 @@
--- What a fetch holds is what its answers leave, told by looking back over them.
+-- What a fetch holds is what its answers leave, read by looking back over them.
 use Rattle.std.proofs.Common.{◌≡◌, ℕ, List, [], ◌∷◌, ◌++◌, if◌then◌else◌, Option, Some, None, is_some, Result, Ok, Err, refl, sym, ap, subst, ◌∙◌, append-nil}
 use Rattle.pldm_wire.specs.RecordParts.{Part}
 use Rattle.pldm_wire.specs.declared.answer.Answer.{Answer}

@@ -1,4 +1,4 @@
--- Parts of a record of twelve bytes, and what a repository of two records tells, computed from the
+-- Parts of a record of twelve bytes, and what a repository of two records returns, computed from the
 -- definitions.
 use Rattle.std.proofs.Common.{◌≡◌, true, false, List, [], ◌∷◌, ℕ, Some, None, refl}
 use Rattle.pldm_wire.specs.Crc.{crc}

@@ -1,4 +1,4 @@
--- What a fetch has come to after the answers that it was given, the newest first, told by looking back over them.
+-- What a fetch has come to after the answers that it was given, the newest first, read by looking back over them.
 use Rattle.std.specs.Prelude.{◌≡◌, ℕ, ◌==◌, nat_lt, List, [], ◌∷◌, length}
 use Rattle.std.specs.Prelude.{Option, Some, None, is_some, Result, Ok, Err, if◌then◌else◌}
 use Rattle.pldm_wire.specs.declared.answer.Answer.{Answer}
@@ -60,7 +60,7 @@ expected_after (Some (Err fault)) given = Err fault
 abbrev pub expected : ℕ → List Answer → Answer → Result FetchState FetchFault
 expected asked before answer = expected_after (ended asked before) (judged asked before answer)
 
--- the request for the part after these: for the first part where none came, else for the one that the last part tells;
+-- the request for the part after these: for the first part where none came, else for the one that the last part names;
 -- and from the eighth byte on with the record's change number
 abbrev pub request_after : ℕ → List Answer → Command
 request_after asked before =
@@ -106,7 +106,7 @@ TakingLooksBack =
 abbrev pub BegunLooksBack : Type 0
 BegunLooksBack = (asked : ℕ) → IsLeftBy asked (begun asked) []
 
--- what it asks for next, and the record, are told by looking back as well
+-- what it asks for next, and the record, are read by looking back as well
 abbrev pub AskingLooksBack : Type 0
 AskingLooksBack =
     (asked : ℕ) (f : Fetching) (answers : List Answer) → IsLeftBy asked f answers

@@ -8,7 +8,7 @@ use Rattle.pldm_records.specs.Transfers.{Followed, StatePlaces, joined_parts, pa
 abbrev pub PartsJoin : Type 0
 PartsJoin = (pdr : List ℕ) (parts : List Part) → Followed pdr 0 parts → joined_parts parts ≡ pdr
 
--- and tell their places
+-- and state their places
 abbrev pub PartsStatePlaces : Type 0
 PartsStatePlaces = (pdr : List ℕ) (parts : List Part) → Followed pdr 0 parts → StatePlaces pdr true parts
 

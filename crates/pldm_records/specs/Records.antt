@@ -1,4 +1,4 @@
--- The records of a PDR repository, and the parts in which GetPDR tells one (DSP0248, "PDR
+-- The records of a PDR repository, and the parts in which GetPDR returns one (DSP0248, "PDR
 -- Repository", "Common PDR format" and "GetPDR command").
 use Rattle.std.specs.Prelude.{ℕ, ◌+◌, ◌==◌, nat_le, min, max, Bool, true, false, ◌&&◌, not, List, [], ◌∷◌}
 use Rattle.std.specs.Prelude.{length, take, drop, slice_get, slice_index, Option, Some, None, if◌then◌else◌}

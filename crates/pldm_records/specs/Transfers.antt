@@ -33,7 +33,7 @@ parts_asked pdr offset (count ∷ counts) =
 abbrev pub joined_parts : List Part → List ℕ
 joined_parts parts = flat_map (λ part. part.bytes) parts
 
--- the flags tell which part is the first and which the last, and the record's checksum comes with the
+-- the flags say which part is the first and which the last, and the record's checksum comes with the
 -- last of several alone
 abbrev pub StatePlaces : List ℕ → Bool → List Part → Type 0
 StatePlaces pdr is_first [] = ⊥

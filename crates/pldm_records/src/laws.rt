@@ -5,7 +5,7 @@ ghost use Rattle.pldm_records.specs.FetchHistories.{TakingLooksBack, BegunLooksB
 ghost use Rattle.pldm_records.specs.Laws.{PartsEnd, PartsJoin, PartsStatePlaces};
 
 /// A record that is transferred part by part, for whatever numbers of bytes, comes to an end. Its
-/// parts join to the record, and their flags and checksums tell their places.
+/// parts join to the record, and their flags and checksums state their places.
 pub fn parts_join_to_the_record()
     ensures joined { PartsJoin }
     ensures places { PartsStatePlaces }
@@ -24,7 +24,7 @@ pub fn a_fetch_gives_the_record()
 {}
 
 /// What a fetch holds after any list of answers, what the next one gives, what is asked for next and
-/// the record are told by looking back over the list.
+/// the record are read by looking back over the list.
 pub fn a_fetch_looks_back()
     ensures taking { TakingLooksBack }
     ensures begun { BegunLooksBack }

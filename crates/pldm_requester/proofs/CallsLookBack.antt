@@ -40,7 +40,7 @@ module _ (own device : ℕ) (a : Requests) where
   memo_there : (n : ℕ) → is_recent a.count n ≡ true → memo_at own device a n ≡ Some (memo_of own device a n)
   memo_there n e = cond-true (is_recent a.count n) _ _ e
 
-  -- a test that only open requests pass is told by what is remembered
+  -- a test that only open requests pass is decided by what is remembered
   passes_is : (test : Course → Bool) → ((course : Course) → test course ≡ true → is_open course ≡ true) → Recent a → (n : ℕ) → passes test (memo_at own device a n) ≡ test (a.each n).course
   passes_is test opens f n = go (is_recent a.count n) refl
     where

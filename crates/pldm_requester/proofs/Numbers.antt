@@ -1,4 +1,4 @@
--- Every constant of the source, told a second time: one open request for each tag, one remembered for each instance ID.
+-- Every constant of the source, a second time: one open request for each tag, one remembered for each instance ID.
 use Rattle.std.proofs.Common.{◌≡◌, refl}
 use Rattle.mctp_packet.specs.declared.TheConstants.{TAGS}
 use Rattle.pldm_wire.specs.declared.assigned.TheConstants.{INSTANCE_IDS}

@@ -1,4 +1,4 @@
--- What a requester owes, told by looking back over the list of all its calls, the newest first. All requests are told
+-- What a requester owes, read by looking back over the list of all its calls, the newest first. All requests are named
 -- by their numbers, however long ago they were opened.
 use Rattle.std.specs.Prelude.{ℕ, zero, suc, ◌+◌, ◌-◌, ◌*◌, false, Bool, ◌&&◌, not, ◌==◌, nat_lt, nat_le, List, [], ◌∷◌, filter, Option, Some, None, is_some, Result, Ok, Err, if◌then◌else◌}
 use Rattle.std.specs.List.{range_with_len}

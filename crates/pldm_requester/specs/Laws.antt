@@ -1,4 +1,4 @@
--- What a requester holds after any list of calls, told by looking back over the list, and which requests are open.
+-- What a requester holds after any list of calls, read by looking back over the list, and which requests are open.
 use Rattle.std.specs.Prelude.{◌≡◌, ℕ, ◌+◌, ◌*◌, ◌<◌, ◌≤◌, true, false, List, [], ◌∷◌, length, Option, Some, None, if◌then◌else◌}
 use Rattle.mctp_assembly.specs.Histories as assembly
 use Rattle.pldm_wire.specs.Commands.{kind_of}

@@ -1,4 +1,4 @@
--- How a request stands, as the code keeps it and as it tells it.
+-- How a request stands, as the code keeps it and as it returns it.
 use Rattle.std.specs.Prelude.{ℕ, List}
 use Rattle.pldm_requester.specs.Courses as courses
 use Rattle.pldm_requester.specs.declared.remembered.Progress.{Progress}

@@ -2,7 +2,7 @@
 
 ghost use Rattle.pldm_requester.specs.Laws.{OpenLooksBack, TickLooksBack, ReceiveLooksBack, NewLooksBack, SameIsLeft, OpenAreRecent, FewAreOpen, OpenAreOpened, OneOnEachTag, FoundOnItsTag, FedSinceItsOpening, BeginsWithNone, OpenedBefore, IdsApart};
 
-/// What a requester holds after any list of calls, and what it answers then, is told by looking back
+/// What a requester holds after any list of calls, and what it answers then, is read by looking back
 /// over the list.
 pub fn looks_back()
     ensures open { OpenLooksBack }

@@ -1,5 +1,5 @@
 //! The requesting end of PLDM over MCTP: commands are opened as requests to one device, sent again until
-//! they are answered or given up, and answers are taken from packets. The instance ID tells which
+//! they are answered or given up, and answers are taken from packets. The instance ID says which
 //! request an answer is for (DSP0240, "PLDM message fields").
 #![tactic(auto)]
 

@@ -41,7 +41,7 @@ pub const MAX_OPEN: usize = 8;
 pub const MAX_REMEMBERED: usize = 32;
 
 /// The requesting end at one endpoint, for one device: commands are opened as requests, packets to be
-/// sent again are told at each tick, and answers are taken from packets.
+/// sent again are returned at each tick, and answers are taken from packets.
 #[derive(Debug, Drop)]
 pub struct Requester {
     own: Eid,

@@ -1,4 +1,4 @@
--- Every constant of the source, told a second time.
+-- Every constant of the source, a second time.
 use Rattle.std.proofs.Common.{◌≡◌, refl}
 use Rattle.pldm_responder.specs.declared.answering_end.TheConstants.{OTHER_ENDPOINTS, MAX_KEPT, MAX_PENDING}
 use Rattle.pldm_responder.specs.declared.order.TheConstants.{SLOTS, END, PLACES}

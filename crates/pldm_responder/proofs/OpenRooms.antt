@@ -106,7 +106,7 @@ open_begun end old p key ended new view asked within range same owner other begi
       rw (left ∙ opened) (few_with end (key_of p) (carried_on (finite.get end.open_messages (key_of p)) p) ended within (subst (λ k. IsRoom end k ended) same room)),
     )
 
--- ---- what is told of it
+-- ---- what is said of it
 pub way_is_shut : (end : End) (key : Key) → is_full_for end key ≡ true → end.ends_oldest ≡ true → first_open end.open_messages end.begun ≡ None → IsOrdered end.ends_oldest end.open_messages end.begun
     → is_shut_out_on end key ≡ true
 way_is_shut end key full ends none ordered =

@@ -1,4 +1,4 @@
--- What reached a responder, the newest first, and which message of it repeats which: the instance ID tells a new
+-- What reached a responder, the newest first, and which message repeats which: the instance ID distinguishes a new
 -- request from a retry (DSP0240, "PLDM message fields"). A message is a copy where the latest fresh one of its source
 -- and instance ID has the same bytes and came less than the keeping time before, and fewer than `window` other instance
 -- IDs of that source had a fresh one since; else it is fresh.

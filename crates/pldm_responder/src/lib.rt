@@ -1,5 +1,5 @@
 //! The responding end of PLDM over MCTP: packets in, each fresh request performed once, and answers out. The
-//! instance ID tells a new request from a retry (DSP0240, "PLDM message fields").
+//! instance ID distinguishes a new request from a retry (DSP0240, "PLDM message fields").
 #![tactic(auto)]
 
 mod answering_end;

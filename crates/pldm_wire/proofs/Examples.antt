@@ -103,7 +103,7 @@ tid_taken = refl
 type_five_refused : answer_message 0 (of_type 5 2) (answers.Refused 0x20) ≡ 0x01 ∷ 0x00 ∷ 0x05 ∷ 0x02 ∷ 0x20 ∷ []
 type_five_refused = refl
 
--- commands whose data tells its length
+-- commands whose data states its length
 
 number_too_short : command_of (of_type 2 0x31) (1 ∷ 0 ∷ 6 ∷ []) ≡ Err 0x03
 unfolding command_of

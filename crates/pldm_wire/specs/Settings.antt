@@ -1,4 +1,4 @@
--- What a responding end is told of its requesters.
+-- What a responding end is given about its requesters.
 use Rattle.std.specs.Prelude.{ℕ, ◌≤◌, Bool, true, false, ◌||◌, Result, Ok, Err}
 use Rattle.pldm_wire.specs.Commands.{sets}
 use Rattle.pldm_wire.specs.HandingOn.{hands_on}

@@ -22,7 +22,7 @@ pub enum Answer {
     Refused(Code),
     /// The terminus has taken its ID (DSP0240, "SetTID command").
     SetTid,
-    /// The terminus tells its ID (DSP0240, "GetTID command").
+    /// The terminus returns its ID (DSP0240, "GetTID command").
     GetTid {
         /// The terminus ID.
         tid: u8,

@@ -23,7 +23,7 @@ pub enum Command {
     GetTid,
     /// Asks for the versions of a PLDM type (DSP0240, "GetPLDMVersion command").
     GetPldmVersion {
-        /// Which part is asked for, as the last answer told it.
+        /// Which part is asked for, as the last answer gave it.
         data_transfer_handle: u32,
         /// 0 GetNextPart, 1 GetFirstPart. Any byte is read.
         transfer_operation_flag: u8,
@@ -36,7 +36,7 @@ pub enum Command {
     GetPldmCommands {
         /// The PLDM type.
         pldm_type: u8,
-        /// The version of the type, as GetPLDMVersion tells it.
+        /// The version of the type, as GetPLDMVersion returns it.
         version: [u8; VERSION_BYTES],
     },
     /// Asks for a numeric sensor's reading (DSP0248, "GetSensorReading command").
@@ -83,7 +83,7 @@ pub enum Command {
     GetPdr {
         /// The record's handle; 0 asks for the first record.
         record_handle: u32,
-        /// Which part is asked for, as the last answer told it.
+        /// Which part is asked for, as the last answer gave it.
         data_transfer_handle: u32,
         /// 0 GetNextPart, 1 GetFirstPart. Any byte is read.
         transfer_operation_flag: u8,

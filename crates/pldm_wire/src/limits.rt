@@ -37,11 +37,11 @@ pub const MAX_REQUEST_DATA: usize = MAX_MESSAGE_BYTES - REQUEST_HEADER;
 /// The most bytes of a response's data: what is left of a message of the greatest length.
 pub const MAX_RESPONSE_DATA: usize = MAX_MESSAGE_BYTES - RESPONSE_HEADER;
 
-/// The bytes in which GetPLDMTypes' answer tells the PLDM types, a bit each (DSP0240, "GetPLDMTypes
+/// The bytes in which GetPLDMTypes' answer lists the PLDM types, a bit each (DSP0240, "GetPLDMTypes
 /// command").
 pub const TYPES_BYTES: usize = 8;
 
-/// The bytes in which GetPLDMCommands' answer tells the commands of a type, a bit each (DSP0240,
+/// The bytes in which GetPLDMCommands' answer lists the commands of a type, a bit each (DSP0240,
 /// "GetPLDMCommands command").
 pub const COMMANDS_BYTES: usize = 32;
 

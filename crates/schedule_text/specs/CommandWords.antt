@@ -1,4 +1,4 @@
--- The command that words say, by its name and the words after it. A wrong word or count of words is told before
+-- The command that words say, by its name and the words after it. A wrong word or count of words is reported before
 -- a wrong number.
 use Rattle.std.specs.Prelude.{ℕ, bytes_eq, Bool, codes, ℤ, List, [], ◌∷◌, Option, Some, None, Result, Ok, Err, if◌then◌else◌}
 use Rattle.pldm_wire.specs.Numbers.{SizedNumber, sized}

@@ -1,4 +1,4 @@
--- What a line of a schedule says, by its words. A wrong word or count of words is told before a wrong number.
+-- What a line of a schedule says, by its words. A wrong word or count of words is reported before a wrong number.
 use Rattle.std.specs.Prelude.{ℕ, codes, ◌&&◌, List, [], ◌∷◌, Result, Ok, Err, if◌then◌else◌}
 use Rattle.schedule_text.specs.CommandWords.{is, only_word, command_of}
 use Rattle.schedule_text.specs.WordValues.{◌>>=◌, any_number, number_up_to, any_value, eid_in, moment_in}

@@ -16,7 +16,7 @@ use pldm_wire::{
 };
 
 /// The command of these words: its name, and the words after it. A wrong word or count of words is
-/// told before a wrong number.
+/// reported before a wrong number.
 pub(crate) fn read_command<'a>(words: &mut Words<'a>) -> Result<Command, Refusal<'a>>
     ensures { kinds result ≡ command_of words.old }
 {

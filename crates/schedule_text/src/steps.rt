@@ -94,7 +94,7 @@ impl Steps {
         self.marks.is_empty()
     }
 
-    /// Their moments, which a report tells with what came of them.
+    /// Their moments, which a report shows with what came of them.
     pub fn moments(&self) -> MomentsIter<'_>
         ensures { result ≡ map moment_of_step self.now }
     {

@@ -1,4 +1,4 @@
--- The bits tell these states, in the bytes up to the last that has one.
+-- The bits stand for these states, in the bytes up to the last that has one.
 use Rattle.std.proofs.Common.{◌≡◌, ◌+◌, ◌≤◌, length, ap, ◌∙◌, arith}
 use Rattle.std.proofs.lemmas.Bool.{le-leb}
 use Rattle.pldm_pdr.specs.declared.limits.TheConstants.{MAX_STATE_BYTES}
