@@ -471,7 +471,7 @@ struct needleoat_state_sensor {
     uint16_t change_number;
     uint16_t terminus_handle;
     uint16_t sensor_id;
-    struct needleoat_entity entity; /* what it tells of */
+    struct needleoat_entity entity; /* what it reports on */
     uint8_t init;                   /* how it is made ready: 0 it needs nothing */
     uint8_t has_auxiliary_names;    /* whether a record of its name goes with it: 0 no, 1 yes */
     uint8_t count;                  /* how many of `sets` there are, 1 to 8 */
@@ -544,7 +544,7 @@ enum needleoat_records_fault {
 /*
  * Answers GetPDRRepositoryInfo and GetPDR for the records that stand one after another in an array, and returns 0 with
  * the answer in `fields`: with the command's instance ID, type and number, for needleoat_answer_write or
- * needleoat_endpoint_answer. A record is told in parts of at most `request_count` bytes and 303. With the times of
+ * needleoat_endpoint_answer. A record is sent in parts of at most `request_count` bytes and 303. With the times of
  * GetPDRRepositoryInfo (timestamp104 of DSP0240) comes what the caller says.
  *
  * Otherwise it returns enum needleoat_records_fault and leaves `fields` as it was. The array is records where it has
@@ -673,7 +673,7 @@ enum needleoat_refusal {
  * An endpoint takes packets, has each command performed once, and gives the packets of the answers. A copy
  * of a request gets the kept answer. The device is the caller's: where needleoat_endpoint_receive says that
  * a command is to be performed, the command is pending. The caller performs it, however long that takes, and
- * hands its answer to needleoat_endpoint_answer, with the `handle` of that step: it tells for which command
+ * hands its answer to needleoat_endpoint_answer, with the `handle` of that step: it says for which command
  * the answer is.
  *
  * A request of a PLDM type that the settings name comes out as bytes instead, and is pending in the same way: all that

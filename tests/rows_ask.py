@@ -68,7 +68,7 @@ def unanswered(rows, place):
 
 
 def wait_until_open(asking, terminal):
-    """Until the program has the line open for reading and for writing; a second where the system does not tell."""
+    """Until the program has the line open for reading and for writing; a second where the system does not show it."""
     files, end = f"/proc/{asking.pid}/fd", time.monotonic() + (SECONDS if os.path.isdir("/proc/self/fd") else 1)
     while time.monotonic() < end and asking.poll() is None:
         try:
@@ -95,7 +95,7 @@ def ended(rows, place):
         os.close(terminal.ours)
         terminal.ours = None
         out, err = asking.communicate(timeout=SECONDS)
-    gone = (b"mctpctl: the line ended\n", b"mctpctl: read fault\n")  # the system tells a hangup in one of these ways
+    gone = (b"mctpctl: the line ended\n", b"mctpctl: read fault\n")  # the system reports a hangup in one of these ways
     well = (asking.returncode, out) == (3, b"") and err in gone
     rows.check("asked: a terminal that goes away", well, repr((asking.returncode, out, err)))
 

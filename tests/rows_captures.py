@@ -267,7 +267,7 @@ def command_lines(rows, pcap, conversation):
 
 
 def closed_pipes(rows, pcap, conversation):
-    """A pipe that is closed ends a script without a word; a write that fails is told in one line."""
+    """A pipe that is closed ends a script without a word; a write that fails is reported in one line."""
     records = os.path.join(EXAMPLES, "records")
     commands = (
         ([pcap, "write"], f"0 {QUESTION}\n".encode()),

@@ -211,7 +211,7 @@ WRONG_WORDS = [
     ("at 0 rep 0 1 2", "2", "the end of the line", None),
     ("at 0 sense 1", None, VALUE, None),
     ("at 0 restart 0", "0", "the end of the line", None),
-    # a wrong word or count of words is told before a wrong number
+    # a wrong word or count of words is reported before a wrong number
     ("at x tick", None, EID, None),
     ("at 0 open 7 setnum x uint9 3", "uint9", SIZES, "uint8"),
 ]
@@ -238,7 +238,7 @@ WRONG_NUMBERS = [
     ("at 0 sense 1 1e3", "1e3", VALUE),
     ("at 0 busy x", "x", NUMBER),
     ("at x restart", "x", MOMENT),
-    # of several the first is told: those of a command or an action, then the endpoint's ID, then the moment
+    # of several the first is reported: those of a command or an action, then the endpoint's ID, then the moment
     ("at x open 7 settid 256", "256", BYTE),
     ("at x open 7 gettid", "7", EID),
 ]

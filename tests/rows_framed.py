@@ -1,6 +1,6 @@
 """What `show --binding` writes: frames by hand from DSP0237, DSP0233 and DSP0253, and each fault by its name.
 
-Nothing of the program is used here: which fault a changed frame has is told by this module's own reading of the order
+Nothing of the program is used here: which fault a changed frame has is found by this module's own reading of the order
 that docs/PROTOCOL.md gives.
 """
 from support.frames import check_sequence, frame as serial_frame

@@ -185,7 +185,7 @@ def drawing(rows, ladder, name, schedule, output):
 
 
 def arrow_of(group, words):
-    """An arrow of the picture, as `follow` tells it."""
+    """An arrow of the picture, as `follow` gives it."""
     kind, *words = words
     return kind, group.get("data-request"), group.get("data-moment"), group.get("data-packet"), set(words)
 

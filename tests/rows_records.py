@@ -100,7 +100,7 @@ def board(rows, run):
     rows.check("board.toml: its own name", name_of(found[1][18:]) == "Board", found[1].hex())
 
 
-# A line of an entry or of the table, and the fault that is told.
+# A line of an entry or of the table, and the fault that is reported.
 FAULTS = [
     ('name = 1', "WrongKind"), ('name = ""', "OutOfRange"), (f'name = "{"x" * 129}"', "OutOfRange"),
     ('name = "\u00e4"', "OutOfRange"), ("entity = 1", "WrongKind"), ("entity = [1, 2]", "OutOfRange"),

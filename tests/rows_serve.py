@@ -168,7 +168,7 @@ def terminal(rows, place):
     err = served.stderr.read()
     status = served.wait(timeout=SECONDS)
     rows.check("a raw terminal", answers == [True] * 3 and was_running, repr(answers))
-    gone = ((0, b""), (3, b"mctpctl: read fault\n"))  # the system tells a hangup as an end or as a failed read
+    gone = ((0, b""), (3, b"mctpctl: read fault\n"))  # the system reports a hangup as an end or as a failed read
     rows.check("a terminal that goes away", (status, err) in gone, repr((status, err)))
 
 

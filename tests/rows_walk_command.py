@@ -167,7 +167,7 @@ CHANGED = (
 
 
 def changed(rows, place):
-    """A device whose answers are not those of its description: the walk ends, and shows what it was told."""
+    """A device whose answers are not those of its description: the walk ends, and shows what it got."""
     place.write("device.toml", text_of("board.toml"))
     for name, old, new, wanted, table in CHANGED:
         with Terminal() as terminal:

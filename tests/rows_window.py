@@ -102,7 +102,7 @@ def runs(rows, run, device):
 
 
 def answers(rows, run, device):
-    """Set to 40, to 50, and the first packet once more; the read tells whether it was a copy."""
+    """Set to 40, to 50, and the first packet once more; the read shows whether it was a copy."""
     done = [DONE_40, DONE_50, DONE_40]
     for line, at in (("window = 1\n", AT_40), ("window = 2\n", AT_50), ("", AT_50), ('busy = "sets"\n', AT_50)):
         capture = "".join(f"{moment} {packet}\n" for moment, packet in enumerate((SET_40, SET_50, SET_40, READ)))

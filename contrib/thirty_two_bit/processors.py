@@ -2,7 +2,7 @@
 
 from collections import namedtuple
 
-# A processor: how clang is told of it; the bytes of the largest struct that a function of C returns in registers there;
+# A processor: clang's flags for it; the bytes of the largest struct that a function of C returns in registers there;
 # attributes of each function, and lines of the module, that its triple and layout do not say.
 Processor = namedtuple("Processor", "name flags returned_bytes attributes lines")
 

@@ -267,7 +267,7 @@ class Rewriter:
         rf"  store {WIDE_WORD} \1, ptr ({LOCAL}), align 8",
     )
     def take_block(self, text, _name, callee, passed, tail, place):
-        """C tells of a block where the next line stores what it tells. What it leaves in the upper half is cleared."""
+        """C returns a block where the next line stores what it returns. What it leaves in the upper half is cleared."""
         function = self.function_of_header(text, callee)
         if words_of(passed) != function.parameters or function.struct_bytes != BLOCK_BYTES:
             raise Unknown(f"the header declares {callee} otherwise: {text}")

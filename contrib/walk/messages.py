@@ -54,7 +54,7 @@ class Asker:
         self.device = PHYSICAL
 
     def ask(self, kind, is_answer, body):
-        """The body of the answer to a request of this message type; `is_answer` tells whether a body is that of one."""
+        """The body of the answer to a request of this message type; `is_answer` says whether a body is that of one."""
         tag = self.asked % 8
         self.asked += 1
         packets = list(packets_of(self.device, tag, bytes([kind]) + body))

@@ -54,7 +54,7 @@ static struct needleoat_answer perform(const struct needleoat_command *command) 
     return answer;
 }
 
-/* A bus owner is told the versions 1.3.1 of the base specification and of the control protocol, and 1.0.0. */
+/* A bus owner is given the versions 1.3.1 of the base specification and of the control protocol, and 1.0.0. */
 static const struct needleoat_endpoint_settings settings = {
     .own = OWN,
     .first_start = true,

@@ -139,7 +139,7 @@ static void write_none(void) {
     printf(" %" PRIu32 "\n", needleoat_terminus_locator_record_write(&locator, out, 19));
 }
 
-/* Another value in each field, of records that are told to nobody. */
+/* Another value in each field, of records that are sent to nobody. */
 static void write_each_field(void) {
     static const struct needleoat_numeric_sensor sensor = {
         .record_handle = 0x04030201, .change_number = 0x0605, .terminus_handle = 0x0807, .sensor_id = 0x0a09,

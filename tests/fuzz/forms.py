@@ -3,7 +3,7 @@ import re
 
 from packets import COMMANDS
 
-# The reasons for a drop, in the order of their numbers. A device tells the first 17, a requester all but NotRequest.
+# The reasons for a drop, in the order of their numbers. A device reports the first 17, a requester all but NotRequest.
 REASONS = (
     "Short BadVersion UnknownDestination BadSource NoPayload UnsupportedUnit BadTag UnexpectedMiddleOrEnd "
     "OutOfSequence TooLong WrongUnit NotPldm Integrity ShortHeader BadPldmHeader NotRequest Datagram "

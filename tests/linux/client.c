@@ -23,7 +23,7 @@
  *   statistics                     the counters of the line                      NAME N ..
  *   end                            the guest powers off
  *
- * What the kernel refuses is told as `error NAME`, with the name of the error. BYTES are those after the message type,
+ * What the kernel refuses is shown as `error NAME`, with the name of the error. BYTES are those after the message type,
  * which the kernel writes and reads itself.
  */
 #define _GNU_SOURCE
@@ -77,7 +77,7 @@ static int interface_index, message_socket, physical_socket;
 static char *words[MAX_WORDS];
 static uint8_t bytes[MAX_BYTES];
 
-/* Nothing can be told without the command line, so a fault before it shows only on the guest's console. */
+/* Nothing can be reported without the command line, so a fault before it shows only on the guest's console. */
 static void fail(const char *what)
 {
 	fprintf(answers ? answers : stderr, "fatal %s: %s\n", what, strerror(errno));
@@ -223,7 +223,7 @@ static void make_transfers(int bus, FILE *line)
 	_exit(0);
 }
 
-/* Tells of the transfers of this machine, for ever. */
+/* Reports the transfers of this machine, for ever. */
 static void tell_transfers(int bus, FILE *line)
 {
 	uint8_t transfer[TRANSFER_BYTES];

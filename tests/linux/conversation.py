@@ -88,7 +88,7 @@ class Conversation:
         before = len(self.line.told)
         step()
         if self.names_drops:
-            time.sleep(0.1)  # an answer may be there before what is told after it
+            time.sleep(0.1)  # an answer may be there before what is reported after it
             named = self.line.told[before:].decode(errors="replace").splitlines()
             well = [it.split()[-1] for it in named] == reasons.split()
             self.rows.check(f"{name}: {reasons} named", well, repr(named))

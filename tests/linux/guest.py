@@ -1,4 +1,4 @@
-"""The guest: Linux as a program of user mode, with client.c for its user land, which does what it is told here."""
+"""The guest: Linux as a program of user mode, with client.c for its user land, which does what it is asked here."""
 import os
 import select
 import shutil

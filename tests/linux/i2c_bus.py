@@ -79,7 +79,7 @@ class I2cBus:
         except ConnectionResetError:
             data = b""
         if not data:
-            # Where the guest has gone, the bridge is told so, and what it still says is read.
+            # Where the guest has gone, that is passed on to the bridge, and what it still says is read.
             self.sources.remove(source)
             if source is self.guest:
                 self.bus.shutdown(socket.SHUT_WR)

@@ -1,4 +1,4 @@
-"""What is no frame on the I2C bus, told by the C library and by Linux's driver; and what wrong PECs have to come to."""
+"""What is no frame on the I2C bus, for the C library and for Linux's driver; and what wrong PECs have to come to."""
 import time
 from collections import Counter
 

@@ -50,7 +50,7 @@ class FrameCutter:
             yield Frame(piece, unescaped(piece[3:-3]), time.monotonic()) if len(piece) > 1 else piece
 
     def length_of_first(self):
-        """Of the frame that is held; 1 where the first byte begins none; None where more bytes have to tell."""
+        """Of the frame that is held; 1 where the first byte begins none; None where more bytes are needed."""
         held = self.held
         if held[0] != FLAG or held[1:2] not in (b"", bytes([REVISION])):
             return 1
@@ -118,7 +118,7 @@ class Chance:
     """Faults by chance, with a stated seed: of each frame no copy, one or more, at once or late.
 
     A copy of a request reaches the device less than the keeping time after the request was first sent, less what a busy
-    machine may add from here to the device. Requests are told apart by their bytes without the MCTP header, since a
+    machine may add from here to the device. Requests are distinguished by their bytes without the MCTP header, since a
     retry may have another tag."""
 
     # how often a frame is delivered, and in how many of a hundred
@@ -195,7 +195,7 @@ class SerialLine:
                 time.sleep(0.01)  # the device has gone, or has closed its standard error
             return
         if not data:
-            # Where one end has gone, the other is told so, and what it still says is read.
+            # Where one end has gone, that is passed on to the other, and what it still says is read.
             if self.sources.pop(source) == TO_DEVICE and not self.device.stdin.closed:
                 self.device.stdin.close()
             return

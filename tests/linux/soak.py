@@ -1,4 +1,4 @@
-"""The soak: a line that loses, repeats and delays frames by chance. Each set has to be told by the get after it."""
+"""The soak: a line that loses, repeats and delays frames by chance. Each set has to be shown by the get after it."""
 import time
 from collections import Counter
 
@@ -93,7 +93,7 @@ class Soak:
         return bytes([0x80 | number]) + bytes.fromhex(command)
 
     def next_tag(self, kind):
-        """The tags are used in turn. Packets of an answer of several are told apart by the tag alone, so a tag of it
+        """The tags are used in turn. Packets of an answer of several are distinguished by the tag alone, so a tag of it
         rests until no packet of the answer before is under way."""
         tags = self.record_tags if kind == "record" else self.tags
         tag, used = tags.pop(0)

@@ -17,14 +17,14 @@ class Rows:
         self.failed = []  # the names of the rows that did not pass
 
     def check(self, name, well, why=""):
-        """A row that passes where `well` holds; `why` is told where it fails. Returns whether it passed."""
+        """A row that passes where `well` holds; `why` is shown where it fails. Returns whether it passed."""
         return self._count(name, well, name if well else f"{name}: {why}")
 
     def equal(self, name, got, want):
         return self.check(name, got == want, f"got {told(got)}, wanted {told(want)}")
 
     def measure(self, name, well, found):
-        """The same for a number: what was found is told where the row passes too."""
+        """The same for a number: what was found is shown where the row passes too."""
         return self._count(name, well, f"{name}: {found}")
 
     def _count(self, name, well, line):

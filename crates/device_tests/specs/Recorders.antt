@@ -1,4 +1,4 @@
--- A platform that keeps each terminus ID that it was given, and tells the last one: that of the tests.
+-- A platform that keeps each terminus ID that it was given, and reports the last one: that of the tests.
 use Rattle.std.specs.Prelude.{◌≡◌, ℕ, ◌-◌, ℤ, false, List, [], ◌∷◌, ◌++◌, length, slice_index, Result, Err, refl}
 use Rattle.pldm_wire.specs.Answers.{IsAnswerTo}
 use Rattle.pldm_wire.specs.Commands.{kind_of, sets}

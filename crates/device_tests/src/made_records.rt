@@ -127,7 +127,7 @@ fn a_thing_of_each_kind(rt: HostRuntime) -> Result<(), Fail> {
     Ok(())
 }
 
-/// What stands in place of the table, and the fault that is told.
+/// What stands in place of the table, and the fault that is reported.
 const FAULTS: &[(&str, FileFault)] = &[
     ("records = 1\n", FileFault::WrongKind),
     ("[records]\nname = 1\n", FileFault::WrongKind),

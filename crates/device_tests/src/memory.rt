@@ -13,7 +13,7 @@ const STEP: usize = 16;
 /// More refusals than a read of the example meets.
 const MAX_REFUSALS: usize = 20_000;
 
-/// Reads the example with no memory at first, and with a little more after each refusal, which is told as
+/// Reads the example with no memory at first, and with a little more after each refusal, which is reported as
 /// `Memory` and nothing else.
 fn read_at_last(rt: &impl Abort, alloc: Global, text: &str) -> Result<Description, Fail> {
     let mut hoard = Hoard::take(alloc, 0)?;

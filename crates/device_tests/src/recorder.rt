@@ -78,7 +78,7 @@ impl Platform for Recorder {
     }
 }
 
-/// The terminus ID that a platform tells; asking changes nothing, by its laws.
+/// The terminus ID that a platform reports; asking changes nothing, by its laws.
 pub fn reported_tid<P: Platform>(alloc: Global, platform: &mut P) -> Result<Option<u8>, Memory>
     ensures { OnOk result (P.state platform.new ≡ P.state platform.old) }
 {

@@ -72,7 +72,7 @@ fn expect_front(
     assert!(rt; !is_held_back || written.is_empty());
 }
 
-/// A reader fails once, or from a call on, at each call in turn, the last of which would tell the end of
+/// A reader fails once, or from a call on, at each call in turn, the last of which would report the end of
 /// input.
 fn fail_each_read(
     rt: &impl Abort,

@@ -1,4 +1,4 @@
-//! The lines that tell faults, and their exit statuses.
+//! The lines that report faults, and their exit statuses.
 
 use mctp_packet::Eid;
 use mctpctl_engines::{DescriptionFault, EngineFault, LineKind, fault_line, status_of};

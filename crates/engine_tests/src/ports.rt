@@ -5,7 +5,7 @@ use mctpctl_engines::Port;
 use std::io::{Read, Write};
 use std::test::Fail;
 
-/// A read that fails is told at once and not tried again, though the next one would succeed.
+/// A read that fails is reported at once and not tried again, though the next one would succeed.
 #[test]
 fn a_read_that_fails_marks_the_port(rt: HostRuntime) -> Result<(), Fail> {
     let inner = PieceReader {
@@ -46,7 +46,7 @@ fn writes_and_flushes_are_passed_on(rt: HostRuntime) -> Result<(), Fail> {
     Ok(())
 }
 
-/// A write that fails is told at once and not tried again, though the next one would succeed.
+/// A write that fails is reported at once and not tried again, though the next one would succeed.
 #[test]
 fn a_write_is_not_tried_again(rt: HostRuntime) -> Result<(), Fail> {
     let inner = OneByteWriter {

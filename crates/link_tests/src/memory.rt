@@ -12,7 +12,7 @@ const READING_STEP: usize = 16;
 const MAX_REFUSALS: usize = 4_000;
 
 /// Two schedules are read with no memory at first, and with a little more after each refusal, which is
-/// told as `Memory` and nothing else: all steps are read at last.
+/// reported as `Memory` and nothing else: all steps are read at last.
 #[test]
 fn each_growth_of_a_read_is_refused_in_turn(rt: HostRuntime) -> Result<(), Fail> {
     let alloc = rt.alloc();
@@ -49,7 +49,7 @@ const RUN_STEP: usize = 8_192;
 const MAX_TRIES: usize = 48;
 
 /// A retry, and a tag that is used again, are run with more and more memory to be had, until nothing is
-/// refused: each refusal is told as `Memory` and nothing else, and the same run succeeds with memory at
+/// refused: each refusal is reported as `Memory` and nothing else, and the same run succeeds with memory at
 /// hand.
 #[test]
 fn each_growth_of_a_run_is_refused_in_turn(rt: HostRuntime) -> Result<(), Fail> {

@@ -1,4 +1,4 @@
-//! Schedules of requesters and the example device, and what a run of each tells.
+//! Schedules of requesters and the example device, and what a run of each reports.
 
 use crate::told::told;
 use example_device::description;
@@ -29,7 +29,7 @@ pub fn example(alloc: Global) -> Result<Setup<SimDevice>, Fail> {
     })
 }
 
-/// What a run of the example device over a schedule tells, with its sensor and its numeric effecter at
+/// What a run of the example device over a schedule reports, with its sensor and its numeric effecter at
 /// the end.
 pub fn run_example(alloc: Global, text: &str) -> Result<String, Fail> {
     let schedule = Schedule::read(alloc, text.as_bytes())?;

@@ -1,4 +1,4 @@
-//! What a run tells, in words: a line for each step, then the requests, the order and whether it was timely.
+//! What a run reports, in words: a line for each step, then the requests, the order and whether it was timely.
 
 use mctp_schedule::{EntryRef, OpenedRequest, Report, Steps};
 use pldm_platform::Platform;
@@ -9,7 +9,7 @@ use std::alloc::{AllocError, Global};
 /// The most bytes of an answer that are written out.
 const MAX_WRITTEN: usize = 32;
 
-/// What a report tells, but for the device at the end.
+/// What a report says, but for the device at the end.
 pub fn told<P: Platform>(
     alloc: Global,
     steps: &Steps,

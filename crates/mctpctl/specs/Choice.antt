@@ -61,7 +61,7 @@ abbrev pub device_command : App
 device_command =
     with_subcommand (with_subcommand program (text_subcommand (codes "answer")).top) (text_subcommand (codes "run")).top
 
--- `show` may also be asked to decode messages, and told which frames stand on the lines
+-- `show` may also be asked to decode messages, and be given which frames stand on the lines
 abbrev pub show_subcommand : App
 show_subcommand =
     with_rule (with_rule (text_subcommand (codes "show")) (flag (codes "decode"))) (value_option (codes "binding"))
@@ -72,7 +72,7 @@ text_command = with_subcommand device_command show_subcommand.top
 abbrev pub line_command : App
 line_command = with_subcommand text_command serve_subcommand.top
 
--- what asks a device requires both endpoint IDs, and may be told the line
+-- what asks a device requires both endpoint IDs, and may be given the line
 abbrev pub line_subcommand : List ℕ → App
 line_subcommand name =
     with_rule (with_rule (with_rule (new_app name) (value_option (codes "line")))
@@ -109,14 +109,14 @@ ask_subcommand =
 abbrev pub asking_command : App
 asking_command = with_subcommand line_command ask_subcommand.top
 
--- `walk` may be told where the records go
+-- `walk` may be given where the records go
 abbrev pub walk_subcommand : App
 walk_subcommand = with_rule (stated_subcommand (codes "walk")) (value_option (codes "records"))
 
 abbrev pub walking_command : App
 walking_command = with_subcommand asking_command walk_subcommand.top
 
--- `watch` may be told how long a period is, how many there are, and where the readings go
+-- `watch` may be given how long a period is, how many there are, and where the readings go
 abbrev pub watch_subcommand : App
 watch_subcommand =
     with_rule (with_rule (with_rule (stated_subcommand (codes "watch")) (value_option (codes "every")))

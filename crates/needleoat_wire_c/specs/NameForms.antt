@@ -25,7 +25,7 @@ abbrev pub name_in : ℕ → List ℕ → Option Name
 name_in length text =
     if nat_le length NAME_UNITS then Some (record { tag = english; units = take length text }) else None
 
--- the one name of an entity, and of the one sensor or effecter that a record tells of
+-- the one name of an entity, and of the one sensor or effecter that a record is about
 
 abbrev pub one_name : Name → List ℕ
 one_name name = names_bytes (name ∷ [])

@@ -71,7 +71,7 @@ fn entity_name_of(fields: &EntityNameFields) -> Option<EntityNames>
     })
 }
 
-/// The one name of the one sensor or effecter that a record tells of.
+/// The one name of the one sensor or effecter that a record is about.
 fn name_of_one(length: u32, text: &[u16; NAME_UNITS]) -> Option<ArrayVec<u8, MAX_NAME_BYTES>>
     ensures { option_map (λ made. made.items) result ≡ option_map name_of_one (name_in length text.now) }
 {

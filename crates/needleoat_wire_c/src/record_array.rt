@@ -16,7 +16,7 @@ const HEADER_VERSION: u8 = 1;
 /// The record handle that asks for the first record (DSP0248, "GetPDR command").
 const FIRST_RECORD: u32 = 0;
 
-/// What GetPDRRepositoryInfo tells of records.
+/// What GetPDRRepositoryInfo reports of records.
 #[derive(Drop)]
 pub struct Summary {
     /// How many there are.

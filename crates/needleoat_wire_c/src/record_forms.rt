@@ -2,7 +2,7 @@
 
 use pldm_wire::MAX_STATES;
 
-/// The most bytes in which the possible states of one set are told (DSP0248, "possibleStatesSize").
+/// The most bytes in which the possible states of one set are stated (DSP0248, "possibleStatesSize").
 pub const STATE_BYTES: usize = 32;
 
 /// The most code units of UTF-16 of a name: with its count and its language tag a record has room for as many.
@@ -177,9 +177,9 @@ pub struct NumericSensorFields {
     pub update_interval: u32,
     /// How far a number has to go back before a threshold is left.
     pub hysteresis: i64,
-    /// The greatest number that it can tell.
+    /// The greatest number that it can report.
     pub max_readable: i64,
-    /// The least number that it can tell.
+    /// The least number that it can report.
     pub min_readable: i64,
     /// Its normal range and its thresholds.
     pub range: SensorRangeFields,
@@ -235,7 +235,7 @@ pub struct StateSensorFields {
     pub terminus_handle: u16,
     /// The sensor's ID.
     pub sensor_id: u16,
-    /// The entity that it tells of.
+    /// The entity that it reports on.
     pub entity: EntityFields,
     /// How it is made ready: 0 it needs nothing.
     pub init: u8,

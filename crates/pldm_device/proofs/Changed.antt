@@ -1,4 +1,4 @@
--- A thing that is changed in its place among the things with an ID, and how the outcome is told.
+-- A thing that is changed in its place among the things with an ID, and how the outcome is answered.
 use Rattle.std.proofs.Common.{◌≡◌, ℕ, Bool, true, false, cond, List, [], ◌∷◌, Some, Result, Ok, Err, ap, sym, ◌∙◌, refl}
 use Rattle.std.specs.Map.{lookup, set_value}
 use Rattle.pldm_wire.specs.declared.answer.Answer.{Answer}

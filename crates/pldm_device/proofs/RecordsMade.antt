@@ -1,4 +1,4 @@
--- Each record that is made tells of the device.
+-- Each record that is made describes the device.
 use Rattle.std.proofs.Common.{◌≡◌, ℕ, zero, suc, ◌++◌, ◌∷◌, [], List, Bool, true, false, ◌||◌, IsTrue, if◌then◌else◌, nat_lt, length, map, slice_get, Option, Some, None, is_some, Result, Ok, Err, refl, sym, ap, subst, ◌∙◌, append_assoc}
 use Rattle.std.proofs.Common.{append-nil}
 use Rattle.std.specs.List.{All}
@@ -41,7 +41,7 @@ pub passed : {A : Type 0} (test : Bool) (x y : A) (fault : FileFault) → (if te
 passed true x y fault e = cc
 passed false x y fault e = cc
 
--- the records so far: those before, and more that tell of the device
+-- the records so far: those before, and more that describe the device
 pub record IsMadeAfter (device : Device) (before : List (List ℕ)) (made : MadeRecords) : Type 0 where
   pub more : List (List ℕ)
   pub joined : made.records ≡ before ++ more
@@ -124,7 +124,7 @@ pub twice_mapped : (state_set : ℕ) (fields : List SensorStateField) → map (p
 twice_mapped state_set [] = refl
 twice_mapped state_set (field ∷ fields) = ap (λ (x : List PossibleStates). possible state_set (states_told field) ∷ x) (twice_mapped state_set fields)
 
--- the records of a thing are more, where its own tells of the device, and so does that of its name
+-- the records of a thing are more, where its own describes the device, and so does that of its name
 pub thing_step : (device : Device) (before : List (List ℕ)) (default : Entity) (entry : Members) (own : Entity → Bool → Result RecordData FileFault) (named : Option (List ℕ) → MadeRecords → Result MadeRecords FileFault) (made after : MadeRecords) → ((entity : Entity) (has_name : Bool) (contents : RecordData) → own entity has_name ≡ Ok contents → Tells device contents) → ((name : Option (List ℕ)) (more last : MadeRecords) → IsMadeAfter device before more → named name more ≡ Ok last → IsMadeAfter device before last) → IsMadeAfter device before made → thing_made default entry own named made ≡ Ok after → IsMadeAfter device before after
 thing_step device before default entry own named made after tells names h e =
     let a = came (name_at entry) (λ name. entity_at default entry >>= λ entity. own entity (is_some name) >>= λ contents. with_made contents made >>= λ more. named name more) after e in

@@ -1,4 +1,4 @@
--- The records that a table has made tell of the device.
+-- The records that a table has made describe the device.
 use Rattle.std.proofs.Common.{◌≡◌, ℕ, ◌++◌, [], List, slice_index_or, Option, Some, None, Ok, refl, sym, subst, append-nil, codes}
 use Rattle.std.specs.List.{All}
 use Rattle.toml.specs.Data.{Data, Items, no_items, item, Members, get_member}
@@ -60,7 +60,7 @@ terminus_step eid device before entity name after e =
     let first = one_made device before (terminus_located eid device.tid entity) (made_after before) a.value (none_made device before) refl a.first in
     entity_named_step device before entity name a.value after first a.next
 
--- the records after those before, which tell of the device
+-- the records after those before, which describe the device
 record HasMore (device : Device) (before after : List (List ℕ)) : Type 0 where
   pub more : List (List ℕ)
   pub joined : after ≡ before ++ more
@@ -82,7 +82,7 @@ table_step eid document device before table after e =
     let b = came (entity_at no_entity table) (λ entity. all_made eid document device entity a.value before) after a.next in
     all_step eid document device b.value a.value before after b.next
 
--- what is told of a device does not hang on its records
+-- what is said of a device does not hang on its records
 
 told_again : (device : Device) (ones others : List (List ℕ)) (contents : RecordData) → Tells (recorded device ones) contents → Tells (recorded device others) contents
 told_again device ones others (records.TerminusLocator pdr) t = t

@@ -1,4 +1,4 @@
--- The records of each kind of thing tell of the device.
+-- The records of each kind of thing describe the device.
 use Rattle.std.proofs.Common.{◌≡◌, ℕ, List, Bool, nat_le, length, map, Option, Some, None, Result, Ok, refl, ap, subst}
 use Rattle.std.specs.Option.{ok_or}
 use Rattle.toml.specs.Data.{Members}
@@ -31,7 +31,7 @@ found_some : {X : Type 0} (found : Option X) (x : X) → ok_or found MissingKey 
 found_some None x e = cc
 found_some (Some y) x e = cc
 
--- what the record of a numeric sensor tells
+-- what the record of a numeric sensor says
 numeric_sensor_tells : (device : Device) (id : ℕ) (sensor : NumericSensor) (entity : Entity) (has_name : Bool) (entry : Members) (contents : RecordData) → with_id id device.numeric_sensors ≡ Some sensor → numeric_sensor_data id sensor.reading.size entity has_name entry ≡ Ok contents → Tells device contents
 numeric_sensor_tells device id sensor entity has_name entry contents found e =
     let size = sensor.reading.size in
@@ -52,7 +52,7 @@ numeric_sensor_step device before default entry made after h e =
     (λ name more last g. sensor_named_made device before a.value 1 name more last g (has_some (with_id a.value device.numeric_sensors) b.value (has_id a.value device.state_sensors) found))
     h b.next
 
--- what the record of a state sensor tells
+-- what the record of a state sensor says
 state_sensor_tells : (device : Device) (id : ℕ) (fields : List SensorStateField) (entity : Entity) (has_name : Bool) (entry : Members) (contents : RecordData) → with_id id device.state_sensors ≡ Some fields → state_sensor_data id fields entity has_name entry ≡ Ok contents → Tells device contents
 state_sensor_tells device id fields entity has_name entry contents found e =
     let a = came (state_set_at entry) (λ state_set. Ok (records.StateSensor (state_sensor_of id fields entity has_name state_set))) contents e in
@@ -72,7 +72,7 @@ state_sensor_step device before default entry made after h e =
     (λ name more last g. sensor_named_made device before a.value (length b.value) name more last g (or_has_some (with_id a.value device.state_sensors) b.value (has_id a.value device.numeric_sensors) found))
     h b.next
 
--- what the record of a numeric effecter tells
+-- what the record of a numeric effecter says
 numeric_effecter_tells : (device : Device) (id : ℕ) (effecter : NumericEffecter) (entity : Entity) (has_name : Bool) (entry : Members) (contents : RecordData) → with_id id device.numeric_effecters ≡ Some effecter → numeric_effecter_data id effecter entity has_name entry ≡ Ok contents → Tells device contents
 numeric_effecter_tells device id effecter entity has_name entry contents found e =
     let size = effecter.value.size in
@@ -92,7 +92,7 @@ numeric_effecter_step device before default entry made after h e =
     (λ name more last g. effecter_named_made device before a.value 1 name more last g (has_some (with_id a.value device.numeric_effecters) b.value (has_id a.value device.state_effecters) found))
     h b.next
 
--- what the record of a state effecter tells
+-- what the record of a state effecter says
 state_effecter_tells : (device : Device) (id : ℕ) (effecter : FieldsOfStates) (entity : Entity) (has_name : Bool) (entry : Members) (contents : RecordData) → with_id id device.state_effecters ≡ Some effecter → state_effecter_data id effecter.allowed entity has_name entry ≡ Ok contents → Tells device contents
 state_effecter_tells device id effecter entity has_name entry contents found e =
     let a = came (state_set_at entry) (λ state_set. few_fields effecter.allowed >>= λ fields. Ok (records.StateEffecter (state_effecter_of id fields entity has_name state_set))) contents e in

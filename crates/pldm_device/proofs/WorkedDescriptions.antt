@@ -83,7 +83,7 @@ busy_times : (stated (codes "eid = 9\nkeep_ms = 1\nbusy = 'all'\n") ≡ Err Miss
 unfolding description_on_literals
 busy_times = (refl, refl, refl, refl)
 
--- the keeping time is told before the window, that before the busy time, and that before the terminus ID
+-- the keeping time's fault is reported first, then the window's, then the busy time's, then the terminus ID's
 order_of_settings : (stated (codes "eid = 9\nkeep_ms = '1'\nwindow = 33\n") ≡ Err WrongKind) × (stated (codes "eid = 9\nkeep_ms = 1\nbusy = 3\nwindow = 33\n") ≡ Err OutOfRange)
     × (stated (codes "eid = 9\nkeep_ms = 1\ntid = '1'\nbusy = 'none'\n") ≡ Err OutOfRange)
 unfolding description_on_literals

@@ -1,4 +1,4 @@
--- What the table `control` of a description says of the endpoint, as control messages tell it.
+-- What the table `control` of a description says of the endpoint, as control messages report it.
 use Rattle.std.specs.Prelude.{ℕ, false, codes, List, Option, None, Some, Result, Ok}
 use Rattle.toml.specs.Data.{Data, Members, get_member}
 use Rattle.pldm_device.specs.Documents.{document_of}

@@ -1,4 +1,4 @@
--- The device that a description states: its keys are looked at in order, and the first fault is told.
+-- The device that a description states: its keys are looked at in order, and the first fault is reported.
 use Rattle.std.specs.Prelude.{ℕ, List, codes, Result, Ok}
 use Rattle.mctp_packet.specs.Ids.{IsEid, IsKeep}
 use Rattle.pldm_wire.specs.Settings.{IsWindow}

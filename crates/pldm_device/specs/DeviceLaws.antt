@@ -38,7 +38,7 @@ reads_only device (GetStateEffecterStates effecter) asks = refl
 reads_only device GetPdrRepositoryInfo asks = refl
 reads_only device (GetPdr handle transfer flag count change) asks = refl
 
--- an outcome that is told as a refusal left the device as it was
+-- an outcome that is answered as a refusal left the device as it was
 
 set_tid_refused :
     (device : Device) (outcome : Result Device ℕ) (code : ℕ)

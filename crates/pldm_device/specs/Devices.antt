@@ -1,4 +1,4 @@
--- The simulated device: its terminus ID, its sensors, its effecters and its records, and what it tells
+-- The simulated device: its terminus ID, its sensors, its effecters and its records, and what it reports
 -- of itself.
 use Rattle.std.specs.Prelude.{ℕ, List}
 use Rattle.pldm_wire.specs.declared.state_fields.SensorStateField.{SensorStateField}

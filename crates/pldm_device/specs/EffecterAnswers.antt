@@ -1,4 +1,4 @@
--- The commands of effecters (DSP0248): what they set, and what they tell.
+-- The commands of effecters (DSP0248): what they set, and what they return.
 use Rattle.std.specs.Prelude.{ℕ, ◌==◌, nat_lt, int_lt, Bool, true, not, ◌&&◌, ◌||◌}
 use Rattle.std.specs.Prelude.{List, [], ◌∷◌, length, map, Option, Some, None, Result, Ok, Err, if◌then◌else◌}
 use Rattle.std.specs.List.{list_any}

@@ -1,4 +1,4 @@
--- The records of effecters: what is told of an effecter comes from the device and from the keys of its entry (DSP0248,
+-- The records of effecters: what is said of an effecter comes from the device and from the keys of its entry (DSP0248,
 -- "Numeric effecter PDR" and "State effecter PDR").
 use Rattle.std.specs.Prelude.{ℕ, pos, nat_le, Bool, List, length, map, Option, Some, None, Result, Ok, Err, if◌then◌else◌}
 use Rattle.std.specs.Option.{ok_or}
@@ -84,7 +84,7 @@ numeric_effecter_made effecters default entry made = do
   thing_made default entry (λ entity has_name. numeric_effecter_data id effecter entity has_name entry)
       (effecter_named id 1) made
 
--- as many fields as a record tells
+-- no more fields than a record can hold
 abbrev pub few_fields : List (List ℕ) → Result (List (List ℕ)) FileFault
 few_fields allowed = if nat_le (length allowed) MAX_STATES then Ok allowed else Err OutOfRange
 

@@ -1,4 +1,4 @@
--- What the getters of the simulated device tell of a thing by its position.
+-- What the getters of the simulated device return for a thing by its position.
 use Rattle.std.specs.Prelude.{ℕ, ℤ, List}
 use Rattle.std.specs.Ordering.{nat_cmp}
 use Rattle.std.specs.List.Sorted.{IsStrictlySortedBy}

@@ -1,4 +1,4 @@
--- What made records tell of the device.
+-- What made records say of the device.
 use Rattle.std.specs.Prelude.{◌≡◌, ◌≢◌, ℕ, ℤ, ◌||◌, ◌≤ℤ◌, ◌↔◌, IsTrue, List, ◌++◌, length, map, slice_get, Some, Ok}
 use Rattle.std.specs.List.{All, AllPairs, sum_by}
 use Rattle.toml.specs.Data.{Members}
@@ -82,7 +82,7 @@ pub record TellsStateEffecter (device : Device) (pdr : StateEffecter) : Type 0 w
       ≡ answers.GetStateEffecterStates (map effecter_field effecter.states)
   pub possible : HaveStates effecter.allowed pdr.sets.items
 
--- a record names an ID that the device answers, and tells of it what the device does
+-- a record names an ID that the device answers, and says of it what the device does
 abbrev pub Tells : Device → RecordData → Type 0
 Tells device (records.TerminusLocator pdr) = answer device commands.GetTid ≡ answers.GetTid pdr.tid
 Tells device (records.NumericSensor pdr) = TellsNumericSensor device pdr
@@ -110,13 +110,13 @@ HaveOtherHandles pdr other = handle_of pdr ≢ handle_of other
 abbrev pub HandlesDiffer : List (List ℕ) → Type 0
 HandlesDiffer records = AllPairs HaveOtherHandles records
 
--- the device has these records after those before, and each tells of it
+-- the device has these records after those before, and each describes it
 pub record HasMade (before : List (List ℕ)) (made : Device) : Type 0 where
   pub more : List (List ℕ)
   pub joined : made.records ≡ before ++ more
   pub told : All (IsRecordOf made) more
 
--- The records that a description has made come after those that it states, and each tells of the device.
+-- The records that a description has made come after those that it states, and each describes the device.
 abbrev pub MadeRecordsTell : Type 0
 MadeRecordsTell =
     (eid : ℕ) (document : Members) (device made : Device) → with_records eid document device ≡ Ok made
@@ -128,7 +128,7 @@ DescribedHandlesDiffer =
     (document : Members) (description : Description) → description_of document ≡ Ok description
     → HandlesDiffer description.device.records
 
--- The repository tells how many records there are, the made ones among them, and the bytes of all.
+-- The repository reports how many records there are, the made ones among them, and the bytes of all.
 abbrev pub RecordsAreCounted : Type 0
 RecordsAreCounted =
     (device : Device) → answer device commands.GetPdrRepositoryInfo

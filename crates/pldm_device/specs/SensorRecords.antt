@@ -1,4 +1,4 @@
--- The records of sensors: what is told of a sensor comes from the device and from the keys of its entry (DSP0248,
+-- The records of sensors: what is said of a sensor comes from the device and from the keys of its entry (DSP0248,
 -- "Numeric sensor PDR" and "State sensor PDR").
 use Rattle.std.specs.Prelude.{ℕ, ◌+◌, ℤ, pos, true, Bool, List, [], ◌∷◌, length, map, Option, Some, None, is_some}
 use Rattle.std.specs.Prelude.{Result, Ok, if◌then◌else◌}
@@ -79,7 +79,7 @@ conversion_of size = record {
   minus_tolerance = 0;
 }
 
--- the record of a numeric sensor with the ID and the data size: it can tell each number of the size
+-- the record of a numeric sensor with the ID and the data size: it can report each number of the size
 abbrev pub numeric_sensor_of :
     ℕ → Size → Entity → Bool → Units → Thresholds → NormalRange → pldm_pdr.NumericSensor
 numeric_sensor_of id size entity has_name units thresholds normal = record {
@@ -138,7 +138,7 @@ numeric_sensor_made sensors default entry made = do
   thing_made default entry (λ entity has_name. numeric_sensor_data id sensor.reading.size entity has_name entry)
       (sensor_named id 1) made
 
--- the states that a field of a sensor tells
+-- the states that a field of a sensor reports
 abbrev pub states_told : SensorStateField → List ℕ
 states_told field = field.present ∷ field.previous ∷ field.event ∷ []
 
@@ -147,7 +147,7 @@ abbrev pub possible : ℕ → List ℕ → PossibleStates
 possible state_set states =
     record { state_set = state_set; bits = kept (bits_in states (last_byte states + 1)) }
 
--- the record of a state sensor with the ID: its possible states are those that its fields tell
+-- the record of a state sensor with the ID: its possible states are those that its fields report
 abbrev pub state_sensor_of : ℕ → List SensorStateField → Entity → Bool → ℕ → StateSensor
 state_sensor_of id fields entity has_name state_set = record {
   terminus_handle = TERMINUS_HANDLE;

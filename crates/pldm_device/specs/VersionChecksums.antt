@@ -9,7 +9,7 @@ use Rattle.pldm_wire.specs.Crc32.{crc32}
 use Rattle.pldm_device.specs.declared.description_fault.FileFault.{FileFault}
 use Rattle.pldm_device.specs.declared.description_fault.FileFault.TheVariants.{OutOfRange}
 
--- versions and their checksum, lowest byte first; all of it has to be told in one part
+-- versions and their checksum, lowest byte first; all of it has to be sent in one part
 abbrev pub with_checksum : Bool → List ℕ → Result (List ℕ) FileFault
 with_checksum false versions = Ok versions
 with_checksum true versions =

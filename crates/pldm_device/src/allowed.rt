@@ -3,7 +3,7 @@
 /// What is allowed at a place of a description, or what is needed there.
 #[derive(Clone, Copy, Debug, PartialEq, Eq)]
 pub enum Allowed {
-    /// Nothing is told of it.
+    /// Nothing is said of it.
     Untold,
     /// `true` or `false`.
     Flag,

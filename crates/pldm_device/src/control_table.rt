@@ -54,7 +54,7 @@ impl ControlTable {
         }
     }
 
-    /// Reads the table as [`ControlTable::read`] does, and where it is refused, tells where its first fault is and what
+    /// Reads the table as [`ControlTable::read`] does, and where it is refused, says where its first fault is and what
     /// is allowed there.
     #[tactic(auto, unfolding(crate::specs::ControlTables::control_of))]
     pub fn read_or_refusal(alloc: Global, bytes: &[u8]) -> Result<ControlTable, Refusal>

@@ -85,7 +85,7 @@ impl Description {
         }
     }
 
-    /// Reads a description as [`Description::read`] does, and where it is refused, tells where its first fault is and
+    /// Reads a description as [`Description::read`] does, and where it is refused, says where its first fault is and
     /// what is allowed there.
     #[tactic(auto, unfolding(crate::specs::Descriptions::stated))]
     pub fn read_or_refusal(alloc: Global, bytes: &[u8]) -> Result<Description, Refusal>

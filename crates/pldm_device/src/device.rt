@@ -25,7 +25,7 @@ use std::marker::Model;
 use std::mem::replace;
 
 /// A simulated device: a terminus ID, sensors and effecters by their ID, platform data records, and
-/// what it tells of itself.
+/// what it reports of itself.
 #[derive(Debug, Drop)]
 pub struct SimDevice {
     pub(crate) tid: u8,

@@ -121,7 +121,7 @@ fn effecter_named(
 }
 
 /// The records of a state effecter's entry: of the effecter with its ID, and of its name. `OutOfRange` where it has
-/// more fields than a record can tell.
+/// more fields than a record can hold.
 pub(crate) fn state_effecter_made(
     alloc: Global,
     effecters: &BTreeMap<u16, StateEffecter>,

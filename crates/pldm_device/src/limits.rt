@@ -55,7 +55,7 @@ pub const TERMINUS_HANDLE: u16 = 1;
 /// The bits of the real32 1.
 pub const ONE: u32 = 0x3f80_0000;
 
-/// The most versions that are told in one part (DSP0240, "GetPLDMVersion command").
+/// The most versions that are sent in one part (DSP0240, "GetPLDMVersion command").
 pub const MAX_VERSIONS: usize = 8;
 
 /// The most of them that leave room for their checksum after them.

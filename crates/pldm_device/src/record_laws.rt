@@ -11,7 +11,7 @@ pub fn made_records_tell_of_the_device()
 {}
 
 /// No two records of a description's device have one handle, whether it states them or has made them; and the device
-/// tells how many there are, and how many bytes.
+/// reports how many there are, and how many bytes.
 pub fn records_are_told_apart_and_counted()
     ensures differ { DescribedHandlesDiffer }
     ensures counted { RecordsAreCounted }

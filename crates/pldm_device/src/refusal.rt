@@ -52,7 +52,7 @@ impl Refusal {
 impl From<FileFault> for Refusal {
     ghost from_gives = { λ fault refusal. refusal ≡ fault };
 
-    /// The refusal that tells no more than its fault.
+    /// The refusal that says no more than its fault.
     fn from(fault: FileFault) -> Refusal {
         Refusal::new(fault, Path::whole(), Allowed::Untold)
     }

@@ -216,7 +216,7 @@ pub(crate) fn state_sensor_made(
     sensor_named(alloc, id, fields.len() as u8, name, more)
 }
 
-/// The record of a state sensor with this ID: its possible states are those that its fields tell.
+/// The record of a state sensor with this ID: its possible states are those that its fields report.
 fn state_sensor_data(
     entry: &Table,
     id: u16,
@@ -239,7 +239,7 @@ fn state_sensor_data(
     }))
 }
 
-/// For each field the states that it tells.
+/// For each field the states that it reports.
 fn sets_told(state_set: u16, fields: &[SensorStateField]) -> ArrayVec<PossibleStates, MAX_STATES>
     requires { length fields.now ≤ MAX_STATES }
     ensures { result.items ≡ map (λ field. possible state_set (states_told field)) fields.now }

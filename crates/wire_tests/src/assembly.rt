@@ -135,7 +135,7 @@ fn a_forgotten_key_has_nothing_to_go_on(rt: HostRuntime) -> Result<(), Fail> {
 }
 
 /// Feeds a packet that gives `Partial` with about `spare` bytes of memory to be had and, where that
-/// is refused, once more with memory at hand. Tells whether it was refused.
+/// is refused, once more with memory at hand. Returns whether it was refused.
 fn feed_with(
     rt: &impl Abort,
     alloc: Global,

@@ -120,7 +120,7 @@ static int unregister_slave(struct i2c_client *client)
 	return 0;
 }
 
-/* What a controller tells its driver, byte by byte: the address byte it keeps. */
+/* What a controller reports to its driver, byte by byte: the address byte it keeps. */
 static void tell_slave(u8 *bytes, size_t count)
 {
 	size_t i;

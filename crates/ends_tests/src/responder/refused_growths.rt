@@ -46,7 +46,7 @@ fn receive_at_last<P: Platform>(
     Err(Fail::from("never taken"))
 }
 
-/// The lines in which these outcomes are told.
+/// The lines in which these outcomes are shown.
 fn told(alloc: Global, outcomes: &[Outcome]) -> Result<String, AllocError> {
     let mut text = String::new(alloc);
     for outcome in outcomes {
@@ -190,7 +190,7 @@ const COPIES_TOLD: &str = "010809c10101023100
 010809c3010302320000012828
 ";
 
-/// Captures of the example device: what is told at last is what is told with all memory.
+/// Captures of the example device: what is reported at last is what is reported with all memory.
 #[test]
 fn each_growth_of_a_capture_is_refused_in_turn(rt: HostRuntime) -> Result<(), Fail> {
     let record = record_told(rt.alloc())?;

@@ -1,4 +1,4 @@
-//! Schedules over the example device, and what is told of them.
+//! Schedules over the example device, and what is reported of them.
 
 /// A schedule, and all that is written.
 pub const SCHEDULES: [(&str, &str); 10] = [
@@ -289,7 +289,7 @@ state 2 1 1
 timely: yes
 ",
     ),
-    // What is told besides: retries and requests given up at one tick, a tag in use, sensors.
+    // What is reported besides: retries and requests given up at one tick, a tag in use, sensors.
     (
         "\
 requester 8 timeout 200 tries 3

@@ -1,4 +1,4 @@
--- What `clap` refuses is no task, and the kind of its error tells help from the other refusals.
+-- What `clap` refuses is no task, and the kind of its error distinguishes help from the other refusals.
 use Rattle.std.proofs.Common.{◌≡◌, ◌≢◌, ◌==◌, ℕ, Bool, true, false, inl, inr, cond, map, List, [], ◌∷◌, length, Option, None, Some, option_and_then, option_map, ap, sym, ◌∙◌, subst, refl, rules}
 use Rattle.std.proofs.lemmas.Bool.Decides.{nat_tests}
 use Rattle.clap.proofs.OnLiterals.{clap_on_literals}

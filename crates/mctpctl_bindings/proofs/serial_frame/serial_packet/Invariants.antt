@@ -1,4 +1,4 @@
--- What the bytes tell is what those to come tell a reader that stands there.
+-- What the bytes give is what those to come give a reader that stands there.
 use Rattle.std.proofs.Common.{◌≡◌, length}
 use Rattle.mctp_serial.specs.Readings.{idle}
 use Rattle.mctpctl_bindings.specs.SerialPackets.{serial_packet}

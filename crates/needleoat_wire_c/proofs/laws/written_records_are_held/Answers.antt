@@ -1,4 +1,4 @@
--- The header of a record that is written tells its handle and its length.
+-- The header of a record that is written states its handle and its length.
 use Rattle.std.proofs.Common.{◌≡◌, ℕ, ◌+◌, ◌≤◌, ◌==◌, leb, not, true, List, [], length, refl, sym, ◌∙◌, arith}
 use Rattle.std.proofs.lemmas.Bool.{and_from, eq-eqb, le-leb, ne_eqb, not_from_false}
 use Rattle.byteorder.specs.Numbers.{little_number-reads_back}

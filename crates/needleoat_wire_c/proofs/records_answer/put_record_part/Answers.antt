@@ -1,4 +1,4 @@
--- The record in front of the bytes that are asked for is the one that the repository would tell.
+-- The record in front of the bytes that are asked for is the one that the repository would return.
 use Rattle.std.proofs.Common.{ℕ, Some, None, ap, sym, ◌∙◌}
 use Rattle.pldm_records.specs.RecordAnswers.{part_answered}
 use Rattle.needleoat_wire_c.specs.RecordWalks.{records_in}
