@@ -5,29 +5,25 @@ ghost use Rattle.mctpctl_explain.specs.Reasons.{IsLineReason};
 
 use crate::expected::refused_text;
 use crate::words::{quoted, words_of};
-use line_words::{first_word, read_decimal, split_line, split_word};
+use line_words::{first_word, read_decimal, split_word};
 use mctp_packet::{HEADER, Memory};
 use mctpctl_input::{LineKind, MAX_CAPTURE_LINE};
 use schedule_text::Expected;
 use std::alloc::Global;
 
-/// Says what is wrong with a line of a capture that was refused for this, after these lines. Each kind opens with
-/// words of its own; where the line is not refused for this, nothing is said.
-pub(crate) fn explain_line(
-    alloc: Global,
-    line: &[u8],
-    before: &[u8],
-    kind: LineKind,
-) -> Result<String, Memory>
+/// Says what is wrong with a line of a capture that was refused for this, but for a moment that goes back. Each kind
+/// opens with words of its own; where the line is not refused for this, nothing is said.
+pub(crate) fn explain_line(alloc: Global, line: &[u8], kind: LineKind) -> Result<String, Memory>
     ensures { IfOk result (λ text. IsLineReason kind (string_bytes text)) }
 {
     match kind {
         LineKind::LongLine => long_line(alloc, line),
         LineKind::Words => wrong_words(alloc, line),
         LineKind::Number => wrong_number(alloc, line),
-        LineKind::BackInTime => back_in_time(alloc, line, before),
         LineKind::BadHex => bad_hex(alloc, line),
-        LineKind::NoSuchRequester | LineKind::SameRequester => Ok(String::new(alloc)),
+        LineKind::BackInTime | LineKind::NoSuchRequester | LineKind::SameRequester => {
+            Ok(String::new(alloc))
+        }
     }
 }
 
@@ -79,35 +75,6 @@ fn no_moment(alloc: Global, word: &[u8], count: usize) -> Result<String, Memory>
         )?);
     }
     refused_text(alloc, word, Expected::Moment)
-}
-
-/// The moment of a line, and the one before it that is later.
-#[tactic(auto, using(crate::proofs::Explained::line_explained))]
-fn back_in_time(alloc: Global, line: &[u8], before: &[u8]) -> Result<String, Memory>
-    ensures { IfOk result (λ text. IsLineReason LineKind.BackInTime (string_bytes text)) }
-{
-    let words = words_of(alloc, line)?;
-    let Some(moment) = words.first() else {
-        return Ok(String::new(alloc));
-    };
-    let found = quoted(alloc, moment)?;
-    let last = last_moment(before);
-    Ok(format!(in alloc; "the moment {found} is before that of an earlier line, {last}")?)
-}
-
-/// The moment of the last packet of these lines.
-fn last_moment(lines: &[u8]) -> u64 {
-    let mut last = 0;
-    let mut rest = lines;
-    while let Some((line, after)) = split_line(rest) {
-        if let Some((word, _)) = first_word(line)
-            && let Some(moment) = read_decimal(word)
-        {
-            last = moment;
-        }
-        rest = after;
-    }
-    last
 }
 
 /// What is wrong with the hex digits of a line's packet.

@@ -4,6 +4,7 @@ ghost use Rattle.std.specs.Prelude.{◌≡◌, [], IfOk, string_bytes};
 ghost use Rattle.mctpctl_explain.specs.Reasons.{ExplainsDevice, ExplainsLine, ExplainsNumbered, IsLineReason};
 ghost use Rattle.mctpctl_input.specs.OutsideFaults.{IsOutside};
 
+use crate::back_in_time::back_in_time;
 use crate::description::explain_description;
 use crate::divided::{Divided, numbered_line};
 use crate::timing::explain_timing;
@@ -104,9 +105,12 @@ fn line_reason(
 ) -> Result<String, Memory>
     ensures { IfOk result (λ text. IsLineReason kind (string_bytes text)) }
 {
+    if let LineKind::BackInTime = kind {
+        return back_in_time(alloc, subject, line, before);
+    }
     match subject {
-        Subject::Run => schedule_line::explain_line(alloc, line, before, kind),
-        Subject::Answer | Subject::Show => capture_line::explain_line(alloc, line, before, kind),
+        Subject::Run => schedule_line::explain_line(alloc, line, kind),
+        Subject::Answer | Subject::Show => capture_line::explain_line(alloc, line, kind),
     }
 }
 

@@ -17,7 +17,7 @@ use line_words::split_line;
 use mctp_packet::Memory;
 use pldm_device::Path;
 use std::alloc::{AllocError, Global};
-use toml::Table;
+use toml::{Table, Value};
 
 /// Warnings of an input, [`MAX_WARNINGS`] at most: keys of a description that are ignored, and lines of a
 /// capture that are a moment alone and look like a packet. None of them is a fault.
@@ -51,14 +51,6 @@ fn all_warnings(alloc: Global, subject: Subject, input: &[u8]) -> Result<Vec<Str
     Ok(found)
 }
 
-/// Adds a warning, unless there are as many as may be.
-fn add(found: &mut Vec<String>, text: String) -> Result<(), Memory> {
-    if found.len() < MAX_WARNINGS {
-        found.push(text)?;
-    }
-    Ok(())
-}
-
 /// The lines of a capture that are a moment alone and look like a packet.
 fn forgotten_moments(
     alloc: Global,
@@ -82,13 +74,19 @@ fn warn_of_line(
     number: u64,
     found: &mut Vec<String>,
 ) -> Result<(), Memory> {
-    if !is_forgotten_moment(line) {
-        return Ok(());
+    if found.len() < MAX_WARNINGS && is_forgotten_moment(line) {
+        found.push(format!(in alloc;
+            "input line {number}: a moment alone, which looks like a packet: is the moment before it missing?"
+        )?)?;
     }
-    let text = format!(in alloc;
-        "input line {number}: a moment alone, which looks like a packet: is the moment before it missing?"
-    )?;
-    add(found, text)
+    Ok(())
+}
+
+/// A description, and the places of its keys.
+#[derive(Drop)]
+struct Described<'a> {
+    text: &'a [u8],
+    places: Vec<KeyPlace>,
 }
 
 /// The keys of a description that are ignored.
@@ -98,51 +96,23 @@ fn unknown_keys(alloc: Global, description: &[u8], found: &mut Vec<String>) -> R
         Err(error) if error.is_memory() => return Err(AllocError.into()),
         Err(_) => return Ok(()),
     };
-    let places = places_of(alloc, description)?;
-    for key in table.keys() {
-        let path = Path::whole().key(key.as_str());
-        warn_of_key(
-            alloc,
-            description,
-            &places,
-            path,
-            key.as_str(),
-            &TOP_KEYS,
-            found,
-        )?;
+    let described = Described {
+        text: description,
+        places: places_of(alloc, description)?,
+    };
+    warn_of_keys(alloc, &described, &table, Path::whole(), &TOP_KEYS, found)?;
+    if let Some(value) = table.get("records")
+        && let Some(records) = value.as_table()
+    {
+        let path = Path::table("records");
+        warn_of_keys(alloc, &described, records, path, &RECORDS_KEYS, found)?;
     }
-    unknown_in_records(alloc, description, &places, &table, found)?;
     for list in LISTS.iter() {
-        unknown_in_list(alloc, description, &places, &table, list, found)?;
-    }
-    Ok(())
-}
-
-/// The keys of the table `records` that are ignored.
-fn unknown_in_records(
-    alloc: Global,
-    description: &[u8],
-    places: &[KeyPlace],
-    table: &Table,
-    found: &mut Vec<String>,
-) -> Result<(), Memory> {
-    let Some(value) = table.get("records") else {
-        return Ok(());
-    };
-    let Some(records) = value.as_table() else {
-        return Ok(());
-    };
-    for key in records.keys() {
-        let path = Path::table("records").key(key.as_str());
-        warn_of_key(
-            alloc,
-            description,
-            places,
-            path,
-            key.as_str(),
-            &RECORDS_KEYS,
-            found,
-        )?;
+        if let Some(value) = table.get(*list)
+            && let Some(entries) = value.as_array()
+        {
+            unknown_in_list(alloc, &described, list, entries.as_slice(), found)?;
+        }
     }
     Ok(())
 }
@@ -150,49 +120,41 @@ fn unknown_in_records(
 /// The keys of the entries of a list that are ignored.
 fn unknown_in_list(
     alloc: Global,
-    description: &[u8],
-    places: &[KeyPlace],
-    table: &Table,
+    described: &Described<'_>,
     list: &str,
+    entries: &[Value],
     found: &mut Vec<String>,
 ) -> Result<(), Memory> {
-    let Some(value) = table.get(list) else {
-        return Ok(());
-    };
-    let Some(entries) = value.as_array() else {
-        return Ok(());
-    };
     for (place, entry) in entries.iter().enumerate() {
         if let Some(entry) = entry.as_table() {
-            for key in entry.keys() {
-                let path = Path::entry(list, place).key(key.as_str());
-                let known = entry_keys(list);
-                warn_of_key(alloc, description, places, path, key.as_str(), known, found)?;
-            }
+            let path = Path::entry(list, place);
+            warn_of_keys(alloc, described, entry, path, entry_keys(list), found)?;
         }
     }
     Ok(())
 }
 
-/// Warns of a key that is none of the known ones.
-fn warn_of_key(
+/// The keys of a table at this path that are ignored: those that are none of the known ones.
+fn warn_of_keys(
     alloc: Global,
-    description: &[u8],
-    places: &[KeyPlace],
+    described: &Described<'_>,
+    table: &Table,
     path: Path<'_>,
-    key: &str,
     known: &[&str],
     found: &mut Vec<String>,
 ) -> Result<(), Memory> {
-    if found.len() >= MAX_WARNINGS || known.contains(&key) {
-        return Ok(());
+    for key in table.keys() {
+        let key = key.as_str();
+        if found.len() < MAX_WARNINGS && !known.contains(&key) {
+            let path = path.key(key);
+            let place = place_text(alloc, described.text, &described.places, path)?;
+            let name = path_text(alloc, &path)?;
+            let name = quoted(alloc, name.as_bytes())?;
+            let hint = suggestion(alloc, key.as_bytes(), known)?;
+            found.push(format!(in alloc;
+                "{place}{name} is no key of a description, and is ignored{hint}"
+            )?)?;
+        }
     }
-    let place = place_text(alloc, description, places, path)?;
-    let name = path_text(alloc, &path)?;
-    let name = quoted(alloc, name.as_bytes())?;
-    let hint = suggestion(alloc, key.as_bytes(), known)?;
-    add(
-        found,
-        format!(in alloc; "{place}{name} is no key of a description, and is ignored{hint}")?,
-    )
+    Ok(())
 }

@@ -2,6 +2,7 @@
 #![tactic(auto)]
 
 mod allowed;
+mod back_in_time;
 mod capture_line;
 mod description;
 mod divided;

@@ -5,29 +5,22 @@ ghost use Rattle.mctpctl_explain.specs.Reasons.{IsLineReason};
 
 use crate::expected::refused_text;
 use crate::words::{quoted, words_of};
-use line_words::{read_decimal, split_line};
 use mctp_packet::Memory;
 use mctpctl_input::LineKind;
 use schedule_text::{LineFaultKind, Refusal, refusal_of};
 use std::alloc::Global;
 
-/// Says what is wrong with a line of a schedule that was refused for this, after these lines. Each kind opens with
-/// words of its own; where the line is not refused for this, nothing is said.
-pub(crate) fn explain_line(
-    alloc: Global,
-    line: &[u8],
-    before: &[u8],
-    kind: LineKind,
-) -> Result<String, Memory>
+/// Says what is wrong with a line of a schedule that was refused for this, but for a moment that goes back. Each kind
+/// opens with words of its own; where the line is not refused for this, nothing is said.
+pub(crate) fn explain_line(alloc: Global, line: &[u8], kind: LineKind) -> Result<String, Memory>
     ensures { IfOk result (λ text. IsLineReason kind (string_bytes text)) }
 {
     match kind {
         LineKind::Words => wrong_words(alloc, line),
         LineKind::Number => wrong_number(alloc, line),
-        LineKind::BackInTime => back_in_time(alloc, line, before),
         LineKind::NoSuchRequester => no_requester(alloc, line),
         LineKind::SameRequester => same_requester(alloc, line),
-        LineKind::LongLine | LineKind::BadHex => Ok(String::new(alloc)),
+        LineKind::LongLine | LineKind::BackInTime | LineKind::BadHex => Ok(String::new(alloc)),
     }
 }
 
@@ -69,35 +62,6 @@ fn wrong_number(alloc: Global, line: &[u8]) -> Result<String, Memory>
         }
         _ => Ok(String::new(alloc)),
     }
-}
-
-/// The moment of a line, and the one before it that is later.
-#[tactic(auto, using(crate::proofs::Explained::line_explained))]
-fn back_in_time(alloc: Global, line: &[u8], before: &[u8]) -> Result<String, Memory>
-    ensures { IfOk result (λ text. IsLineReason LineKind.BackInTime (string_bytes text)) }
-{
-    let words = words_of(alloc, line)?;
-    let [_, moment, ..] = words.as_slice() else {
-        return Ok(String::new(alloc));
-    };
-    let moment = quoted(alloc, moment)?;
-    let last = last_moment(alloc, before)?;
-    Ok(format!(in alloc; "the moment {moment} is before that of an earlier line, {last}")?)
-}
-
-/// The moment of the last step of these lines.
-fn last_moment(alloc: Global, lines: &[u8]) -> Result<u64, Memory> {
-    let mut last = 0;
-    let mut rest = lines;
-    while let Some((line, after)) = split_line(rest) {
-        if let [b"at", moment, ..] = words_of(alloc, line)?.as_slice()
-            && let Some(number) = read_decimal(moment)
-        {
-            last = number;
-        }
-        rest = after;
-    }
-    Ok(last)
 }
 
 /// The requester of a line, which no line before it is of.

@@ -1,6 +1,6 @@
 -- What is left becomes less.
 use Rattle.std.proofs.Common.{length}
-use Rattle.mctpctl_explain.proofs.schedule_line.last_moment.Given as goal
+use Rattle.mctpctl_explain.proofs.back_in_time.last_moment.Given as goal
 
 abbrev pub decreases-loop-line : goal.decreases-loop-line
 decreases-loop-line l = length l.rest

@@ -1,0 +1,55 @@
+//! Why the moment of a line, of a capture or of a schedule, is refused after those of the lines before it.
+
+ghost use Rattle.std.specs.Prelude.{IfOk, string_bytes};
+ghost use Rattle.mctpctl_explain.specs.Reasons.{IsLineReason};
+
+use crate::explanation::Subject;
+use crate::words::{quoted, words_of};
+use line_words::{read_decimal, split_line};
+use mctp_packet::Memory;
+use mctpctl_input::LineKind;
+use std::alloc::Global;
+
+/// The moment of a line, and the one before it that is later.
+#[tactic(auto, using(crate::proofs::Explained::line_explained))]
+pub(crate) fn back_in_time(
+    alloc: Global,
+    subject: Subject,
+    line: &[u8],
+    before: &[u8],
+) -> Result<String, Memory>
+    ensures { IfOk result (λ text. IsLineReason LineKind.BackInTime (string_bytes text)) }
+{
+    let words = words_of(alloc, line)?;
+    let Some(moment) = moment_word(subject, &words) else {
+        return Ok(String::new(alloc));
+    };
+    let found = quoted(alloc, moment)?;
+    let last = last_moment(alloc, subject, before)?;
+    Ok(format!(in alloc; "the moment {found} is before that of an earlier line, {last}")?)
+}
+
+/// The moment of the last of these lines that has one.
+fn last_moment(alloc: Global, subject: Subject, lines: &[u8]) -> Result<u64, Memory> {
+    let mut last = 0;
+    let mut rest = lines;
+    while let Some((line, after)) = split_line(rest) {
+        let words = words_of(alloc, line)?;
+        if let Some(word) = moment_word(subject, &words)
+            && let Some(moment) = read_decimal(word)
+        {
+            last = moment;
+        }
+        rest = after;
+    }
+    Ok(last)
+}
+
+/// The word of a line that is its moment.
+fn moment_word<'a>(subject: Subject, words: &[&'a [u8]]) -> Option<&'a [u8]> {
+    match (subject, words) {
+        (Subject::Run, [b"at", moment, ..]) => Some(*moment),
+        (Subject::Answer | Subject::Show, [moment, ..]) => Some(*moment),
+        _ => None,
+    }
+}
