@@ -1,7 +1,12 @@
-//! A line that gives these pieces, the clock beside it, and what was written.
+//! A line that gives these pieces, the clock beside it, what is asked on it, and what was written.
 
+use mctp_control::Query;
 use mctp_packet::{Eid, Keep};
+use mctpctl_ask::{
+    AskFault, Asked, AskingLine, BeginFault, Ended, ListTicks, Port, ask, ask_control, begin,
+};
 use pldm_requester::Timing;
+use pldm_wire::Command;
 use std::alloc::Global;
 use std::io;
 use std::io::{Error, ErrorKind, Read};
@@ -29,18 +34,21 @@ impl Read for Pieces<'_> {
 /// A read that gives nothing.
 pub const NOTHING: &[u8] = &[];
 
-/// The frame by which endpoint 8 asks device 9 for its terminus ID, as the help of `serve` has it.
-pub const QUESTION: &[u8] = &[
-    0x7E, 0x01, 0x08, 0x01, 0x09, 0x08, 0xC8, 0x01, 0x80, 0x00, 0x02, 0x0C, 0xA6, 0x7E,
-];
+/// What is asked.
+pub enum Question<'a> {
+    /// The command GetTID.
+    Command,
+    /// A control query, in so many tries of 100 ms each.
+    Query { query: &'a Query, tries: u8 },
+}
 
-/// The frame of the answer, as it has it.
-pub const ANSWER: &[u8] = &[
-    0x7E, 0x01, 0x0A, 0x01, 0x08, 0x09, 0xC0, 0x01, 0x00, 0x00, 0x02, 0x00, 0x01, 0x13, 0x13, 0x7E,
-];
-
-/// The message in it.
-pub const MESSAGE: &[u8] = &[0x01, 0x00, 0x00, 0x02, 0x00, 0x01];
+/// What came of a line: how it ended, the message of the answer where one came, and what was written.
+#[derive(Drop)]
+pub struct Outcome {
+    pub ended: Result<Ended, AskFault>,
+    pub answer: Vec<u8>,
+    pub written: Vec<u8>,
+}
 
 /// The endpoint that asks, and the device.
 pub fn ends(rt: &impl Abort) -> (Eid, Eid) {
@@ -51,7 +59,7 @@ pub fn ends(rt: &impl Abort) -> (Eid, Eid) {
 }
 
 /// A keeping time of 1,000 ms, a timeout of 300 ms, and 3 tries.
-pub fn timing(rt: &impl Abort) -> Timing {
+fn timing(rt: &impl Abort) -> Timing {
     Timing {
         keep: Keep::new(1_000).expect(rt, "a keeping time"),
         timeout: 300,
@@ -60,7 +68,7 @@ pub fn timing(rt: &impl Abort) -> Timing {
 }
 
 /// These pieces, after two reads that give nothing: twice the keeping time passes before anything is asked.
-pub fn settled<'a>(rt: &impl Abort, alloc: Global, pieces: &[&'a [u8]]) -> Vec<&'a [u8]> {
+fn settled<'a>(rt: &impl Abort, alloc: Global, pieces: &[&'a [u8]]) -> Vec<&'a [u8]> {
     let mut all = Vec::new(alloc);
     all.push(NOTHING).expect(rt, "memory");
     all.push(NOTHING).expect(rt, "memory");
@@ -69,7 +77,7 @@ pub fn settled<'a>(rt: &impl Abort, alloc: Global, pieces: &[&'a [u8]]) -> Vec<&
 }
 
 /// These readings of the clock, after those of the two reads, 50 and 2050.
-pub fn settled_clock(rt: &impl Abort, alloc: Global, readings: &[u64]) -> Vec<u64> {
+fn settled_clock(rt: &impl Abort, alloc: Global, readings: &[u64]) -> Vec<u64> {
     let mut all = Vec::new(alloc);
     all.push(50).expect(rt, "memory");
     all.push(2_050).expect(rt, "memory");
@@ -77,9 +85,91 @@ pub fn settled_clock(rt: &impl Abort, alloc: Global, readings: &[u64]) -> Vec<u6
     all
 }
 
-/// Checks that this frame was written so often, and nothing else.
-pub fn expect_written(rt: &impl Abort, written: &[u8], frame: &[u8], times: usize) {
-    let mut rest = written;
+/// Begins a line of endpoint 8 with device 9 (keeping time 1,000 ms, timeout 300 ms, 3 tries), and asks this. The first
+/// two reads give nothing, at the readings 50 and 2050.
+pub fn run_line(
+    rt: &impl Abort,
+    alloc: Global,
+    question: &Question<'_>,
+    pieces: &[&[u8]],
+    readings: &[u64],
+) -> Outcome {
+    let all = settled(rt, alloc, pieces);
+    let clock = settled_clock(rt, alloc, readings);
+    let mut reader = Port::new(Pieces {
+        pieces: &all,
+        taken: 0,
+    });
+    let mut writer = Port::new(Vec::new(alloc));
+    let (own, device) = ends(rt);
+    let ticks = ListTicks { readings: &clock };
+    let mut answer = Vec::new(alloc);
+    let ended = match begin(
+        alloc,
+        own,
+        device,
+        timing(rt),
+        ticks,
+        &mut reader,
+        &mut writer,
+    ) {
+        Ok(mut line) => put_question(
+            rt,
+            question,
+            &mut line,
+            &mut reader,
+            &mut writer,
+            &mut answer,
+        ),
+        Err(BeginFault::Line(fault)) => Err(fault),
+        Err(BeginFault::Timing(_)) => panic!(rt; "the timing was refused"),
+    };
+    Outcome {
+        ended,
+        answer,
+        written: writer.into_inner(),
+    }
+}
+
+/// Asks this on a line, and puts the message of the answer into `answer`.
+fn put_question(
+    rt: &impl Abort,
+    question: &Question<'_>,
+    line: &mut AskingLine<ListTicks<'_>>,
+    reader: &mut Port<Pieces<'_>>,
+    writer: &mut Port<Vec<u8>>,
+    answer: &mut Vec<u8>,
+) -> Result<Ended, AskFault> {
+    match question {
+        Question::Command => {
+            let Asked { number, ended } = ask(line, &Command::GetTid, reader, writer)?;
+            if let Some(message) = line.answer(number) {
+                answer.extend_from_slice(message).expect(rt, "memory");
+            }
+            Ok(ended)
+        }
+        Question::Query { query, tries } => {
+            let Some(message) = ask_control(line, query, 100, *tries, reader, writer)? else {
+                return Ok(Ended::GaveUp);
+            };
+            answer.extend_from_slice(&message).expect(rt, "memory");
+            Ok(Ended::Answered)
+        }
+    }
+}
+
+/// Checks how a question ended, with this answer, after this frame was written so often and nothing else.
+pub fn expect_end(
+    rt: &impl Abort,
+    outcome: &Outcome,
+    ended: Result<Ended, AskFault>,
+    answer: &[u8],
+    frame: &[u8],
+    times: usize,
+) {
+    assert_eq!(rt; outcome.ended, ended);
+    assert_eq!(rt; outcome.answer.as_slice(), answer);
+    let mut rest = outcome.written.as_slice();
     for _ in 0..times {
         rest = rest.strip_prefix(frame).expect(rt, "the frame once more");
     }

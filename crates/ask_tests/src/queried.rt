@@ -1,10 +1,10 @@
 //! One control query: when its frame goes out, and which answer is believed.
 
-use crate::lines::{NOTHING, Pieces, ends, expect_written, settled, settled_clock, timing};
+use crate::lines::{NOTHING, Outcome, Question, ends, expect_end, run_line};
 use mctp_control::{Command, Query};
 use mctp_packet::Tag;
 use mctp_serial::frame;
-use mctpctl_ask::{AskFault, ListTicks, Port, ask_control, begin};
+use mctpctl_ask::{AskFault, Ended};
 use std::alloc::Global;
 use std::process::Abort;
 
@@ -23,78 +23,22 @@ const ANSWER: &[u8] = &[
 /// The message in it.
 const MESSAGE: &[u8] = &[0x00, 0x05, 0x02, 0x00, 0x09, 0x00, 0x00];
 
-/// What came of a query: whether there was an answer, its message, and what was written.
-#[derive(Drop)]
-struct Outcome {
-    answered: Result<bool, AskFault>,
-    message: Vec<u8>,
-    written: Vec<u8>,
-}
-
-/// Begins a line of endpoint 8 with device 9, and asks for its endpoint ID: so many tries of 100 ms each. The first two
-/// reads give nothing, at the readings 50 and 2050.
-fn run_query(
-    rt: &impl Abort,
-    alloc: Global,
-    tries: u8,
-    pieces: &[&[u8]],
-    readings: &[u64],
-) -> Outcome {
-    let all = settled(rt, alloc, pieces);
-    let clock = settled_clock(rt, alloc, readings);
-    let mut reader = Port::new(Pieces {
-        pieces: &all,
-        taken: 0,
-    });
-    let mut writer = Port::new(Vec::new(alloc));
+/// Asks for the endpoint ID of device 9 over a line of these pieces, in so many tries.
+fn run(rt: &impl Abort, alloc: Global, tries: u8, pieces: &[&[u8]], readings: &[u64]) -> Outcome {
     let (own, device) = ends(rt);
     let tag = Tag::new(2).expect(rt, "a tag");
     let query = Query::new(own, device, tag, 5, Command::GetEndpointId);
-    let ticks = ListTicks { readings: &clock };
-    let mut message = Vec::new(alloc);
-    let Ok(mut line) = begin(
-        alloc,
-        own,
-        device,
-        timing(rt),
-        ticks,
-        &mut reader,
-        &mut writer,
-    ) else {
-        panic!(rt; "the line was not begun");
+    let question = Question::Query {
+        query: &query,
+        tries,
     };
-    let answered = match ask_control(&mut line, &query, 100, tries, &mut reader, &mut writer) {
-        Ok(Some(answer)) => {
-            message.extend_from_slice(&answer).expect(rt, "memory");
-            Ok(true)
-        }
-        Ok(None) => Ok(false),
-        Err(fault) => Err(fault),
-    };
-    Outcome {
-        answered,
-        message,
-        written: writer.into_inner(),
-    }
-}
-
-/// Checks whether a query was answered, with this message, after its frame went out so often.
-fn expect_end(
-    rt: &impl Abort,
-    outcome: &Outcome,
-    answered: Result<bool, AskFault>,
-    message: &[u8],
-    sent: usize,
-) {
-    assert_eq!(rt; outcome.answered, answered);
-    assert_eq!(rt; outcome.message.as_slice(), message);
-    expect_written(rt, &outcome.written, QUERY, sent);
+    run_line(rt, alloc, &question, pieces, readings)
 }
 
 #[test]
 fn an_answer_to_a_query(rt: HostRuntime) {
-    let got = run_query(&rt, rt.alloc(), 2, &[ANSWER], &[2_060]);
-    expect_end(&rt, &got, Ok(true), MESSAGE, 1);
+    let got = run(&rt, rt.alloc(), 2, &[ANSWER], &[2_060]);
+    expect_end(&rt, &got, Ok(Ended::Answered), MESSAGE, QUERY, 1);
 }
 
 #[test]
@@ -106,25 +50,32 @@ fn the_first_answer_in_pieces_after_a_retry(rt: HostRuntime) {
     let mut rest = Vec::new(rt.alloc());
     rest.extend_from_slice(&ANSWER[7..]).expect(&rt, "memory");
     rest.extend_from_slice(&refused).expect(&rt, "memory");
-    let got = run_query(
+    let got = run(
         &rt,
         rt.alloc(),
         2,
         &[NOTHING, NOTHING, &half, &rest],
         &[2_149, 2_150, 2_200, 2_249],
     );
-    expect_end(&rt, &got, Ok(true), MESSAGE, 2);
-    let got = run_query(&rt, rt.alloc(), 2, &[&refused], &[2_060]);
-    expect_end(&rt, &got, Ok(true), &[0x00, 0x05, 0x02, 0x01], 1);
+    expect_end(&rt, &got, Ok(Ended::Answered), MESSAGE, QUERY, 2);
+    let got = run(&rt, rt.alloc(), 2, &[&refused], &[2_060]);
+    expect_end(
+        &rt,
+        &got,
+        Ok(Ended::Answered),
+        &[0x00, 0x05, 0x02, 0x01],
+        QUERY,
+        1,
+    );
 }
 
 #[test]
 fn a_query_without_an_answer(rt: HostRuntime) {
     let readings = [2_149, 2_150, 2_249, 2_250];
-    let got = run_query(&rt, rt.alloc(), 2, &[NOTHING; 4], &readings);
-    expect_end(&rt, &got, Ok(false), &[], 2);
-    let got = run_query(&rt, rt.alloc(), 0, &[NOTHING; 2], &readings);
-    expect_end(&rt, &got, Ok(false), &[], 1);
+    let got = run(&rt, rt.alloc(), 2, &[NOTHING; 4], &readings);
+    expect_end(&rt, &got, Ok(Ended::GaveUp), &[], QUERY, 2);
+    let got = run(&rt, rt.alloc(), 0, &[NOTHING; 2], &readings);
+    expect_end(&rt, &got, Ok(Ended::GaveUp), &[], QUERY, 1);
 }
 
 #[test]
@@ -146,19 +97,19 @@ fn answers_to_other_queries(rt: HostRuntime) {
         let whole = frame(packet).expect(&rt, "a frame");
         bytes.extend_from_slice(&whole).expect(&rt, "memory");
     }
-    let got = run_query(&rt, rt.alloc(), 1, &[&bytes, ANSWER], &[2_060, 2_070]);
-    expect_end(&rt, &got, Ok(true), MESSAGE, 1);
-    let got = run_query(&rt, rt.alloc(), 1, &[&bytes, NOTHING], &[2_060, 2_150]);
-    expect_end(&rt, &got, Ok(false), &[], 1);
+    let got = run(&rt, rt.alloc(), 1, &[&bytes, ANSWER], &[2_060, 2_070]);
+    expect_end(&rt, &got, Ok(Ended::Answered), MESSAGE, QUERY, 1);
+    let got = run(&rt, rt.alloc(), 1, &[&bytes, NOTHING], &[2_060, 2_150]);
+    expect_end(&rt, &got, Ok(Ended::GaveUp), &[], QUERY, 1);
 }
 
 #[test]
 fn a_query_on_a_line_that_fails(rt: HostRuntime) {
-    let got = run_query(&rt, rt.alloc(), 2, &[NOTHING], &[2_150]);
-    expect_end(&rt, &got, Err(AskFault::Read), &[], 2);
-    let got = run_query(&rt, rt.alloc(), 2, &[ANSWER], &[]);
-    expect_end(&rt, &got, Err(AskFault::Clock), &[], 1);
+    let got = run(&rt, rt.alloc(), 2, &[NOTHING], &[2_150]);
+    expect_end(&rt, &got, Err(AskFault::Read), &[], QUERY, 2);
+    let got = run(&rt, rt.alloc(), 2, &[ANSWER], &[]);
+    expect_end(&rt, &got, Err(AskFault::Clock), &[], QUERY, 1);
     let readings = [2_051, 2_052, 2_053, 2_054, 2_055, 2_056, 2_057, 2_058];
-    let got = run_query(&rt, rt.alloc(), 2, &[NOTHING; 8], &readings);
-    expect_end(&rt, &got, Err(AskFault::LineEnded), &[], 1);
+    let got = run(&rt, rt.alloc(), 2, &[NOTHING; 8], &readings);
+    expect_end(&rt, &got, Err(AskFault::LineEnded), &[], QUERY, 1);
 }
