@@ -143,6 +143,8 @@ pub(crate) fn read_request<'a>(
 }
 
 /// `EID COMMAND`.
+// Inlined: of a refusal a schedule that is read keeps the kind alone.
+#[inline(always)]
 pub(crate) fn read_open<'a>(words: &mut Words<'a>) -> Result<Action, Refusal<'a>>
     ensures { kinds result ≡ open_of words.old }
 {
