@@ -20,8 +20,8 @@ set_fan effecter percent = SetNumericEffecterValue effecter (sized Uint8 percent
 abbrev read_degrees : Command
 read_degrees = GetSensorReading 1 0
 
-abbrev degrees_told : ℕ → Answer
-degrees_told degrees = answers.GetSensorReading 0 0 1 1 1 (sized Uint8 (pos degrees))
+abbrev degrees_answered : ℕ → Answer
+degrees_answered degrees = answers.GetSensorReading 0 0 1 1 1 (sized Uint8 (pos degrees))
 
 -- ---- time: the board begins with two still fans and 30 degrees
 
@@ -55,7 +55,7 @@ earlier_moment = refl
 first_transfer : board_after board_at_first 1000 (set_fan 1 (pos 60)) ≡ state (60 ∷ 0 ∷ []) 32 1000 1
 first_transfer = refl
 
-second_transfer : board_answer (state (60 ∷ 0 ∷ []) 32 1000 1) 11000 read_degrees ≡ degrees_told 42
+second_transfer : board_answer (state (60 ∷ 0 ∷ []) 32 1000 1) 11000 read_degrees ≡ degrees_answered 42
 second_transfer = refl
 
 third_transfer :
@@ -73,10 +73,10 @@ fourth_sets_nothing :
     board_after (state (60 ∷ 60 ∷ []) 43 12000 3) 12000 (set_fan 1 (pos 0)) ≡ state (60 ∷ 60 ∷ []) 43 12000 0
 fourth_sets_nothing = refl
 
-speed_told :
+speed_answered :
     board_answer (state (60 ∷ 40 ∷ []) 43 12000 1) 12000 (GetNumericEffecterValue 2)
     ≡ answers.GetNumericEffecterValue 1 (two_numbers (sized Uint8 (pos 40)) (sized Uint8 (pos 40)))
-speed_told = refl
+speed_answered = refl
 
 -- ---- commands that take no transfer: even where the next one fails, they are answered so, and leave the board
 

@@ -178,8 +178,8 @@ module _ (old : EndpointView) (moment : ℕ) (bytes : List ℕ) (idle : old.pend
         first_is x y h = cc
 
     -- the command that the endpoint returns is the one that was handed out
-    pub command_told : (command : Command) → Some command ≡ pending_command (pending_at middle.pending handle) → task.Perform command ≡ is.task
-    command_told command told = ap (λ o. task_in o a.request) (told ∙ ap pending_command found) ∙ task_is
+    pub command_handed : (command : Command) → Some command ≡ pending_command (pending_at middle.pending handle) → task.Perform command ≡ is.task
+    command_handed command told = ap (λ o. task_in o a.request) (told ∙ ap pending_command found) ∙ task_is
 
     -- what the board gave for it
     pub served_asked : TwoStepsAreOne → (board board_left : BoardState) (new : EndpointView) (task : Task) (given : Given) (outcome : Outcome)

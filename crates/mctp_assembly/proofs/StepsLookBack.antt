@@ -12,8 +12,8 @@ use Rattle.mctp_assembly.specs.declared.fed.Fed.{Fed}
 use Rattle.mctp_assembly.specs.declared.fed.Fed.TheVariants.{Whole, Partial, Dropped}
 use Rattle.mctp_assembly.proofs.RowsByStep.{in_front, row_in, message_in, shorter_than, rows_by_step, messages_by_step, rows_shorter, row_headed}
 
--- ---- what p gives by tests: s for SOM, e for EOM, f that its number follows, l that the row is at the limit, le that it
--- is no longer than the unit, eq that it has the unit's length
+-- ---- what p gives by tests: s for SOM, e for EOM, f that its number follows, l that the row is at the limit, le that
+-- it is no longer than the unit, eq that it has the unit's length
 abbrev alone : Bool → Bool → Packet → Fed
 alone s e p = cond s (cond e (Whole (record { items = p.payload })) Partial) (Dropped UnexpectedMiddleOrEnd)
 

@@ -1,4 +1,5 @@
--- What the packets of answers are, and what each brings its request: the answer where it completes it, else what assembly gives.
+-- What the packets of answers are, and what each brings its request: the answer where it completes it, else what
+-- assembly gives.
 use Rattle.std.proofs.Common.{◌≡◌, ◌⊎◌, ℕ, ◌+◌, ◌<◌, ◌≤◌, List, ◌∷◌, slice_get, Option, Some, None, Bool, true, false, Ok, refl, sym, ap, ◌∙◌, subst, inl, inr, arith}
 use Rattle.std.specs.Prelude.{◌&&◌, ◌==◌, nat_lt, if◌then◌else◌}
 use Rattle.std.proofs.lemmas.Bool.{and_left, and_right, and_from, cases_Bool, lt-ltb, cond-true, cond-false}

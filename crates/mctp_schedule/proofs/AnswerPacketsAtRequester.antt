@@ -1,5 +1,5 @@
--- What a packet on the way of a request's answers does at its requester, while the request's tag was not used again: it comes
--- to that request where it is open, and to none where it is not.
+-- What a packet on the way of a request's answers does at its requester, while the request's tag was not used again: it
+-- comes to that request where it is open, and to none where it is not.
 use Rattle.std.proofs.Common.{◌≡◌, ◌≢◌, ℕ, ◌+◌, ◌<◌, ◌≤◌, List, [], ◌∷◌, map, slice_get, Option, Some, None, true, false, Result, Ok, Err, refl, sym, ap, ◌∙◌, subst, arith, eq-eqb, zero-add}
 use Rattle.std.specs.Prelude.{◌==◌, is_some, if◌then◌else◌}
 use Rattle.std.specs.List.{range_with_len}

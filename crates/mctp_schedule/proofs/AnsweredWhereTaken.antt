@@ -1,4 +1,5 @@
--- Over a timely schedule each request was fed the packets that were delivered to it, and is answered exactly where it was taken.
+-- Over a timely schedule each request was fed the packets that were delivered to it, and is answered exactly where it
+-- was taken.
 use Rattle.std.proofs.Common.{◌≡◌, ◌≢◌, ◌⊎◌, ℕ, ◌<◌, ◌≤◌, List, [], ◌∷◌, map, slice_get, Option, Some, None, Bool, true, false, refl, sym, ap, ◌∙◌, subst, inl, inr, ⊎_elim, arith, eq-eqb}
 use Rattle.std.specs.Prelude.{◌&&◌, ◌||◌, ◌==◌, nat_lt, if◌then◌else◌}
 use Rattle.std.proofs.lemmas.Bool.{and_left, and_right, and_from, or_left, ne_eqb, cases_Bool, cases_eq, cases_lt, lt-ltb, le-ltb, cond-true, cond-false}

@@ -1,4 +1,5 @@
--- The device's half: over a log in order, with instance IDs apart and deliveries in time and in the window, a delivery is fresh exactly where it is the first.
+-- The device's half: over a log in order, with instance IDs apart and deliveries in time and in the window, a delivery
+-- is fresh exactly where it is the first.
 use Rattle.std.proofs.Common.{◌≡◌, ◌≢◌, ◌⊎◌, ℕ, ◌+◌, ◌*◌, ◌<◌, ◌≤◌, List, [], ◌∷◌, Some, None, Option, Bool, true, false, refl, sym, ap, ◌∙◌, subst, inl, inr, ⊎_elim, arith, eqb-true, eq-eqb}
 use Rattle.std.specs.Prelude.{not, ◌&&◌, ◌==◌, is_some, if◌then◌else◌, map}
 use Rattle.std.proofs.lemmas.Bool.{and_left, and_right, and_from, and_parts, not_from_true, not_from_false, ltb-false, eqb-false, ne_eqb, cases_Bool, cases_eq, cond-true, cond-false}

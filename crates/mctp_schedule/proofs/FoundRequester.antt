@@ -1,4 +1,5 @@
--- What a step that hands over the packet of an answer finds: the request of that number, and the requester that opened it.
+-- What a step that hands over the packet of an answer finds: the request of that number, and the requester that opened
+-- it.
 use Rattle.std.proofs.Common.{◌≡◌, ℕ, Bool, true, List, Some, sym, ap, ◌∙◌}
 use Rattle.std.specs.Prelude.{option_map, slice_get, slice_index_or}
 use Rattle.mctp_schedule.specs.Askers.{Side}

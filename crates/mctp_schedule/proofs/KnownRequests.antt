@@ -1,5 +1,5 @@
--- Each request of the log is the one of its number at its requester, with the message of the command that was opened, and no
--- two are the same one. The log grows by one happening at most.
+-- Each request of the log is the one of its number at its requester, with the message of the command that was opened,
+-- and no two are the same one. The log grows by one happening at most.
 use Rattle.std.proofs.Common.{◌≡◌, ◌≢◌, ◌⊎◌, ℕ, ◌<◌, ◌≤◌, List, [], ◌∷◌, Option, Some, None, Bool, true, false, Result, Ok, Err, refl, sym, ap, ◌∙◌, subst, inl, inr, ⊎_elim, arith, eqb-true, eq-eqb}
 use Rattle.std.specs.Prelude.{◌==◌, if◌then◌else◌}
 use Rattle.std.proofs.lemmas.Bool.{ne_eqb, cond-true, cond-false}

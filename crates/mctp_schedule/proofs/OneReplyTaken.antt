@@ -1,4 +1,5 @@
--- The requester's half of the link: what came to a request, what each packet of an answer gives, and what each request took.
+-- The requester's half of the link: what came to a request, what each packet of an answer gives, and what each request
+-- took.
 use Rattle.std.proofs.Common.{◌≡◌, ◌⊎◌, ℕ, suc, ◌<◌, ◌≤◌, List, [], ◌∷◌, slice_get, Option, Some, None, Bool, true, false, refl, sym, ap, ◌∙◌, subst, inl, inr, arith, eq-eqb, eqb-true}
 use Rattle.std.specs.Prelude.{◌||◌, ◌==◌, is_some, nat_lt, if◌then◌else◌}
 use Rattle.std.specs.List.{list_any}

@@ -1,5 +1,5 @@
--- The reply to a request that a requester opened is a response of its own instance ID and kind, so the requester takes it,
--- unless it says that the device is not ready.
+-- The reply to a request that a requester opened is a response of its own instance ID and kind, so the requester takes
+-- it, unless it says that the device is not ready.
 use Rattle.std.proofs.Common.{◌≡◌, ℕ, List, Bool, true, false, Ok, refl, sym, ap, ◌∙◌, arith, eq-eqb}
 use Rattle.std.specs.Prelude.{not, ◌==◌, if◌then◌else◌}
 use Rattle.std.proofs.lemmas.Bool.{and_from, cond-false}

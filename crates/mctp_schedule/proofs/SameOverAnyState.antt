@@ -1,5 +1,5 @@
--- Nothing on the link changes the device from outside, so what reached the responder has no state in it: when a delivery
--- is fresh, and when a request first arrived, is the same over devices of any two states.
+-- Nothing on the link changes the device from outside, so what reached the responder has no state in it: when a
+-- delivery is fresh, and when a request first arrived, is the same over devices of any two states.
 use Rattle.std.proofs.Common.{◌≡◌, ℕ, ◌+◌, List, [], ◌∷◌, Some, None, Option, Bool, true, false, refl, sym, ap, ◌∙◌}
 use Rattle.std.specs.Prelude.{not, nat_lt, bytes_eq, is_some, ◌&&◌, ◌==◌, if◌then◌else◌, map, take, option_map}
 use Rattle.std.specs.List.{take-map, list_any}

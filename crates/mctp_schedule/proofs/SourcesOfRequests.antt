@@ -1,5 +1,5 @@
--- The requests of the log come from the endpoints of the steps that open them, so what holds of each of these endpoints holds
--- of each source.
+-- The requests of the log come from the endpoints of the steps that open them, so what holds of each of these endpoints
+-- holds of each source.
 use Rattle.std.proofs.Common.{◌≡◌, ◌≢◌, ℕ, List, [], ◌∷◌, Some, Bool, true, false, refl, sym, ap, ◌∙◌, subst, ⊎_elim, eqb-true}
 use Rattle.std.specs.Prelude.{◌||◌, ◌==◌, if◌then◌else◌}
 use Rattle.std.specs.List.{AllByRecursion}

@@ -1,4 +1,5 @@
--- What is reported of a request stays over a step that brings it nothing: its one reply, the packets that came, and its progress.
+-- What is reported of a request stays over a step that brings it nothing: its one reply, the packets that came, and its
+-- progress.
 use Rattle.std.proofs.Common.{◌≡◌, ◌⊎◌, ℕ, List, [], ◌∷◌, map, Option, Some, None, Bool, true, false, refl, sym, ap, ◌∙◌, subst, inl, inr, arith}
 use Rattle.std.specs.Prelude.{◌&&◌, ◌==◌, nat_lt, if◌then◌else◌}
 use Rattle.std.proofs.lemmas.Bool.{and_right, or_from, le-ltb, cond-false}

@@ -1,5 +1,5 @@
--- What the definitions of the requester's half give over schedules that are written out, computed. The newest step stands
--- first.
+-- What the definitions of the requester's half give over schedules that are written out, computed. The newest step
+-- stands first.
 use Rattle.std.proofs.Common.{◌≡◌, ℕ, ℤ, pos, List, [], ◌∷◌, Some, None, true, false, refl, drop}
 use Rattle.std.specs.Prelude.{replicate, Err}
 use Rattle.mctp_packet.specs.declared.reason.Reason.TheVariants.{UnexpectedMiddleOrEnd, OutOfSequence, BadTag, NotReady}
@@ -249,7 +249,8 @@ second_stands : progress gauge (at 20 (Reply 0 1) ∷ at 20 (Reply 0 0) ∷ two_
 unfolding request_of command_of response_of
 second_stands = refl
 
--- ---- busy from the first on: no busy answer was given yet, then two, and the request is performed once the time is over
+-- ---- busy from the first on: no busy answer was given yet, then two, and the request is performed once the time is
+-- over
 abbrev opened_busy : List Step
 opened_busy = at 500 set_40 ∷ at 0 Restart ∷ []
 

@@ -1,6 +1,6 @@
--- Worked schedules over the example device, computed from what the headline owes: the entries, the requests that arrived
--- in the order of their first arrivals, the device's state and the one reply of a request. One that is not timely is
--- computed from the definitions of both ends. The newest step stands first.
+-- Worked schedules over the example device, computed from what the headline owes: the entries, the requests that
+-- arrived in the order of their first arrivals, the device's state and the one reply of a request. One that is not
+-- timely is computed from the definitions of both ends. The newest step stands first.
 use Rattle.std.proofs.Common.{◌≡◌, ℕ, pos, List, [], ◌∷◌, ◌++◌, map, Some, None, true, false, Bool, Ok, ◌+◌, replicate, refl}
 use Rattle.pldm_wire.specs.declared.busy_time.BusyTime.TheVariants.{All}
 use Rattle.mctp_packet.specs.declared.reason.Reason.TheVariants.{UnexpectedMiddleOrEnd, BadTag, NotReady}

@@ -1,6 +1,6 @@
--- Two requests of one endpoint, with instance IDs 0 and 1: the first is delivered, then the second, then the first again.
--- A window of two takes that for a copy, and the log is timely. A window of one performs the first request again, and the
--- log is not timely for it; it is where the first is delivered again before the second.
+-- Two requests of one endpoint, with instance IDs 0 and 1: the first is delivered, then the second, then the first
+-- again. A window of two takes that for a copy, and the log is timely. A window of one performs the first request
+-- again, and the log is not timely for it; it is where the first is delivered again before the second.
 use Rattle.std.proofs.Common.{◌≡◌, true, false, List, [], ◌∷◌, refl}
 use Rattle.pldm_wire.specs.declared.busy_time.BusyTime.TheVariants.{All}
 use Rattle.mctp_schedule.specs.FirstArrivals.{has_arrived}

@@ -1,5 +1,5 @@
--- Both ends over schedules that are written out, computed: endpoint 8 asks a light at endpoint 9, which keeps answers for a
--- second. The newest step stands first.
+-- Both ends over schedules that are written out, computed: endpoint 8 asks a light at endpoint 9, which keeps answers
+-- for a second. The newest step stands first.
 use Rattle.std.proofs.Common.{◌≡◌, ℕ, ℤ, pos, List, [], ◌∷◌, None, true, refl}
 use Rattle.pldm_wire.specs.CommandReading.{command_of}
 use Rattle.pldm_wire.specs.Numbers.{sized}
@@ -72,8 +72,8 @@ retry_is_timely : is_timely setting a_retry ≡ true
 unfolding request_of command_of response_of
 retry_is_timely = refl
 
--- a restart after a request was performed: its copy gets the busy answer, which its requester does not take; the latest reply
--- still comes
+-- a restart after a request was performed: its copy gets the busy answer, which its requester does not take; the latest
+-- reply still comes
 abbrev after_restart : List Step
 after_restart =
     at 210 (Busy 0) ∷ at 200 (Request 0) ∷ at 200 (Tick 8) ∷ at 100 Restart ∷ at 0 (Request 0) ∷ at 0 set_40 ∷ []

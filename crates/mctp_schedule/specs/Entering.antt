@@ -9,12 +9,12 @@ pub record AreChangedBy {A : Type 0} (change : ℕ → A → A) (old new : List 
   pub all : length new ≡ length old
   pub each : (number : ℕ) → slice_get new number ≡ option_map (change number) (slice_get old number)
 
--- what is due at a requester are requests of its own, which are so many
+-- each request that is due is one of the requester's first `count` ones, by its number among them
 pub record AreNumbered (count : ℕ) (due : Due) : Type 0 where
   pub again : AllByRecursion (λ own. own < count) due.again.items
   pub given_up : AllByRecursion (λ own. own < count) due.given_up.items
 
--- no request came to the device or was answered
+-- what came to the device, what it performed and whether all was timely are as before
 pub record HasSameTraffic (old new : Journal) : Type 0 where
   pub traffic : new.traffic.items ≡ old.traffic.items
   pub order : new.order.items ≡ old.order.items

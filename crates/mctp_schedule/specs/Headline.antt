@@ -37,7 +37,8 @@ module _ {S : Type 0} (setting : BothEnds S) where
       Delivered (is_busy setting.keep (reached {S = S} log) moment)
       (delivery_expected setting.device setting.keep setting.start setting.eid log moment k r)
 
-  -- what the entry of an action owes after these steps; what an open and a tick owe is by their requester's calls
+  -- the entry that an action has to have after these steps; that of an open and of a tick is what the calls of their
+  -- requester give
   abbrev pub entry_owes : List Step → ℕ → Action → Entry
   entry_owes past moment (actions.Request k) = delivery_owes past moment k (asked_at (world setting past).log k)
   entry_owes past moment (actions.Reply j k) = got_entry (reply_expected setting past k j)

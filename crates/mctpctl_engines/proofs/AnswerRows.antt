@@ -12,7 +12,8 @@ use Rattle.pldm_wire.specs.Requests.{request_of}
 use Rattle.pldm_wire.specs.declared.busy_time.BusyTime.TheVariants.{All}
 use Rattle.pldm_wire.specs.declared.size.Size.TheVariants.{Uint8}
 
--- device 9, without its record: sensor 1 at 40, numeric effecter 1 at 10 of 0 to 100, state effecter 2 of two fields at 1 and 1
+-- device 9, without its record: sensor 1 at 40, numeric effecter 1 at 10 of 0 to 100, state effecter 2 of two fields at
+-- 1 and 1
 abbrev example : Description
 example = record {
   eid = 9;

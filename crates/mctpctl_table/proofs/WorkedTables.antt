@@ -34,11 +34,11 @@ power_name =
     ∷ 0 ∷ 114 ∷ 0 ∷ 0 ∷ []
 
 -- enabled, in state 1
-power_told : List ℕ
-power_told = 1 ∷ 0 ∷ 2 ∷ 33 ∷ 0 ∷ 1 ∷ 0 ∷ 1 ∷ 1 ∷ 1 ∷ []
+power_answer : List ℕ
+power_answer = 1 ∷ 0 ∷ 2 ∷ 33 ∷ 0 ∷ 1 ∷ 0 ∷ 1 ∷ 1 ∷ 1 ∷ []
 
-row : table_text (rows_of power (power_name ∷ []) (Some power_told)) ≡ codes "sensor 5  Power  state 1 (set 260: 1, 5)  enabled\n"
-unfolding power power_name power_told data_rows field_row field_rows name_cell names_of name_text units_text and_then byte_at flag_at list_at number_at refused entity_at sensor_names_at all_names_end each_name_end each_names_end is_all name_end names_end tag_end text_end text_to state_sensor_at composite_at possible_states_at sets_at success_of response_of listed operation_text possible_from state_value_text line digits encode_utf8 utf16_chars
+row : table_text (rows_of power (power_name ∷ []) (Some power_answer)) ≡ codes "sensor 5  Power  state 1 (set 260: 1, 5)  enabled\n"
+unfolding power power_name power_answer data_rows field_row field_rows name_cell names_of name_text units_text and_then byte_at flag_at list_at number_at refused entity_at sensor_names_at all_names_end each_name_end each_names_end is_all name_end names_end tag_end text_end text_to state_sensor_at composite_at possible_states_at sets_at success_of response_of listed operation_text possible_from state_value_text line digits encode_utf8 utf16_chars
 row = refl
 
 -- no message came
@@ -54,9 +54,9 @@ inlet =
     ∷ 0 ∷ 0 ∷ 3 ∷ 0 ∷ 0 ∷ 0 ∷ 0 ∷ 0 ∷ 0 ∷ 0 ∷ 0 ∷ 0 ∷ 0 ∷ 0 ∷ 0 ∷ 0 ∷ 0 ∷ 0 ∷ 0 ∷ 0 ∷ 0 ∷ 0 ∷ []
 
 -- disabled, in the state upperWarning, 415
-inlet_told : List ℕ
-inlet_told = 1 ∷ 0 ∷ 2 ∷ 17 ∷ 0 ∷ 3 ∷ 1 ∷ 0 ∷ 8 ∷ 1 ∷ 8 ∷ 159 ∷ 1 ∷ []
+inlet_answer : List ℕ
+inlet_answer = 1 ∷ 0 ∷ 2 ∷ 17 ∷ 0 ∷ 3 ∷ 1 ∷ 0 ∷ 8 ∷ 1 ∷ 8 ∷ 159 ∷ 1 ∷ []
 
-warm : table_text (rows_of inlet (power_name ∷ []) (Some inlet_told)) ≡ codes "sensor 2  -  41.5 degrees_c  upperWarning, disabled\n"
-unfolding power_name inlet inlet_told data_rows numeric_row name_cell names_of and_then byte_at signed_byte_at flag_at list_at number_at sized_at size_at refused entity_at units_at conversion_at sensor_range_at format_at numeric_sensor_at sensor_names_at all_names_end each_name_end each_names_end is_all name_end names_end tag_end text_end text_to success_of response_of operation_text present_text line digits value_text value_of unit_text unit_name electric_unit_name real32_decimal fewest size_text
+warm : table_text (rows_of inlet (power_name ∷ []) (Some inlet_answer)) ≡ codes "sensor 2  -  41.5 degrees_c  upperWarning, disabled\n"
+unfolding power_name inlet inlet_answer data_rows numeric_row name_cell names_of and_then byte_at signed_byte_at flag_at list_at number_at sized_at size_at refused entity_at units_at conversion_at sensor_range_at format_at numeric_sensor_at sensor_names_at all_names_end each_name_end each_names_end is_all name_end names_end tag_end text_end text_to success_of response_of operation_text present_text line digits value_text value_of unit_text unit_name electric_unit_name real32_decimal fewest size_text
 warm = refl

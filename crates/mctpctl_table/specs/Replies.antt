@@ -12,12 +12,12 @@ use Rattle.pldm_wire.specs.declared.answer_reading.AnswerFault.{AnswerFault}
 use Rattle.pldm_wire.specs.declared.state_fields.EffecterStateField.{EffecterStateField}
 use Rattle.pldm_wire.specs.declared.state_fields.SensorStateField.{SensorStateField}
 use Rattle.mctpctl_table.specs.declared.reply.Reply.{Reply}
-use Rattle.mctpctl_table.specs.declared.reply.Reply.TheVariants.{Silence, Wrong, Told}
+use Rattle.mctpctl_table.specs.declared.reply.Reply.TheVariants.{Silence, Wrong, Answered}
 use Rattle.mctpctl_table.specs.declared.reading.NumericReading.{NumericReading}
 use Rattle.mctpctl_table.specs.declared.reading.StateReading.{StateReading}
 
 abbrev pub of_answer : Result Answer AnswerFault → Reply
-of_answer (Ok answer) = Told answer
+of_answer (Ok answer) = Answered answer
 of_answer (Err fault) = Wrong
 
 abbrev pub of_response : TypeAndCommand → Result Response Reason → Reply
@@ -31,9 +31,9 @@ reply_to kind (Some bytes) = of_response kind (response_of bytes)
 
 -- what a numeric sensor or effecter says: the present value, and of a sensor its present state
 abbrev pub numeric_reading : Reply → Option NumericReading
-numeric_reading (Told (GetSensorReading operational enable present previous event reading)) =
+numeric_reading (Answered (GetSensorReading operational enable present previous event reading)) =
     Some (record { value = reading.value; state = Some present; operational = operational })
-numeric_reading (Told (GetNumericEffecterValue operational values)) =
+numeric_reading (Answered (GetNumericEffecterValue operational values)) =
     Some (record { value = values.present.value; state = None; operational = operational })
 numeric_reading reply = None
 
@@ -51,6 +51,6 @@ field_at reading count place fields =
     if length fields == count then option_map reading (slice_get fields place) else None
 
 abbrev pub state_reading : ℕ → ℕ → Reply → Option StateReading
-state_reading count place (Told (GetStateSensorReadings fields)) = field_at of_sensor count place fields
-state_reading count place (Told (GetStateEffecterStates fields)) = field_at of_effecter count place fields
+state_reading count place (Answered (GetStateSensorReadings fields)) = field_at of_sensor count place fields
+state_reading count place (Answered (GetStateEffecterStates fields)) = field_at of_effecter count place fields
 state_reading count place reply = None

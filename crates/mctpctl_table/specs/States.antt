@@ -13,7 +13,7 @@ use Rattle.pldm_wire.specs.declared.answer.Answer.TheVariants.{Refused}
 use Rattle.pldm_wire.specs.declared.assigned.TheConstants.{PLATFORM, GET_SENSOR_READING, GET_STATE_SENSOR_READINGS}
 use Rattle.pldm_wire.specs.declared.assigned.TheConstants.{GET_NUMERIC_EFFECTER_VALUE, GET_STATE_EFFECTER_STATES}
 use Rattle.mctpctl_table.specs.declared.reply.Reply.{Reply}
-use Rattle.mctpctl_table.specs.declared.reply.Reply.TheVariants.{Silence, Wrong, Told}
+use Rattle.mctpctl_table.specs.declared.reply.Reply.TheVariants.{Silence, Wrong, Answered}
 use Rattle.mctpctl_table.specs.declared.thing.Thing.{Thing}
 use Rattle.mctpctl_table.specs.declared.thing.Thing.TheVariants.{Sensor, Effecter}
 
@@ -57,12 +57,12 @@ states_text thing None operational = operation_text thing operational
 unfoldable pub refused_text : TypeAndCommand → ℕ → List ℕ
 refused_text kind code = codes "refused" ++ code_word (code_name kind code) code
 
-unfoldable pub not_told_text : TypeAndCommand → Answer → List ℕ
-not_told_text kind (Refused code) = refused_text kind code
-not_told_text kind answer = codes "wrong answer"
+unfoldable pub not_read_text : TypeAndCommand → Answer → List ℕ
+not_read_text kind (Refused code) = refused_text kind code
+not_read_text kind answer = codes "wrong answer"
 
 abbrev pub missing_text : TypeAndCommand → Reply → List ℕ
-missing_text kind (Told answer) = not_told_text kind answer
+missing_text kind (Answered answer) = not_read_text kind answer
 missing_text kind Silence = codes "no answer"
 missing_text kind Wrong = codes "wrong answer"
 

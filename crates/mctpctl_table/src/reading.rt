@@ -31,7 +31,7 @@ pub(crate) fn numeric_reading(reply: &Reply) -> Option<NumericReading>
     ensures { result ≡ numeric_reading reply.now }
 {
     match reply {
-        Reply::Told(
+        Reply::Answered(
             Answer::GetSensorReading {
                 operational,
                 present,
@@ -43,7 +43,7 @@ pub(crate) fn numeric_reading(reply: &Reply) -> Option<NumericReading>
             state: Some(*present),
             operational: *operational,
         }),
-        Reply::Told(
+        Reply::Answered(
             Answer::GetNumericEffecterValue {
                 operational,
                 values,
@@ -62,10 +62,10 @@ pub(crate) fn state_reading(count: usize, place: usize, reply: &Reply) -> Option
     ensures { result ≡ state_reading count place reply.now }
 {
     match reply {
-        Reply::Told(Answer::GetStateSensorReadings { fields }) => {
+        Reply::Answered(Answer::GetStateSensorReadings { fields }) => {
             sensor_field(count, place, fields.as_slice())
         }
-        Reply::Told(Answer::GetStateEffecterStates { fields }) => {
+        Reply::Answered(Answer::GetStateEffecterStates { fields }) => {
             effecter_field(count, place, fields.as_slice())
         }
         _ => None,

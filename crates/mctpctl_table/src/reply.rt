@@ -15,7 +15,7 @@ pub(crate) enum Reply {
     /// A message that is no answer to the question.
     Wrong,
     /// The answer, a refusal or what was asked for.
-    Told(Answer),
+    Answered(Answer),
 }
 
 /// What a message is to a command, or that none came.
@@ -36,7 +36,7 @@ fn reply_in(command: &Command, bytes: &[u8]) -> Reply
         return Reply::Wrong;
     };
     match read_answer(command, &response) {
-        Ok(answer) => Reply::Told(answer),
+        Ok(answer) => Reply::Answered(answer),
         Err(_) => Reply::Wrong,
     }
 }

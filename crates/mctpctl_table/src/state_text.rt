@@ -4,7 +4,7 @@ ghost use Rattle.std.specs.Prelude.{◌≡◌, ◌++◌, ◌∷◌, [], IfOk, On
 ghost use Rattle.pldm_pdr.specs.StateSets.{has_state};
 ghost use Rattle.std.specs.Fmt.{decimal};
 ghost use Rattle.std.specs.List.{flat_map};
-ghost use Rattle.mctpctl_table.specs.States.{listed, missing_text, named, not_told_text, operation_text, possible_from, present_text, refused_text, state_value_text, states_text, unless_enabled};
+ghost use Rattle.mctpctl_table.specs.States.{listed, missing_text, named, not_read_text, operation_text, possible_from, present_text, refused_text, state_value_text, states_text, unless_enabled};
 
 use crate::reply::Reply;
 use crate::text::{push_number, push_text};
@@ -83,16 +83,16 @@ pub(crate) fn push_missing(out: &mut Vec<u8>, kind: Kind, reply: &Reply) -> Resu
     ensures { OnOk result (out.new.items ≡ out.old.items ++ missing_text kind reply.now) }
 {
     match reply {
-        Reply::Told(answer) => push_not_told(out, kind, answer),
+        Reply::Answered(answer) => push_not_read(out, kind, answer),
         Reply::Silence => push_text(out, "no answer"),
         Reply::Wrong => push_text(out, "wrong answer"),
     }
 }
 
 /// Adds why an answer has no value.
-#[tactic(auto, unfolding(crate::specs::States::not_told_text))]
-fn push_not_told(out: &mut Vec<u8>, kind: Kind, answer: &Answer) -> Result<(), Memory>
-    ensures { OnOk result (out.new.items ≡ out.old.items ++ not_told_text kind answer.now) }
+#[tactic(auto, unfolding(crate::specs::States::not_read_text))]
+fn push_not_read(out: &mut Vec<u8>, kind: Kind, answer: &Answer) -> Result<(), Memory>
+    ensures { OnOk result (out.new.items ≡ out.old.items ++ not_read_text kind answer.now) }
 {
     match answer {
         Answer::Refused(code) => push_refused(out, kind, code.get()),

@@ -33,7 +33,8 @@ put_behind old line p r end is =
     ap (λ t. t ++ r) (sym (append_assoc old line p)) ∙ append_assoc (old ++ line) p r in
     ap (take end) moved ∙ take_at (old ++ line) (p ++ r) end (omega (arith, is, length-append old line))
 
--- a vector that has got room for a line behind its text has the line there, once its digits are put in front of the room
+-- a vector that has got room for a line behind its text has the line there, once its digits are put in front of the
+-- room
 pub line_put : (old v room digits p r : List ℕ) (len start end count n : ℕ) → len ≡ length old → start ≡ len → end ≡ start + (n + 1) → count ≡ end
     → v ≡ take end old ++ replicate (end - len) 10 → length digits ≡ n → room ≡ digits ++ drop n (take (length v - start) (drop start v))
     → take count ((take start v ++ (room ++ p)) ++ r) ≡ old ++ (digits ++ 10 ∷ [])

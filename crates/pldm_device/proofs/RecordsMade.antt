@@ -5,7 +5,7 @@ use Rattle.std.specs.List.{All}
 use Rattle.std.proofs.lemmas.List.Elements.{All-nil, All-push}
 use Rattle.toml.specs.Data.{Members}
 use Rattle.pldm_wire.specs.declared.state_fields.SensorStateField.{SensorStateField}
-use Rattle.pldm_pdr.proofs.StatesAmong.{told}
+use Rattle.pldm_pdr.proofs.StatesAmong.{possible_where_among}
 use Rattle.pldm_pdr.specs.Records.{bytes_of, data_fits, platform_record}
 use Rattle.pldm_pdr.specs.declared.data.RecordData.{RecordData}
 use Rattle.pldm_pdr.specs.declared.entity.Entity.{Entity}
@@ -17,9 +17,9 @@ use Rattle.pldm_device.specs.Devices.{Device}
 use Rattle.pldm_device.specs.KeyValues.{◌>>=◌}
 use Rattle.pldm_device.specs.MadeRecords.{made_after, next_handle, record_bytes, record_made, with_made, with_room}
 use Rattle.pldm_device.specs.RecordEntries.{checked, with_record}
-use Rattle.pldm_device.specs.RecordLaws.{HandlesDiffer, HaveStates, HasStates, IsRecordOf, Tells}
+use Rattle.pldm_device.specs.RecordLaws.{HandlesDiffer, HaveStates, HasStates, IsRecordOf, Describes}
 use Rattle.pldm_device.specs.RecordKeys.{entity_at, name_at}
-use Rattle.pldm_device.specs.SensorRecords.{possible, sensor_named, states_told, thing_made}
+use Rattle.pldm_device.specs.SensorRecords.{possible, sensor_named, states_of_field, thing_made}
 use Rattle.pldm_device.specs.EffecterRecords.{effecter_named}
 use Rattle.pldm_device.specs.declared.description_fault.FileFault.{FileFault}
 use Rattle.pldm_device.specs.declared.description_fault.FileFault.TheVariants.{BadRecord, OutOfRange}
@@ -45,11 +45,11 @@ passed false x y fault e = cc
 pub record IsMadeAfter (device : Device) (before : List (List ℕ)) (made : MadeRecords) : Type 0 where
   pub more : List (List ℕ)
   pub joined : made.records ≡ before ++ more
-  pub told : All (IsRecordOf device) more
+  pub described : All (IsRecordOf device) more
   pub differ : HandlesDiffer before → HandlesDiffer made.records
 
 pub none_made : (device : Device) (before : List (List ℕ)) → IsMadeAfter device before (made_after before)
-none_made device before = record { more = []; joined = sym (append-nil before); told = All-nil (IsRecordOf device); differ = λ h. h }
+none_made device before = record { more = []; joined = sym (append-nil before); described = All-nil (IsRecordOf device); differ = λ h. h }
 
 -- a step that is done
 abbrev done : {A : Type 0} → A → Result A FileFault
@@ -62,7 +62,7 @@ kept_records : (m after : MadeRecords) → done m ≡ Ok after → after.records
 kept_records m after e = ap (λ (x : MadeRecords). x.records) (sym (same_done m after e))
 
 -- one more
-pub one_made : (device : Device) (before : List (List ℕ)) (contents : RecordData) (made after : MadeRecords) → IsMadeAfter device before made → Tells device contents → with_made contents made ≡ Ok after → IsMadeAfter device before after
+pub one_made : (device : Device) (before : List (List ℕ)) (contents : RecordData) (made after : MadeRecords) → IsMadeAfter device before made → Describes device contents → with_made contents made ≡ Ok after → IsMadeAfter device before after
 unfolding with_made
 one_made device before contents made after h tells e =
     let a = came (next_handle made.last_handle) (λ handle. record_made contents handle >>= λ pdr. with_room made.records >>= λ room. with_record room pdr >>= λ records. Ok (record { records = records; last_handle = handle })) after e in
@@ -80,7 +80,7 @@ one_made device before contents made after h tells e =
     record {
       more = h.more ++ pdr ∷ [];
       joined = records ∙ sym added ∙ ap (λ (x : List (List ℕ)). x ++ pdr ∷ []) (sym room ∙ h.joined) ∙ append_assoc before h.more (pdr ∷ []);
-      told = All-push (IsRecordOf device) h.more pdr h.told (record { handle = handle; contents = contents; spelled = sym whole ∙ sym bytes; told = tells });
+      described = All-push (IsRecordOf device) h.more pdr h.described (record { handle = handle; contents = contents; spelled = sym whole ∙ sym bytes; described = tells });
       differ = λ distinct. subst (λ (x : List (List ℕ)). HandlesDiffer x) (sym records) (still_differ c.value pdr d.value d.first (subst (λ (x : List (List ℕ)). HandlesDiffer x) room (h.differ distinct)));
     }
 
@@ -114,18 +114,18 @@ states_at state_set [] place list set e g = cc
 states_at state_set (first ∷ lists) zero list set e g =
     let same : first ≡ list = cc in
     let made : possible state_set first ≡ set = cc in
-    subst (λ (x : List ℕ). HasStates x set) same (subst (λ (x : PossibleStates). HasStates first x) made (λ state. told first state))
+    subst (λ (x : List ℕ). HasStates x set) same (subst (λ (x : PossibleStates). HasStates first x) made (λ state. possible_where_among first state))
 states_at state_set (first ∷ lists) (suc place) list set e g = states_at state_set lists place list set e g
 
 pub sets_have_states : (state_set : ℕ) (lists : List (List ℕ)) → HaveStates lists (map (possible state_set) lists)
 sets_have_states state_set lists = record { count = length_map state_set lists; states = states_at state_set lists }
 
-pub twice_mapped : (state_set : ℕ) (fields : List SensorStateField) → map (possible state_set) (map states_told fields) ≡ map (λ field. possible state_set (states_told field)) fields
+pub twice_mapped : (state_set : ℕ) (fields : List SensorStateField) → map (possible state_set) (map states_of_field fields) ≡ map (λ field. possible state_set (states_of_field field)) fields
 twice_mapped state_set [] = refl
-twice_mapped state_set (field ∷ fields) = ap (λ (x : List PossibleStates). possible state_set (states_told field) ∷ x) (twice_mapped state_set fields)
+twice_mapped state_set (field ∷ fields) = ap (λ (x : List PossibleStates). possible state_set (states_of_field field) ∷ x) (twice_mapped state_set fields)
 
 -- the records of a thing are more, where its own describes the device, and so does that of its name
-pub thing_step : (device : Device) (before : List (List ℕ)) (default : Entity) (entry : Members) (own : Entity → Bool → Result RecordData FileFault) (named : Option (List ℕ) → MadeRecords → Result MadeRecords FileFault) (made after : MadeRecords) → ((entity : Entity) (has_name : Bool) (contents : RecordData) → own entity has_name ≡ Ok contents → Tells device contents) → ((name : Option (List ℕ)) (more last : MadeRecords) → IsMadeAfter device before more → named name more ≡ Ok last → IsMadeAfter device before last) → IsMadeAfter device before made → thing_made default entry own named made ≡ Ok after → IsMadeAfter device before after
+pub thing_step : (device : Device) (before : List (List ℕ)) (default : Entity) (entry : Members) (own : Entity → Bool → Result RecordData FileFault) (named : Option (List ℕ) → MadeRecords → Result MadeRecords FileFault) (made after : MadeRecords) → ((entity : Entity) (has_name : Bool) (contents : RecordData) → own entity has_name ≡ Ok contents → Describes device contents) → ((name : Option (List ℕ)) (more last : MadeRecords) → IsMadeAfter device before more → named name more ≡ Ok last → IsMadeAfter device before last) → IsMadeAfter device before made → thing_made default entry own named made ≡ Ok after → IsMadeAfter device before after
 thing_step device before default entry own named made after tells names h e =
     let a = came (name_at entry) (λ name. entity_at default entry >>= λ entity. own entity (is_some name) >>= λ contents. with_made contents made >>= λ more. named name more) after e in
     let b = came (entity_at default entry) (λ entity. own entity (is_some a.value) >>= λ contents. with_made contents made >>= λ more. named a.value more) after a.next in

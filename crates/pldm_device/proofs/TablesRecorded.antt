@@ -10,7 +10,7 @@ use Rattle.pldm_device.specs.Entries.{entries_at}
 use Rattle.pldm_device.specs.KeyValues.{◌>>=◌, table_in}
 use Rattle.pldm_device.specs.MadeRecords.{made_after, with_made}
 use Rattle.pldm_device.specs.RecordKeys.{entity_at, name_at}
-use Rattle.pldm_device.specs.RecordLaws.{HandlesDiffer, HasMade, IsRecordOf, MadeRecordsTell, Tells}
+use Rattle.pldm_device.specs.RecordLaws.{HandlesDiffer, HasMade, IsRecordOf, MadeRecordsDescribe, Describes}
 use Rattle.pldm_device.specs.RecordTables.{all_made, each_made, entity_named, entry_made, key_of, kind_made, no_entity, recorded, records_if_there, table_made, terminus_located, terminus_made, things_made, with_records}
 use Rattle.pldm_device.specs.declared.made_records.MadeRecords.{MadeRecords}
 use Rattle.pldm_device.specs.declared.record_table.Kind.{Kind}
@@ -64,7 +64,7 @@ terminus_step eid device before entity name after e =
 record HasMore (device : Device) (before after : List (List ℕ)) : Type 0 where
   pub more : List (List ℕ)
   pub joined : after ≡ before ++ more
-  pub told : All (IsRecordOf device) more
+  pub described : All (IsRecordOf device) more
   pub differ : HandlesDiffer before → HandlesDiffer after
 
 all_step : (eid : ℕ) (document : Members) (device : Device) (entity : Entity) (name : Option (List ℕ)) (before after : List (List ℕ)) → all_made eid document device entity name before ≡ Ok after → HasMore device before after
@@ -73,7 +73,7 @@ all_step eid document device entity name before after e =
     let a = came (terminus_made eid device.tid entity name before) (λ located. things_made device entity document located >>= λ made. Ok made.records) after e in
     let b = came (things_made device entity document a.value) (λ made. Ok made.records) after a.next in
     let made = things_step device before entity document a.value b.value (terminus_step eid device before entity name a.value a.first) b.first in
-    subst (λ (x : List (List ℕ)). HasMore device before x) (same_done b.value.records after b.next) (record { more = made.more; joined = made.joined; told = made.told; differ = made.differ })
+    subst (λ (x : List (List ℕ)). HasMore device before x) (same_done b.value.records after b.next) (record { more = made.more; joined = made.joined; described = made.described; differ = made.differ })
 
 table_step : (eid : ℕ) (document : Members) (device : Device) (before : List (List ℕ)) (table : Members) (after : List (List ℕ)) → table_made eid document device before table ≡ Ok after → HasMore device before after
 unfolding table_made
@@ -84,31 +84,31 @@ table_step eid document device before table after e =
 
 -- what is said of a device does not hang on its records
 
-told_again : (device : Device) (ones others : List (List ℕ)) (contents : RecordData) → Tells (recorded device ones) contents → Tells (recorded device others) contents
-told_again device ones others (records.TerminusLocator pdr) t = t
-told_again device ones others (records.NumericSensor pdr) t = record { sensor = t.sensor; answered = t.answered; size = t.size; range = t.range }
-told_again device ones others (records.StateSensor pdr) t = record { fields = t.fields; answered = t.answered; possible = t.possible }
-told_again device ones others (records.SensorNames pdr) t = t
-told_again device ones others (records.NumericEffecter pdr) t = record { effecter = t.effecter; found = t.found; answered = t.answered; size = t.size; min = t.min; max = t.max }
-told_again device ones others (records.StateEffecter pdr) t = record { effecter = t.effecter; found = t.found; answered = t.answered; possible = t.possible }
-told_again device ones others (records.EffecterNames pdr) t = t
-told_again device ones others (records.EntityNames pdr) t = tt
+described_again : (device : Device) (ones others : List (List ℕ)) (contents : RecordData) → Describes (recorded device ones) contents → Describes (recorded device others) contents
+described_again device ones others (records.TerminusLocator pdr) t = t
+described_again device ones others (records.NumericSensor pdr) t = record { sensor = t.sensor; answered = t.answered; size = t.size; range = t.range }
+described_again device ones others (records.StateSensor pdr) t = record { fields = t.fields; answered = t.answered; possible = t.possible }
+described_again device ones others (records.SensorNames pdr) t = t
+described_again device ones others (records.NumericEffecter pdr) t = record { effecter = t.effecter; found = t.found; answered = t.answered; size = t.size; min = t.min; max = t.max }
+described_again device ones others (records.StateEffecter pdr) t = record { effecter = t.effecter; found = t.found; answered = t.answered; possible = t.possible }
+described_again device ones others (records.EffecterNames pdr) t = t
+described_again device ones others (records.EntityNames pdr) t = tt
 
 record_again : (device : Device) (ones others : List (List ℕ)) (bytes : List ℕ) → IsRecordOf (recorded device ones) bytes → IsRecordOf (recorded device others) bytes
-record_again device ones others bytes h = record { handle = h.handle; contents = h.contents; spelled = h.spelled; told = told_again device ones others h.contents h.told }
+record_again device ones others bytes h = record { handle = h.handle; contents = h.contents; spelled = h.spelled; described = described_again device ones others h.contents h.described }
 
 found_table : (eid : ℕ) (document : Members) (device made : Device) (found : Option Data) → records_if_there eid document device found ≡ Ok made → HasMade device.records made
 found_table eid document device made None e =
-    subst (λ (d : Device). HasMade device.records d) (same_done device made e) (record { more = []; joined = sym (append-nil device.records); told = All-nil (IsRecordOf device) })
+    subst (λ (d : Device). HasMade device.records d) (same_done device made e) (record { more = []; joined = sym (append-nil device.records); described = All-nil (IsRecordOf device) })
 found_table eid document device made (Some value) e =
     let a = came (table_in value) (λ table. table_made eid document (recorded device []) device.records table >>= λ records. Ok (recorded device records)) made e in
     let b = came (table_made eid document (recorded device []) device.records a.value) (λ records. Ok (recorded device records)) made a.next in
     let h = table_step eid document (recorded device []) device.records a.value b.value b.first in
     subst (λ (d : Device). HasMade device.records d) (same_done (recorded device b.value) made b.next)
-    (record { more = h.more; joined = h.joined; told = λ k d within. record_again device [] b.value (slice_index_or h.more k d) (h.told k d within) })
+    (record { more = h.more; joined = h.joined; described = λ k d within. record_again device [] b.value (slice_index_or h.more k d) (h.described k d within) })
 
-pub records_tell : MadeRecordsTell
-records_tell eid document device made e = found_table eid document device made (get_member (codes "records") document) e
+pub records_describe : MadeRecordsDescribe
+records_describe eid document device made e = found_table eid document device made (get_member (codes "records") document) e
 
 -- handles that differ before still do
 made_differ : (eid : ℕ) (document : Members) (device made : Device) (found : Option Data) → records_if_there eid document device found ≡ Ok made → HandlesDiffer device.records → HandlesDiffer made.records

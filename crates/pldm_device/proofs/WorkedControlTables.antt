@@ -82,6 +82,6 @@ unfolding description_on_literals control_of control_table_of
 two_versions = refl
 
 -- the keys are looked at in their order, not in that of the text
-the_first_key_is_told_first : control_of (codes "[control]\nbase_version = 1\nuuid = '0'\n") ≡ Err BadHex
+the_first_key_is_reported_first : control_of (codes "[control]\nbase_version = 1\nuuid = '0'\n") ≡ Err BadHex
 unfolding description_on_literals control_of control_table_of
-the_first_key_is_told_first = refl
+the_first_key_is_reported_first = refl

@@ -41,9 +41,9 @@ text_for_a_number : stated (codes "eid = '9'\nkeep_ms = 1000\ntid = 1\n") ≡ Er
 unfolding description_on_literals
 text_for_a_number = refl
 
-the_first_key_is_told_first : stated (codes "eid = 300\n") ≡ Err OutOfRange
+the_first_key_is_reported_first : stated (codes "eid = 300\n") ≡ Err OutOfRange
 unfolding description_on_literals
-the_first_key_is_told_first = refl
+the_first_key_is_reported_first = refl
 
 no_keeping_time : stated (codes "eid = 8\ntid = 255\n") ≡ Err MissingKey
 unfolding description_on_literals
@@ -57,7 +57,8 @@ below_zero : stated (codes "eid = 8\nkeep_ms = -1\ntid = 1\n") ≡ Err OutOfRang
 unfolding description_on_literals
 below_zero = refl
 
--- each range of a description: the greatest number is taken, so that the next key is missing, and the next number is refused
+-- each range of a description: the greatest number is taken, so that the next key is missing, and the next number is
+-- refused
 
 endpoint_ids : (stated (codes "eid = 7\n") ≡ Err OutOfRange) × (stated (codes "eid = 8\n") ≡ Err MissingKey)
     × (stated (codes "eid = 254\n") ≡ Err MissingKey) × (stated (codes "eid = 255\n") ≡ Err OutOfRange)

@@ -79,11 +79,11 @@ refusal_changes_nothing device (GetStateEffecterStates effecter) code refused = 
 refusal_changes_nothing device GetPdrRepositoryInfo code refused = refl
 refusal_changes_nothing device (GetPdr handle transfer flag count change) code refused = refl
 
-told_to :
+outcome_to :
     (kind : TypeAndCommand) (done : Answer) (outcome : Result Device ℕ)
     → IsAnswerTo kind done → IsAnswerTo kind (outcome_answered done outcome)
-told_to kind done (Ok changed) h = h
-told_to kind done (Err refusal) h = tt
+outcome_to kind done (Ok changed) h = h
+outcome_to kind done (Err refusal) h = tt
 
 versions_to :
     (transfer flag pldm_type : ℕ) (versions : Option (List ℕ))
@@ -118,11 +118,11 @@ part_to :
 part_to handle transfer flag count change next pdr None = tt
 part_to handle transfer flag count change next pdr (Some offset) = refl
 
-told_part_to :
+found_record_to :
     (handle transfer flag count change next : ℕ) (pdr : Option (List ℕ))
     → IsAnswerTo (kind_of (GetPdr handle transfer flag count change)) (record_answered next transfer flag count pdr)
-told_part_to handle transfer flag count change next None = tt
-told_part_to handle transfer flag count change next (Some pdr) =
+found_record_to handle transfer flag count change next None = tt
+found_record_to handle transfer flag count change next (Some pdr) =
     part_to handle transfer flag count change next pdr (offset_asked flag transfer pdr)
 
 place_to :
@@ -131,7 +131,7 @@ place_to :
     (record_answer_at transfer flag count records place)
 place_to handle transfer flag count change records None = tt
 place_to handle transfer flag count change records (Some place) =
-    told_part_to handle transfer flag count change (handle_at (place + 1) records) (slice_get records place)
+    found_record_to handle transfer flag count change (handle_at (place + 1) records) (slice_get records place)
 
 record_to :
     (handle transfer flag count change : ℕ) (records : List (List ℕ)) (nothing other : Bool)
@@ -145,7 +145,7 @@ record_to handle transfer flag count change records false false =
     place_to handle transfer flag count change records (position_asked handle records)
 
 pub answers_the_command : (device : Device) (command : Command) → IsAnswerTo (kind_of command) (answer device command)
-answers_the_command device (SetTid tid) = told_to _ _ (tid_set tid device) refl
+answers_the_command device (SetTid tid) = outcome_to _ _ (tid_set tid device) refl
 answers_the_command device GetTid = refl
 answers_the_command device (GetPldmVersion transfer flag pldm_type) =
     version_to transfer flag pldm_type device (nat_lt GET_FIRST_PART flag) (flag == GET_NEXT_PART)
@@ -161,13 +161,13 @@ answers_the_command device (GetStateSensorReadings sensor rearm) =
     as (λ found. IsAnswerTo (kind_of (GetStateSensorReadings sensor rearm)) (state_sensor_answered found))
     [ None ↦ tt | Some x ↦ refl ]
 answers_the_command device (SetNumericEffecterValue effecter value) =
-    told_to _ _ (number_set effecter value device) refl
+    outcome_to _ _ (number_set effecter value device) refl
 answers_the_command device (GetNumericEffecterValue effecter) =
     elim (with_id effecter device.numeric_effecters)
     as (λ found. IsAnswerTo (kind_of (GetNumericEffecterValue effecter)) (numeric_effecter_answered found))
     [ None ↦ tt | Some x ↦ refl ]
 answers_the_command device (SetStateEffecterStates effecter fields) =
-    told_to _ _ (states_set effecter fields device) refl
+    outcome_to _ _ (states_set effecter fields device) refl
 answers_the_command device (GetStateEffecterStates effecter) =
     elim (with_id effecter device.state_effecters)
     as (λ found. IsAnswerTo (kind_of (GetStateEffecterStates effecter)) (state_effecter_answered found))

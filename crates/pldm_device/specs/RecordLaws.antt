@@ -24,7 +24,7 @@ use Rattle.pldm_device.specs.DeviceAnswers.{answer}
 use Rattle.pldm_device.specs.Devices.{Device}
 use Rattle.pldm_device.specs.EffecterAnswers.{effecter_field}
 use Rattle.pldm_device.specs.RecordTables.{with_records}
-use Rattle.pldm_device.specs.SensorRecords.{states_told}
+use Rattle.pldm_device.specs.SensorRecords.{states_of_field}
 use Rattle.pldm_device.specs.StateEffecters.{FieldsOfStates}
 use Rattle.pldm_device.specs.declared.description.Description.{Description}
 use Rattle.pldm_device.specs.declared.limits.TheConstants.{EFFECTER_ENABLED, NO_EVENTS, SENSOR_ENABLED}
@@ -33,7 +33,7 @@ use Rattle.pldm_device.specs.declared.numeric.NumericSensor.{NumericSensor}
 
 -- The device answers for the sensor of the record with a reading of the record's data size, each number of which is in
 -- the record's range.
-pub record TellsNumericSensor (device : Device) (pdr : sensor_record.NumericSensor) : Type 0 where
+pub record DescribesNumericSensor (device : Device) (pdr : sensor_record.NumericSensor) : Type 0 where
   pub sensor : NumericSensor
   pub answered :
       (rearm : ℕ) → answer device (commands.GetSensorReading pdr.sensor_id rearm)
@@ -44,7 +44,7 @@ pub record TellsNumericSensor (device : Device) (pdr : sensor_record.NumericSens
 
 -- The device answers for the effecter of the record with a value of the record's data size, and takes the record's
 -- range.
-pub record TellsNumericEffecter (device : Device) (pdr : effecter_record.NumericEffecter) : Type 0 where
+pub record DescribesNumericEffecter (device : Device) (pdr : effecter_record.NumericEffecter) : Type 0 where
   pub effecter : NumericEffecter
   pub found : with_id pdr.effecter_id device.numeric_effecters ≡ Some effecter
   pub answered :
@@ -66,15 +66,15 @@ pub record HaveStates (lists : List (List ℕ)) (sets : List PossibleStates) : T
       → slice_get sets place ≡ Some set → HasStates list set
 
 -- The device answers for the sensor of the record with these fields, whose states are the possible ones.
-pub record TellsStateSensor (device : Device) (pdr : StateSensor) : Type 0 where
+pub record DescribesStateSensor (device : Device) (pdr : StateSensor) : Type 0 where
   pub fields : List SensorStateField
   pub answered :
       (rearm : ℕ) → answer device (commands.GetStateSensorReadings pdr.sensor_id rearm)
       ≡ answers.GetStateSensorReadings fields
-  pub possible : HaveStates (map states_told fields) pdr.sets.items
+  pub possible : HaveStates (map states_of_field fields) pdr.sets.items
 
 -- The device answers for the effecter of the record, whose fields can take the possible states.
-pub record TellsStateEffecter (device : Device) (pdr : StateEffecter) : Type 0 where
+pub record DescribesStateEffecter (device : Device) (pdr : StateEffecter) : Type 0 where
   pub effecter : FieldsOfStates
   pub found : with_id pdr.effecter_id device.state_effecters ≡ Some effecter
   pub answered :
@@ -83,24 +83,24 @@ pub record TellsStateEffecter (device : Device) (pdr : StateEffecter) : Type 0 w
   pub possible : HaveStates effecter.allowed pdr.sets.items
 
 -- a record names an ID that the device answers, and says of it what the device does
-abbrev pub Tells : Device → RecordData → Type 0
-Tells device (records.TerminusLocator pdr) = answer device commands.GetTid ≡ answers.GetTid pdr.tid
-Tells device (records.NumericSensor pdr) = TellsNumericSensor device pdr
-Tells device (records.StateSensor pdr) = TellsStateSensor device pdr
-Tells device (records.SensorNames pdr) =
+abbrev pub Describes : Device → RecordData → Type 0
+Describes device (records.TerminusLocator pdr) = answer device commands.GetTid ≡ answers.GetTid pdr.tid
+Describes device (records.NumericSensor pdr) = DescribesNumericSensor device pdr
+Describes device (records.StateSensor pdr) = DescribesStateSensor device pdr
+Describes device (records.SensorNames pdr) =
     IsTrue (has_id pdr.sensor_id device.numeric_sensors || has_id pdr.sensor_id device.state_sensors)
-Tells device (records.NumericEffecter pdr) = TellsNumericEffecter device pdr
-Tells device (records.StateEffecter pdr) = TellsStateEffecter device pdr
-Tells device (records.EffecterNames pdr) =
+Describes device (records.NumericEffecter pdr) = DescribesNumericEffecter device pdr
+Describes device (records.StateEffecter pdr) = DescribesStateEffecter device pdr
+Describes device (records.EffecterNames pdr) =
     IsTrue (has_id pdr.effecter_id device.numeric_effecters || has_id pdr.effecter_id device.state_effecters)
-Tells device (records.EntityNames pdr) = Unit {0}
+Describes device (records.EntityNames pdr) = Unit {0}
 
 -- the bytes spell such a record
 pub record IsRecordOf (device : Device) (bytes : List ℕ) : Type 0 where
   pub handle : ℕ
   pub contents : RecordData
   pub spelled : bytes ≡ bytes_of (platform_record handle 0 contents)
-  pub told : Tells device contents
+  pub described : Describes device contents
 
 -- handles are distinct: each is another than all before it
 
@@ -114,11 +114,11 @@ HandlesDiffer records = AllPairs HaveOtherHandles records
 pub record HasMade (before : List (List ℕ)) (made : Device) : Type 0 where
   pub more : List (List ℕ)
   pub joined : made.records ≡ before ++ more
-  pub told : All (IsRecordOf made) more
+  pub described : All (IsRecordOf made) more
 
 -- The records that a description has made come after those that it states, and each describes the device.
-abbrev pub MadeRecordsTell : Type 0
-MadeRecordsTell =
+abbrev pub MadeRecordsDescribe : Type 0
+MadeRecordsDescribe =
     (eid : ℕ) (document : Members) (device made : Device) → with_records eid document device ≡ Ok made
     → HasMade device.records made
 

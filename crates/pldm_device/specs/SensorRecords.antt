@@ -139,8 +139,8 @@ numeric_sensor_made sensors default entry made = do
       (sensor_named id 1) made
 
 -- the states that a field of a sensor reports
-abbrev pub states_told : SensorStateField → List ℕ
-states_told field = field.present ∷ field.previous ∷ field.event ∷ []
+abbrev pub states_of_field : SensorStateField → List ℕ
+states_of_field field = field.present ∷ field.previous ∷ field.event ∷ []
 
 -- these states of the state set
 abbrev pub possible : ℕ → List ℕ → PossibleStates
@@ -155,7 +155,7 @@ state_sensor_of id fields entity has_name state_set = record {
   entity = entity;
   init = 0;
   has_auxiliary_names = has_name;
-  sets = kept (map (λ field. possible state_set (states_told field)) fields);
+  sets = kept (map (λ field. possible state_set (states_of_field field)) fields);
 }
 
 abbrev pub state_sensor_data : ℕ → List SensorStateField → Entity → Bool → Members → Result RecordData FileFault

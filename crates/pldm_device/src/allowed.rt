@@ -4,7 +4,7 @@
 #[derive(Clone, Copy, Debug, PartialEq, Eq)]
 pub enum Allowed {
     /// Nothing is said of it.
-    Untold,
+    Unstated,
     /// `true` or `false`.
     Flag,
     /// A table.

@@ -27,7 +27,7 @@ pub(crate) fn read_document(alloc: Global, bytes: &[u8]) -> Result<Table, Refusa
             if error.is_memory() {
                 Err(AllocError.into())
             } else {
-                Err(Refusal::new(FileFault::Toml, Path::whole(), Allowed::Untold))
+                Err(Refusal::new(FileFault::Toml, Path::whole(), Allowed::Unstated))
             }
         }
     }

@@ -1,13 +1,13 @@
 //! Laws of the records that a description has made, over the definitions alone: each is the contract of a function that
 //! does nothing.
 
-ghost use Rattle.pldm_device.specs.RecordLaws.{DescribedHandlesDiffer, MadeRecordsTell, RecordsAreCounted};
+ghost use Rattle.pldm_device.specs.RecordLaws.{DescribedHandlesDiffer, MadeRecordsDescribe, RecordsAreCounted};
 
 /// Each record that the table `records` has made names an ID that the device answers: of a numeric sensor or effecter
 /// with the data size and the range that the device has, of one of states with its possible states and no others. The
 /// made records come after those that the description states.
 pub fn made_records_tell_of_the_device()
-    ensures { MadeRecordsTell }
+    ensures { MadeRecordsDescribe }
 {}
 
 /// No two records of a description's device have one handle, whether it states them or has made them; and the device

@@ -54,7 +54,7 @@ impl From<FileFault> for Refusal {
 
     /// The refusal that says no more than its fault.
     fn from(fault: FileFault) -> Refusal {
-        Refusal::new(fault, Path::whole(), Allowed::Untold)
+        Refusal::new(fault, Path::whole(), Allowed::Unstated)
     }
 }
 

@@ -3,7 +3,7 @@
 ghost use Rattle.std.specs.Prelude.{◌≡◌, ◌≤◌, length, map, pos};
 ghost use Rattle.pldm_device.specs.FileFaults.{IsOrMemory};
 ghost use Rattle.pldm_device.specs.RecordKeys.{number_or};
-ghost use Rattle.pldm_device.specs.SensorRecords.{bit_if, conversion_of, normal_support, numeric_sensor_data, numeric_sensor_made, possible, range_support, sensor_named, sensor_range, state_sensor_data, state_sensor_made, states_told, supported_thresholds};
+ghost use Rattle.pldm_device.specs.SensorRecords.{bit_if, conversion_of, normal_support, numeric_sensor_data, numeric_sensor_made, possible, range_support, sensor_named, sensor_range, state_sensor_data, state_sensor_made, states_of_field, supported_thresholds};
 ghost use Rattle.toml.specs.View.{table_view};
 
 use crate::NumericSensor;
@@ -235,14 +235,17 @@ fn state_sensor_data(
         entity,
         init: 0,
         has_auxiliary_names: has_name,
-        sets: sets_told(state_set, fields),
+        sets: sets_of_fields(state_set, fields),
     }))
 }
 
 /// For each field the states that it reports.
-fn sets_told(state_set: u16, fields: &[SensorStateField]) -> ArrayVec<PossibleStates, MAX_STATES>
+fn sets_of_fields(
+    state_set: u16,
+    fields: &[SensorStateField],
+) -> ArrayVec<PossibleStates, MAX_STATES>
     requires { length fields.now ≤ MAX_STATES }
-    ensures { result.items ≡ map (λ field. possible state_set (states_told field)) fields.now }
+    ensures { result.items ≡ map (λ field. possible state_set (states_of_field field)) fields.now }
 {
     let mut sets = ArrayVec::new();
     for field in fields {

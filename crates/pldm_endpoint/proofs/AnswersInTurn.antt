@@ -1,5 +1,5 @@
--- An endpoint over any list of calls is a responder whose platform gives the answers that the device gave, once the device
--- has answered all that it performs.
+-- An endpoint over any list of calls is a responder whose platform gives the answers that the device gave, once the
+-- device has answered all that it performs.
 use Rattle.std.specs.FinMap as map
 use Rattle.std.proofs.Common.{◌≡◌, ℕ, ◌+◌, ◌⊎◌, inl, inr, Bool, true, false, cond, not, ◌&&◌, ◌==◌, List, [], ◌∷◌, length, Option, Some, None, IfSome, Result, Ok, Err, if◌then◌else◌, refl, sym, ap, ◌∙◌, subst, arith}
 use Rattle.std.specs.Prelude.{map as list_map, option_map, take}

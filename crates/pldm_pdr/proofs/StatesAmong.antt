@@ -83,8 +83,8 @@ not_among (first ∷ states) state h =
     let other : (first == state) ≡ false = ne_eqb first state (λ (same : first ≡ state). let bytes : first / 8 ≡ state / 8 = ap (λ (s : ℕ). s / 8) same in omega arith) in
     rw (other, not_among states state (omega arith)) refl
 
-pub told : (states : List ℕ) (state : ℕ) → has_state (bits_in states (last_byte states + 1)) state ≡ is_among states state
-told states state =
+pub possible_where_among : (states : List ℕ) (state : ℕ) → has_state (bits_in states (last_byte states + 1)) state ≡ is_among states state
+possible_where_among states state =
     let count = last_byte states + 1 in
     let place = state / 8 in
     elim (cases_lt place count) [

@@ -1,5 +1,5 @@
--- Requester 8 and its device 9, with a keeping time of 1000, a timeout of 200 and 3 tries: what a few calls give, computed
--- from the definitions. And the premises can be met.
+-- Requester 8 and its device 9, with a keeping time of 1000, a timeout of 200 and 3 tries: what a few calls give,
+-- computed from the definitions. And the premises can be met.
 use Rattle.std.specs.FinMap as map
 use Rattle.std.proofs.Common.{◌≡◌, ℕ, true, false, List, [], ◌∷◌, Some, None, Ok, Err, refl, sym, arith, lit≤}
 use Rattle.std.specs.Prelude.{nat_lt}

@@ -1,5 +1,5 @@
--- The definitions, computed on what endpoints 8 and 10 send to endpoint 9, which keeps answers for a second: a light whose
--- numeric effecter is set. Lists of calls have the newest first.
+-- The definitions, computed on what endpoints 8 and 10 send to endpoint 9, which keeps answers for a second: a light
+-- whose numeric effecter is set. Lists of calls have the newest first.
 use Rattle.std.specs.FinMap as map
 use Rattle.std.proofs.Common.{◌≡◌, ℕ, ℤ, pos, true, false, List, [], ◌∷◌, refl}
 use Rattle.std.specs.List.{IsDistinct}
@@ -167,7 +167,8 @@ served_again : outcome_of (Received 1099 set_40 ∷ restarted) 1100 set_40 ≡ A
 unfolding request_of command_of
 served_again = refl
 
--- where only what sets is refused then, a command that asks is performed, and one that is not known is refused by its code
+-- where only what sets is refused then, a command that asks is performed, and one that is not known is refused by its
+-- code
 outcome_while_busy : List (Call ℤ) → ℕ → List ℕ → Outcome
 outcome_while_busy calls moment bytes = outcome light 9 (Sets (record { pldm_types = 0; unknown_commands = false })) 32 1000 (pos 0) calls moment bytes
 
@@ -285,8 +286,8 @@ restarted_one_is_left = record {
   last = refl;
 }
 
--- what the platform performs: the command of a fresh message, and none while the responder is busy or where the command is
--- not known
+-- what the platform performs: the command of a fresh message, and none while the responder is busy or where the command
+-- is not known
 abbrev came_at : ℕ → List ℕ → Arrival
 came_at moment bytes = Whole (message_of 8 0 moment bytes)
 

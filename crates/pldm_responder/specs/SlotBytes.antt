@@ -1,5 +1,5 @@
--- How a row stores its answers: each in its slot, or where its messages are long, at the slot's place among the long ones
--- of the row. The bytes of the message that came stand first, and behind them those of the one that answered it.
+-- How a row stores its answers: each in its slot, or where its messages are long, at the slot's place among the long
+-- ones of the row. The bytes of the message that came stand first, and behind them those of the one that answered it.
 use Rattle.std.specs.Prelude.{◌≡◌, ◌≢◌, ℕ, ◌+◌, ◌<◌, ◌≤◌, ◌⊎◌, nat_lt, List, [], ◌∷◌, ◌++◌, length, take, drop, map, replicate, count_by, slice_index_or, Option, Some, None, is_some, IsSome, IfSome, if◌then◌else◌, refl}
 use Rattle.std.specs.Coded.{Coded, code_by, coded×, coded_ℕ, coded_list}
 use Rattle.mctp_packet.specs.declared.TheConstants.{MAX_MESSAGE_BYTES}

@@ -94,8 +94,8 @@ get_tid_with_data = refl
 
 -- answers
 
-tid_told : answer_message 0 (of_type 0 2) (answers.GetTid 1) ≡ 0x01 ∷ 0x00 ∷ 0x00 ∷ 0x02 ∷ 0x00 ∷ 0x01 ∷ []
-tid_told = refl
+tid_answered : answer_message 0 (of_type 0 2) (answers.GetTid 1) ≡ 0x01 ∷ 0x00 ∷ 0x00 ∷ 0x02 ∷ 0x00 ∷ 0x01 ∷ []
+tid_answered = refl
 
 tid_taken : answer_message 1 (of_type 0 1) answers.SetTid ≡ 0x01 ∷ 0x01 ∷ 0x00 ∷ 0x01 ∷ 0x00 ∷ []
 tid_taken = refl
@@ -212,8 +212,8 @@ last_part : answer_of (of_type 2 0x51) (of_type 2 0x51) 0 (0 ∷ 0 ∷ 0 ∷ 0 �
 unfolding success_of
 last_part = refl
 
-values_told : answer_message 3 (of_type 2 0x32) (answers.GetNumericEffecterValue 1 (two_numbers (sized Uint8 (pos 40)) (sized Uint8 (pos 40)))) ≡ 0x01 ∷ 0x03 ∷ 0x02 ∷ 0x32 ∷ 0x00 ∷ 0x00 ∷ 0x01 ∷ 0x28 ∷ 0x28 ∷ []
-values_told = refl
+values_answered : answer_message 3 (of_type 2 0x32) (answers.GetNumericEffecterValue 1 (two_numbers (sized Uint8 (pos 40)) (sized Uint8 (pos 40)))) ≡ 0x01 ∷ 0x03 ∷ 0x02 ∷ 0x32 ∷ 0x00 ∷ 0x00 ∷ 0x01 ∷ 0x28 ∷ 0x28 ∷ []
+values_answered = refl
 
 -- names
 

@@ -164,7 +164,7 @@ const RECORD: &str = "0 010908c801800251000000000000000001ffff0000
 0 010908ca01820251000000002c01000000ffff0000
 ";
 
-fn record_told(alloc: Global) -> Result<String, AllocError> {
+fn record_answered(alloc: Global) -> Result<String, AllocError> {
     format!(in alloc;
         "0108098001000251000000000000000000052c01{}{:076}\n01080910{:0128}\n01080920{:0128}\n\
         01080930{:0128}\n01080940{:0120}\n\
@@ -193,7 +193,7 @@ const COPIES_TOLD: &str = "010809c10101023100
 /// Captures of the example device: what is reported at last is what is reported with all memory.
 #[test]
 fn each_growth_of_a_capture_is_refused_in_turn(rt: HostRuntime) -> Result<(), Fail> {
-    let record = record_told(rt.alloc())?;
+    let record = record_answered(rt.alloc())?;
     for (capture, want) in [
         (SEVERAL_PACKETS, SEVERAL_PACKETS_TOLD),
         (RECORD, record.as_str()),

@@ -3,11 +3,11 @@ use Rattle.std.proofs.Common.{◌≡◌, ◌+◌, ◌≤◌, length, ap, ◌∙�
 use Rattle.std.proofs.lemmas.Bool.{le-leb}
 use Rattle.pldm_pdr.specs.declared.limits.TheConstants.{MAX_STATE_BYTES}
 use Rattle.pldm_pdr.proofs.FittingTests.{join_and}
-use Rattle.pldm_pdr.proofs.StatesAmong.{length-bits_in, told}
+use Rattle.pldm_pdr.proofs.StatesAmong.{length-bits_in, possible_where_among}
 use Rattle.pldm_pdr.proofs.possible_states.PossibleStates.of.Goals as goal
 
 pub returns-clause-states : goal.returns-clause-states
-returns-clause-states c = λ state. rw (c.bits_in-bits.ensures, c.last_byte-count.ensures.value) (told c.args.states.now state)
+returns-clause-states c = λ state. rw (c.bits_in-bits.ensures, c.last_byte-count.ensures.value) (possible_where_among c.args.states.now state)
 
 pub returns-clause-fits : goal.returns-clause-fits
 returns-clause-fits c =
