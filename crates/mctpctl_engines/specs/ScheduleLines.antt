@@ -5,7 +5,7 @@ use Rattle.line_words.specs.TextLines.{lines_of}
 use Rattle.mctpctl_engines.specs.AnswerText.{described_run, divided_run, run_of}
 use Rattle.mctpctl_engines.specs.LinePieces.{LinesGive}
 use Rattle.mctpctl_engines.specs.RunText.{schedule_written, scheduled_run, stop_of_line}
-use Rattle.mctpctl_engines.specs.declared.ran.Ran.{Ran}
+use Rattle.mctpctl_engines.specs.declared.finished_run.FinishedRun.{FinishedRun}
 use Rattle.mctpctl_engines.specs.declared.schedule_lines.GoodLines.{GoodLines}
 use Rattle.mctpctl_engines.specs.declared.schedule_lines.ScheduleLines.{ScheduleLines}
 use Rattle.mctpctl_engines.specs.declared.schedule_lines.ScheduleLines.TheVariants.{Good, Refused, Ended}
@@ -60,10 +60,10 @@ ReportsText bytes written (Ok text) = (written.fault ≡ None) × (written.text 
 ReportsText bytes written (Err fault) = (fault ≡ no_memory) ⊎ ((fault ≢ no_memory) × (written ≡ stops_at fault))
 
 -- the text of a schedule and what came of it
-abbrev pub text_of_ran : Ran → List ℕ
-text_of_ran ran =
-    report_text ran.schedule.steps ran.report.entries ran.report.requests.items ran.report.order.items
-    (device_text ran.report.device) ran.report.timely
+abbrev pub text_of_finished : FinishedRun → List ℕ
+text_of_finished finished =
+    report_text finished.schedule.steps finished.report.entries finished.report.requests.items finished.report.order.items
+    (device_text finished.report.device) finished.report.timely
 
 -- a line with no bytes adds nothing to a schedule
 pub blank_schedule : (description : Description) (is_cut : Bool)

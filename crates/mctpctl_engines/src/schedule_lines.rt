@@ -4,12 +4,12 @@ ghost use Rattle.std.specs.Prelude.{◌≡◌, ◌⊎◌, ◌≤◌, ◌<◌, �
 ghost use Rattle.mctp_packet.specs.Memories.{out_of_memory};
 ghost use Rattle.mctpctl_engines.specs.LinePieces.{LineGoesOn};
 ghost use Rattle.mctpctl_engines.specs.RunText.{scheduled_run, stop_of_line};
-ghost use Rattle.mctpctl_engines.specs.ScheduleLines.{ReportsText, blank_schedule, cut_schedule, good_lines_write, lines_ended, may_keep_any, refused_line_writes, schedule_writes, text_of_ran};
+ghost use Rattle.mctpctl_engines.specs.ScheduleLines.{ReportsText, blank_schedule, cut_schedule, good_lines_write, lines_ended, may_keep_any, refused_line_writes, schedule_writes, text_of_finished};
 ghost use Rattle.mctpctl_engines.specs.PortFaults.{ReportsNoPort};
 
 use crate::described_lines::Described;
+use crate::finished_run::{FinishedRun, run_schedule, write_finished};
 use crate::line_run::LineTaker;
-use crate::ran::{Ran, run_schedule, write_ran};
 use mctp_schedule::{LineFault, LineFaultKind, Schedule};
 use mctpctl_input::{EngineFault, LineKind, MAX_INPUT, Port};
 use pldm_device::Description;
@@ -56,9 +56,9 @@ impl GoodLines {
     }
 
     /// Reads the last line, and runs the schedule.
-    fn run(self, alloc: Global, last: &[u8]) -> Result<Ran, EngineFault>
+    fn run(self, alloc: Global, last: &[u8]) -> Result<FinishedRun, EngineFault>
         requires { self.ended ≤ MAX_INPUT }
-        ensures meets { ReportsText text_of_ran (good_lines_write self false (last.now ∷ [])) result }
+        ensures meets { ReportsText text_of_finished (good_lines_write self false (last.now ∷ [])) result }
         ensures ports { ReportsNoPort result }
     {
         let GoodLines {
@@ -135,7 +135,7 @@ impl LineTaker for ScheduleLines {
         }
         match mem::replace(self, ScheduleLines::Ended) {
             ScheduleLines::Good(lines) => match lines.run(alloc, last) {
-                Ok(ran) => write_ran(writer, &ran),
+                Ok(finished) => write_finished(writer, &finished),
                 Err(fault) => Err(fault),
             },
             ScheduleLines::Refused(fault) => Err(stop_of_line(fault)),

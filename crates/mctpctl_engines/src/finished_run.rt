@@ -3,7 +3,7 @@
 ghost use Rattle.std.specs.Io.KnownBytes.{Appends};
 ghost use Rattle.std.specs.Prelude.{◌≡◌, Ok, IfErr, OnOk, false};
 ghost use Rattle.mctpctl_engines.specs.RunText.{schedule_written, stop_of_run};
-ghost use Rattle.mctpctl_engines.specs.ScheduleLines.{ReportsText, text_of_ran};
+ghost use Rattle.mctpctl_engines.specs.ScheduleLines.{ReportsText, text_of_finished};
 ghost use Rattle.mctpctl_input.specs.Ports.{inner_of, has_failed, ReportsFailed};
 ghost use Rattle.mctpctl_engines.specs.PortFaults.{ReportsNoPort};
 
@@ -26,7 +26,7 @@ fn stop_of_run(fault: RunFault) -> EngineFault
 
 /// A schedule, and what came of it.
 #[derive(Drop)]
-pub struct Ran {
+pub struct FinishedRun {
     schedule: Schedule,
     report: Report<SimDevice>,
 }
@@ -36,8 +36,8 @@ pub fn run_schedule(
     alloc: Global,
     description: Description,
     schedule: Schedule,
-) -> Result<Ran, EngineFault>
-    ensures meets { ReportsText text_of_ran (schedule_written description (Ok schedule)) result }
+) -> Result<FinishedRun, EngineFault>
+    ensures meets { ReportsText text_of_finished (schedule_written description (Ok schedule)) result }
     ensures ports { ReportsNoPort result }
 {
     let Description {
@@ -57,19 +57,22 @@ pub fn run_schedule(
         Ok(report) => report,
         Err(fault) => return Err(stop_of_run(fault)),
     };
-    Ok(Ran { schedule, report })
+    Ok(FinishedRun { schedule, report })
 }
 
 /// Writes the text of a run, part by part, which takes no memory.
-pub fn write_ran<W: Write>(writer: &mut Port<W>, ran: &Ran) -> Result<(), EngineFault>
+pub fn write_finished<W: Write>(
+    writer: &mut Port<W>,
+    finished: &FinishedRun,
+) -> Result<(), EngineFault>
     requires { has_failed writer.old ≡ false }
     ensures text { OnOk result (Appends (W.contents (inner_of writer.old)) (W.contents (inner_of writer.new))
-        (text_of_ran ran.now)) }
+        (text_of_finished finished.now)) }
     ensures fault { IfErr result (λ fault. fault ≡ EngineFault.Write) }
     ensures write { ReportsFailed EngineFault.Write result writer.new }
 {
-    let steps = ran.schedule.steps();
-    match write_report(writer, steps, &ran.report) {
+    let steps = finished.schedule.steps();
+    match write_report(writer, steps, &finished.report) {
         Ok(()) => Ok(()),
         Err(NotWritten) => Err(EngineFault::Write),
     }
