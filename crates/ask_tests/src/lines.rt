@@ -35,6 +35,7 @@ impl Read for Pieces<'_> {
 pub const NOTHING: &[u8] = &[];
 
 /// What is asked.
+#[derive(Drop)]
 pub enum Question<'a> {
     /// The command GetTID.
     Command,
