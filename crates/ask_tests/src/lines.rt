@@ -2,9 +2,7 @@
 
 use mctp_control::Query;
 use mctp_packet::{Eid, Keep};
-use mctpctl_ask::{
-    AskFault, Asked, AskingLine, BeginFault, Ended, ListTicks, Port, ask, ask_control, begin,
-};
+use mctpctl_ask::{AskFault, Asked, BeginFault, Ended, ListTicks, Port, ask, ask_control, begin};
 use pldm_requester::Timing;
 use pldm_wire::Command;
 use std::alloc::Global;
@@ -114,14 +112,29 @@ pub fn run_line(
         &mut reader,
         &mut writer,
     ) {
-        Ok(mut line) => put_question(
-            rt,
-            question,
-            &mut line,
-            &mut reader,
-            &mut writer,
-            &mut answer,
-        ),
+        Ok(mut line) => match question {
+            Question::Command => {
+                match ask(&mut line, &Command::GetTid, &mut reader, &mut writer) {
+                    Ok(Asked { number, ended }) => {
+                        if let Some(message) = line.answer(number) {
+                            answer.extend_from_slice(message).expect(rt, "memory");
+                        }
+                        Ok(ended)
+                    }
+                    Err(fault) => Err(fault),
+                }
+            }
+            Question::Query { query, tries } => {
+                match ask_control(&mut line, query, 100, *tries, &mut reader, &mut writer) {
+                    Ok(Some(message)) => {
+                        answer.extend_from_slice(&message).expect(rt, "memory");
+                        Ok(Ended::Answered)
+                    }
+                    Ok(None) => Ok(Ended::GaveUp),
+                    Err(fault) => Err(fault),
+                }
+            }
+        },
         Err(BeginFault::Line(fault)) => Err(fault),
         Err(BeginFault::Timing(_)) => panic!(rt; "the timing was refused"),
     };
@@ -129,33 +142,6 @@ pub fn run_line(
         ended,
         answer,
         written: writer.into_inner(),
-    }
-}
-
-/// Asks this on a line, and puts the message of the answer into `answer`.
-fn put_question(
-    rt: &impl Abort,
-    question: &Question<'_>,
-    line: &mut AskingLine<ListTicks<'_>>,
-    reader: &mut Port<Pieces<'_>>,
-    writer: &mut Port<Vec<u8>>,
-    answer: &mut Vec<u8>,
-) -> Result<Ended, AskFault> {
-    match question {
-        Question::Command => {
-            let Asked { number, ended } = ask(line, &Command::GetTid, reader, writer)?;
-            if let Some(message) = line.answer(number) {
-                answer.extend_from_slice(message).expect(rt, "memory");
-            }
-            Ok(ended)
-        }
-        Question::Query { query, tries } => {
-            let Some(message) = ask_control(line, query, 100, *tries, reader, writer)? else {
-                return Ok(Ended::GaveUp);
-            };
-            answer.extend_from_slice(&message).expect(rt, "memory");
-            Ok(Ended::Answered)
-        }
     }
 }
 
