@@ -665,7 +665,7 @@ enum needleoat_refusal {
     NEEDLEOAT_ID_IN_USE = 12,        /* the request 32 before was opened less than twice keep_ms ago */
     NEEDLEOAT_NOT_A_COMMAND = 13,    /* the bytes are no request that carries a command */
     NEEDLEOAT_TOO_MANY_SOURCES = 14, /* of a packet: as many sources have room for answers as may have */
-    NEEDLEOAT_TOO_MANY_OPEN_MESSAGES = 15 /* of a packet: it begins a message of several packets, and none may be open */
+    NEEDLEOAT_TOO_MANY_OPEN_MESSAGES = 15 /* of a packet: it begins a message of several, and none may be open */
 };
 
 /* ---- The answering end ----
@@ -702,8 +702,8 @@ struct needleoat_endpoint {
 enum needleoat_busy {
     NEEDLEOAT_BUSY_ALL = 0, /* each one with a good header */
     NEEDLEOAT_BUSY_SETS = 1 /* those with a good header whose command sets: SetTID, SetNumericEffecterValue,
-                               SetStateEffecterStates; and those that are handed on as bytes. A command that only asks is
-                               performed, also where it was performed before the restart */
+                               SetStateEffecterStates; and those that are handed on as bytes. A command that only asks
+                               is performed, also where it was performed before the restart */
 };
 
 /*
@@ -720,20 +720,20 @@ enum needleoat_busy {
  * window is right for which requester.
  */
 struct needleoat_endpoint_settings {
-    uint8_t own;               /* its endpoint ID, 8 to 254. Where `assigned`, the static one that Reset goes back to, or 0:
-                                  there is none */
+    uint8_t own;               /* its endpoint ID, 8 to 254. Where `assigned`, the static one that Reset goes back to,
+                                  or 0: there is none */
     bool first_start;          /* true only where this endpoint never ran before */
     uint32_t keep_ms;          /* how long an answer is kept for copies, 1 to 60,000 */
     uint32_t sources;          /* how many other endpoints have room for answers at most, `window` for each */
-    uint32_t open_messages;    /* how many messages of several packets have begun and not ended at most; for one more the
-                                  oldest ends */
+    uint32_t open_messages;    /* how many messages of several packets have begun and not ended at most; for one more
+                                  the oldest ends */
     uint32_t pending_commands; /* how many commands are pending at most; with 0 none is ever performed */
-    uint32_t window;           /* for how many instance IDs of a source answers are kept, 1 to 32; 0 stands for all 32 */
+    uint32_t window;           /* for how many instance IDs of a source answers are kept, 1 to 32; 0 stands for 32 */
     uint32_t busy;             /* enum needleoat_busy */
-    bool unknown_commands;     /* whether of PLDM types 0 and 2 the requests are handed on as bytes whose command is none
-                                  of this profile; else they are refused with code 0x05 */
+    bool unknown_commands;     /* whether of PLDM types 0 and 2 the requests are handed on as bytes whose command is
+                                  none of this profile; else they are refused with code 0x05 */
     uint64_t pldm_types;       /* the PLDM types of which each request is handed on as bytes: bit t stands for type t.
-                                  Those of the others are refused with code 0x20; the bits of 0 and 2 stand for nothing */
+                                  Those of the others are refused with code 0x20; bits 0 and 2 stand for nothing */
     bool answers_control;      /* whether control messages are answered (DSP0236, message type 0), as what follows says;
                                   else they are dropped */
     bool assigned;             /* whether a bus owner assigns the endpoint ID: there is none at first */
@@ -832,11 +832,12 @@ uint8_t needleoat_endpoint_eid(struct needleoat_endpoint *endpoint);
  * Hands in the answer to the command that is pending under this handle, and gives the packets of it:
  * NEEDLEOAT_STEP_ANSWERED, or refused with the first of 3, 10, 6 and 5. They go to `handle->source`. 10 comes
  * exactly where nothing is pending under the three numbers of the handle: it was answered, or forgotten by a
- * restart. 5 comes for each answer where a request is pending there that was handed on as bytes. The answer is the one that needleoat_answer_write writes: 6 comes exactly where that call writes
- * nothing, 5 where `pldm_type` or `command` is another than the command's, also where `code` is not 0. The
- * instance ID in `answer` is not looked at beyond that; the request's is sent. It takes no memory. Where it is
- * refused with 6 or 5, the command is still pending. Where `window` other instance IDs of the source had fresh
- * requests since, the packets are the same, and the answer is not kept.
+ * restart. 5 comes for each answer where a request is pending there that was handed on as bytes. The answer is
+ * the one that needleoat_answer_write writes: 6 comes exactly where that call writes nothing, 5 where `pldm_type`
+ * or `command` is another than the command's, also where `code` is not 0. The instance ID in `answer` is not looked
+ * at beyond that; the request's is sent. It takes no memory. Where it is refused with 6 or 5, the command is still
+ * pending. Where `window` other instance IDs of the source had fresh requests since, the packets are the same, and
+ * the answer is not kept.
  */
 struct needleoat_step needleoat_endpoint_answer(struct needleoat_endpoint *endpoint,
                                                 const struct needleoat_command_handle *handle,

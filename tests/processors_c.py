@@ -69,11 +69,14 @@ HARD_FLOAT = HARD_FLOAT._replace(
 )
 WITH_CODECS_OF = {"cortex-m0plus": CORTEX_M0, "cortex-m4": HARD_FLOAT}
 
+# A Cortex-M0+ has no long shifts, no long product and no division.
+M0_NAMES = {"__aeabi_llsl", "__aeabi_llsr", "__aeabi_lmul", "__aeabi_uidiv"}
+
 # The last one's library stays in `out/`.
 TARGETS = [
     cortex_m("cortex-m4", set(), {}),
     # It is run on a Cortex-M4 that faults where it would, at an access that is not aligned.
-    cortex_m("cortex-m0plus", {"__aeabi_llsl", "__aeabi_llsr", "__aeabi_lmul", "__aeabi_uidiv"}, {"TRAP_UNALIGNED": "1"}),
+    cortex_m("cortex-m0plus", M0_NAMES, {"TRAP_UNALIGNED": "1"}),
     Target(
         "armv7",
         None,

@@ -256,7 +256,8 @@ def garbage(rows, place):
         out, err = asking.communicate(timeout=SECONDS)
         passed = time.monotonic() - began
     ran = (asking.returncode, out, err)
-    rows.check("asked: garbage for ever", ran == (3, b"", b"mctpctl: no answer\n") and passed < 10 * SETTLING, repr((passed, ran)))
+    well = ran == (3, b"", b"mctpctl: no answer\n") and passed < 10 * SETTLING
+    rows.check("asked: garbage for ever", well, repr((passed, ran)))
 
 
 def on_standard_input(rows, place):

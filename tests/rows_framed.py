@@ -124,7 +124,8 @@ def faults(rows, run):
         for name, frame, fault in faulty():
             ran = run(["show", f"--binding={binding}"], f"3 {frame}\n4 {BINDINGS[binding][0]}\n")
             wanted = f"3 no frame: {fault}\n4 {LINES[0]}{IN_HEX[0]}"
-            rows.check(f"framed: {binding}, {name}: {fault}", (ran.returncode, ran.stdout) == (0, wanted.encode()), repr(ran))
+            well = (ran.returncode, ran.stdout) == (0, wanted.encode())
+            rows.check(f"framed: {binding}, {name}: {fault}", well, repr(ran))
 
 
 def changed(rows, run):
@@ -171,8 +172,8 @@ def packets(rows, run):
 
 def command_lines(rows, run):
     """A binding that there is not, and one where none is taken."""
-    refused = (["show", "--binding", "spi"], ["show", "--binding", ""], ["show", "--binding=I2C"], ["show", "--binding"])
-    for words in (*refused, ["answer", "--binding=i2c"], ["run", "--binding=i2c"]):
+    refused = (["--binding", "spi"], ["--binding", ""], ["--binding=I2C"], ["--binding"])
+    for words in (*(["show", *words] for words in refused), ["answer", "--binding=i2c"], ["run", "--binding=i2c"]):
         ran = run(words, "")
         well = ran.returncode == 2 and ran.stdout == b"" and b"'--binding" in ran.stderr
         rows.check(f"framed: refused words {words}", well, repr(ran))

@@ -131,7 +131,8 @@ def check(rows, run, program):
     device = given[: given.index("%%")]
     _, schedule, report = examples_in(texts["RUN"])[:3]
     capture, shown = examples_in(texts["SHOW"])[:2]
-    for name, text, want in (("answer", given, answered), ("run", f"{device}%%\n{schedule}", report), ("show", capture, shown)):
+    whole = f"{device}%%\n{schedule}"
+    for name, text, want in (("answer", given, answered), ("run", whole, report), ("show", capture, shown)):
         ran = run([name], text)
         rows.check(f"the example in the help of {name}", ran.stdout.decode() == want, repr(ran.stdout[:80]))
     if program:

@@ -115,13 +115,16 @@ def check(rows, run):
     """Checks each row; `run(arguments, text)` runs the program over a pipe."""
     lines = list(capture())
     ran = run(["answer"], f"{DEVICE}%%\n" + "".join(asked for asked, _, _ in lines))
-    rows.check(f"{PACKETS} packets answered", ran.returncode == 0 and ran.stdout.decode() == "".join(it for _, it, _ in lines))
+    want = "".join(answered for _, answered, _ in lines)
+    rows.check(f"{PACKETS} packets answered", (ran.returncode, ran.stdout) == (0, want.encode()))
     ran = run(["show"], "".join(asked for asked, _, _ in lines))
-    rows.check(f"{PACKETS} packets shown", ran.returncode == 0 and ran.stdout.decode() == "".join(it for _, _, it in lines))
+    want = "".join(shown for _, _, shown in lines)
+    rows.check(f"{PACKETS} packets shown", (ran.returncode, ran.stdout) == (0, want.encode()))
     steps = list(schedule())
     want = "".join(told for _, told in steps) + "".join(report())
     ran = run(["run"], f"{DEVICE}%%\n" + "".join(step for step, _ in steps))
-    rows.check(f"{10 * REQUESTS} steps of {REQUESTERS} requesters run", ran.returncode == 0 and ran.stdout.decode() == want)
+    well = (ran.returncode, ran.stdout) == (0, want.encode())
+    rows.check(f"{10 * REQUESTS} steps of {REQUESTERS} requesters run", well)
     for old, new, fault in FAULTS:
         assert DEVICE.count(old) == 1, old
         ran = run(["answer"], DEVICE.replace(old, new) + "%%\n")

@@ -78,7 +78,8 @@ def large(rows, place):
     """As many packets as the large capture has, in more bytes than a piece of the input."""
     asked, want = ([bytes.fromhex(it.split()[-1]) for it in them] for them in list(zip(*rows_large.capture()))[:2])
     status, out, err = place.run(b"".join(map(frame, asked)), device=place.write("large.toml", rows_large.DEVICE))
-    rows.check(f"{len(asked)} packets as frames", (status, read_frames(out), err) == (0, want, b""), repr((status, err)))
+    well = (status, read_frames(out), err) == (0, want, b"")
+    rows.check(f"{len(asked)} packets as frames", well, repr((status, err)))
 
 
 def no_frames(rows, place):

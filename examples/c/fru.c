@@ -1,8 +1,8 @@
 /*
- * A device with FRU data (PLDM type 4, DSP0257) beside a sensor: requests of type 4 are handed on as bytes, and answered
- * by bytes. It is asked over a line that loses each fourth frame, in both directions; the asker sends the very same packet
- * again until the whole answer has come. The bytes in fru.expected are those of the tables of the standards, written by
- * hand, with a CRC-32 of another program's.
+ * A device with FRU data (PLDM type 4, DSP0257) beside a sensor: requests of type 4 are handed on as bytes, and
+ * answered by bytes. It is asked over a line that loses each fourth frame, in both directions; the asker sends the very
+ * same packet again until the whole answer has come. The bytes in fru.expected are those of the tables of the
+ * standards, written by hand, with a CRC-32 of another program's.
  *
  *   GetFRURecordTableMetadata (0x01), no data. After the code: the version of the FRU data (major, minor), the greatest
  *   and the present size of the table (4 bytes each), how many record sets and records it has (2 each), its CRC-32 (4).
@@ -10,8 +10,8 @@
  *   transfer handle (4), a transfer flag (5: all in one part), the part.
  *
  * A record has its set's identifier (2), its type (1 general), how many fields, their encoding (1 ASCII), and for each
- * field its type (3 part number, 4 serial number, 5 manufacturer), its length and its bytes. The table is padded to four
- * bytes.
+ * field its type (3 part number, 4 serial number, 5 manufacturer), its length and its bytes. The table is padded to
+ * four bytes.
  */
 #include "needleoat.h"
 #include <stdio.h>
@@ -157,16 +157,18 @@ static void refusals(void) {
     static const uint8_t reading[] = {1, OWN, ASKER, 0xc9, 1, 0x91, 2, 0x11, 1, 0, 0};
     static const uint8_t much[NEEDLEOAT_RESPONSE_DATA + 1] = {0};
     static const struct needleoat_answer answer = {.pldm_type = FRU, .command = GET_TABLE_METADATA};
-    struct needleoat_step step, other;
+    struct needleoat_step step, other, given;
     int tries = MEMORY_TRIES;
     do step = needleoat_endpoint_receive(&endpoint, now_ms, metadata, sizeof metadata, &command, packets);
     while (step.kind == NEEDLEOAT_STEP_REFUSED && --tries > 0);
     tries = MEMORY_TRIES;
     do other = needleoat_endpoint_receive(&endpoint, now_ms, reading, sizeof reading, &command, packets);
     while (other.kind == NEEDLEOAT_STEP_REFUSED && --tries > 0);
-    printf("316 bytes: %u\n", needleoat_endpoint_answer_bytes(&endpoint, &step.handle, 0, much, sizeof much, packets).reason);
+    given = needleoat_endpoint_answer_bytes(&endpoint, &step.handle, 0, much, sizeof much, packets);
+    printf("316 bytes: %u\n", given.reason);
     printf("fields for bytes: %u\n", needleoat_endpoint_answer(&endpoint, &step.handle, &answer, packets).reason);
-    printf("bytes for a command: %u\n", needleoat_endpoint_answer_bytes(&endpoint, &other.handle, 0, much, 1, packets).reason);
+    given = needleoat_endpoint_answer_bytes(&endpoint, &other.handle, 0, much, 1, packets);
+    printf("bytes for a command: %u\n", given.reason);
     step = needleoat_endpoint_answer_bytes(&endpoint, &step.handle, 0, much, sizeof much - 1, packets);
     printf("315 bytes: %u packets, the last of %u bytes\n", (unsigned)step.count, (unsigned)step.lengths[4]);
     printf("again: %u\n", needleoat_endpoint_answer_bytes(&endpoint, &other.handle, 0, much, 0, packets).reason);

@@ -5,8 +5,8 @@
  * its bus, and passes the bus's transfers over the serial line, each as a line of hex. Then it reads commands from a
  * serial line of its own, one a line, and writes one line for each. Numbers are decimal, bytes are in hex.
  *
- *   line N                         the line, 0 at first, that addresses, neighbours, routes, `physical` and `statistics`
- *                                  after it are of                               ok
+ *   line N                         the line, 0 at first, that addresses, neighbours, routes, `physical` and
+ *                                  `statistics` after it are of                  ok
  *   address EID                    our endpoint ID                               ok
  *   neighbour EID ADDRESS          the address on I2C of an endpoint             ok
  *   unneighbour EID                                                              ok

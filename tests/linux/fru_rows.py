@@ -1,4 +1,4 @@
-"""The device of examples/c/fru.c, whose requests of PLDM type 4 (DSP0257) are handed on as bytes, asked by Linux's stack.
+"""The device of examples/c/fru.c, whose requests of PLDM type 4 (DSP0257) are handed on as bytes, asked by Linux.
 
 Its tables are written here a second time, from the standard and the text of its fields."""
 import struct
@@ -11,7 +11,8 @@ from soak import RECORD_TAGS, SLACK_MS, Soak
 
 FRU_EID = 9
 FIELDS = ((3, b"NLO-FAN-60-12-V1"), (4, b"SN-2026-0000000000000017"), (5, b"Needleoat Example Works, Hall 3"))
-SUCCESS, INVALID_DATA, INVALID_LENGTH, UNSUPPORTED_COMMAND, INVALID_TYPE = (bytes([code]) for code in (0, 2, 3, 5, 0x20))
+CODES = (bytes([code]) for code in (0, 2, 3, 5, 0x20))
+SUCCESS, INVALID_DATA, INVALID_LENGTH, UNSUPPORTED_COMMAND, INVALID_TYPE = CODES
 
 
 def record_table():

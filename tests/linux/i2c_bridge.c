@@ -1,8 +1,9 @@
 /*
  * i2c_bridge: the controller of a device on an I2C bus (DSP0237), for a device that speaks on a serial line (DSP0253).
  * Standard input and output are the bus: each transfer is a line of hex, from the address byte on. File descriptor 3
- * is the serial line. The frames of I2C are read and written by the C library, those of the serial line by line_frames.h.
- * A transfer that is no frame is named by its fault's number on standard error. It ends where the bus or the line does.
+ * is the serial line. The frames of I2C are read and written by the C library, those of the serial line by
+ * line_frames.h. A transfer that is no frame is named by its fault's number on standard error. It ends where the bus or
+ * the line does.
  */
 #include "line_frames.h"
 #include "needleoat.h"

@@ -1,4 +1,4 @@
-"""Endpoint IDs that a bus owner assigns (DSP0236, "Set Endpoint ID"), over a line that loses, repeats and delays frames.
+"""Endpoint IDs that a bus owner assigns (DSP0236, "Set Endpoint ID"), over a line that loses, repeats, delays frames.
 
 No request is performed at an ID that the device does not have, and none a second time around an assignment."""
 import time
@@ -55,7 +55,7 @@ class Moves(Soak):
         return tags[-1][0]
 
     def begin(self):
-        """Requests go out before the device has an ID, and after. From its first ID on it serves, without a busy time."""
+        """Requests go out before the device has an ID, and after. From its first ID on it serves, with no busy time."""
         self.control("Get Endpoint ID before", GET_EID, b"", bytes([SUCCESS, NULL_EID]))
         self.early = self.next_request(set_numeric(1, 0, 1)), time.monotonic()
         self.send_copy(FIRST_EID)
@@ -76,7 +76,7 @@ class Moves(Soak):
         return answer is not None
 
     def move(self, goes_back):
-        """Two sets, then another endpoint ID. The first set comes again before, meanwhile and after: at the ID of before,
+        """Two sets, then another endpoint ID. The first set comes again before, meanwhile, after: at the ID of before,
         which the device may get back. The value is that of the second."""
         old, new = self.eid, FIRST_EID + SECOND_EID - self.eid
         _, self.early = self.set_value()
@@ -91,7 +91,7 @@ class Moves(Soak):
         self.require_value(value, BUSY_SECONDS)
 
     def set_value(self):
-        """Sets another value until that is answered. Returns it, and the request with the moment of its first sending."""
+        """Sets another value until that is answered. Returns it, and the request with when it was sent first."""
         self.values += 1
         value = self.values * 7 % 101
         for _ in range(SILENT_REQUESTS):

@@ -85,7 +85,8 @@ def packet(chance):
     head = bytes([1, chance.choice((9, 9, 9, 11)), chance.randrange(8, 12), 0xC8 | chance.randrange(8)])
     special = chance.random() < 0.5
     length = chance.choice((1, 4, 7, 16, 64))
-    return head + bytes(chance.choice((0x7E, 0x7D, 0x5E, 1)) if special else chance.randrange(256) for _ in range(length))
+    byte = (lambda: chance.choice((0x7E, 0x7D, 0x5E, 1))) if special else (lambda: chance.randrange(256))
+    return head + bytes(byte() for _ in range(length))
 
 
 def changed(data, chance):
