@@ -1,6 +1,6 @@
 """The toolchain: it proves a library, and hands the library's LLVM module to a clang, which compiles it.
 
-`rattle build --toolchain FOLDER` runs the clang of that folder. Here it is one that keeps the module first.
+`rattle build --toolchain FOLDER` runs the clang of that folder. For 32 bits it is one that keeps the module first.
 """
 
 import os
@@ -104,16 +104,28 @@ def check_words(words):
             raise Failed(f"the toolchain gives clang a word that is not known: {word}")
 
 
-def module_of(crate):
-    """Proves a static library, and returns its LLVM module for aarch64 as text."""
+def build(crate, triple, tools, out):
+    """Proves a static library over the crates below it, which stand proved in `crates/*/out`, and builds it."""
     folder = f"{ROOT}/crates/{crate}"
-    run(["rt", "check"], cwd=folder)
+    os.makedirs(f"{folder}/out/incremental", exist_ok=True)
+    logic = ["--antt-project", f"{kit()}/rattle/logic/antt-project.json", "--logic-built", f"{kit()}/logic_built"]
+    made = ["--crate-type", "staticlib", "--target", triple, "--incremental", "out/incremental", "--jobs", str(jobs())]
+    words = ["rattle", "build", "--crate-name", crate, "src/lib.rt", *libraries_of(crate), *logic]
+    run([*words, "--links", f"{crate}=", *made, "--toolchain", tools, "--backend", "llvm", "-o", out], cwd=folder)
+
+
+def jobs():
+    """How many processors a proof gets: more than four gain nothing."""
+    return min(4, len(os.sched_getaffinity(0)))
+
+
+def module_of(crate, is_proved):
+    """Proves a static library, and returns its LLVM module for aarch64 as text. Where the crates below it do not stand
+    proved in `crates/*/out`, `rt check` proves them first."""
+    if not is_proved:
+        run(["rt", "check"], cwd=f"{ROOT}/crates/{crate}")
     with tempfile.TemporaryDirectory() as room:
-        logic = ["--antt-project", f"{kit()}/rattle/logic/antt-project.json", "--logic-built", f"{kit()}/logic_built"]
-        made = ["--crate-type", "staticlib", "--target", AARCH64, "--incremental", "out/incremental"]
-        tools = ["--toolchain", keeping_tools(room), "--backend", "llvm", "-o", f"{room}/library.a"]
-        words = ["rattle", "build", "--crate-name", crate, "src/lib.rt", *libraries_of(crate), *logic]
-        run([*words, "--links", f"{crate}=", *made, *tools], cwd=folder)
+        build(crate, AARCH64, keeping_tools(room), f"{room}/library.a")
         with open(f"{room}/words", encoding="utf-8") as file:
             check_words(file.read().split("\n")[:-1])
         as_text = ["-S", "-emit-llvm", "-x", "ir", f"{room}/module.bc", "-O0", "-Xclang", "-disable-llvm-passes"]
