@@ -1,4 +1,4 @@
-"""The help of the program: whole, as `crates/mctpctl/src/help.rt` and clap's layout have it, and its examples run."""
+"""The help of the program: whole, as `mctpctl_command_line/src/help.rt` and clap's layout have it, and its examples run."""
 import os
 import re
 import tempfile
@@ -22,7 +22,7 @@ TOP_OPTIONS = "Options:\n  -h, --help     Print help\n  -V, --version  Print ver
 
 def constants():
     """The texts of the source file, by their names."""
-    with open(os.path.join(ROOT, "crates", "mctpctl", "src", "help.rt")) as source:
+    with open(os.path.join(ROOT, "crates", "mctpctl_command_line", "src", "help.rt")) as source:
         found = re.findall(r'pub const (\w+): &str =\s+"(?:\\\n)?(.*?)";', source.read(), re.S)
     return {name: text.replace('\\"', '"').replace("\\n", "\n") for name, text in found}
 

@@ -1,8 +1,6 @@
 pub mod AskedTexts
-pub mod Choice
 pub mod ControlResponders
 pub mod Conversations
-pub mod FaultNumbers
 pub mod LineFaults
 pub mod ServedTexts
 pub mod Settings

@@ -3,7 +3,7 @@ use Rattle.std.specs.Prelude.{ℕ, nat_le, not, List, codes, if◌then◌else◌
 use Rattle.std.specs.Prelude.{Option, None, Some, is_some, option_and_then, option_map}
 use Rattle.line_words.specs.Numbers.{number_of}
 use Rattle.mctp_packet.specs.declared.TheConstants.{MAX_EID, MAX_KEEP, MIN_EID}
-use Rattle.mctpctl.specs.Choice.{Linked, Watched}
+use Rattle.mctpctl_command_line.specs.Choice.{Linked, Watched}
 use Rattle.mctpctl.specs.declared.settings.Periods.{Periods}
 use Rattle.mctpctl.specs.declared.settings.Settings.{Settings}
 use Rattle.mctpctl.specs.declared.settings.TheConstants.{EVERY_MS, KEEP_MS, MAX_COUNT, MAX_EVERY, TIMEOUT_MS, TRIES}

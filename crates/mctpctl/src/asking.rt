@@ -6,13 +6,12 @@ ghost use Rattle.mctpctl.specs.AskedTexts.{Reports, message_text, status_of_answ
 ghost use Rattle.mctpctl.specs.Conversations.{IsGoingOn, printed_in, shown_in};
 ghost use Rattle.mctpctl_input.specs.Ports.{inner_of};
 
-use crate::choose::Question;
 use crate::commands::{CommandsFault, read_commands};
 use crate::conversation::Conversation;
-use crate::help::{NO_COMMAND, TRY_HELP};
 use crate::talk::{DONE, Errand, FAILED, REFUSED, USAGE, do_errand, read_settings};
 use mctp_packet::Memory;
 use mctpctl_ask::{AskFault, Ticks, ask};
+use mctpctl_command_line::{NO_COMMAND, Question, TRY_HELP};
 use mctpctl_decode::push_decoded_line;
 use mctpctl_input::Port;
 use mctpctl_texts::{write_data, write_text};

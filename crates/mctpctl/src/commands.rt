@@ -1,8 +1,8 @@
 //! The commands of `ask`, in the words of a schedule.
 
-use crate::choose::Question;
 use crate::device_file::device_text;
 use line_words::{first_word, split_line};
+use mctpctl_command_line::Question;
 use mctpctl_input::MAX_DESCRIPTION;
 use schedule_text::{LineFaultKind, Schedule};
 use std::alloc::{AllocError, AllocFailed, Global};

@@ -4,13 +4,11 @@
 #![tactic(auto)]
 
 mod asking;
-mod choose;
 mod commands;
 mod control_responder;
 mod conversation;
 mod device_file;
 mod faults;
-mod help;
 mod serial_line;
 mod settings;
 mod state;
@@ -22,11 +20,11 @@ ghost use Rattle.std.specs.Prelude.{◌≡◌, false};
 ghost use Rattle.mctpctl_input.specs.Ports.{has_failed, BothWork};
 
 use crate::asking::ask_device;
-use crate::choose::{Choice, ChooseFault, Task, TextTask, choose};
 use crate::faults::print_fault;
 use crate::serial_line::serve_device;
 use crate::walking::run_walk;
 use crate::watching::run_watch;
+use mctpctl_command_line::{Choice, ChooseFault, Task, TextTask, choose};
 use mctpctl_decode::decode_all;
 use mctpctl_engines::{answer_all, run_all, show_all};
 use mctpctl_explain::{Keeping, Subject, explain, warnings};

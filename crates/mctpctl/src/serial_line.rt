@@ -1,10 +1,10 @@
 //! `serve`: the described device on a serial line, which is standard input and output.
 
-use crate::choose::Service;
 use crate::control_responder::{control_responder, eid_at_first};
 use crate::device_file::{device_text, read_served};
 use crate::faults::{engine_fault, print_fault};
 use mctp_serial::FrameReader;
+use mctpctl_command_line::Service;
 use mctpctl_input::{EngineFault, Port};
 use mctpctl_serve::{Log, ServedLine, SystemTicks, serve};
 use pldm_device::{ControlTable, Description};

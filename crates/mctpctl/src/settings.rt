@@ -1,12 +1,12 @@
 //! The numbers of `ask`: endpoint IDs and times.
 
 ghost use Rattle.std.specs.Prelude.{◌≡◌, ◌≤◌, IfErr, IfOk, IfSome, Some, option_map};
-ghost use Rattle.mctpctl.specs.Choice.{watch_options, linked};
+ghost use Rattle.mctpctl_command_line.specs.Choice.{watch_options, linked};
 ghost use Rattle.mctpctl.specs.Settings.{eid_in, keep_in, number_in, periods_in, refused_option, refused_period, settings_in};
 
-use crate::choose::{Link, WatchOptions};
 use line_words::read_number;
 use mctp_packet::{Eid, Keep, MAX_KEEP};
+use mctpctl_command_line::{Link, WatchOptions};
 use pldm_requester::{MAX_TRIES, Timing};
 
 /// The keeping time where none is given: that of a link to the requester of a usual bus owner.

@@ -3,14 +3,13 @@
 ghost use Rattle.std.specs.Prelude.{◌<◌, ◌^◌};
 
 use crate::asking::ask_each;
-use crate::choose::{Link, Question, WalkOptions, WatchOptions};
 use crate::conversation::Conversation;
-use crate::help::TRY_HELP;
 use crate::settings::{Periods, Settings, settings_of};
 use crate::state::{StateFault, begin_state, end_state};
 use crate::walking::walk_device;
 use crate::watching::watch_device;
 use mctpctl_ask::{AskFault, BeginFault, SystemTicks, begin_after};
+use mctpctl_command_line::{Link, Question, TRY_HELP, WalkOptions, WatchOptions};
 use mctpctl_input::Port;
 use schedule_text::Schedule;
 use std::fs::{File, OpenOptions};

@@ -8,13 +8,13 @@ ghost use Rattle.mctpctl.specs.WalkedTexts.{StepsOn, ReportsQuery, WalksThrough,
 ghost use Rattle.mctpctl_input.specs.Ports.{inner_of};
 
 use crate::asking::{ask_command, print_message, print_text, status_of_answer};
-use crate::choose::WalkOptions;
 use crate::conversation::Conversation;
 use crate::settings::Settings;
 use crate::talk::{DONE, Errand, FAILED, REFUSED, do_errand, read_settings};
 use mctp_control::{Command as ControlCommand, Query, SUCCESS, read_response};
 use mctp_packet::{Memory, Tag};
 use mctpctl_ask::{AskFault, Ticks, ask_control};
+use mctpctl_command_line::WalkOptions;
 use mctpctl_decode::push_record;
 use mctpctl_input::Port;
 use mctpctl_table::Table;

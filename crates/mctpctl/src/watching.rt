@@ -8,14 +8,13 @@ ghost use Rattle.mctpctl_ask.specs.Asked.{shown};
 ghost use Rattle.mctpctl_input.specs.Ports.{inner_of, BothWork};
 
 use crate::asking::{print_text, status_of_answer};
-use crate::choose::WatchOptions;
 use crate::conversation::Conversation;
-use crate::help::TRY_HELP;
 use crate::settings::{MAX_EVERY, Periods, periods_of};
 use crate::talk::{DONE, Errand, FAILED, USAGE, do_errand, read_settings};
 use crate::walking::{ask_all, records_of};
 use mctp_packet::{Memory, Moment};
 use mctpctl_ask::{AskFault, AskingLine, Ticks, ask, listen};
+use mctpctl_command_line::{TRY_HELP, WatchOptions};
 use mctpctl_input::Port;
 use mctpctl_table::Table;
 use mctpctl_texts::{write_number, write_text};

@@ -5,10 +5,10 @@ use Rattle.clap.specs.Words.{fault_of}
 use Rattle.clap.specs.declared.error.kind.ErrorKind.TheVariants.{ArgumentConflict, DisplayHelp, MissingRequiredArgument, MissingSubcommand}
 use Rattle.mctpctl_bindings.specs.declared.binding.Binding.{Binding}
 use Rattle.mctpctl_bindings.specs.declared.binding.Binding.TheVariants.{I2c, I3c, Serial}
-use Rattle.mctpctl.specs.Choice.{command as the_command}
-use Rattle.mctpctl.specs.Choice.{choice_of, Asked, Linked, Questioned, to_ask, to_perform, to_serve, to_walk, to_watch}
-use Rattle.mctpctl.specs.declared.choose.Task.{Task}
-use Rattle.mctpctl.specs.declared.choose.Task.TheVariants.{Answer, Run, Show}
+use Rattle.mctpctl_command_line.specs.Choice.{command as the_command}
+use Rattle.mctpctl_command_line.specs.Choice.{choice_of, Asked, Linked, Questioned, to_ask, to_perform, to_serve, to_walk, to_watch}
+use Rattle.mctpctl_command_line.specs.declared.choice.Task.{Task}
+use Rattle.mctpctl_command_line.specs.declared.choice.Task.TheVariants.{Answer, Run, Show}
 
 abbrev asks : Task → Bool → Bool → Asked
 asks task explain decode =

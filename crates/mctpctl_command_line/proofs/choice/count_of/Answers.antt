@@ -2,8 +2,8 @@ use Rattle.std.proofs.Common.{◌∙◌, List, Option, ap, length, map, option_m
 use Rattle.std.specs.Option.{option_map_or}
 use Rattle.std.proofs.lemmas.List.{length-map}
 use Rattle.clap.specs.Words.{Text, found_of}
-use Rattle.mctpctl.proofs.GivenFlags.{values_by_rows}
-use Rattle.mctpctl.proofs.choose.count_of.Goals as goal
+use Rattle.mctpctl_command_line.proofs.GivenFlags.{values_by_rows}
+use Rattle.mctpctl_command_line.proofs.choice.count_of.Goals as goal
 
 pub returns-in-Some : goal.returns-in-Some
 returns-in-Some c =

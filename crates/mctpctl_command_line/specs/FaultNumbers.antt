@@ -1,7 +1,7 @@
 -- The numbers of the faults of the command line.
 use Rattle.std.specs.Prelude.{ℕ}
-use Rattle.mctpctl.specs.declared.choose.ChooseFault.{ChooseFault}
-use Rattle.mctpctl.specs.declared.choose.ChooseFault.TheVariants.{Help, Refused, Memory}
+use Rattle.mctpctl_command_line.specs.declared.choice.ChooseFault.{ChooseFault}
+use Rattle.mctpctl_command_line.specs.declared.choice.ChooseFault.TheVariants.{Help, Refused, Memory}
 
 abbrev pub number_of_choose_fault : ChooseFault → ℕ
 number_of_choose_fault (Help text) = 1

@@ -13,18 +13,18 @@ use Rattle.clap.specs.declared.error.kind.ErrorKind.{ErrorKind}
 use Rattle.clap.specs.declared.error.kind.ErrorKind.TheVariants.{DisplayHelp, DisplayVersion, OutOfMemory}
 use Rattle.mctpctl_bindings.specs.declared.binding.Binding.{Binding}
 use Rattle.mctpctl_bindings.specs.declared.binding.Binding.TheVariants.{I2c, I3c, Serial}
-use Rattle.mctpctl.specs.declared.choose.Choice.{Choice}
-use Rattle.mctpctl.specs.declared.choose.Choice.TheVariants as choice
-use Rattle.mctpctl.specs.declared.choose.Link.{Link}
-use Rattle.mctpctl.specs.declared.choose.Question.{Question}
-use Rattle.mctpctl.specs.declared.choose.Service.{Service}
-use Rattle.mctpctl.specs.declared.choose.WalkOptions.{WalkOptions}
-use Rattle.mctpctl.specs.declared.choose.TextTask.{TextTask}
-use Rattle.mctpctl.specs.declared.choose.Task.{Task}
-use Rattle.mctpctl.specs.declared.choose.Task.TheVariants.{Answer, Run, Show}
-use Rattle.mctpctl.specs.declared.choose.WatchOptions.{WatchOptions}
-use Rattle.mctpctl.specs.declared.choose.ChooseFault.{ChooseFault}
-use Rattle.mctpctl.specs.declared.choose.ChooseFault.TheVariants.{Help, Refused, Memory}
+use Rattle.mctpctl_command_line.specs.declared.choice.Choice.{Choice}
+use Rattle.mctpctl_command_line.specs.declared.choice.Choice.TheVariants as choice
+use Rattle.mctpctl_command_line.specs.declared.choice.Link.{Link}
+use Rattle.mctpctl_command_line.specs.declared.choice.Question.{Question}
+use Rattle.mctpctl_command_line.specs.declared.choice.Service.{Service}
+use Rattle.mctpctl_command_line.specs.declared.choice.WalkOptions.{WalkOptions}
+use Rattle.mctpctl_command_line.specs.declared.choice.TextTask.{TextTask}
+use Rattle.mctpctl_command_line.specs.declared.choice.Task.{Task}
+use Rattle.mctpctl_command_line.specs.declared.choice.Task.TheVariants.{Answer, Run, Show}
+use Rattle.mctpctl_command_line.specs.declared.choice.WatchOptions.{WatchOptions}
+use Rattle.mctpctl_command_line.specs.declared.choice.ChooseFault.{ChooseFault}
+use Rattle.mctpctl_command_line.specs.declared.choice.ChooseFault.TheVariants.{Help, Refused, Memory}
 
 -- `mctpctl` requires one of its subcommands, and has a version
 abbrev pub program : App

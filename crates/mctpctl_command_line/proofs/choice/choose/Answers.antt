@@ -7,12 +7,12 @@ use Rattle.clap.specs.declared.parser.matches.ArgMatches.{ArgMatches}
 use Rattle.clap.specs.declared.error.Error.{Error}
 use Rattle.clap.specs.declared.error.kind.ErrorKind.{ErrorKind}
 use Rattle.clap.specs.declared.error.kind.ErrorKind.TheVariants.{DisplayHelp, DisplayVersion, OutOfMemory}
-use Rattle.mctpctl.specs.Choice.{command as the_command}
-use Rattle.mctpctl.specs.Choice.{choice_in as the_choice}
-use Rattle.mctpctl.specs.Choice.{asked, choice_of, takes_line, Asked, ReportsKind, ReportsRefusal}
-use Rattle.mctpctl.specs.declared.choose.ChooseFault.{ChooseFault}
-use Rattle.mctpctl.specs.declared.choose.ChooseFault.TheVariants.{Help, Refused, Memory}
-use Rattle.mctpctl.proofs.choose.choose.Goals as goal
+use Rattle.mctpctl_command_line.specs.Choice.{command as the_command}
+use Rattle.mctpctl_command_line.specs.Choice.{choice_in as the_choice}
+use Rattle.mctpctl_command_line.specs.Choice.{asked, choice_of, takes_line, Asked, ReportsKind, ReportsRefusal}
+use Rattle.mctpctl_command_line.specs.declared.choice.ChooseFault.{ChooseFault}
+use Rattle.mctpctl_command_line.specs.declared.choice.ChooseFault.TheVariants.{Help, Refused, Memory}
+use Rattle.mctpctl_command_line.proofs.choice.choose.Goals as goal
 
 -- where some fault is found the line is not taken
 not_taken : (faults : Kinds) (kind : ErrorKind) (task : Option Asked) → IsAmong kind faults → cond (length faults == 0) task None ≡ None

@@ -3,8 +3,8 @@
 ghost use Rattle.std.specs.Prelude.{◌≡◌, IfOk, IfErr, Some, false, map, option_and_then, option_map};
 ghost use Rattle.mctp_packet.specs.Memories.{out_of_memory};
 ghost use Rattle.clap.specs.Words.{app_of, first_of, found_of, kind_of, rows_of, rule_of, subcommand_rows_of};
-ghost use Rattle.mctpctl.specs.FaultNumbers.{number_of_choose_fault};
-ghost use Rattle.mctpctl.specs.Choice.{ask_subcommand as the_ask_subcommand, asked, asking_command as the_asking_command, binding_in, binding_named, choice_in as the_choice, choice_of, command as the_command, command_words as the_command_words, device_command as the_device_command, flag as the_flag, has_globals, is_given, line_command as the_line_command, line_subcommand as the_line_subcommand, link_in, linked, program as the_program, question_in, questioned, serve_subcommand as the_serve_subcommand, served, service_in, show_subcommand as the_show_subcommand, stated_subcommand as the_stated_subcommand, walk_options_in, walk_options, task_named, text_command as the_text_command, text_subcommand as the_text_subcommand, text_task_in, timed_subcommand as the_timed_subcommand, value_option as the_value_option, values_given, watch_options_in, watch_options, walk_subcommand as the_walk_subcommand, walking_command as the_walking_command, watch_subcommand as the_watch_subcommand, ReportsKind, ReportsRefusal};
+ghost use Rattle.mctpctl_command_line.specs.FaultNumbers.{number_of_choose_fault};
+ghost use Rattle.mctpctl_command_line.specs.Choice.{ask_subcommand as the_ask_subcommand, asked, asking_command as the_asking_command, binding_in, binding_named, choice_in as the_choice, choice_of, command as the_command, command_words as the_command_words, device_command as the_device_command, flag as the_flag, has_globals, is_given, line_command as the_line_command, line_subcommand as the_line_subcommand, link_in, linked, program as the_program, question_in, questioned, serve_subcommand as the_serve_subcommand, served, service_in, show_subcommand as the_show_subcommand, stated_subcommand as the_stated_subcommand, walk_options_in, walk_options, task_named, text_command as the_text_command, text_subcommand as the_text_subcommand, text_task_in, timed_subcommand as the_timed_subcommand, value_option as the_value_option, values_given, watch_options_in, watch_options, walk_subcommand as the_walk_subcommand, walking_command as the_walking_command, watch_subcommand as the_watch_subcommand, ReportsKind, ReportsRefusal};
 
 use crate::help::{
     ANSWER, ASK, ASKED, BINDING, BINDINGS, COMMAND, COMMANDS, COUNT, DECODE, DEVICE, EVERY,
@@ -137,7 +137,7 @@ pub enum ChooseFault {
 }
 
 impl From<AllocError> for ChooseFault {
-    ghost use Rattle.mctpctl.specs.declared.choose.ChooseFault.TheVariants as faults;
+    ghost use Rattle.mctpctl_command_line.specs.declared.choice.ChooseFault.TheVariants as faults;
 
     ghost from_gives = { λ _ fault. fault ≡ faults.Memory out_of_memory };
 

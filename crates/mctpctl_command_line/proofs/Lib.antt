@@ -1,0 +1,3 @@
+mod ChoiceRows
+pub mod FoundSubcommands
+pub mod GivenFlags

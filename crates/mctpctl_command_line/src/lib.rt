@@ -1,0 +1,10 @@
+//! The command line of `mctpctl`: what it asks for, and what its help says.
+#![tactic(auto)]
+
+mod choice;
+mod help;
+
+pub use choice::{
+    Choice, ChooseFault, Link, Question, Service, Task, TextTask, WalkOptions, WatchOptions, choose,
+};
+pub use help::{NO_COMMAND, TRY_HELP};
