@@ -1,109 +1,57 @@
 //! An endpoint that has no endpoint ID, is assigned 9, then 10, then 9 again.
 
-use mctp_packet::{Eid, Keep, Moment, Reason};
-use pldm_endpoint::{AnswerRefusal, CommandHandle, Endpoint, ReceiveRefusal, Step};
-use pldm_responder::{Bounds, Keeping, Outcome};
-use pldm_wire::{Answer, HandedOn};
-use std::alloc::Global;
+use crate::endpoint::{Fate, bounded, expect, expect_refusal, hand_out, play};
+use mctp_packet::{Eid, Moment, Reason};
+use pldm_endpoint::{AnswerRefusal, CommandHandle, Endpoint};
+use pldm_wire::Answer;
 use std::process::Abort;
-use std::test::Fail;
 
 /// SetTID to 7 of endpoint 8, with instance ID 0, to endpoints 9 and 10.
-const SET_TID_AT_9: [u8; 9] = [1, 9, 8, 0xc8, 1, 0x80, 0, 1, 7];
+const SET_TID_AT_9: &[u8] = b"\x01\x09\x08\xc8\x01\x80\x00\x01\x07";
 
-const SET_TID_AT_10: [u8; 9] = [1, 10, 8, 0xc8, 1, 0x80, 0, 1, 7];
+const SET_TID_AT_10: &[u8] = b"\x01\x0a\x08\xc8\x01\x80\x00\x01\x07";
 
 /// The response that says 'not ready', from endpoint 9.
-const NOT_READY: [u8; 9] = [1, 8, 9, 0xc0, 1, 0, 0, 1, 4];
+const NOT_READY: &[u8] = b"\x01\x08\x09\xc0\x01\x00\x00\x01\x04";
 
-/// An endpoint without an endpoint ID, which keeps answers for a second.
-fn unassigned(alloc: Global) -> Result<Endpoint, Fail> {
-    let keep = Keep::new(1000).ok_or("no keeping time")?;
-    let bounds = Bounds {
-        sources: 1,
-        open_messages: 1,
-    };
-    Ok(Endpoint::new(
-        alloc,
-        None,
-        Keeping::each_for(keep),
-        HandedOn::NONE,
-        bounds,
-        1,
-    ))
-}
-
-/// What it makes of a packet at a moment that is not before its last one.
-fn receive(
-    rt: &impl Abort,
-    endpoint: &mut Endpoint,
-    milliseconds: u64,
-    packet: &[u8],
-) -> Result<Result<Step, ReceiveRefusal>, Fail> {
-    let now = Moment::new(milliseconds).ok_or("no moment")?;
-    let last = endpoint.last_moment();
-    assert!(rt; last <= now);
-    Ok(endpoint.receive(now, packet))
-}
+/// The packet is for nobody here.
+const FOR_NOBODY: Fate<'_> = Fate::Dropped(Reason::UnknownDestination);
 
 /// Assigns it an endpoint ID at a moment that is not before its last one.
-fn assign(
-    rt: &impl Abort,
-    endpoint: &mut Endpoint,
-    milliseconds: u64,
-    eid: u8,
-) -> Result<(), Fail> {
-    let now = Moment::new(milliseconds).ok_or("no moment")?;
-    let eid = Eid::new(eid).ok_or("no endpoint ID")?;
+fn assign(rt: &impl Abort, endpoint: &mut Endpoint, milliseconds: u64, eid: u8) {
+    let now = Moment::new(milliseconds).expect(rt, "a moment");
+    let eid = Eid::new(eid).expect(rt, "an endpoint ID");
     let last = endpoint.last_moment();
     assert!(rt; last <= now);
     endpoint.assign(now, eid);
-    Ok(())
 }
 
-/// Whether it is for nobody here.
-fn is_for_nobody(step: &Result<Step, ReceiveRefusal>) -> bool {
-    match step {
-        Ok(Step::Done(Outcome::Dropped(reason))) => *reason == Reason::UnknownDestination,
-        _ => false,
-    }
+/// Gets endpoint ID 9, is handed a command, and gets endpoint ID 10.
+fn assign_9_and_10(rt: &impl Abort, endpoint: &mut Endpoint) -> CommandHandle {
+    expect(rt, endpoint, &(0, SET_TID_AT_9, FOR_NOBODY));
+    assign(rt, endpoint, 1, 9);
+    let handle = hand_out(rt, endpoint, 1, SET_TID_AT_9);
+    assign(rt, endpoint, 2, 10);
+    handle
 }
 
-/// Whether it is answered with 'not ready'.
-fn is_not_ready(step: &Result<Step, ReceiveRefusal>) -> bool {
-    match step {
-        Ok(Step::Done(Outcome::Answered { fresh, packets, .. })) => !*fresh
-            && packets.get(0) == Some(NOT_READY.as_slice()),
-        _ => false,
-    }
-}
-
-/// The handle of the command that is to be performed.
-fn handed_out(step: Result<Step, ReceiveRefusal>) -> Result<CommandHandle, Fail> {
-    match step {
-        Ok(Step::Perform(handle)) => Ok(handle),
-        _ => Err("nothing to be performed".into()),
-    }
+/// Gets endpoint ID 9 back.
+fn assign_9_again(rt: &impl Abort, endpoint: &mut Endpoint) {
+    expect(rt, endpoint, &(2, SET_TID_AT_9, FOR_NOBODY));
+    assign(rt, endpoint, 3, 9);
+    let rows = &[
+        (1002, SET_TID_AT_9, Fate::Copy(NOT_READY)),
+        (1002, SET_TID_AT_10, FOR_NOBODY),
+        (1003, SET_TID_AT_9, Fate::Perform),
+    ];
+    play(rt, endpoint, rows);
 }
 
 #[test]
-fn an_endpoint_id_that_comes_back_performs_no_copy(rt: HostRuntime) -> Result<(), Fail> {
-    let mut endpoint = unassigned(rt.alloc())?;
-    let dropped = receive(&rt, &mut endpoint, 0, &SET_TID_AT_9)?;
-    assert!(rt; is_for_nobody(&dropped));
-    assign(&rt, &mut endpoint, 1, 9)?;
-    let handle = handed_out(receive(&rt, &mut endpoint, 1, &SET_TID_AT_9)?)?;
-    assign(&rt, &mut endpoint, 2, 10)?;
-    let late = endpoint.answer(&handle, &Answer::SetTid);
-    assert!(rt; matches!(&late, Err(AnswerRefusal::NotPending)));
-    let dropped = receive(&rt, &mut endpoint, 2, &SET_TID_AT_9)?;
-    assert!(rt; is_for_nobody(&dropped));
-    assign(&rt, &mut endpoint, 3, 9)?;
-    let busy = receive(&rt, &mut endpoint, 1002, &SET_TID_AT_9)?;
-    assert!(rt; is_not_ready(&busy));
-    let dropped = receive(&rt, &mut endpoint, 1002, &SET_TID_AT_10)?;
-    assert!(rt; is_for_nobody(&dropped));
-    let served = receive(&rt, &mut endpoint, 1003, &SET_TID_AT_9)?;
-    assert!(rt; matches!(&served, Ok(Step::Perform(_))));
-    Ok(())
+fn an_endpoint_id_that_comes_back_performs_no_copy(rt: HostRuntime) {
+    let mut endpoint = bounded(&rt, rt.alloc(), None, 1, 1, 1);
+    let handle = assign_9_and_10(&rt, &mut endpoint);
+    let late = AnswerRefusal::NotPending;
+    expect_refusal(&rt, &mut endpoint, &handle, &Answer::SetTid, late);
+    assign_9_again(&rt, &mut endpoint);
 }

@@ -4,230 +4,317 @@ use mctp_packet::{Eid, Keep, Moment, Reason};
 use memory_hoard::Hoard;
 use pldm_endpoint::{AnswerRefusal, CommandHandle, Endpoint, ReceiveRefusal, Step};
 use pldm_responder::{Bounds, Keeping, Outcome};
-use pldm_wire::{Answer, Code, Command, HandedOn};
+use pldm_wire::{Answer, Command, HandedOn};
 use std::alloc::Global;
 use std::process::Abort;
-use std::test::Fail;
 
-/// GetTID of endpoint 8 to endpoint 9, with instance ID 0.
-const GET_TID: [u8; 8] = [1, 9, 8, 0xc8, 1, 0x80, 0, 2];
-
-/// The same from endpoint 10.
-const GET_TID_OF_ANOTHER: [u8; 8] = [1, 9, 10, 0xc8, 1, 0x80, 0, 2];
-
-/// The response to the first: terminus ID 5.
-const TID_IS_5: [u8; 10] = [1, 8, 9, 0xc0, 1, 0, 0, 2, 0, 5];
-
-/// The response to the other: terminus ID 6.
-const TID_OF_ANOTHER_IS_6: [u8; 10] = [1, 10, 9, 0xc0, 1, 0, 0, 2, 0, 6];
-
-/// SetTID to 7 of endpoint 8 to endpoint 9, with instance ID 0.
-const SET_TID: [u8; 9] = [1, 9, 8, 0xc8, 1, 0x80, 0, 1, 7];
-
-/// Endpoint 9, which keeps the answers to so many sources for a second, and has at most so many commands
-/// pending and messages open at a time.
-fn bounded(
-    alloc: Global,
-    sources: usize,
-    commands: usize,
-    open_messages: usize,
-) -> Result<Endpoint, Fail> {
-    let own = Eid::new(9).ok_or("no endpoint ID")?;
-    let keep = Keep::new(1000).ok_or("no keeping time")?;
-    let bounds = Bounds {
-        sources,
-        open_messages,
-    };
-    Ok(Endpoint::new(
-        alloc,
-        Some(own),
-        Keeping::each_for(keep),
-        HandedOn::NONE,
-        bounds,
-        commands,
-    ))
+/// What becomes of a packet at an endpoint.
+#[derive(Clone, Copy, Debug, PartialEq, Eq)]
+pub enum Fate<'a> {
+    /// Its command is to be performed.
+    Perform,
+    /// It is to be responded to.
+    Respond,
+    /// It is dropped.
+    Dropped(Reason),
+    /// It is a part of a message.
+    Partial,
+    /// It was performed now, and this packet answers it.
+    Fresh(&'a [u8]),
+    /// It is not performed, and this packet answers it.
+    Copy(&'a [u8]),
+    /// It is refused.
+    Refused(ReceiveRefusal),
 }
 
-/// The same, with at most one message open.
-fn endpoint(alloc: Global, sources: usize, commands: usize) -> Result<Endpoint, Fail> {
-    bounded(alloc, sources, commands, 1)
+/// A moment, a packet that comes at it, and what becomes of the packet.
+pub type Row<'a> = (u64, &'a [u8], Fate<'a>);
+
+/// What became of a packet that is done with.
+fn outcome_fate(outcome: &Outcome) -> Fate<'_> {
+    match outcome {
+        Outcome::Dropped(reason) => Fate::Dropped(*reason),
+        Outcome::Partial => Fate::Partial,
+        Outcome::Answered { fresh, packets, .. } => {
+            let packet = packets.get(0).unwrap_or(&[]);
+            if *fresh {
+                Fate::Fresh(packet)
+            } else {
+                Fate::Copy(packet)
+            }
+        }
+    }
 }
 
-/// What it makes of a packet at a moment that is not before its last one.
+/// What became of a packet.
+fn fate_of(step: &Result<Step, ReceiveRefusal>) -> Fate<'_> {
+    match step {
+        Ok(Step::Perform(_)) => Fate::Perform,
+        Ok(Step::Respond(_)) => Fate::Respond,
+        Ok(Step::Done(outcome)) => outcome_fate(outcome),
+        Err(refusal) => Fate::Refused(*refusal),
+    }
+}
+
+/// What an endpoint makes of a packet at a moment that is not before its last one.
 fn receive(
     rt: &impl Abort,
     endpoint: &mut Endpoint,
     milliseconds: u64,
     packet: &[u8],
-) -> Result<Result<Step, ReceiveRefusal>, Fail> {
-    let now = Moment::new(milliseconds).ok_or("no moment")?;
+) -> Result<Step, ReceiveRefusal> {
+    let now = Moment::new(milliseconds).expect(rt, "a moment");
     let last = endpoint.last_moment();
     assert!(rt; last <= now);
-    Ok(endpoint.receive(now, packet))
+    endpoint.receive(now, packet)
 }
 
-/// Whether this is an answer of one packet with these bytes, and whether the request was performed now.
-fn is_answer(outcome: &Outcome, is_fresh: bool, bytes: &[u8]) -> bool {
-    match outcome {
-        Outcome::Answered { fresh, packets, .. } => *fresh == is_fresh
-            && packets.get(0) == Some(bytes),
-        _ => false,
+/// Hands over a packet, and checks what becomes of it.
+pub fn expect(rt: &impl Abort, endpoint: &mut Endpoint, row: &Row<'_>) {
+    let (milliseconds, packet, expected) = row;
+    let step = receive(rt, endpoint, *milliseconds, packet);
+    assert_eq!(rt; fate_of(&step), *expected, "at {milliseconds}");
+}
+
+/// Hands over packets in turn, and checks what becomes of each.
+pub fn play(rt: &impl Abort, endpoint: &mut Endpoint, rows: &[Row<'_>]) {
+    for row in rows {
+        expect(rt, endpoint, row);
     }
 }
 
-/// The handle of the command that is to be performed.
-fn handed_out(step: Result<Step, ReceiveRefusal>) -> Result<CommandHandle, Fail> {
-    match step {
-        Ok(Step::Perform(handle)) => Ok(handle),
-        _ => Err("nothing to be performed".into()),
+/// The handle of the command that a packet has performed.
+pub fn hand_out(
+    rt: &impl Abort,
+    endpoint: &mut Endpoint,
+    milliseconds: u64,
+    packet: &[u8],
+) -> CommandHandle {
+    match receive(rt, endpoint, milliseconds, packet) {
+        Ok(Step::Perform(handle)) => handle,
+        _ => panic!(rt; "nothing to be performed"),
     }
 }
 
-#[test]
-fn a_copy_gets_the_answer_that_the_device_gave(rt: HostRuntime) -> Result<(), Fail> {
-    let mut endpoint = endpoint(rt.alloc(), 1, 1)?;
-    let handle = handed_out(receive(&rt, &mut endpoint, 0, &GET_TID)?)?;
+/// Gives the device's answer, and checks that this packet goes out.
+fn expect_answer(
+    rt: &impl Abort,
+    endpoint: &mut Endpoint,
+    handle: &CommandHandle,
+    answer: &Answer,
+    packet: &[u8],
+) {
+    let outcome = endpoint.answer(handle, answer).expect(rt, "an answer");
+    assert_eq!(rt; outcome_fate(&outcome), Fate::Fresh(packet));
+}
+
+/// Gives the device's answer, and checks why it is refused.
+pub fn expect_refusal(
+    rt: &impl Abort,
+    endpoint: &mut Endpoint,
+    handle: &CommandHandle,
+    answer: &Answer,
+    refusal: AnswerRefusal,
+) {
+    assert_eq!(rt; endpoint.answer(handle, answer).err(), Some(refusal));
+}
+
+/// An endpoint that keeps the answers to so many sources for a second, and has at most so many commands
+/// pending and messages open at a time.
+pub fn bounded(
+    rt: &impl Abort,
+    alloc: Global,
+    own: Option<Eid>,
+    sources: usize,
+    commands: usize,
+    open_messages: usize,
+) -> Endpoint {
+    let keep = Keep::new(1000).expect(rt, "a keeping time");
+    let bounds = Bounds {
+        sources,
+        open_messages,
+    };
+    let keeping = Keeping::each_for(keep);
+    Endpoint::new(alloc, own, keeping, HandedOn::NONE, bounds, commands)
+}
+
+/// Endpoint 9, with at most one message open.
+fn endpoint(rt: &impl Abort, alloc: Global, sources: usize, commands: usize) -> Endpoint {
+    bounded(rt, alloc, Eid::new(9), sources, commands, 1)
+}
+
+/// GetTID of endpoint 8 to endpoint 9, with instance ID 0.
+const GET_TID: &[u8] = b"\x01\x09\x08\xc8\x01\x80\x00\x02";
+
+/// The same from endpoint 10.
+const GET_TID_OF_ANOTHER: &[u8] = b"\x01\x09\x0a\xc8\x01\x80\x00\x02";
+
+/// The response to the first: terminus ID 5.
+const TID_IS_5: &[u8] = b"\x01\x08\x09\xc0\x01\x00\x00\x02\x00\x05";
+
+/// The response to the other: terminus ID 6.
+const TID_OF_ANOTHER_IS_6: &[u8] = b"\x01\x0a\x09\xc0\x01\x00\x00\x02\x00\x06";
+
+/// SetTID to 7 of endpoint 8 to endpoint 9, with instance ID 0.
+const SET_TID: &[u8] = b"\x01\x09\x08\xc8\x01\x80\x00\x01\x07";
+
+/// The device's answers: terminus ID 5, and 6.
+const TID_5: Answer = Answer::GetTid { tid: 5 };
+
+const TID_6: Answer = Answer::GetTid { tid: 6 };
+
+/// Hands out a GetTID, and checks what is refused while it is pending.
+fn hand_out_one(rt: &impl Abort, endpoint: &mut Endpoint) -> CommandHandle {
+    let handle = hand_out(rt, endpoint, 0, GET_TID);
     assert!(rt; matches!(endpoint.command(&handle), Some(Command::GetTid)));
-    let refused = receive(&rt, &mut endpoint, 1, &GET_TID)?;
-    assert!(rt; matches!(&refused, Err(ReceiveRefusal::BeingPerformed)));
-    let refused = receive(&rt, &mut endpoint, 1, &SET_TID)?;
-    assert!(rt; matches!(&refused, Err(ReceiveRefusal::Performing)));
-    let refused = receive(&rt, &mut endpoint, 1, &GET_TID_OF_ANOTHER)?;
-    assert!(rt; matches!(&refused, Err(ReceiveRefusal::Full)));
-    let wrong = endpoint.answer(&handle, &Answer::SetTid);
-    assert!(rt; matches!(&wrong, Err(AnswerRefusal::OtherCommand)));
-    let outcome = endpoint.answer(&handle, &Answer::GetTid { tid: 5 });
-    assert!(rt; matches!(&outcome, Ok(outcome) if is_answer(outcome, true, &TID_IS_5)));
-    let again = endpoint.answer(&handle, &Answer::GetTid { tid: 6 });
-    assert!(rt; matches!(&again, Err(AnswerRefusal::NotPending)));
-    let copy = receive(&rt, &mut endpoint, 999, &GET_TID)?;
-    assert!(rt; matches!(&copy, Ok(Step::Done(outcome)) if is_answer(outcome, false, &TID_IS_5)));
+    let rows = &[
+        (1, GET_TID, Fate::Refused(ReceiveRefusal::BeingPerformed)),
+        (1, SET_TID, Fate::Refused(ReceiveRefusal::Performing)),
+        (1, GET_TID_OF_ANOTHER, Fate::Refused(ReceiveRefusal::Full)),
+    ];
+    play(rt, endpoint, rows);
+    handle
+}
+
+#[test]
+fn a_copy_gets_the_answer_that_the_device_gave(rt: HostRuntime) {
+    let mut endpoint = endpoint(&rt, rt.alloc(), 1, 1);
+    let handle = hand_out_one(&rt, &mut endpoint);
+    let wrong = AnswerRefusal::OtherCommand;
+    expect_refusal(&rt, &mut endpoint, &handle, &Answer::SetTid, wrong);
+    expect_answer(&rt, &mut endpoint, &handle, &TID_5, TID_IS_5);
+    let late = AnswerRefusal::NotPending;
+    expect_refusal(&rt, &mut endpoint, &handle, &TID_6, late);
+    expect(&rt, &mut endpoint, &(999, GET_TID, Fate::Copy(TID_IS_5)));
     assert_eq!(rt; endpoint.kept(), 1);
-    Ok(())
 }
 
-#[test]
-fn two_commands_are_answered_in_any_order(rt: HostRuntime) -> Result<(), Fail> {
-    let mut endpoint = endpoint(rt.alloc(), 2, 2)?;
-    let first = handed_out(receive(&rt, &mut endpoint, 0, &GET_TID)?)?;
-    let second = handed_out(receive(&rt, &mut endpoint, 1, &GET_TID_OF_ANOTHER)?)?;
+/// Hands out two commands, and answers the second, and then the first.
+fn answer_two(rt: &impl Abort, endpoint: &mut Endpoint) {
+    let first = hand_out(rt, endpoint, 0, GET_TID);
+    let second = hand_out(rt, endpoint, 1, GET_TID_OF_ANOTHER);
     assert_eq!(rt; endpoint.pending(), 2);
-    let outcome = endpoint.answer(&second, &Answer::GetTid { tid: 6 });
-    assert!(rt; matches!(&outcome, Ok(outcome) if is_answer(outcome, true, &TID_OF_ANOTHER_IS_6)));
-    let copy = receive(&rt, &mut endpoint, 2, &GET_TID_OF_ANOTHER)?;
-    assert!(rt;
-        matches!(&copy, Ok(Step::Done(outcome)) if is_answer(outcome, false, &TID_OF_ANOTHER_IS_6))
-    );
-    let outcome = endpoint.answer(&first, &Answer::GetTid { tid: 5 });
-    assert!(rt; matches!(&outcome, Ok(outcome) if is_answer(outcome, true, &TID_IS_5)));
-    assert_eq!(rt; endpoint.pending(), 0);
-    assert_eq!(rt; endpoint.kept(), 2);
-    Ok(())
+    expect_answer(rt, endpoint, &second, &TID_6, TID_OF_ANOTHER_IS_6);
+    let copy = Fate::Copy(TID_OF_ANOTHER_IS_6);
+    expect(rt, endpoint, &(2, GET_TID_OF_ANOTHER, copy));
+    expect_answer(rt, endpoint, &first, &TID_5, TID_IS_5);
 }
 
 #[test]
-fn a_second_source_is_refused_until_a_restart(rt: HostRuntime) -> Result<(), Fail> {
-    let mut endpoint = endpoint(rt.alloc(), 1, 2)?;
-    let handle = handed_out(receive(&rt, &mut endpoint, 0, &GET_TID)?)?;
-    let refused = receive(&rt, &mut endpoint, 1, &GET_TID_OF_ANOTHER)?;
-    assert!(rt; matches!(&refused, Err(ReceiveRefusal::Sources)));
-    let now = Moment::new(5).ok_or("no moment")?;
+fn two_commands_are_answered_in_any_order(rt: HostRuntime) {
+    let mut endpoint = endpoint(&rt, rt.alloc(), 2, 2);
+    answer_two(&rt, &mut endpoint);
+    assert_eq!(rt; (endpoint.pending(), endpoint.kept()), (0, 2));
+}
+
+/// Restarts at a moment that is not before the last one.
+fn restart(rt: &impl Abort, endpoint: &mut Endpoint, milliseconds: u64) {
+    let now = Moment::new(milliseconds).expect(rt, "a moment");
     let last = endpoint.last_moment();
     assert!(rt; last <= now);
     endpoint.restart(now);
-    let late = endpoint.answer(&handle, &Answer::GetTid { tid: 5 });
-    assert!(rt; matches!(&late, Err(AnswerRefusal::NotPending)));
-    let served = receive(&rt, &mut endpoint, 1005, &GET_TID_OF_ANOTHER)?;
-    assert!(rt; matches!(&served, Ok(Step::Perform(_))));
-    Ok(())
+}
+
+#[test]
+fn a_second_source_is_refused_until_a_restart(rt: HostRuntime) {
+    let mut endpoint = endpoint(&rt, rt.alloc(), 1, 2);
+    let handle = hand_out(&rt, &mut endpoint, 0, GET_TID);
+    let refused = Fate::Refused(ReceiveRefusal::Sources);
+    expect(&rt, &mut endpoint, &(1, GET_TID_OF_ANOTHER, refused));
+    restart(&rt, &mut endpoint, 5);
+    let late = AnswerRefusal::NotPending;
+    expect_refusal(&rt, &mut endpoint, &handle, &TID_5, late);
+    let served = Fate::Perform;
+    expect(&rt, &mut endpoint, &(1005, GET_TID_OF_ANOTHER, served));
 }
 
 /// Requests of two packets each: a GetTID of endpoint 8 with instance ID 2, and one of endpoint 10 with instance ID 3.
-const BEGUN: [u8; 6] = [1, 9, 8, 0x8a, 1, 0x82];
+const BEGUN: &[u8] = b"\x01\x09\x08\x8a\x01\x82";
 
-const LAST: [u8; 6] = [1, 9, 8, 0x5a, 0, 2];
+const LAST: &[u8] = b"\x01\x09\x08\x5a\x00\x02";
 
-const BEGUN_BY_ANOTHER: [u8; 6] = [1, 9, 10, 0x8b, 1, 0x83];
+const BEGUN_BY_ANOTHER: &[u8] = b"\x01\x09\x0a\x8b\x01\x83";
 
-const LAST_OF_ANOTHER: [u8; 6] = [1, 9, 10, 0x5b, 0, 2];
+const LAST_OF_ANOTHER: &[u8] = b"\x01\x09\x0a\x5b\x00\x02";
 
 /// The same of endpoint 11, with instance ID 4.
-const BEGUN_BY_A_THIRD: [u8; 6] = [1, 9, 11, 0x8c, 1, 0x84];
+const BEGUN_BY_A_THIRD: &[u8] = b"\x01\x09\x0b\x8c\x01\x84";
 
-/// Whether the packet is part of a message that is open.
-fn is_part(taken: &Result<Step, ReceiveRefusal>) -> bool {
-    matches!(taken, Ok(Step::Done(Outcome::Partial)))
-}
-
-/// Whether the packet is dropped, since no message that it could go on with is open.
-fn is_stray(taken: &Result<Step, ReceiveRefusal>) -> bool {
-    match taken {
-        Ok(Step::Done(Outcome::Dropped(reason))) => *reason == Reason::UnexpectedMiddleOrEnd,
-        _ => false,
-    }
+#[test]
+fn the_oldest_open_message_ends_for_a_new_one(rt: HostRuntime) {
+    let mut endpoint = bounded(&rt, rt.alloc(), Eid::new(9), 2, 2, 2);
+    let stray = Fate::Dropped(Reason::UnexpectedMiddleOrEnd);
+    let rows = &[
+        (0, BEGUN, Fate::Partial),
+        (0, BEGUN_BY_ANOTHER, Fate::Partial),
+        // Begun once more, that of endpoint 8 is the youngest.
+        (0, BEGUN, Fate::Partial),
+        (0, BEGUN_BY_A_THIRD, Fate::Partial),
+        (0, LAST_OF_ANOTHER, stray),
+        (0, LAST, Fate::Perform),
+    ];
+    play(&rt, &mut endpoint, rows);
 }
 
 #[test]
-fn the_oldest_open_message_ends_for_a_new_one(rt: HostRuntime) -> Result<(), Fail> {
-    let mut endpoint = bounded(rt.alloc(), 2, 2, 2)?;
-    assert!(rt; is_part(&receive(&rt, &mut endpoint, 0, &BEGUN)?));
-    assert!(rt; is_part(&receive(&rt, &mut endpoint, 0, &BEGUN_BY_ANOTHER)?));
-    // Begun once more, that of endpoint 8 is the youngest.
-    assert!(rt; is_part(&receive(&rt, &mut endpoint, 0, &BEGUN)?));
-    assert!(rt; is_part(&receive(&rt, &mut endpoint, 0, &BEGUN_BY_A_THIRD)?));
-    assert!(rt; is_stray(&receive(&rt, &mut endpoint, 0, &LAST_OF_ANOTHER)?));
-    let served = receive(&rt, &mut endpoint, 0, &LAST)?;
-    assert!(rt; matches!(&served, Ok(Step::Perform(_))));
-    Ok(())
-}
-
-#[test]
-fn an_open_message_is_refused_only_where_none_may_be(rt: HostRuntime) -> Result<(), Fail> {
-    let mut endpoint = bounded(rt.alloc(), 2, 1, 0)?;
-    let refused = receive(&rt, &mut endpoint, 0, &BEGUN)?;
-    assert!(rt; matches!(&refused, Err(ReceiveRefusal::OpenMessages)));
-    let served = receive(&rt, &mut endpoint, 3, &GET_TID_OF_ANOTHER)?;
-    assert!(rt; matches!(&served, Ok(Step::Perform(_))));
-    Ok(())
+fn an_open_message_is_refused_only_where_none_may_be(rt: HostRuntime) {
+    let mut endpoint = bounded(&rt, rt.alloc(), Eid::new(9), 2, 1, 0);
+    let rows = &[
+        (0, BEGUN, Fate::Refused(ReceiveRefusal::OpenMessages)),
+        (3, GET_TID_OF_ANOTHER, Fate::Perform),
+    ];
+    play(&rt, &mut endpoint, rows);
 }
 
 /// How many bytes more there are after each refusal.
 const STEP: usize = 16;
 
-/// Has a command of endpoint 8 handed out with no memory at first, and with a little more after each refusal, at most
-/// so many times: how often it was refused. No refusal uses up the one source that there is room for.
-fn refusals(
-    rt: &impl Abort,
-    alloc: Global,
-    endpoint: &mut Endpoint,
-    most: u32,
-) -> Result<u32, Fail> {
-    let mut hoard = Hoard::take(alloc, 0)?;
-    for count in 0..most {
-        if receive(rt, endpoint, 0, &GET_TID)?.is_ok() {
-            return Ok(count);
-        }
+/// Whether a command of endpoint 8 is handed out at 0, or another step comes of it. Where it is refused, it uses up no
+/// source.
+fn is_taken(rt: &impl Abort, endpoint: &mut Endpoint) -> bool {
+    let is_taken = receive(rt, endpoint, 0, GET_TID).is_ok();
+    if !is_taken {
         assert_eq!(rt;
             (endpoint.sources(), endpoint.pending(), endpoint.kept()),
             (0, 0, 0)
         );
+    }
+    is_taken
+}
+
+/// Has a command of endpoint 8 handed out with no memory at first, and with a little more after each refusal, at most
+/// so many times: how often it was refused. No refusal uses up the one source that there is room for.
+fn refusals(rt: &impl Abort, alloc: Global, endpoint: &mut Endpoint, most: u32) -> u32 {
+    let mut hoard = Hoard::take(alloc, 0).expect(rt, "a hoard");
+    for count in 0..most {
+        if is_taken(rt, endpoint) {
+            return count;
+        }
         hoard.give(STEP);
     }
-    Ok(most)
+    most
+}
+
+/// How many refusals there are before a command is handed out at an endpoint with one source.
+fn all_refusals(rt: &impl Abort, alloc: Global) -> u32 {
+    let mut served = endpoint(rt, alloc, 1, 1);
+    let all = refusals(rt, alloc, &mut served, 4_000);
+    assert!(rt; all > 1, "{all} refusals");
+    assert_eq!(rt; (served.sources(), served.pending()), (1, 1));
+    all
+}
+
+/// Checks that another source is served after so many refusals.
+fn serve_another(rt: &impl Abort, alloc: Global, most: u32) {
+    let mut lost = endpoint(rt, alloc, 1, 1);
+    assert_eq!(rt; refusals(rt, alloc, &mut lost, most), most);
+    expect(rt, &mut lost, &(1, GET_TID_OF_ANOTHER, Fate::Perform));
 }
 
 #[test]
-fn refused_growths_use_up_no_source(rt: HostRuntime) -> Result<(), Fail> {
-    let mut served = endpoint(rt.alloc(), 1, 1)?;
-    let all = refusals(&rt, rt.alloc(), &mut served, 4_000)?;
-    assert!(rt; all > 1, "{all} refusals");
-    assert_eq!(rt; (served.sources(), served.pending()), (1, 1));
+fn refused_growths_use_up_no_source(rt: HostRuntime) {
+    let all = all_refusals(&rt, rt.alloc());
     for most in [1, all / 2, all - all / 8] {
-        let mut lost = endpoint(rt.alloc(), 1, 1)?;
-        let refused = refusals(&rt, rt.alloc(), &mut lost, most)?;
-        assert_eq!(rt; refused, most);
-        let other = receive(&rt, &mut lost, 1, &GET_TID_OF_ANOTHER)?;
-        assert!(rt; matches!(&other, Ok(Step::Perform(_))));
+        serve_another(&rt, rt.alloc(), most);
     }
-    Ok(())
 }
