@@ -7,14 +7,14 @@ const HEADER: [u8; 10] = [0x01, 0x00, 0x00, 0x00, 0x01, 0x01, 0x00, 0x00, 0x22, 
 
 #[test]
 fn bytes_have_their_checksum(rt: HostRuntime) {
-    assert_eq!(rt; crc8(b"123456789"), 0xf4);
-    assert_eq!(rt; crc8(&HEADER), 0xa0);
-    assert_eq!(rt; crc8(&[]), 0);
+    expect_eq(&rt, crc8(b"123456789"), 0xf4, "digits");
+    expect_eq(&rt, crc8(&HEADER), 0xa0, "the header");
+    expect_eq(&rt, crc8(&[]), 0, "no bytes");
 }
 
 #[test]
 fn zeros_after_the_header_count(rt: HostRuntime) {
     let mut record = [0; 300];
     record[..HEADER.len()].copy_from_slice(&HEADER);
-    assert_eq!(rt; crc8(&record), 0xf5);
+    expect_eq(&rt, crc8(&record), 0xf5, "the header and zeros");
 }
