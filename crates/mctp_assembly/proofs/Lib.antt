@@ -7,6 +7,7 @@ pub mod CallsLookBack
 pub mod RowsAreOne
 pub mod CopiesJoin
 pub mod NumberLookups
+pub mod NumberCounts
 pub mod NumberSearches
 pub mod NumberPlaces
 pub mod OpenPlaces

@@ -37,12 +37,6 @@ module _ {X : Type 0} (past : X) where
     pub smaller : (j : ℕ) → j < i → number_in list j < n
     pub greater : (j : ℕ) → i ≤ j → j < length list → n < number_in list j
 
-  -- the place of the first number that is not smaller than this one, or the end of the list
-  pub record IsFirstFrom (list : NumberList X) (n i : ℕ) : Type 0 where
-    pub in_range : i ≤ length list
-    pub smaller : (j : ℕ) → j < i → number_in list j < n
-    pub here : i < length list → n ≤ number_in list i
-
 -- the values by the keys that have these numbers
 abbrev pub keyed : {K X : Type 0} → (ℕ → K) → NumberList X → List (K × X)
 keyed key_at [] = []

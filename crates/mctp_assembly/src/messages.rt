@@ -1,11 +1,11 @@
 //! The messages that have begun and not ended, by the numbers of their keys.
 
-ghost use Rattle.std.specs.Prelude.{◌≡◌, ◌≢◌, ◌<◌, ◌≤◌, true, false, ℕ, List, [], length};
+ghost use Rattle.std.specs.Prelude.{◌≡◌, ◌≢◌, ◌<◌, ◌≤◌, true, false, ℕ, nat_lt, List, [], length};
 ghost use Rattle.std.specs.Prelude.{Some, None, IfOk, IfErr, OnOk, OnErr};
 ghost use Rattle.std.specs.Option.{option_copied, option_map};
-ghost use Rattle.std.specs.List.{All, remove};
+ghost use Rattle.std.specs.List.{All, count_by, remove};
 ghost use Rattle.mctp_assembly.specs.Fed.{fed_with};
-ghost use Rattle.mctp_assembly.specs.NumberLists.{Changes, IsAt, IsFirstFrom, IsGapFor, Rises, at, number_in};
+ghost use Rattle.mctp_assembly.specs.NumberLists.{Changes, IsAt, IsGapFor, Rises, at, number_in};
 ghost use Rattle.mctp_assembly.specs.Numbered.{IsEntry, IsLeftBy, IsNumber, IsRefusedMemory, answer_at, none_open};
 ghost use Rattle.mctp_assembly.specs.Opened.{IsOpened};
 ghost use Rattle.mctp_assembly.specs.Steps.{begun_by, carried_on};
@@ -18,8 +18,8 @@ use mctp_packet::{Body, Memory, PacketRef};
 use std::alloc::{AllocError, Global};
 use std::marker::Model;
 
-/// In a list of at most so many, to look at one after another takes less time than to halve the list: a processor
-/// foresees all of these jumps but the last.
+/// In a list of at most so many, to look at each takes less time than to halve the list, whose jumps a processor cannot
+/// foresee.
 const FEW: usize = 32;
 
 /// The open messages by the numbers of their keys, which rise: a look-up among many is a binary search.
@@ -72,7 +72,7 @@ impl Messages {
                 .list
                 .binary_search_by_key(&number, |buffer| buffer.number());
         }
-        let place = first_from(&self.list, number);
+        let place = smaller(&self.list, number);
         if stands_at(&self.list, place, number) {
             Ok(place)
         } else {
@@ -195,16 +195,17 @@ fn stands_at(list: &[Buffer], place: usize, number: u16) -> bool
     }
 }
 
-/// Where the first number stands that is not smaller than this one, or the end.
+/// How many of the numbers are smaller: so many messages stand before that under this one.
+// No jump depends on a number, so the processor foresees all of them.
 #[inline(always)]
-fn first_from(list: &[Buffer], number: u16) -> usize
-    ensures { IsFirstFrom none_open list.now number result }
+fn smaller(list: &[Buffer], number: u16) -> usize
+    ensures { result ≡ count_by (λ entry. nat_lt entry.0 number) list.now }
 {
-    let mut place = 0;
-    while place < list.len() && list[place].number() < number {
-        place += 1;
+    let mut smaller = 0;
+    for buffer in list {
+        smaller += usize::from(buffer.number() < number);
     }
-    place
+    smaller
 }
 
 /// Room for the bytes of a message: that of a message that has ended, where it was kept, else new room.

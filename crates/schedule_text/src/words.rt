@@ -49,6 +49,8 @@ impl<'a> Model for Words<'a> {
 
 /// The first word that a line says, given without its LF, and the words after it; `None` where it says
 /// none. Nearly all lines begin with `at `, which is not looked at byte by byte.
+// Inlined: it runs for each line.
+#[inline(always)]
 pub(crate) fn words_in(line: &[u8]) -> Option<(Word<'_>, Words<'_>)>
     ensures some { IfSome result (λ p. said_words line.now ≡ p.0 ∷ p.1) }
     ensures none { IfNone result (said_words line.now ≡ []) }
