@@ -4,6 +4,10 @@
 #[cfg(test)]
 mod control_tables;
 #[cfg(test)]
+mod descriptions;
+#[cfg(test)]
+mod expect;
+#[cfg(test)]
 mod faults;
 #[cfg(test)]
 mod fetch;

@@ -1,8 +1,10 @@
 //! Records that the table `records` has made, compared with bytes that were written by hand.
 
-use pldm_device::{Description, FileFault, SimDevice};
+use crate::descriptions::{description_of, is_refused, joined};
+use crate::expect::expect_eq;
+use pldm_device::FileFault;
 use std::alloc::Global;
-use std::test::Fail;
+use std::process::Abort;
 
 /// A device with a thing of each kind, up to its table.
 const DEVICE: &str = r#"eid = 9
@@ -107,24 +109,24 @@ const RECORDS: &[&[u8]] = &[
     EFFECTER_NAMES,
 ];
 
-/// The device that the text states.
-fn device_of(alloc: Global, text: &str) -> Result<SimDevice, FileFault> {
-    let read = Description::read(alloc, text.as_bytes())?;
-    Ok(read.device)
+/// The device up to its table, and these lines.
+fn text_with(rt: &impl Abort, alloc: Global, lines: &str) -> String {
+    joined(rt, alloc, &[DEVICE, lines])
+}
+
+/// The device with these lines has these records.
+fn has_records(rt: &impl Abort, alloc: Global, lines: &str, records: &[&[u8]]) {
+    let read = description_of(rt, alloc, &text_with(rt, alloc, lines));
+    for (place, record) in records.iter().enumerate() {
+        expect_eq(rt, read.device.record(place), Some(*record), place);
+    }
+    expect_eq(rt, read.device.record(records.len()), None, "the end");
 }
 
 #[test]
-fn a_thing_of_each_kind(rt: HostRuntime) -> Result<(), Fail> {
-    let plain = device_of(rt.alloc(), DEVICE)?;
-    assert_eq!(rt; plain.record(0), Some(RECORDS[0]));
-    assert_eq!(rt; plain.record(1), None);
-    let text = format!(in rt.alloc(); "{DEVICE}{TABLE}")?;
-    let made = device_of(rt.alloc(), &text)?;
-    for (place, record) in RECORDS.iter().enumerate() {
-        assert_eq!(rt; made.record(place), Some(*record), "record {place}");
-    }
-    assert_eq!(rt; made.record(RECORDS.len()), None);
-    Ok(())
+fn a_thing_of_each_kind(rt: HostRuntime) {
+    has_records(&rt, rt.alloc(), "", &RECORDS[..1]);
+    has_records(&rt, rt.alloc(), TABLE, RECORDS);
 }
 
 /// What stands in place of the table, and the fault that is reported.
@@ -138,10 +140,9 @@ const FAULTS: &[(&str, FileFault)] = &[
 ];
 
 #[test]
-fn faults_of_the_table(rt: HostRuntime) -> Result<(), Fail> {
+fn faults_of_the_table(rt: HostRuntime) {
     for (table, fault) in FAULTS {
-        let text = format!(in rt.alloc(); "{DEVICE}{table}")?;
-        assert_eq!(rt; device_of(rt.alloc(), &text).err(), Some(*fault), "{table}");
+        let text = text_with(&rt, rt.alloc(), table);
+        is_refused(&rt, rt.alloc(), &text, *fault, table);
     }
-    Ok(())
 }

@@ -1,13 +1,16 @@
 //! What a description says of how its endpoint treats requests: its keys `window` and `busy`.
 
-use example_device::description;
+use crate::descriptions::{changed, in_front};
+use crate::expect::expect_eq;
 use pldm_device::{Description, FileFault};
 use pldm_wire::{BusyTime, HandedOn};
 use std::alloc::Global;
-use std::test::Fail;
 
-/// Lines in front of the example, and what it then says: the window and the busy time, or a fault.
-const ROWS: &[(&str, Result<(u8, BusyTime), FileFault>)] = &[
+/// The window and the busy time, or a fault.
+type Settings = Result<(u8, BusyTime), FileFault>;
+
+/// Lines in front of the example, and what it then says.
+const ROWS: &[(&str, Settings)] = &[
     ("", Ok((32, BusyTime::All))),
     ("window = 1\n", Ok((1, BusyTime::All))),
     ("window = 32\n", Ok((32, BusyTime::All))),
@@ -26,27 +29,24 @@ const ROWS: &[(&str, Result<(u8, BusyTime), FileFault>)] = &[
 ];
 
 /// What a description says of its window and its busy time.
-fn settings_of(alloc: Global, text: &str) -> Result<(u8, BusyTime), FileFault> {
+fn settings_of(alloc: Global, text: &str) -> Settings {
     let read = Description::read(alloc, text.as_bytes())?;
     Ok((read.window.get(), read.busy))
 }
 
 #[test]
-fn windows_and_busy_times(rt: HostRuntime) -> Result<(), Fail> {
-    let example = description(rt.alloc())?;
+fn windows_and_busy_times(rt: HostRuntime) {
     for (lines, wanted) in ROWS {
-        let text = format!(in rt.alloc(); "{lines}{example}")?;
-        assert_eq!(rt; settings_of(rt.alloc(), &text), *wanted, "{lines}");
+        let text = in_front(&rt, rt.alloc(), lines);
+        expect_eq(&rt, settings_of(rt.alloc(), &text), *wanted, lines);
     }
-    Ok(())
 }
 
 #[test]
-fn the_keeping_time_is_told_before_the_window(rt: HostRuntime) -> Result<(), Fail> {
-    let example = description(rt.alloc())?;
-    let (front, back) = example.split_once("keep_ms = ").ok_or("no keeping time")?;
-    let text = format!(in rt.alloc(); "window = 33\n{front}keep_ms = ''\nignored = {back}")?;
+fn the_keeping_time_is_told_before_the_window(rt: HostRuntime) {
+    let text = in_front(&rt, rt.alloc(), "window = 33\n");
+    let (old, new) = ("keep_ms = ", "keep_ms = ''\nignored = ");
+    let text = changed(&rt, rt.alloc(), &text, old, new);
     let settings = settings_of(rt.alloc(), &text);
-    assert_eq!(rt; settings, Err(FileFault::WrongKind));
-    Ok(())
+    expect_eq(&rt, settings, Err(FileFault::WrongKind), new);
 }
