@@ -1,11 +1,12 @@
 //! Records of numeric sensors and numeric effecters, read and written.
 
+use crate::expect::expect_eq;
+use crate::records::both_ways;
 use pldm_pdr::{
     Conversion, EffecterRange, Entity, NumericEffecter, NumericSensor, RangeFormat, Record,
-    RecordData, SensorRange, Units, read, write,
+    RecordData, SensorRange, Units,
 };
 use pldm_wire::Size;
-use std::test::Fail;
 
 const SENSOR: [u8; 72] = [
     0x03, 0x00, 0x00, 0x00, // record handle 3
@@ -111,21 +112,23 @@ fn sensor() -> NumericSensor {
 }
 
 #[test]
-fn a_numeric_sensor(rt: HostRuntime) -> Result<(), Fail> {
-    let made = Record::new(3, 0, RecordData::NumericSensor(sensor())).ok_or("no record")?;
-    assert_eq!(rt; write(&made).as_slice(), SENSOR.as_slice());
-    assert_eq!(rt; read(&SENSOR), Ok(made));
-    Ok(())
+fn a_numeric_sensor(rt: HostRuntime) {
+    both_ways(&rt, &SENSOR, 3, 0, RecordData::NumericSensor(sensor()));
+}
+
+/// Whether there is a record of this sensor.
+fn is_made(sensor: NumericSensor) -> bool {
+    Record::new(3, 0, RecordData::NumericSensor(sensor)).is_some()
 }
 
 #[test]
 fn numbers_that_do_not_fit(rt: HostRuntime) {
     let mut high = sensor();
     high.max_readable = 32_768;
-    assert_eq!(rt; Record::new(3, 0, RecordData::NumericSensor(high)), None);
+    expect_eq(&rt, is_made(high), false, "max readable");
     let mut low = sensor();
     low.range.fatal_low = -129;
-    assert_eq!(rt; Record::new(3, 0, RecordData::NumericSensor(low)), None);
+    expect_eq(&rt, is_made(low), false, "fatal low");
 }
 
 const EFFECTER: [u8; 78] = [
@@ -218,9 +221,12 @@ fn effecter() -> NumericEffecter {
 }
 
 #[test]
-fn a_numeric_effecter(rt: HostRuntime) -> Result<(), Fail> {
-    let made = Record::new(4, 0, RecordData::NumericEffecter(effecter())).ok_or("no record")?;
-    assert_eq!(rt; write(&made).as_slice(), EFFECTER.as_slice());
-    assert_eq!(rt; read(&EFFECTER), Ok(made));
-    Ok(())
+fn a_numeric_effecter(rt: HostRuntime) {
+    both_ways(
+        &rt,
+        &EFFECTER,
+        4,
+        0,
+        RecordData::NumericEffecter(effecter()),
+    );
 }

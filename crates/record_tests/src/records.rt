@@ -1,11 +1,25 @@
 //! Terminus locators, state sensors, state effecters and names.
 
+use crate::expect::expect_eq;
 use arrayvec::ArrayVec;
 use pldm_pdr::{
     EffecterNames, Entity, EntityNames, PossibleStates, Record, RecordData, SensorNames,
     StateEffecter, StateSensor, TerminusLocator, read, write,
 };
-use std::test::Fail;
+use std::process::Abort;
+
+/// The record of this handle, change number and data is written as these bytes, and they are read as it.
+pub fn both_ways(
+    rt: &impl Abort,
+    bytes: &[u8],
+    handle: u32,
+    change_number: u16,
+    contents: RecordData,
+) {
+    let made = Record::new(handle, change_number, contents).expect(rt, "a record");
+    expect_eq(rt, write(&made).as_slice(), bytes, handle);
+    expect_eq(rt, read(bytes).as_ref(), Ok(&made), handle);
+}
 
 const LOCATOR: [u8; 19] = [
     0x01, 0x00, 0x00, 0x00, // record handle 1
@@ -23,7 +37,7 @@ const LOCATOR: [u8; 19] = [
 ];
 
 #[test]
-fn a_terminus_locator(rt: HostRuntime) -> Result<(), Fail> {
+fn a_terminus_locator(rt: HostRuntime) {
     let locator = TerminusLocator {
         terminus_handle: 0x0102,
         is_valid: true,
@@ -31,10 +45,7 @@ fn a_terminus_locator(rt: HostRuntime) -> Result<(), Fail> {
         container_id: 100,
         eid: 9,
     };
-    let made = Record::new(1, 0, RecordData::TerminusLocator(locator)).ok_or("no record")?;
-    assert_eq!(rt; write(&made).as_slice(), LOCATOR.as_slice());
-    assert_eq!(rt; read(&LOCATOR), Ok(made));
-    Ok(())
+    both_ways(&rt, &LOCATOR, 1, 0, RecordData::TerminusLocator(locator));
 }
 
 const STATES: [u8; 32] = [
@@ -59,16 +70,27 @@ const STATES: [u8; 32] = [
     0x01, 0x02, // states 0 and 9
 ];
 
+/// Of these states the set has those for which the row says so.
+fn expect_states(rt: &impl Abort, set: &PossibleStates, rows: &[(u8, bool)]) {
+    for (state, has) in rows {
+        expect_eq(rt, set.has_state(*state), *has, state);
+    }
+}
+
 #[test]
-fn a_state_sensor(rt: HostRuntime) -> Result<(), Fail> {
+fn states_of_a_set(rt: HostRuntime) {
     let first = PossibleStates::of(1, &[2, 1]);
+    let states = [(0, false), (1, true), (2, true), (3, false), (10, false)];
+    expect_states(&rt, &first, &states);
     let second = PossibleStates::of(258, &[9, 0]);
-    assert!(rt; first.has_state(1) && first.has_state(2));
-    assert!(rt; !first.has_state(0) && !first.has_state(3) && !first.has_state(10));
-    assert!(rt; second.has_state(0) && second.has_state(9) && !second.has_state(8));
+    expect_states(&rt, &second, &[(0, true), (8, false), (9, true)]);
+}
+
+#[test]
+fn a_state_sensor(rt: HostRuntime) {
     let mut sets = ArrayVec::new();
-    let _ = sets.try_push(first);
-    let _ = sets.try_push(second);
+    let _ = sets.try_push(PossibleStates::of(1, &[2, 1]));
+    let _ = sets.try_push(PossibleStates::of(258, &[9, 0]));
     let sensor = StateSensor {
         terminus_handle: 1,
         sensor_id: 10,
@@ -81,10 +103,13 @@ fn a_state_sensor(rt: HostRuntime) -> Result<(), Fail> {
         has_auxiliary_names: false,
         sets,
     };
-    let made = Record::new(0x0102_0304, 7, RecordData::StateSensor(sensor)).ok_or("no record")?;
-    assert_eq!(rt; write(&made).as_slice(), STATES.as_slice());
-    assert_eq!(rt; read(&STATES), Ok(made));
-    Ok(())
+    both_ways(
+        &rt,
+        &STATES,
+        0x0102_0304,
+        7,
+        RecordData::StateSensor(sensor),
+    );
 }
 
 const EFFECTER: [u8; 29] = [
@@ -108,7 +133,7 @@ const EFFECTER: [u8; 29] = [
 ];
 
 #[test]
-fn a_state_effecter(rt: HostRuntime) -> Result<(), Fail> {
+fn a_state_effecter(rt: HostRuntime) {
     let mut sets = ArrayVec::new();
     let _ = sets.try_push(PossibleStates::of(5, &[1, 2, 3, 4]));
     let effecter = StateEffecter {
@@ -124,10 +149,7 @@ fn a_state_effecter(rt: HostRuntime) -> Result<(), Fail> {
         has_description: true,
         sets,
     };
-    let made = Record::new(2, 0, RecordData::StateEffecter(effecter)).ok_or("no record")?;
-    assert_eq!(rt; write(&made).as_slice(), EFFECTER.as_slice());
-    assert_eq!(rt; read(&EFFECTER), Ok(made));
-    Ok(())
+    both_ways(&rt, &EFFECTER, 2, 0, RecordData::StateEffecter(effecter));
 }
 
 const NAMES: [u8; 49] = [
@@ -150,7 +172,7 @@ const NAMES: [u8; 49] = [
 ];
 
 #[test]
-fn names_of_a_sensor(rt: HostRuntime) -> Result<(), Fail> {
+fn names_of_a_sensor(rt: HostRuntime) {
     let mut names = ArrayVec::new();
     let _ = names.try_extend_from_slice(&NAMES[14..]);
     let record = SensorNames {
@@ -158,10 +180,7 @@ fn names_of_a_sensor(rt: HostRuntime) -> Result<(), Fail> {
         sensor_id: 5,
         names,
     };
-    let made = Record::new(5, 0, RecordData::SensorNames(record)).ok_or("no record")?;
-    assert_eq!(rt; write(&made).as_slice(), NAMES.as_slice());
-    assert_eq!(rt; read(&NAMES), Ok(made));
-    Ok(())
+    both_ways(&rt, &NAMES, 5, 0, RecordData::SensorNames(record));
 }
 
 const TERMINUS_NAME: [u8; 31] = [
@@ -180,7 +199,7 @@ const TERMINUS_NAME: [u8; 31] = [
 ];
 
 #[test]
-fn the_name_of_a_terminus(rt: HostRuntime) -> Result<(), Fail> {
+fn the_name_of_a_terminus(rt: HostRuntime) {
     let mut names = ArrayVec::new();
     let _ = names.try_extend_from_slice(&TERMINUS_NAME[17..]);
     let record = EntityNames {
@@ -191,10 +210,7 @@ fn the_name_of_a_terminus(rt: HostRuntime) -> Result<(), Fail> {
         },
         names,
     };
-    let made = Record::new(6, 0, RecordData::EntityNames(record)).ok_or("no record")?;
-    assert_eq!(rt; write(&made).as_slice(), TERMINUS_NAME.as_slice());
-    assert_eq!(rt; read(&TERMINUS_NAME), Ok(made));
-    Ok(())
+    both_ways(&rt, &TERMINUS_NAME, 6, 0, RecordData::EntityNames(record));
 }
 
 #[test]
@@ -206,5 +222,6 @@ fn names_that_are_not_whole(rt: HostRuntime) {
         effecter_id: 6,
         names,
     };
-    assert_eq!(rt; Record::new(7, 0, RecordData::EffecterNames(record)), None);
+    let made = Record::new(7, 0, RecordData::EffecterNames(record));
+    expect_eq(&rt, made.is_some(), false, "made");
 }
