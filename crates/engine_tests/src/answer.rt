@@ -4,38 +4,21 @@ mod changed_packets;
 mod records;
 mod transfer;
 
-use crate::fakes::{OneByteWriter, TEXT_ROOM};
+use crate::engines::{End, Engine, expect, expect_each, expect_flushed};
 use example_device::{description, input};
-use mctpctl_engines::{DescriptionFault, EngineFault, LineKind, Port, answer_all};
+use mctpctl_engines::LineKind;
 use pldm_device::FileFault;
 use std::alloc::{AllocError, Global};
-use std::io::Read;
 use std::process::Abort;
 use std::test::Fail;
 
-/// What a run over this input answers, and what it writes.
-fn run<R: Read + Drop>(
-    alloc: Global,
-    reader: R,
-) -> Result<(Result<(), EngineFault>, Vec<u8>), AllocError> {
-    let mut reader = Port::new(reader);
-    let mut writer = Port::new(Vec::with_capacity(alloc, TEXT_ROOM)?);
-    let result = answer_all(alloc, &mut reader, &mut writer);
-    Ok((result, writer.into_inner()))
-}
-
-/// Checks what a capture of the example device gives.
-fn expect(
+/// Checks what captures of the example device give.
+fn expect_answers(
     rt: &impl Abort,
     alloc: Global,
-    capture: &str,
-    want: Result<(), EngineFault>,
-    text: &str,
+    cases: &[(&str, &str)],
 ) -> Result<(), AllocError> {
-    let (result, written) = run(alloc, input(alloc, capture)?.as_bytes())?;
-    assert_eq!(rt; result, want, "{capture}");
-    assert_eq!(rt; written.as_slice(), text.as_bytes(), "{capture}");
-    Ok(())
+    expect_each(rt, alloc, Engine::Answer, cases)
 }
 
 #[test]
@@ -58,9 +41,7 @@ fn answers(rt: HostRuntime) -> Result<(), Fail> {
         ("", ""),
         ("# nothing\n\n", ""),
     ];
-    for (capture, text) in cases {
-        expect(&rt, rt.alloc(), capture, Ok(()), text)?;
-    }
+    expect_answers(&rt, rt.alloc(), &cases)?;
     Ok(())
 }
 
@@ -88,9 +69,7 @@ fn commands_of_the_device(rt: HostRuntime) -> Result<(), Fail> {
             "010809c20102000300000000000500f0f0f1\n",
         ),
     ];
-    for (capture, text) in cases {
-        expect(&rt, rt.alloc(), capture, Ok(()), text)?;
-    }
+    expect_answers(&rt, rt.alloc(), &cases)?;
     Ok(())
 }
 
@@ -117,9 +96,7 @@ fn drops(rt: HostRuntime) -> Result<(), Fail> {
         ("0 010908c801000002", "drop NotRequest\n"),
         ("0 010908c801c00002", "drop Datagram\n"),
     ];
-    for (capture, text) in cases {
-        expect(&rt, rt.alloc(), capture, Ok(()), text)?;
-    }
+    expect_answers(&rt, rt.alloc(), &cases)?;
     Ok(())
 }
 
@@ -148,9 +125,7 @@ fn messages_of_several_packets(rt: HostRuntime) -> Result<(), Fail> {
             "partial\npartial\npartial\npartial\npartial\ndrop TooLong\n",
         ),
     ];
-    for (capture, text) in cases {
-        expect(&rt, rt.alloc(), capture, Ok(()), text)?;
-    }
+    expect_answers(&rt, rt.alloc(), &cases)?;
     Ok(())
 }
 
@@ -213,9 +188,7 @@ fn copies(rt: HostRuntime) -> Result<(), Fail> {
             "010809c0010000020001\n010809c2010000020001\n",
         ),
     ];
-    for (capture, text) in cases {
-        expect(&rt, rt.alloc(), capture, Ok(()), text)?;
-    }
+    expect_answers(&rt, rt.alloc(), &cases)?;
     Ok(())
 }
 
@@ -230,59 +203,55 @@ fn refused_lines(rt: HostRuntime) -> Result<(), Fail> {
         ("%%", 1, LineKind::Number, ""),
     ];
     for (capture, line, kind, text) in cases {
-        let want = Err(EngineFault::Line(line, kind));
-        expect(&rt, rt.alloc(), capture, want, text)?;
+        let end = End::Line(line, kind);
+        expect(&rt, rt.alloc(), Engine::Answer, capture, end, text)?;
     }
+    Ok(())
+}
+
+/// Checks that this input is refused, and that nothing is written.
+fn expect_refused(rt: &impl Abort, alloc: Global, input: &str, end: End) -> Result<(), AllocError> {
+    let outcome = Engine::Answer.run_over(alloc, input.as_bytes())?;
+    assert_eq!(rt; outcome.end, end);
+    assert_eq!(rt; outcome.written.len(), 0);
     Ok(())
 }
 
 #[test]
 fn refused_inputs(rt: HostRuntime) -> Result<(), Fail> {
-    let alloc = rt.alloc();
-    let (result, written) = run(alloc, description(alloc)?.as_bytes())?;
-    assert_eq!(rt; result, Err(EngineFault::NoDivider));
-    assert_eq!(rt; written.len(), 0);
-    let text = b"eid = 9\nkeep_ms = 1000\ntid = 255\n%%\n0 010908c801800002\n".as_slice();
-    let (result, written) = run(alloc, text)?;
-    let refusal = DescriptionFault::new(alloc, FileFault::OutOfRange.into()).expect(
-        &rt,
-        "a refusal",
-    );
-    assert_eq!(rt; result, Err(EngineFault::Device(refusal)));
-    assert_eq!(rt; written.len(), 0);
+    let device = description(rt.alloc())?;
+    expect_refused(&rt, rt.alloc(), device.as_str(), End::NoDivider)?;
+    let no_tid = "eid = 9\nkeep_ms = 1000\ntid = 255\n%%\n0 010908c801800002\n";
+    let end = End::Device(FileFault::OutOfRange);
+    expect_refused(&rt, rt.alloc(), no_tid, end)?;
     Ok(())
 }
 
 /// A run that ends with a refused line flushes what it wrote, once.
 #[test]
 fn a_refused_line_is_flushed(rt: HostRuntime) -> Result<(), Fail> {
-    let alloc = rt.alloc();
-    let text = input(alloc, "0 010908c801800002\nx")?;
-    let mut reader = Port::new(text.as_bytes());
-    let mut writer = Port::new(OneByteWriter {
-        taken: Vec::new(alloc),
-        flushes: 0,
-    });
-    let want = Err(EngineFault::Line(2, LineKind::Number));
-    assert_eq!(rt; answer_all(alloc, &mut reader, &mut writer), want);
-    let writer = writer.into_inner();
-    assert_eq!(rt;
-        writer.taken.as_slice(),
-        b"010809c0010000020001\n".as_slice()
+    let input = input(rt.alloc(), "0 010908c801800002\nx")?;
+    let end = End::Line(2, LineKind::Number);
+    let answer = "010809c0010000020001\n";
+    expect_flushed(
+        &rt,
+        rt.alloc(),
+        Engine::Answer,
+        input.as_bytes(),
+        end,
+        answer,
     );
-    assert_eq!(rt; writer.flushes, 1);
     Ok(())
 }
 
 /// A line of as many bytes as it may have is one packet of 2,045 bytes, which no baseline unit carries.
 #[test]
 fn the_longest_line(rt: HostRuntime) -> Result<(), Fail> {
-    let alloc = rt.alloc();
-    let mut line = String::from_str(alloc, "00000 010908c8")?;
+    let mut line = String::from_str(rt.alloc(), "00000 010908c8")?;
     for _ in 0..2_041 {
         line.push_str("01")?;
     }
     assert_eq!(rt; line.len(), 4_096);
-    expect(&rt, alloc, line.as_str(), Ok(()), "drop UnsupportedUnit\n")?;
+    expect_answers(&rt, rt.alloc(), &[(&line, "drop UnsupportedUnit\n")])?;
     Ok(())
 }

@@ -3,10 +3,13 @@
 ghost use Rattle.std.specs.Prelude.{◌≡◌, false};
 ghost use Rattle.mctpctl_input.specs.Ports.{has_failed};
 
+use crate::fakes::{PieceWriter, TEXT_ROOM};
 use example_device::input;
-use mctpctl_engines::{EngineFault, Port, answer_all, run_all, show_all};
+use mctpctl_engines::{EngineFault, LineKind, Port, answer_all, run_all, show_all};
+use pldm_device::FileFault;
 use std::alloc::{AllocError, Global};
 use std::io::{Read, Write};
+use std::process::Abort;
 
 /// One of the engines.
 #[derive(Clone, Copy, Debug)]
@@ -16,6 +19,42 @@ pub enum Engine {
     Show,
 }
 
+/// How a run ends.
+#[derive(Clone, Copy, Debug, PartialEq, Eq)]
+pub enum End {
+    Done,
+    Device(FileFault),
+    NoDivider,
+    Line(u64, LineKind),
+    Timing,
+    TooLarge,
+    Read,
+    Write,
+    Memory,
+}
+
+/// What a run gives: how it ends, and what it writes.
+#[derive(Drop)]
+pub struct Outcome {
+    pub end: End,
+    pub written: Vec<u8>,
+}
+
+/// How a run with this outcome ends.
+fn end_of(outcome: Result<(), EngineFault>) -> End {
+    match outcome {
+        Ok(()) => End::Done,
+        Err(EngineFault::Device(fault)) => End::Device(fault.fault()),
+        Err(EngineFault::NoDivider) => End::NoDivider,
+        Err(EngineFault::Line(line, kind)) => End::Line(line, kind),
+        Err(EngineFault::Timing(..)) => End::Timing,
+        Err(EngineFault::TooLarge) => End::TooLarge,
+        Err(EngineFault::Read) => End::Read,
+        Err(EngineFault::Write) => End::Write,
+        Err(EngineFault::Memory(_)) => End::Memory,
+    }
+}
+
 impl Engine {
     /// Runs it over a reader and a writer that have not failed.
     pub fn run<R: Read, W: Write>(
@@ -23,15 +62,26 @@ impl Engine {
         alloc: Global,
         reader: &mut Port<R>,
         writer: &mut Port<W>,
-    ) -> Result<(), EngineFault>
+    ) -> End
         requires reads { has_failed reader.old ≡ false }
         requires writes { has_failed writer.old ≡ false }
     {
-        match self {
+        end_of(match self {
             Engine::Answer => answer_all(alloc, reader, writer),
             Engine::Run => run_all(alloc, reader, writer),
             Engine::Show => show_all(alloc, None, reader, writer),
-        }
+        })
+    }
+
+    /// Runs it over a reader, and a writer that has room for all.
+    pub fn run_over<R: Read + Drop>(self, alloc: Global, reader: R) -> Result<Outcome, AllocError> {
+        let mut writer = Port::new(Vec::with_capacity(alloc, TEXT_ROOM)?);
+        let mut reader = Port::new(reader);
+        let end = self.run(alloc, &mut reader, &mut writer);
+        Ok(Outcome {
+            end,
+            written: writer.into_inner(),
+        })
     }
 
     /// An input of these lines, after the example device where the engine reads one.
@@ -48,6 +98,52 @@ impl Engine {
     }
 }
 
+/// Checks how an engine ends over these lines, and what it writes.
+pub fn expect(
+    rt: &impl Abort,
+    alloc: Global,
+    engine: Engine,
+    lines: &str,
+    end: End,
+    text: &str,
+) -> Result<(), AllocError> {
+    let input = engine.input(alloc, lines)?;
+    let outcome = engine.run_over(alloc, input.as_bytes())?;
+    assert_eq!(rt; outcome.end, end, "{lines}");
+    assert_eq!(rt; outcome.written.as_slice(), text.as_bytes(), "{lines}");
+    Ok(())
+}
+
+/// Checks what an engine writes over the lines of each case, all of which it takes.
+pub fn expect_each(
+    rt: &impl Abort,
+    alloc: Global,
+    engine: Engine,
+    cases: &[(&str, &str)],
+) -> Result<(), AllocError> {
+    for (lines, text) in cases {
+        expect(rt, alloc, engine, lines, End::Done, text)?;
+    }
+    Ok(())
+}
+
+/// Checks how an engine ends over a reader, and that a writer of one byte at a call has this text, flushed once.
+pub fn expect_flushed<R: Read + Drop>(
+    rt: &impl Abort,
+    alloc: Global,
+    engine: Engine,
+    reader: R,
+    end: End,
+    text: &str,
+) {
+    let mut reader = Port::new(reader);
+    let mut writer = Port::new(PieceWriter::new(Vec::new(alloc), 1));
+    assert_eq!(rt; engine.run(alloc, &mut reader, &mut writer), end);
+    let PieceWriter { taken, flushes, .. } = writer.into_inner();
+    assert_eq!(rt; taken.as_slice(), text.as_bytes());
+    assert_eq!(rt; flushes, 1);
+}
+
 /// A request whose first answer is lost, and a retry.
 pub const RETRY: &str = "requester 8 timeout 200 tries 3
 at 0 open 8 setnum 1 uint8 40
@@ -57,7 +153,7 @@ at 200 req 0
 at 210 rep 0 0
 ";
 
-pub const RETRY_TOLD: &str = "0 opened 0
+pub const RETRY_REPORT: &str = "0 opened 0
 0 fresh changed
 200 again 0
 200 copy
@@ -87,7 +183,7 @@ pub const RUNS: [(Engine, &str, &str); 3] = [
         "0 010908c801800002\n",
         "010809c0010000020001\n",
     ),
-    (Engine::Run, RETRY, RETRY_TOLD),
+    (Engine::Run, RETRY, RETRY_REPORT),
     (Engine::Show, QUESTION, QUESTION_SHOWN),
 ];
 

@@ -1,59 +1,73 @@
 //! Readers and writers that fail at each of their calls in turn, and such as move one byte at a call.
 
-ghost use Rattle.std.specs.Prelude.{◌≡◌, false};
-ghost use Rattle.mctpctl_input.specs.Ports.{has_failed};
-
-use crate::engines::{Engine, RUNS, is_front};
-use crate::fakes::{FailsAt, OneByteWriter, PieceReader, TEXT_ROOM};
-use mctpctl_engines::{EngineFault, Port};
+use crate::engines::{End, Engine, RUNS, is_front};
+use crate::fakes::{FailsAt, PieceReader, PieceWriter, TEXT_ROOM};
+use mctpctl_engines::Port;
 use std::alloc::{AllocError, Global};
 use std::process::Abort;
 use std::test::Fail;
 
-/// How many bytes a reader gives at a call.
-const PIECE: usize = 7;
-
-/// How often a reader of this input is called, the last time for the end of input.
-fn calls_of(input: &str) -> usize {
-    input.len().div_ceil(PIECE).saturating_add(1)
+/// How the ports of a run move bytes: so many at a call, and so many calls before one fails.
+#[derive(Clone, Copy, Debug)]
+struct Moves {
+    read_piece: usize,
+    reads_left: usize,
+    write_piece: usize,
+    writes_left: usize,
+    /// Whether the calls after the failed one succeed again.
+    recovers: bool,
 }
 
-/// Runs an engine over a reader that fails at the call after `calls_left` others, and recovers or not.
-/// It is not called again.
-fn read_until(
+/// All at one call, and none fails.
+const WHOLE: Moves = Moves {
+    read_piece: usize::MAX,
+    reads_left: usize::MAX,
+    write_piece: usize::MAX,
+    writes_left: usize::MAX,
+    recovers: false,
+};
+
+/// How a run ended, how often its ports were called, and what was written.
+#[derive(Drop)]
+struct Moved {
+    end: End,
+    reads: usize,
+    writes: usize,
+    flushes: usize,
+    taken: Vec<u8>,
+}
+
+/// Runs an engine over ports that move bytes so. A port has failed where the run's end says so, and only there.
+fn run_moving(
     rt: &impl Abort,
     alloc: Global,
     engine: Engine,
     input: &str,
-    calls_left: usize,
-    recovers: bool,
-    writer: &mut Port<Vec<u8>>,
-)
-    requires { has_failed writer.old ≡ false }
-{
+    moves: Moves,
+) -> Result<Moved, AllocError> {
+    let inner = PieceWriter::new(Vec::with_capacity(alloc, TEXT_ROOM)?, moves.write_piece);
+    let mut writer = Port::new(FailsAt::new(inner, moves.writes_left, moves.recovers));
     let inner = PieceReader {
         bytes: input.as_bytes(),
-        piece: PIECE,
+        piece: moves.read_piece,
     };
-    let mut reader = Port::new(FailsAt {
-        inner,
-        calls_left,
-        recovers,
-        calls: 0,
-    });
-    let result = engine.run(alloc, &mut reader, writer);
-    let calls = calls_of(input);
-    let fails = calls_left < calls;
-    let want = if fails {
-        Err(EngineFault::Read)
-    } else {
-        Ok(())
-    };
-    assert_eq!(rt; result, want, "{engine:?} at {calls_left}");
-    assert_eq!(rt; reader.failed(), fails);
-    let asked = reader.into_inner().calls;
-    assert_eq!(rt; asked, calls.min(calls_left.saturating_add(1)));
+    let mut reader = Port::new(FailsAt::new(inner, moves.reads_left, moves.recovers));
+    let end = engine.run(alloc, &mut reader, &mut writer);
+    let failed = (reader.failed(), writer.failed());
+    let expected = (end == End::Read, end == End::Write);
+    assert_eq!(rt; failed, expected, "{engine:?} {moves:?}");
+    let FailsAt { inner, calls, .. } = writer.into_inner();
+    Ok(Moved {
+        end,
+        reads: reader.into_inner().calls,
+        writes: calls,
+        flushes: inner.flushes,
+        taken: inner.taken,
+    })
 }
+
+/// How many bytes a reader that fails gives at a call.
+const PIECE: usize = 7;
 
 /// Checks that whole lines were written before a failed read, all of them where the last call failed, and
 /// nothing where the engine waits for all input.
@@ -73,7 +87,7 @@ fn expect_front(
 }
 
 /// A reader fails once, or from a call on, at each call in turn, the last of which would report the end of
-/// input.
+/// input. It is not called again.
 fn fail_each_read(
     rt: &impl Abort,
     alloc: Global,
@@ -81,13 +95,28 @@ fn fail_each_read(
     input: &str,
     text: &str,
 ) -> Result<(), AllocError> {
-    let calls = calls_of(input);
+    let calls = input.len().div_ceil(PIECE).saturating_add(1);
     for at in 0..calls.saturating_mul(2).saturating_add(2) {
-        let mut writer = Port::new(Vec::with_capacity(alloc, TEXT_ROOM)?);
-        let (calls_left, recovers) = (at / 2, at % 2 == 0);
-        read_until(rt, alloc, engine, input, calls_left, recovers, &mut writer);
-        let written = writer.into_inner();
-        expect_front(rt, engine, calls, calls_left, &written, text);
+        let calls_left = at / 2;
+        let moves = Moves {
+            read_piece: PIECE,
+            reads_left: calls_left,
+            recovers: at % 2 == 0,
+            ..WHOLE
+        };
+        let moved = run_moving(rt, alloc, engine, input, moves)?;
+        let end = if calls_left < calls {
+            End::Read
+        } else {
+            End::Done
+        };
+        let reads = calls.min(calls_left.saturating_add(1));
+        assert_eq!(rt;
+            (moved.end, moved.reads),
+            (end, reads),
+            "{engine:?} {moves:?}"
+        );
+        expect_front(rt, engine, calls, calls_left, &moved.taken, text);
     }
     Ok(())
 }
@@ -101,40 +130,8 @@ fn a_reader_that_fails(rt: HostRuntime) -> Result<(), Fail> {
     Ok(())
 }
 
-/// Runs an engine over a writer that fails or not.
-fn write_until(
-    rt: &impl Abort,
-    alloc: Global,
-    engine: Engine,
-    input: &str,
-    fails: bool,
-    writer: &mut Port<FailsAt<OneByteWriter>>,
-)
-    requires { has_failed writer.old ≡ false }
-{
-    let mut reader = Port::new(input.as_bytes());
-    let result = engine.run(alloc, &mut reader, writer);
-    let want = if fails {
-        Err(EngineFault::Write)
-    } else {
-        Ok(())
-    };
-    assert_eq!(rt; result, want, "{engine:?}");
-    assert_eq!(rt; (reader.failed(), writer.failed()), (false, fails));
-}
-
-/// Checks how often a writer of one byte at a call was called that fails after `calls_left` calls, and
-/// what it took.
-fn expect_calls(rt: &impl Abort, calls_left: usize, writer: &FailsAt<OneByteWriter>, text: &str) {
-    let calls = text.len().saturating_add(1);
-    assert_eq!(rt; writer.calls, calls.min(calls_left.saturating_add(1)));
-    let taken = writer.inner.taken.as_slice();
-    assert_eq!(rt; taken.len(), text.len().min(calls_left));
-    assert!(rt; text.as_bytes().starts_with(taken));
-}
-
 /// A writer of one byte at a call fails once, or from a call on, at each call in turn, the last of which
-/// is the flush. It is not called again.
+/// is the flush. It is not called again, and took what comes before.
 fn fail_each_write(
     rt: &impl Abort,
     alloc: Global,
@@ -144,18 +141,28 @@ fn fail_each_write(
 ) -> Result<(), AllocError> {
     let calls = text.len().saturating_add(1);
     for at in 0..calls.saturating_mul(2).saturating_add(2) {
-        let inner = OneByteWriter {
-            taken: Vec::with_capacity(alloc, TEXT_ROOM)?,
-            flushes: 0,
-        };
-        let mut writer = Port::new(FailsAt {
-            inner,
-            calls_left: at / 2,
+        let calls_left = at / 2;
+        let moves = Moves {
+            write_piece: 1,
+            writes_left: calls_left,
             recovers: at % 2 == 0,
-            calls: 0,
-        });
-        write_until(rt, alloc, engine, input, at / 2 < calls, &mut writer);
-        expect_calls(rt, at / 2, &writer.into_inner(), text);
+            ..WHOLE
+        };
+        let moved = run_moving(rt, alloc, engine, input, moves)?;
+        let end = if calls_left < calls {
+            End::Write
+        } else {
+            End::Done
+        };
+        let writes = calls.min(calls_left.saturating_add(1));
+        assert_eq!(rt;
+            (moved.end, moved.writes),
+            (end, writes),
+            "{engine:?} {moves:?}"
+        );
+        let taken = moved.taken.as_slice();
+        assert_eq!(rt; taken.len(), text.len().min(calls_left));
+        assert!(rt; text.as_bytes().starts_with(taken));
     }
     Ok(())
 }
@@ -169,41 +176,20 @@ fn a_writer_that_fails(rt: HostRuntime) -> Result<(), Fail> {
     Ok(())
 }
 
-/// Runs an engine over a reader of one byte at a call.
-fn run_byte_by_byte(
-    rt: &impl Abort,
-    alloc: Global,
-    engine: Engine,
-    input: &str,
-    writer: &mut Port<OneByteWriter>,
-)
-    requires { has_failed writer.old ≡ false }
-{
-    let mut reader = Port::new(PieceReader {
-        bytes: input.as_bytes(),
-        piece: 1,
-    });
-    let result = engine.run(alloc, &mut reader, writer);
-    assert_eq!(rt; result, Ok(()), "{engine:?}");
-}
-
 /// Reads and writes are of one byte, and what was written is flushed once.
-fn move_byte_by_byte(rt: &impl Abort, alloc: Global, engine: Engine, input: &str, text: &str) {
-    let mut writer = Port::new(OneByteWriter {
-        taken: Vec::new(alloc),
-        flushes: 0,
-    });
-    run_byte_by_byte(rt, alloc, engine, input, &mut writer);
-    let writer = writer.into_inner();
-    assert_eq!(rt; writer.taken.as_slice(), text.as_bytes());
-    assert_eq!(rt; writer.flushes, 1);
-}
-
 #[test]
 fn one_byte_at_a_call(rt: HostRuntime) -> Result<(), Fail> {
+    let moves = Moves {
+        read_piece: 1,
+        write_piece: 1,
+        ..WHOLE
+    };
     for (engine, lines, text) in RUNS {
         let input = engine.input(rt.alloc(), lines)?;
-        move_byte_by_byte(&rt, rt.alloc(), engine, &input, text);
+        let moved = run_moving(&rt, rt.alloc(), engine, &input, moves)?;
+        assert_eq!(rt; moved.end, End::Done, "{engine:?}");
+        assert_eq!(rt; moved.taken.as_slice(), text.as_bytes());
+        assert_eq!(rt; moved.flushes, 1);
     }
     Ok(())
 }

@@ -23,20 +23,30 @@ impl Read for PieceReader<'_> {
     }
 }
 
-/// Takes one byte at a call, and counts the flushes.
+/// Takes at most `piece` bytes at a call, and counts the flushes.
 #[derive(Drop)]
-pub struct OneByteWriter {
+pub struct PieceWriter {
     pub taken: Vec<u8>,
+    pub piece: usize,
     pub flushes: usize,
 }
 
-impl Write for OneByteWriter {
+impl PieceWriter {
+    /// Adds to these bytes what it takes.
+    pub fn new(taken: Vec<u8>, piece: usize) -> PieceWriter {
+        PieceWriter {
+            taken,
+            piece,
+            flushes: 0,
+        }
+    }
+}
+
+impl Write for PieceWriter {
     fn write(&mut self, buf: &[u8]) -> io::Result<usize> {
-        let Some(first) = buf.first() else {
-            return Ok(0);
-        };
-        self.taken.push(*first)?;
-        Ok(1)
+        let count = buf.len().min(self.piece);
+        self.taken.extend_from_slice(&buf[..count])?;
+        Ok(count)
     }
 
     fn flush(&mut self) -> io::Result<()> {
@@ -57,24 +67,19 @@ pub struct FailsAt<T> {
 }
 
 impl<T> FailsAt<T> {
-    /// Fails at every call after these.
-    pub fn for_good(inner: T, calls_left: usize) -> FailsAt<T> {
+    /// Fails at the call after these others, and at each later one unless it recovers.
+    pub fn new(inner: T, calls_left: usize, recovers: bool) -> FailsAt<T> {
         FailsAt {
             inner,
             calls_left,
-            recovers: false,
+            recovers,
             calls: 0,
         }
     }
 
     /// Fails at the call after these, and at no other.
     pub fn once(inner: T, calls_left: usize) -> FailsAt<T> {
-        FailsAt {
-            inner,
-            calls_left,
-            recovers: true,
-            calls: 0,
-        }
+        FailsAt::new(inner, calls_left, true)
     }
 
     fn count(&mut self) -> io::Result<()> {

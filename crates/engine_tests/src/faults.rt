@@ -4,55 +4,61 @@ use mctp_packet::Eid;
 use mctpctl_engines::{DescriptionFault, EngineFault, LineKind, fault_line, status_of};
 use pldm_device::FileFault;
 use pldm_requester::TimingFault;
-use std::alloc::AllocError;
+use std::alloc::{AllocError, Global};
+use std::process::Abort;
 use std::test::Fail;
+
+/// Checks the line and the exit status of a fault.
+fn expect(
+    rt: &impl Abort,
+    alloc: Global,
+    fault: EngineFault,
+    text: &str,
+    status: u8,
+) -> Result<(), Fail> {
+    assert_eq!(rt; status_of(&fault), status, "{text}");
+    let line = fault_line(alloc, &fault)?;
+    assert_eq!(rt; line.as_str(), text);
+    Ok(())
+}
+
+#[test]
+fn reports_each_refused_line(rt: HostRuntime) -> Result<(), Fail> {
+    let rows = [
+        (3, LineKind::BackInTime, "line 3: BackInTime"),
+        (1, LineKind::BadHex, "line 1: BadHex"),
+        (1, LineKind::LongLine, "line 1: LongLine"),
+        (2, LineKind::SameRequester, "line 2: SameRequester"),
+        (7, LineKind::NoSuchRequester, "line 7: NoSuchRequester"),
+    ];
+    for (line, kind, text) in rows {
+        expect(&rt, rt.alloc(), EngineFault::Line(line, kind), text, 1)?;
+    }
+    Ok(())
+}
 
 #[test]
 fn reports_each_fault(rt: HostRuntime) -> Result<(), Fail> {
-    let requester = Eid::new(8).expect(&rt, "an endpoint ID");
-    let refusal = DescriptionFault::new(rt.alloc(), FileFault::OutOfRange.into()).expect(
+    let alloc = rt.alloc();
+    let refusal = DescriptionFault::new(alloc, FileFault::OutOfRange.into()).expect(
         &rt,
         "a refusal",
     );
-    let rows = [
-        (EngineFault::Device(refusal), "device: OutOfRange", 1),
-        (EngineFault::NoDivider, "no %% line", 1),
-        (
-            EngineFault::Line(3, LineKind::BackInTime),
-            "line 3: BackInTime",
-            1,
-        ),
-        (EngineFault::Line(1, LineKind::BadHex), "line 1: BadHex", 1),
-        (
-            EngineFault::Line(1, LineKind::LongLine),
-            "line 1: LongLine",
-            1,
-        ),
-        (
-            EngineFault::Line(2, LineKind::SameRequester),
-            "line 2: SameRequester",
-            1,
-        ),
-        (
-            EngineFault::Line(7, LineKind::NoSuchRequester),
-            "line 7: NoSuchRequester",
-            1,
-        ),
-        (
-            EngineFault::Timing(requester, TimingFault::TooLate),
-            "requester 8: TooLate",
-            1,
-        ),
-        (EngineFault::TooLarge, "input too large", 1),
-        (EngineFault::Read, "read fault", 3),
-        (EngineFault::Write, "write fault", 3),
-        (AllocError.into(), "out of memory", 3),
-    ];
-    for (fault, text, status) in rows {
-        let line = fault_line(rt.alloc(), &fault)?;
-        assert_eq!(rt; line.as_str(), text);
-        assert_eq!(rt; status_of(&fault), status, "{text}");
-    }
+    expect(
+        &rt,
+        alloc,
+        EngineFault::Device(refusal),
+        "device: OutOfRange",
+        1,
+    )?;
+    expect(&rt, alloc, EngineFault::NoDivider, "no %% line", 1)?;
+    let requester = Eid::new(8).expect(&rt, "an endpoint ID");
+    let late = EngineFault::Timing(requester, TimingFault::TooLate);
+    expect(&rt, alloc, late, "requester 8: TooLate", 1)?;
+    expect(&rt, alloc, EngineFault::TooLarge, "input too large", 1)?;
+    expect(&rt, alloc, EngineFault::Read, "read fault", 3)?;
+    expect(&rt, alloc, EngineFault::Write, "write fault", 3)?;
+    expect(&rt, alloc, AllocError.into(), "out of memory", 3)?;
     Ok(())
 }
 

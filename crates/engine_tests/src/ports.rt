@@ -1,6 +1,6 @@
 //! One port over a reader or a writer that fails.
 
-use crate::fakes::{FailsAt, OneByteWriter, PieceReader};
+use crate::fakes::{FailsAt, PieceReader, PieceWriter};
 use mctpctl_engines::Port;
 use std::io::{Read, Write};
 use std::test::Fail;
@@ -33,10 +33,7 @@ fn writes_and_flushes_are_passed_on(rt: HostRuntime) -> Result<(), Fail> {
     let inner = port.into_inner();
     assert_eq!(rt; inner.inner.as_slice(), b"abcdefg".as_slice());
     assert_eq!(rt; inner.calls, 2);
-    let mut port = Port::new(OneByteWriter {
-        taken: Vec::new(rt.alloc()),
-        flushes: 0,
-    });
+    let mut port = Port::new(PieceWriter::new(Vec::new(rt.alloc()), 1));
     port.write_all(b"abc")?;
     port.flush()?;
     assert!(rt; !port.failed());
@@ -49,10 +46,7 @@ fn writes_and_flushes_are_passed_on(rt: HostRuntime) -> Result<(), Fail> {
 /// A write that fails is reported at once and not tried again, though the next one would succeed.
 #[test]
 fn a_write_is_not_tried_again(rt: HostRuntime) -> Result<(), Fail> {
-    let inner = OneByteWriter {
-        taken: Vec::new(rt.alloc()),
-        flushes: 0,
-    };
+    let inner = PieceWriter::new(Vec::new(rt.alloc()), 1);
     let mut port = Port::new(FailsAt::once(inner, 2));
     assert!(rt; port.write_all(b"abc").is_err());
     assert!(rt; port.failed());

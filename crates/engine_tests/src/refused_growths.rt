@@ -1,10 +1,11 @@
 //! Each growth of an engine is refused in turn.
 
-use crate::engines::{Engine, RUNS, is_front};
-use crate::fakes::{OneByteWriter, TEXT_ROOM};
-use mctpctl_engines::{EngineFault, Port};
+use crate::engines::{End, Engine, RUNS, is_front};
+use crate::fakes::{PieceWriter, TEXT_ROOM};
+use mctpctl_engines::Port;
 use memory_hoard::Hoard;
 use std::alloc::{AllocError, Global};
+use std::mem;
 use std::process::Abort;
 use std::test::Fail;
 
@@ -14,52 +15,62 @@ const STEP: usize = 32;
 /// More refusals than a run meets.
 const MAX_REFUSALS: usize = 24_000;
 
-/// What a run gives, and its writer.
+/// Runs an engine over an input and gives how it ends. What is written is flushed, once.
 fn run_once(
+    rt: &impl Abort,
     alloc: Global,
     engine: Engine,
     input: &str,
-    writer: OneByteWriter,
-) -> (Result<(), EngineFault>, OneByteWriter) {
+    written: &mut Vec<u8>,
+) -> End {
+    written.clear();
     let mut reader = Port::new(input.as_bytes());
-    let mut writer = Port::new(writer);
-    let result = engine.run(alloc, &mut reader, &mut writer);
-    (result, writer.into_inner())
+    let mut writer = Port::new(PieceWriter::new(mem::replace(written, Vec::new(alloc)), 1));
+    let end = engine.run(alloc, &mut reader, &mut writer);
+    let PieceWriter { taken, flushes, .. } = writer.into_inner();
+    *written = taken;
+    assert_eq!(rt; flushes, 1);
+    end
 }
 
-/// Runs an engine over an input with no memory at first, and anew with a little more after each refusal.
-/// A refusal has written a front of the text that ends with a whole line, `run` nothing; the run that
-/// meets none writes the text. What was written is flushed, once.
+/// Runs an engine with the memory that is left, and anew with a little more after each refusal, until none is met.
+/// Gives how many it met. A refusal has written a front of the text that ends with a whole line, `run` nothing.
+fn count_refusals(
+    rt: &impl Abort,
+    alloc: Global,
+    engine: Engine,
+    (input, text): (&str, &str),
+    hoard: &mut Hoard,
+    written: &mut Vec<u8>,
+) -> usize {
+    for refusals in 0..MAX_REFUSALS {
+        let end = run_once(rt, alloc, engine, input, written);
+        if end == End::Done {
+            return refusals;
+        }
+        assert_eq!(rt; end, End::Memory, "after {refusals}");
+        let is_empty = written.is_empty();
+        assert!(rt; is_front(written, text) && (is_empty || !engine.waits()));
+        hoard.give(STEP);
+    }
+    panic!(rt; "never run")
+}
+
+/// Each growth of an engine over an input is refused in turn; the run that meets no refusal writes the text.
 pub fn refuse_each_growth(
     rt: &impl Abort,
     alloc: Global,
     engine: Engine,
     input: &str,
     text: &str,
-) -> Result<(), Fail> {
-    let mut writer = OneByteWriter {
-        taken: Vec::with_capacity(alloc, TEXT_ROOM)?,
-        flushes: 0,
-    };
+) -> Result<(), AllocError> {
+    let mut written = Vec::with_capacity(alloc, TEXT_ROOM)?;
     let mut hoard = Hoard::take(alloc, 0)?;
-    for refusals in 0..MAX_REFUSALS {
-        let (result, written) = run_once(alloc, engine, input, writer);
-        writer = written;
-        assert_eq!(rt; writer.flushes, 1);
-        if result.is_ok() {
-            drop(hoard);
-            assert_eq!(rt; writer.taken.as_slice(), text.as_bytes());
-            assert!(rt; refusals > 100, "{refusals} refusals");
-            return Ok(());
-        }
-        assert_eq!(rt; result, Err(AllocError.into()), "after {refusals}");
-        let is_empty = writer.taken.is_empty();
-        assert!(rt; is_front(&writer.taken, text) && (is_empty || !engine.waits()));
-        writer.taken.clear();
-        writer.flushes = 0;
-        hoard.give(STEP);
-    }
-    Err(Fail::from("never run"))
+    let refusals = count_refusals(rt, alloc, engine, (input, text), &mut hoard, &mut written);
+    drop(hoard);
+    assert_eq!(rt; written.as_slice(), text.as_bytes());
+    assert!(rt; refusals > 100, "{refusals} refusals");
+    Ok(())
 }
 
 #[test]

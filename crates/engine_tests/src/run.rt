@@ -1,41 +1,24 @@
 //! `mctpctl run` over schedules: the report that it writes, and the inputs that it refuses.
 
-use crate::engines::{Engine, RETRY, RETRY_TOLD};
-use crate::fakes::TEXT_ROOM;
+use crate::engines::{Engine, RETRY, RETRY_REPORT, expect_each};
 use crate::refused_growths::refuse_each_growth;
 use mctpctl_engines::{Port, fault_line, run_all};
-use std::alloc::{AllocError, Global};
+use std::alloc::Global;
 use std::process::Abort;
 use std::test::Fail;
 
 mod rows;
 
-/// Checks what a schedule over the example device gives.
-fn expect(rt: &impl Abort, alloc: Global, schedule: &str, told: &str) -> Result<(), AllocError> {
-    let input = example_device::input(alloc, schedule)?;
-    let mut reader = Port::new(input.as_bytes());
-    let mut writer = Port::new(Vec::with_capacity(alloc, TEXT_ROOM)?);
-    assert_eq!(rt;
-        run_all(alloc, &mut reader, &mut writer),
-        Ok(()),
-        "{schedule}"
-    );
-    let written = writer.into_inner();
-    assert_eq!(rt; written.as_slice(), told.as_bytes(), "{schedule}");
-    Ok(())
-}
-
 #[test]
 fn a_retry_is_answered_by_the_kept_answer(rt: HostRuntime) -> Result<(), Fail> {
-    expect(&rt, rt.alloc(), RETRY, RETRY_TOLD)?;
+    let rows = [(RETRY, RETRY_REPORT)];
+    expect_each(&rt, rt.alloc(), Engine::Run, &rows)?;
     Ok(())
 }
 
 #[test]
 fn schedules_report_what_comes_of_them(rt: HostRuntime) -> Result<(), Fail> {
-    for (schedule, told) in rows::SCHEDULES {
-        expect(&rt, rt.alloc(), schedule, told)?;
-    }
+    expect_each(&rt, rt.alloc(), Engine::Run, &rows::SCHEDULES)?;
     Ok(())
 }
 
@@ -43,11 +26,13 @@ fn schedules_report_what_comes_of_them(rt: HostRuntime) -> Result<(), Fail> {
 fn refused(rt: &impl Abort, alloc: Global, input: &str, line: &str) -> Result<(), Fail> {
     let mut reader = Port::new(input.as_bytes());
     let mut writer = Port::new(Vec::new(alloc));
-    let Err(fault) = run_all(alloc, &mut reader, &mut writer) else {
+    let result = run_all(alloc, &mut reader, &mut writer);
+    assert!(rt; writer.into_inner().is_empty(), "{line}");
+    let Err(fault) = result else {
         return Err(Fail::from("not refused"));
     };
-    assert_eq!(rt; fault_line(alloc, &fault)?.as_str(), line);
-    assert!(rt; writer.into_inner().is_empty(), "{line}");
+    let text = fault_line(alloc, &fault)?;
+    assert_eq!(rt; text.as_str(), line);
     Ok(())
 }
 
@@ -86,7 +71,8 @@ fn refused_inputs_write_nothing(rt: HostRuntime) -> Result<(), Fail> {
 /// A tag that is used again, and an answer of five packets.
 #[test]
 fn each_growth_of_a_long_run_is_refused_in_turn(rt: HostRuntime) -> Result<(), Fail> {
-    let (schedule, told) = rows::SCHEDULES[2];
+    let (schedule, report) = rows::SCHEDULES[2];
     let input = example_device::input(rt.alloc(), schedule)?;
-    refuse_each_growth(&rt, rt.alloc(), Engine::Run, input.as_str(), told)
+    refuse_each_growth(&rt, rt.alloc(), Engine::Run, input.as_str(), report)?;
+    Ok(())
 }

@@ -1,32 +1,11 @@
 //! `mctpctl show` over captures: the lines that it writes, and the lines that it refuses.
 
-use crate::engines::{QUESTION, QUESTION_SHOWN};
-use crate::fakes::TEXT_ROOM;
-use mctpctl_engines::{EngineFault, LineKind, Port, show_all};
-use std::alloc::{AllocError, Global};
-use std::process::Abort;
+use crate::engines::{End, Engine, QUESTION, QUESTION_SHOWN, expect, expect_each};
+use mctpctl_engines::LineKind;
 use std::test::Fail;
-
-/// Checks what a capture gives.
-fn expect(
-    rt: &impl Abort,
-    alloc: Global,
-    capture: &str,
-    want: Result<(), EngineFault>,
-    text: &str,
-) -> Result<(), AllocError> {
-    let mut reader = Port::new(capture.as_bytes());
-    let mut writer = Port::new(Vec::with_capacity(alloc, TEXT_ROOM)?);
-    let result = show_all(alloc, None, &mut reader, &mut writer);
-    assert_eq!(rt; result, want, "{capture}");
-    let written = writer.into_inner();
-    assert_eq!(rt; written.as_slice(), text.as_bytes(), "{capture}");
-    Ok(())
-}
 
 #[test]
 fn shows_requests_and_responses(rt: HostRuntime) -> Result<(), Fail> {
-    expect(&rt, rt.alloc(), QUESTION, Ok(()), QUESTION_SHOWN)?;
     let capture = "0 010908c90181023101000028
 1 010908c801800502
 2 010809c001000002
@@ -45,7 +24,8 @@ fn shows_requests_and_responses(rt: HostRuntime) -> Result<(), Fail> {
 4 8>9 tag 0 to 1 som 0 eom 1 seq 2 len 1 drop UnexpectedMiddleOrEnd
 5 drop Short
 ";
-    expect(&rt, rt.alloc(), capture, Ok(()), text)?;
+    let cases = [(QUESTION, QUESTION_SHOWN), (capture, text)];
+    expect_each(&rt, rt.alloc(), Engine::Show, &cases)?;
     Ok(())
 }
 
@@ -68,27 +48,27 @@ fn shows_messages_of_several_packets(rt: HostRuntime) -> Result<(), Fail> {
 10 9>8 tag 0 to 0 som 1 eom 1 seq 0 len 7 whole
   response 0 GetSensorReading 80 0a0b
 ";
-    expect(&rt, rt.alloc(), capture, Ok(()), text)?;
+    expect_each(&rt, rt.alloc(), Engine::Show, &[(capture, text)])?;
     Ok(())
 }
 
 #[test]
 fn reports_a_refused_line(rt: HostRuntime) -> Result<(), Fail> {
     let cases = [
-        ("# nothing\n\n", Ok(()), ""),
+        ("# nothing\n\n", End::Done, ""),
         (
             "5 0109\n\n%%",
-            Err(EngineFault::Line(3, LineKind::Number)),
+            End::Line(3, LineKind::Number),
             "5 drop Short\n",
         ),
         (
             "5 0109\n4 0109",
-            Err(EngineFault::Line(2, LineKind::BackInTime)),
+            End::Line(2, LineKind::BackInTime),
             "5 drop Short\n",
         ),
     ];
-    for (capture, want, text) in cases {
-        expect(&rt, rt.alloc(), capture, want, text)?;
+    for (capture, end, text) in cases {
+        expect(&rt, rt.alloc(), Engine::Show, capture, end, text)?;
     }
     Ok(())
 }

@@ -1,8 +1,10 @@
 //! Schedules are read and run with little memory at first, and with more after each refusal.
 
-use crate::runs::{SEVERAL_PACKETS, SINGLE_PACKETS, example, run_example};
+use crate::runs::{RETRY, TAG_USED_AGAIN, example, expect_run};
 use mctp_schedule::{LineFaultKind, RunFault, Schedule, run};
 use memory_hoard::Hoard;
+use std::alloc::{AllocError, Global};
+use std::process::Abort;
 use std::test::Fail;
 
 /// How many bytes more a reading has after each refusal.
@@ -11,32 +13,47 @@ const READING_STEP: usize = 16;
 /// More refusals than a reading meets.
 const MAX_REFUSALS: usize = 4_000;
 
-/// Two schedules are read with no memory at first, and with a little more after each refusal, which is
-/// reported as `Memory` and nothing else: all steps are read at last.
+/// How many steps are read of a schedule, or nothing where memory is refused.
+fn read_steps(rt: &impl Abort, alloc: Global, text: &str) -> Option<usize> {
+    match Schedule::read(alloc, text.as_bytes()) {
+        Ok(schedule) => Some(schedule.steps().len()),
+        Err(fault) => {
+            assert!(rt; matches!(fault.kind, LineFaultKind::Memory(_)), "{fault}");
+            None
+        }
+    }
+}
+
+/// Reads a schedule with no memory at first, and anew with a little more after each refusal, until all of
+/// its steps are read.
+fn refuse_each_growth_of_a_read(
+    rt: &impl Abort,
+    alloc: Global,
+    text: &str,
+    steps: usize,
+) -> Result<(), AllocError> {
+    let mut hoard = Hoard::take(alloc, 0)?;
+    let mut refusals = 0u32;
+    let mut read = None;
+    for _ in 0..MAX_REFUSALS {
+        read = read_steps(rt, alloc, text);
+        if read.is_some() {
+            break;
+        }
+        refusals = refusals.saturating_add(1);
+        hoard.give(READING_STEP);
+    }
+    drop(hoard);
+    assert_eq!(rt; read, Some(steps), "{text}");
+    assert!(rt; refusals > 2, "{refusals} refusals");
+    Ok(())
+}
+
+/// Each refusal of a reading is reported as `Memory` and nothing else.
 #[test]
 fn each_growth_of_a_read_is_refused_in_turn(rt: HostRuntime) -> Result<(), Fail> {
-    let alloc = rt.alloc();
-    for ((text, _), steps) in [(SINGLE_PACKETS[0], 5), (SEVERAL_PACKETS[0], 19)] {
-        let mut hoard = Hoard::take(alloc, 0)?;
-        let mut refusals = 0u32;
-        let mut read = None;
-        for _ in 0..MAX_REFUSALS {
-            match Schedule::read(alloc, text.as_bytes()) {
-                Ok(schedule) => {
-                    read = Some(schedule.steps().len());
-                    break;
-                }
-                Err(fault) => assert!(rt;
-                    matches!(fault.kind, LineFaultKind::Memory(_)),
-                    "{fault}"
-                ),
-            }
-            refusals = refusals.saturating_add(1);
-            hoard.give(READING_STEP);
-        }
-        drop(hoard);
-        assert_eq!(rt; read, Some(steps), "{text}");
-        assert!(rt; refusals > 2, "{refusals} refusals");
+    for ((text, _), steps) in [(RETRY, 5), (TAG_USED_AGAIN, 19)] {
+        refuse_each_growth_of_a_read(&rt, rt.alloc(), text, steps)?;
     }
     Ok(())
 }
@@ -48,35 +65,49 @@ const RUN_STEP: usize = 8_192;
 /// More tries than a run wants steps.
 const MAX_TRIES: usize = 48;
 
-/// A retry, and a tag that is used again, are run with more and more memory to be had, until nothing is
-/// refused: each refusal is reported as `Memory` and nothing else, and the same run succeeds with memory at
-/// hand.
+/// The fault of a run of the example device, with so much memory to be had.
+fn fault_of_run(
+    alloc: Global,
+    schedule: &Schedule,
+    bytes: usize,
+) -> Result<Option<RunFault>, Fail> {
+    let setup = example(alloc)?;
+    let hoard = Hoard::take(alloc, bytes)?;
+    let fault = run(alloc, setup, schedule).err();
+    drop(hoard);
+    Ok(fault)
+}
+
+/// Runs a schedule with more and more memory, until nothing is refused. After each refusal it is run with memory
+/// at hand.
+fn refuse_each_growth_of_a_run(
+    rt: &impl Abort,
+    alloc: Global,
+    text: &str,
+    expected: &str,
+) -> Result<(), Fail> {
+    let schedule = Schedule::read(alloc, text.as_bytes())?;
+    for refusals in 0..MAX_TRIES {
+        let bytes = refusals * RUN_STEP;
+        let Some(fault) = fault_of_run(alloc, &schedule, bytes)? else {
+            assert!(rt; refusals > 4, "{refusals} refusals");
+            return Ok(());
+        };
+        assert!(rt;
+            matches!(fault, RunFault::Memory(_)),
+            "{fault} with {bytes} bytes"
+        );
+        expect_run(rt, alloc, text, expected)?;
+    }
+    Err(Fail::from("never run"))
+}
+
+/// A retry, and a tag that is used again: each refusal of a run is reported as `Memory` and nothing else, and the
+/// same run succeeds with memory at hand.
 #[test]
 fn each_growth_of_a_run_is_refused_in_turn(rt: HostRuntime) -> Result<(), Fail> {
-    let alloc = rt.alloc();
-    for (text, want) in [SINGLE_PACKETS[0], SEVERAL_PACKETS[0]] {
-        let schedule = Schedule::read(alloc, text.as_bytes())?;
-        let mut refusals = 0u32;
-        let mut was_run = false;
-        for size in 0..MAX_TRIES {
-            let setup = example(alloc)?;
-            let hoard = Hoard::take(alloc, size * RUN_STEP)?;
-            let fault = run(alloc, setup, &schedule).err();
-            drop(hoard);
-            let Some(fault) = fault else {
-                was_run = true;
-                break;
-            };
-            assert!(rt;
-                matches!(fault, RunFault::Memory(_)),
-                "{fault} with {} bytes",
-                size * RUN_STEP
-            );
-            refusals = refusals.saturating_add(1);
-            assert_eq!(rt; run_example(alloc, text)?.as_str(), want);
-        }
-        assert!(rt; was_run, "run at last");
-        assert!(rt; refusals > 4, "{refusals} refusals");
+    for (text, expected) in [RETRY, TAG_USED_AGAIN] {
+        refuse_each_growth_of_a_run(&rt, rt.alloc(), text, expected)?;
     }
     Ok(())
 }

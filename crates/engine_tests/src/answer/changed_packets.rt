@@ -1,6 +1,6 @@
 //! Packets that are cut short, and packets with one bit changed.
 
-use super::expect;
+use crate::engines::{End, Engine, expect};
 use std::test::Fail;
 
 #[test]
@@ -15,7 +15,7 @@ fn a_packet_cut_short(rt: HostRuntime) -> Result<(), Fail> {
             8..=11 => "010809c10101023103\n",
             _ => "010809c10101023100\n",
         };
-        expect(&rt, rt.alloc(), &capture, Ok(()), text)?;
+        expect(&rt, rt.alloc(), Engine::Answer, &capture, End::Done, text)?;
     }
     Ok(())
 }
@@ -93,10 +93,10 @@ const BITS_CHANGED: &str = "\
 fn a_bit_changed(rt: HostRuntime) -> Result<(), Fail> {
     let mut bits = 0u32;
     for line in BITS_CHANGED.lines() {
-        let (packet, told) = line.split_once(' ').ok_or("nothing told")?;
+        let (packet, answer) = line.split_once(' ').ok_or("no answer")?;
         let capture = format!(in rt.alloc(); "0 {packet}")?;
-        let text = format!(in rt.alloc(); "{told}\n")?;
-        expect(&rt, rt.alloc(), &capture, Ok(()), &text)?;
+        let text = format!(in rt.alloc(); "{answer}\n")?;
+        expect(&rt, rt.alloc(), Engine::Answer, &capture, End::Done, &text)?;
         bits = bits.saturating_add(1);
     }
     assert_eq!(rt; bits, 64);

@@ -1,10 +1,11 @@
 //! The record repository through the engine.
 
-use super::expect;
+use super::expect_answers;
+use crate::engines::{End, Engine, expect};
 use std::test::Fail;
 
 #[test]
-fn records_are_told(rt: HostRuntime) -> Result<(), Fail> {
+fn records_are_answered(rt: HostRuntime) -> Result<(), Fail> {
     let alloc = rt.alloc();
     let info = format!(in alloc; "010809c30103025000{:054}010000002c0100002c01000000\n", 0)?;
     let first = format!(in alloc;
@@ -33,9 +34,7 @@ fn records_are_told(rt: HostRuntime) -> Result<(), Fail> {
             "010809c20102025180\n",
         ),
     ];
-    for (capture, text) in cases {
-        expect(&rt, alloc, capture, Ok(()), text)?;
-    }
+    expect_answers(&rt, alloc, &cases)?;
     Ok(())
 }
 
@@ -53,10 +52,10 @@ const PARTS: &[(&str, &str)] = &[
 #[test]
 fn parts_of_records_in_order_of_refusal(rt: HostRuntime) -> Result<(), Fail> {
     let alloc = rt.alloc();
-    for (asked, told) in PARTS {
+    for (asked, answer) in PARTS {
         let capture = format!(in alloc; "0 010908c801800251{asked}0000")?;
-        let text = format!(in alloc; "010809c001000251{told}\n")?;
-        expect(&rt, alloc, &capture, Ok(()), &text)?;
+        let text = format!(in alloc; "010809c001000251{answer}\n")?;
+        expect(&rt, alloc, Engine::Answer, &capture, End::Done, &text)?;
     }
     Ok(())
 }

@@ -1,6 +1,6 @@
 //! A record of the greatest length, fetched part by part through the engine.
 
-use super::run;
+use crate::engines::{End, Engine};
 use example_device::description;
 use mctp_assembly::{Assembler, Fed};
 use mctp_packet::{Body, Eid, Route, Tag, read_for, split};
@@ -33,50 +33,67 @@ fn request(part: u32) -> Command {
     }
 }
 
-/// The example device with this record as its second, and a request for each part.
-fn input(alloc: Global, record: &[u8]) -> Result<String, Fail> {
-    let device = description(alloc)?;
-    let digits = hex::encode(alloc, record)?;
-    let mut text = format!(in alloc; "{device}[[pdr]]\nhex = \"{digits}\"\n%%\n")?;
+/// Adds the line of a request for a part.
+fn push_request(text: &mut String, alloc: Global, part: u32) -> Result<(), Fail> {
     let route = Route {
         destination: Eid::new(9).ok_or(AllocError)?,
         source: Eid::new(8).ok_or(AllocError)?,
         owner: true,
         tag: Tag::new(3).ok_or(AllocError)?,
     };
+    let message = write_command((part % 32) as u8, &request(part));
+    let packets = split(&route, &message)?;
+    let packet = hex::encode(alloc, packets.get(0).ok_or(AllocError)?)?;
+    write!(text, "{part} {packet}\n")?;
+    Ok(())
+}
+
+/// The example device with this record as its second, and a request for each part.
+fn input(alloc: Global, record: &[u8]) -> Result<String, Fail> {
+    let device = description(alloc)?;
+    let digits = hex::encode(alloc, record)?;
+    let mut text = format!(in alloc; "{device}[[pdr]]\nhex = \"{digits}\"\n%%\n")?;
     for part in 0..PARTS {
-        let message = write_command((part % 32) as u8, &request(part));
-        let packets = split(&route, &message)?;
-        let packet = hex::encode(alloc, packets.get(0).ok_or(AllocError)?)?;
-        let line = format!(in alloc; "{part} {packet}\n")?;
-        text.push_str(line.as_str())?;
+        push_request(&mut text, alloc, part)?;
     }
     Ok(text)
 }
 
-/// The messages whose packets stand in these lines.
-fn messages(alloc: Global, lines: &[u8]) -> Result<Vec<Body>, Fail> {
+/// Takes the packet of a line, and adds the message that is whole with it.
+fn take_line(
+    messages: &mut Vec<Body>,
+    alloc: Global,
+    assembler: &mut Assembler,
+    line: &[u8],
+) -> Result<(), Fail> {
     let own = Eid::new(8).ok_or(AllocError)?;
+    let bytes = hex::decode(alloc, line)?;
+    let packet = read_for(own, bytes.as_slice())?;
+    if let Fed::Whole(message) = assembler.feed(&packet)? {
+        messages.push(message)?;
+    }
+    Ok(())
+}
+
+/// Adds the messages whose packets stand in these lines.
+fn push_messages(messages: &mut Vec<Body>, alloc: Global, lines: &[u8]) -> Result<(), Fail> {
     let mut assembler = Assembler::new(alloc);
-    let mut messages = Vec::new(alloc);
     for line in lines.split(|byte| *byte == b'\n') {
-        if line.is_empty() {
-            continue;
-        }
-        let bytes = hex::decode(alloc, line)?;
-        let packet = read_for(own, bytes.as_slice())?;
-        if let Fed::Whole(message) = assembler.feed(&packet)? {
-            messages.push(message)?;
+        if !line.is_empty() {
+            take_line(messages, alloc, &mut assembler, line)?;
         }
     }
-    Ok(messages)
+    Ok(())
 }
 
 /// The messages that the engine answers to a request for each part of this record.
 fn answers(rt: &impl Abort, alloc: Global, record: &[u8]) -> Result<Vec<Body>, Fail> {
-    let (result, written) = run(alloc, input(alloc, record)?.as_bytes())?;
-    assert_eq!(rt; result, Ok(()));
-    messages(alloc, &written)
+    let input = input(alloc, record)?;
+    let outcome = Engine::Answer.run_over(alloc, input.as_bytes())?;
+    assert_eq!(rt; outcome.end, End::Done);
+    let mut messages = Vec::new(alloc);
+    push_messages(&mut messages, alloc, &outcome.written)?;
+    Ok(messages)
 }
 
 /// A fetch takes these answers, one for each part, and has this record at the end.
