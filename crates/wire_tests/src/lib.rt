@@ -4,8 +4,6 @@
 #[cfg(test)]
 mod assembly;
 #[cfg(test)]
-mod expect;
-#[cfg(test)]
 mod messages;
 #[cfg(test)]
 mod packets;

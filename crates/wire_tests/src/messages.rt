@@ -1,6 +1,5 @@
 //! Messages of the standards' tables, bytes by hand, read and written.
 
-use crate::expect::expect_eq;
 use mctp_packet::{Body, Reason};
 use pldm_wire::{
     Answer, AnswerFault, Code, Command, ERROR, ERROR_INVALID_DATA, ERROR_INVALID_LENGTH,
@@ -10,6 +9,7 @@ use pldm_wire::{
     write_answer, write_command,
 };
 use std::process::Abort;
+use test_expect::expect_eq;
 
 mod answers;
 mod checksums;
