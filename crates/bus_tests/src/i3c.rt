@@ -1,9 +1,9 @@
 //! Frames on I3C, written by hand from the text of the standard.
 
+use crate::expect::expect_eq;
 use mctp_i2c::i3c::{Direction, FrameBytes, FrameFault, frame, read};
 use mctp_i2c::{DynamicAddress, LengthFault};
 use std::process::Abort;
-use test_expect::expect_eq;
 
 /// A packet from endpoint 8 to endpoint 9, a request for the TID, and its PEC in a write to 0x30.
 const FRAME: [u8; 9] = [0x01, 0x09, 0x08, 0xC8, 0x01, 0x80, 0x00, 0x02, 0x2B];

@@ -1,9 +1,9 @@
 //! Frames on SMBus, written by hand from the table of the standard.
 
+use crate::expect::expect_eq;
 use mctp_i2c::smbus::{FrameBytes, FrameFault, frame, read};
 use mctp_i2c::{LengthFault, SmbusAddress};
 use std::process::Abort;
-use test_expect::expect_eq;
 
 /// A packet from endpoint 8 to endpoint 9: a request for the TID.
 const PACKET: &[u8] = &[0x01, 0x09, 0x08, 0xC8, 0x01, 0x80, 0x00, 0x02];

@@ -1,8 +1,8 @@
 //! What the table `control` of a description says.
 
 use crate::descriptions::after;
+use crate::expect::expect_eq;
 use pldm_device::{ControlTable, FileFault};
-use test_expect::expect_eq;
 
 /// The UUID of RFC 4122's examples, and the versions 1.2.1 and 1.0.0a.
 const TABLE: &str = "\

@@ -1,10 +1,10 @@
 //! Descriptions with one fault, and one at every limit.
 
 use crate::descriptions::{after, changed, description_of, example_text, is_refused};
+use crate::expect::expect_eq;
 use pldm_device::FileFault;
 use std::alloc::Global;
 use std::process::Abort;
-use test_expect::expect_eq;
 
 /// A text of a description, what stands in its place, and the fault.
 type Change = (&'static str, &'static str, FileFault);

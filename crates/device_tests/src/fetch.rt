@@ -1,5 +1,6 @@
 //! Records fetched in parts.
 
+use crate::expect::expect_eq;
 use crate::platforms::{answer, example};
 use mctp_packet::Memory;
 use memory_hoard::Hoard;
@@ -7,7 +8,6 @@ use pldm_device::{Fetch, FetchFault, FetchState, Platform, RECORD_HEADER};
 use pldm_wire::{Answer, Code, Command, RecordPart, TransferFlag};
 use std::alloc::{AllocError, Global};
 use std::process::Abort;
-use test_expect::expect_eq;
 
 /// The bytes of the example's record.
 fn record() -> [u8; 300] {

@@ -6,6 +6,8 @@ mod control_tables;
 #[cfg(test)]
 mod descriptions;
 #[cfg(test)]
+mod expect;
+#[cfg(test)]
 mod faults;
 #[cfg(test)]
 mod fetch;

@@ -1,10 +1,10 @@
 //! Records that the table `records` has made, compared with bytes that were written by hand.
 
 use crate::descriptions::{description_of, is_refused, joined};
+use crate::expect::expect_eq;
 use pldm_device::FileFault;
 use std::alloc::Global;
 use std::process::Abort;
-use test_expect::expect_eq;
 
 /// A device with a thing of each kind, up to its table.
 const DEVICE: &str = r#"eid = 9

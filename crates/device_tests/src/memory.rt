@@ -1,13 +1,13 @@
 //! A description is read with no memory at first, and with a little more after each refusal.
 
 use crate::descriptions::example_text;
+use crate::expect::expect_eq;
 use crate::platforms::expect_example;
 use mctp_packet::Memory;
 use memory_hoard::Hoard;
 use pldm_device::{Description, FileFault};
 use std::alloc::{AllocError, Global};
 use std::process::Abort;
-use test_expect::expect_eq;
 
 /// How many bytes more there are after each refusal.
 const STEP: usize = 16;

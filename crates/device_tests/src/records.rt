@@ -1,10 +1,10 @@
 //! The longest record that a description may have.
 
 use crate::descriptions::{description_of, example_text, is_refused, joined};
+use crate::expect::expect_eq;
 use pldm_device::FileFault;
 use std::alloc::Global;
 use std::process::Abort;
-use test_expect::expect_eq;
 
 /// A record in hex with 65,535 bytes of data, and these bytes more.
 fn record_with(rt: &impl Abort, alloc: Global, more: &str) -> String {

@@ -1,10 +1,10 @@
 //! What a description says of how its endpoint treats requests: its keys `window` and `busy`.
 
 use crate::descriptions::{changed, in_front};
+use crate::expect::expect_eq;
 use pldm_device::{Description, FileFault};
 use pldm_wire::{BusyTime, HandedOn};
 use std::alloc::Global;
-use test_expect::expect_eq;
 
 /// The window and the busy time, or a fault.
 type Settings = Result<(u8, BusyTime), FileFault>;

@@ -1,11 +1,11 @@
 //! The checksum that follows the versions of a description.
 
 use crate::descriptions::{changed, description_of, in_front, is_refused};
+use crate::expect::expect_eq;
 use pldm_device::{FileFault, Platform};
 use pldm_wire::{Answer, Command, VersionData};
 use std::alloc::Global;
 use std::process::Abort;
-use test_expect::expect_eq;
 
 const VERSION: Command = Command::GetPldmVersion {
     data_transfer_handle: 0,

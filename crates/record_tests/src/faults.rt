@@ -1,8 +1,8 @@
 //! Bytes that are no record, and the fault that reading them returns.
 
+use crate::expect::expect_eq;
 use pldm_pdr::{RecordFault, read};
 use std::process::Abort;
-use test_expect::expect_eq;
 
 const LOCATOR: [u8; 19] = [
     1, 0, 0, 0, 1, 1, 0, 0, 9, 0, // a header that counts 9 bytes

@@ -1,12 +1,12 @@
 //! Records of numeric sensors and numeric effecters, read and written.
 
+use crate::expect::expect_eq;
 use crate::records::both_ways;
 use pldm_pdr::{
     Conversion, EffecterRange, Entity, NumericEffecter, NumericSensor, RangeFormat, Record,
     RecordData, SensorRange, Units,
 };
 use pldm_wire::Size;
-use test_expect::expect_eq;
 
 const SENSOR: [u8; 72] = [
     0x03, 0x00, 0x00, 0x00, // record handle 3

@@ -1,12 +1,12 @@
 //! Terminus locators, state sensors, state effecters and names.
 
+use crate::expect::expect_eq;
 use arrayvec::ArrayVec;
 use pldm_pdr::{
     EffecterNames, Entity, EntityNames, PossibleStates, Record, RecordData, SensorNames,
     StateEffecter, StateSensor, TerminusLocator, read, write,
 };
 use std::process::Abort;
-use test_expect::expect_eq;
 
 /// The record of this handle, change number and data is written as these bytes, and they are read as it.
 pub fn both_ways(

@@ -1,5 +1,6 @@
 //! Messages assembled from packets, and packets that are dropped.
 
+use crate::expect::expect_eq;
 use mctp_assembly::{Assembler, Fed, Key};
 use mctp_packet::{
     BASELINE_UNIT, Eid, HEADER, MAX_PACKET_BYTES, PacketRef, Reason, Tag, read, read_for,
@@ -7,7 +8,6 @@ use mctp_packet::{
 use memory_hoard::Hoard;
 use std::alloc::Global;
 use std::process::Abort;
-use test_expect::expect_eq;
 
 /// The endpoint that all packets here are addressed to.
 const OWN: u8 = 9;

@@ -4,6 +4,8 @@
 #[cfg(test)]
 mod assembly;
 #[cfg(test)]
+mod expect;
+#[cfg(test)]
 mod messages;
 #[cfg(test)]
 mod packets;

@@ -1,5 +1,6 @@
 //! Messages of the standards' tables, bytes by hand, read and written.
 
+use crate::expect::expect_eq;
 use mctp_packet::{Body, Reason};
 use pldm_wire::{
     Answer, AnswerFault, Code, Command, ERROR, ERROR_INVALID_DATA, ERROR_INVALID_LENGTH,
@@ -9,7 +10,6 @@ use pldm_wire::{
     write_answer, write_command,
 };
 use std::process::Abort;
-use test_expect::expect_eq;
 
 mod answers;
 mod checksums;

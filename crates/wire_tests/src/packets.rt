@@ -1,12 +1,12 @@
 //! Packets read and written, and messages cut into packets.
 
+use crate::expect::expect_eq;
 use mctp_packet::{
     Eid, HEADER, Keep, MAX_PACKET_BYTES, Memory, Moment, PacketRef, Packets, Reason, Route, Seq,
     SplitFault, Tag, read, read_for, split, write,
 };
 use std::alloc::AllocError;
 use std::process::Abort;
-use test_expect::expect_eq;
 
 #[test]
 fn ranges_of_numbers(rt: HostRuntime) {

@@ -1,5 +1,4 @@
-//! For tests alone: one assertion, a call of which is proved in a third of the time that an `assert_eq!` takes.
-#![tactic(auto)]
+//! The one assertion of these tests: a call of it is proved in a third of the time that an `assert_eq!` takes.
 
 use std::fmt::Debug;
 use std::process::Abort;
