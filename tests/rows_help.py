@@ -1,4 +1,4 @@
-"""The help of the program: whole, as `mctpctl_command_line/src/help.rt` and clap's layout have it, and its examples run."""
+"""The help of the program: whole, as `mctpctl_command_line/src/help.rt` and clap's layout have it; its examples run."""
 import os
 import re
 import tempfile
@@ -131,8 +131,8 @@ def check(rows, run, program):
     device = given[: given.index("%%")]
     _, schedule, report = examples_in(texts["RUN"])[:3]
     capture, shown = examples_in(texts["SHOW"])[:2]
-    whole = f"{device}%%\n{schedule}"
-    for name, text, want in (("answer", given, answered), ("run", whole, report), ("show", capture, shown)):
+    described = f"{device}%%\n{schedule}"
+    for name, text, want in (("answer", given, answered), ("run", described, report), ("show", capture, shown)):
         ran = run([name], text)
         rows.check(f"the example in the help of {name}", ran.stdout.decode() == want, repr(ran.stdout[:80]))
     if program:
