@@ -8,7 +8,7 @@ use crate::last_number::{LastNumber, LastNumbers};
 use crate::line::{read_action, read_open, read_reply, read_request, read_requester, read_tick};
 use crate::requesters::Requesters;
 use crate::word::Word;
-use crate::words::{UsualName, Words, words_in};
+use crate::words::{UsualName, Words, step_words, words_in};
 use crate::{Action, Expected, LineFault, LineFaultKind, RequesterLine, Step, Steps};
 use line_words::split_line;
 use std::alloc::Global;
@@ -116,6 +116,19 @@ impl Schedule {
         ensures err { IfErr result (λ kind. ReportsKind (after_line self.old line.now) kind) }
         ensures unchanged { OnErr result (self.new ≡ self.old) }
     {
+        match step_words(line) {
+            Some(mut words) => self.add_step_in(&mut words),
+            None => self.add_unusual(line),
+        }
+    }
+
+    /// As `add_unnumbered`, for a line of any form.
+    #[inline(never)]
+    fn add_unusual(&mut self, line: &[u8]) -> Result<(), LineFaultKind>
+        ensures ok { OnOk result (after_line self.old line.now ≡ Ok self.new) }
+        ensures err { IfErr result (λ kind. ReportsKind (after_line self.old line.now) kind) }
+        ensures unchanged { OnErr result (self.new ≡ self.old) }
+    {
         let Some((keyword, mut words)) = words_in(line) else {
             return Ok(());
         };
@@ -131,6 +144,8 @@ impl Schedule {
 
     /// Adds the step of a line, `at MS` and an action, by the words after the first. Each usual action is added where
     /// it is read: it is then known which one it is, and none is passed on.
+    // Inlined: it runs for nearly all lines.
+    #[inline(always)]
     fn add_step_in(&mut self, words: &mut Words<'_>) -> Result<(), LineFaultKind>
         ensures ok { OnOk result (with_step_in self.old words.old ≡ Ok self.new) }
         ensures err { IfErr result (λ kind. ReportsKind (with_step_in self.old words.old) kind) }

@@ -1,6 +1,6 @@
 //! The words of a line, one after the other.
 
-ghost use Rattle.std.specs.Prelude.{◌≡◌, ◌≢◌, ◌<◌, ◌∷◌, [], IfOk, IfErr, IfSome, IfNone, OnOk, OnErr, length};
+ghost use Rattle.std.specs.Prelude.{◌≡◌, ◌≢◌, ◌<◌, ◌∷◌, [], IfOk, IfErr, IfSome, IfNone, OnOk, OnErr, codes, length};
 ghost use Rattle.line_words.specs.Lines.{said_words};
 ghost use Rattle.schedule_text.specs.CommandWords.{only_word};
 ghost use Rattle.schedule_text.specs.Refusals.{kinds};
@@ -47,20 +47,25 @@ impl<'a> Model for Words<'a> {
     ghost view = { λ words. words_of words.text.now };
 }
 
-/// The first word that a line says, given without its LF, and the words after it; `None` where it says
-/// none. Nearly all lines begin with `at `, which is not looked at byte by byte.
-// Inlined: it runs for each line.
-#[inline(always)]
+/// The first word that a line says, given without its LF, and the words after it; `None` where it says none.
 pub(crate) fn words_in(line: &[u8]) -> Option<(Word<'_>, Words<'_>)>
     ensures some { IfSome result (λ p. said_words line.now ≡ p.0 ∷ p.1) }
     ensures none { IfNone result (said_words line.now ≡ []) }
 {
+    let (first, number, text) = first_number(line)?;
+    Some((Word::new(first, number), Words { text }))
+}
+
+/// The words after `at`, where a line begins with `at ` as nearly all do: its first word is then not looked for byte by
+/// byte.
+// Inlined: it runs for each line.
+#[inline(always)]
+pub(crate) fn step_words(line: &[u8]) -> Option<Words<'_>>
+    ensures { IfSome result (λ words. said_words line.now ≡ codes "at" ∷ words) }
+{
     match without_cr(line) {
-        [b'a', b't', b' ', text @ ..] => Some((Word::new(b"at", None), Words { text })),
-        _ => {
-            let (first, number, text) = first_number(line)?;
-            Some((Word::new(first, number), Words { text }))
-        }
+        [b'a', b't', b' ', text @ ..] => Some(Words { text }),
+        _ => None,
     }
 }
 
@@ -105,6 +110,8 @@ impl<'a> Words<'a> {
 
     /// The next word, where it is one of the usual names and stands as nearly all do: it is then not looked for
     /// byte by byte.
+    // Inlined, as `step_words`.
+    #[inline(always)]
     pub(crate) fn usual_name(&mut self) -> Option<UsualName>
         ensures some { IfSome result (λ name. self.old ≡ usual_name name ∷ self.new) }
         ensures none { IfNone result (self.new ≡ self.old) }
