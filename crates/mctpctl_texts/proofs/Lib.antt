@@ -1,5 +1,6 @@
 pub mod BitTexts
 pub mod GatheredParts
+pub mod HexDigits
 pub mod ItemTexts
 pub mod PacketLines
 pub mod PairTables

@@ -5,7 +5,6 @@ ghost use Rattle.hex.specs.Hex.{encode_lower};
 ghost use Rattle.mctpctl_texts.specs.Gathering.{Gathered};
 ghost use Rattle.mctpctl_texts.specs.Writers.{Wrote};
 
-use crate::hex_pairs::HexPairs;
 use crate::page::{PAGE, Page};
 use crate::text_writer::{HEX_PIECE, TextWriter};
 
@@ -39,7 +38,6 @@ pub(crate) fn make_room<O: TextWriter>(
 pub(crate) fn gather_hex<O: TextWriter>(
     out: &mut O,
     page: &mut Page,
-    pairs: &HexPairs,
     bytes: &[u8],
 ) -> Result<(), O::Refusal>
     ensures { Gathered O.contents O.failed O.refused out.old out.new page.old page.new (encode_lower bytes.now) result }
@@ -48,7 +46,7 @@ pub(crate) fn gather_hex<O: TextWriter>(
     while !rest.is_empty() {
         let count = rest.len().min(HEX_PIECE);
         make_room(out, page, 2 * HEX_PIECE)?;
-        page.add_hex(pairs, &rest[..count]);
+        page.add_hex(&rest[..count]);
         rest = &rest[count..];
     }
     Ok(())

@@ -7,6 +7,7 @@ mod device_lines;
 mod digits;
 mod entry_text;
 mod gathering;
+mod hex_digits;
 mod hex_pairs;
 mod message_line;
 mod outcome;

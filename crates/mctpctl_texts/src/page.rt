@@ -5,7 +5,7 @@ ghost use Rattle.std.specs.Prelude.{◌≡◌, ◌≤◌, ◌+◌, ◌*◌, ◌+
 ghost use Rattle.hex.specs.Hex.{encode_lower};
 
 use crate::digits::{put_digits, put_number};
-use crate::hex_pairs::HexPairs;
+use crate::hex_digits::put_hex;
 use std::marker::Model;
 
 /// The most bytes of a part: a drop with the longest name of a reason has 27, a number of 64 bits with a space 21.
@@ -156,12 +156,12 @@ impl Page {
         self.count = end;
     }
 
-    /// Adds bytes in lower-case hex by `pairs`. There has to be room for their digits.
-    pub(crate) fn add_hex(&mut self, pairs: &HexPairs, bytes: &[u8])
+    /// Adds bytes in lower-case hex. There has to be room for their digits.
+    pub(crate) fn add_hex(&mut self, bytes: &[u8])
         requires { length self.old + 2 * length bytes.now ≤ PAGE }
         ensures { self.new ≡ self.old ++ encode_lower bytes.now }
     {
-        pairs.spell(bytes, &mut self.room[self.count..]);
+        put_hex(bytes, &mut self.room[self.count..]);
         self.count += 2 * bytes.len();
     }
 }

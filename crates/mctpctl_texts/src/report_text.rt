@@ -14,7 +14,6 @@ use crate::decimal::Decimal;
 use crate::device_lines::write_device;
 use crate::entry_text::{gather_entry, gather_moment};
 use crate::gathering::{flush, gather_hex, make_room};
-use crate::hex_pairs::HexPairs;
 use crate::page::{MAX_PART, PAGE, Page};
 use crate::parts::write_text;
 use crate::phrases::Phrases;
@@ -94,13 +93,12 @@ fn gather_requests<O: TextWriter>(
     ensures { Gathered O.contents O.failed O.refused out.old out.new page.old page.new
         (requests_text 0 requests.now) result }
 {
-    let pairs = HexPairs::new();
     let mut next = status_at(requests, 0);
     for i in 0..requests.len() {
         let status = next;
         // Taken one line ahead, so that the place of its answer in memory is known before that line is begun.
         next = status_at(requests, i + 1);
-        gather_request_line(out, page, phrases, &pairs, i as u64, &requests[i], status)?;
+        gather_request_line(out, page, phrases, i as u64, &requests[i], status)?;
     }
     Ok(())
 }
@@ -123,7 +121,6 @@ fn gather_request_line<O: TextWriter>(
     out: &mut O,
     page: &mut Page,
     phrases: &Phrases,
-    pairs: &HexPairs,
     number: u64,
     request: &OpenedRequest,
     status: Status<'_>,
@@ -135,7 +132,7 @@ fn gather_request_line<O: TextWriter>(
 {
     make_room(out, page, MAX_REQUEST)?;
     add_request(page, phrases, number, request.requester());
-    gather_status(out, page, phrases, pairs, status)
+    gather_status(out, page, phrases, status)
 }
 
 /// Adds the number of a request and who asked.
@@ -157,7 +154,6 @@ fn gather_status<O: TextWriter>(
     out: &mut O,
     page: &mut Page,
     phrases: &Phrases,
-    pairs: &HexPairs,
     status: Status<'_>,
 ) -> Result<(), O::Refusal>
     requires room { length page.old + MAX_PART ≤ PAGE }
@@ -167,7 +163,7 @@ fn gather_status<O: TextWriter>(
 {
     match status {
         Status::Open => page.add(&phrases.still_open),
-        Status::Answered(message) => return gather_answer(out, page, phrases, pairs, message),
+        Status::Answered(message) => return gather_answer(out, page, phrases, message),
         Status::GaveUp => page.add(&phrases.gave_up),
     }
     Ok(())
@@ -178,7 +174,6 @@ fn gather_answer<O: TextWriter>(
     out: &mut O,
     page: &mut Page,
     phrases: &Phrases,
-    pairs: &HexPairs,
     message: &[u8],
 ) -> Result<(), O::Refusal>
     requires room { length page.old + MAX_PART ≤ PAGE }
@@ -187,7 +182,7 @@ fn gather_answer<O: TextWriter>(
         (codes "answered " ++ (encode_lower message.now ++ 10 ∷ [])) result }
 {
     page.add(&phrases.answered_by);
-    gather_hex(out, page, pairs, message)?;
+    gather_hex(out, page, message)?;
     make_room(out, page, MAX_PART)?;
     page.add(&phrases.end);
     Ok(())

@@ -1,6 +1,7 @@
 -- Two digits come after those of the bytes before.
 use Rattle.std.proofs.Common.{◌<◌, refl, arith}
-use Rattle.mctpctl_texts.proofs.PairTables.{nothing_written, pair_added, rest_kept}
+use Rattle.mctpctl_texts.proofs.HexDigits.{nothing_written, rest_kept}
+use Rattle.mctpctl_texts.proofs.PairTables.{pair_added}
 use Rattle.mctpctl_texts.proofs.hex_pairs.HexPairs.spell.Goals as goal
 
 pub loop-place-init : goal.loop-place-init
