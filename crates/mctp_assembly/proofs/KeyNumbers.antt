@@ -4,7 +4,7 @@ use Rattle.std.proofs.Common.{◌≡◌, ℕ, ◌+◌, ◌*◌, ◌/◌, ◌%◌
 use Rattle.std.proofs.lemmas.Bool.{eqb-false}
 use Rattle.mctp_packet.specs.Bits.{bit}
 use Rattle.mctp_assembly.specs.Keys.{IsKey, key_cmp}
-use Rattle.mctp_assembly.specs.NumberLists.{Changes, Rises, at}
+use Rattle.mctp_assembly.specs.NumberLists.{Changes, Differ, at}
 use Rattle.mctp_assembly.specs.Numbered.{Numbered, KEYS, held_in, key_at, none_open, number_of}
 use Rattle.mctp_assembly.specs.Opened.{Opened}
 use Rattle.mctp_assembly.specs.declared.key.Key.{Key}
@@ -55,5 +55,5 @@ removed_held l new k h = maps.removed_in key_cmp keys_total keys_exact none_open
 pub unchanged_held : (l new : Numbered) (n : ℕ) → Changes l new n (at l n) → held_in new ≡ held_in l
 unchanged_held = maps.unchanged_in key_cmp keys_total keys_exact none_open key_at number_of number_of_key
 
-pub len_held : (l : Numbered) → Rises none_open l → map.len (held_in l) ≡ length l
-len_held = maps.len_in key_cmp keys_total keys_exact none_open key_at number_of number_of_key
+pub len_held : (l : Numbered) → Differ none_open l → map.len (held_in l) ≡ length l
+len_held = maps.len_differing key_cmp keys_total keys_exact none_open key_at number_of number_of_key

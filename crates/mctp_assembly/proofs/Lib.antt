@@ -7,8 +7,7 @@ pub mod CallsLookBack
 pub mod RowsAreOne
 pub mod CopiesJoin
 pub mod NumberLookups
-pub mod NumberCounts
-pub mod NumberSearches
+pub mod DifferingPlaces
 pub mod NumberPlaces
 pub mod OpenPlaces
 pub mod PacketEnds

@@ -1,32 +1,26 @@
 -- What a search finds among numbers that rise, and what a change at that place leaves.
-use Rattle.std.proofs.Common.{◌≡◌, ℕ, ◌+◌, ◌-◌, ◌<◌, ◌≤◌, ◌≢◌, length, Some, None, Option, Bool, true, false, cond, ◌==◌, eqb-true, refl, sym, ◌∙◌, ap, subst, arith}
+use Rattle.std.proofs.Common.{◌≡◌, ℕ, ◌+◌, ◌-◌, ◌<◌, ◌≤◌, Some, None, Option, Bool, true, false, cond, ◌==◌, eqb-true, refl, sym, ◌∙◌, ap, subst, arith}
 use Rattle.std.specs.Prelude.{slice_set, slice_index_or}
 use Rattle.std.specs.List.{insert, remove}
 use Rattle.std.proofs.lemmas.List.Edits.{length-insert, get_or-insert_below, get_or-insert_at, get_or-insert_above, length-remove, get_or-remove_below, get_or-remove_above}
-use Rattle.std.proofs.lemmas.List.{get_or_default}
 use Rattle.std.proofs.lemmas.Grind.{common_steps}
-use Rattle.mctp_assembly.specs.NumberLists.{NumberList, Rises, number_in, at, IsAt, IsGapFor, Changes}
-use Rattle.mctp_assembly.proofs.NumberLookups.{NoneBefore, absent, present, changed, inserted, taken_away}
+use Rattle.mctp_assembly.specs.NumberLists.{NumberList, Differ, Rises, number_in, at, IsAt, IsGapFor, Changes}
+use Rattle.mctp_assembly.proofs.NumberLookups.{absent, inserted}
+use Rattle.mctp_assembly.proofs.DifferingPlaces as differing
 
 module _ {X : Type 0} (past : X) where
   module _ (l : NumberList X) (rises : Rises past l) (k place : ℕ) (is : IsAt past l k place) where
-    none_before : NoneBefore past l k place
-    none_before j lt same = omega (arith, rises j place lt is.in_range, is.has)
+    differ : Differ past l
+    differ = differing.differ_as_they_rise past l rises
 
     pub open_at : (d : ℕ × X) → at l k ≡ Some (slice_index_or l place d).1
-    open_at d = present past l k place d is none_before
-
-    pub changed_at : (v : X) → Changes l (slice_set l place (k, v)) k (Some v)
-    changed_at v = changed past l k v place is none_before
+    open_at = differing.open_at past l differ k place is
 
     pub rises_changed : (v : X) → Rises past (slice_set l place (k, v))
     rises_changed v i j lt in_range = grind (arith, common_steps, rises i j, rises i place, rises place j, is.in_range, is.has)
 
-    none_after : (j : ℕ) → place < j → j < length l → number_in past l j ≢ k
-    none_after j lt in_range same = omega (arith, rises place j lt in_range, is.has)
-
     pub removed_at : Changes l (remove l place) k None
-    removed_at = taken_away past l k place is none_before none_after
+    removed_at = differing.removed_at past l differ k place is
 
     pub rises_removed : Rises past (remove l place)
     rises_removed i j lt in_range =
@@ -39,14 +33,14 @@ module _ {X : Type 0} (past : X) where
 
     -- what was read at the place
     pub here : (d : ℕ × X) → d ≡ slice_index_or l place d → d.0 ≡ k
-    here d read = ap (λ (e : ℕ × X). e.0) (read ∙ get_or_default l place d (0, past) is.in_range) ∙ is.has
+    here = differing.here past l differ k place is
 
     pub read_at : (d : ℕ × X) → d ≡ slice_index_or l place d → at l k ≡ Some d.1
-    read_at d read = open_at d ∙ ap (λ (e : ℕ × X). Some e.1) (sym read)
+    read_at = differing.read_at past l differ k place is
 
     -- and what is written there with its number
     pub written_at : (d : ℕ × X) (v : X) → d ≡ slice_index_or l place d → Changes l (slice_set l place (d.0, v)) k (Some v)
-    written_at d v read = subst (λ n. Changes l (slice_set l place (n, v)) k (Some v)) (sym (here d read)) (changed_at v)
+    written_at = differing.written_at past l differ k place is
 
   module _ (l : NumberList X) (k place : ℕ) (gap : IsGapFor past l k place) where
     pub none_in_gap : at l k ≡ None

@@ -6,8 +6,9 @@ use Rattle.std.specs.declared.cmp.Ordering.{Ordering}
 use Rattle.std.specs.declared.cmp.Ordering.TheVariants.{Less, Equal, Greater}
 use Rattle.std.specs.Cmp.{IsTotalOrder, eq_by_cmp_equiv}
 use Rattle.std.proofs.lemmas.Bool.{eqb-false}
-use Rattle.mctp_assembly.specs.NumberLists.{NumberList, Changes, Rises, at, keyed, map_in}
+use Rattle.mctp_assembly.specs.NumberLists.{NumberList, Changes, Differ, Rises, at, keyed, map_in}
 use Rattle.mctp_assembly.proofs.NumberLookups.{absent}
+use Rattle.mctp_assembly.proofs.DifferingPlaces.{differ_as_they_rise}
 
 equal : (r : Ordering) → is_eq r ≡ true → r ≡ Equal
 equal Less h = cc
@@ -92,16 +93,19 @@ module _
       map.same_map total exact _ _ (λ q. got new q ∙ ap (λ x. cond (is_key q) x None) (change (number_of q) ∙ own_value l n (number_of q) (n == number_of q) refl) ∙ sym (got l q))
 
   -- ---- how many
-  tail : (x : ℕ × X) (l : NumberList X) → Rises past (x ∷ l) → Rises past l
-  tail x l rises i j lt in_range = rises (suc i) (suc j) (omega arith) (omega arith)
+  tail : (x : ℕ × X) (l : NumberList X) → Differ past (x ∷ l) → Differ past l
+  tail x l differ i j lt in_range = differ (suc i) (suc j) (omega arith) (omega arith)
 
-  pub len_in : (l : NumberList X) → Rises past l → map.len (map_in R key_at l) ≡ length l
-  len_in [] rises = map.len-empty R X
-  len_in ((m, o) ∷ rest) rises =
-      let none : at rest m ≡ None = absent past rest m (λ j lt same. omega (arith, rises 0 (suc j) (omega arith) (omega arith))) in
+  pub len_differing : (l : NumberList X) → Differ past l → map.len (map_in R key_at l) ≡ length l
+  len_differing [] differ = map.len-empty R X
+  len_differing ((m, o) ∷ rest) differ =
+      let none : at rest m ≡ None = absent past rest m (λ j lt same. differ 0 (suc j) (omega arith) (omega arith) (sym same)) in
       let free : map.get (map_in R key_at rest) (key_at m) ≡ None =
       got rest (key_at m) ∙ ap (λ n. cond (is_key (key_at m)) (at rest n) None) (number_of_key m) ∙ ap (λ x. cond (is_key (key_at m)) x None) none ∙ sym (nothing (is_key (key_at m))) in
       map.len-insert total (map_in R key_at rest) (key_at m) o
       ∙ ap (λ (x : Option X). cond (is_some x) (map.len (map_in R key_at rest)) (map.len (map_in R key_at rest) + 1)) free
-      ∙ ap (λ n. n + 1) (len_in rest (tail (m, o) rest rises))
+      ∙ ap (λ n. n + 1) (len_differing rest (tail (m, o) rest differ))
       ∙ add-one (length rest)
+
+  pub len_in : (l : NumberList X) → Rises past l → map.len (map_in R key_at l) ≡ length l
+  len_in l rises = len_differing l (differ_as_they_rise past l rises)

@@ -1,21 +1,22 @@
 -- What a packet that was taken at a place leaves among the open messages.
-use Rattle.std.proofs.Common.{◌≡◌, ◌≢◌, ℕ, Bool, true, false, cond, ◌==◌, eqb-true, Some, None, Option, refl, sym, ◌∙◌, ap, subst}
+use Rattle.std.proofs.Common.{◌≡◌, ◌≢◌, ℕ, Bool, true, false, cond, ◌==◌, eqb-true, [], ◌∷◌, ◌++◌, Some, None, Option, refl, sym, ◌∙◌, ap, subst}
 use Rattle.std.specs.Prelude.{slice_set, slice_index_or, List}
-use Rattle.std.specs.List.{All, insert, remove}
+use Rattle.std.specs.List.{All, swap_remove}
 use Rattle.std.proofs.lemmas.List.{set-get_or}
 use Rattle.mctp_packet.specs.Packets.{Packet}
 use Rattle.mctp_packet.specs.declared.TheConstants.{MAX_PACKETS}
 use Rattle.mctp_packet.specs.declared.reason.Reason.{Reason}
 use Rattle.mctp_assembly.specs.Fed.{fed_with}
-use Rattle.mctp_assembly.specs.NumberLists.{Changes, IsAt, IsGapFor, Rises, at}
+use Rattle.mctp_assembly.specs.NumberLists.{Changes, Differ, IsAt, at}
 use Rattle.mctp_assembly.specs.Numbered.{Numbered, AreOpen, IsEntry, none_open}
 use Rattle.mctp_assembly.specs.Opened.{Opened, IsOpened}
 use Rattle.mctp_assembly.specs.Steps.{answer_alone, answer_to, begun_by, carried_on, left_by}
 use Rattle.mctp_assembly.specs.declared.fed.Assembled.{Assembled}
 use Rattle.mctp_assembly.specs.declared.fed.Assembled.TheVariants.{Whole, Partial, Dropped}
 use Rattle.mctp_assembly.proofs.PacketEnds.{none_partial}
-use Rattle.mctp_assembly.proofs.NumberPlaces.{read_at, written_at, removed_at, inserted_at, change_of, unchanged}
-use Rattle.mctp_assembly.proofs.OpenPlaces.{open_written, open_removed}
+use Rattle.mctp_assembly.proofs.DifferingPlaces.{read_at, written_at, taken_out, appended, none_of}
+use Rattle.mctp_assembly.proofs.NumberPlaces.{change_of, unchanged}
+use Rattle.mctp_assembly.proofs.OpenPlaces.{open_written, open_left}
 
 -- what a packet leaves under a number, by what it gives where this is open there
 abbrev Leaves : Numbered → Numbered → ℕ → Packet → Type 0
@@ -43,24 +44,24 @@ same_at true here there same = same refl
 same_at false here there same = refl
 
 -- ---- at the place of the number
-module _ (l m : Numbered) (same : l ≡ m) (rises : Rises none_open l) (k place : ℕ) (found : IsAt none_open m k place)
+module _ (l m : Numbered) (same : l ≡ m) (differ : Differ none_open l) (k place : ℕ) (found : IsAt none_open m k place)
     (d : ℕ × Opened) (read : d ≡ slice_index_or l place d) (w : ℕ × Opened) (number : w.0 ≡ d.0) where
   is : IsAt none_open l k place
   is = subst (λ (list : Numbered). IsAt none_open list k place) (sym same) found
 
   here : Some d.1 ≡ at m k
-  here = sym (read_at none_open l rises k place is d read) ∙ ap (λ (list : Numbered). at list k) same
+  here = sym (read_at none_open l differ k place is d read) ∙ ap (λ (list : Numbered). at list k) same
 
   pub open_taken : All IsEntry l → IsOpened w.1 → AreOpen (slice_set l place w)
-  open_taken each opened = open_written l rises k place is d w read number each opened
+  open_taken each opened = open_written l differ k place is d w read number each opened
 
   -- an entry that is as it was leaves the list as it was
   as_it_was : w ≡ d → slice_set l place w ≡ l
   as_it_was entry = ap (slice_set l place) entry ∙ subst (λ (e : ℕ × Opened). slice_set l place e ≡ l) (sym read) (set-get_or l place d)
 
-  pub open_dropped : (new : Numbered) → new ≡ remove (slice_set l place w) place → w ≡ d → All IsEntry l → AreOpen new
+  pub open_dropped : (new : Numbered) → new ≡ swap_remove (slice_set l place w) place (0, none_open) → w ≡ d → All IsEntry l → AreOpen new
   open_dropped new removed entry each =
-      subst AreOpen (sym (removed ∙ ap (λ (list : Numbered). remove list place) (as_it_was entry))) (open_removed l rises k place is each)
+      subst AreOpen (sym (removed ∙ ap (λ (list : Numbered). swap_remove list place (0, none_open)) (as_it_was entry))) (open_left l differ k place is each)
 
   module _ (p : Packet) (given : Assembled) (body : List ℕ) (fed : fed_with body given ≡ answer_to MAX_PACKETS (Some d.1) p) where
     pub fed_here : fed_with body given ≡ answer_to MAX_PACKETS (at m k) p
@@ -74,19 +75,19 @@ module _ (l m : Numbered) (same : l ≡ m) (rises : Rises none_open l) (k place 
     taken_here partial other stays =
         let opened = kept given body d.1 w.1 p partial (λ is. ap (λ (e : ℕ × Opened). e.1) (other is)) stays in
         change_of none_open l m _ k (Some w.1) _ same (opened ∙ left_here)
-        (subst (λ n. Changes l (slice_set l place (n, w.1)) k (Some w.1)) (sym number) (written_at none_open l rises k place is d w.1 read))
+        (subst (λ n. Changes l (slice_set l place (n, w.1)) k (Some w.1)) (sym number) (written_at none_open l differ k place is d w.1 read))
 
     pub kept_here : p.end ≡ true → ((reason : Reason) → given ≡ Dropped reason → ⊥) → Leaves m m k p
     kept_here ended stays = subst (λ o. Changes m m k o) (left_kept given body (at m k) p ended fed_here stays) (λ q. same_at (k == q) (at m k) (at m q) (λ same. ap (at m) (sym (eqb-true k q same))))
 
-    pub ended_here : (new : Numbered) (reason : Reason) → new ≡ remove l place → given ≡ Dropped reason → Leaves m new k p
+    pub ended_here : (new : Numbered) (reason : Reason) → new ≡ swap_remove l place (0, none_open) → given ≡ Dropped reason → Leaves m new k p
     ended_here new reason removed dropped =
         change_of none_open l m new k None _ same (ap (λ g. left_by (fed_with body g) (Some d.1) p) (sym dropped) ∙ left_here)
-        (subst (λ (new : Numbered). Changes l new k None) (sym removed) (removed_at none_open l rises k place is))
+        (subst (λ (new : Numbered). Changes l new k None) (sym removed) (taken_out none_open l differ k place is))
 
-    pub dropped_here : (new : Numbered) (reason : Reason) → new ≡ remove (slice_set l place w) place → w ≡ d → given ≡ Dropped reason → Leaves m new k p
+    pub dropped_here : (new : Numbered) (reason : Reason) → new ≡ swap_remove (slice_set l place w) place (0, none_open) → w ≡ d → given ≡ Dropped reason → Leaves m new k p
     dropped_here new reason removed entry dropped =
-        ended_here new reason (removed ∙ ap (λ (list : Numbered). remove list place) (as_it_was entry)) dropped
+        ended_here new reason (removed ∙ ap (λ (list : Numbered). swap_remove list place (0, none_open)) (as_it_was entry)) dropped
 
 -- ---- where nothing is open under the number
 module _ (m : Numbered) (k : ℕ) (nothing : at m k ≡ None) (p : Packet) (given : Assembled) (body : List ℕ) (fed : fed_with body given ≡ answer_alone p) where
@@ -99,13 +100,13 @@ module _ (m : Numbered) (k : ℕ) (nothing : at m k ≡ None) (p : Packet) (give
   left_alone : left_by (fed_with body given) None p ≡ left_by (answer_to MAX_PACKETS (at m k) p) (at m k) p
   left_alone = ap (λ f. left_by f None p) fed_alone ∙ ap (λ o. left_by (answer_to MAX_PACKETS (at m k) p) o p) none
 
-  -- at the gap for the number
-  pub begun_here : (place : ℕ) → IsGapFor none_open m k place → (l new : Numbered) (begun : ℕ × Opened) → l ≡ m → new ≡ insert l place begun → begun ≡ (k, begun_by p) → given ≡ Partial → Leaves m new k p
-  begun_here place gap l new begun same inserted entry partial =
+  -- behind the others
+  pub begun_here : (l new : Numbered) (begun : ℕ × Opened) → l ≡ m → new ≡ l ++ begun ∷ [] → begun ≡ (k, begun_by p) → given ≡ Partial → Leaves m new k p
+  begun_here l new begun same pushed entry partial =
       let opened = ap (λ g. left_by (fed_with body g) None p) (sym partial) ∙ left_alone in
-      let made : new ≡ insert m place (k, begun_by p) = inserted ∙ ap (insert l place) entry ∙ ap (λ (list : Numbered). insert list place (k, begun_by p)) same in
+      let made : new ≡ m ++ (k, begun_by p) ∷ [] = pushed ∙ ap (λ e. l ++ e ∷ []) entry ∙ ap (λ (list : Numbered). list ++ (k, begun_by p) ∷ []) same in
       change_of none_open m m new k (Some (begun_by p)) _ refl opened
-      (subst (λ (new : Numbered). Changes m new k (Some (begun_by p))) (sym made) (inserted_at none_open m k place gap (begun_by p)))
+      (subst (λ (new : Numbered). Changes m new k (Some (begun_by p))) (sym made) (appended none_open m k (begun_by p) (none_of none_open m k nothing)))
 
   pub unchanged_at_end : p.end ≡ true → Leaves m m k p
   unchanged_at_end ended = change_of none_open m m m k None _ refl (not_begun given body p (λ partial. none_partial None p ended (ap (fed_with body) (sym partial) ∙ fed)) ∙ left_alone) (unchanged none_open m k (sym none))

@@ -1,7 +1,7 @@
 -- Lists of values by numbers that rise.
 use Rattle.std.specs.FinMap as map
 use Rattle.std.specs.declared.cmp.Ordering.{Ordering}
-use Rattle.std.specs.Prelude.{◌≡◌, ℕ, ◌<◌, ◌≤◌, ◌==◌, List, [], ◌∷◌, length, Option, Some, None, if◌then◌else◌, slice_index_or}
+use Rattle.std.specs.Prelude.{◌≡◌, ◌≢◌, ℕ, ◌<◌, ◌≤◌, ◌==◌, List, [], ◌∷◌, length, Option, Some, None, if◌then◌else◌, slice_index_or}
 
 -- numbers, and a value under each
 abbrev pub NumberList : Type 0 → Type 0
@@ -25,6 +25,10 @@ module _ {X : Type 0} (past : X) where
   -- the numbers rise, so none comes twice
   abbrev pub Rises : NumberList X → Type 0
   Rises list = (i j : ℕ) → i < j → j < length list → number_in list i < number_in list j
+
+  -- no number comes twice
+  abbrev pub Differ : NumberList X → Type 0
+  Differ list = (i j : ℕ) → i < j → j < length list → number_in list i ≢ number_in list j
 
   -- the number stands at this place
   pub record IsAt (list : NumberList X) (n i : ℕ) : Type 0 where

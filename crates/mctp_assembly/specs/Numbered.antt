@@ -1,4 +1,4 @@
--- Open messages in a list by the numbers of their keys, which rise.
+-- Open messages in a list by the numbers of their keys.
 use Rattle.std.specs.Prelude.{◌≡◌, ℕ, true, ◌+◌, ◌*◌, ◌/◌, ◌%◌, ◌<◌, ◌≤◌, ◌==◌, []}
 use Rattle.std.specs.List.{All}
 use Rattle.std.specs.Coded.{Coded, coded_list, coded×, coded_ℕ}
@@ -6,7 +6,7 @@ use Rattle.mctp_packet.specs.Bits.{bit}
 use Rattle.mctp_packet.specs.Packets.{Packet}
 use Rattle.mctp_packet.specs.declared.TheConstants.{MIN_EID, MAX_EID, MAX_PACKETS, TAGS}
 use Rattle.mctp_assembly.specs.Keys.{key_cmp}
-use Rattle.mctp_assembly.specs.NumberLists.{Changes, NumberList, Rises, at, map_in}
+use Rattle.mctp_assembly.specs.NumberLists.{Changes, Differ, NumberList, at, map_in}
 use Rattle.mctp_assembly.specs.Opened.{Opened, IsOpened, coded_opened}
 use Rattle.mctp_assembly.specs.Steps.{OpenMessages, answer_to, left_by}
 use Rattle.mctp_assembly.specs.declared.fed.Fed.{Fed}
@@ -46,9 +46,9 @@ pub record IsEntry (entry : ℕ × Opened) : Type 0 where
   pub number : IsNumber entry.0
   pub opened : IsOpened entry.1
 
--- the numbers rise, and each entry is one
+-- no number comes twice, and each entry is one
 pub record AreOpen (list : Numbered) : Type 0 where
-  pub rises : Rises none_open list
+  pub differ : Differ none_open list
   pub each : All IsEntry list
 
 -- what is open on each key

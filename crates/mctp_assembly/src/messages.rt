@@ -1,11 +1,11 @@
 //! The messages that have begun and not ended, by the numbers of their keys.
 
-ghost use Rattle.std.specs.Prelude.{◌≡◌, ◌≢◌, ◌<◌, ◌≤◌, true, false, ℕ, nat_lt, List, [], length};
-ghost use Rattle.std.specs.Prelude.{Some, None, IfOk, IfErr, OnOk, OnErr};
+ghost use Rattle.std.specs.Prelude.{◌≡◌, ◌≢◌, ◌<◌, ◌≤◌, true, false, ℕ, List, [], length};
+ghost use Rattle.std.specs.Prelude.{Some, None, IfSome, IfNone, IfOk, OnOk, OnErr};
 ghost use Rattle.std.specs.Option.{option_copied, option_map};
-ghost use Rattle.std.specs.List.{All, count_by, remove};
+ghost use Rattle.std.specs.List.{All, swap_remove};
 ghost use Rattle.mctp_assembly.specs.Fed.{fed_with};
-ghost use Rattle.mctp_assembly.specs.NumberLists.{Changes, IsAt, IsGapFor, Rises, at, number_in};
+ghost use Rattle.mctp_assembly.specs.NumberLists.{Changes, Differ, IsAt, at, number_in};
 ghost use Rattle.mctp_assembly.specs.Numbered.{IsEntry, IsLeftBy, IsNumber, IsRefusedMemory, answer_at, none_open};
 ghost use Rattle.mctp_assembly.specs.Opened.{IsOpened};
 ghost use Rattle.mctp_assembly.specs.Steps.{begun_by, carried_on};
@@ -18,11 +18,8 @@ use mctp_packet::{Body, Memory, PacketRef};
 use std::alloc::{AllocError, Global};
 use std::marker::Model;
 
-/// In a list of at most so many, to look at each takes less time than to halve the list, whose jumps a processor cannot
-/// foresee.
-const FEW: usize = 32;
-
-/// The open messages by the numbers of their keys, which rise: a look-up among many is a binary search.
+/// The open messages by the numbers of their keys, in no order: the last one takes the place of one that ends, so none
+/// is moved but that. There are few, or as many as an endpoint's bound allows.
 #[derive(Debug, Drop)]
 pub(crate) struct Messages {
     alloc: Global,
@@ -58,43 +55,30 @@ impl Messages {
         }
     }
 
-    /// Where the number stands, or where it would go.
-    #[inline(always)]
-    fn search(&self, number: u16) -> Result<usize, usize>
-        ensures found { IfOk result (IsAt none_open self.now number) }
-        ensures absent { IfErr result (IsGapFor none_open self.now number) }
+    /// Where the number stands.
+    fn search(&self, number: u16) -> Option<usize>
+        ensures found { IfSome result (IsAt none_open self.now number) }
+        ensures absent { IfNone result (at self.now number ≡ None) }
     {
         if stands_at(&self.list, self.latest, number) {
-            return Ok(self.latest);
+            return Some(self.latest);
         }
-        if self.len() > FEW {
-            return self
-                .list
-                .binary_search_by_key(&number, |buffer| buffer.number());
-        }
-        let place = smaller(&self.list, number);
-        if stands_at(&self.list, place, number) {
-            Ok(place)
-        } else {
-            Err(place)
-        }
+        place_of(&self.list, number)
     }
 
     /// What is open under this number.
     pub(crate) fn get(&self, number: u16) -> Option<&Buffer>
         ensures { option_map (λ buffer. buffer.1) (option_copied result) ≡ at self.now number }
     {
-        match self.search(number) {
-            Ok(place) => Some(&self.list[place]),
-            Err(_) => None,
-        }
+        let place = self.search(number)?;
+        Some(&self.list[place])
     }
 
     /// How many there are.
     pub(crate) fn len(&self) -> usize
         ensures value { result ≡ length self.now }
         ensures few { length self.now ≤ MAX_ASSEMBLIES }
-        ensures rises { Rises none_open self.now }
+        ensures differ { Differ none_open self.now }
         ensures opened { All IsEntry self.now }
     {
         self.list.len()
@@ -134,19 +118,19 @@ impl Messages {
         ensures err { OnErr result (IsRefusedMemory self.old self.new number packet.now) }
     {
         match self.search(number) {
-            Ok(place) => {
+            Some(place) => {
                 let given = self.list[place].take(packet);
                 if let Assembled::Dropped(_) = given {
                     end_at(&mut self.list, &mut self.spare, place);
                 }
                 Ok(given)
             }
-            Err(place) => {
+            None => {
                 let given = judge_alone(packet);
                 if let Assembled::Partial = given {
                     let room = room_for_bytes(self.alloc, &mut self.spare)?;
                     let begun = Buffer::new(number, packet, room);
-                    self.list.insert(place, begun)?;
+                    self.list.push(begun)?;
                 }
                 Ok(given)
             }
@@ -160,7 +144,7 @@ impl Messages {
         ensures left { IsLeftBy self.old self.new number packet.now }
     {
         match self.search(number) {
-            Ok(place) => {
+            Some(place) => {
                 self.latest = place;
                 let given = self.list[place].look_into(packet, message);
                 if let Assembled::Dropped(_) = given {
@@ -168,7 +152,7 @@ impl Messages {
                 }
                 given
             }
-            Err(_) => look_alone(packet, message),
+            None => look_alone(packet, message),
         }
     }
 
@@ -177,7 +161,7 @@ impl Messages {
     pub(crate) fn remove(&mut self, number: u16)
         ensures { Changes self.old self.new number None }
     {
-        if let Ok(place) = self.search(number) {
+        if let Some(place) = self.search(number) {
             end_at(&mut self.list, &mut self.spare, place);
         }
     }
@@ -195,17 +179,17 @@ fn stands_at(list: &[Buffer], place: usize, number: u16) -> bool
     }
 }
 
-/// How many of the numbers are smaller: so many messages stand before that under this one.
-// No jump depends on a number, so the processor foresees all of them.
-#[inline(always)]
-fn smaller(list: &[Buffer], number: u16) -> usize
-    ensures { result ≡ count_by (λ entry. nat_lt entry.0 number) list.now }
+/// Where the message under this number stands.
+fn place_of(list: &[Buffer], number: u16) -> Option<usize>
+    ensures found { IfSome result (IsAt none_open list.now number) }
+    ensures absent { IfNone result (at list.now number ≡ None) }
 {
-    let mut smaller = 0;
-    for buffer in list {
-        smaller += usize::from(buffer.number() < number);
+    for (place, buffer) in list.iter().enumerate() {
+        if buffer.number() == number {
+            return Some(place);
+        }
     }
-    smaller
+    None
 }
 
 /// Room for the bytes of a message: that of a message that has ended, where it was kept, else new room.
@@ -223,9 +207,9 @@ fn room_for_bytes(alloc: Global, spare: &mut Option<Box<Body>>) -> Result<Box<Bo
 fn end_at(list: &mut Vec<Buffer>, spare: &mut Option<Box<Body>>, place: usize)
     requires there { place < length list.old.items }
     requires few { length list.old.items ≤ MAX_ASSEMBLIES }
-    ensures { list.new.items ≡ remove list.old.items place }
+    ensures { list.new.items ≡ swap_remove list.old.items place (0, none_open) }
 {
-    *spare = Some(list.remove(place).into_room());
+    *spare = Some(list.swap_remove(place).into_room());
     if list.capacity() > 4 * list.len() {
         list.shrink_to(2 * list.len());
     }

@@ -1,8 +1,9 @@
 use Rattle.std.proofs.Common.{None, refl, sym, subst}
 use Rattle.mctp_assembly.specs.NumberLists.{Changes, IsAt}
 use Rattle.mctp_assembly.specs.Numbered.{none_open, AreOpen, Numbered}
-use Rattle.mctp_assembly.proofs.NumberPlaces.{removed_at, none_in_gap, change_of, unchanged}
-use Rattle.mctp_assembly.proofs.OpenPlaces.{few, open_removed}
+use Rattle.mctp_assembly.proofs.DifferingPlaces.{taken_out}
+use Rattle.mctp_assembly.proofs.NumberPlaces.{change_of, unchanged}
+use Rattle.mctp_assembly.proofs.OpenPlaces.{few, open_left}
 use Rattle.mctp_assembly.proofs.messages.Messages.remove.Goals as goal
 
 pub end_at-requires-clause-few : goal.end_at-requires-clause-few
@@ -11,15 +12,15 @@ end_at-requires-clause-few c = few c.self.inside.list.items c.self.invariant
 pub invariant_of-self : goal.invariant_of-self
 invariant_of-self c =
     let list = c.self.inside.list.items in
-    let is = subst (λ (l : Numbered). IsAt none_open l c.args.number c.in-Ok.place) (sym c.self.view_is) c.in-Ok.ensures.found in
-    subst AreOpen (sym c.end_at.ensures) (open_removed list c.self.invariant.rises c.args.number c.in-Ok.place is c.self.invariant.each)
+    let is = subst (λ (l : Numbered). IsAt none_open l c.args.number c.in-Some.place) (sym c.self.view_is) c.in-Some.ensures.found in
+    subst AreOpen (sym c.end_at.ensures) (open_left list c.self.invariant.differ c.args.number c.in-Some.place is c.self.invariant.each)
 
-pub returns-in-Ok : goal.returns-in-Ok
-returns-in-Ok c =
+pub returns-in-Some : goal.returns-in-Some
+returns-in-Some c =
     let list = c.self.inside.list.items in
-    let is = subst (λ (l : Numbered). IsAt none_open l c.args.number c.in-Ok.place) (sym c.self.view_is) c.in-Ok.ensures.found in
+    let is = subst (λ (l : Numbered). IsAt none_open l c.args.number c.in-Some.place) (sym c.self.view_is) c.in-Some.ensures.found in
     change_of none_open list c.args.self.now _ c.args.number None None c.self.view_is refl
-    (subst (λ (new : Numbered). Changes list new c.args.number None) (sym c.end_at.ensures) (removed_at none_open list c.self.invariant.rises c.args.number c.in-Ok.place is))
+    (subst (λ (new : Numbered). Changes list new c.args.number None) (sym c.end_at.ensures) (taken_out none_open list c.self.invariant.differ c.args.number c.in-Some.place is))
 
 pub returns-in_default : goal.returns-in_default
-returns-in_default c = unchanged none_open c.args.self.now c.args.number (none_in_gap none_open c.args.self.now c.args.number _ c.in_default.ensures.absent)
+returns-in_default c = unchanged none_open c.args.self.now c.args.number c.in_default.ensures.absent

@@ -1,11 +1,11 @@
-use Rattle.std.proofs.Common.{ℕ, Some, ap, sym, subst, ◌∙◌}
+use Rattle.std.proofs.Common.{◌≡◌, ℕ, Some, None, ap, sym, subst, ◌∙◌}
 use Rattle.std.proofs.Math.ListN.{length-set}
-use Rattle.mctp_assembly.specs.NumberLists.{IsGapFor, at}
+use Rattle.mctp_assembly.specs.NumberLists.{at}
 use Rattle.mctp_assembly.specs.Numbered.{none_open, AreOpen, Numbered}
 use Rattle.mctp_assembly.specs.Opened.{Opened}
 use Rattle.mctp_assembly.specs.Steps.{carried_on}
-use Rattle.mctp_assembly.proofs.NumberPlaces.{none_in_gap}
-use Rattle.mctp_assembly.proofs.OpenPlaces.{few, open_inserted}
+use Rattle.mctp_assembly.proofs.DifferingPlaces.{none_of}
+use Rattle.mctp_assembly.proofs.OpenPlaces.{few, open_appended}
 use Rattle.mctp_assembly.proofs.PacketEnds.{with_any}
 use Rattle.mctp_assembly.proofs.TakenPackets.{open_taken, open_dropped, fed_here, taken_here, dropped_here, fed_alone, begun_here, unchanged_here}
 use Rattle.mctp_assembly.proofs.messages.Messages.take_part.Goals as goal
@@ -15,30 +15,31 @@ end_at-requires-clause-few c = rw length-set (few c.self.inside.list.items c.sel
 
 pub invariant_of-self : goal.invariant_of-self
 invariant_of-self c =
-    open_dropped c.self.inside.list.items c.args.self.now c.self.view_is c.self.invariant.rises c.args.number c.in-Ok.place c.in-Ok.ensures.found
+    open_dropped c.self.inside.list.items c.args.self.now c.self.view_is c.self.invariant.differ c.args.number c.in-Some.place c.in-Some.ensures.found
     c.index_mut.result.now c.index_mut.ensures.value c.take-given.new.self c.take-given.ensures.number c.end_at.new.list.items c.end_at.ensures
     (c.take-given.ensures.other (λ same. cc (sym c.in-Dropped.is ∙ same))) c.self.invariant.each
 
 pub invariant_of-self-in_default : goal.invariant_of-self-in_default
 invariant_of-self-in_default c =
-    open_taken c.self.inside.list.items c.args.self.now c.self.view_is c.self.invariant.rises c.args.number c.in-Ok.place c.in-Ok.ensures.found
+    open_taken c.self.inside.list.items c.args.self.now c.self.view_is c.self.invariant.differ c.args.number c.in-Some.place c.in-Some.ensures.found
     c.index_mut.result.now c.index_mut.ensures.value c.take-given.new.self c.take-given.ensures.number c.self.invariant.each c.take-given.ensures.range
 
 pub invariant_of-self-in-Continue-branch-2 : goal.invariant_of-self-in-Continue-branch-2
 invariant_of-self-in-Continue-branch-2 c =
-    let gap = subst (λ (l : Numbered). IsGapFor none_open l c.args.number c.in-Err.place) (sym c.self.view_is) c.in-Err.ensures.absent in
-    subst AreOpen (sym c.in_ok-insert-in-Err.ensures.items)
-    (open_inserted c.self.inside.list.items c.args.number c.in-Err.place gap c.new-begun.result c.self.invariant (ap (λ (e : ℕ × Opened). e.0) c.new-begun.ensures.value) c.requires.number c.new-begun.ensures.range)
+    let list = c.self.inside.list.items in
+    let nothing = subst (λ (l : Numbered). at l c.args.number ≡ None) (sym c.self.view_is) c.in-None.ensures.absent in
+    subst AreOpen (sym c.in_ok-push-in-None.ensures.items)
+    (open_appended list c.args.number (none_of none_open list c.args.number nothing) c.new-begun.result c.self.invariant (ap (λ (e : ℕ × Opened). e.0) c.new-begun.ensures.value) c.requires.number c.new-begun.ensures.range)
 
 pub returns-in-Dropped-clause-fed : goal.returns-in-Dropped-clause-fed
 returns-in-Dropped-clause-fed c bytes =
     with_any c.take-given.result _ bytes (at c.args.self.now c.args.number) c.args.packet.now c.requires.unended
-    (fed_here c.self.inside.list.items c.args.self.now c.self.view_is c.self.invariant.rises c.args.number c.in-Ok.place c.in-Ok.ensures.found
+    (fed_here c.self.inside.list.items c.args.self.now c.self.view_is c.self.invariant.differ c.args.number c.in-Some.place c.in-Some.ensures.found
     c.index_mut.result.now c.index_mut.ensures.value c.take-given.new.self c.take-given.ensures.number c.args.packet.now c.take-given.result (carried_on (Some c.index_mut.result.now.1) c.args.packet.now).bytes c.take-given.ensures.given)
 
 pub returns-in-Dropped-clause-ok : goal.returns-in-Dropped-clause-ok
 returns-in-Dropped-clause-ok c =
-    dropped_here c.self.inside.list.items c.args.self.now c.self.view_is c.self.invariant.rises c.args.number c.in-Ok.place c.in-Ok.ensures.found
+    dropped_here c.self.inside.list.items c.args.self.now c.self.view_is c.self.invariant.differ c.args.number c.in-Some.place c.in-Some.ensures.found
     c.index_mut.result.now c.index_mut.ensures.value c.take-given.new.self c.take-given.ensures.number c.args.packet.now c.take-given.result (carried_on (Some c.index_mut.result.now.1) c.args.packet.now).bytes c.take-given.ensures.given
     c.end_at.new.list.items c.in-Dropped.field-0 c.end_at.ensures
     (c.take-given.ensures.other (λ same. cc (sym c.in-Dropped.is ∙ same))) c.in-Dropped.is
@@ -46,24 +47,24 @@ returns-in-Dropped-clause-ok c =
 pub returns-in_default : goal.returns-in_default
 returns-in_default c = record {
   fed = λ bytes. with_any c.take-given.result _ bytes (at c.args.self.now c.args.number) c.args.packet.now c.requires.unended
-      (fed_here c.self.inside.list.items c.args.self.now c.self.view_is c.self.invariant.rises c.args.number c.in-Ok.place c.in-Ok.ensures.found
+      (fed_here c.self.inside.list.items c.args.self.now c.self.view_is c.self.invariant.differ c.args.number c.in-Some.place c.in-Some.ensures.found
       c.index_mut.result.now c.index_mut.ensures.value c.take-given.new.self c.take-given.ensures.number c.args.packet.now c.take-given.result (carried_on (Some c.index_mut.result.now.1) c.args.packet.now).bytes c.take-given.ensures.given);
-  ok = taken_here c.self.inside.list.items c.args.self.now c.self.view_is c.self.invariant.rises c.args.number c.in-Ok.place c.in-Ok.ensures.found
+  ok = taken_here c.self.inside.list.items c.args.self.now c.self.view_is c.self.invariant.differ c.args.number c.in-Some.place c.in-Some.ensures.found
       c.index_mut.result.now c.index_mut.ensures.value c.take-given.new.self c.take-given.ensures.number c.args.packet.now c.take-given.result (carried_on (Some c.index_mut.result.now.1) c.args.packet.now).bytes c.take-given.ensures.given
       c.take-given.ensures.partial c.take-given.ensures.other c.in_default.not-Dropped;
   err = tt;
 }
 
-pub returns-in_ok-insert-in-Err-clause-ok : goal.returns-in_ok-insert-in-Err-clause-ok
-returns-in_ok-insert-in-Err-clause-ok c =
-    begun_here c.args.self.now c.args.number (none_in_gap none_open c.args.self.now c.args.number c.in-Err.place c.in-Err.ensures.absent) c.args.packet.now c.judge_alone-given.result c.args.packet.now.payload c.judge_alone-given.ensures
-    c.in-Err.place c.in-Err.ensures.absent c.self.inside.list.items c.insert.new.self.items c.new-begun.result c.self.view_is c.in_ok-insert-in-Err.ensures.items c.new-begun.ensures.value c.in-Partial.is
+pub returns-in_ok-push-in-None-clause-ok : goal.returns-in_ok-push-in-None-clause-ok
+returns-in_ok-push-in-None-clause-ok c =
+    begun_here c.args.self.now c.args.number c.in-None.ensures.absent c.args.packet.now c.judge_alone-given.result c.args.packet.now.payload c.judge_alone-given.ensures
+    c.self.inside.list.items c.push.new.self.items c.new-begun.result c.self.view_is c.in_ok-push-in-None.ensures.items c.new-begun.ensures.value c.in-Partial.is
 
 pub returns-in_default-given : goal.returns-in_default-given
 returns-in_default-given c = record {
   fed = λ bytes. with_any c.judge_alone-given.result _ bytes (at c.args.self.now c.args.number) c.args.packet.now c.requires.unended
-      (fed_alone c.args.self.now c.args.number (none_in_gap none_open c.args.self.now c.args.number c.in-Err.place c.in-Err.ensures.absent) c.args.packet.now c.judge_alone-given.result c.args.packet.now.payload c.judge_alone-given.ensures);
-  ok = unchanged_here c.args.self.now c.args.number (none_in_gap none_open c.args.self.now c.args.number c.in-Err.place c.in-Err.ensures.absent) c.args.packet.now c.judge_alone-given.result c.args.packet.now.payload c.judge_alone-given.ensures
+      (fed_alone c.args.self.now c.args.number c.in-None.ensures.absent c.args.packet.now c.judge_alone-given.result c.args.packet.now.payload c.judge_alone-given.ensures);
+  ok = unchanged_here c.args.self.now c.args.number c.in-None.ensures.absent c.args.packet.now c.judge_alone-given.result c.args.packet.now.payload c.judge_alone-given.ensures
       c.in_default-given.not-Partial;
   err = tt;
 }
