@@ -10,6 +10,7 @@ pub mod NumberLookups
 pub mod DifferingPlaces
 pub mod NumberPlaces
 pub mod OpenPlaces
+pub mod ListedNumbers
 pub mod PacketEnds
 pub mod TakenPackets
 pub mod NumberedMaps

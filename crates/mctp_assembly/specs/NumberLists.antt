@@ -16,6 +16,21 @@ at ((k, value) ∷ rest) n = if k == n then Some value else at rest n
 abbrev pub Changes : {X : Type 0} → NumberList X → NumberList X → ℕ → Option X → Type 0
 Changes old new n value = (q : ℕ) → at new q ≡ (if n == q then value else at old q)
 
+-- ---- numbers alone
+-- no two of them are equal
+abbrev pub AreDistinct : List ℕ → Type 0
+AreDistinct numbers = (i j : ℕ) → i < j → j < length numbers → slice_index_or numbers i 0 ≢ slice_index_or numbers j 0
+
+-- the number is the one at this place
+pub record StandsAt (numbers : List ℕ) (n i : ℕ) : Type 0 where
+  pub in_range : i < length numbers
+  pub has : slice_index_or numbers i 0 ≡ n
+
+-- the number is none of them
+abbrev pub StandsNowhere : List ℕ → ℕ → Type 0
+StandsNowhere numbers n = (i : ℕ) → i < length numbers → slice_index_or numbers i 0 ≢ n
+
+-- ---- numbers with values
 -- `past` is what stands past the end of a list; nothing looks at it
 module _ {X : Type 0} (past : X) where
   -- the number at a place of the list

@@ -1,5 +1,5 @@
 -- Open messages in a list by the numbers of their keys.
-use Rattle.std.specs.Prelude.{◌≡◌, ℕ, true, ◌+◌, ◌*◌, ◌/◌, ◌%◌, ◌<◌, ◌≤◌, ◌==◌, []}
+use Rattle.std.specs.Prelude.{◌≡◌, ℕ, true, ◌+◌, ◌*◌, ◌/◌, ◌%◌, ◌<◌, ◌≤◌, ◌==◌, List, [], map}
 use Rattle.std.specs.List.{All}
 use Rattle.std.specs.Coded.{Coded, coded_list, coded×, coded_ℕ}
 use Rattle.mctp_packet.specs.Bits.{bit}
@@ -50,6 +50,11 @@ pub record IsEntry (entry : ℕ × Opened) : Type 0 where
 pub record AreOpen (list : Numbered) : Type 0 where
   pub differ : Differ none_open list
   pub each : All IsEntry list
+
+-- these are the numbers of the open messages
+pub record AreListed (numbers : List ℕ) (list : Numbered) : Type 0 where
+  pub messages : AreOpen list
+  pub listed : numbers ≡ map (λ entry. entry.0) list
 
 -- what is open on each key
 abbrev pub held_in : Numbered → OpenMessages

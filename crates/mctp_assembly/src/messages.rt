@@ -5,7 +5,7 @@ ghost use Rattle.std.specs.Prelude.{Some, None, IfSome, IfNone, IfOk, OnOk, OnEr
 ghost use Rattle.std.specs.Option.{option_copied, option_map};
 ghost use Rattle.std.specs.List.{All, swap_remove};
 ghost use Rattle.mctp_assembly.specs.Fed.{fed_with};
-ghost use Rattle.mctp_assembly.specs.NumberLists.{Changes, Differ, IsAt, at, number_in};
+ghost use Rattle.mctp_assembly.specs.NumberLists.{AreDistinct, Changes, Differ, IsAt, StandsAt, StandsNowhere, at};
 ghost use Rattle.mctp_assembly.specs.Numbered.{IsEntry, IsLeftBy, IsNumber, IsRefusedMemory, answer_at, none_open};
 ghost use Rattle.mctp_assembly.specs.Opened.{IsOpened};
 ghost use Rattle.mctp_assembly.specs.Steps.{begun_by, carried_on};
@@ -18,11 +18,14 @@ use mctp_packet::{Body, Memory, PacketRef};
 use std::alloc::{AllocError, Global};
 use std::marker::Model;
 
-/// The open messages by the numbers of their keys, in no order: the last one takes the place of one that ends, so none
-/// is moved but that. There are few, or as many as an endpoint's bound allows.
+/// The open messages by the numbers of their keys, in no order: the last one takes the place of one that ends, so that
+/// no others move. Mostly there are few.
 #[derive(Debug, Drop)]
 pub(crate) struct Messages {
     alloc: Global,
+    /// Their numbers, close together: a look-up goes through these alone.
+    numbers: Vec<u16>,
+    /// The messages, each at the place of its number.
     list: Vec<Buffer>,
     /// Where the message stood whose last packet came last. It is looked at first: mostly it is the next that ends.
     latest: usize,
@@ -31,7 +34,7 @@ pub(crate) struct Messages {
 }
 
 impl Model for Messages {
-    ghost use Rattle.mctp_assembly.specs.Numbered.{Numbered, AreOpen, coded_numbered};
+    ghost use Rattle.mctp_assembly.specs.Numbered.{Numbered, AreListed, coded_numbered};
 
     ghost Value = { Numbered };
 
@@ -39,7 +42,7 @@ impl Model for Messages {
 
     ghost view = { λ m. m.list.items };
 
-    ghost invariant = { λ m. AreOpen m.list.items };
+    ghost invariant = { λ m. AreListed m.numbers.items m.list.items };
 }
 
 impl Messages {
@@ -49,6 +52,7 @@ impl Messages {
     {
         Messages {
             alloc,
+            numbers: Vec::new(alloc),
             list: Vec::new(alloc),
             latest: 0,
             spare: None,
@@ -60,10 +64,10 @@ impl Messages {
         ensures found { IfSome result (IsAt none_open self.now number) }
         ensures absent { IfNone result (at self.now number ≡ None) }
     {
-        if stands_at(&self.list, self.latest, number) {
+        if stands_at(&self.numbers, self.latest, number) {
             return Some(self.latest);
         }
-        place_of(&self.list, number)
+        place_of(&self.numbers, number)
     }
 
     /// What is open under this number.
@@ -121,7 +125,7 @@ impl Messages {
             Some(place) => {
                 let given = self.list[place].take(packet);
                 if let Assembled::Dropped(_) = given {
-                    end_at(&mut self.list, &mut self.spare, place);
+                    end_at(&mut self.numbers, &mut self.list, &mut self.spare, place);
                 }
                 Ok(given)
             }
@@ -130,7 +134,9 @@ impl Messages {
                 if let Assembled::Partial = given {
                     let room = room_for_bytes(self.alloc, &mut self.spare)?;
                     let begun = Buffer::new(number, packet, room);
+                    self.numbers.reserve(1)?;
                     self.list.push(begun)?;
+                    self.numbers.push(number).unwrap();
                 }
                 Ok(given)
             }
@@ -148,7 +154,7 @@ impl Messages {
                 self.latest = place;
                 let given = self.list[place].look_into(packet, message);
                 if let Assembled::Dropped(_) = given {
-                    end_at(&mut self.list, &mut self.spare, place);
+                    end_at(&mut self.numbers, &mut self.list, &mut self.spare, place);
                 }
                 given
             }
@@ -162,34 +168,41 @@ impl Messages {
         ensures { Changes self.old self.new number None }
     {
         if let Some(place) = self.search(number) {
-            end_at(&mut self.list, &mut self.spare, place);
+            end_at(&mut self.numbers, &mut self.list, &mut self.spare, place);
         }
     }
 }
 
-/// Whether the message under this number stands at a place.
+/// Whether the number stands at this place.
 #[inline(always)]
-fn stands_at(list: &[Buffer], place: usize, number: u16) -> bool
-    ensures yes { result ≡ true → IsAt none_open list.now number place }
-    ensures no { result ≡ false → place < length list.now → number_in none_open list.now place ≢ number }
+fn stands_at(numbers: &[u16], place: usize, number: u16) -> bool
+    ensures { result ≡ true → StandsAt numbers.now number place }
 {
-    match list.get(place) {
-        Some(buffer) => buffer.number() == number,
+    match numbers.get(place) {
+        Some(other) => *other == number,
         None => false,
     }
 }
 
-/// Where the message under this number stands.
-fn place_of(list: &[Buffer], number: u16) -> Option<usize>
-    ensures found { IfSome result (IsAt none_open list.now number) }
-    ensures absent { IfNone result (at list.now number ≡ None) }
+/// Where the number stands among these, no two of which are equal.
+// All are looked at, and no jump depends on one: so a processor takes several at a time.
+fn place_of(numbers: &[u16], number: u16) -> Option<usize>
+    requires few { length numbers.now ≤ MAX_ASSEMBLIES }
+    requires distinct { AreDistinct numbers.now }
+    ensures found { IfSome result (StandsAt numbers.now number) }
+    ensures absent { IfNone result (StandsNowhere numbers.now number) }
 {
-    for (place, buffer) in list.iter().enumerate() {
-        if buffer.number() == number {
-            return Some(place);
-        }
+    let mut found: u16 = 0; // the place, counted from 1, or none
+    let mut next: u16 = 1;
+    for other in numbers {
+        found += if *other == number { next } else { 0 };
+        next += 1;
     }
-    None
+    if found == 0 {
+        None
+    } else {
+        Some(usize::from(found - 1))
+    }
 }
 
 /// Room for the bytes of a message: that of a message that has ended, where it was kept, else new room.
@@ -204,13 +217,22 @@ fn room_for_bytes(alloc: Global, spare: &mut Option<Box<Body>>) -> Result<Box<Bo
 
 /// Ends the message at this place, and keeps its room for the next one. A list that has room for more than four times
 /// its messages gives back all but twice their room; an empty one gives back all of it.
-fn end_at(list: &mut Vec<Buffer>, spare: &mut Option<Box<Body>>, place: usize)
+fn end_at(
+    numbers: &mut Vec<u16>,
+    list: &mut Vec<Buffer>,
+    spare: &mut Option<Box<Body>>,
+    place: usize,
+)
     requires there { place < length list.old.items }
+    requires listed { length numbers.old.items ≡ length list.old.items }
     requires few { length list.old.items ≤ MAX_ASSEMBLIES }
-    ensures { list.new.items ≡ swap_remove list.old.items place (0, none_open) }
+    ensures list { list.new.items ≡ swap_remove list.old.items place (0, none_open) }
+    ensures numbers { numbers.new.items ≡ swap_remove numbers.old.items place 0 }
 {
+    numbers.swap_remove(place);
     *spare = Some(list.swap_remove(place).into_room());
     if list.capacity() > 4 * list.len() {
+        numbers.shrink_to(2 * list.len());
         list.shrink_to(2 * list.len());
     }
 }

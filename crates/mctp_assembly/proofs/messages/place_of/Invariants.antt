@@ -1,7 +1,10 @@
--- None of the messages before this place has the number.
-use Rattle.mctp_assembly.specs.Numbered.{none_open}
-use Rattle.mctp_assembly.proofs.NumberLookups.{NoneBefore}
+-- What was found so far is the place of the number, counted from 1; 0 where it was none of those so far.
+use Rattle.std.proofs.Common.{◌≡◌, ◌≢◌, ◌+◌, ◌-◌, ◌<◌, ℕ}
+use Rattle.std.specs.Prelude.{slice_index_or}
 use Rattle.mctp_assembly.proofs.messages.place_of.Given as goal
 
-abbrev pub invariant-loop-place : goal.invariant-loop-place
-invariant-loop-place l = NoneBefore none_open l.list l.number l.place
+abbrev pub invariant-loop-other : goal.invariant-loop-other
+invariant-loop-other l =
+    (l.next ≡ l.other-index + 1)
+    × ((j : ℕ) → j < l.other-index → slice_index_or l.numbers j 0 ≡ l.number → l.found ≡ j + 1)
+    × (l.found ≢ 0 → (l.found - 1 < l.other-index) × (slice_index_or l.numbers (l.found - 1) 0 ≡ l.number))

@@ -8,7 +8,7 @@ use Rattle.mctp_assembly.proofs.messages.Messages.get.Goals as goal
 
 pub returns : goal.returns
 returns c =
-    let found = open_at none_open _ (subst (Differ none_open) c.self.view_is c.self.invariant.differ) _ _ c.in_ok-place.ensures.found c.index.result.now in
+    let found = open_at none_open _ (subst (Differ none_open) c.self.view_is c.self.invariant.messages.differ) _ _ c.in_ok-place.ensures.found c.index.result.now in
     ap Some (ap (λ p. p.1) c.index.ensures ∙ ap (λ l. (slice_index_or l c.in_ok-place.place c.index.result.now).1) c.self.view_is) ∙ sym found
 
 pub returns-in_err-place : goal.returns-in_err-place

@@ -5,4 +5,4 @@ use Rattle.mctp_assembly.proofs.OpenPlaces.{few}
 use Rattle.mctp_assembly.proofs.messages.Messages.len.Goals as goal
 
 pub returns-clause-few : goal.returns-clause-few
-returns-clause-few c = subst (λ (list : Numbered). length list ≤ MAX_ASSEMBLIES) c.self.view_is (few c.self.inside.list.items c.self.invariant)
+returns-clause-few c = subst (λ (list : Numbered). length list ≤ MAX_ASSEMBLIES) c.self.view_is (few c.self.inside.list.items c.self.invariant.messages)

@@ -4,23 +4,27 @@ use Rattle.mctp_assembly.specs.Numbered.{none_open, AreOpen, Numbered}
 use Rattle.mctp_assembly.proofs.DifferingPlaces.{taken_out}
 use Rattle.mctp_assembly.proofs.NumberPlaces.{change_of, unchanged}
 use Rattle.mctp_assembly.proofs.OpenPlaces.{few, open_left}
+use Rattle.mctp_assembly.proofs.ListedNumbers.{listed_left}
 use Rattle.mctp_assembly.proofs.messages.Messages.remove.Goals as goal
 
 pub end_at-requires-clause-few : goal.end_at-requires-clause-few
-end_at-requires-clause-few c = few c.self.inside.list.items c.self.invariant
+end_at-requires-clause-few c = few c.self.inside.list.items c.self.invariant.messages
 
 pub invariant_of-self : goal.invariant_of-self
 invariant_of-self c =
     let list = c.self.inside.list.items in
     let is = subst (λ (l : Numbered). IsAt none_open l c.args.number c.in-Some.place) (sym c.self.view_is) c.in-Some.ensures.found in
-    subst AreOpen (sym c.end_at.ensures) (open_left list c.self.invariant.differ c.args.number c.in-Some.place is c.self.invariant.each)
+    record {
+      messages = subst AreOpen (sym c.end_at.ensures.list) (open_left list c.self.invariant.messages.differ c.args.number c.in-Some.place is c.self.invariant.messages.each);
+      listed = listed_left c.self.inside.numbers.items c.end_at.new.numbers.items list c.end_at.new.list.items c.in-Some.place c.self.invariant.listed is.in_range c.end_at.ensures.numbers c.end_at.ensures.list;
+    }
 
 pub returns-in-Some : goal.returns-in-Some
 returns-in-Some c =
     let list = c.self.inside.list.items in
     let is = subst (λ (l : Numbered). IsAt none_open l c.args.number c.in-Some.place) (sym c.self.view_is) c.in-Some.ensures.found in
     change_of none_open list c.args.self.now _ c.args.number None None c.self.view_is refl
-    (subst (λ (new : Numbered). Changes list new c.args.number None) (sym c.end_at.ensures) (taken_out none_open list c.self.invariant.differ c.args.number c.in-Some.place is))
+    (subst (λ (new : Numbered). Changes list new c.args.number None) (sym c.end_at.ensures.list) (taken_out none_open list c.self.invariant.messages.differ c.args.number c.in-Some.place is))
 
 pub returns-in_default : goal.returns-in_default
 returns-in_default c = unchanged none_open c.args.self.now c.args.number c.in_default.ensures.absent

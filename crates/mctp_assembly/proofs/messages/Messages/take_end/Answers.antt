@@ -4,36 +4,40 @@ use Rattle.mctp_assembly.specs.NumberLists.{Changes, IsAt, at}
 use Rattle.mctp_assembly.specs.Steps.{answer_to, left_by}
 use Rattle.mctp_assembly.specs.Numbered.{none_open, AreOpen, Numbered}
 use Rattle.mctp_assembly.proofs.OpenPlaces.{few, open_left}
+use Rattle.mctp_assembly.proofs.ListedNumbers.{listed_left}
 use Rattle.mctp_assembly.proofs.TakenPackets.{fed_here, kept_here, ended_here, fed_alone, unchanged_at_end}
 use Rattle.mctp_assembly.proofs.messages.Messages.take_end.Goals as goal
 
 pub end_at-requires-clause-few : goal.end_at-requires-clause-few
-end_at-requires-clause-few c = few c.self.inside.list.items c.self.invariant
+end_at-requires-clause-few c = few c.self.inside.list.items c.self.invariant.messages
 
 pub invariant_of-self : goal.invariant_of-self
 invariant_of-self c =
     let list = c.self.inside.list.items in
     let is = subst (λ (l : Numbered). IsAt none_open l c.args.number c.in-Some.place) (sym c.self.view_is) c.in-Some.ensures.found in
-    subst AreOpen (sym c.end_at.ensures) (open_left list c.self.invariant.differ c.args.number c.in-Some.place is c.self.invariant.each)
+    record {
+      messages = subst AreOpen (sym c.end_at.ensures.list) (open_left list c.self.invariant.messages.differ c.args.number c.in-Some.place is c.self.invariant.messages.each);
+      listed = listed_left c.self.inside.numbers.items c.end_at.new.numbers.items list c.end_at.new.list.items c.in-Some.place c.self.invariant.listed is.in_range c.end_at.ensures.numbers c.end_at.ensures.list;
+    }
 
 pub returns-in-Dropped-clause-fed : goal.returns-in-Dropped-clause-fed
 returns-in-Dropped-clause-fed c =
-    fed_here c.self.inside.list.items c.args.self.now c.self.view_is c.self.invariant.differ c.args.number c.in-Some.place c.in-Some.ensures.found
+    fed_here c.self.inside.list.items c.args.self.now c.self.view_is c.self.invariant.messages.differ c.args.number c.in-Some.place c.in-Some.ensures.found
     c.index.result.now c.index.ensures c.index.result.now refl c.args.packet.now c.look_into-given.result c.look_into-given.new.message.items c.look_into-given.ensures
 
 pub returns-in-Dropped-clause-left : goal.returns-in-Dropped-clause-left
 returns-in-Dropped-clause-left c =
-    ended_here c.self.inside.list.items c.args.self.now c.self.view_is c.self.invariant.differ c.args.number c.in-Some.place c.in-Some.ensures.found
+    ended_here c.self.inside.list.items c.args.self.now c.self.view_is c.self.invariant.messages.differ c.args.number c.in-Some.place c.in-Some.ensures.found
     c.index.result.now c.index.ensures c.index.result.now refl c.args.packet.now c.look_into-given.result c.look_into-given.new.message.items c.look_into-given.ensures
-    c.end_at.new.list.items c.in-Dropped.field-0 c.end_at.ensures c.in-Dropped.is
+    c.end_at.new.list.items c.in-Dropped.field-0 c.end_at.ensures.list c.in-Dropped.is
 
 pub returns-in_default : goal.returns-in_default
 returns-in_default c = record {
-  fed = fed_here c.self.inside.list.items c.args.self.now c.self.view_is c.self.invariant.differ c.args.number c.in-Some.place c.in-Some.ensures.found
+  fed = fed_here c.self.inside.list.items c.args.self.now c.self.view_is c.self.invariant.messages.differ c.args.number c.in-Some.place c.in-Some.ensures.found
       c.index.result.now c.index.ensures c.index.result.now refl c.args.packet.now c.look_into-given.result c.look_into-given.new.message.items c.look_into-given.ensures;
   left = subst (λ (new : Numbered). Changes c.args.self.now new c.args.number
       (left_by (answer_to MAX_PACKETS (at c.args.self.now c.args.number) c.args.packet.now) (at c.args.self.now c.args.number) c.args.packet.now)) (sym c.self.view_is)
-      (kept_here c.self.inside.list.items c.args.self.now c.self.view_is c.self.invariant.differ c.args.number c.in-Some.place c.in-Some.ensures.found
+      (kept_here c.self.inside.list.items c.args.self.now c.self.view_is c.self.invariant.messages.differ c.args.number c.in-Some.place c.in-Some.ensures.found
       c.index.result.now c.index.ensures c.index.result.now refl c.args.packet.now c.look_into-given.result c.look_into-given.new.message.items c.look_into-given.ensures
       c.requires c.in_default.not-Dropped);
 }
