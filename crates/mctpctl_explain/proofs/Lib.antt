@@ -1,1 +1,2 @@
 mod Explained
+mod RepeatedWords

@@ -1,2 +1,2 @@
-pub mod KeptBytes
 pub mod Reasons
+pub mod RepeatedWords

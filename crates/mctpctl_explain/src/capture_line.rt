@@ -4,10 +4,11 @@ ghost use Rattle.std.specs.Prelude.{IfOk, string_bytes};
 ghost use Rattle.mctpctl_explain.specs.Reasons.{IsLineReason};
 
 use crate::expected::refused_text;
-use crate::words::{quoted, words_of};
-use line_words::{first_word, read_decimal, split_word};
-use mctp_packet::{HEADER, Memory};
-use mctpctl_input::{LineKind, MAX_CAPTURE_LINE};
+use crate::words::quoted;
+use mctp_packet::Memory;
+use mctpctl_input::{
+    CaptureRefusal, LineKind, MAX_CAPTURE_LINE, capture_refusal, looks_like_packet,
+};
 use schedule_text::Expected;
 use std::alloc::Global;
 
@@ -32,7 +33,9 @@ pub(crate) fn explain_line(alloc: Global, line: &[u8], kind: LineKind) -> Result
 fn long_line(alloc: Global, line: &[u8]) -> Result<String, Memory>
     ensures { IfOk result (λ text. IsLineReason LineKind.LongLine (string_bytes text)) }
 {
-    let length = line.len();
+    let Some(CaptureRefusal::LongLine(length)) = capture_refusal(line) else {
+        return Ok(String::new(alloc));
+    };
     let reason = format!(in alloc;
         "{length} bytes or more: at most {MAX_CAPTURE_LINE} are allowed"
     )?;
@@ -44,8 +47,7 @@ fn long_line(alloc: Global, line: &[u8]) -> Result<String, Memory>
 fn wrong_words(alloc: Global, line: &[u8]) -> Result<String, Memory>
     ensures { IfOk result (λ text. IsLineReason LineKind.Words (string_bytes text)) }
 {
-    let words = words_of(alloc, line)?;
-    let [_, _, extra, ..] = words.as_slice() else {
+    let Some(CaptureRefusal::Words(extra)) = capture_refusal(line) else {
         return Ok(String::new(alloc));
     };
     let found = quoted(alloc, extra)?;
@@ -58,17 +60,16 @@ fn wrong_words(alloc: Global, line: &[u8]) -> Result<String, Memory>
 fn wrong_number(alloc: Global, line: &[u8]) -> Result<String, Memory>
     ensures { IfOk result (λ text. IsLineReason LineKind.Number (string_bytes text)) }
 {
-    let words = words_of(alloc, line)?;
-    let Some(moment) = words.first() else {
+    let Some(CaptureRefusal::Number(moment, is_alone)) = capture_refusal(line) else {
         return Ok(String::new(alloc));
     };
-    let reason = no_moment(alloc, moment, words.len())?;
+    let reason = no_moment(alloc, moment, is_alone)?;
     Ok(format!(in alloc; "wrong number: {reason}")?)
 }
 
-/// What is wrong with a first word that is no moment, of as many words.
-fn no_moment(alloc: Global, word: &[u8], count: usize) -> Result<String, Memory> {
-    if count == 1 && is_packet(word) {
+/// What is wrong with a first word that is no moment, and may be the only word.
+fn no_moment(alloc: Global, word: &[u8], is_alone: bool) -> Result<String, Memory> {
+    if is_alone && looks_like_packet(word) {
         let found = quoted(alloc, word)?;
         return Ok(format!(in alloc;
             "{found}: expected a moment in milliseconds before the packet"
@@ -82,8 +83,7 @@ fn no_moment(alloc: Global, word: &[u8], count: usize) -> Result<String, Memory>
 fn bad_hex(alloc: Global, line: &[u8]) -> Result<String, Memory>
     ensures { IfOk result (λ text. IsLineReason LineKind.BadHex (string_bytes text)) }
 {
-    let words = words_of(alloc, line)?;
-    let [_, packet, ..] = words.as_slice() else {
+    let Some(CaptureRefusal::BadHex(packet)) = capture_refusal(line) else {
         return Ok(String::new(alloc));
     };
     let reason = no_hex(alloc, packet)?;
@@ -104,19 +104,4 @@ fn no_hex(alloc: Global, packet: &[u8]) -> Result<String, Memory> {
     let found = quoted(alloc, packet)?;
     let count = packet.len();
     Ok(format!(in alloc; "{found} has {count} hex digits: expected two for each byte")?)
-}
-
-/// Whether a line of a capture says a moment alone that looks like a packet whose moment was forgotten.
-pub(crate) fn is_forgotten_moment(line: &[u8]) -> bool {
-    let Some((word, rest)) = first_word(line) else {
-        return false;
-    };
-    split_word(rest).is_none() && is_packet(word) && read_decimal(word).is_some()
-}
-
-/// Whether a word can be a packet: two hex digits for each byte, a header's bytes at least, and the header
-/// version 1 (DSP0236, "MCTP packet fields").
-fn is_packet(word: &[u8]) -> bool {
-    let is_hex = word.iter().all(|byte| byte.is_ascii_hexdigit());
-    is_hex && word.len() % 2 == 0 && word.len() >= 2 * HEADER && word.starts_with(b"01")
 }

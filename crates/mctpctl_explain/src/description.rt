@@ -4,14 +4,12 @@ ghost use Rattle.std.specs.Prelude.{IfOk, string_bytes};
 ghost use Rattle.mctpctl_explain.specs.Reasons.{IsReason, Explains};
 
 use crate::allowed::{allowed_text, flaw_text};
-use crate::key_places::{KeyPlace, key_places};
-use crate::paths::{parent_of, path_text, value_at};
-use crate::place::Place;
 use crate::words::quoted;
 use mctp_packet::Memory;
+use mctpctl_places::{Place, Places, path_text};
 use pldm_device::{Allowed, FileFault, Path, Refusal};
 use std::alloc::Global;
-use toml::Value;
+use toml::{Table, Value};
 
 /// Says why a description was refused: the path, its line and column, what was found there and what is allowed, as its
 /// reader returned them; for text that is no TOML the parser's own message.
@@ -36,8 +34,8 @@ pub(crate) fn explain_description(
     if reason.is_empty() {
         return Ok(String::new(alloc));
     }
-    let places = places_of(alloc, description)?;
-    let place = place_text(alloc, description, &places, refusal.path)?;
+    let places = Places::read(alloc, description)?;
+    let place = places.front_of(alloc, refusal.path)?;
     let path = path_text(alloc, &refusal.path)?;
     let front = format!(in alloc; "{place}{path}: ")?;
     Ok(format!(in alloc; "{front}{reason}")?)
@@ -126,39 +124,33 @@ fn explain_toml(
     let Some(span) = error.span() else {
         return Ok(String::new(alloc));
     };
-    let place = Place::at(description, span.start);
-    let (line, column) = (place.line, place.column);
+    let place = Place::at(description, span.start).text(alloc)?;
     let message = error.message();
-    Ok(format!(in alloc; "line {line}, column {column}: {message}")?)
+    Ok(format!(in alloc; "{place}: {message}")?)
 }
 
-/// The places of the keys of a description that is TOML.
-pub(crate) fn places_of(alloc: Global, description: &[u8]) -> Result<Vec<KeyPlace>, Memory> {
-    match str::from_utf8(description) {
-        Ok(text) => key_places(alloc, text),
-        Err(_) => Ok(Vec::new(alloc)),
-    }
-}
-
-/// The line and the column of a path, or of what it is in; nothing where that is not found.
-pub(crate) fn place_text(
-    alloc: Global,
-    description: &[u8],
-    places: &[KeyPlace],
-    path: Path<'_>,
-) -> Result<String, Memory> {
-    let mut here = Some(path);
-    for _ in 0..4 {
-        let Some(path) = here else {
-            break;
-        };
-        let name = path_text(alloc, &path)?;
-        if let Some(place) = places.iter().find(|place| place.path == name) {
-            let place = Place::at(description, place.offset);
-            let (line, column) = (place.line, place.column);
-            return Ok(format!(in alloc; "line {line}, column {column}: ")?);
+/// The value at a path of a document; `None` where there is none.
+fn value_at<'t>(document: &'t Table, path: &Path<'_>) -> Option<&'t Value> {
+    let mut value = match path.list {
+        Some(list) => in_list(document.get(list)?, path)?,
+        None => document.get(path.key?)?,
+    };
+    for item in path.items.iter() {
+        if let Some(item) = item {
+            value = value.as_array()?.as_slice().get(*item)?;
         }
-        here = parent_of(path);
     }
-    Ok(String::new(alloc))
+    Some(value)
+}
+
+/// The value at the entry and the key of a path, in its list or its table.
+fn in_list<'t>(list: &'t Value, path: &Path<'_>) -> Option<&'t Value> {
+    let mut value = list;
+    if let Some(entry) = path.entry {
+        value = value.as_array()?.as_slice().get(entry)?;
+    }
+    match path.key {
+        Some(key) => value.as_table()?.get(key),
+        None => Some(value),
+    }
 }

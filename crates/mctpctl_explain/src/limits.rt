@@ -3,9 +3,6 @@
 /// The most bytes of a word of the input that an explanation repeats.
 pub const MAX_QUOTED: usize = 40;
 
-/// The most warnings of one input.
-pub const MAX_WARNINGS: usize = 20;
-
 /// The longest word, in bytes, for which a known word like it is looked for.
 pub(crate) const MAX_SUGGESTED: usize = 32;
 

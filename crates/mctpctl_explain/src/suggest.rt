@@ -1,5 +1,8 @@
 //! The known word that a wrong one was meant to be.
 
+ghost use Rattle.std.specs.Prelude.{IfOk, IfSome, string_bytes};
+ghost use Rattle.mctpctl_explain.specs.RepeatedWords.{IsKnown, IsSuggestion};
+
 use crate::limits::{MAX_EDITS, MAX_SUGGESTED};
 use mctp_packet::Memory;
 use std::alloc::Global;
@@ -11,7 +14,9 @@ pub(crate) fn similar<'a>(
     alloc: Global,
     word: &[u8],
     known: &[&'a str],
-) -> Result<Option<&'a str>, Memory> {
+) -> Result<Option<&'a str>, Memory>
+    ensures { IfOk result (λ best. IfSome best (IsKnown known.now)) }
+{
     if word.len() > MAX_SUGGESTED {
         return Ok(None);
     }
@@ -31,8 +36,11 @@ pub(crate) fn similar<'a>(
     Ok(best)
 }
 
-/// What is said after a wrong word: the word that it was meant to be, or nothing.
-pub(crate) fn suggestion(alloc: Global, word: &[u8], known: &[&str]) -> Result<String, Memory> {
+/// What is said after a wrong word: the known word that it was meant to be, or nothing. Which of them is tested.
+#[tactic(auto, using(crate::proofs::RepeatedWords::suggests))]
+pub fn suggestion(alloc: Global, word: &[u8], known: &[&str]) -> Result<String, Memory>
+    ensures { IfOk result (λ text. IsSuggestion known.now (string_bytes text)) }
+{
     match similar(alloc, word, known)? {
         Some(name) => Ok(format!(in alloc; "; did you mean '{name}'?")?),
         None => Ok(String::new(alloc)),

@@ -1,8 +1,11 @@
 pub mod CaptureLine
+pub mod CaptureRefusals
 pub mod FaultNumbers
 pub mod FaultTexts
 pub mod HexDigits
+pub mod KeptBytes
 pub mod OutsideFaults
+pub mod PacketWords
 pub mod Ports
 pub mod Statuses
 pub mod TextLines

@@ -153,7 +153,7 @@ fn read_hex(digits: &[u8], packet: &mut Vec<u8>) -> Result<(), CaptureFault>
 }
 
 /// The moment of the number that a word spells, where it is in its range and not before the last one.
-fn read_moment(number: Option<u64>, last: u64) -> Result<u64, LineKind>
+pub(crate) fn read_moment(number: Option<u64>, last: u64) -> Result<u64, LineKind>
     ensures value { result ≡ moment_spelled number last }
     ensures range { IfOk result (λ moment. (last ≤ moment) × (moment ≤ MAX_MOMENT)) }
 {

@@ -1,0 +1,3 @@
+mod DividedLines
+mod FoundPlaces
+mod WalkedLines

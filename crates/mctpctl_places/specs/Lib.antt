@@ -1,0 +1,3 @@
+pub mod Divisions
+pub mod PathTexts
+pub mod TextPlaces
