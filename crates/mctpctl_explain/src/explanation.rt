@@ -1,6 +1,6 @@
 //! What a fault of the input is, in more words.
 
-ghost use Rattle.std.specs.Prelude.{◌≡◌, [], IfOk, string_bytes};
+ghost use Rattle.std.specs.Prelude.{◌≡◌, ◌≤◌, [], IfOk, IfSome, string_bytes};
 ghost use Rattle.mctpctl_explain.specs.Reasons.{ExplainsDevice, ExplainsLine, ExplainsNumbered, IsLineReason};
 ghost use Rattle.mctpctl_input.specs.OutsideFaults.{IsOutside};
 
@@ -80,19 +80,26 @@ fn explain_line(
 ) -> Result<String, Memory>
     ensures { IfOk result (λ text. ExplainsNumbered number kind (string_bytes text)) }
 {
-    let (lines, lines_before) = match (subject, Divided::new(input)) {
-        (Subject::Show, _) | (_, None) => (input, 0),
-        (_, Some(divided)) => (divided.lines, divided.lines_before),
-    };
-    let Some((line, before)) = numbered_line(lines, number) else {
+    let Some((line, before, shown)) = refused_line(subject, input, number) else {
         return Ok(String::new(alloc));
     };
     let reason = line_reason(alloc, subject, line, before, kind)?;
     if reason.is_empty() {
         return Ok(reason);
     }
-    let shown = number.saturating_add(lines_before);
     Ok(format!(in alloc; "input line {shown}: {reason}")?)
+}
+
+/// The line of this number, the lines before it, and its number in the whole input.
+fn refused_line(subject: Subject, input: &[u8], number: u64) -> Option<(&[u8], &[u8], u64)>
+    ensures { IfSome result (λ line. number ≤ line.2) }
+{
+    let (lines, lines_before) = match (subject, Divided::new(input)) {
+        (Subject::Show, _) | (_, None) => (input, 0),
+        (_, Some(divided)) => (divided.lines, divided.lines_before),
+    };
+    let (line, before) = numbered_line(lines, number)?;
+    Some((line, before, number.saturating_add(lines_before)))
 }
 
 /// What is wrong with a line that was refused for this, after these lines; nothing where it is not refused for this.
