@@ -1,5 +1,5 @@
 -- Why a line of a capture is refused by itself, and what was found there.
-use Rattle.std.specs.Prelude.{◌≡◌, ◌==◌, ⊤, ℕ, List, length, slice_get, Option, Some, None, Result, Ok, Err}
+use Rattle.std.specs.Prelude.{◌≡◌, ◌==◌, ℕ, List, length, slice_get, Option, Some, None, Result, Ok, Err}
 use Rattle.mctpctl_input.specs.CaptureLine.{TimedPacket}
 use Rattle.mctpctl_input.specs.declared.refused_capture.CaptureRefusal.{CaptureRefusal}
 use Rattle.mctpctl_input.specs.declared.refused_capture.CaptureRefusal.TheVariants as refusals

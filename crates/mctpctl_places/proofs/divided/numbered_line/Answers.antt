@@ -1,5 +1,5 @@
 -- A line further, the line that is looked for is one sooner.
-use Rattle.std.proofs.Common.{◌≡◌, ◌-◌, ◌++◌, [], ◌∷◌, ◌∙◌, length, slice_get, sym, ap, append_assoc, arith}
+use Rattle.std.proofs.Common.{◌-◌, ◌++◌, [], ◌∷◌, ◌∙◌, length, slice_get, sym, ap, append_assoc, arith}
 use Rattle.mctpctl_places.proofs.DividedLines.{next_line}
 use Rattle.mctpctl_places.proofs.divided.numbered_line.Goals as goal
 

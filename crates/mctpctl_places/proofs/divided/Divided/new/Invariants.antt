@@ -1,5 +1,5 @@
 -- No line so far divides. What is left becomes less.
-use Rattle.std.proofs.Common.{◌≡◌, ◌+◌, ◌≤◌, length}
+use Rattle.std.proofs.Common.{◌+◌, ◌≤◌, length}
 use Rattle.mctpctl_places.proofs.DividedLines.{LeftToDivide}
 use Rattle.mctpctl_places.proofs.divided.Divided.new.Given as goal
 

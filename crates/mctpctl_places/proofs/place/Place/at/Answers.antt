@@ -1,6 +1,6 @@
 -- A line further the place is counted on; in the line that was reached it is found.
 use Rattle.std.proofs.Common.{◌≡◌, ◌+◌, ◌-◌, ◌∙◌, ap, length, sym, take, arith, rules}
-use Rattle.line_words.specs.TextLines.{HasNoFeed, lines_of}
+use Rattle.line_words.specs.TextLines.{HasNoFeed}
 use Rattle.mctpctl_places.specs.TextPlaces.{place_after}
 use Rattle.mctpctl_places.proofs.WalkedLines.{here, here_before, line_further}
 use Rattle.mctpctl_places.proofs.place.Place.at.Goals as goal
