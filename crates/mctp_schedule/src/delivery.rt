@@ -48,6 +48,27 @@ impl Model for Delivery {
     ghost view = { λ d. outcome_of d.kept };
 }
 
+/// The same outcome. Its parts are read one by one, as they were stored: for bytes that were just stored one by one and
+/// are read as a whole a processor waits.
+#[inline(always)]
+fn part_by_part(taken: MessageOutcome) -> MessageOutcome
+    ensures { result ≡ taken }
+{
+    match taken {
+        MessageOutcome::Dropped(reason) => MessageOutcome::Dropped(reason),
+        MessageOutcome::Partial => MessageOutcome::Partial,
+        MessageOutcome::Answered {
+            fresh,
+            changed,
+            route,
+        } => MessageOutcome::Answered {
+            fresh,
+            changed,
+            route,
+        },
+    }
+}
+
 impl Delivery {
     /// The delivery of which this became, where `reply` is the message that answers it. Its bytes lie where
     /// those of the answer of `last` do if both are long and the same.
@@ -61,6 +82,7 @@ impl Delivery {
     ) -> Result<Delivery, Memory>
         ensures { IfOk result (λ delivery. delivery ≡ answering reply.now taken) }
     {
+        let taken = part_by_part(taken);
         let reply = match &taken {
             MessageOutcome::Answered { .. } => reply,
             _ => &[], // it was not answered
