@@ -1,10 +1,10 @@
 -- Texts that explain a fault.
-use Rattle.std.proofs.Common.{◌≡◌, ◌≤◌, ℕ, List, [], ◌++◌, codes, inl, inr, refl, ap, ◌∙◌}
+use Rattle.std.proofs.Common.{◌≡◌, ◌≤◌, ℕ, List, [], ◌++◌, codes, inr, refl, ap, ◌∙◌}
 use Rattle.std.specs.Fmt.{decimal}
 use Rattle.mctpctl_input.specs.declared.faults.LineKind.{LineKind}
 use Rattle.pldm_device.specs.declared.description_fault.FileFault.{FileFault}
 use Rattle.pldm_device.specs.declared.description_fault.FileFault.TheVariants.{BadRecord}
-use Rattle.mctpctl_explain.specs.Reasons.{opening, IsReason, Explains, line_opening, IsLineReason, ExplainsNumbered}
+use Rattle.mctpctl_explain.specs.Reasons.{opening, IsReason, Explains, line_opening, ExplainsNumbered}
 
 pub explained : (fault : FileFault) (text rest : List ℕ) → text ≡ opening fault ++ rest → IsReason fault text
 explained fault text rest e = inr (rest, e)
@@ -15,12 +15,8 @@ flaw_explained text = inr (text, refl)
 pub explained_at : (fault : FileFault) (text front reason : List ℕ) → text ≡ front ++ reason → IsReason fault reason → Explains fault text
 explained_at fault text front reason e r = inr (inr (front, reason, e, r))
 
-pub line_explained : (kind : LineKind) (text rest : List ℕ) → text ≡ line_opening kind ++ rest → IsLineReason kind text
-line_explained kind text rest e = inr (rest, e)
-
-pub numbered : (number shown : ℕ) (kind : LineKind) (text reason : List ℕ)
-    → text ≡ codes "input line " ++ (decimal shown ++ (codes ": " ++ reason)) → number ≤ shown → (reason ≡ [] → ⊥)
-    → IsLineReason kind reason → ExplainsNumbered number kind text
-numbered number shown kind text reason e within some (inl none) = absurd (some none)
-numbered number shown kind text reason e within some (inr (rest, is)) =
-    inr (shown, rest, within, e ∙ ap (λ r. codes "input line " ++ (decimal shown ++ (codes ": " ++ r))) is)
+pub numbered : (number shown : ℕ) (kind : LineKind) (text opens reason : List ℕ)
+    → text ≡ codes "input line " ++ (decimal shown ++ (codes ": " ++ (opens ++ reason))) → number ≤ shown → opens ≡ line_opening kind
+    → ExplainsNumbered number kind text
+numbered number shown kind text opens reason e within is =
+    inr (shown, reason, within, e ∙ ap (λ o. codes "input line " ++ (decimal shown ++ (codes ": " ++ (o ++ reason)))) is)

@@ -1,2 +1,1 @@
 mod Explained
-mod RepeatedWords

@@ -43,10 +43,6 @@ line_opening kinds.BadHex = codes "wrong hex: "
 line_opening kinds.NoSuchRequester = codes "no earlier line is of the requester "
 line_opening kinds.SameRequester = codes "an earlier line is of the requester "
 
--- nothing, or the words of the kind and more
-abbrev pub IsLineReason : LineKind → List ℕ → Type 0
-IsLineReason kind text = (text ≡ []) ⊎ ((rest : List ℕ) × (text ≡ line_opening kind ++ rest))
-
 -- nothing, or a reason right behind the line's number in the whole input, which has no fewer lines
 abbrev pub ExplainsNumbered : ℕ → LineKind → List ℕ → Type 0
 ExplainsNumbered number kind text =

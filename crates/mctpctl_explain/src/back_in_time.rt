@@ -1,32 +1,26 @@
 //! Why the moment of a line, of a capture or of a schedule, is refused after those of the lines before it.
 
-ghost use Rattle.std.specs.Prelude.{IfOk, string_bytes};
-ghost use Rattle.mctpctl_explain.specs.Reasons.{IsLineReason};
-
 use crate::explanation::Subject;
-use crate::words::{quoted, words_of};
+use crate::words::words_of;
 use line_words::{read_decimal, split_line};
 use mctp_packet::Memory;
-use mctpctl_input::LineKind;
+use mctpctl_wording::quoted;
 use std::alloc::Global;
 
 /// The moment of a line, and the one before it that is later.
-#[tactic(auto, using(crate::proofs::Explained::line_explained))]
-pub(crate) fn back_in_time(
+pub(crate) fn reason_of(
     alloc: Global,
     subject: Subject,
     line: &[u8],
     before: &[u8],
-) -> Result<String, Memory>
-    ensures { IfOk result (λ text. IsLineReason LineKind.BackInTime (string_bytes text)) }
-{
+) -> Result<String, Memory> {
     let words = words_of(alloc, line)?;
     let Some(moment) = moment_word(subject, &words) else {
         return Ok(String::new(alloc));
     };
     let found = quoted(alloc, moment)?;
     let last = last_moment(alloc, subject, before)?;
-    Ok(format!(in alloc; "the moment {found} is before that of an earlier line, {last}")?)
+    Ok(format!(in alloc; "{found} is before that of an earlier line, {last}")?)
 }
 
 /// The moment of the last of these lines that has one.

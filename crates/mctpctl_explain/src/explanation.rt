@@ -1,13 +1,12 @@
 //! What a fault of the input is, in more words.
 
 ghost use Rattle.std.specs.Prelude.{◌≡◌, ◌≤◌, [], IfOk, IfSome, string_bytes};
-ghost use Rattle.mctpctl_explain.specs.Reasons.{ExplainsDevice, ExplainsLine, ExplainsNumbered, IsLineReason};
+ghost use Rattle.mctpctl_explain.specs.Reasons.{ExplainsDevice, ExplainsLine, ExplainsNumbered, line_opening};
 ghost use Rattle.mctpctl_input.specs.OutsideFaults.{IsOutside};
 
-use crate::back_in_time::back_in_time;
 use crate::description::explain_description;
 use crate::timing::explain_timing;
-use crate::{capture_line, schedule_line};
+use crate::{back_in_time, capture_line, schedule_line};
 use mctp_packet::{Eid, Memory};
 use mctpctl_input::{EngineFault, LineKind, MAX_DESCRIPTION, MAX_INPUT};
 use mctpctl_places::{Divided, numbered_line};
@@ -87,7 +86,8 @@ fn explain_line(
     if reason.is_empty() {
         return Ok(reason);
     }
-    Ok(format!(in alloc; "input line {shown}: {reason}")?)
+    let opening = opening_of(kind);
+    Ok(format!(in alloc; "input line {shown}: {opening}{reason}")?)
 }
 
 /// The line of this number, the lines before it, and its number in the whole input.
@@ -102,6 +102,21 @@ fn refused_line(subject: Subject, input: &[u8], number: u64) -> Option<(&[u8], &
     Some((line, before, number.saturating_add(lines_before)))
 }
 
+/// The words with which the reason opens for which a line was refused.
+fn opening_of(kind: LineKind) -> &'static str
+    ensures { result.now ≡ line_opening kind }
+{
+    match kind {
+        LineKind::LongLine => "the line has ",
+        LineKind::Words => "wrong words: ",
+        LineKind::Number => "wrong number: ",
+        LineKind::BackInTime => "the moment ",
+        LineKind::BadHex => "wrong hex: ",
+        LineKind::NoSuchRequester => "no earlier line is of the requester ",
+        LineKind::SameRequester => "an earlier line is of the requester ",
+    }
+}
+
 /// What is wrong with a line that was refused for this, after these lines; nothing where it is not refused for this.
 fn line_reason(
     alloc: Global,
@@ -109,15 +124,11 @@ fn line_reason(
     line: &[u8],
     before: &[u8],
     kind: LineKind,
-) -> Result<String, Memory>
-    ensures { IfOk result (λ text. IsLineReason kind (string_bytes text)) }
-{
-    if let LineKind::BackInTime = kind {
-        return back_in_time(alloc, subject, line, before);
-    }
-    match subject {
-        Subject::Run => schedule_line::explain_line(alloc, line, kind),
-        Subject::Answer | Subject::Show => capture_line::explain_line(alloc, line, kind),
+) -> Result<String, Memory> {
+    match (kind, subject) {
+        (LineKind::BackInTime, _) => back_in_time::reason_of(alloc, subject, line, before),
+        (_, Subject::Run) => schedule_line::reason_of(alloc, line, kind),
+        (_, Subject::Answer | Subject::Show) => capture_line::reason_of(alloc, line, kind),
     }
 }
 

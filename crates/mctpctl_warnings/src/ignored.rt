@@ -3,8 +3,8 @@
 use crate::input_warnings::MAX_WARNINGS;
 use crate::known_keys::{LISTS, RECORDS_KEYS, TOP_KEYS, entry_keys};
 use mctp_packet::Memory;
-use mctpctl_explain::{quoted, suggestion};
 use mctpctl_places::{Places, path_text};
+use mctpctl_wording::{quoted, suggestion};
 use pldm_device::Path;
 use std::alloc::{AllocError, Global};
 use toml::{Table, Value};

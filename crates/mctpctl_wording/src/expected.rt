@@ -1,7 +1,10 @@
 //! What may stand at a place of a line, in words.
 
+ghost use Rattle.std.specs.Prelude.{IfOk, string_bytes};
+ghost use Rattle.mctpctl_wording.specs.AllowedWords.{SaysExpected};
+
 use crate::suggest::{choice, suggestion};
-use crate::words::quoted;
+use crate::quote::quoted;
 use line_words::MAX_DIGITS;
 use mctp_packet::{MAX_EID, MAX_MOMENT, MIN_EID, Memory};
 use schedule_text::{Expected, MAX_BYTE, MAX_HANDLE, MAX_ID, MAX_TIMEOUT};
@@ -37,11 +40,10 @@ pub(crate) const SIZES: [&str; 6] = ["uint8", "sint8", "uint16", "sint16", "uint
 const PARTS: [&str; 2] = ["first", "next"];
 
 /// What is wrong with a word that may not stand where this is expected; with an empty one, that the line ended there.
-pub(crate) fn refused_text(
-    alloc: Global,
-    found: &[u8],
-    expected: Expected,
-) -> Result<String, Memory> {
+/// In which words it is said what is expected is tested.
+pub fn refused_text(alloc: Global, found: &[u8], expected: Expected) -> Result<String, Memory>
+    ensures { IfOk result (λ text. SaysExpected found.now (string_bytes text)) }
+{
     let what = expected_text(alloc, expected)?;
     if found.is_empty() {
         return Ok(format!(in alloc; "expected {what} at the end of the line")?);

@@ -1,7 +1,7 @@
 //! The known word that a wrong one was meant to be.
 
 ghost use Rattle.std.specs.Prelude.{IfOk, IfSome, string_bytes};
-ghost use Rattle.mctpctl_explain.specs.RepeatedWords.{IsKnown, IsSuggestion};
+ghost use Rattle.mctpctl_wording.specs.RepeatedWords.{IsKnown, IsSuggestion};
 
 use crate::limits::{MAX_EDITS, MAX_SUGGESTED};
 use mctp_packet::Memory;

@@ -1,13 +1,18 @@
 //! What a description may say at a place, in words.
 
+ghost use Rattle.std.specs.Prelude.{◌≡◌, [], IfOk, string_bytes};
+ghost use Rattle.mctpctl_wording.specs.AllowedWords.{IsNoFlaw, SaysAllowed};
+
 use crate::expected::SIZES;
 use crate::suggest::choice;
 use mctp_packet::Memory;
 use pldm_device::{Allowed, RecordFlaw};
 use std::alloc::Global;
 
-/// What is allowed, in words.
-pub(crate) fn allowed_text(alloc: Global, allowed: Allowed) -> Result<String, Memory> {
+/// What is allowed, in words; nothing where that is not said. Which words stand for what is not counted is tested.
+pub fn allowed_text(alloc: Global, allowed: Allowed) -> Result<String, Memory>
+    ensures { IfOk result (λ text. SaysAllowed allowed (string_bytes text)) }
+{
     match allowed {
         Allowed::Tables(most) => Ok(format!(in alloc; "a list of at most {most} tables")?),
         Allowed::Integer { low, high } => {
@@ -64,8 +69,10 @@ fn fixed_text(allowed: Allowed) -> &'static str {
     }
 }
 
-/// Why bytes are no record (DSP0248, "Common PDR format"); nothing where that is not said.
-pub(crate) fn flaw_text(allowed: Allowed) -> &'static str {
+/// Why bytes are no record (DSP0248, "Common PDR format"), which is tested; nothing where that is not said.
+pub fn flaw_text(allowed: Allowed) -> &'static str
+    ensures { IsNoFlaw allowed → result.now ≡ [] }
+{
     let Allowed::Record(flaw) = allowed else {
         return "";
     };

@@ -1,0 +1,2 @@
+pub mod RepeatedWords
+pub mod AllowedWords
