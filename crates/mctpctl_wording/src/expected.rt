@@ -3,8 +3,8 @@
 ghost use Rattle.std.specs.Prelude.{IfOk, string_bytes};
 ghost use Rattle.mctpctl_wording.specs.AllowedWords.{SaysExpected};
 
-use crate::suggest::{choice, suggestion};
 use crate::quote::quoted;
+use crate::suggest::{choice, suggestion};
 use line_words::MAX_DIGITS;
 use mctp_packet::{MAX_EID, MAX_MOMENT, MIN_EID, Memory};
 use schedule_text::{Expected, MAX_BYTE, MAX_HANDLE, MAX_ID, MAX_TIMEOUT};
