@@ -1,14 +1,14 @@
 -- The numbers of the open messages beside the messages: what is found among them, and that they follow each change.
-use Rattle.std.proofs.Common.{◌≡◌, ℕ, ◌-◌, ◌<◌, ◌≤◌, List, [], ◌∷◌, ◌++◌, length, map, take, None, sym, ◌∙◌, ap, arith}
+use Rattle.std.proofs.Common.{◌≡◌, ℕ, ◌-◌, ◌<◌, ◌≤◌, List, [], ◌∷◌, ◌++◌, length, map, take, None, sym, ◌∙◌, ap, subst, arith}
 use Rattle.std.specs.Prelude.{slice_set, slice_index_or}
 use Rattle.std.specs.List.{swap_remove}
 use Rattle.std.proofs.lemmas.List.{length-map, get_or-map, map-set, map-append, set-get_or, take-map}
 use Rattle.mctp_assembly.specs.NumberLists.{AreDistinct, IsAt, StandsAt, StandsNowhere, at, number_in}
-use Rattle.mctp_assembly.specs.Numbered.{Numbered, AreListed, none_open}
+use Rattle.mctp_assembly.specs.Numbered.{Numbered, AreListed, AreOpen, none_open}
 use Rattle.mctp_assembly.specs.Opened.{Opened}
 use Rattle.mctp_assembly.specs.declared.assembler.TheConstants.{MAX_ASSEMBLIES}
 use Rattle.mctp_assembly.proofs.NumberLookups.{absent}
-use Rattle.mctp_assembly.proofs.OpenPlaces.{few}
+use Rattle.mctp_assembly.proofs.OpenPlaces.{few, open_left}
 
 module _ (numbers : List ℕ) (l : Numbered) (are : AreListed numbers l) where
   pub as_many : length numbers ≡ length l
@@ -58,3 +58,10 @@ listed_left numbers new l left place listed within removed taken =
     ∙ ap (take last) (sym (map-set (λ (entry : ℕ × Opened). entry.0) l place (slice_index_or l last (0, none_open))))
     ∙ take-map (λ (entry : ℕ × Opened). entry.0) last (slice_set l place (slice_index_or l last (0, none_open)))
     ∙ ap of (sym taken)
+
+pub left_listed : (numbers new : List ℕ) (l left : Numbered) (k place : ℕ) → AreListed numbers l → IsAt none_open l k place
+    → new ≡ swap_remove numbers place 0 → left ≡ swap_remove l place (0, none_open) → AreListed new left
+left_listed numbers new l left k place are is removed taken = record {
+  messages = subst AreOpen (sym taken) (open_left l are.messages.differ k place is are.messages.each);
+  listed = listed_left numbers new l left place are.listed is.in_range removed taken;
+}

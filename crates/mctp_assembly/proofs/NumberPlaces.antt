@@ -1,4 +1,4 @@
--- What a search finds among numbers that rise, and what a change at that place leaves.
+-- What a search finds among numbers that rise or differ, and what a change at that place leaves.
 use Rattle.std.proofs.Common.{◌≡◌, ℕ, ◌+◌, ◌-◌, ◌<◌, ◌≤◌, Some, None, Option, Bool, true, false, cond, ◌==◌, eqb-true, refl, sym, ◌∙◌, ap, subst, arith}
 use Rattle.std.specs.Prelude.{slice_set, slice_index_or}
 use Rattle.std.specs.List.{insert, remove}
