@@ -185,8 +185,8 @@ fn stands_at(numbers: &[u16], place: usize, number: u16) -> bool
 }
 
 /// Where the number stands among these, no two of which are equal.
-// All are looked at, and no jump depends on one: so a processor takes several at a time. Not inlined: a compiler unrolls
-// it, and it has three callers.
+// All are looked at, and no jump depends on one: so a processor takes several at a time. Not inlined: it is unrolled,
+// and each search would have a copy of that.
 #[inline(never)]
 fn place_of(numbers: &[u16], number: u16) -> Option<usize>
     requires few { length numbers.now ≤ MAX_ASSEMBLIES }
